@@ -1,0 +1,4 @@
+test:
+	rt ci
+
+.PHONY: test

@@ -1,0 +1,10 @@
+pub mod Fixed
+pub mod Texts
+pub mod Groups
+pub mod Spelling
+pub mod Extent
+pub mod Sections
+pub mod Whole
+pub mod ItemLaws
+pub mod EachLaws
+pub mod Advance

@@ -1,0 +1,13 @@
+pub mod Bind
+pub mod Numbers
+pub mod Position
+pub mod Words
+pub mod Faults
+pub mod Items
+pub mod Refusals
+pub mod Headers
+pub mod Elf
+pub mod Walks
+pub mod Tables
+pub mod Forms
+pub mod Contents

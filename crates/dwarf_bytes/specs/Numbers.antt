@@ -1,0 +1,130 @@
+-- Numbers and texts as DWARF 5 spells them. A read takes bytes and a place in them, and answers the value
+-- and the place after it, or the fault.
+use Rattle.std.specs.Prelude.{FitsSigned, int_le, int_lt, ◌&&◌, ◌==◌, position, option_map, Option, ◌≡◌, ℕ, zero, suc, ◌+◌, ◌*◌, ◌-◌, ◌/◌, ◌%◌, ◌^◌, ◌<◌, ◌≤◌, ℤ, pos, ◌-ℤ◌, ◌≤ℤ◌, ◌<ℤ◌, List, [], ◌∷◌, ◌++◌, length, take, drop, slice_index, Bool, Result, Ok, Err, nat_lt, nat_le, if◌then◌else◌}
+use Rattle.std.specs.Option.{option_map_or}
+use Rattle.std.specs.Int.{w64}
+use Rattle.dwarf_bytes.specs.declared.fault.ReadFault.{ReadFault}
+use Rattle.dwarf_bytes.specs.declared.fault.ReadFault.TheVariants.{Short, Leb, Unterminated, Length}
+use Rattle.dwarf_bytes.specs.declared.format.Format.{Format}
+use Rattle.dwarf_bytes.specs.declared.format.Format.TheVariants.{Dwarf32}
+use Rattle.dwarf_bytes.specs.Bind.{◌>>=◌}
+
+-- the n bytes at the place
+unfoldable pub block_at : ℕ → List ℕ → ℕ → Result (List ℕ × ℕ) ReadFault
+block_at n bytes at = if nat_lt (length bytes) (at + n) then Err Short else Ok (take n (drop at bytes), at + n)
+
+-- Fixed width (DWARF 5, 7.1 and 7.4; little-endian): the sum of b_i * 256 ^ i.
+abbrev pub little_endian : List ℕ → ℕ
+little_endian [] = 0
+little_endian (b ∷ bs) = b + 256 * little_endian bs
+
+-- the number that the n bytes at the place spell, where they are there
+abbrev pub field : ℕ → List ℕ → ℕ → ℕ
+field n bytes at = little_endian (take n (drop at bytes))
+
+-- the same, read
+unfoldable pub fixed_at : ℕ → List ℕ → ℕ → Result (ℕ × ℕ) ReadFault
+fixed_at n bytes at = do
+  block ← block_at n bytes at
+  Ok (little_endian block.0, block.1)
+
+abbrev pub u8_at : List ℕ → ℕ → Result (ℕ × ℕ) ReadFault
+u8_at = fixed_at 1
+
+abbrev pub u16_at : List ℕ → ℕ → Result (ℕ × ℕ) ReadFault
+u16_at = fixed_at 2
+
+abbrev pub u24_at : List ℕ → ℕ → Result (ℕ × ℕ) ReadFault
+u24_at = fixed_at 3
+
+abbrev pub u32_at : List ℕ → ℕ → Result (ℕ × ℕ) ReadFault
+u32_at = fixed_at 4
+
+abbrev pub u64_at : List ℕ → ℕ → Result (ℕ × ℕ) ReadFault
+u64_at = fixed_at 8
+
+-- LEB128 (DWARF 5, 7.6): bit 7 is set on all bytes but the last.
+abbrev pub IsLeb : List ℕ → Type 0
+IsLeb [] = ⊥
+IsLeb (b ∷ []) = b < 128
+IsLeb (b ∷ c ∷ bs) = (128 ≤ b) × IsLeb (c ∷ bs)
+
+-- groups of seven bits, the lowest first: the sum of (b_i mod 128) * 128 ^ i
+abbrev pub uleb_value : List ℕ → ℕ
+uleb_value [] = 0
+uleb_value (b ∷ bs) = b % 128 + 128 * uleb_value bs
+
+-- bit 6 of the last byte
+abbrev pub leb_sign : List ℕ → Bool
+leb_sign bytes = nat_le 64 (slice_index bytes (length bytes - 1) % 128)
+
+-- the same, less 128 ^ n where bit 6 of the last of the n bytes is set
+abbrev pub sleb_value : List ℕ → ℤ
+sleb_value bytes = pos (uleb_value bytes) -ℤ pos (if leb_sign bytes then 128 ^ length bytes else 0)
+
+-- a spelling of at most 10 bytes, of a number of 64 bits
+pub record IsUleb (bytes : List ℕ) (value : ℕ) : Type 0 where
+  pub leb : IsLeb bytes
+  pub len : length bytes ≤ 10
+  pub value_is : value ≡ uleb_value bytes
+  pub fits : value < 2 ^ 64
+
+pub record IsSleb (bytes : List ℕ) (value : ℤ) : Type 0 where
+  pub leb : IsLeb bytes
+  pub len : length bytes ≤ 10
+  pub value_is : value ≡ sleb_value bytes
+  pub fits : FitsSigned w64 value
+
+-- the bytes at the place begin with what spells the value, and next is the place after it
+pub record StandsAt {X : Type 0} (Spells : List ℕ → X → Type 0) (bytes : List ℕ) (at : ℕ) (value : X) (next : ℕ) : Type 0 where
+  pub front : List ℕ
+  pub rest : List ℕ
+  pub spelled : Spells front value
+  pub parts : drop at bytes ≡ front ++ rest
+  pub next_is : next ≡ at + length front
+
+-- the spelling at the front of the bytes: up to the first byte below 128, which is one of the first ten
+unfoldable pub leb_front : List ℕ → Result (List ℕ) ReadFault
+leb_front bytes =
+    option_map_or (λ last. Ok (take (last + 1) bytes)) (position (λ b. nat_lt b 128) (take 10 bytes)) (Err (if nat_lt (length bytes) 10 then Short else Leb))
+
+unfoldable pub uleb_at : List ℕ → ℕ → Result (ℕ × ℕ) ReadFault
+uleb_at bytes at = do
+  leb ← leb_front (drop at bytes)
+  if nat_lt (uleb_value leb) (2 ^ 64) then Ok (uleb_value leb, at + length leb) else Err Leb
+
+-- whether 64 bits hold a number, as two's complement
+abbrev pub fits_i64 : ℤ → Bool
+fits_i64 z = int_le (pos 0 -ℤ pos (2 ^ 63)) z && int_lt z (pos (2 ^ 63))
+
+unfoldable pub sleb_at : List ℕ → ℕ → Result (ℤ × ℕ) ReadFault
+sleb_at bytes at = do
+  leb ← leb_front (drop at bytes)
+  if fits_i64 (sleb_value leb) then Ok (sleb_value leb, at + length leb) else Err Leb
+
+-- A text runs up to a NUL (DWARF 5, 7.5.6), which is not of it: the text at the front of the bytes.
+unfoldable pub text_front : List ℕ → Option (List ℕ)
+text_front bytes = option_map (λ n. take n bytes) (position (λ b. b == 0) bytes)
+
+unfoldable pub cstr_at : List ℕ → ℕ → Result (List ℕ × ℕ) ReadFault
+cstr_at bytes at = option_map_or (λ text. Ok (text, at + length text + 1)) (text_front (drop at bytes)) (Err Unterminated)
+
+-- the text of a section at an offset into it
+unfoldable pub text_at : List ℕ → ℕ → Result (List ℕ) ReadFault
+text_at section offset = option_map_or (λ text. Ok text) (text_front (drop offset section)) (Err Unterminated)
+
+-- the bytes of an initial length, and of an offset into a section (DWARF 5, 7.4)
+abbrev pub length_len : Format → ℕ
+length_len Dwarf32 = 4
+
+abbrev pub offset_len : Format → ℕ
+offset_len Dwarf32 = 4
+
+abbrev pub offset_at : Format → List ℕ → ℕ → Result (ℕ × ℕ) ReadFault
+offset_at Dwarf32 = u32_at
+
+-- An initial length (DWARF 5, 7.4) of the 32-bit format is below 0xfffffff0.
+unfoldable pub initial_length_at : List ℕ → ℕ → Result ((Format × ℕ) × ℕ) ReadFault
+initial_length_at bytes at = do
+  read ← u32_at bytes at
+  if nat_lt read.0 0xfffffff0 then Ok ((Dwarf32, read.0), read.1) else Err Length

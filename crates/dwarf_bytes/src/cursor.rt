@@ -1,0 +1,181 @@
+//! A cursor over bytes, which reads the numbers and texts that they spell.
+
+ghost use Rattle.std.specs.Prelude.{◌≡◌, ◌≤◌, ◌<◌, ◌+◌, ◌↔◌, length, OnOk, OnErr, IsOk, IfOk};
+ghost use Rattle.dwarf_bytes.specs.Position.{Position, Reads};
+ghost use Rattle.dwarf_bytes.specs.Numbers.{block_at, u8_at, u16_at, u24_at, u32_at, u64_at, uleb_at, sleb_at, cstr_at, initial_length_at, offset_at};
+
+use crate::fault::ReadFault;
+use crate::format::Format;
+use crate::leb::{groups, leb_front, signed_groups};
+use crate::text::text_front;
+use byteorder::{ByteOrder, LittleEndian};
+use std::marker::Model;
+
+/// The first of the initial lengths that are no length of the 32-bit format.
+const RESERVED_LENGTHS: u32 = 0xffff_fff0;
+
+/// A place in bytes.
+#[derive(Debug, Drop)]
+pub struct Cursor<'a> {
+    bytes: &'a [u8],
+    place: usize,
+}
+
+impl<'a> Model for Cursor<'a> {
+    ghost use Rattle.std.specs.Prelude.{◌≤◌, length};
+    ghost use Rattle.dwarf_bytes.specs.Position.{Position};
+
+    ghost Value = { Position };
+
+    ghost view = { λ c. record { bytes = c.bytes.now; place = c.place } };
+
+    ghost invariant = { λ c. c.place ≤ length c.bytes.now };
+}
+
+impl<'a> Cursor<'a> {
+    /// A cursor at the front of the bytes.
+    pub fn new(bytes: &'a [u8]) -> Cursor<'a>
+        ensures { result ≡ record { bytes = bytes.now; place = 0 } }
+    {
+        Cursor { bytes, place: 0 }
+    }
+
+    /// How many bytes stand before the cursor.
+    pub fn place(&self) -> usize
+        ensures place { result ≡ self.now.place }
+        ensures within { result ≤ length self.now.bytes }
+    {
+        self.place
+    }
+
+    /// Moves to a place of the bytes, or to their end.
+    pub fn seek(&mut self, place: usize) -> Result<(), ReadFault>
+        ensures ok { OnOk result (self.new ≡ record self.old { place = place }) }
+        ensures within { IsOk result ↔ (place ≤ length self.old.bytes) }
+        ensures short { OnErr result (result ≡ Err ReadFault.Short) }
+        ensures err { OnErr result (self.new ≡ self.old) }
+    {
+        if place > self.bytes.len() {
+            return Err(ReadFault::Short);
+        }
+        self.place = place;
+        Ok(())
+    }
+
+    /// The next `len` bytes.
+    #[tactic(auto, unfolding(crate::specs::Numbers::block_at))]
+    pub fn block(&mut self, len: u64) -> Result<&'a [u8], ReadFault>
+        ensures block { Reads (λ block. block.now) result (block_at len) self.old self.new }
+        ensures len { IfOk result (λ block. length block.now ≡ len) }
+        ensures moves { IfOk result (λ _. self.new.place ≡ self.old.place + len) }
+    {
+        let rest = &self.bytes[self.place..];
+        if (rest.len() as u64) < len {
+            return Err(ReadFault::Short);
+        }
+        self.place += len as usize;
+        Ok(&rest[..len as usize])
+    }
+
+    #[tactic(auto, unfolding(crate::specs::Numbers::fixed_at))]
+    pub fn u8(&mut self) -> Result<u8, ReadFault>
+        ensures reads { Reads (λ x. x) result u8_at self.old self.new }
+        ensures moves { IfOk result (λ _. self.new.place ≡ self.old.place + 1) }
+    {
+        Ok(self.block(1)?[0])
+    }
+
+    #[tactic(auto, unfolding(crate::specs::Numbers::fixed_at), using(crate::proofs::Fixed::little_number_of_all))]
+    pub fn u16(&mut self) -> Result<u16, ReadFault>
+        ensures reads { Reads (λ x. x) result u16_at self.old self.new }
+        ensures moves { IfOk result (λ _. self.new.place ≡ self.old.place + 2) }
+    {
+        Ok(LittleEndian::read_u16(self.block(2)?))
+    }
+
+    #[tactic(auto, unfolding(crate::specs::Numbers::fixed_at), using(crate::proofs::Fixed::little_number_of_all))]
+    pub fn u24(&mut self) -> Result<u32, ReadFault>
+        ensures reads { Reads (λ x. x) result u24_at self.old self.new }
+        ensures moves { IfOk result (λ _. self.new.place ≡ self.old.place + 3) }
+    {
+        Ok(LittleEndian::read_u24(self.block(3)?))
+    }
+
+    #[tactic(auto, unfolding(crate::specs::Numbers::fixed_at), using(crate::proofs::Fixed::little_number_of_all))]
+    pub fn u32(&mut self) -> Result<u32, ReadFault>
+        ensures reads { Reads (λ x. x) result u32_at self.old self.new }
+        ensures moves { IfOk result (λ _. self.new.place ≡ self.old.place + 4) }
+    {
+        Ok(LittleEndian::read_u32(self.block(4)?))
+    }
+
+    #[tactic(auto, unfolding(crate::specs::Numbers::fixed_at), using(crate::proofs::Fixed::little_number_of_all))]
+    pub fn u64(&mut self) -> Result<u64, ReadFault>
+        ensures reads { Reads (λ x. x) result u64_at self.old self.new }
+        ensures moves { IfOk result (λ _. self.new.place ≡ self.old.place + 8) }
+    {
+        Ok(LittleEndian::read_u64(self.block(8)?))
+    }
+
+    /// The text up to the next NUL, which is read too.
+    #[tactic(auto, unfolding(crate::specs::Numbers::cstr_at))]
+    pub fn cstr(&mut self) -> Result<&'a [u8], ReadFault>
+        ensures reads { Reads (λ text. text.now) result cstr_at self.old self.new }
+        ensures moves { IfOk result (λ _. self.old.place < self.new.place) }
+    {
+        let text = text_front(&self.bytes[self.place..]).ok_or(ReadFault::Unterminated)?;
+        self.place += text.len() + 1;
+        Ok(text)
+    }
+
+    /// An unsigned LEB128 number.
+    #[tactic(auto, unfolding(crate::specs::Numbers::uleb_at))]
+    pub fn uleb(&mut self) -> Result<u64, ReadFault>
+        ensures reads { Reads (λ x. x) result uleb_at self.old self.new }
+        ensures moves { IfOk result (λ _. self.old.place < self.new.place) }
+    {
+        let leb = leb_front(&self.bytes[self.place..])?;
+        let Ok(value) = u64::try_from(groups(leb)) else {
+            return Err(ReadFault::Leb);
+        };
+        self.place += leb.len();
+        Ok(value)
+    }
+
+    /// A signed LEB128 number.
+    #[tactic(auto, unfolding(crate::specs::Numbers::sleb_at))]
+    pub fn sleb(&mut self) -> Result<i64, ReadFault>
+        ensures reads { Reads (λ x. x) result sleb_at self.old self.new }
+        ensures moves { IfOk result (λ _. self.old.place < self.new.place) }
+    {
+        let leb = leb_front(&self.bytes[self.place..])?;
+        let Ok(value) = i64::try_from(signed_groups(leb)) else {
+            return Err(ReadFault::Leb);
+        };
+        self.place += leb.len();
+        Ok(value)
+    }
+
+    /// The length at the front of a unit.
+    #[tactic(auto, unfolding(crate::specs::Numbers::initial_length_at))]
+    pub fn initial_length(&mut self) -> Result<(Format, u64), ReadFault>
+        ensures { Reads (λ x. x) result initial_length_at self.old self.new }
+    {
+        let start = self.place;
+        let length = self.u32()?;
+        if length >= RESERVED_LENGTHS {
+            self.place = start;
+            return Err(ReadFault::Length);
+        }
+        Ok((Format::Dwarf32, u64::from(length)))
+    }
+
+    /// An offset into a section.
+    pub fn offset(&mut self, format: Format) -> Result<u64, ReadFault>
+        ensures { Reads (λ x. x) result (offset_at format) self.old self.new }
+    {
+        match format {
+            Format::Dwarf32 => Ok(u64::from(self.u32()?)),
+        }
+    }
+}

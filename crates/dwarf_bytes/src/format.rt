@@ -1,0 +1,31 @@
+//! The two formats of DWARF data (DWARF 5, 7.4).
+
+ghost use Rattle.std.specs.Prelude.{◌≡◌};
+ghost use Rattle.dwarf_bytes.specs.Numbers.{length_len, offset_len};
+
+/// How wide the offsets and lengths of a unit are.
+#[derive(Clone, Copy, Debug, PartialEq, Eq)]
+pub enum Format {
+    /// The 32-bit format.
+    Dwarf32,
+}
+
+impl Format {
+    /// The bytes of an initial length.
+    pub fn length_len(self) -> u64
+        ensures { result ≡ length_len self }
+    {
+        match self {
+            Format::Dwarf32 => 4,
+        }
+    }
+
+    /// The bytes of an offset into a section.
+    pub fn offset_len(self) -> u64
+        ensures { result ≡ offset_len self }
+    {
+        match self {
+            Format::Dwarf32 => 4,
+        }
+    }
+}

@@ -1,0 +1,30 @@
+//! Numbers, texts, values and ELF sections, read from bytes: DWARF 5, chapter 7, and the ELF-64
+//! object file format.
+#![tactic(auto)]
+
+mod content;
+mod cursor;
+mod fault;
+mod fields;
+mod form;
+mod format;
+mod headers;
+mod laws;
+mod layout;
+mod leb;
+mod object;
+mod tables;
+#[cfg(test)]
+mod tests;
+mod text;
+
+pub use content::Content;
+pub use cursor::Cursor;
+pub use fault::{Cause, LoadFault, ReadFault, Section};
+pub use form::{Form, ValueLayout, Width};
+pub use format::Format;
+pub use laws::{sleb_is_spelled, sleb_is_unique, uleb_is_spelled, uleb_is_unique};
+pub use layout::{Layout, Span};
+pub use object::Object;
+pub use tables::{TableHead, TableKind};
+pub use text::text_at;

@@ -1,0 +1,35 @@
+//! Texts, which run up to a NUL (DWARF 5, 7.5.5, class string).
+
+ghost use Rattle.std.specs.Prelude.{◌≡◌, ◌<◌, Ok, Err, IfSome, option_map, MatchResult, ◌==◌, position, length};
+ghost use Rattle.dwarf_bytes.specs.Numbers.{text_front, text_at};
+
+use crate::fault::ReadFault;
+
+/// The place of the first NUL.
+fn first_nul(bytes: &[u8]) -> Option<usize>
+    ensures place { result ≡ position (λ byte. byte == 0) bytes.now }
+    ensures within { IfSome result (λ place. place < length bytes.now) }
+{
+    bytes.iter().position(|byte| *byte == 0)
+}
+
+/// The text that the bytes begin with, without its NUL.
+#[tactic(auto, unfolding(crate::specs::Numbers::text_front))]
+pub(crate) fn text_front(bytes: &[u8]) -> Option<&[u8]>
+    ensures text { option_map (λ text. text.now) result ≡ text_front bytes.now }
+    ensures nul { IfSome result (λ text. length text.now < length bytes.now) }
+{
+    let len = first_nul(bytes)?;
+    Some(&bytes[..len])
+}
+
+/// The text of a section at an offset, without its NUL.
+#[tactic(auto, unfolding(crate::specs::Numbers::text_at), using(crate::proofs::Texts::text_outside))]
+pub fn text_at(section: &[u8], offset: u64) -> Result<&[u8], ReadFault>
+    ensures { MatchResult result (λ text. text_at section.now offset ≡ Ok text.now) (λ fault. text_at section.now offset ≡ Err fault) }
+{
+    if offset > section.len() as u64 {
+        return Err(ReadFault::Unterminated);
+    }
+    text_front(&section[offset as usize..]).ok_or(ReadFault::Unterminated)
+}
