@@ -1,14 +1,13 @@
 -- Each read of a LEB128 number or a byte takes a byte or more, and none reaches past the end.
 use Rattle.std.specs.Option.{option_map_or}
-use Rattle.std.proofs.Common.{◌≡◌, ℕ, zero, suc, ◌+◌, ◌-◌, ◌^◌, ◌<◌, ◌≤◌, ℤ, List, [], ◌∷◌, Bool, true, false, cond, length, take, drop, refl, ap, sym, subst, arith, length-take, length-drop}
+use Rattle.std.proofs.Common.{◌≡◌, ℕ, ◌+◌, ◌^◌, ◌<◌, ◌≤◌, ℤ, List, Bool, true, false, cond, length, take, drop, refl, ap, subst, arith, length-take, length-drop}
 use Rattle.std.specs.Prelude.{Option, Some, None, Result, Ok, Err, position, nat_lt}
 use Rattle.std.proofs.lemmas.List.Quantifiers.{position-Some}
-use Rattle.std.proofs.lemmas.Bool.Decides.{nat_tests}
 use Rattle.dwarf_bytes.specs.declared.fault.ReadFault.{ReadFault}
 use Rattle.dwarf_bytes.specs.declared.fault.ReadFault.TheVariants.{Short, Leb}
 use Rattle.dwarf_bytes.specs.declared.fault.Cause.{Cause}
 use Rattle.dwarf_bytes.specs.Bind.{◌>>=◌}
-use Rattle.dwarf_bytes.specs.Numbers.{block_at, fixed_at, leb_front, uleb_value, uleb_at, sleb_value, sleb_at, fits_i64}
+use Rattle.dwarf_bytes.specs.Numbers.{leb_front, uleb_value, uleb_at, sleb_value, sleb_at, fits_i64}
 use Rattle.dwarf_bytes.specs.Items.{reading, refuse_if}
 
 -- an Ok of two steps comes from an Ok of each

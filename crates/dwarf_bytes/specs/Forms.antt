@@ -1,6 +1,5 @@
 -- The forms of attributes (DWARF 5, 7.5.6, table 7.6).
-use Rattle.std.specs.Prelude.{ℕ, List, [], ◌∷◌, Option, Some, None, nat_eq, find, option_map}
-use Rattle.dwarf_bytes.specs.declared.form.ValueLayout.{ValueLayout}
+use Rattle.std.specs.Prelude.{ℕ, List, [], ◌∷◌, Option, nat_eq, find, option_map}
 use Rattle.dwarf_bytes.specs.declared.form.ValueLayout.TheVariants.{Fixed, Offset, Present, Signed, Unsigned, Text, Sixteen, Block, LongBlock}
 use Rattle.dwarf_bytes.specs.declared.form.Width.{Width}
 use Rattle.dwarf_bytes.specs.declared.form.Width.TheVariants.{One, Two, Three, Four, Eight}

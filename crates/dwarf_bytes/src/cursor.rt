@@ -6,7 +6,7 @@ ghost use Rattle.dwarf_bytes.specs.Numbers.{block_at, u8_at, u16_at, u24_at, u32
 
 use crate::fault::ReadFault;
 use crate::format::Format;
-use crate::leb::{groups, leb_front, signed_groups};
+use crate::leb::{sleb_front, uleb_front};
 use crate::text::text_front;
 use byteorder::{ByteOrder, LittleEndian};
 use std::marker::Model;
@@ -129,30 +129,24 @@ impl<'a> Cursor<'a> {
     }
 
     /// An unsigned LEB128 number.
-    #[tactic(auto, unfolding(crate::specs::Numbers::uleb_at))]
+    #[inline]
     pub fn uleb(&mut self) -> Result<u64, ReadFault>
         ensures reads { Reads (λ x. x) result uleb_at self.old self.new }
         ensures moves { IfOk result (λ _. self.old.place < self.new.place) }
     {
-        let leb = leb_front(&self.bytes[self.place..])?;
-        let Ok(value) = u64::try_from(groups(leb)) else {
-            return Err(ReadFault::Leb);
-        };
-        self.place += leb.len();
+        let (value, len) = uleb_front(&self.bytes[self.place..])?;
+        self.place += len;
         Ok(value)
     }
 
     /// A signed LEB128 number.
-    #[tactic(auto, unfolding(crate::specs::Numbers::sleb_at))]
+    #[inline]
     pub fn sleb(&mut self) -> Result<i64, ReadFault>
         ensures reads { Reads (λ x. x) result sleb_at self.old self.new }
         ensures moves { IfOk result (λ _. self.old.place < self.new.place) }
     {
-        let leb = leb_front(&self.bytes[self.place..])?;
-        let Ok(value) = i64::try_from(signed_groups(leb)) else {
-            return Err(ReadFault::Leb);
-        };
-        self.place += leb.len();
+        let (value, len) = sleb_front(&self.bytes[self.place..])?;
+        self.place += len;
         Ok(value)
     }
 

@@ -1,0 +1,12 @@
+use Rattle.std.proofs.Common.{◌≡◌, ◌<◌, ◌≤◌, ◌*◌, ◌^◌, take}
+use Rattle.std.specs.Prelude.{All}
+use Rattle.dwarf_bytes.specs.Numbers.{uleb_value}
+use Rattle.dwarf_bytes.proofs.leb.low_groups.Given as goal
+
+-- the bytes so far go on, and this is what they spell
+abbrev pub invariant-loop-i : goal.invariant-loop-i
+invariant-loop-i l = record {
+  value_is : l.value ≡ uleb_value (take l.i l.low);
+  small : l.value < 2 ^ (7 * l.i);
+  go_on : All (λ byte. 128 ≤ byte) (take l.i l.low);
+}

@@ -1,0 +1,41 @@
+-- The groups of a LEB128 number, for the contracts of the steps that read one.
+use Rattle.std.specs.Prelude.{◌≡◌, ℕ, ◌*◌, ◌<◌, ◌≤◌, ◌^◌, ℤ, List, length, take, All, Result, Ok, Err, nat_lt, if◌then◌else◌}
+use Rattle.dwarf_bytes.specs.declared.fault.ReadFault.{ReadFault}
+use Rattle.dwarf_bytes.specs.declared.fault.ReadFault.TheVariants.{Short, Leb}
+use Rattle.dwarf_bytes.specs.declared.leb.Groups.{Groups}
+use Rattle.dwarf_bytes.specs.declared.leb.Groups.TheVariants.{Whole, Low}
+use Rattle.dwarf_bytes.specs.Bind.{◌>>=◌}
+use Rattle.dwarf_bytes.specs.Numbers.{IsLeb, leb_front, uleb_value, sleb_value, fits_i64}
+
+-- a number of nine bytes at most, at the front of the bytes
+pub record IsWhole (bytes : List ℕ) (value len : ℕ) : Type 0 where
+  pub leb : IsLeb (take len bytes)
+  pub value_is : value ≡ uleb_value (take len bytes)
+  pub small : value < 2 ^ (7 * len)
+  pub some : 0 < len
+  pub few : len ≤ 9
+  pub within : len ≤ length bytes
+
+-- nine bytes, none of which is the last of its number
+pub record IsLow (bytes : List ℕ) (value : ℕ) : Type 0 where
+  pub go_on : All (λ byte. 128 ≤ byte) (take 9 bytes)
+  pub value_is : value ≡ uleb_value (take 9 bytes)
+  pub small : value < 2 ^ 63
+  pub within : 9 ≤ length bytes
+
+-- what the first nine bytes spell; they are short where all go on and there are fewer than nine
+abbrev pub AreGroups : List ℕ → Result Groups ReadFault → Type 0
+AreGroups bytes (Ok (Whole value len)) = IsWhole bytes value len
+AreGroups bytes (Ok (Low value)) = IsLow bytes value
+AreGroups bytes (Err fault) = (fault ≡ Short) × (length bytes < 9) × All (λ byte. 128 ≤ byte) bytes
+
+-- the number at the front of the bytes, and its length
+unfoldable pub uleb_front : List ℕ → Result (ℕ × ℕ) ReadFault
+uleb_front bytes = do
+  leb ← leb_front bytes
+  if nat_lt (uleb_value leb) (2 ^ 64) then Ok (uleb_value leb, length leb) else Err Leb
+
+unfoldable pub sleb_front : List ℕ → Result (ℤ × ℕ) ReadFault
+sleb_front bytes = do
+  leb ← leb_front bytes
+  if fits_i64 (sleb_value leb) then Ok (sleb_value leb, length leb) else Err Leb
