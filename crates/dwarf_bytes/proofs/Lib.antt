@@ -2,9 +2,14 @@ pub mod Fixed
 pub mod Texts
 pub mod Groups
 pub mod Spelling
+pub mod Standing
+pub mod TextLaws
+pub mod FaultLaws
+pub mod ContentLaws
 pub mod Extent
 pub mod Sections
 pub mod Whole
+pub mod GoodObject
 pub mod ItemLaws
 pub mod EachLaws
 pub mod Advance

@@ -1,5 +1,5 @@
 -- The contents of values (DWARF 5, 7.5.5 and 7.5.6): how each layout spells one, and how it is read.
-use Rattle.std.specs.Prelude.{◌≡◌, ℕ, ℤ, List, [], ◌∷◌, ◌++◌, length, Result, Ok, All, ◌≢◌}
+use Rattle.std.specs.Prelude.{◌≡◌, ℕ, ℤ, List, [], ◌++◌, length, Result, Ok}
 use Rattle.dwarf_bytes.specs.declared.fault.ReadFault.{ReadFault}
 use Rattle.dwarf_bytes.specs.declared.format.Format.{Format}
 use Rattle.dwarf_bytes.specs.declared.form.ValueLayout.{ValueLayout}
@@ -7,7 +7,7 @@ use Rattle.dwarf_bytes.specs.declared.form.ValueLayout.TheVariants as layouts
 use Rattle.dwarf_bytes.specs.declared.content.Content.{Content as Lent}
 use Rattle.dwarf_bytes.specs.declared.content.Content.TheVariants as lent
 use Rattle.dwarf_bytes.specs.Bind.{◌>>=◌}
-use Rattle.dwarf_bytes.specs.Numbers.{block_at, fixed_at, offset_len, offset_at, uleb_at, sleb_at, cstr_at, little_endian, IsUleb, IsSleb}
+use Rattle.dwarf_bytes.specs.Numbers.{block_at, fixed_at, offset_len, offset_at, uleb_at, sleb_at, cstr_at, IsFixed, IsText, IsUleb, IsSleb}
 use Rattle.dwarf_bytes.specs.Forms.{byte_len}
 
 -- what a value is, wherever its bytes lie
@@ -29,14 +29,14 @@ block_in content = []
 
 -- The bytes spell the content in this layout.
 abbrev pub SpellsContent : ValueLayout → Format → List ℕ → Content → Type 0
-SpellsContent (layouts.Fixed width) format bytes (Number v) = (length bytes ≡ byte_len width) × (v ≡ little_endian bytes)
-SpellsContent layouts.Offset format bytes (Number v) = (length bytes ≡ offset_len format) × (v ≡ little_endian bytes)
+SpellsContent (layouts.Fixed width) format bytes (Number v) = IsFixed (byte_len width) bytes v
+SpellsContent layouts.Offset format bytes (Number v) = IsFixed (offset_len format) bytes v
 SpellsContent layouts.Present format bytes (Number v) = (bytes ≡ []) × (v ≡ 1)
 SpellsContent layouts.Signed format bytes (Signed v) = IsSleb bytes v
 SpellsContent layouts.Unsigned format bytes (Number v) = IsUleb bytes v
-SpellsContent layouts.Text format bytes (Bytes text) = (bytes ≡ text ++ 0 ∷ []) × All (λ b. b ≢ 0) text
+SpellsContent layouts.Text format bytes (Bytes text) = IsText bytes text
 SpellsContent layouts.Sixteen format bytes (Bytes block) = (length bytes ≡ 16) × (block ≡ bytes)
-SpellsContent (layouts.Block width) format bytes (Bytes block) = (len : List ℕ) × (bytes ≡ len ++ block) × (length len ≡ byte_len width) × (length block ≡ little_endian len)
+SpellsContent (layouts.Block width) format bytes (Bytes block) = (len : List ℕ) × (bytes ≡ len ++ block) × IsFixed (byte_len width) len (length block)
 SpellsContent layouts.LongBlock format bytes (Bytes block) = (len : List ℕ) × (bytes ≡ len ++ block) × IsUleb len (length block)
 SpellsContent layout format bytes content = ⊥
 

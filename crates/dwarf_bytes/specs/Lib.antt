@@ -8,6 +8,7 @@ pub mod Items
 pub mod Refusals
 pub mod Headers
 pub mod Elf
+pub mod ElfLaws
 pub mod Walks
 pub mod Tables
 pub mod Forms

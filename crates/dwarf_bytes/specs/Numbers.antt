@@ -1,6 +1,6 @@
 -- Numbers and texts as DWARF 5 spells them. A read takes bytes and a place in them, and answers the value
 -- and the place after it, or the fault.
-use Rattle.std.specs.Prelude.{FitsSigned, int_le, int_lt, ◌&&◌, ◌==◌, position, option_map, Option, ◌≡◌, ℕ, ◌+◌, ◌*◌, ◌-◌, ◌%◌, ◌^◌, ◌<◌, ◌≤◌, ℤ, pos, ◌-ℤ◌, List, [], ◌∷◌, ◌++◌, length, take, drop, slice_index, Bool, Result, Ok, Err, nat_lt, nat_le, if◌then◌else◌}
+use Rattle.std.specs.Prelude.{All, ◌≢◌, FitsSigned, int_le, int_lt, ◌&&◌, ◌==◌, position, option_map, Option, ◌≡◌, ℕ, ◌+◌, ◌*◌, ◌-◌, ◌%◌, ◌^◌, ◌<◌, ◌≤◌, ℤ, pos, ◌-ℤ◌, List, [], ◌∷◌, ◌++◌, length, take, drop, slice_index, Bool, Result, Ok, Err, nat_lt, nat_le, if◌then◌else◌}
 use Rattle.std.specs.Option.{option_map_or}
 use Rattle.std.specs.Int.{w64}
 use Rattle.dwarf_bytes.specs.declared.fault.ReadFault.{ReadFault}
@@ -17,6 +17,10 @@ block_at n bytes at = if nat_lt (length bytes) (at + n) then Err Short else Ok (
 abbrev pub little_endian : List ℕ → ℕ
 little_endian [] = 0
 little_endian (b ∷ bs) = b + 256 * little_endian bs
+
+-- n bytes spell a number
+abbrev pub IsFixed : ℕ → List ℕ → ℕ → Type 0
+IsFixed n bytes value = (length bytes ≡ n) × (value ≡ little_endian bytes)
 
 -- the number that the n bytes at the place spell, where they are there
 abbrev pub field : ℕ → List ℕ → ℕ → ℕ
@@ -75,6 +79,29 @@ pub record IsSleb (bytes : List ℕ) (value : ℤ) : Type 0 where
   pub value_is : value ≡ sleb_value bytes
   pub fits : FitsSigned w64 value
 
+-- No LEB128 number stands at the front of bytes that are cut: fewer than ten, all with bit 7; ..
+abbrev pub IsCutLeb : List ℕ → Type 0
+IsCutLeb bytes = (length bytes < 10) × All (λ byte. 128 ≤ byte) bytes
+
+-- .. nor where ten bytes have bit 7; ..
+abbrev pub IsEndlessLeb : List ℕ → Type 0
+IsEndlessLeb bytes = (10 ≤ length bytes) × All (λ byte. 128 ≤ byte) (take 10 bytes)
+
+-- .. nor where the number that they spell is none of 64 bits.
+pub record IsOverLeb (IsOver : List ℕ → Type 0) (bytes : List ℕ) : Type 0 where
+  pub front : List ℕ
+  pub rest : List ℕ
+  pub parts : bytes ≡ front ++ rest
+  pub leb : IsLeb front
+  pub len : length front ≤ 10
+  pub over : IsOver front
+
+abbrev pub IsOverUleb : List ℕ → Type 0
+IsOverUleb front = 2 ^ 64 ≤ uleb_value front
+
+abbrev pub IsOverSleb : List ℕ → Type 0
+IsOverSleb front = ¬ (FitsSigned w64 (sleb_value front))
+
 -- the bytes at the place begin with what spells the value, and next is the place after it
 pub record StandsAt {X : Type 0} (Spells : List ℕ → X → Type 0) (bytes : List ℕ) (at : ℕ) (value : X) (next : ℕ) : Type 0 where
   pub front : List ℕ
@@ -102,7 +129,11 @@ sleb_at bytes at = do
   leb ← leb_front (drop at bytes)
   if fits_i64 (sleb_value leb) then Ok (sleb_value leb, at + length leb) else Err Leb
 
--- A text runs up to a NUL (DWARF 5, 7.5.6), which is not of it: the text at the front of the bytes.
+-- A text runs up to a NUL (DWARF 5, 7.5.5), which is not of it.
+abbrev pub IsText : List ℕ → List ℕ → Type 0
+IsText bytes text = (bytes ≡ text ++ 0 ∷ []) × All (λ byte. byte ≢ 0) text
+
+-- the text at the front of the bytes
 unfoldable pub text_front : List ℕ → Option (List ℕ)
 text_front bytes = option_map (λ n. take n bytes) (position (λ b. b == 0) bytes)
 

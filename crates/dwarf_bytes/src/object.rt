@@ -6,7 +6,7 @@ ghost use Rattle.dwarf_bytes.specs.Words.{section_name};
 ghost use Rattle.dwarf_bytes.specs.Bind.{unless};
 ghost use Rattle.dwarf_bytes.specs.Faults.{first_failure, item_fault, first_fault};
 ghost use Rattle.dwarf_bytes.specs.Headers.{file_header};
-ghost use Rattle.dwarf_bytes.specs.Elf.{is_not_elf, is_other_class, is_other_type, is_bad_segment_table, is_bad_section_table, has_sections, header_tests, section_header, names, names_item, section_item, load_items, section_items, elf_fault, layout, low, high};
+ghost use Rattle.dwarf_bytes.specs.Elf.{is_not_elf, is_other_class, is_other_type, is_bad_segment_table, is_bad_section_table, has_sections, header_tests, section_header, names, names_item, section_item, load_items, section_items, elf_fault, layout, low, high, AreInside};
 ghost use Rattle.dwarf_bytes.specs.declared.fault.Section.TheVariants as sections;
 ghost use Rattle.dwarf_bytes.specs.Walks.{extended, layout_of, spans_before};
 
@@ -45,7 +45,7 @@ pub struct Object;
 impl Object {
     /// Where the sections of an object stand, or its first fault.
     pub fn find(bytes: &[u8]) -> Result<Layout, LoadFault>
-        ensures { MatchResult result (λ found. (elf_fault bytes.now ≡ None) × (found ≡ layout bytes.now)) (λ fault. elf_fault bytes.now ≡ Some fault) }
+        ensures { MatchResult result (λ found. (elf_fault bytes.now ≡ None) × (found ≡ layout bytes.now) × AreInside bytes.now found) (λ fault. elf_fault bytes.now ≡ Some fault) }
     {
         let header = match checked_header(bytes) {
             Ok(header) => header,

@@ -1,0 +1,5 @@
+use Rattle.dwarf_bytes.proofs.GoodObject.{high_is_greatest}
+use Rattle.dwarf_bytes.proofs.laws.high_is_greatest.Goals as goal
+
+pub returns : goal.returns
+returns c bytes good = high_is_greatest bytes good

@@ -1,0 +1,11 @@
+use Rattle.dwarf_bytes.proofs.FaultLaws.{sleb_fault, sleb_cut, sleb_leb, only_short, only_leb, either}
+use Rattle.dwarf_bytes.proofs.laws.sleb_faults.Goals as goal
+
+pub returns-clause-short : goal.returns-clause-short
+returns-clause-short c bytes at = (λ e. only_short (sleb_fault bytes at _ e), sleb_cut bytes at)
+
+pub returns-clause-leb : goal.returns-clause-leb
+returns-clause-leb c bytes at = (λ e. only_leb (sleb_fault bytes at _ e), sleb_leb bytes at)
+
+pub returns-clause-no_other : goal.returns-clause-no_other
+returns-clause-no_other c bytes at fault e = either fault (sleb_fault bytes at fault e)
