@@ -16,7 +16,7 @@ use Rattle.dwarf_lines.specs.declared.formats.EntryTable.TheVariants.{Directorie
 use Rattle.dwarf_lines.specs.declared.entries.PathText.{PathText}
 use Rattle.dwarf_lines.specs.declared.entries.Entry.{Entry}
 use Rattle.dwarf_lines.specs.Sections.{LineSections}
-use Rattle.dwarf_lines.specs.Formats.{PATH, DIRECTORY_INDEX, layout_of, is_index_form, is_format}
+use Rattle.dwarf_lines.specs.Formats.{is_path, is_index, layout_of, is_format}
 
 -- where a text stands, and whether it begins with a slash
 abbrev pub text_from : Section → ℕ → List ℕ → PathText
@@ -57,23 +57,19 @@ abbrev pub after_value : Format → ℕ → List ℕ → ℕ → Result ℕ Caus
 after_value format form bytes place =
     option_map_or (λ layout. reading (content_at layout format bytes place) >>= λ content. Ok content.1) (layout_of form) (Err causes.FileFormat)
 
--- whether a field is a directory index that is used
-abbrev pub is_index : Field → Bool
-is_index field = (field.content == DIRECTORY_INDEX) && is_index_form field.form
-
 -- One field of an entry: a path or a directory index is kept, all else is passed over.
-unfoldable pub field_at : LineSections → Format → Field → List ℕ → Entry → ℕ → Result (Entry × ℕ) Cause
-field_at s format field bytes entry place =
-    if field.content == PATH then (path_at s format field.form bytes place >>= λ text. Ok (record entry { path = text.0 }, text.1))
-    else if is_index field then (index_at field.form bytes place >>= λ index. Ok (record entry { directory = index.0 }, index.1))
+unfoldable pub field_at : LineSections → Format → EntryTable → Field → Entry → List ℕ → ℕ → Result (Entry × ℕ) Cause
+field_at s format table field entry bytes place =
+    if is_path field then (path_at s format field.form bytes place >>= λ text. Ok (record entry { path = text.0 }, text.1))
+    else if is_index table field then (index_at field.form bytes place >>= λ index. Ok (record entry { directory = index.0 }, index.1))
     else after_value format field.form bytes place >>= λ after. Ok (entry, after)
 
 -- the fields of an entry, in the order of the format
-unfoldable pub fields_at : LineSections → Format → List Field → List ℕ → Entry → ℕ → Result (Entry × ℕ) Cause
-fields_at s format [] bytes entry place = Ok (entry, place)
-fields_at s format (field ∷ fields) bytes entry place = do
-  next ← field_at s format field bytes entry place
-  fields_at s format fields bytes next.0 next.1
+unfoldable pub fields_at : LineSections → Format → EntryTable → List Field → Entry → List ℕ → ℕ → Result (Entry × ℕ) Cause
+fields_at s format table [] entry bytes place = Ok (entry, place)
+fields_at s format table (field ∷ fields) entry bytes place = do
+  next ← field_at s format table field entry bytes place
+  fields_at s format table fields next.0 bytes next.1
 
 -- an entry before its fields: no text, and directory 0
 abbrev pub no_entry : Entry
@@ -87,7 +83,7 @@ has_directory (Files directories) entry = nat_lt entry.directory directories
 -- an entry, judged right after its fields
 unfoldable pub entry_at : LineSections → Format → EntryTable → List Field → List ℕ → ℕ → Result (Entry × ℕ) Cause
 entry_at s format table fields bytes place = do
-  entry ← fields_at s format fields bytes no_entry place
+  entry ← fields_at s format table fields no_entry bytes place
   _ ← refuse_if (not (has_directory table entry.0)) causes.DirIndex
   Ok entry
 
@@ -99,7 +95,7 @@ repeated_at item (suc count) bytes place = do
   rest ← repeated_at item count bytes first.1
   Ok (first.0 ∷ rest.0, rest.1)
 
--- a content and its form
+-- a field of a format: its content and its form
 unfoldable pub format_at : List ℕ → ℕ → Result (Field × ℕ) Cause
 format_at bytes place = do
   content ← reading (uleb_at bytes place)

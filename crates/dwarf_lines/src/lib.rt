@@ -4,11 +4,13 @@
 
 mod bounds;
 mod entries;
+mod entry_tables;
 mod formats;
 mod header;
 mod instruction;
 mod lines;
 mod path;
+mod programs;
 mod registers;
 mod row;
 mod running;

@@ -6,20 +6,13 @@ ghost use Rattle.dwarf_lines.specs.Sections.{LineSections};
 ghost use Rattle.dwarf_lines.specs.Paths.{path_parts};
 ghost use Rattle.dwarf_lines.specs.Lines.{Lines, lines_in, program_at, file_count, path_of};
 
-use crate::entries::Entry;
+use crate::entries::{Entry, Texts};
 use crate::path::{PathParts, parts_of};
+use crate::programs::{ProgramFiles, add_program};
 use crate::row::{ProgramNo, Row};
-use dwarf_bytes::{Cause, LoadFault, Section};
+use dwarf_bytes::{LoadFault, Section};
 use std::alloc::Global;
 use std::marker::Model;
-
-/// The directories and files of a program.
-#[derive(Drop)]
-pub struct ProgramFiles {
-    pub offset: u64,
-    pub directories: Vec<Entry>,
-    pub files: Vec<Entry>,
-}
 
 /// The line programs of an object.
 #[derive(Drop)]
@@ -42,18 +35,30 @@ impl LineTables {
     /// The line programs of `.debug_line`, which take texts of `.debug_line_str` and `.debug_str` by
     /// offsets; or the first fault, with its program's offset in `.debug_line` (DWARF 5, 6.2).
     pub fn read(
-        _alloc: Global,
+        alloc: Global,
         line: &[u8],
         line_str: &[u8],
         str: &[u8],
     ) -> Result<LineTables, LoadFault>
         ensures { Decodes (λ lines. lines) result (lines_in (record { line = line.now; line_str = line_str.now; str = str.now })) }
     {
-        Err(LoadFault::told(
-            Section::Elf,
-            Cause::Memory,
-            (line.len().min(line_str.len()).min(str.len()) as u64).min(0),
-        ))
+        let texts = Texts {
+            line,
+            line_str,
+            str,
+        };
+        let mut rows = Vec::new(alloc);
+        let mut programs = Vec::new(alloc);
+        let mut place = 0;
+        while place < line.len() {
+            match add_program(alloc, texts, place, &mut rows, &mut programs) {
+                Ok(past) => place = past,
+                Err(cause) => {
+                    return Err(LoadFault::told(Section::DebugLine, cause, place as u64));
+                }
+            }
+        }
+        Ok(LineTables { rows, programs })
     }
 
     /// The rows of all programs, in file order.
