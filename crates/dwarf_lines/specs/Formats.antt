@@ -1,0 +1,52 @@
+-- The formats of a line header's two tables (DWARF 5, 6.2.4 and 6.2.4.1): what the fields of an entry are.
+use Rattle.std.specs.Prelude.{ℕ, List, Bool, false, ◌&&◌, ◌||◌, Option, Some, None, nat_le, is_some, count_by, ◌==◌, if◌then◌else◌}
+use Rattle.std.specs.List.{list_all}
+use Rattle.dwarf_bytes.specs.declared.form.ValueLayout.{ValueLayout}
+use Rattle.dwarf_bytes.specs.declared.form.Form.{Form}
+use Rattle.dwarf_bytes.specs.declared.form.Form.TheVariants.{Direct, ImplicitConst, Indirect}
+use Rattle.dwarf_bytes.specs.Forms.{form_of}
+use Rattle.dwarf_lines.specs.declared.formats.Field.{Field}
+use Rattle.dwarf_lines.specs.declared.formats.EntryTable.{EntryTable}
+use Rattle.dwarf_lines.specs.declared.formats.EntryTable.TheVariants.{Directories, Files}
+
+-- whether a field is a path (DW_LNCT_path)
+abbrev pub is_path : Field → Bool
+is_path field = field.content == 1
+
+-- whether a field of a table is the directory of a file (DW_LNCT_directory_index)
+abbrev pub is_index : EntryTable → Field → Bool
+is_index Directories field = false
+is_index (Files directories) field = field.content == 2
+
+-- string, strp and line_strp
+abbrev pub is_text_form : ℕ → Bool
+is_text_form form = (form == 0x08) || (form == 0x0e) || (form == 0x1f)
+
+-- data1, data2 and udata
+abbrev pub is_index_form : ℕ → Bool
+is_index_form form = (form == 0x0b) || (form == 0x05) || (form == 0x0f)
+
+-- the layout of a value that stands in its entry
+abbrev pub direct : Option Form → Option ValueLayout
+direct (Some (Direct layout)) = Some layout
+direct (Some ImplicitConst) = None
+direct (Some Indirect) = None
+direct None = None
+
+abbrev pub layout_of : ℕ → Option ValueLayout
+layout_of form = direct (form_of form)
+
+-- The form of a field is one for its content: a text for a path, a count for a directory index, and any that can be
+-- passed over for another content (own).
+abbrev pub has_good_form : EntryTable → Field → Bool
+has_good_form table field =
+    if is_path field then is_text_form field.form
+    else if is_index table field then is_index_form field.form
+    else is_some (layout_of field.form)
+
+-- A path stands exactly once, a directory index once at most (own).
+abbrev pub is_format : EntryTable → List Field → Bool
+is_format table fields =
+    (count_by is_path fields == 1)
+    && nat_le (count_by (is_index table) fields) 1
+    && list_all (has_good_form table) fields

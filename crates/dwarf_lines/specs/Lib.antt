@@ -1,0 +1,13 @@
+pub mod Sections
+pub mod Instructions
+pub mod Spelling
+pub mod Matrix
+pub mod Registers
+pub mod Formats
+pub mod Entries
+pub mod Headers
+pub mod Programs
+pub mod Paths
+pub mod Lines
+pub mod Texts
+pub mod Kept

@@ -1,0 +1,58 @@
+-- What callers see of the line programs of an object.
+use Rattle.std.specs.Prelude.{ℕ, suc, List, [], ◌∷◌, length, map, position, slice_get, Bool, not, ◌&&◌, nat_le, nat_lt, Result, Ok, Option, Some, None, ◌==◌, if◌then◌else◌}
+use Rattle.std.specs.Option.{option_map, option_map_or, option_and_then}
+use Rattle.dwarf_bytes.specs.Bind.{◌>>=◌}
+use Rattle.dwarf_bytes.specs.Refusals.{in_section}
+use Rattle.dwarf_bytes.specs.declared.fault.LoadFault.{LoadFault}
+use Rattle.dwarf_bytes.specs.declared.fault.Section.TheVariants as sections
+use Rattle.dwarf_lines.specs.declared.row.Row.{Row}
+use Rattle.dwarf_lines.specs.declared.row.ProgramNo.{ProgramNo}
+use Rattle.dwarf_lines.specs.declared.entries.Part.{Part}
+use Rattle.dwarf_lines.specs.declared.entries.Entry.{Entry}
+use Rattle.dwarf_lines.specs.Sections.{LineSections}
+use Rattle.dwarf_lines.specs.Programs.{Program, programs_of, rows_of}
+use Rattle.dwarf_lines.specs.Paths.{path_parts}
+
+-- a program without its rows: where it starts, and its directories and files
+pub record FileTables : Type 0 where
+  pub offset : ℕ
+  pub directories : List Entry
+  pub files : List Entry
+
+-- the line programs: their rows in file order, and their directories and files
+pub record Lines : Type 0 where
+  pub rows : List Row
+  pub programs : List FileTables
+
+abbrev pub tables_of : Program → FileTables
+tables_of program = record { offset = program.offset; directories = program.directories; files = program.files }
+
+abbrev pub lines_of : List Program → Lines
+lines_of programs = record { rows = rows_of programs; programs = map tables_of programs }
+
+-- The lines of the sections, or the first fault of their programs.
+unfoldable pub lines_in : LineSections → Result Lines LoadFault
+lines_in s = in_section sections.DebugLine (programs_of s) >>= λ programs. Ok (lines_of programs.0)
+
+-- the number of the program that starts at an offset
+abbrev pub program_at : Lines → ℕ → Option ProgramNo
+program_at lines offset = option_map (λ n. record { 0 = n }) (position (λ program. program.offset == offset) lines.programs)
+
+-- how many files a program has; none for a number of no program
+abbrev pub file_count : Lines → ProgramNo → ℕ
+file_count lines number = option_map_or (λ program. length program.files) (slice_get lines.programs number.0) 0
+
+-- the parts of the path of a program's file
+abbrev pub path_of : Lines → ProgramNo → ℕ → Option (List Part)
+path_of lines number file = option_and_then (λ program. path_parts program.directories program.files file) (slice_get lines.programs number.0)
+
+-- A row covers an address from its own one on up to that of the next row of its sequence. The next row of one that
+-- does not end its sequence is in its sequence.
+abbrev pub covers : ℕ → Row → Row → Bool
+covers address row next = not row.«end» && nat_le row.address address && nat_lt address next.address
+
+-- the position of the first row that covers an address
+abbrev pub row_of : List Row → ℕ → Option ℕ
+row_of [] address = None
+row_of (row ∷ []) address = None
+row_of (row ∷ next ∷ rows) address = if covers address row next then Some 0 else option_map suc (row_of (next ∷ rows) address)

@@ -1,0 +1,48 @@
+-- What the registers of the code hold.
+use Rattle.std.specs.Prelude.{◌≡◌, ℕ, ◌^◌, ◌≤◌, ◌+◌, ℤ, List, ◌∷◌, Option, Some, None, Result, Ok, Err, option_to_list, true, unsigned_abs}
+use Rattle.dwarf_bytes.specs.declared.fault.Cause.{Cause}
+use Rattle.dwarf_lines.specs.declared.row.Row.{Row}
+use Rattle.dwarf_lines.specs.declared.row.Origin.{Origin}
+use Rattle.dwarf_lines.specs.declared.registers.Registers.{Registers}
+use Rattle.dwarf_lines.specs.declared.instruction.Instruction.{Instruction}
+use Rattle.dwarf_lines.specs.declared.instruction.Instruction.TheVariants.{AdvanceLine}
+use Rattle.dwarf_bytes.specs.Refusals.{Fails}
+use Rattle.dwarf_lines.specs.Instructions.{Encoding}
+use Rattle.dwarf_lines.specs.Matrix.{address_after, line_after, file_after, is_open, row_before, line_row, made, with_front}
+
+-- a sum that is known below 2 ^ 64
+abbrev pub IsSum : Option ℕ → ℕ → Type 0
+IsSum None sum = 2 ^ 64 ≤ sum
+IsSum (Some n) sum = n ≡ sum
+
+-- the registers are those after these instructions
+pub record AreRegisters (e : Encoding) (before : List Instruction) (r : Registers) : Type 0 where
+  pub address : IsSum r.address (address_after e before)
+  pub line : r.line ≡ line_after e before
+  pub file : r.file ≡ file_after before
+  pub previous : r.previous ≡ row_before e before
+  pub has_row : r.has_row ≡ is_open before
+
+-- The row of the registers is made at the address sum, and is then the last one.
+abbrev pub KeepsRow : Origin → Registers → ℕ → Result Row Cause → Registers → Type 0
+KeepsRow origin old sum (Ok row) new = (line_row origin old.previous sum old.line old.file ≡ Ok row) × (new ≡ record old { previous = row.address; has_row = true })
+KeepsRow origin old sum (Err cause) new = line_row origin old.previous sum old.line old.file ≡ Err cause
+
+-- A step after these instructions gives what the instruction makes, and the registers after it.
+abbrev pub Makes : Encoding → Origin → List Instruction → Instruction → Result (Option Row) Cause → Registers → Type 0
+Makes e origin before i (Ok row) new = (made e origin before i ≡ Ok (option_to_list row)) × AreRegisters e (i ∷ before) new
+Makes e origin before i (Err cause) new = made e origin before i ≡ Err cause
+
+-- how far the operand of an instruction goes from line to line
+abbrev pub line_reach : Instruction → ℕ
+line_reach (AdvanceLine change) = unsigned_abs change
+line_reach _ = 0
+
+-- the line register moves by no more than a special opcode or the operand says
+abbrev pub IsNear : ℤ → ℤ → Instruction → Type 0
+IsNear old new i = unsigned_abs new ≤ 2 ^ 10 + unsigned_abs old + line_reach i
+
+-- The rows of the outcome were put at the end, or the fault is the outcome's, unless memory ran out.
+abbrev pub Adds : {X : Type 0} → Result X Cause → List Row → List Row → Result (List Row) Cause → Type 0
+Adds (Ok _) old new outcome = with_front old outcome ≡ Ok new
+Adds (Err cause) old new outcome = Fails cause outcome

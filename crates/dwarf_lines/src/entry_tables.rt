@@ -1,0 +1,92 @@
+//! The two tables of a header.
+
+ghost use Rattle.std.specs.Prelude.{◌≡◌};
+ghost use Rattle.dwarf_bytes.specs.Refusals.{ReadsField, ReadsItems};
+ghost use Rattle.dwarf_lines.specs.Texts.{sections_of};
+ghost use Rattle.dwarf_lines.specs.Entries.{field_at, fields_at, no_entry, entry_at, repeated_at, table_at};
+
+use crate::entries::{Entry, Texts, directory_index, pass_over, path};
+use crate::formats::{EntryTable, Field, format};
+use dwarf_bytes::{Cause, Cursor, Format};
+use std::alloc::Global;
+
+/// What the values of entries depend on, beside their fields.
+#[derive(Clone, Copy, Debug, Drop)]
+pub struct EntryReader<'a> {
+    pub texts: Texts<'a>,
+    pub format: Format,
+    pub table: EntryTable,
+}
+
+impl EntryReader<'_> {
+    /// An entry with one more of its fields.
+    #[tactic(auto, unfolding(crate::specs::Entries::field_at))]
+    fn with_field(&self, field: Field, entry: Entry, cursor: &mut Cursor) -> Result<Entry, Cause>
+        ensures { ReadsField (λ entry. entry) result (field_at (sections_of self.now.texts) self.now.format self.now.table field entry) cursor.old cursor.new }
+    {
+        if field.is_path() {
+            let path = path(self.texts, self.format, field.form, cursor)?;
+            return Ok(Entry { path, ..entry });
+        }
+        if self.table.is_index(field) {
+            let directory = directory_index(field.form, cursor)?;
+            return Ok(Entry { directory, ..entry });
+        }
+        pass_over(self.format, field.form, cursor)?;
+        Ok(entry)
+    }
+
+    /// The fields of an entry.
+    fn fields(&self, fields: &[Field], cursor: &mut Cursor) -> Result<Entry, Cause>
+        ensures { ReadsField (λ entry. entry) result (fields_at (sections_of self.now.texts) self.now.format self.now.table fields.now no_entry) cursor.old cursor.new }
+    {
+        let mut entry = Entry::new();
+        for field in fields {
+            entry = self.with_field(*field, entry, cursor)?;
+        }
+        Ok(entry)
+    }
+
+    /// An entry whose directory is there.
+    #[tactic(auto, unfolding(crate::specs::Entries::entry_at))]
+    fn entry(&self, fields: &[Field], cursor: &mut Cursor) -> Result<Entry, Cause>
+        ensures { ReadsField (λ entry. entry) result (entry_at (sections_of self.now.texts) self.now.format self.now.table fields.now) cursor.old cursor.new }
+    {
+        let entry = self.fields(fields, cursor)?;
+        if !entry.has_directory(self.table) {
+            return Err(Cause::DirIndex);
+        }
+        Ok(entry)
+    }
+
+    /// So many entries.
+    fn entries(
+        &self,
+        alloc: Global,
+        fields: &[Field],
+        count: u64,
+        cursor: &mut Cursor,
+    ) -> Result<Vec<Entry>, Cause>
+        ensures { ReadsItems result (repeated_at (entry_at (sections_of self.now.texts) self.now.format self.now.table fields.now) count) cursor.old cursor.new }
+    {
+        let mut entries = Vec::new(alloc);
+        for _ in 0..count {
+            entries.push(self.entry(fields, cursor)?)?;
+        }
+        Ok(entries)
+    }
+
+    /// The table at the cursor.
+    #[tactic(auto, unfolding(crate::specs::Entries::table_at))]
+    pub fn table(&self, alloc: Global, cursor: &mut Cursor) -> Result<Vec<Entry>, Cause>
+        ensures { ReadsItems result (table_at (sections_of self.now.texts) self.now.format self.now.table) cursor.old cursor.new }
+    {
+        let format_count = cursor.u8()?;
+        let fields = format(alloc, format_count, cursor)?;
+        let count = cursor.uleb()?;
+        if count != 0 && !self.table.accepts(fields.as_slice()) {
+            return Err(Cause::FileFormat);
+        }
+        self.entries(alloc, fields.as_slice(), count, cursor)
+    }
+}

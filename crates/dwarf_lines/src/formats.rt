@@ -1,0 +1,128 @@
+//! The formats of a header's tables.
+
+ghost use Rattle.std.specs.Prelude.{◌≡◌, count_by};
+ghost use Rattle.std.specs.List.{list_all};
+ghost use Rattle.dwarf_bytes.specs.Refusals.{ReadsField, ReadsItems};
+ghost use Rattle.dwarf_lines.specs.Entries.{format_at, repeated_at};
+ghost use Rattle.dwarf_lines.specs.Formats.{is_path, is_index, is_text_form, is_index_form, layout_of, has_good_form, is_format};
+
+use dwarf_bytes::{Cause, Cursor, Form, ValueLayout};
+use std::alloc::Global;
+
+/// A field of the entries of a table: what it is, and its form (DWARF 5, 6.2.4.1).
+#[derive(Clone, Copy, Debug)]
+pub struct Field {
+    pub content: u64,
+    pub form: u64,
+}
+
+/// The two tables of a header (DWARF 5, 6.2.4).
+#[derive(Clone, Copy, Debug)]
+pub enum EntryTable {
+    Directories,
+    /// The files, beside so many directories.
+    Files(u64),
+}
+
+/// The layout of a value that stands in its entry.
+pub fn layout_of(form: u64) -> Option<ValueLayout>
+    ensures { result ≡ layout_of form }
+{
+    match Form::of(form) {
+        Some(Form::Direct(layout)) => Some(layout),
+        _ => None,
+    }
+}
+
+impl Field {
+    /// Whether it is a path.
+    pub fn is_path(self) -> bool
+        ensures { result ≡ is_path self }
+    {
+        self.content == 1
+    }
+
+    fn has_text_form(self) -> bool
+        ensures { result ≡ is_text_form self.form }
+    {
+        self.form == 0x08 || self.form == 0x0e || self.form == 0x1f
+    }
+
+    fn has_index_form(self) -> bool
+        ensures { result ≡ is_index_form self.form }
+    {
+        self.form == 0x0b || self.form == 0x05 || self.form == 0x0f
+    }
+
+    /// Reads a field of a format.
+    #[tactic(auto, unfolding(crate::specs::Entries::format_at))]
+    fn read(cursor: &mut Cursor) -> Result<Field, Cause>
+        ensures { ReadsField (λ field. field) result format_at cursor.old cursor.new }
+    {
+        let content = cursor.uleb()?;
+        let form = cursor.uleb()?;
+        Ok(Field { content, form })
+    }
+}
+
+impl EntryTable {
+    /// Whether a field is the directory of a file.
+    pub fn is_index(self, field: Field) -> bool
+        ensures { result ≡ is_index self field }
+    {
+        match self {
+            EntryTable::Directories => false,
+            EntryTable::Files(_) => field.content == 2,
+        }
+    }
+
+    fn has_good_form(self, field: Field) -> bool
+        ensures { result ≡ has_good_form self field }
+    {
+        if field.is_path() {
+            field.has_text_form()
+        } else if self.is_index(field) {
+            field.has_index_form()
+        } else {
+            layout_of(field.form).is_some()
+        }
+    }
+
+    /// Whether the table may have a format.
+    pub fn accepts(self, fields: &[Field]) -> bool
+        ensures { result ≡ is_format self fields.now }
+    {
+        count_of_paths(fields) == 1
+            && self.count_of_indexes(fields) <= 1
+            && self.has_good_forms(fields)
+    }
+
+    fn count_of_indexes(self, fields: &[Field]) -> usize
+        ensures { result ≡ count_by (is_index self) fields.now }
+    {
+        fields.iter().filter(|field| self.is_index(**field)).count()
+    }
+
+    fn has_good_forms(self, fields: &[Field]) -> bool
+        ensures { result ≡ list_all (has_good_form self) fields.now }
+    {
+        fields.iter().all(|field| self.has_good_form(*field))
+    }
+}
+
+fn count_of_paths(fields: &[Field]) -> usize
+    ensures { result ≡ count_by is_path fields.now }
+{
+    fields.iter().filter(|field| field.is_path()).count()
+}
+
+/// The fields of the entries of a table, of which there are `count`.
+pub fn format(alloc: Global, count: u8, cursor: &mut Cursor) -> Result<Vec<Field>, Cause>
+    ensures { ReadsItems result (repeated_at format_at count) cursor.old cursor.new }
+{
+    let mut fields = Vec::new(alloc);
+    for _ in 0..count {
+        fields.push(Field::read(cursor)?)?;
+    }
+    Ok(fields)
+}

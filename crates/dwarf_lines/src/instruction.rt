@@ -1,0 +1,104 @@
+//! The instructions of a line program.
+
+ghost use Rattle.std.specs.Prelude.{◌≡◌, ◌≤◌, ◌<◌, ◌+◌, ◌*◌, ◌-◌, ◌^◌, ℕ, length, MatchResult, IfOk, unsigned_abs};
+ghost use Rattle.dwarf_lines.specs.Instructions.{encoding, extended_of, extended_at, standard_at, after_ulebs, instruction_at};
+ghost use Rattle.dwarf_bytes.specs.Refusals.{ReadsField, ReadsPlace};
+ghost use Rattle.dwarf_lines.specs.Registers.{line_reach};
+
+use crate::header::Header;
+use byteorder::{ByteOrder, LittleEndian};
+use dwarf_bytes::{Cause, Cursor};
+
+/// An instruction of a line program (DWARF 5, 6.2.5).
+#[derive(Clone, Copy, Debug, PartialEq, Eq)]
+pub enum Instruction {
+    Copy,
+    AdvancePc(u64),
+    AdvanceLine(i64),
+    SetFile(u64),
+    ConstAddPc,
+    FixedAdvancePc(u16),
+    SetAddress(u64),
+    EndSequence,
+    /// An opcode from opcode_base on, less opcode_base.
+    Special(u8),
+    /// One that changes no address, line or file and makes no row.
+    Skipped,
+}
+
+/// The instruction at the cursor.
+#[tactic(auto, unfolding(crate::specs::Instructions::instruction_at))]
+pub fn decode(header: &Header, cursor: &mut Cursor) -> Result<Instruction, Cause>
+    ensures reads { ReadsField (λ i. i) result (instruction_at (encoding header.now)) cursor.old cursor.new }
+    ensures moves { IfOk result (λ _. cursor.old.place < cursor.new.place) }
+    ensures reach { IfOk result (λ i. line_reach i ≤ 2 ^ 62 * (cursor.new.place - cursor.old.place)) }
+{
+    let opcode = cursor.u8()?;
+    if opcode >= header.opcode_base {
+        return Ok(Instruction::Special(opcode - header.opcode_base));
+    }
+    if opcode == 0 {
+        return extended(cursor);
+    }
+    standard(header, opcode, cursor)
+}
+
+#[tactic(auto, unfolding(crate::specs::Instructions::standard_at))]
+fn standard(header: &Header, opcode: u8, cursor: &mut Cursor) -> Result<Instruction, Cause>
+    requires { 0 < opcode }
+    ensures reads { ReadsField (λ i. i) result (standard_at (encoding header.now) opcode) cursor.old cursor.new }
+    ensures moves { IfOk result (λ _. cursor.old.place ≤ cursor.new.place) }
+    ensures reach { IfOk result (λ i. line_reach i ≤ 2 ^ 62 * (cursor.new.place + 1 - cursor.old.place)) }
+{
+    match opcode {
+        1 => Ok(Instruction::Copy),
+        2 => Ok(Instruction::AdvancePc(cursor.uleb()?)),
+        3 => Ok(Instruction::AdvanceLine(cursor.sleb()?)),
+        4 => Ok(Instruction::SetFile(cursor.uleb()?)),
+        8 => Ok(Instruction::ConstAddPc),
+        9 => Ok(Instruction::FixedAdvancePc(cursor.u16()?)),
+        _ => {
+            skip_ulebs(header.operands(opcode), cursor)?;
+            Ok(Instruction::Skipped)
+        }
+    }
+}
+
+/// Passes over operands.
+fn skip_ulebs(count: u8, cursor: &mut Cursor) -> Result<(), Cause>
+    ensures reads { ReadsPlace result (after_ulebs count) cursor.old cursor.new }
+    ensures moves { IfOk result (λ _. cursor.old.place ≤ cursor.new.place) }
+{
+    for _ in 0..count {
+        let _ = cursor.uleb()?;
+    }
+    Ok(())
+}
+
+#[tactic(auto, unfolding(crate::specs::Instructions::extended_at))]
+fn extended(cursor: &mut Cursor) -> Result<Instruction, Cause>
+    ensures reads { ReadsField (λ i. i) result extended_at cursor.old cursor.new }
+    ensures moves { IfOk result (λ _. cursor.old.place ≤ cursor.new.place) }
+    ensures reach { IfOk result (λ i. line_reach i ≡ 0) }
+{
+    let len = cursor.uleb()?;
+    if len == 0 {
+        return Err(Cause::Extended);
+    }
+    let body = cursor.block(len)?;
+    extended_in(body)
+}
+
+#[tactic(auto, unfolding(crate::specs::Instructions::extended_of))]
+fn extended_in(body: &[u8]) -> Result<Instruction, Cause>
+    requires { 0 < length body.now }
+    ensures value { result ≡ extended_of body.now }
+    ensures reach { IfOk result (λ i. line_reach i ≡ 0) }
+{
+    match body[0] {
+        1 if body.len() == 1 => Ok(Instruction::EndSequence),
+        2 if body.len() == 9 => Ok(Instruction::SetAddress(LittleEndian::read_u64(&body[1..]))),
+        1 | 2 => Err(Cause::Extended),
+        _ => Ok(Instruction::Skipped),
+    }
+}

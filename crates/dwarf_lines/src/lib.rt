@@ -1,0 +1,21 @@
+//! The line programs of an object: the rows of its line matrix, and its directories and files
+//! (DWARF 5, 6.2).
+#![tactic(auto)]
+
+mod bounds;
+mod entries;
+mod entry_tables;
+mod formats;
+mod header;
+mod instruction;
+mod lines;
+mod path;
+mod programs;
+mod registers;
+mod row;
+mod running;
+
+pub use entries::Part;
+pub use lines::LineTables;
+pub use path::PathParts;
+pub use row::{ProgramNo, Row};

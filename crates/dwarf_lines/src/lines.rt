@@ -1,0 +1,117 @@
+//! The line programs of an object.
+
+ghost use Rattle.std.specs.Prelude.{◌≡◌, ◌==◌, position};
+ghost use Rattle.dwarf_bytes.specs.Refusals.{Decodes};
+ghost use Rattle.dwarf_lines.specs.Sections.{LineSections};
+ghost use Rattle.dwarf_lines.specs.Paths.{path_parts};
+ghost use Rattle.dwarf_lines.specs.Lines.{Lines, lines_in, program_at, file_count, path_of};
+
+use crate::entries::{Entry, Texts};
+use crate::path::{PathParts, parts_of};
+use crate::programs::{ProgramFiles, add_program};
+use crate::row::{ProgramNo, Row};
+use dwarf_bytes::{LoadFault, Section};
+use std::alloc::Global;
+use std::marker::Model;
+
+/// The line programs of an object.
+#[derive(Drop)]
+pub struct LineTables {
+    rows: Vec<Row>,
+    programs: Vec<ProgramFiles>,
+}
+
+impl Model for LineTables {
+    ghost use Rattle.std.specs.Prelude.{map};
+    ghost use Rattle.dwarf_lines.specs.Lines.{Lines};
+    ghost use Rattle.dwarf_lines.specs.Kept.{tables_in};
+
+    ghost Value = { Lines };
+
+    ghost view = { λ t. record { rows = t.rows.items; programs = map tables_in t.programs.items } };
+}
+
+impl LineTables {
+    /// The line programs of `.debug_line`, which take texts of `.debug_line_str` and `.debug_str` by
+    /// offsets; or the first fault, with its program's offset in `.debug_line` (DWARF 5, 6.2).
+    pub fn read(
+        alloc: Global,
+        line: &[u8],
+        line_str: &[u8],
+        str: &[u8],
+    ) -> Result<LineTables, LoadFault>
+        ensures { Decodes (λ lines. lines) result (lines_in (record { line = line.now; line_str = line_str.now; str = str.now })) }
+    {
+        let texts = Texts {
+            line,
+            line_str,
+            str,
+        };
+        let mut rows = Vec::new(alloc);
+        let mut programs = Vec::new(alloc);
+        let mut place = 0;
+        while place < line.len() {
+            match add_program(alloc, texts, place, &mut rows, &mut programs) {
+                Ok(past) => place = past,
+                Err(cause) => {
+                    return Err(LoadFault::told(Section::DebugLine, cause, place as u64));
+                }
+            }
+        }
+        Ok(LineTables { rows, programs })
+    }
+
+    /// The rows of all programs, in file order.
+    pub fn rows(&self) -> &[Row]
+        ensures { result.now ≡ self.now.rows }
+    {
+        self.rows.as_slice()
+    }
+
+    /// The program that starts at an offset of `.debug_line`.
+    #[tactic(auto, using(crate::proofs::Positions::position_of_map))]
+    pub fn program_at(&self, offset: u64) -> Option<ProgramNo>
+        ensures { result ≡ program_at self.now offset }
+    {
+        match position_of(self.programs.as_slice(), offset) {
+            Some(n) => Some(ProgramNo(n)),
+            None => None,
+        }
+    }
+
+    /// How many files a program has; 0 for a number of no program.
+    pub fn files(&self, program: ProgramNo) -> u64
+        ensures { result ≡ file_count self.now program }
+    {
+        match self.programs.get(program.0) {
+            Some(tables) => tables.files.len() as u64,
+            None => 0,
+        }
+    }
+
+    /// The parts of the path of a program's file, numbered from 0; none for numbers that are not of
+    /// these tables.
+    pub fn path(&self, program: ProgramNo, file: u64) -> Option<PathParts>
+        ensures { result ≡ path_of self.now program file }
+    {
+        let tables = self.programs.get(program.0)?;
+        path_in(tables.directories.as_slice(), tables.files.as_slice(), file)
+    }
+}
+
+/// The path of a file of a program.
+fn path_in(directories: &[Entry], files: &[Entry], number: u64) -> Option<PathParts>
+    ensures { result ≡ path_parts directories.now files.now number }
+{
+    let file = files.get(number as usize)?;
+    let directory = directories.get(file.directory as usize)?;
+    let current = directories.first()?;
+    Some(parts_of(current.path, file.directory, directory.path, file.path))
+}
+
+/// The position of the program that starts at an offset.
+fn position_of(programs: &[ProgramFiles], offset: u64) -> Option<usize>
+    ensures { result ≡ position (λ program. program.offset == offset) programs.now }
+{
+    programs.iter().position(|program| program.offset == offset)
+}

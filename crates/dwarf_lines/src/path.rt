@@ -1,0 +1,75 @@
+//! The parts of a file's path.
+
+ghost use Rattle.std.specs.Prelude.{◌≡◌, ◌<◌, ◌≤◌, ◌+◌, ◌++◌, [], length, filter, nat_lt};
+ghost use Rattle.dwarf_lines.specs.Paths.{part_if_any};
+ghost use Rattle.dwarf_lines.specs.Paths.{texts_of, nonempty_parts};
+
+use crate::entries::{Part, PathText};
+use dwarf_bytes::{Section, Span};
+use std::marker::Model;
+
+/// Up to three parts of a path, between which slashes stand.
+#[derive(Drop)]
+pub struct PathParts {
+    parts: [Part; 3],
+    len: usize,
+}
+
+impl Model for PathParts {
+    ghost use Rattle.std.specs.Prelude.{List, take, ◌≤◌};
+    ghost use Rattle.dwarf_lines.specs.declared.entries.Part.{Part};
+
+    ghost Value = { List Part };
+
+    ghost view = { λ p. take p.len p.parts };
+
+    ghost invariant = { λ p. p.len ≤ 3 };
+}
+
+impl PathParts {
+    fn new() -> Self
+        ensures { result ≡ [] }
+    {
+        let none = Part {
+            section: Section::DebugLine,
+            span: Span { place: 0, len: 0 },
+        };
+        PathParts {
+            parts: [none; 3],
+            len: 0,
+        }
+    }
+
+    /// Adds the part of a text that is not empty.
+    fn add(&mut self, text: PathText)
+        requires { length self.old < 3 }
+        ensures added { self.new ≡ self.old ++ part_if_any text.part }
+        ensures len { length self.new ≤ length self.old + 1 }
+    {
+        if text.part.span.len > 0 {
+            self.parts[self.len] = text.part;
+            self.len += 1;
+        }
+    }
+
+    pub fn parts(&self) -> &[Part]
+        ensures { result.now ≡ self.now }
+    {
+        &self.parts[..self.len]
+    }
+}
+
+/// The parts of a path whose file text stands in a directory.
+pub fn parts_of(current: PathText, number: u64, directory: PathText, file: PathText) -> PathParts
+    ensures { result ≡ nonempty_parts (texts_of current number directory file) }
+{
+    let mut parts = PathParts::new();
+    if !file.absolute {
+        if number != 0 && !directory.absolute {
+            parts.add(current);
+        }
+        parts.add(directory);
+    }
+    parts.add(file);
+    parts
+}

@@ -1,0 +1,106 @@
+//! The line programs of a section.
+
+ghost use Rattle.std.specs.Prelude.{◌≡◌, ◌≤◌, ◌<◌, length, IfOk, vec_len};
+ghost use Rattle.dwarf_lines.specs.Texts.{sections_of};
+ghost use Rattle.dwarf_lines.specs.Headers.{header_at};
+ghost use Rattle.dwarf_lines.specs.Programs.{program_at_place};
+ghost use Rattle.dwarf_lines.specs.Kept.{header_in, Gives, AddsProgram};
+
+use crate::bounds::bounds_of;
+use crate::entries::{Entry, Texts};
+use crate::entry_tables::EntryReader;
+use crate::formats::EntryTable;
+use crate::header::Header;
+use crate::row::{Origin, ProgramNo, Row};
+use crate::running::run;
+use dwarf_bytes::{Cause, Cursor};
+use std::alloc::Global;
+
+/// The directories and files of a program.
+#[derive(Drop)]
+pub struct ProgramFiles {
+    pub offset: u64,
+    pub directories: Vec<Entry>,
+    pub files: Vec<Entry>,
+}
+
+/// The header of a program.
+#[derive(Drop)]
+pub struct ProgramHeader<'a> {
+    pub opcodes: Header<'a>,
+    pub directories: Vec<Entry>,
+    pub files: Vec<Entry>,
+    /// The place of the first instruction.
+    pub first: usize,
+    /// The place after the program.
+    pub past: usize,
+}
+
+/// The header of the program at a place.
+#[tactic(auto, unfolding(crate::specs::Headers::header_at))]
+fn header<'a>(alloc: Global, texts: Texts<'a>, place: usize) -> Result<ProgramHeader<'a>, Cause>
+    requires { place ≤ length texts.line.now }
+    ensures gives { Gives header_in result (header_at (sections_of texts.entry) place) }
+    ensures range { IfOk result (λ h. 0 < h.opcodes.line_range) }
+    ensures first { IfOk result (λ h. h.first ≤ h.past) }
+    ensures past { IfOk result (λ h. h.past ≤ length texts.entry.line.now) }
+{
+    let bounds = bounds_of(texts.line, place)?;
+    let bytes = &texts.line[..bounds.first];
+    let mut cursor = Cursor::new(bytes);
+    cursor.seek(bounds.fields)?;
+    let opcodes = Header::read(bytes, &mut cursor)?;
+    let reader = EntryReader {
+        texts,
+        format: bounds.format,
+        table: EntryTable::Directories,
+    };
+    let directories = reader.table(alloc, &mut cursor)?;
+    let reader = EntryReader {
+        table: EntryTable::Files(directories.len() as u64),
+        ..reader
+    };
+    let files = reader.table(alloc, &mut cursor)?;
+    Ok(ProgramHeader {
+        opcodes,
+        directories,
+        files,
+        first: bounds.first,
+        past: bounds.past,
+    })
+}
+
+/// Adds the program at a place, and gives the place after it.
+#[tactic(auto, unfolding(crate::specs::Programs::program_at_place))]
+pub fn add_program(
+    alloc: Global,
+    texts: Texts,
+    place: usize,
+    rows: &mut Vec<Row>,
+    programs: &mut Vec<ProgramFiles>,
+) -> Result<usize, Cause>
+    requires { place ≤ length texts.line.now }
+    ensures { AddsProgram result (program_at_place (sections_of texts.entry) (vec_len programs.old) place)
+        rows.old.items rows.new.items programs.old.items programs.new.items }
+{
+    let header = header(alloc, texts, place)?;
+    let origin = Origin {
+        program: ProgramNo(programs.len()),
+        files: header.files.len() as u64,
+    };
+    let bytes = &texts.line[..header.past];
+    run(&header.opcodes, origin, bytes, header.first, rows)?;
+    let ProgramHeader {
+        opcodes: _,
+        directories,
+        files,
+        first: _,
+        past,
+    } = header;
+    programs.push(ProgramFiles {
+        offset: place as u64,
+        directories,
+        files,
+    })?;
+    Ok(past)
+}
