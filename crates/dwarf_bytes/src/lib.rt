@@ -9,13 +9,11 @@ mod fields;
 mod form;
 mod format;
 mod headers;
-mod laws;
+pub mod laws;
 mod layout;
 mod leb;
 mod object;
 mod tables;
-#[cfg(test)]
-mod tests;
 mod text;
 
 pub use content::Content;
@@ -23,7 +21,6 @@ pub use cursor::Cursor;
 pub use fault::{Cause, LoadFault, ReadFault, Section};
 pub use form::{Form, ValueLayout, Width};
 pub use format::Format;
-pub use laws::{sleb_is_spelled, sleb_is_unique, uleb_is_spelled, uleb_is_unique};
 pub use layout::{Layout, Span};
 pub use object::Object;
 pub use tables::{TableHead, TableKind};

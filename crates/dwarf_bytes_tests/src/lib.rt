@@ -1,0 +1,11 @@
+//! Tests of `dwarf_bytes` over worked examples and the sample objects.
+#![tactic(auto)]
+
+#[cfg(test)]
+mod elf;
+#[cfg(test)]
+mod numbers;
+#[cfg(test)]
+mod tables;
+#[cfg(test)]
+mod values;

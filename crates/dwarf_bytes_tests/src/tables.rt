@@ -1,0 +1,67 @@
+//! The heads of tables before their bases.
+
+use dwarf_bytes::{Cause, Format, TableHead, TableKind};
+
+/// The offsets 3 and 0.
+const OFFSETS: [u8; 16] = [12, 0, 0, 0, 5, 0, 0, 0, 3, 0, 0, 0, 0, 0, 0, 0];
+
+/// The address 0x1000.
+const ADDRESSES: [u8; 16] = [12, 0, 0, 0, 5, 0, 8, 0, 0, 0x10, 0, 0, 0, 0, 0, 0];
+
+/// One offset, and the end of its list.
+const LISTS: [u8; 17] = [13, 0, 0, 0, 5, 0, 8, 0, 1, 0, 0, 0, 4, 0, 0, 0, 0];
+
+fn before(section: &[u8], base: u64, kind: TableKind) -> Result<TableHead, Cause> {
+    TableHead::before(section, base, kind, Format::Dwarf32)
+}
+
+#[test]
+fn counts_the_items(rt: HostRuntime) {
+    let two = TableHead { end: 16, items: 2 };
+    let one = TableHead { end: 16, items: 1 };
+    let list = TableHead { end: 17, items: 1 };
+    assert_eq!(rt; before(&OFFSETS, 8, TableKind::StrOffsets), Ok(two));
+    assert_eq!(rt; before(&ADDRESSES, 8, TableKind::Addr), Ok(one));
+    assert_eq!(rt; before(&LISTS, 12, TableKind::RngLists), Ok(list));
+}
+
+#[test]
+fn refuses_a_base_outside(rt: HostRuntime) {
+    for base in [0, 7, 17, u64::MAX] {
+        assert_eq!(rt; before(&OFFSETS, base, TableKind::StrOffsets), Err(Cause::Base), "{base}");
+    }
+    assert_eq!(rt; before(&OFFSETS, 16, TableKind::StrOffsets), Err(Cause::Short));
+    assert_eq!(rt; before(&[], 8, TableKind::Addr), Err(Cause::Base));
+    assert_eq!(rt; before(&LISTS, 11, TableKind::RngLists), Err(Cause::Base));
+}
+
+#[test]
+fn refuses_each_changed_field(rt: HostRuntime) {
+    let table = [
+        (3, 0xff, Cause::Short),
+        (0, 7, Cause::Short),
+        (0, 14, Cause::Short),
+        (4, 4, Cause::Version),
+        (6, 4, Cause::AddressSize),
+        (7, 1, Cause::SegmentSize),
+        (8, 2, Cause::Short),
+    ];
+    for (place, byte, cause) in table {
+        let mut section = LISTS;
+        section[place] = byte;
+        assert_eq!(rt; before(&section, 12, TableKind::RngLists), Err(cause), "{place}");
+    }
+    let mut reserved = LISTS;
+    for place in 0..4 {
+        reserved[place] = 0xff;
+    }
+    assert_eq!(rt; before(&reserved, 12, TableKind::RngLists), Err(Cause::Length));
+}
+
+#[test]
+fn passes_over_the_padding_of_offsets(rt: HostRuntime) {
+    let mut section = OFFSETS;
+    section[6] = 1;
+    section[7] = 1;
+    assert_eq!(rt; before(&section, 8, TableKind::StrOffsets), Ok(TableHead { end: 16, items: 2 }));
+}

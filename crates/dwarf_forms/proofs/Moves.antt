@@ -1,0 +1,145 @@
+-- What each read of a declaration's parts takes.
+use Rattle.std.proofs.Common.{◌≡◌, ℕ, suc, ◌+◌, ◌-◌, ◌<◌, ◌≤◌, ℤ, List, [], length, take, drop, refl, ap, sym, ◌∙◌, arith}
+use Rattle.std.specs.Prelude.{Option, Some, None, Result, Ok, Err, nat_lt, nat_le, ◌==◌, ◌&&◌, ◌||◌, is_none}
+use Rattle.std.specs.List.{list_any}
+use Rattle.std.proofs.lemmas.Bool.{ltb-false}
+use Rattle.dwarf_bytes.specs.declared.fault.ReadFault.TheVariants.{Short}
+use Rattle.dwarf_bytes.specs.declared.fault.Cause.{Cause}
+use Rattle.dwarf_bytes.specs.declared.fault.Cause.TheVariants as causes
+use Rattle.dwarf_bytes.specs.Bind.{◌>>=◌}
+use Rattle.dwarf_bytes.specs.Numbers.{block_at, fixed_at, little_endian, u8_at, uleb_at, sleb_at}
+use Rattle.dwarf_bytes.specs.Items.{At, Next, Item, End, Advances, Lists, reading, untold, items_from}
+use Rattle.dwarf_bytes.proofs.Advance.{bind_ok, after_bind, after_test, reading_ok, chosen, MovesOn, uleb_at-moves, sleb_at-moves}
+use Rattle.dwarf_bytes.proofs.ItemLaws.{Lists-within}
+use Rattle.dwarf_bytes.specs.Forms.{form_of}
+use Rattle.dwarf_forms.specs.declared.attribute.AttributeSpecification.{AttributeSpecification}
+use Rattle.dwarf_forms.specs.declared.declaration.Head.{Head}
+use Rattle.dwarf_forms.specs.Declarations.{Declaration, implicit_const}
+use Rattle.dwarf_forms.specs.Tables.{constant_at, attribute_at, attributes_at, head_at, declaration_at}
+use Rattle.dwarf_forms.proofs.Turns.{Ends, Lists-moves}
+
+pub same_ok : {A E : Type 0} (x y : A) → (let f : A → Result A E = λ z. Ok z in f x ≡ f y) → x ≡ y
+same_ok x y h = cc
+
+pub same_item : {X : Type 0} (x y : X) (i j : ℕ) → (let f : Next X → Result (Next X) Cause = λ z. Ok z in f (Item x i) ≡ f (Item y j)) → (x ≡ y) × (i ≡ j)
+same_item x y i j h = (cc, cc)
+
+pub same_end : {X : Type 0} (i j : ℕ) → (let f : Next X → Result (Next X) Cause = λ z. Ok z in f (End i) ≡ f (End j)) → i ≡ j
+same_end i j h = cc
+
+pub uleb_moves : (section : List ℕ) (at : ℕ) (read : ℕ × ℕ) → reading (uleb_at section at) ≡ Ok read → MovesOn section at read.1
+uleb_moves section at read h = uleb_at-moves section at read.0 read.1 (reading_ok (uleb_at section at) read h)
+
+pub sleb_moves : (section : List ℕ) (at : ℕ) (read : ℤ × ℕ) → reading (sleb_at section at) ≡ Ok read → MovesOn section at read.1
+sleb_moves section at read h = sleb_at-moves section at read.0 read.1 (reading_ok (sleb_at section at) read h)
+
+-- a field of n bytes takes them
+pub block_at-moves : (n : ℕ) (bytes : List ℕ) (at : ℕ) (read : List ℕ × ℕ) → block_at n bytes at ≡ Ok read → (at + n ≤ length bytes) × (read ≡ (take n (drop at bytes), at + n))
+unfolding block_at
+block_at-moves n bytes at read h =
+    chosen (nat_lt (length bytes) (at + n)) (Err Short) (Ok (take n (drop at bytes), at + n)) (Ok read) h ((at + n ≤ length bytes) × (read ≡ (take n (drop at bytes), at + n)))
+    (λ _ is. cc) (λ fits is. (ltb-false (length bytes) (at + n) fits, sym (same_ok (take n (drop at bytes), at + n) read is)))
+
+pub fixed_at-moves : (n : ℕ) (bytes : List ℕ) (at : ℕ) (read : ℕ × ℕ) → fixed_at n bytes at ≡ Ok read → (at + n ≤ length bytes) × (read ≡ (little_endian (take n (drop at bytes)), at + n))
+unfolding fixed_at
+fixed_at-moves n bytes at read h =
+    let found = bind_ok (block_at n bytes at) (λ block. Ok (little_endian block.0, block.1)) read h in
+    let moved = block_at-moves n bytes at found.0 found.1 in
+    (moved.0, sym (same_ok (little_endian found.0.0, found.0.1) read found.2) ∙ ap (λ (b : List ℕ × ℕ). (little_endian b.0, b.1)) moved.1)
+
+pub u8_moves : (section : List ℕ) (at : ℕ) (read : ℕ × ℕ) → reading (u8_at section at) ≡ Ok read → MovesOn section at read.1
+u8_moves section at read h =
+    let moved = fixed_at-moves 1 section at read (reading_ok (u8_at section at) read h) in
+    let place : read.1 ≡ at + 1 = ap (λ (r : ℕ × ℕ). r.1) moved.1 in
+    (omega (arith, place), omega (arith, moved.0, place))
+
+-- a constant takes bytes or none
+pub constant_at-moves : (form : ℕ) (section : List ℕ) (at : ℕ) (read : Option ℤ × ℕ) → at ≤ length section → constant_at form section at ≡ Ok read → (at ≤ read.1) × (read.1 ≤ length section)
+constant_at-moves form section at read le h =
+    chosen (form == implicit_const) (reading (sleb_at section at) >>= λ c. Ok (Some c.0, c.1)) (Ok (None, at)) (Ok read) h ((at ≤ read.1) × (read.1 ≤ length section))
+    (λ _ is. let found = bind_ok (reading (sleb_at section at)) (λ c. Ok (Some c.0, c.1)) read is in
+    let moved = sleb_moves section at found.0 found.1 in
+    let place : found.0.1 ≡ read.1 = ap (λ (p : Option ℤ × ℕ). p.1) (same_ok (Some found.0.0, found.0.1) read found.2) in
+    (omega (arith, moved.0, place), omega (arith, moved.1, place)))
+    (λ _ is. let place : at ≡ read.1 = ap (λ (p : Option ℤ × ℕ). p.1) (same_ok (None, at) read is) in (omega (arith, place), omega (arith, place, le)))
+
+pub attribute_at-advances : (section : List ℕ) → Advances (length section) (attribute_at section)
+attribute_at-advances section before at x after h =
+    let P : Type 0 = (at < after) × (after ≤ length section) in
+    after_bind (reading (uleb_at section at)) _ (Item x after) h P (λ name name_is h1.
+    after_bind (reading (uleb_at section name.1)) _ (Item x after) h1 P (λ form form_is h2.
+    chosen ((name.0 == 0) && (form.0 == 0)) _ _ (Ok (Item x after)) h2 P (λ _ is. cc) (λ _ h3.
+    after_test ((name.0 == 0) || is_none (form_of form.0)) causes.Form _ (Item x after) h3 P (λ _ h4.
+    after_test (list_any (λ attribute. attribute.name == name.0) before) causes.AttrTwice _ (Item x after) h4 P (λ _ h5.
+    after_bind (constant_at form.0 section form.1) _ (Item x after) h5 P (λ constant constant_is h6.
+    let named = uleb_moves section at name name_is in
+    let formed = uleb_moves section name.1 form form_is in
+    let moved = constant_at-moves form.0 section form.1 constant formed.1 constant_is in
+    let place = (same_item (record { name = name.0; form = form.0; constant = constant.0 }) x constant.1 after h6).1 in
+    (omega (arith, named.0, formed.0, moved.0, place), omega (arith, moved.1, place))))))))
+
+pub attribute_at-ends : (section : List ℕ) → Ends (length section) (attribute_at section)
+attribute_at-ends section before at after h =
+    let P : Type 0 = (at < after) × (after ≤ length section) in
+    after_bind (reading (uleb_at section at)) _ (End after) h P (λ name name_is h1.
+    after_bind (reading (uleb_at section name.1)) _ (End after) h1 P (λ form form_is h2.
+    chosen ((name.0 == 0) && (form.0 == 0)) _ _ (Ok (End after)) h2 P (λ _ is.
+    let named = uleb_moves section at name name_is in
+    let formed = uleb_moves section name.1 form form_is in
+    let place = same_end {X = AttributeSpecification} form.1 after is in
+    (omega (arith, named.0, formed.0, place), omega (arith, formed.1, place))) (λ _ h3.
+    after_test ((name.0 == 0) || is_none (form_of form.0)) causes.Form _ (End after) h3 P (λ _ h4.
+    after_test (list_any (λ attribute. attribute.name == name.0) before) causes.AttrTwice _ (End after) h4 P (λ _ h5.
+    after_bind (constant_at form.0 section form.1) _ (End after) h5 P (λ constant constant_is h6. cc))))))
+
+untold_ok : {X : Type 0} (r : Result X At) (x : X) → untold r ≡ Ok x → r ≡ Ok x
+untold_ok (Ok y) x h = cc
+untold_ok (Err e) x h = cc
+
+pub attributes_at-lists : (section : List ℕ) (at : ℕ) (read : List AttributeSpecification × ℕ) → attributes_at section at ≡ Ok read → Lists (attribute_at section) [] at read.0 read.1
+unfolding attributes_at
+attributes_at-lists section at read h =
+    Lists-within (suc (length section - at)) (attribute_at section) [] at read.0 read.1 (untold_ok (items_from (length section) (attribute_at section) [] at) read h)
+
+pub attributes_at-moves : (section : List ℕ) (at : ℕ) (read : List AttributeSpecification × ℕ) → attributes_at section at ≡ Ok read → MovesOn section at read.1
+attributes_at-moves section at read h =
+    Lists-moves (length section) (attribute_at section) (attribute_at-advances section) (attribute_at-ends section) [] at read.0 read.1 (attributes_at-lists section at read h)
+
+pub head_at-moves : (room : ℕ) (section : List ℕ) (before : List Declaration) (at : ℕ) (head : Head) (after : ℕ) → head_at room section before at ≡ Ok (Item head after) → MovesOn section at after
+head_at-moves room section before at head after h =
+    let P : Type 0 = (at < after) × (after ≤ length section) in
+    after_bind (reading (uleb_at section at)) _ (Item head after) h P (λ code code_is h1.
+    chosen (code.0 == 0) _ _ (Ok (Item head after)) h1 P (λ _ is. cc) (λ _ h2.
+    after_test (nat_le room (length before)) causes.TooMany _ (Item head after) h2 P (λ _ h3.
+    after_test (list_any (λ declaration. declaration.code == code.0) before) causes.AbbrevTwice _ (Item head after) h3 P (λ _ h4.
+    after_bind (reading (uleb_at section code.1)) _ (Item head after) h4 P (λ tag tag_is h5.
+    after_bind (reading (u8_at section tag.1)) _ (Item head after) h5 P (λ children children_is h6.
+    after_test (nat_lt 1 children.0) causes.Children _ (Item head after) h6 P (λ _ h7.
+    let coded = uleb_moves section at code code_is in
+    let tagged = uleb_moves section code.1 tag tag_is in
+    let flagged = u8_moves section tag.1 children children_is in
+    let place = (same_item (record { code = code.0; tag = tag.0; children = children.0 == 1 }) head children.1 after h7).1 in
+    (omega (arith, coded.0, tagged.0, flagged.0, place), omega (arith, flagged.1, place)))))))))
+
+pub declaration_at-advances : (room : ℕ) (section : List ℕ) → Advances (length section) (declaration_at room section)
+declaration_at-advances room section before at x after h =
+    let P : Type 0 = (at < after) × (after ≤ length section) in
+    after_bind (head_at room section before at) _ (Item x after) h P by_head
+  where
+    by_head : (next : Next Head) → head_at room section before at ≡ Ok next → (elim next as (λ _. Result (Next Declaration) Cause) [ End end ↦ Ok (End end) | Item head mid ↦ attributes_at section mid >>= λ attributes. Ok (Item (record { code = head.code; tag = head.tag; children = head.children; attributes = attributes.0 }) attributes.1) ]) ≡ Ok (Item x after) → (at < after) × (after ≤ length section)
+    by_head (End end) is h = cc
+    by_head (Item head mid) is h =
+        after_bind (attributes_at section mid) _ (Item x after) h ((at < after) × (after ≤ length section)) (λ attributes attributes_are last.
+        let front = head_at-moves room section before at head mid is in
+        let moved = attributes_at-moves section mid attributes attributes_are in
+        let place = (same_item (record { code = head.code; tag = head.tag; children = head.children; attributes = attributes.0 }) x attributes.1 after last).1 in
+        (omega (arith, front.0, moved.0, place), omega (arith, moved.1, place)))
+
+-- what is read of the attributes, from what is read of their list
+pub attributes_ok : (section : List ℕ) (at : ℕ) (read : List AttributeSpecification × ℕ) → items_from (length section) (attribute_at section) [] at ≡ Ok read → attributes_at section at ≡ Ok read
+unfolding attributes_at
+attributes_ok section at read h = rw h refl
+
+pub attributes_err : (section : List ℕ) (at : ℕ) (e : At) → items_from (length section) (attribute_at section) [] at ≡ Err e → attributes_at section at ≡ Err e.0
+unfolding attributes_at
+attributes_err section at e h = rw h refl

@@ -1,0 +1,75 @@
+-- Abbreviation declarations (DWARF 5, 7.5.3): what a table says, and how it is spelled.
+use Rattle.std.specs.Prelude.{◌≡◌, ◌≢◌, ℕ, ℤ, List, [], ◌∷◌, ◌++◌, Bool, Option, Some, None, IsSome, if◌then◌else◌, All, AllPairs}
+use Rattle.dwarf_bytes.specs.Numbers.{IsUleb, IsSleb}
+use Rattle.dwarf_bytes.specs.Forms.{form_of}
+use Rattle.dwarf_forms.specs.declared.attribute.AttributeSpecification.{AttributeSpecification}
+
+pub record Declaration : Type 0 where
+  pub code : ℕ
+  pub tag : ℕ
+  pub children : Bool
+  pub attributes : List AttributeSpecification
+
+-- DW_FORM_implicit_const
+abbrev pub implicit_const : ℕ
+implicit_const = 0x21
+
+-- A signed LEB128 constant stands behind DW_FORM_implicit_const, and nothing behind another form.
+abbrev pub SpellsConstant : ℕ → List ℕ → Option ℤ → Type 0
+SpellsConstant form bytes None = (form ≢ implicit_const) × (bytes ≡ [])
+SpellsConstant form bytes (Some c) = (form ≡ implicit_const) × IsSleb bytes c
+
+-- The bytes spell an attribute of a declaration: name, form, and the form's constant.
+pub record SpellsAttribute (bytes : List ℕ) (attribute : AttributeSpecification) : Type 0 where
+  pub name : List ℕ
+  pub form : List ℕ
+  pub constant : List ℕ
+  pub whole : bytes ≡ (name ++ form) ++ constant
+  pub name_is : IsUleb name attribute.name
+  pub form_is : IsUleb form attribute.form
+  pub constant_is : SpellsConstant attribute.form constant attribute.constant
+
+-- Stretches of the bytes spell the elements, one after another.
+abbrev pub SpellsEach : {X : Type 0} → (List ℕ → X → Type 0) → List ℕ → List X → Type 0
+SpellsEach spells bytes [] = bytes ≡ []
+SpellsEach spells bytes (x ∷ xs) = (front rest : List ℕ) × (bytes ≡ front ++ rest) × spells front x × SpellsEach spells rest xs
+
+-- The attributes are ended by a name 0 and a form 0.
+pub record EndsAttributes (bytes : List ℕ) : Type 0 where
+  pub name : List ℕ
+  pub form : List ℕ
+  pub whole : bytes ≡ name ++ form
+  pub name_is : IsUleb name 0
+  pub form_is : IsUleb form 0
+
+-- The bytes spell a declaration: code, tag, children, its attributes, and their end.
+pub record SpellsDeclaration (bytes : List ℕ) (declaration : Declaration) : Type 0 where
+  pub code : List ℕ
+  pub tag : List ℕ
+  pub attributes : List ℕ
+  pub end : List ℕ
+  pub whole : bytes ≡ (code ++ tag) ++ ((if declaration.children then 1 else 0) ∷ (attributes ++ end))
+  pub code_is : IsUleb code declaration.code
+  pub tag_is : IsUleb tag declaration.tag
+  pub attributes_are : SpellsEach SpellsAttribute attributes declaration.attributes
+  pub ends : EndsAttributes end
+
+-- The bytes spell a table: its declarations, and the code 0.
+pub record SpellsTable (bytes : List ℕ) (table : List Declaration) : Type 0 where
+  pub declarations : List ℕ
+  pub end : List ℕ
+  pub whole : bytes ≡ declarations ++ end
+  pub declarations_are : SpellsEach SpellsDeclaration declarations table
+  pub ends : IsUleb end 0
+
+-- A declaration is good: no code 0, no name 0, each form one that is read, and no name twice.
+pub record IsGood (declaration : Declaration) : Type 0 where
+  pub code : declaration.code ≢ 0
+  pub named : All (λ attribute. attribute.name ≢ 0) declaration.attributes
+  pub forms : All (λ attribute. IsSome (form_of attribute.form)) declaration.attributes
+  pub once : AllPairs (λ a b. a.name ≢ b.name) declaration.attributes
+
+-- A table is good: each declaration is, and no code stands twice.
+pub record AreGood (table : List Declaration) : Type 0 where
+  pub each : All IsGood table
+  pub once : AllPairs (λ a b. a.code ≢ b.code) table

@@ -1,0 +1,5 @@
+pub mod Values
+pub mod Declarations
+pub mod Tables
+pub mod Index
+pub mod Steps

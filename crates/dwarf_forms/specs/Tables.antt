@@ -1,0 +1,68 @@
+-- Reading a table of abbreviation declarations (DWARF 5, 7.5.3), up to its first fault.
+use Rattle.std.specs.Prelude.{◌≡◌, ℕ, ℤ, List, [], length, Option, Some, None, is_none, Result, Ok, Err, nat_lt, nat_le, ◌==◌, ◌||◌, ◌&&◌, if◌then◌else◌}
+use Rattle.std.specs.List.{list_any}
+use Rattle.dwarf_bytes.specs.declared.fault.Cause.{Cause}
+use Rattle.dwarf_bytes.specs.declared.fault.Cause.TheVariants as causes
+use Rattle.dwarf_bytes.specs.Bind.{◌>>=◌}
+use Rattle.dwarf_bytes.specs.Items.{Next, Item, End, At, reading, refuse_if, untold, items_from}
+use Rattle.dwarf_bytes.specs.Position.{Position}
+use Rattle.dwarf_bytes.specs.Numbers.{u8_at, uleb_at, sleb_at}
+use Rattle.dwarf_bytes.specs.Forms.{form_of}
+use Rattle.dwarf_forms.specs.declared.attribute.AttributeSpecification.{AttributeSpecification}
+use Rattle.dwarf_forms.specs.declared.declaration.Head.{Head}
+use Rattle.dwarf_forms.specs.Declarations.{Declaration, implicit_const}
+
+-- the constant that stands behind a form in a declaration
+abbrev pub constant_at : ℕ → List ℕ → ℕ → Result (Option ℤ × ℕ) Cause
+constant_at form section at =
+    if form == implicit_const then (reading (sleb_at section at) >>= λ c. Ok (Some c.0, c.1)) else Ok (None, at)
+
+-- the attribute at a place, behind those before it in its declaration
+abbrev pub attribute_at : List ℕ → List AttributeSpecification → ℕ → Result (Next AttributeSpecification) Cause
+attribute_at section before at = do
+  name ← reading (uleb_at section at)
+  form ← reading (uleb_at section name.1)
+  if (name.0 == 0) && (form.0 == 0) then Ok (End form.1) else do
+    _ ← refuse_if ((name.0 == 0) || is_none (form_of form.0)) causes.Form
+    _ ← refuse_if (list_any (λ attribute. attribute.name == name.0) before) causes.AttrTwice
+    constant ← constant_at form.0 section form.1
+    Ok (Item (record { name = name.0; form = form.0; constant = constant.0 }) constant.1)
+
+-- the attributes of a declaration
+unfoldable pub attributes_at : List ℕ → ℕ → Result (List AttributeSpecification × ℕ) Cause
+attributes_at section at = untold (items_from (length section) (attribute_at section) [] at)
+
+-- what stands before the attributes, behind the declarations before it in its table, which may have so many
+abbrev pub head_at : ℕ → List ℕ → List Declaration → ℕ → Result (Next Head) Cause
+head_at room section before at = do
+  code ← reading (uleb_at section at)
+  if code.0 == 0 then Ok (End code.1) else do
+    _ ← refuse_if (nat_le room (length before)) causes.TooMany
+    _ ← refuse_if (list_any (λ declaration. declaration.code == code.0) before) causes.AbbrevTwice
+    tag ← reading (uleb_at section code.1)
+    children ← reading (u8_at section tag.1)
+    _ ← refuse_if (nat_lt 1 children.0) causes.Children
+    Ok (Item (record { code = code.0; tag = tag.0; children = children.0 == 1 }) children.1)
+
+-- the declaration at a place
+abbrev pub declaration_at : ℕ → List ℕ → List Declaration → ℕ → Result (Next Declaration) Cause
+declaration_at room section before at = head_at room section before at >>= λ next. elim next [
+  | End after ↦ Ok (End after)
+  | Item head after ↦ attributes_at section after >>= λ attributes.
+      Ok (Item (record { code = head.code; tag = head.tag; children = head.children; attributes = attributes.0 }) attributes.1)
+]
+
+-- the table at an offset, of so many declarations at most, and the place after it
+unfoldable pub table_at : ℕ → List ℕ → ℕ → Result (List Declaration × ℕ) At
+table_at room section offset = items_from (length section) (declaration_at room section) [] offset
+
+-- its declarations alone
+abbrev pub declarations_of : ℕ → List ℕ → ℕ → Result (List Declaration) At
+declarations_of room section offset = table_at room section offset >>= λ table. Ok table.0
+
+-- What a step on a cursor finds is the next item, or the end of the items, and the cursor stands after it. After a fault
+-- nothing is said of the cursor.
+abbrev pub ReadsNext : {X : Type 0} → Result (Option X) Cause → (List ℕ → ℕ → Result (Next X) Cause) → Position → Position → Type 0
+ReadsNext (Ok (Some x)) step old new = (step old.bytes old.place ≡ Ok (Item x new.place)) × (new.bytes ≡ old.bytes)
+ReadsNext (Ok None) step old new = (step old.bytes old.place ≡ Ok (End new.place)) × (new.bytes ≡ old.bytes)
+ReadsNext (Err cause) step old new = step old.bytes old.place ≡ Err cause

@@ -1,0 +1,111 @@
+//! The attributes that a declaration names (DWARF 5, 7.5.3).
+
+ghost use Rattle.std.specs.Prelude.{◌≡◌, ◌==◌, ◌&&◌, ◌||◌, [], length, drop, is_none};
+ghost use Rattle.std.specs.List.{list_any};
+ghost use Rattle.dwarf_bytes.specs.Forms.{form_of};
+ghost use Rattle.dwarf_bytes.specs.Items.{items_from, untold};
+ghost use Rattle.dwarf_bytes.specs.Refusals.{ReadsField, ReadsItems};
+ghost use Rattle.dwarf_forms.specs.Tables.{constant_at, attribute_at, attributes_at, ReadsNext};
+ghost use Rattle.dwarf_forms.specs.Index.{HoldsNames};
+
+use dwarf_bytes::{Cause, Cursor, Form};
+use std::alloc::Global;
+use std::collections::BTreeSet;
+
+/// DW_FORM_implicit_const, whose constant stands in the declaration.
+const IMPLICIT_CONST: u64 = 0x21;
+
+/// How many names of a declaration are compared one by one; those behind them are in a set.
+pub(crate) const FEW: usize = 32;
+
+/// An attribute as a declaration names it: its name, its form, and the constant of
+/// DW_FORM_implicit_const.
+#[derive(Clone, Copy, Debug, PartialEq, Eq)]
+pub struct AttributeSpecification {
+    pub name: u64,
+    pub form: u64,
+    pub constant: Option<i64>,
+}
+
+/// The attributes of a declaration, up to the two zeros that end them.
+pub(crate) fn attributes(
+    alloc: Global,
+    cursor: &mut Cursor,
+) -> Result<Vec<AttributeSpecification>, Cause>
+    ensures { ReadsItems result attributes_at cursor.old cursor.new }
+{
+    let mut all = Vec::new(alloc);
+    let mut later = BTreeSet::new(alloc);
+    while let Some(next) = next_attribute(&all, &later, cursor)? {
+        if all.len() >= FEW {
+            later.insert(next.name)?;
+        }
+        all.push(next)?;
+    }
+    Ok(all)
+}
+
+/// The next attribute of a declaration, or none where two zeros end them. `later` are the names of
+/// those before it but the first few.
+fn next_attribute(
+    before: &[AttributeSpecification],
+    later: &BTreeSet<u64>,
+    cursor: &mut Cursor,
+) -> Result<Option<AttributeSpecification>, Cause>
+    requires { HoldsNames later.now (drop FEW before.now) }
+    ensures { ReadsNext result (λ bytes. attribute_at bytes before.now) cursor.old cursor.new }
+{
+    let name = cursor.uleb()?;
+    let form = cursor.uleb()?;
+    if is_end(name, form) {
+        return Ok(None);
+    }
+    if is_refused(name, form) {
+        return Err(Cause::Form);
+    }
+    if is_named(before, later, name) {
+        return Err(Cause::AttrTwice);
+    }
+    let constant = constant(form, cursor)?;
+    Ok(Some(AttributeSpecification {
+        name,
+        form,
+        constant,
+    }))
+}
+
+fn is_end(name: u64, form: u64) -> bool
+    ensures { result ≡ ((name == 0) && (form == 0)) }
+{
+    name == 0 && form == 0
+}
+
+fn is_refused(name: u64, form: u64) -> bool
+    ensures { result ≡ ((name == 0) || is_none (form_of form)) }
+{
+    name == 0 || Form::of(form).is_none()
+}
+
+/// Whether one of the attributes has the name.
+fn is_named(before: &[AttributeSpecification], later: &BTreeSet<u64>, name: u64) -> bool
+    requires { HoldsNames later.now (drop FEW before.now) }
+    ensures { result ≡ list_any (λ attribute. attribute.name == name) before.now }
+{
+    has_name(&before[..before.len().min(FEW)], name) || later.contains(&name)
+}
+
+fn has_name(attributes: &[AttributeSpecification], name: u64) -> bool
+    ensures { result ≡ list_any (λ attribute. attribute.name == name) attributes.now }
+{
+    attributes.iter().any(|attribute| attribute.name == name)
+}
+
+/// The constant behind a form in a declaration.
+fn constant(form: u64, cursor: &mut Cursor) -> Result<Option<i64>, Cause>
+    ensures { ReadsField (λ constant. constant) result (constant_at form) cursor.old cursor.new }
+{
+    if form == IMPLICIT_CONST {
+        return Ok(Some(cursor.sleb()?));
+    }
+    Ok(None)
+}

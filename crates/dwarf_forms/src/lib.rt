@@ -1,0 +1,16 @@
+//! Tables of abbreviation declarations, and the values that entries hold by them: DWARF 5, 7.5.3
+//! to 7.5.6.
+#![tactic(auto)]
+
+mod attribute;
+mod declaration;
+mod reading;
+mod table;
+mod values;
+
+pub use attribute::AttributeSpecification;
+pub use declaration::Decl;
+pub use dwarf_bytes::Content;
+pub use reading::value;
+pub use table::Abbrevs;
+pub use values::{Value, ValueFault};

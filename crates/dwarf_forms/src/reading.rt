@@ -1,0 +1,58 @@
+//! Reading the values of attributes (DWARF 5, 7.5.5 and 7.5.6).
+
+ghost use Rattle.std.specs.Prelude.{◌≡◌};
+ghost use Rattle.dwarf_forms.specs.Values.{direct_at, value_at, ReadsValue};
+
+use crate::values::{Value, ValueFault};
+use dwarf_bytes::{Content, Cursor, Form, Format};
+
+/// The value of a form that stands behind no indirect one, and that no declaration holds.
+#[tactic(auto, unfolding(crate::specs::Values::direct_at))]
+fn direct<'a>(form: u64, format: Format, cursor: &mut Cursor<'a>) -> Result<Value<'a>, ValueFault>
+    ensures { ReadsValue result (direct_at form format) cursor.old cursor.new }
+{
+    match Form::of(form) {
+        Some(Form::Direct(layout)) => match Content::read(layout, format, cursor) {
+            Ok(content) => Ok(Value { form, content }),
+            Err(fault) => Err(ValueFault::Read(fault)),
+        },
+        _ => Err(ValueFault::Form),
+    }
+}
+
+/// The value of a form at the cursor, in a unit of the format. `constant` is that of the
+/// declaration, for DW_FORM_implicit_const. Behind DW_FORM_indirect neither that form nor
+/// DW_FORM_implicit_const may stand. After a fault the cursor is as before.
+#[tactic(auto, unfolding(crate::specs::Values::value_at))]
+pub fn value<'a>(
+    form: u64,
+    constant: Option<i64>,
+    format: Format,
+    cursor: &mut Cursor<'a>,
+) -> Result<Value<'a>, ValueFault>
+    ensures { ReadsValue result (value_at form constant format) cursor.old cursor.new }
+{
+    let start = cursor.place();
+    match Form::of(form) {
+        None => Err(ValueFault::Form),
+        Some(Form::Direct(_)) => direct(form, format, cursor),
+        Some(Form::ImplicitConst) => match constant {
+            Some(constant) => Ok(Value {
+                form,
+                content: Content::Signed(constant),
+            }),
+            None => Err(ValueFault::Form),
+        },
+        Some(Form::Indirect) => {
+            let inner = match cursor.uleb() {
+                Ok(inner) => inner,
+                Err(fault) => return Err(ValueFault::Read(fault)),
+            };
+            let value = direct(inner, format, cursor);
+            if value.is_err() {
+                let _ = cursor.seek(start);
+            }
+            value
+        }
+    }
+}

@@ -1,0 +1,7 @@
+//! Tests of `dwarf_forms`.
+#![tactic(auto)]
+
+#[cfg(test)]
+mod tables;
+#[cfg(test)]
+mod values;

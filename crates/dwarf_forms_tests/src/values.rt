@@ -1,0 +1,177 @@
+//! Each form, with a value and with that value cut short.
+
+use dwarf_bytes::{Cursor, Format, ReadFault};
+use dwarf_forms::{Content, Value, ValueFault, value};
+use std::process::Abort;
+use std::test::*;
+
+/// What is read of the bytes in a form, and how many of them.
+fn read(form: u64, bytes: &[u8]) -> (Result<Value<'_>, ValueFault>, usize) {
+    let mut cursor = Cursor::new(bytes);
+    let value = value(form, None, Format::Dwarf32, &mut cursor);
+    (value, cursor.place())
+}
+
+/// Checks that all of the bytes are the number in a form, and that one byte less is short.
+fn is_number(rt: &impl Abort, form: u64, bytes: &[u8], number: u64) {
+    let (value, place) = read(form, bytes);
+    assert_eq!(rt; place, bytes.len(), "{form:x}");
+    match value {
+        Ok(
+            Value {
+                form: read,
+                content: Content::Number(n),
+            },
+        ) => {
+            assert_eq!(rt; n, number, "{form:x}");
+            assert_eq!(rt; read, form);
+        }
+        _ => assert!(rt; false, "{form:x}"),
+    }
+    if let Some(last) = bytes.len().checked_sub(1) {
+        let (value, place) = read(form, &bytes[..last]);
+        assert_eq!(rt;
+            value.err(),
+            Some(ValueFault::Read(ReadFault::Short)),
+            "{form:x}"
+        );
+        assert_eq!(rt; place, 0, "{form:x}");
+    }
+}
+
+/// Checks that all of the bytes are the block in a form, and what is wrong with one byte less.
+fn is_block(rt: &impl Abort, form: u64, bytes: &[u8], block: &[u8], cut: ReadFault) {
+    let (value, place) = read(form, bytes);
+    assert_eq!(rt; place, bytes.len(), "{form:x}");
+    match value {
+        Ok(
+            Value {
+                content: Content::Bytes(bytes),
+                ..
+            },
+        ) => assert!(rt; bytes == block, "{form:x}"),
+        _ => assert!(rt; false, "{form:x}"),
+    }
+    if let Some(last) = bytes.len().checked_sub(1) {
+        let (value, place) = read(form, &bytes[..last]);
+        assert_eq!(rt; value.err(), Some(ValueFault::Read(cut)), "{form:x}");
+        assert_eq!(rt; place, 0, "{form:x}");
+    }
+}
+
+#[test]
+fn numbers(rt: HostRuntime) {
+    let bytes = [1, 2, 3, 4, 5, 6, 7, 8];
+    for form in [0x0b, 0x0c, 0x11, 0x25, 0x29] {
+        is_number(&rt, form, &bytes[..1], 1);
+    }
+    for form in [0x05, 0x12, 0x26, 0x2a] {
+        is_number(&rt, form, &bytes[..2], 513);
+    }
+    for form in [0x27, 0x2b] {
+        is_number(&rt, form, &bytes[..3], 197_121);
+    }
+    for form in [0x06, 0x13, 0x28, 0x2c, 0x0e, 0x1f, 0x17, 0x10] {
+        is_number(&rt, form, &bytes[..4], 67_305_985);
+    }
+    for form in [0x01, 0x07, 0x14, 0x20] {
+        is_number(&rt, form, &bytes, 578_437_695_752_307_201);
+    }
+    for form in [0x0f, 0x15, 0x1a, 0x1b, 0x22, 0x23] {
+        is_number(&rt, form, &[0x80, 0x01], 128);
+    }
+    is_number(&rt, 0x19, &[], 1);
+}
+
+#[test]
+fn blocks_and_texts(rt: HostRuntime) {
+    is_block(&rt, 0x0a, &[2, 0xaa, 0xbb], &[0xaa, 0xbb], ReadFault::Short);
+    is_block(
+        &rt,
+        0x03,
+        &[2, 0, 0xaa, 0xbb],
+        &[0xaa, 0xbb],
+        ReadFault::Short,
+    );
+    is_block(
+        &rt,
+        0x04,
+        &[2, 0, 0, 0, 0xaa, 0xbb],
+        &[0xaa, 0xbb],
+        ReadFault::Short,
+    );
+    for form in [0x09, 0x18] {
+        is_block(&rt, form, &[2, 0xaa, 0xbb], &[0xaa, 0xbb], ReadFault::Short);
+    }
+    let sixteen = [1, 2, 3, 4, 5, 6, 7, 8, 9, 10, 11, 12, 13, 14, 15, 16];
+    is_block(&rt, 0x1e, &sixteen, &sixteen, ReadFault::Short);
+    is_block(&rt, 0x08, &[0x61, 0], &[0x61], ReadFault::Unterminated);
+}
+
+#[test]
+fn signed_numbers(rt: HostRuntime) {
+    match read(0x0d, &[0x7f]) {
+        (
+            Ok(
+                Value {
+                    content: Content::Signed(n),
+                    ..
+                },
+            ),
+            1,
+        ) => assert_eq!(rt; n, -1),
+        _ => assert!(rt; false),
+    }
+    assert_eq!(rt;
+        read(0x0d, &[0xff]).0.err(),
+        Some(ValueFault::Read(ReadFault::Short))
+    );
+    let bytes = [];
+    let mut cursor = Cursor::new(&bytes);
+    match value(0x21, Some(-1), Format::Dwarf32, &mut cursor) {
+        Ok(
+            Value {
+                form: 0x21,
+                content: Content::Signed(n),
+            },
+        ) => assert_eq!(rt; n, -1),
+        _ => assert!(rt; false),
+    }
+}
+
+#[test]
+fn indirect_forms(rt: HostRuntime) {
+    match read(0x16, &[0x0b, 7]) {
+        (
+            Ok(
+                Value {
+                    form: 0x0b,
+                    content: Content::Number(n),
+                },
+            ),
+            2,
+        ) => assert_eq!(rt; n, 7),
+        _ => assert!(rt; false),
+    }
+    for inner in [0x16, 0x21, 0x1c] {
+        let bytes = [inner, 0, 0];
+        let (value, place) = read(0x16, &bytes);
+        assert_eq!(rt; value.err(), Some(ValueFault::Form), "{inner:x}");
+        assert_eq!(rt; place, 0);
+    }
+    assert_eq!(rt;
+        read(0x16, &[0x0b]).0.err(),
+        Some(ValueFault::Read(ReadFault::Short))
+    );
+    assert_eq!(rt; read(0x16, &[0x0b]).1, 0);
+}
+
+#[test]
+fn refused_forms(rt: HostRuntime) {
+    let nothing = [0; 16];
+    for form in [0, 2, 0x1c, 0x1d, 0x21, 0x24, 0x2d, 0x1f01, u64::MAX] {
+        let (value, place) = read(form, &nothing);
+        assert_eq!(rt; value.err(), Some(ValueFault::Form), "{form:x}");
+        assert_eq!(rt; place, 0);
+    }
+}
