@@ -16,7 +16,7 @@ impl Format {
         ensures { result ≡ length_len self }
     {
         match self {
-            Format::Dwarf32 => 4,
+            Format::Dwarf32 => 4, // unit_length
         }
     }
 
@@ -25,7 +25,7 @@ impl Format {
         ensures { result ≡ offset_len self }
     {
         match self {
-            Format::Dwarf32 => 4,
+            Format::Dwarf32 => 4, // offset_size
         }
     }
 }

@@ -49,7 +49,20 @@ fn refuses_each_changed_header(rt: HostRuntime) {
         (&[(54, 0)], Cause::Table, 0),
         (&[(60, 0)], Cause::Table, 0),
         (&[(62, 5)], Cause::Table, 0),
-        (&[(80, 0xff), (81, 0xff), (82, 0xff), (83, 0xff), (84, 0xff), (85, 0xff), (86, 0xff), (87, 0xff)], Cause::Range, 64),
+        (
+            &[
+                (80, 0xff),
+                (81, 0xff),
+                (82, 0xff),
+                (83, 0xff),
+                (84, 0xff),
+                (85, 0xff),
+                (86, 0xff),
+                (87, 0xff),
+            ],
+            Cause::Range,
+            64,
+        ),
         (&[(64, 0)], Cause::NoLoad, 0),
         (&[(673, 1)], Cause::Table, 639),
         (&[(575, 0x0f)], Cause::SectionTwice, 575),
@@ -59,14 +72,27 @@ fn refuses_each_changed_header(rt: HostRuntime) {
         (&[(0, 0x7e)], Cause::NotElf, 0),
     ];
     for (edits, cause, at) in table {
-        assert_eq!(rt; Object::find(&changed(edits)).err(), elf(cause, at), "{edits:?}");
+        assert_eq!(rt;
+            Object::find(&changed(edits)).err(),
+            elf(cause, at),
+            "{edits:?}"
+        );
     }
 }
 
 #[test]
 fn reads_a_file_without_section_headers(rt: HostRuntime) -> Result<(), Fail> {
     let edits: [(usize, u8); 10] = [
-        (40, 0), (41, 0), (42, 0), (43, 0), (44, 0), (45, 0), (46, 0), (47, 0), (60, 0), (61, 0),
+        (40, 0),
+        (41, 0),
+        (42, 0),
+        (43, 0),
+        (44, 0),
+        (45, 0),
+        (46, 0),
+        (47, 0),
+        (60, 0),
+        (61, 0),
     ];
     let layout = Object::find(&changed(&edits))?;
     assert_eq!(rt; layout.debug_info.len, 0);
@@ -79,10 +105,18 @@ fn reads_a_file_without_section_headers(rt: HostRuntime) -> Result<(), Fail> {
 fn refuses_a_cut_file(rt: HostRuntime) {
     for n in 0..INLINED.len() {
         let cause = if n < 64 { Cause::NotElf } else { Cause::Table };
-        assert_eq!(rt; Object::find(&INLINED[..n]).err(), elf(cause, 0), "the first {n} bytes");
+        assert_eq!(rt;
+            Object::find(&INLINED[..n]).err(),
+            elf(cause, 0),
+            "the first {n} bytes"
+        );
     }
     for n in 64..TWO_SEQUENCES.len() {
-        assert_eq!(rt; Object::find(&TWO_SEQUENCES[..n]).err(), elf(Cause::Table, 0), "the first {n} bytes");
+        assert_eq!(rt;
+            Object::find(&TWO_SEQUENCES[..n]).err(),
+            elf(Cause::Table, 0),
+            "the first {n} bytes"
+        );
     }
 }
 
@@ -90,7 +124,10 @@ fn refuses_a_cut_file(rt: HostRuntime) {
 fn tells_a_fault_in_words(rt: HostRuntime) -> Result<(), Fail> {
     let fault = LoadFault::told(Section::DebugStrOffsets, Cause::PcAndRanges, 54);
     let text = fault.to_string(rt.alloc())?;
-    assert_eq!(rt; text.as_str(), "object .debug_str_offsets pc-and-ranges at 54");
+    assert_eq!(rt;
+        text.as_str(),
+        "object .debug_str_offsets pc-and-ranges at 54"
+    );
     let memory = LoadFault::told(Section::DebugInfo, Cause::Memory, 54);
     assert_eq!(rt; (memory.section, memory.at), (Section::Elf, 0));
     assert_eq!(rt; (Cause::NotElf as u8, Cause::RangeKind as u8), (1, 46));

@@ -7,7 +7,9 @@ const HIGH: u8 = 0xff;
 
 #[test]
 fn reads_fixed_widths(rt: HostRuntime) -> Result<(), Fail> {
-    let bytes = [1, 2, 3, 4, 5, 6, 7, 8, 9, 10, 11, 12, 13, 14, 15, 16, 17, 18, 19];
+    let bytes = [
+        1, 2, 3, 4, 5, 6, 7, 8, 9, 10, 11, 12, 13, 14, 15, 16, 17, 18, 19,
+    ];
     let mut cursor = Cursor::new(&bytes);
     assert_eq!(rt; cursor.u8()?, 0x01);
     assert_eq!(rt; cursor.u16()?, 0x0302);
@@ -37,11 +39,28 @@ fn reads_unsigned_leb128(rt: HostRuntime) {
         (&[0x7f], Ok(127)),
         (&[0x80, 0x01], Ok(128)),
         (&[0x80, 0x00], Ok(0)),
-        (&[HIGH, HIGH, HIGH, HIGH, HIGH, HIGH, HIGH, HIGH, HIGH, 0x01], Ok(u64::MAX)),
-        (&[HIGH, HIGH, HIGH, HIGH, HIGH, HIGH, HIGH, HIGH, HIGH, 0x02], Err(ReadFault::Leb)),
-        (&[HIGH, HIGH, HIGH, HIGH, HIGH, HIGH, HIGH, HIGH, HIGH, HIGH, 0x00], Err(ReadFault::Leb)),
-        (&[HIGH, HIGH, HIGH, HIGH, HIGH, HIGH, HIGH, HIGH, HIGH], Err(ReadFault::Short)),
-        (&[HIGH, HIGH, HIGH, HIGH, HIGH, HIGH, HIGH, HIGH, 0x7f], Ok(0x7fff_ffff_ffff_ffff)),
+        (
+            &[HIGH, HIGH, HIGH, HIGH, HIGH, HIGH, HIGH, HIGH, HIGH, 0x01],
+            Ok(u64::MAX),
+        ),
+        (
+            &[HIGH, HIGH, HIGH, HIGH, HIGH, HIGH, HIGH, HIGH, HIGH, 0x02],
+            Err(ReadFault::Leb),
+        ),
+        (
+            &[
+                HIGH, HIGH, HIGH, HIGH, HIGH, HIGH, HIGH, HIGH, HIGH, HIGH, 0x00,
+            ],
+            Err(ReadFault::Leb),
+        ),
+        (
+            &[HIGH, HIGH, HIGH, HIGH, HIGH, HIGH, HIGH, HIGH, HIGH],
+            Err(ReadFault::Short),
+        ),
+        (
+            &[HIGH, HIGH, HIGH, HIGH, HIGH, HIGH, HIGH, HIGH, 0x7f],
+            Ok(0x7fff_ffff_ffff_ffff),
+        ),
         (&[0x80], Err(ReadFault::Short)),
         (&[], Err(ReadFault::Short)),
     ];
@@ -63,11 +82,26 @@ fn reads_signed_leb128(rt: HostRuntime) {
         (&[0x80, 0x7f], Ok(-128)),
         (&[0xe2, 0x00], Ok(98)),
         (&[HIGH, 0x00], Ok(127)),
-        (&[0x80, 0x80, 0x80, 0x80, 0x80, 0x80, 0x80, 0x80, 0x80, 0x7f], Ok(i64::MIN)),
-        (&[HIGH, HIGH, HIGH, HIGH, HIGH, HIGH, HIGH, HIGH, HIGH, 0x00], Ok(i64::MAX)),
-        (&[HIGH, HIGH, HIGH, HIGH, HIGH, HIGH, HIGH, HIGH, HIGH, 0x01], Err(ReadFault::Leb)),
-        (&[0x80, 0x80, 0x80, 0x80, 0x80, 0x80, 0x80, 0x80, 0x80, 0x7e], Err(ReadFault::Leb)),
-        (&[0x80, 0x80, 0x80, 0x80, 0x80, 0x80, 0x80, 0x80, 0x80, 0x80], Err(ReadFault::Leb)),
+        (
+            &[0x80, 0x80, 0x80, 0x80, 0x80, 0x80, 0x80, 0x80, 0x80, 0x7f],
+            Ok(i64::MIN),
+        ),
+        (
+            &[HIGH, HIGH, HIGH, HIGH, HIGH, HIGH, HIGH, HIGH, HIGH, 0x00],
+            Ok(i64::MAX),
+        ),
+        (
+            &[HIGH, HIGH, HIGH, HIGH, HIGH, HIGH, HIGH, HIGH, HIGH, 0x01],
+            Err(ReadFault::Leb),
+        ),
+        (
+            &[0x80, 0x80, 0x80, 0x80, 0x80, 0x80, 0x80, 0x80, 0x80, 0x7e],
+            Err(ReadFault::Leb),
+        ),
+        (
+            &[0x80, 0x80, 0x80, 0x80, 0x80, 0x80, 0x80, 0x80, 0x80, 0x80],
+            Err(ReadFault::Leb),
+        ),
     ];
     for (bytes, want) in table {
         let mut cursor = Cursor::new(bytes);
@@ -89,7 +123,10 @@ fn reads_texts(rt: HostRuntime) -> Result<(), Fail> {
     assert_eq!(rt; text_at(section, 2)?, b"".as_slice());
     assert_eq!(rt; text_at(section, 5).err(), Some(ReadFault::Unterminated));
     assert_eq!(rt; text_at(section, 6).err(), Some(ReadFault::Unterminated));
-    assert_eq!(rt; text_at(section, u64::MAX).err(), Some(ReadFault::Unterminated));
+    assert_eq!(rt;
+        text_at(section, u64::MAX).err(),
+        Some(ReadFault::Unterminated)
+    );
     Ok(())
 }
 
@@ -97,9 +134,15 @@ fn reads_texts(rt: HostRuntime) -> Result<(), Fail> {
 fn reads_initial_lengths(rt: HostRuntime) {
     let table: [(&[u8], Result<(Format, u64), ReadFault>); 5] = [
         (&[0x47, 0, 0, 0], Ok((Format::Dwarf32, 0x47))),
-        (&[0xef, HIGH, HIGH, HIGH], Ok((Format::Dwarf32, 0xffff_ffef))),
+        (
+            &[0xef, HIGH, HIGH, HIGH],
+            Ok((Format::Dwarf32, 0xffff_ffef)),
+        ),
         (&[0xf0, HIGH, HIGH, HIGH], Err(ReadFault::Length)),
-        (&[HIGH, HIGH, HIGH, HIGH, 0, 0, 0, 0, 0, 0, 0, 0], Err(ReadFault::Length)),
+        (
+            &[HIGH, HIGH, HIGH, HIGH, 0, 0, 0, 0, 0, 0, 0, 0],
+            Err(ReadFault::Length),
+        ),
         (&[0x47, 0, 0], Err(ReadFault::Short)),
     ];
     for (bytes, want) in table {

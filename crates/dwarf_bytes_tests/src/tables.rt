@@ -28,9 +28,16 @@ fn counts_the_items(rt: HostRuntime) {
 #[test]
 fn refuses_a_base_outside(rt: HostRuntime) {
     for base in [0, 7, 17, u64::MAX] {
-        assert_eq!(rt; before(&OFFSETS, base, TableKind::StrOffsets), Err(Cause::Base), "{base}");
+        assert_eq!(rt;
+            before(&OFFSETS, base, TableKind::StrOffsets),
+            Err(Cause::Base),
+            "{base}"
+        );
     }
-    assert_eq!(rt; before(&OFFSETS, 16, TableKind::StrOffsets), Err(Cause::Short));
+    assert_eq!(rt;
+        before(&OFFSETS, 16, TableKind::StrOffsets),
+        Err(Cause::Short)
+    );
     assert_eq!(rt; before(&[], 8, TableKind::Addr), Err(Cause::Base));
     assert_eq!(rt; before(&LISTS, 11, TableKind::RngLists), Err(Cause::Base));
 }
@@ -49,13 +56,20 @@ fn refuses_each_changed_field(rt: HostRuntime) {
     for (place, byte, cause) in table {
         let mut section = LISTS;
         section[place] = byte;
-        assert_eq!(rt; before(&section, 12, TableKind::RngLists), Err(cause), "{place}");
+        assert_eq!(rt;
+            before(&section, 12, TableKind::RngLists),
+            Err(cause),
+            "{place}"
+        );
     }
     let mut reserved = LISTS;
     for place in 0..4 {
         reserved[place] = 0xff;
     }
-    assert_eq!(rt; before(&reserved, 12, TableKind::RngLists), Err(Cause::Length));
+    assert_eq!(rt;
+        before(&reserved, 12, TableKind::RngLists),
+        Err(Cause::Length)
+    );
 }
 
 #[test]
@@ -63,5 +77,8 @@ fn passes_over_the_padding_of_offsets(rt: HostRuntime) {
     let mut section = OFFSETS;
     section[6] = 1;
     section[7] = 1;
-    assert_eq!(rt; before(&section, 8, TableKind::StrOffsets), Ok(TableHead { end: 16, items: 2 }));
+    assert_eq!(rt;
+        before(&section, 8, TableKind::StrOffsets),
+        Ok(TableHead { end: 16, items: 2 })
+    );
 }
