@@ -1,4 +1,16 @@
+.PHONY: demo test check bench
+
+# Shows the program at work on an object that the compiler makes there and then.
+demo:
+	tools/demo.sh
+
+# The whole gate: every proof, every edit that must fail, every test and program, from nothing.
 test:
 	rt ci
 
-.PHONY: test
+# One crate, quickly, over what earlier checks kept: make check CRATE=dwarf_lines
+check:
+	cd crates/$(CRATE) && rt check
+
+bench:
+	bench/run.sh

@@ -14,12 +14,9 @@ fn knows_the_forms(rt: HostRuntime) {
     for number in [0x00, 0x02, 0x1c, 0x1d, 0x24, 0x2d, 0xffff] {
         assert_eq!(rt; Form::of(number), None, "{number}");
     }
-    let mut count = 0;
-    for number in 0..0x100 {
-        if Form::of(number).is_some() {
-            count += 1;
-        }
-    }
+    let count = (0..0x100)
+        .filter(|number| Form::of(*number).is_some())
+        .count();
     assert_eq!(rt; count, 40);
 }
 

@@ -1,0 +1,25 @@
+#!/usr/bin/env bash
+# Measures the readers beside plain C loops that make the same checks, on the same bytes, in one run.
+set -euo pipefail
+cd "$(dirname "$0")/.."
+mkdir -p out
+(cd crates/measure && rt run > ../../out/measure.log 2>&1)
+measure=crates/measure/out/measure
+gcc -O2 -o out/leb bench/leb.c
+gcc -O2 -o out/lines bench/lines.c
+[ -f out/leb.bin ] || out/leb make out/leb.bin 100000000
+[ -f out/objects/large ] || tools/make_objects.sh out/objects
+
+# The least of five times in milliseconds that a command prints last, as `.., N ms`.
+best() {
+    for _ in 1 2 3 4 5; do "$@"; done | sed 's/.*, \([0-9]*\) ms$/\1/' | sort -n | head -1
+}
+
+# Prints both times and how fast ours is beside the plain one.
+compare() {
+    local what=$1 ours=$2 plain=$3
+    awk -v w="$what" -v a="$ours" -v b="$plain" 'BEGIN { printf "%-40s %6d ms, plain C %6d ms, ratio %.2f\n", w, a, b, b / (a > 0 ? a : 1) }'
+}
+
+compare 'LEB128, 100 MB' "$(best $measure leb out/leb.bin)" "$(best out/leb out/leb.bin)"
+compare 'line programs of a C++ program' "$(best $measure lines out/objects/large)" "$(best out/lines out/objects/large)"

@@ -1,0 +1,54 @@
+#!/usr/bin/env python3
+"""Compares the rows that `measure rows OBJECT` prints with those that objdump decodes.
+
+objdump prints a row as FILE LINE ADDRESS, with the base name of the file alone, and an end of a
+sequence with the line `-`; so base names are compared. Rows are compared in order, all of them.
+"""
+import re
+import subprocess
+import sys
+from pathlib import Path
+
+ROW = re.compile(r"^(?P<file>\S.*?)\s+(?P<line>\d+|-)\s+(?P<address>0x[0-9a-f]+|0)(?:\s|$)")
+
+
+def decoded(path):
+    """The rows that objdump shows: (address, base name, line), or (address, 'end', 0)."""
+    done = subprocess.run(["objdump", "--dwarf=decodedline", path], capture_output=True, text=True, errors="replace", check=True)
+    for text in done.stdout.splitlines():
+        found = ROW.match(text)
+        if not found:
+            continue
+        address = int(found["address"], 16)
+        if found["line"] == "-":
+            yield address, "end", 0
+        else:
+            yield address, found["file"], int(found["line"])
+
+
+def ours(measure, path):
+    done = subprocess.run([measure, "rows", path], capture_output=True, text=True, errors="replace", check=True)
+    for text in done.stdout.splitlines():
+        address, _, rest = text.partition(" ")
+        if rest == "end":
+            yield int(address, 16), "end", 0
+        else:
+            file, _, line = rest.rpartition(":")
+            yield int(address, 16), file.rsplit("/", 1)[-1], int(line)
+
+
+def main():
+    measure, *paths = sys.argv[1:]
+    for path in paths:
+        left, right = list(ours(measure, path)), list(decoded(path))
+        same = sum(a == b for a, b in zip(left, right))
+        print(f"{Path(path).name}: {len(left)} rows, objdump {len(right)}, {same} agree in place")
+        shown = 0
+        for number, (a, b) in enumerate(zip(left, right)):
+            if a != b and shown < 5:
+                shown += 1
+                print(f"  row {number}: {a} beside {b}")
+
+
+if __name__ == "__main__":
+    main()
