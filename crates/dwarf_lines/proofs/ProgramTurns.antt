@@ -52,7 +52,7 @@ program_at_place-past s number place program h =
     let places = header_at-past s place header header_is in
     (omega (arith, places.0), omega (arith, places.1))))
 
-abbrev item_or : Program → Next Program → Program
+abbrev pub item_or : Program → Next Program → Program
 item_or other (Item program after) = program
 item_or other (End after) = other
 

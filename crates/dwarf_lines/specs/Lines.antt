@@ -1,5 +1,5 @@
 -- What callers see of the line programs of an object.
-use Rattle.std.specs.Prelude.{ℕ, suc, List, [], ◌∷◌, length, map, position, slice_get, Bool, not, ◌&&◌, nat_le, nat_lt, Result, Ok, Option, Some, None, ◌==◌, if◌then◌else◌}
+use Rattle.std.specs.Prelude.{◌≡◌, ◌+◌, ◌≤◌, false, ℕ, suc, List, [], ◌∷◌, length, map, position, slice_get, Bool, not, ◌&&◌, nat_le, nat_lt, Result, Ok, Option, Some, None, ◌==◌, if◌then◌else◌}
 use Rattle.std.specs.Option.{option_map, option_map_or, option_and_then}
 use Rattle.dwarf_bytes.specs.Bind.{◌>>=◌}
 use Rattle.dwarf_bytes.specs.Refusals.{in_section}
@@ -56,3 +56,8 @@ abbrev pub row_of : List Row → ℕ → Option ℕ
 row_of [] address = None
 row_of (row ∷ []) address = None
 row_of (row ∷ next ∷ rows) address = if covers address row next then Some 0 else option_map suc (row_of (next ∷ rows) address)
+
+-- Behind each row that does not end its sequence stands the next row of the sequence, at no lower address.
+abbrev pub HaveNext : List Row → Type 0
+HaveNext rows = (i : ℕ) (row : Row) → slice_get rows i ≡ Some row → row.«end» ≡ false
+    → (next : Row) × (slice_get rows (i + 1) ≡ Some next) × (next.program ≡ row.program) × (row.address ≤ next.address)

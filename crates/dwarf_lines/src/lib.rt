@@ -8,6 +8,7 @@ mod entry_tables;
 mod formats;
 mod header;
 mod instruction;
+mod laws;
 mod lines;
 mod path;
 mod programs;
@@ -16,6 +17,7 @@ mod row;
 mod running;
 
 pub use entries::Part;
+pub use laws::{program_offsets_rise, rows_have_next};
 pub use lines::LineTables;
 pub use path::PathParts;
 pub use row::{ProgramNo, Row};

@@ -1,6 +1,7 @@
 //! The line programs of an object.
 
-ghost use Rattle.std.specs.Prelude.{◌≡◌, ◌==◌, position};
+ghost use Rattle.std.specs.Prelude.{◌≡◌, ◌<◌, ◌≤◌, ◌==◌, position, map, length};
+ghost use Rattle.std.specs.List.Sorted.{IsStrictlyIncreasing, IsPartitionPoint};
 ghost use Rattle.dwarf_bytes.specs.Refusals.{Decodes};
 ghost use Rattle.dwarf_lines.specs.Sections.{LineSections};
 ghost use Rattle.dwarf_lines.specs.Paths.{path_parts};
@@ -23,12 +24,15 @@ pub struct LineTables {
 
 impl Model for LineTables {
     ghost use Rattle.std.specs.Prelude.{map};
+    ghost use Rattle.std.specs.List.Sorted.{IsStrictlyIncreasing};
     ghost use Rattle.dwarf_lines.specs.Lines.{Lines};
     ghost use Rattle.dwarf_lines.specs.Kept.{tables_in};
 
     ghost Value = { Lines };
 
     ghost view = { λ t. record { rows = t.rows.items; programs = map tables_in t.programs.items } };
+
+    ghost invariant = { λ t. IsStrictlyIncreasing (map (λ program. program.offset) t.programs.items) };
 }
 
 impl LineTables {
@@ -109,9 +113,24 @@ fn path_in(directories: &[Entry], files: &[Entry], number: u64) -> Option<PathPa
     Some(parts_of(current.path, file.directory, directory.path, file.path))
 }
 
+/// How many of the programs start before an offset.
+fn starts_before(programs: &[ProgramFiles], offset: u64) -> usize
+    requires { IsStrictlyIncreasing (map (λ program. program.offset) programs.now) }
+    ensures within { result ≤ length programs.now }
+    ensures parts { IsPartitionPoint (λ program. program.offset < offset) (λ program. offset ≤ program.offset) programs.now result }
+{
+    programs.partition_point(|program| program.offset < offset)
+}
+
 /// The position of the program that starts at an offset.
 fn position_of(programs: &[ProgramFiles], offset: u64) -> Option<usize>
+    requires { IsStrictlyIncreasing (map (λ program. program.offset) programs.now) }
     ensures { result ≡ position (λ program. program.offset == offset) programs.now }
 {
-    programs.iter().position(|program| program.offset == offset)
+    let n = starts_before(programs, offset);
+    if n < programs.len() && programs[n].offset == offset {
+        Some(n)
+    } else {
+        None
+    }
 }

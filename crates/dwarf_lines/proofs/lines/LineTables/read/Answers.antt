@@ -4,7 +4,8 @@ use Rattle.dwarf_bytes.specs.Refusals.{Fails}
 use Rattle.dwarf_lines.specs.Sections.{LineSections}
 use Rattle.dwarf_lines.specs.Programs.{program_at_place}
 use Rattle.dwarf_lines.specs.Kept.{tables_in}
-use Rattle.dwarf_lines.proofs.ProgramTurns.{goes_on, refuses, gives, program_at_place-past}
+use Rattle.dwarf_lines.proofs.ProgramTurns.{goes_on, refuses, gives, is_done, program_at_place-past}
+use Rattle.dwarf_lines.proofs.Offsets.{kept-rise}
 use Rattle.dwarf_lines.proofs.lines.LineTables.read.Goals as goal
 
 pub loop-place-smaller : goal.loop-place-smaller
@@ -40,3 +41,11 @@ returns c =
     let s : LineSections = record { line = c.args.line.now; line_str = c.args.line_str.now; str = c.args.str.now } in
     let le : length c.args.line.now ≤ c.loop-place.place = omega arith in
     gives s c.loop-place.invariant.0 c.loop-place.place c.loop-place.rows.items (map tables_in c.loop-place.programs.items) c.loop-place.invariant.1 le
+
+pub invariant_of-result : goal.invariant_of-result
+invariant_of-result c =
+    let s : LineSections = record { line = c.args.line.now; line_str = c.args.line_str.now; str = c.args.str.now } in
+    let le : length c.args.line.now ≤ c.loop-place.place = omega arith in
+    let reads = c.loop-place.invariant.1 in
+    kept-rise s c.loop-place.invariant.0 0 c.loop-place.programs.items c.loop-place.place
+    (is_done s c.loop-place.invariant.0 c.loop-place.place c.loop-place.rows.items (map tables_in c.loop-place.programs.items) reads le) reads.tables_are

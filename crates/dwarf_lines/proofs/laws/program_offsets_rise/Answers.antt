@@ -1,0 +1,5 @@
+use Rattle.dwarf_lines.proofs.LineLaws.{lines-rise}
+use Rattle.dwarf_lines.proofs.laws.program_offsets_rise.Goals as goal
+
+pub returns : goal.returns
+returns c = lines-rise

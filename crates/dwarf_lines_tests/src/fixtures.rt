@@ -1,0 +1,127 @@
+//! Line programs for the tests.
+
+ghost use Rattle.std.specs.Prelude.{◌≡◌, ◌+◌, length};
+
+use dwarf_bytes::{Cause, LoadFault, Section};
+use dwarf_lines::{LineTables, Part, ProgramNo, Row};
+use dwarf_samples::{INLINED, TWO_SEQUENCES};
+use std::alloc::{AllocError, Global};
+
+/// The 75 bytes of the first sample's `.debug_line`.
+pub fn one_sequence() -> [u8; 75] {
+    let mut line = [0; 75];
+    line.copy_from_slice(&INLINED[259..334]);
+    line
+}
+
+/// The 97 bytes of the second sample's `.debug_line`.
+pub fn two_sequences() -> [u8; 97] {
+    let mut line = [0; 97];
+    line.copy_from_slice(&TWO_SEQUENCES[259..356]);
+    line
+}
+
+/// The first sample's header with these instructions behind it.
+pub fn with_instructions(alloc: Global, instructions: &[u8]) -> Result<Vec<u8>, AllocError> {
+    let mut line = Vec::new(alloc);
+    line.push(51u8.saturating_add(instructions.len().min(200) as u8))?;
+    line.extend_from_slice(&INLINED[260..314])?;
+    line.extend_from_slice(instructions)?;
+    Ok(line)
+}
+
+/// A program without instructions, of these directories and one file in directory 1.
+pub fn with_paths(
+    alloc: Global,
+    directories: [&[u8]; 2],
+    file: &[u8],
+) -> Result<Vec<u8>, AllocError> {
+    let mut tables = Vec::new(alloc);
+    tables.extend_from_slice(&INLINED[271..289])?;
+    tables.extend_from_slice(&[1, 1, 8, 2])?;
+    for directory in directories {
+        tables.extend_from_slice(directory)?;
+        tables.push(0)?;
+    }
+    tables.extend_from_slice(&[2, 1, 8, 2, 0x0b, 1])?;
+    tables.extend_from_slice(file)?;
+    tables.extend_from_slice(&[0, 1])?;
+    let len = tables.len().min(200) as u8;
+    let mut line = Vec::new(alloc);
+    line.extend_from_slice(&[len + 8, 0, 0, 0, 5, 0, 8, 0, len, 0, 0, 0])?;
+    line.extend_from_slice(tables.as_slice())?;
+    Ok(line)
+}
+
+/// A program of a directory at 0 of `.debug_line_str` and a file at 3 of `.debug_str`; two bytes
+/// stand between its header's tables and its instructions, of which it has none.
+pub fn with_offsets(alloc: Global) -> Result<Vec<u8>, AllocError> {
+    let mut line = Vec::new(alloc);
+    line.extend_from_slice(&[44, 0, 0, 0, 5, 0, 8, 0, 36, 0, 0, 0])?;
+    line.extend_from_slice(&INLINED[271..289])?;
+    line.extend_from_slice(&[1, 1, 0x1f, 1, 0, 0, 0, 0, 1, 1, 0x0e, 1, 3, 0, 0, 0])?;
+    line.extend_from_slice(&[0xaa, 0xbb])?;
+    Ok(line)
+}
+
+/// A fault of the program at an offset.
+pub fn fault(cause: Cause, at: u64) -> LoadFault {
+    LoadFault {
+        section: Section::DebugLine,
+        cause,
+        at,
+    }
+}
+
+/// A row of a program's file 1.
+pub fn row(program: usize, address: u64, line: u32) -> Row {
+    Row {
+        address,
+        program: ProgramNo(program),
+        file: 1,
+        line,
+        end: false,
+    }
+}
+
+/// The end of a sequence.
+pub fn end(program: usize, address: u64) -> Row {
+    Row {
+        address,
+        program: ProgramNo(program),
+        file: 0,
+        line: 0,
+        end: true,
+    }
+}
+
+/// The bytes of a path, whose parts stand in these sections.
+pub fn path(
+    alloc: Global,
+    tables: &LineTables,
+    sections: [&[u8]; 3],
+    program: usize,
+    file: u64,
+) -> Result<Option<Vec<u8>>, AllocError> {
+    let Some(parts) = tables.path(ProgramNo(program), file) else {
+        return Ok(None);
+    };
+    let mut text = Vec::new(alloc);
+    for (i, part) in parts.parts().iter().enumerate() {
+        if i > 0 {
+            text.push(b'/')?;
+        }
+        text.extend_from_slice(bytes_of(sections, *part))?;
+    }
+    Ok(Some(text))
+}
+
+fn bytes_of(sections: [&[u8]; 3], part: Part) -> &[u8] {
+    let section = match part.section {
+        Section::DebugStr => sections[2],
+        Section::DebugLineStr => sections[1],
+        _ => sections[0],
+    };
+    let rest = section.get(part.span.place..).unwrap_or(&[]);
+    rest.get(..part.span.len).unwrap_or(&[])
+}

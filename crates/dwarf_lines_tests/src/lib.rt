@@ -1,0 +1,7 @@
+//! Tests of `dwarf_lines` on small line programs, with answers worked out by hand.
+#![tactic(auto)]
+
+#[cfg(test)]
+mod fixtures;
+#[cfg(test)]
+mod tests;

@@ -1,0 +1,218 @@
+use crate::fixtures::*;
+use dwarf_bytes::Cause;
+use dwarf_lines::{LineTables, ProgramNo};
+use dwarf_samples::{cut_line_program, many_directories_without_a_format};
+use std::test::Fail;
+
+#[test]
+fn standard_opcodes_move_the_address(rt: HostRuntime) -> Result<(), Fail> {
+    // set_address 0x1000, copy, const_add_pc, copy, fixed_advance_pc 5, copy, advance_pc 1, end
+    let line = with_instructions(
+        rt.alloc(),
+        &[
+            0, 9, 2, 0, 0x10, 0, 0, 0, 0, 0, 0, 1, 8, 1, 9, 5, 0, 1, 2, 1, 0, 1, 1,
+        ],
+    )?;
+    assert_eq!(rt; line.len(), 78);
+    assert_eq!(rt; line.first(), Some(&0x4a));
+    let tables = LineTables::read(rt.alloc(), line.as_slice(), &[], &[])?;
+    assert_eq!(rt;
+        tables.rows(),
+        [
+            row(0, 0x1000, 1),
+            row(0, 0x1011, 1),
+            row(0, 0x1016, 1),
+            end(0, 0x1017)
+        ]
+        .as_slice()
+    );
+    Ok(())
+}
+
+#[test]
+fn each_changed_byte_has_its_cause(rt: HostRuntime) {
+    for (place, byte, cause) in [
+        (6usize, 0x04u8, Cause::AddressSize),
+        (7, 0x01, Cause::SegmentSize),
+        (13, 0x02, Cause::LineParams),
+        (16, 0x00, Cause::LineParams),
+        (18, 0x01, Cause::OpcodeLengths),
+        (43, 0x16, Cause::FileFormat),
+        (44, 0x01, Cause::FileIndex),
+        (54, 0x01, Cause::DirIndex),
+        (56, 0x08, Cause::Extended),
+        (73, 0x00, Cause::Extended),
+        (67, 0x7e, Cause::LineRange),
+        (73, 0x02, Cause::Short),
+        (74, 0x04, Cause::SequenceOpen),
+        (4, 0x04, Cause::Version),
+        (3, 0xff, Cause::Short),
+        (8, 0x40, Cause::Short),
+        (8, 0x06, Cause::Short),
+        (17, 0x00, Cause::LineParams),
+    ] {
+        let mut line = one_sequence();
+        if let Some(changed) = line.get_mut(place) {
+            *changed = byte;
+        }
+        let read = LineTables::read(rt.alloc(), &line, &[], &[]);
+        assert_eq!(rt; read.err(), Some(fault(cause, 0)), "byte {place}");
+    }
+}
+
+#[test]
+fn a_file_without_a_directory_is_in_directory_0(rt: HostRuntime) -> Result<(), Fail> {
+    let mut line = one_sequence();
+    line[42] = 5;
+    let tables = LineTables::read(rt.alloc(), &line, &[], &[])?;
+    let path = path(rt.alloc(), &tables, [&line, &[], &[]], 0, 1)?;
+    assert_eq!(rt; path.ok_or("no path")?.as_slice(), b"/src/a.c".as_slice());
+    Ok(())
+}
+
+#[test]
+fn rows_of_one_and_two_sequences(rt: HostRuntime) -> Result<(), Fail> {
+    let tables = LineTables::read(rt.alloc(), &one_sequence(), &[], &[])?;
+    assert_eq!(rt;
+        tables.rows(),
+        [row(0, 0x1000, 10), row(0, 0x1004, 11), end(0, 0x1010)].as_slice()
+    );
+    let tables = LineTables::read(rt.alloc(), &two_sequences(), &[], &[])?;
+    assert_eq!(rt;
+        tables.rows(),
+        [
+            row(0, 0x1000, 10),
+            row(0, 0x1000, 12),
+            end(0, 0x1010),
+            row(0, 0x1000, 99),
+            end(0, 0x1010),
+        ]
+        .as_slice()
+    );
+    Ok(())
+}
+
+#[test]
+fn programs_start_where_the_last_one_ends(rt: HostRuntime) -> Result<(), Fail> {
+    let mut line = one_sequence().to_vec(rt.alloc())?;
+    line.extend_from_slice(&two_sequences())?;
+    let tables = LineTables::read(rt.alloc(), line.as_slice(), &[], &[])?;
+    assert_eq!(rt; tables.program_at(0), Some(ProgramNo(0)));
+    assert_eq!(rt; tables.program_at(75), Some(ProgramNo(1)));
+    for offset in [1, 74, 76, 172, u64::MAX] {
+        assert_eq!(rt; tables.program_at(offset), None, "at {offset}");
+    }
+    assert_eq!(rt; tables.rows().len(), 8);
+    assert_eq!(rt; tables.rows().get(3), Some(&row(1, 0x1000, 10)));
+    assert_eq!(rt; tables.files(ProgramNo(1)), 2);
+    assert_eq!(rt; tables.files(ProgramNo(2)), 0);
+    assert!(rt; tables.path(ProgramNo(2), 0).is_none());
+    assert!(rt; tables.path(ProgramNo(1), 2).is_none());
+    Ok(())
+}
+
+#[test]
+fn a_path_has_up_to_three_parts(rt: HostRuntime) -> Result<(), Fail> {
+    let cases: [([&[u8]; 2], &[u8], &[u8]); 7] = [
+        ([b"/src", b"lib"], b"x.c", b"/src/lib/x.c"),
+        ([b"/src", b"/inc"], b"x.c", b"/inc/x.c"),
+        ([b"/src", b"lib"], b"/y.c", b"/y.c"),
+        ([b"", b"lib"], b"x.c", b"lib/x.c"),
+        ([b"/src", b""], b"x.c", b"/src/x.c"),
+        ([b"/src", b"/inc/"], b"x.c", b"/inc//x.c"),
+        ([b"", b""], b"", b""),
+    ];
+    for (directories, file, wanted) in cases {
+        let line = with_paths(rt.alloc(), directories, file)?;
+        let tables = LineTables::read(rt.alloc(), line.as_slice(), &[], &[])?;
+        let path = path(rt.alloc(), &tables, [line.as_slice(), &[], &[]], 0, 0)?;
+        assert_eq!(rt; path.ok_or("no path")?.as_slice(), wanted);
+    }
+    Ok(())
+}
+
+#[test]
+fn paths_stand_in_other_sections(rt: HostRuntime) -> Result<(), Fail> {
+    let line = with_offsets(rt.alloc())?;
+    let tables = LineTables::read(rt.alloc(), line.as_slice(), b"/src\0", b"??\0x.c\0")?;
+    let sections = [line.as_slice(), b"/src\0", b"??\0x.c\0"];
+    let path = path(rt.alloc(), &tables, sections, 0, 0)?;
+    assert_eq!(rt; path.ok_or("no path")?.as_slice(), b"/src/x.c".as_slice());
+    Ok(())
+}
+
+#[test]
+fn a_path_without_a_nul_is_a_fault(rt: HostRuntime) -> Result<(), Fail> {
+    let line = with_offsets(rt.alloc())?;
+    let read = LineTables::read(rt.alloc(), line.as_slice(), b"/src\0", b"??\0x.c");
+    assert_eq!(rt; read.err(), Some(fault(Cause::Text, 0)));
+    Ok(())
+}
+
+#[test]
+fn samples_with_faults(rt: HostRuntime) {
+    let read = LineTables::read(
+        rt.alloc(),
+        &many_directories_without_a_format()[259..334],
+        &[],
+        &[],
+    );
+    assert_eq!(rt; read.err(), Some(fault(Cause::FileFormat, 0)));
+    let read = LineTables::read(rt.alloc(), &cut_line_program()[259..333], &[], &[]);
+    assert_eq!(rt; read.err(), Some(fault(Cause::Short, 0)));
+}
+
+#[test]
+fn the_first_bad_program_is_told(rt: HostRuntime) -> Result<(), Fail> {
+    let mut second = one_sequence();
+    second[44] = 1;
+    let mut line = one_sequence().to_vec(rt.alloc())?;
+    line.extend_from_slice(&second)?;
+    line.extend_from_slice(&[0xff, 0xff, 0xff, 0xff])?;
+    let read = LineTables::read(rt.alloc(), line.as_slice(), &[], &[]);
+    assert_eq!(rt; read.err(), Some(fault(Cause::FileIndex, 75)));
+    let mut line = one_sequence().to_vec(rt.alloc())?;
+    line.extend_from_slice(&[0xff, 0xff, 0xff, 0xff])?;
+    let read = LineTables::read(rt.alloc(), line.as_slice(), &[], &[]);
+    assert_eq!(rt; read.err(), Some(fault(Cause::Length, 75)));
+    Ok(())
+}
+
+#[test]
+fn sums_are_judged_where_a_row_is_made(rt: HostRuntime) -> Result<(), Fail> {
+    // advance_line -5, advance_line 5, set_address 2^64 - 1, advance_pc 1, set_address 7, copy, end
+    let line = with_instructions(
+        rt.alloc(),
+        &[
+            3, 0x7b, 3, 5, 0, 9, 2, 255, 255, 255, 255, 255, 255, 255, 255, 2, 1, 0, 9, 2, 7, 0, 0,
+            0, 0, 0, 0, 0, 1, 0, 1, 1,
+        ],
+    )?;
+    let tables = LineTables::read(rt.alloc(), line.as_slice(), &[], &[])?;
+    assert_eq!(rt; tables.rows(), [row(0, 7, 1), end(0, 7)].as_slice());
+    for (instructions, cause) in [
+        (
+            &[
+                0, 9, 2, 255, 255, 255, 255, 255, 255, 255, 255, 2, 1, 1, 0, 1, 1,
+            ],
+            Cause::Overflow,
+        ),
+        (
+            &[2, 9, 1, 0, 9, 2, 8, 0, 0, 0, 0, 0, 0, 0, 0, 1, 1],
+            Cause::GoesBack,
+        ),
+    ] {
+        let line = with_instructions(rt.alloc(), instructions.as_slice())?;
+        let read = LineTables::read(rt.alloc(), line.as_slice(), &[], &[]);
+        assert_eq!(rt; read.err(), Some(fault(cause, 0)));
+    }
+    Ok(())
+}
+
+#[test]
+fn no_programs(rt: HostRuntime) -> Result<(), Fail> {
+    let tables = LineTables::read(rt.alloc(), &[], &[], &[])?;
+    assert_eq!(rt; tables.rows().len(), 0);
+    assert_eq!(rt; tables.program_at(0), None);
+    Ok(())
+}
