@@ -3,3 +3,11 @@ pub mod Names
 pub mod Turns
 pub mod Moves
 pub mod TableTurns
+pub mod Stretches
+pub mod Listed
+pub mod AttributeSpelling
+pub mod HeadSpelling
+pub mod TableSpelling
+pub mod Texts
+pub mod ContentSpelling
+pub mod ValueSpelling
