@@ -25,50 +25,46 @@ int main(int argc, char **argv) {
 }
 C
 
-# Instantiations number $1 of containers, sorting and streams, in $2 source files.
+# A source file of $1 instantiations of containers, sorting and streams, in the namespace $2.
 instantiate() {
     local count=$1 name=$2
     {
-        echo '#include <algorithm>'
-        echo '#include <functional>'
-        echo '#include <map>'
-        echo '#include <regex>'
-        echo '#include <sstream>'
-        echo '#include <string>'
-        echo '#include <unordered_map>'
-        echo '#include <vector>'
-        echo 'template <int N> struct Key { int value; bool operator<(const Key &o) const { return value % (N + 2) < o.value % (N + 2); } };'
-        echo 'template <int N> int work(int seed) {'
-        echo '    std::map<Key<N>, std::vector<Key<N>>> table;'
-        echo '    for (int i = 0; i < seed; i++) table[Key<N>{i}].push_back(Key<N>{i * N});'
-        echo '    std::vector<Key<N>> all;'
-        echo '    for (auto &entry : table) all.insert(all.end(), entry.second.begin(), entry.second.end());'
-        echo '    std::sort(all.begin(), all.end());'
-        echo '    std::stable_sort(all.begin(), all.end(), [](const Key<N> &a, const Key<N> &b) { return b < a; });'
-        echo '    std::unordered_map<int, std::function<int(int)>> calls;'
-        echo '    for (auto &key : all) calls[key.value] = [key](int x) { return x + key.value + N; };'
-        echo '    std::ostringstream out;'
-        echo '    for (auto &call : calls) out << call.second(seed) << ",";'
-        echo '    return (int)out.str().size();'
-        echo '}'
-        echo "int $name(int seed) {"
+        for header in algorithm functional map regex sstream string unordered_map vector; do
+            echo "#include <$header>"
+        done
+        echo "namespace $name {"
+        cat "$(dirname "$0")/instantiated.hpp"
+        echo 'int run(int seed) {'
         echo '    int sum = 0;'
         for ((n = 0; n < count; n++)); do echo "    sum += work<$n>(seed);"; done
         echo '    return sum + (int)std::regex_match(std::to_string(seed), std::regex("[0-9]+"));'
         echo '}'
+        echo '}'
     } > "$folder/$name.cpp"
 }
+flags=(-O2 -g -gdwarf-5)
 instantiate 2 library
 instantiate 3 program
-echo 'int main(int argc, char **) { return program(argc); }' >> "$folder/program.cpp"
-instantiate "${2:-150}" large
-echo 'int main(int argc, char **) { return large(argc); }' >> "$folder/large.cpp"
-
-flags=(-O2 -g -gdwarf-5)
+echo 'int main(int argc, char **) { return program::run(argc); }' >> "$folder/program.cpp"
 gcc "${flags[@]}" -o "$folder/small" "$folder/small.c"
 g++ "${flags[@]}" -shared -fPIC -o "$folder/library.so" "$folder/library.cpp"
 g++ "${flags[@]}" -o "$folder/program" "$folder/program.cpp"
-g++ "${flags[@]}" -o "$folder/large" "$folder/large.cpp"
 if command -v clang > /dev/null; then
     clang "${flags[@]}" -o "$folder/small.clang" "$folder/small.c"
 fi
+
+# The large program: parts compiled side by side.
+parts=(one two three four)
+{
+    for part in "${parts[@]}"; do echo "namespace $part { int run(int seed); }"; done
+    echo 'int main(int argc, char **) { return 0'
+    for part in "${parts[@]}"; do echo "    + $part::run(argc)"; done
+    echo ';}'
+} > "$folder/large.cpp"
+for part in "${parts[@]}"; do
+    instantiate "${2:-60}" "$part"
+    g++ "${flags[@]}" -c -o "$folder/$part.o" "$folder/$part.cpp" &
+done
+wait
+g++ "${flags[@]}" -o "$folder/large" "$folder/large.cpp" "$folder"/*.o
+rm -f "$folder"/*.o

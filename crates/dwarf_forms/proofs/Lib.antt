@@ -8,6 +8,4 @@ pub mod Listed
 pub mod AttributeSpelling
 pub mod HeadSpelling
 pub mod TableSpelling
-pub mod Texts
-pub mod ContentSpelling
 pub mod ValueSpelling

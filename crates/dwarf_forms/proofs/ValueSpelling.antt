@@ -12,12 +12,12 @@ use Rattle.dwarf_bytes.specs.Numbers.{StandsAt, IsUleb, uleb_at}
 use Rattle.dwarf_bytes.specs.Contents.{Signed, SpellsContent, content_at}
 use Rattle.dwarf_bytes.proofs.Advance.{bind_ok}
 use Rattle.dwarf_bytes.proofs.Spelling.{uleb_stands, uleb_again}
+use Rattle.dwarf_bytes.proofs.ContentLaws.{content_stands, content_again}
 use Rattle.dwarf_forms.specs.declared.values.ValueFault.{ValueFault}
 use Rattle.dwarf_forms.specs.declared.values.ValueFault.TheVariants.{Form}
 use Rattle.dwarf_forms.specs.Values.{Value, SpellsDirectly, SpellsIndirectly, Spells, reading_value, direct_at, value_at}
 use Rattle.dwarf_forms.proofs.Moves.{same_ok}
 use Rattle.dwarf_forms.proofs.Stretches.{Stretch, stretch_of, stands_from, joined, first_part, second_part, respelled, nothing}
-use Rattle.dwarf_forms.proofs.ContentSpelling.{content_stands, content_reads}
 
 reading_ok : {X : Type 0} (r : Result X ReadFault) (x : X) → reading_value r ≡ Ok x → r ≡ Ok x
 reading_ok (Ok y) x h = cc
@@ -41,7 +41,7 @@ direct_stands form format bytes at read h = by_form (form_of form) refl h
     by_form (Some Indirect) is h = cc
     by_form (Some (Direct layout)) is h =
         let found = bind_ok (reading_value (content_at layout format bytes at)) (λ read. Ok (record { form = form; content = read.0 }, read.1)) read h in
-        let s = content_stands layout format bytes at found.0 (reading_ok (content_at layout format bytes at) found.0 found.1) in
+        let s = content_stands layout format bytes at found.0.0 found.0.1 (reading_ok (content_at layout format bytes at) found.0 found.1) in
         let value : Value = record { form = form; content = found.0.0 } in
         subst (λ (r : Value × ℕ). StandsAt (SpellsDirectly form format) bytes at r.0 r.1) (same_ok (value, found.0.1) read found.2)
         (stands_from (SpellsDirectly form format) bytes at value found.0.1 s.front s.rest (stretch_of (SpellsContent layout format) bytes at found.0.0 found.0.1 s) (layout, is, s.spelled, refl))
@@ -50,7 +50,7 @@ pub direct_reads : (form : ℕ) (format : Format) (bytes : List ℕ) (at : ℕ) 
 unfolding direct_at
 direct_reads form format bytes at value next s =
     let layout = s.spelled.0 in
-    let content = content_reads layout format bytes at value.content next (stands_from (SpellsContent layout format) bytes at value.content next s.front s.rest (stretch_of (SpellsDirectly form format) bytes at value next s) s.spelled.2) in
+    let content = content_again layout format bytes at value.content next (stands_from (SpellsContent layout format) bytes at value.content next s.front s.rest (stretch_of (SpellsDirectly form format) bytes at value next s) s.spelled.2) in
     subst (λ (f : Option Shape). Direct_read f form format bytes at ≡ Ok (value, next)) (sym s.spelled.1)
     (rw content (ap (λ (f : ℕ). Ok (record { form = f; content = value.content }, next)) (sym s.spelled.3)))
 

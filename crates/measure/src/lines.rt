@@ -49,7 +49,10 @@ fn print_path<W: Write>(out: &mut W, bytes: &[u8], parts: &PathParts) -> Result<
             _ => layout.debug_line,
         };
         let start = part.span.place;
-        if let Some(text) = section.of(bytes).get(start..start.saturating_add(part.span.len)) {
+        if let Some(text) = section
+            .of(bytes)
+            .get(start..start.saturating_add(part.span.len))
+        {
             out.write_all(text)?;
         }
     }

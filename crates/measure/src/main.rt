@@ -1,27 +1,29 @@
 //! Measures the readers, and shows what they read:
 //! `measure leb FILE` reads the LEB128 numbers of a file from end to end,
-//! `measure lines OBJECT` reads the line programs of an object, and
-//! `measure rows OBJECT` prints their rows.
+//! `measure lines OBJECT` reads the line programs of an object,
+//! `measure rows OBJECT` prints their rows, and
+//! `measure values OBJECT` reads the abbreviation tables and the values of all entries.
 #![tactic(auto)]
 
+mod entries;
 mod leb;
 mod lines;
 
 use anyhow::{Context, Result};
-use std::env;
-use std::fs;
 use std::time::Instant;
+use std::{env, fs};
 
 fn main(rt: HostRuntime) -> Result<()> {
     let words: Vec<String> = env::args(&rt)?.skip(1).collect(rt.alloc())?;
     if words.len() != 2 {
-        println!(rt; "usage: measure leb|lines|rows FILE")?;
+        println!(rt; "usage: measure leb|lines|rows|values FILE")?;
         return Ok(());
     }
     let bytes = fs::read(&rt, words[1].as_str()).context("reading the file")?;
     match words[0].as_str() {
         "leb" => measure_leb(&rt, &bytes),
         "lines" => measure_lines(&rt, &bytes),
+        "values" => measure_values(&rt, &bytes),
         _ => lines::print_rows(&rt, &bytes),
     }
 }
@@ -30,7 +32,12 @@ fn measure_leb(rt: &HostRuntime, bytes: &[u8]) -> Result<()> {
     let start = Instant::now(rt)?;
     let total = leb::total(bytes);
     let time = start.elapsed(rt)?;
-    println!(rt; "{} numbers, sum {}, {} ms", total.count, total.sum, time.as_millis())?;
+    println!(rt;
+        "{} numbers, sum {}, {} ms",
+        total.count,
+        total.sum,
+        time.as_millis()
+    )?;
     Ok(())
 }
 
@@ -39,5 +46,20 @@ fn measure_lines(rt: &HostRuntime, bytes: &[u8]) -> Result<()> {
     let lines = lines::read(rt.alloc(), bytes)?;
     let time = start.elapsed(rt)?;
     println!(rt; "{} rows, {} ms", lines.rows().len(), time.as_millis())?;
+    Ok(())
+}
+
+fn measure_values(rt: &HostRuntime, bytes: &[u8]) -> Result<()> {
+    let start = Instant::now(rt)?;
+    let counts = entries::read(rt.alloc(), bytes)?;
+    let time = start.elapsed(rt)?;
+    println!(rt;
+        "{} units, {} declarations, {} entries, {} values, {} ms",
+        counts.units,
+        counts.declarations,
+        counts.entries,
+        counts.values,
+        time.as_millis()
+    )?;
     Ok(())
 }

@@ -1,0 +1,123 @@
+//! The abbreviation tables of an object's units, and the values of their entries.
+
+use dwarf_bytes::{Cause, Cursor, Format, LoadFault, Object, Section};
+use dwarf_forms::{Abbrevs, value};
+use std::alloc::Global;
+
+/// The most declarations of an object.
+const DECLARATIONS: u64 = 4_194_304;
+
+/// What was read.
+#[derive(Clone, Copy, Debug)]
+pub struct Counts {
+    pub units: u64,
+    pub declarations: u64,
+    pub entries: u64,
+    pub values: u64,
+}
+
+/// A unit: where its entries start and end, and where its table stands.
+#[derive(Clone, Copy, Debug)]
+struct Unit {
+    format: Format,
+    first: usize,
+    end: usize,
+    abbreviations: u64,
+}
+
+/// Reads the tables and the values of all compile and partial units.
+pub fn read(alloc: Global, bytes: &[u8]) -> Result<Counts, LoadFault> {
+    let layout = Object::find(bytes)?;
+    let info = layout.debug_info.of(bytes);
+    let abbrev = layout.debug_abbrev.of(bytes);
+    let mut counts = Counts {
+        units: 0,
+        declarations: 0,
+        entries: 0,
+        values: 0,
+    };
+    let mut left = DECLARATIONS;
+    let mut place = 0;
+    for _ in 0..info.len() {
+        if place >= info.len() {
+            break;
+        }
+        match read_unit(info, place) {
+            Ok(unit) => {
+                place = unit.end;
+                let table = Abbrevs::read(alloc, abbrev, unit.abbreviations, &mut left)?;
+                counts.units = counts.units.wrapping_add(1);
+                read_entries(info, &unit, &table, &mut counts);
+            }
+            Err(cause) => return Err(LoadFault::told(Section::DebugInfo, cause, place as u64)),
+        }
+    }
+    counts.declarations = DECLARATIONS.saturating_sub(left);
+    Ok(counts)
+}
+
+/// The unit at a place; of other types than 1 and 3 without its entries.
+fn read_unit(info: &[u8], place: usize) -> Result<Unit, Cause> {
+    let mut cursor = Cursor::new(info);
+    cursor.seek(place)?;
+    let (format, length) = cursor.initial_length()?;
+    let end = (cursor.place() as u64).saturating_add(length);
+    if end > info.len() as u64 {
+        return Err(Cause::Short);
+    }
+    let version = cursor.u16()?;
+    let unit_type = cursor.u8()?;
+    let address_size = cursor.u8()?;
+    if version != 5 || address_size != 8 {
+        return Err(Cause::Version);
+    }
+    let abbreviations = cursor.offset(format)?;
+    let has_entries = unit_type == 1 || unit_type == 3;
+    Ok(Unit {
+        format,
+        first: if has_entries {
+            cursor.place()
+        } else {
+            end as usize
+        },
+        end: end as usize,
+        abbreviations,
+    })
+}
+
+/// Reads the values of a unit's entries, up to its end or a fault.
+fn read_entries(info: &[u8], unit: &Unit, table: &Abbrevs, counts: &mut Counts) {
+    let mut cursor = Cursor::new(info);
+    let _ = cursor.seek(unit.first);
+    for _ in 0..info.len() {
+        if cursor.place() >= unit.end
+            || read_entry(&mut cursor, unit.format, table, counts).is_err()
+        {
+            break;
+        }
+    }
+}
+
+/// Reads the values of the entry at the cursor.
+fn read_entry(
+    cursor: &mut Cursor<'_>,
+    format: Format,
+    table: &Abbrevs,
+    counts: &mut Counts,
+) -> Result<(), Cause> {
+    let code = cursor.uleb()?;
+    if code == 0 {
+        return Ok(());
+    }
+    let Some(declaration) = table.find(code) else {
+        return Err(Cause::AbbrevCode);
+    };
+    counts.entries = counts.entries.wrapping_add(1);
+    for attribute in declaration.attributes() {
+        if value(attribute.form, attribute.constant, format, cursor).is_err() {
+            return Err(Cause::Form);
+        }
+        counts.values = counts.values.wrapping_add(1);
+    }
+    Ok(())
+}
