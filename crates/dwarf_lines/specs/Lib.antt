@@ -2,6 +2,7 @@ pub mod Sections
 pub mod Instructions
 pub mod Spelling
 pub mod Matrix
+pub mod Machine
 pub mod Registers
 pub mod Formats
 pub mod Entries

@@ -1,8 +1,12 @@
 //! What is true of all line programs.
 
-ghost use Rattle.std.specs.Prelude.{◌≡◌, ◌+◌, ◌≤◌, ℕ, map, slice_get, Ok, Some, false};
+ghost use Rattle.std.specs.Prelude.{◌≡◌, List, [], map, Ok};
 ghost use Rattle.std.specs.List.Sorted.{IsStrictlyIncreasing};
-ghost use Rattle.dwarf_lines.specs.declared.row.Row.{Row};
+ghost use Rattle.dwarf_lines.specs.declared.row.Origin.{Origin};
+ghost use Rattle.dwarf_lines.specs.declared.instruction.Instruction.{Instruction};
+ghost use Rattle.dwarf_lines.specs.Instructions.{Encoding};
+ghost use Rattle.dwarf_lines.specs.Matrix.{rows_from};
+ghost use Rattle.dwarf_lines.specs.Machine.{at_start, rows_by};
 ghost use Rattle.dwarf_lines.specs.Sections.{LineSections};
 ghost use Rattle.dwarf_lines.specs.Lines.{Lines, lines_in, HaveNext};
 
@@ -14,4 +18,10 @@ pub fn rows_have_next()
 /// Each program starts past the one before it.
 pub fn program_offsets_rise()
     ensures { (s : LineSections) (lines : Lines) → lines_in s ≡ Ok lines → IsStrictlyIncreasing (map (λ program. program.offset) lines.programs) }
+{}
+
+/// The rows of instructions, each by the sums over the instructions before it, are those that the
+/// line number machine appends while it executes them (DWARF 5, 6.2.2 and 6.2.5).
+pub fn rows_are_appended_by_the_machine()
+    ensures { (e : Encoding) (o : Origin) (instructions : List Instruction) → rows_from e o [] instructions ≡ rows_by e o at_start instructions }
 {}
