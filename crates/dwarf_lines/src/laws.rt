@@ -1,10 +1,12 @@
 //! What is true of all line programs.
 
-ghost use Rattle.std.specs.Prelude.{◌≡◌, List, [], map, Ok};
+ghost use Rattle.std.specs.Prelude.{◌≡◌, ◌<◌, ◌↔◌, ℕ, List, [], map, Ok};
 ghost use Rattle.std.specs.List.Sorted.{IsStrictlyIncreasing};
 ghost use Rattle.dwarf_lines.specs.declared.row.Origin.{Origin};
 ghost use Rattle.dwarf_lines.specs.declared.instruction.Instruction.{Instruction};
-ghost use Rattle.dwarf_lines.specs.Instructions.{Encoding};
+ghost use Rattle.dwarf_lines.specs.Instructions.{Encoding, instruction_at};
+ghost use Rattle.dwarf_bytes.specs.Numbers.{StandsAt};
+ghost use Rattle.dwarf_lines.specs.Spelling.{Spells};
 ghost use Rattle.dwarf_lines.specs.Matrix.{rows_from};
 ghost use Rattle.dwarf_lines.specs.Machine.{at_start, rows_by};
 ghost use Rattle.dwarf_lines.specs.Sections.{LineSections};
@@ -24,4 +26,10 @@ pub fn program_offsets_rise()
 /// line number machine appends while it executes them (DWARF 5, 6.2.2 and 6.2.5).
 pub fn rows_are_appended_by_the_machine()
     ensures { (e : Encoding) (o : Origin) (instructions : List Instruction) → rows_from e o [] instructions ≡ rows_by e o at_start instructions }
+{}
+
+/// An instruction is read exactly where the bytes begin with a spelling of it.
+pub fn instructions_are_spelled()
+    ensures { (e : Encoding) (bytes : List ℕ) (at : ℕ) (i : Instruction) (next : ℕ) → 0 < e.opcode_base
+        → (instruction_at e bytes at ≡ Ok (i, next)) ↔ StandsAt (Spells e) bytes at i next }
 {}
