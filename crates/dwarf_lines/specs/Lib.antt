@@ -10,5 +10,5 @@ pub mod Headers
 pub mod Programs
 pub mod Paths
 pub mod Lines
-pub mod Texts
+pub mod Readers
 pub mod Kept

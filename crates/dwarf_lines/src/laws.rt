@@ -19,13 +19,15 @@ pub fn rows_have_next()
 
 /// Each program starts past the one before it.
 pub fn program_offsets_rise()
-    ensures { (s : LineSections) (lines : Lines) → lines_in s ≡ Ok lines → IsStrictlyIncreasing (map (λ program. program.offset) lines.programs) }
+    ensures { (s : LineSections) (lines : Lines) → lines_in s ≡ Ok lines
+        → IsStrictlyIncreasing (map (λ program. program.offset) lines.programs) }
 {}
 
 /// The rows of instructions, each by the sums over the instructions before it, are those that the
 /// line number machine appends while it executes them (DWARF 5, 6.2.2 and 6.2.5).
 pub fn rows_are_appended_by_the_machine()
-    ensures { (e : Encoding) (o : Origin) (instructions : List Instruction) → rows_from e o [] instructions ≡ rows_by e o at_start instructions }
+    ensures { (e : Encoding) (o : Origin) (instructions : List Instruction)
+        → rows_from e o [] instructions ≡ rows_by e o at_start instructions }
 {}
 
 /// An instruction is read exactly where the bytes begin with a spelling of it.
