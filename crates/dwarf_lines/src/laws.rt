@@ -1,12 +1,12 @@
 //! What is true of all line programs.
 
-ghost use Rattle.std.specs.Prelude.{◌≡◌, ◌<◌, ◌↔◌, ℕ, List, [], map, Ok};
+ghost use Rattle.std.specs.Prelude.{◌≡◌, ◌<◌, ◌≤◌, ◌↔◌, ℕ, List, [], length, drop, map, Ok, None};
 ghost use Rattle.std.specs.List.Sorted.{IsStrictlyIncreasing};
 ghost use Rattle.dwarf_lines.specs.declared.row.Origin.{Origin};
 ghost use Rattle.dwarf_lines.specs.declared.instruction.Instruction.{Instruction};
-ghost use Rattle.dwarf_lines.specs.Instructions.{Encoding, instruction_at};
+ghost use Rattle.dwarf_lines.specs.Instructions.{Encoding, instruction_at, reading_of};
 ghost use Rattle.dwarf_bytes.specs.Numbers.{StandsAt};
-ghost use Rattle.dwarf_lines.specs.Spelling.{Spells};
+ghost use Rattle.dwarf_lines.specs.Spelling.{Spells, AreSpelled};
 ghost use Rattle.dwarf_lines.specs.Matrix.{rows_from};
 ghost use Rattle.dwarf_lines.specs.Machine.{at_start, rows_by};
 ghost use Rattle.dwarf_lines.specs.Sections.{LineSections};
@@ -32,6 +32,16 @@ pub fn rows_are_appended_by_the_machine()
 
 /// An instruction is read exactly where the bytes begin with a spelling of it.
 pub fn instructions_are_spelled()
-    ensures { (e : Encoding) (bytes : List ℕ) (at : ℕ) (i : Instruction) (next : ℕ) → 0 < e.opcode_base
+    ensures { (e : Encoding) (bytes : List ℕ) (at : ℕ) (i : Instruction) (next : ℕ)
+        → 0 < e.opcode_base
         → (instruction_at e bytes at ≡ Ok (i, next)) ↔ StandsAt (Spells e) bytes at i next }
+{}
+
+/// The instructions of a program are read without a fault exactly where its bytes are their
+/// spellings, one after the other.
+pub fn programs_are_spelled()
+    ensures { (e : Encoding) (bytes : List ℕ) (at : ℕ) (is : List Instruction)
+        → 0 < e.opcode_base → at ≤ length bytes
+        → (reading_of e bytes at ≡ record { instructions = is; fault = None })
+        ↔ AreSpelled e (drop at bytes) is }
 {}
