@@ -2,6 +2,7 @@ pub mod Sections
 pub mod Instructions
 pub mod Spelling
 pub mod Matrix
+pub mod Machine
 pub mod Registers
 pub mod Formats
 pub mod Entries
@@ -9,5 +10,5 @@ pub mod Headers
 pub mod Programs
 pub mod Paths
 pub mod Lines
-pub mod Texts
+pub mod Readers
 pub mod Kept

@@ -3,7 +3,7 @@
 ghost use Rattle.std.specs.Prelude.{◌≡◌, ◌==◌, slice_index, length};
 ghost use Rattle.dwarf_bytes.specs.Refusals.{ReadsField, ReadsPlace};
 ghost use Rattle.dwarf_lines.specs.Entries.{text_from, text_here, text_by_offset, path_at, index_at, after_value, no_entry, has_directory};
-ghost use Rattle.dwarf_lines.specs.Texts.{sections_of};
+ghost use Rattle.dwarf_lines.specs.Readers.{sections_of};
 
 use crate::formats::{EntryTable, layout_of};
 use dwarf_bytes::{Cause, Content, Cursor, Format, Section, Span, text_at};
@@ -73,7 +73,8 @@ fn text_elsewhere(
     format: Format,
     cursor: &mut Cursor,
 ) -> Result<PathText, Cause>
-    ensures { ReadsField (λ text. text) result (text_by_offset format section texts.now) cursor.old cursor.new }
+    ensures { ReadsField (λ text. text) result (text_by_offset format section texts.now)
+        cursor.old cursor.new }
 {
     let place = cursor.offset(format)?;
     let text = text_at(texts, place)?;
@@ -82,7 +83,8 @@ fn text_elsewhere(
 
 /// A path.
 pub fn path(texts: Texts, format: Format, form: u64, cursor: &mut Cursor) -> Result<PathText, Cause>
-    ensures { ReadsField (λ text. text) result (path_at (sections_of texts.entry) format form) cursor.old cursor.new }
+    ensures { ReadsField (λ text. text) result (path_at (sections_of texts.entry) format form)
+        cursor.old cursor.new }
 {
     match form {
         0x08 => text_in_place(cursor),

@@ -2,8 +2,7 @@
 
 ghost use Rattle.std.specs.Prelude.{◌≡◌};
 ghost use Rattle.dwarf_bytes.specs.Refusals.{ReadsField, ReadsItems};
-ghost use Rattle.dwarf_lines.specs.Texts.{sections_of};
-ghost use Rattle.dwarf_lines.specs.Entries.{field_at, fields_at, no_entry, entry_at, repeated_at, table_at};
+ghost use Rattle.dwarf_lines.specs.Readers.{field_by, fields_by, entry_by, entries_by, table_by};
 
 use crate::entries::{Entry, Texts, directory_index, pass_over, path};
 use crate::formats::{EntryTable, Field, format};
@@ -22,7 +21,7 @@ impl EntryReader<'_> {
     /// An entry with one more of its fields.
     #[tactic(auto, unfolding(crate::specs::Entries::field_at))]
     fn with_field(&self, field: Field, entry: Entry, cursor: &mut Cursor) -> Result<Entry, Cause>
-        ensures { ReadsField (λ entry. entry) result (field_at (sections_of self.now.texts) self.now.format self.now.table field entry) cursor.old cursor.new }
+        ensures { ReadsField (λ entry. entry) result (field_by self.now field entry) cursor.old cursor.new }
     {
         if field.is_path() {
             let path = path(self.texts, self.format, field.form, cursor)?;
@@ -38,7 +37,7 @@ impl EntryReader<'_> {
 
     /// The fields of an entry.
     fn fields(&self, fields: &[Field], cursor: &mut Cursor) -> Result<Entry, Cause>
-        ensures { ReadsField (λ entry. entry) result (fields_at (sections_of self.now.texts) self.now.format self.now.table fields.now no_entry) cursor.old cursor.new }
+        ensures { ReadsField (λ entry. entry) result (fields_by self.now fields.now) cursor.old cursor.new }
     {
         let mut entry = Entry::new();
         for field in fields {
@@ -50,7 +49,7 @@ impl EntryReader<'_> {
     /// An entry whose directory is there.
     #[tactic(auto, unfolding(crate::specs::Entries::entry_at))]
     fn entry(&self, fields: &[Field], cursor: &mut Cursor) -> Result<Entry, Cause>
-        ensures { ReadsField (λ entry. entry) result (entry_at (sections_of self.now.texts) self.now.format self.now.table fields.now) cursor.old cursor.new }
+        ensures { ReadsField (λ entry. entry) result (entry_by self.now fields.now) cursor.old cursor.new }
     {
         let entry = self.fields(fields, cursor)?;
         if !entry.has_directory(self.table) {
@@ -67,7 +66,7 @@ impl EntryReader<'_> {
         count: u64,
         cursor: &mut Cursor,
     ) -> Result<Vec<Entry>, Cause>
-        ensures { ReadsItems result (repeated_at (entry_at (sections_of self.now.texts) self.now.format self.now.table fields.now) count) cursor.old cursor.new }
+        ensures { ReadsItems result (entries_by self.now fields.now count) cursor.old cursor.new }
     {
         let mut entries = Vec::new(alloc);
         for _ in 0..count {
@@ -79,7 +78,7 @@ impl EntryReader<'_> {
     /// The table at the cursor.
     #[tactic(auto, unfolding(crate::specs::Entries::table_at))]
     pub fn table(&self, alloc: Global, cursor: &mut Cursor) -> Result<Vec<Entry>, Cause>
-        ensures { ReadsItems result (table_at (sections_of self.now.texts) self.now.format self.now.table) cursor.old cursor.new }
+        ensures { ReadsItems result (table_by self.now) cursor.old cursor.new }
     {
         let format_count = cursor.u8()?;
         let fields = format(alloc, format_count, cursor)?;

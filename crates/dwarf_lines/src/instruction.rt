@@ -46,7 +46,8 @@ pub fn decode(header: &Header, cursor: &mut Cursor) -> Result<Instruction, Cause
 #[tactic(auto, unfolding(crate::specs::Instructions::standard_at))]
 fn standard(header: &Header, opcode: u8, cursor: &mut Cursor) -> Result<Instruction, Cause>
     requires { 0 < opcode }
-    ensures reads { ReadsField (λ i. i) result (standard_at (encoding header.now) opcode) cursor.old cursor.new }
+    ensures reads { ReadsField (λ i. i) result (standard_at (encoding header.now) opcode)
+        cursor.old cursor.new }
     ensures moves { IfOk result (λ _. cursor.old.place ≤ cursor.new.place) }
     ensures reach { IfOk result (λ i. line_reach i ≤ 2 ^ 62 * (cursor.new.place + 1 - cursor.old.place)) }
 {

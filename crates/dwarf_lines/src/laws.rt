@@ -1,8 +1,14 @@
 //! What is true of all line programs.
 
-ghost use Rattle.std.specs.Prelude.{◌≡◌, ◌+◌, ◌≤◌, ℕ, map, slice_get, Ok, Some, false};
+ghost use Rattle.std.specs.Prelude.{◌≡◌, ◌<◌, ◌≤◌, ◌↔◌, ℕ, List, [], length, drop, map, Ok, None};
 ghost use Rattle.std.specs.List.Sorted.{IsStrictlyIncreasing};
-ghost use Rattle.dwarf_lines.specs.declared.row.Row.{Row};
+ghost use Rattle.dwarf_lines.specs.declared.row.Origin.{Origin};
+ghost use Rattle.dwarf_lines.specs.declared.instruction.Instruction.{Instruction};
+ghost use Rattle.dwarf_lines.specs.Instructions.{Encoding, instruction_at, reading_of};
+ghost use Rattle.dwarf_bytes.specs.Numbers.{StandsAt};
+ghost use Rattle.dwarf_lines.specs.Spelling.{Spells, AreSpelled};
+ghost use Rattle.dwarf_lines.specs.Matrix.{rows_from};
+ghost use Rattle.dwarf_lines.specs.Machine.{at_start, rows_by};
 ghost use Rattle.dwarf_lines.specs.Sections.{LineSections};
 ghost use Rattle.dwarf_lines.specs.Lines.{Lines, lines_in, HaveNext};
 
@@ -13,5 +19,29 @@ pub fn rows_have_next()
 
 /// Each program starts past the one before it.
 pub fn program_offsets_rise()
-    ensures { (s : LineSections) (lines : Lines) → lines_in s ≡ Ok lines → IsStrictlyIncreasing (map (λ program. program.offset) lines.programs) }
+    ensures { (s : LineSections) (lines : Lines) → lines_in s ≡ Ok lines
+        → IsStrictlyIncreasing (map (λ program. program.offset) lines.programs) }
+{}
+
+/// The rows of instructions, each by the sums over the instructions before it, are those that the
+/// line number machine appends while it executes them (DWARF 5, 6.2.2 and 6.2.5).
+pub fn rows_are_appended_by_the_machine()
+    ensures { (e : Encoding) (o : Origin) (instructions : List Instruction)
+        → rows_from e o [] instructions ≡ rows_by e o at_start instructions }
+{}
+
+/// An instruction is read exactly where the bytes begin with a spelling of it.
+pub fn instructions_are_spelled()
+    ensures { (e : Encoding) (bytes : List ℕ) (at : ℕ) (i : Instruction) (next : ℕ)
+        → 0 < e.opcode_base
+        → (instruction_at e bytes at ≡ Ok (i, next)) ↔ StandsAt (Spells e) bytes at i next }
+{}
+
+/// The instructions of a program are read without a fault exactly where its bytes are their
+/// spellings, one after the other.
+pub fn programs_are_spelled()
+    ensures { (e : Encoding) (bytes : List ℕ) (at : ℕ) (is : List Instruction)
+        → 0 < e.opcode_base → at ≤ length bytes
+        → (reading_of e bytes at ≡ record { instructions = is; fault = None })
+        ↔ AreSpelled e (drop at bytes) is }
 {}

@@ -17,7 +17,10 @@ mod row;
 mod running;
 
 pub use entries::Part;
-pub use laws::{program_offsets_rise, rows_have_next};
+pub use laws::{
+    instructions_are_spelled, program_offsets_rise, rows_are_appended_by_the_machine,
+    rows_have_next,
+};
 pub use lines::LineTables;
 pub use path::PathParts;
 pub use row::{ProgramNo, Row};

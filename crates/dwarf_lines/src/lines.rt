@@ -44,7 +44,8 @@ impl LineTables {
         line_str: &[u8],
         str: &[u8],
     ) -> Result<LineTables, LoadFault>
-        ensures { Decodes (λ lines. lines) result (lines_in (record { line = line.now; line_str = line_str.now; str = str.now })) }
+        ensures { Decodes (λ lines. lines) result
+            (lines_in (record { line = line.now; line_str = line_str.now; str = str.now })) }
     {
         let texts = Texts {
             line,
@@ -117,7 +118,8 @@ fn path_in(directories: &[Entry], files: &[Entry], number: u64) -> Option<PathPa
 fn starts_before(programs: &[ProgramFiles], offset: u64) -> usize
     requires { IsStrictlyIncreasing (map (λ program. program.offset) programs.now) }
     ensures within { result ≤ length programs.now }
-    ensures parts { IsPartitionPoint (λ program. program.offset < offset) (λ program. offset ≤ program.offset) programs.now result }
+    ensures parts { IsPartitionPoint
+        (λ program. program.offset < offset) (λ program. offset ≤ program.offset) programs.now result }
 {
     programs.partition_point(|program| program.offset < offset)
 }

@@ -1,7 +1,7 @@
 //! The line programs of a section.
 
 ghost use Rattle.std.specs.Prelude.{◌≡◌, ◌≤◌, ◌<◌, length, IfOk, vec_len};
-ghost use Rattle.dwarf_lines.specs.Texts.{sections_of};
+ghost use Rattle.dwarf_lines.specs.Readers.{sections_of};
 ghost use Rattle.dwarf_lines.specs.Headers.{header_at};
 ghost use Rattle.dwarf_lines.specs.Programs.{program_at_place};
 ghost use Rattle.dwarf_lines.specs.Kept.{header_in, Gives, AddsProgram};
@@ -80,7 +80,8 @@ pub fn add_program(
     programs: &mut Vec<ProgramFiles>,
 ) -> Result<usize, Cause>
     requires { place ≤ length texts.line.now }
-    ensures { AddsProgram result (program_at_place (sections_of texts.entry) (vec_len programs.old) place)
+    ensures { AddsProgram result
+        (program_at_place (sections_of texts.entry) (vec_len programs.old) place)
         rows.old.items rows.new.items programs.old.items programs.new.items }
 {
     let header = header(alloc, texts, place)?;

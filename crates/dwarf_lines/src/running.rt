@@ -21,7 +21,8 @@ pub fn run(
 ) -> Result<(), Cause>
     requires start { start ≤ length bytes.now }
     requires range { 0 < header.now.line_range }
-    ensures { Adds result rows.old.items rows.new.items (matrix_at (encoding header.now) origin bytes.now start) }
+    ensures { Adds result rows.old.items rows.new.items
+        (matrix_at (encoding header.now) origin bytes.now start) }
 {
     let mut cursor = Cursor::new(bytes);
     if cursor.seek(start).is_err() {

@@ -1,0 +1,104 @@
+-- The registers of the machine are the sums over the instructions that it has executed.
+use Rattle.std.proofs.Common.{◌≡◌, ℕ, List, [], ◌∷◌, Result, Ok, refl, sym, ap, ◌∙◌, arith}
+use Rattle.std.specs.Prelude.{ℤ, pos, ◌+ℤ◌}
+use Rattle.std.proofs.lemmas.Int.{ints}
+use Rattle.dwarf_bytes.specs.declared.fault.Cause.{Cause}
+use Rattle.dwarf_bytes.specs.Bind.{◌>>=◌}
+use Rattle.dwarf_lines.specs.declared.row.Row.{Row}
+use Rattle.dwarf_lines.specs.declared.row.Origin.{Origin}
+use Rattle.dwarf_lines.specs.declared.instruction.Instruction.{Instruction}
+use Rattle.dwarf_lines.specs.declared.instruction.Instruction.TheVariants.{Copy, AdvancePc, AdvanceLine, SetFile, ConstAddPc, FixedAdvancePc, SetAddress, EndSequence, Special, Skipped}
+use Rattle.dwarf_lines.specs.Instructions.{Encoding}
+use Rattle.dwarf_lines.specs.Matrix.{address_after, line_after, file_after, row_before, line_row, made, rows_from}
+use Rattle.dwarf_lines.specs.Machine.{Machine, at_start, step, appended, rows_by}
+use Rattle.dwarf_lines.proofs.Steps.{address_goes_on, line_goes_on, file_goes_on, row_stays, row_here, file_is, address_is}
+
+-- the registers after these instructions
+abbrev pub registers : Encoding → List Instruction → Machine
+registers e before = record { address = address_after e before; file = file_after before; line = line_after e before; previous = row_before e before }
+
+same_registers : (a b : ℕ) (f g : ℕ) (l k : ℤ) (p q : ℕ) → a ≡ b → f ≡ g → l ≡ k → p ≡ q
+    → (let m : Machine = record { address = a; file = f; line = l; previous = p } in m ≡ record { address = b; file = g; line = k; previous = q })
+same_registers a b f g l k p q a_is f_is l_is p_is = rw (a_is, f_is, l_is, p_is) refl
+
+-- no change of the line
+stays : (z : ℤ) → z +ℤ pos 0 ≡ z
+stays z = omega (arith, ints)
+
+after_end : (e : Encoding) (before : List Instruction) → registers e (EndSequence ∷ before) ≡ at_start
+unfolding address_after file_after line_after row_before
+after_end e before = refl
+
+-- each step goes from the registers of the instructions before it to those of them and it
+step-registers : (e : Encoding) (before : List Instruction) (i : Instruction) → step e (registers e before) i ≡ registers e (i ∷ before)
+step-registers e before Copy =
+    let address = address_goes_on e Copy before refl refl in
+    same_registers (address_after e before) (address_after e (Copy ∷ before)) (file_after before) (file_after (Copy ∷ before)) (line_after e before) (line_after e (Copy ∷ before)) (address_after e before) (row_before e (Copy ∷ before))
+    (omega (arith, address)) (sym (file_goes_on Copy before refl refl)) (sym (line_goes_on e Copy before refl ∙ stays (line_after e before)))
+    (let last = row_here e Copy before refl refl in omega (arith, address, last))
+step-registers e before (AdvancePc n) =
+    same_registers _ (address_after e (AdvancePc n ∷ before)) (file_after before) (file_after (AdvancePc n ∷ before)) (line_after e before) (line_after e (AdvancePc n ∷ before)) (row_before e before) (row_before e (AdvancePc n ∷ before))
+    (sym (address_goes_on e (AdvancePc n) before refl refl)) (sym (file_goes_on (AdvancePc n) before refl refl)) (sym (line_goes_on e (AdvancePc n) before refl ∙ stays (line_after e before)))
+    (sym (row_stays e (AdvancePc n) before refl refl))
+step-registers e before (AdvanceLine z) =
+    same_registers (address_after e before) (address_after e (AdvanceLine z ∷ before)) (file_after before) (file_after (AdvanceLine z ∷ before)) _ (line_after e (AdvanceLine z ∷ before)) (row_before e before) (row_before e (AdvanceLine z ∷ before))
+    (let address = address_goes_on e (AdvanceLine z) before refl refl in omega (arith, address)) (sym (file_goes_on (AdvanceLine z) before refl refl)) (sym (line_goes_on e (AdvanceLine z) before refl))
+    (sym (row_stays e (AdvanceLine z) before refl refl))
+step-registers e before (SetFile file) =
+    same_registers (address_after e before) (address_after e (SetFile file ∷ before)) file (file_after (SetFile file ∷ before)) (line_after e before) (line_after e (SetFile file ∷ before)) (row_before e before) (row_before e (SetFile file ∷ before))
+    (let address = address_goes_on e (SetFile file) before refl refl in omega (arith, address)) (sym (file_is file before)) (sym (line_goes_on e (SetFile file) before refl ∙ stays (line_after e before)))
+    (sym (row_stays e (SetFile file) before refl refl))
+step-registers e before ConstAddPc =
+    same_registers _ (address_after e (ConstAddPc ∷ before)) (file_after before) (file_after (ConstAddPc ∷ before)) (line_after e before) (line_after e (ConstAddPc ∷ before)) (row_before e before) (row_before e (ConstAddPc ∷ before))
+    (sym (address_goes_on e ConstAddPc before refl refl)) (sym (file_goes_on ConstAddPc before refl refl)) (sym (line_goes_on e ConstAddPc before refl ∙ stays (line_after e before)))
+    (sym (row_stays e ConstAddPc before refl refl))
+step-registers e before (FixedAdvancePc n) =
+    same_registers _ (address_after e (FixedAdvancePc n ∷ before)) (file_after before) (file_after (FixedAdvancePc n ∷ before)) (line_after e before) (line_after e (FixedAdvancePc n ∷ before)) (row_before e before) (row_before e (FixedAdvancePc n ∷ before))
+    (sym (address_goes_on e (FixedAdvancePc n) before refl refl)) (sym (file_goes_on (FixedAdvancePc n) before refl refl)) (sym (line_goes_on e (FixedAdvancePc n) before refl ∙ stays (line_after e before)))
+    (sym (row_stays e (FixedAdvancePc n) before refl refl))
+step-registers e before (SetAddress address) =
+    same_registers address (address_after e (SetAddress address ∷ before)) (file_after before) (file_after (SetAddress address ∷ before)) (line_after e before) (line_after e (SetAddress address ∷ before)) (row_before e before) (row_before e (SetAddress address ∷ before))
+    (sym (address_is e address before)) (sym (file_goes_on (SetAddress address) before refl refl)) (sym (line_goes_on e (SetAddress address) before refl ∙ stays (line_after e before)))
+    (sym (row_stays e (SetAddress address) before refl refl))
+step-registers e before EndSequence = sym (after_end e before)
+step-registers e before (Special adjusted) =
+    let address = address_goes_on e (Special adjusted) before refl refl in
+    same_registers _ (address_after e (Special adjusted ∷ before)) (file_after before) (file_after (Special adjusted ∷ before)) _ (line_after e (Special adjusted ∷ before)) _ (row_before e (Special adjusted ∷ before))
+    (sym address) (sym (file_goes_on (Special adjusted) before refl refl)) (sym (line_goes_on e (Special adjusted) before refl))
+    (sym (row_here e (Special adjusted) before refl refl ∙ address))
+step-registers e before Skipped =
+    same_registers (address_after e before) (address_after e (Skipped ∷ before)) (file_after before) (file_after (Skipped ∷ before)) (line_after e before) (line_after e (Skipped ∷ before)) (row_before e before) (row_before e (Skipped ∷ before))
+    (let address = address_goes_on e Skipped before refl refl in omega (arith, address)) (sym (file_goes_on Skipped before refl refl)) (sym (line_goes_on e Skipped before refl ∙ stays (line_after e before)))
+    (sym (row_stays e Skipped before refl refl))
+
+-- the row of registers
+row_from : Origin → ℕ → Machine → Result (List Row) Cause
+row_from o previous m = line_row o previous m.address m.line m.file >>= λ row. Ok (row ∷ [])
+
+-- what the machine appends is what the sums make
+appended-made : (e : Encoding) (o : Origin) (before : List Instruction) (i : Instruction) → appended e o (registers e before) i ≡ made e o before i
+unfolding made row_from
+appended-made e o before Copy = ap (row_from o (row_before e before)) (step-registers e before Copy)
+appended-made e o before (AdvancePc n) = refl
+appended-made e o before (AdvanceLine z) = refl
+appended-made e o before (SetFile file) = refl
+appended-made e o before ConstAddPc = refl
+appended-made e o before (FixedAdvancePc n) = refl
+appended-made e o before (SetAddress address) = refl
+appended-made e o before EndSequence = refl
+appended-made e o before (Special adjusted) = ap (row_from o (row_before e before)) (step-registers e before (Special adjusted))
+appended-made e o before Skipped = refl
+
+rows-from-registers : (e : Encoding) (o : Origin) (before rest : List Instruction) → rows_from e o before rest ≡ rows_by e o (registers e before) rest
+unfolding rows_from rows_by
+rows-from-registers e o before [] = refl
+rows-from-registers e o before (i ∷ rest) =
+    let one = rows-from-registers e o (i ∷ before) rest ∙ ap (λ (m : Machine). rows_by e o m rest) (sym (step-registers e before i)) in
+    rw (appended-made e o before i, one) refl
+
+at_first : (e : Encoding) → registers e [] ≡ at_start
+unfolding address_after file_after line_after row_before
+at_first e = refl
+
+pub rows-by-machine : (e : Encoding) (o : Origin) (is : List Instruction) → rows_from e o [] is ≡ rows_by e o at_start is
+rows-by-machine e o is = rows-from-registers e o [] is ∙ ap (λ (m : Machine). rows_by e o m is) (at_first e)
