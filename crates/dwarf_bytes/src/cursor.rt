@@ -45,7 +45,7 @@ impl<'a> Cursor<'a> {
         ensures place { result ≡ self.now.place }
         ensures within { result ≤ length self.now.bytes }
     {
-        self.place
+        self.place // of the next byte
     }
 
     /// Moves to a place of the bytes, or to their end.

@@ -1,0 +1,121 @@
+-- A run from its first read to its end.
+use Rattle.std.proofs.Common.{◌≡◌, ℕ, ◌≤◌, true, false, List, [], ◌∷◌, ◌++◌, length, take, refl, sym, ◌∙◌, ap, subst, append_assoc, append-nil, length-append, arith}
+use Rattle.std.specs.Prelude.{Option, None, Some, Result, Ok, Err, OnOk, OnErr, IfSome, is_err, filter}
+use Rattle.std.specs.Io.KnownBytes.{Appends, Consumes, IsAtEnd}
+use Rattle.std.proofs.lemmas.Bool.{false≢true, true≢false}
+use Rattle.addr2line_live.proofs.DeviceLemmas.{appends_nothing, grows_nothing}
+use Rattle.addr2line_live.proofs.LineLemmas.{lines_are, ended_at_feed, open_at_feed}
+use Rattle.addr2line_live.specs.declared.faults.FetchFault.{FetchFault}
+use Rattle.addr2line_live.specs.Devices.{Grows, failures_after}
+use Rattle.addr2line_live.specs.Lines.{has_bytes, lines, ended_lines, open_line}
+use Rattle.addr2line_live.specs.World.{World, no_modules}
+use Rattle.addr2line_live.specs.Output.{replies, requests, questions, Asked, Answers}
+use Rattle.addr2line_live.specs.Progress.{Standing, Reached, Stopped, Continues, Breaks}
+
+pub on_err_at : {T E P : Type 0} (r : Result T E) → is_err r ≡ true → OnErr r P → P
+on_err_at (Ok x) e h = absurd (false≢true e)
+on_err_at (Err x) e h = h
+
+pub on_ok_at : {T E P : Type 0} (r : Result T E) → is_err r ≡ false → OnOk r P → P
+on_ok_at (Ok x) e h = h
+on_ok_at (Err x) e h = absurd (true≢false e)
+
+pub consumes_then : (a b c : Option (List ℕ)) (xs ys : List ℕ) → Consumes a b xs → Consumes b c ys → Consumes a c (xs ++ ys)
+consumes_then None b c xs ys h k = tt
+consumes_then (Some a) None c xs ys h k = absurd h
+consumes_then (Some a) (Some b) None xs ys h k = absurd k
+consumes_then (Some a) (Some b) (Some c) xs ys h k = h ∙ ap (λ (z : List ℕ). xs ++ z) k ∙ sym (append_assoc xs ys c)
+
+pub consumes_nothing : (a : Option (List ℕ)) → Consumes a a []
+consumes_nothing None = tt
+consumes_nothing (Some a) = refl
+
+-- nothing is left, so what was read is all there was
+pub whole_input : (a b : Option (List ℕ)) (read : List ℕ) (P : List ℕ → Type 0) → Consumes a b read → IsAtEnd b → P read → IfSome a P
+whole_input None b read P h k p = tt
+whole_input (Some a) None read P h k p = absurd h
+whole_input (Some a) (Some b) read P h k p = subst P (sym (h ∙ ap (λ (z : List ℕ). read ++ z) k ∙ append-nil read)) p
+
+-- what was read so far, and where it led
+abbrev pub HasRead : Standing → Option (List ℕ) → Option (List ℕ) → Standing → Option (List ℕ) → Type 0
+HasRead start a b now held = (read : List ℕ) × Consumes a b read × Reached start read now held
+
+pub reads_nothing : (start now : Standing) (a : Option (List ℕ)) (held : Option (List ℕ)) → now.world ≡ start.world → now.asked ≡ start.asked → now.written ≡ start.written →
+    held ≡ Some [] → HasRead start a a now held
+unfolding ended_lines open_line
+reads_nothing start now a held w q t h = (
+  [],
+  consumes_nothing a,
+  record {
+    outcomes = [];
+    answered = record { each = refl; asked = let P = λ (z : Option (List (List ℕ × Result (List ℕ) FetchFault))). Grows start.asked z [] in subst P (sym q) (grows_nothing start.asked) };
+    stands = w;
+    holds = h;
+    replied = let P = λ (z : Option (List ℕ)). Appends start.written z [] in subst P (sym t) (appends_nothing start.written);
+  },
+)
+
+pub reads_on : (start now new : Standing) (a b c held held' : Option (List ℕ)) (more : List ℕ) → HasRead start a b now held → Consumes b c more →
+    Continues more now held new held' → HasRead start a c new held'
+reads_on start now new a b c held held' more h k on =
+    (h.0 ++ more, consumes_then a b c h.0 more h.1 k, on start h.0 h.2)
+
+-- the last read gives nothing
+pub reads_no_more : (start now : Standing) (a b c held : Option (List ℕ)) (piece : List ℕ) (n : ℕ) → n ≡ 0 → HasRead start a b now held → Consumes b c (take n piece) → HasRead start a c now held
+reads_no_more start now a b c held piece n none h k =
+    let P : List ℕ → Type 0 = λ z. Consumes b c z in
+    let Q : List ℕ → Type 0 = λ z. Consumes a c z in
+    (h.0, subst Q (append-nil h.0) (consumes_then a b c h.0 [] h.1 (subst P (ap (λ (z : ℕ). take z piece) none) k)), h.2)
+
+-- a break in a piece
+pub reads_and_breaks : (start now : Standing) (asked : Option (List (List ℕ × Result (List ℕ) FetchFault))) (written : Option (List ℕ)) (a b c held : Option (List ℕ)) (piece : List ℕ) → HasRead start a b now held → Consumes b c piece →
+    length piece ≤ 4096 → Breaks piece now held asked written →
+    (read past : List ℕ) × Consumes a c (read ++ past) × (length past ≤ 4096) × Stopped start read asked written
+reads_and_breaks start now asked written a b c held piece h k fits on =
+    let w = on start h.0 h.2 in
+    let P : List ℕ → Type 0 = λ z. Consumes a c z in (
+      h.0 ++ w.0,
+      w.1,
+      subst P (ap (λ (z : List ℕ). h.0 ++ z) w.2 ∙ sym (append_assoc h.0 w.0 w.1)) (consumes_then a b c h.0 piece h.1 k),
+      omega (arith, ap length w.2, length-append w.0 w.1),
+      w.4,
+    )
+
+-- a line feed after the end changes no line
+feed_at_end : (read : List ℕ) → lines (read ++ 10 ∷ []) ≡ lines read
+feed_at_end read = lines_are (read ++ 10 ∷ []) ∙ ap (λ (z : List ℕ). ended_lines (read ++ 10 ∷ []) ++ filter has_bytes (z ∷ [])) (open_at_feed read)
+    ∙ append-nil (ended_lines (read ++ 10 ∷ [])) ∙ ended_at_feed read ∙ sym (lines_are read)
+
+pub ends_well : (start now new : Standing) (a b held held' : Option (List ℕ)) → start.world ≡ no_modules → HasRead start a b now held → IsAtEnd b →
+    Continues (10 ∷ []) now held new held' → IfSome a (λ input. Answers (lines input) start.asked new.asked start.written new.written)
+ends_well start now new a b held held' fresh h end on =
+    let r = on start h.0 h.2 in
+    let same : ended_lines (h.0 ++ 10 ∷ []) ≡ lines h.0 = ended_at_feed h.0 ∙ sym (lines_are h.0) in
+    let P : List (List ℕ) → Type 0 = λ z. Asked start.asked new.asked (questions (requests z)) r.outcomes in
+    let Q : List (List ℕ) → Type 0 = λ z. Appends start.written new.written (replies start.world (requests z) r.outcomes) in
+    let W : World → Type 0 = λ z. Appends start.written new.written (replies z (requests (lines h.0)) r.outcomes) in
+    whole_input a b h.0 (λ input. Answers (lines input) start.asked new.asked start.written new.written) h.1 end
+    (record { outcomes = r.outcomes; answered = subst P same r.answered; replied = subst W fresh (subst Q same r.replied) })
+
+nil_of_length : (xs : List ℕ) → length xs ≡ 0 → xs ≡ []
+nil_of_length [] e = refl
+nil_of_length (x ∷ xs) e = absurd (omega (arith, e))
+
+-- a break at the end of input
+pub ends_badly : (start now : Standing) (asked : Option (List (List ℕ × Result (List ℕ) FetchFault))) (written : Option (List ℕ)) (a b held : Option (List ℕ)) → HasRead start a b now held → Breaks (10 ∷ []) now held asked written →
+    (read past : List ℕ) × Consumes a b (read ++ past) × (length past ≤ 4096) × Stopped start read asked written
+ends_badly start now asked written a b held h on =
+    let w = on start h.0 h.2 in
+    let none_more : w.0 ≡ [] = nil_of_length w.0 (omega (arith, ap length w.2, length-append w.0 w.1, w.3)) in
+    let P : List ℕ → Type 0 = λ z. Consumes a b z in
+    let Q : List ℕ → Type 0 = λ z. Stopped start z asked written in (
+      h.0,
+      [],
+      subst P (sym (append-nil h.0)) h.1,
+      omega arith,
+      subst Q (ap (λ (z : List ℕ). h.0 ++ z) none_more ∙ append-nil h.0) w.4,
+    )
+
+pub failures_at_ok : {T E : Type 0} (n : ℕ) (r : Result T E) → is_err r ≡ false → failures_after n r ≡ n
+failures_at_ok n (Ok x) e = refl
+failures_at_ok n (Err x) e = absurd (true≢false e)

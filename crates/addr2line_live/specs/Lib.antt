@@ -1,0 +1,17 @@
+pub mod Devices
+pub mod Printable
+pub mod Numerals
+pub mod Pending
+pub mod Lines
+pub mod Requests
+pub mod Commands
+pub mod Frames
+pub mod Decoded
+pub mod World
+pub mod Replies
+pub mod Told
+pub mod Text
+pub mod Kept
+pub mod Output
+pub mod Progress
+pub mod Serving

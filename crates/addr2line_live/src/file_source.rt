@@ -1,0 +1,60 @@
+//! Objects that are read from files.
+
+ghost use Rattle.std.specs.Prelude.{◌≤◌, ◌^◌, IfOk, vec_len, None};
+
+use crate::devices::Objects;
+use crate::faults::FetchFault;
+use std::alloc::Global;
+use std::fs;
+use std::io::Read;
+use std::rt::Files;
+
+/// The most bytes of an object.
+const MAX_BYTES: usize = 1 << 30;
+
+/// Reads objects from files. It does not tell what it was asked.
+#[derive(Drop)]
+pub struct FileSource<'a, R: Files> {
+    alloc: Global,
+    files: &'a R,
+}
+
+impl<'a, R: Files> FileSource<'a, R> {
+    pub fn new(alloc: Global, files: &'a R) -> FileSource<'a, R> {
+        FileSource { alloc, files }
+    }
+}
+
+/// All bytes of a reader: too large over the limit of an object's bytes.
+fn read_object<F: Read>(alloc: Global, file: &mut F) -> Result<Vec<u8>, FetchFault>
+    ensures { IfOk result (λ bytes. vec_len bytes ≤ 2 ^ 30) }
+{
+    let mut bytes = Vec::new(alloc);
+    let mut piece = [0u8; 65536];
+    for _ in 0..u64::MAX {
+        let Ok(count) = file.read(&mut piece) else {
+            return Err(FetchFault::File);
+        };
+        if count == 0 {
+            return Ok(bytes);
+        }
+        if count > MAX_BYTES - bytes.len() {
+            return Err(FetchFault::TooLarge);
+        }
+        if bytes.extend_from_slice(&piece[..count]).is_err() {
+            return Err(FetchFault::Memory);
+        }
+    }
+    Err(FetchFault::TooLarge)
+}
+
+impl<'a, R: Files> Objects for FileSource<'a, R> {
+    ghost asked = { λ _. None };
+
+    fn fetch(&mut self, path: &str) -> Result<Vec<u8>, FetchFault> {
+        match fs::open(self.files, path) {
+            Ok(mut file) => read_object(self.alloc, &mut file),
+            Err(_) => Err(FetchFault::File),
+        }
+    }
+}
