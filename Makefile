@@ -14,3 +14,4 @@ check:
 
 bench:
 	bench/run.sh
+	bench/answers.sh
