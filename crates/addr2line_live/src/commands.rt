@@ -1,4 +1,5 @@
-// What a line asks for.
+//! What a line asks for.
+
 ghost use Rattle.std.specs.Prelude.{◌≡◌, ◌∷◌, [], List, option_map, MatchOption, IsTrue, ◌↔◌, IfSome, option_copied, position, ◌==◌, if◌then◌else◌, Some, None, true, false, ◌<◌, not};
 ghost use Rattle.std.specs.List.{slice_split, list_all};
 ghost use Rattle.addr2line_live.specs.Requests.{parse, number, is_name, is_path, fields, load_of, checked_load, request_of_fields, address_of, are_digits, hex_value, is_name_byte};
@@ -6,16 +7,29 @@ ghost use Rattle.std.specs.Char.{is_ascii_hexdigit, digit_value};
 ghost use Rattle.addr2line_live.specs.Commands.{parsed, cut_parts};
 
 use std::str;
+use thiserror::Error;
 
 /// Why a line is no request.
-#[derive(Debug, Clone, Copy, PartialEq, Eq)]
+#[derive(Clone, Copy, Debug, PartialEq, Eq, Error)]
 pub enum BadLine {
-    LongLine,
-    Command,
-    Fields,
-    Name,
-    Number,
-    Path,
+    /// It has more than 4,096 bytes.
+    #[error("long-line")]
+    LongLine = 1,
+    /// Its first field names no command, or it is no number.
+    #[error("command")]
+    Command = 2,
+    /// It has too few fields.
+    #[error("fields")]
+    Fields = 3,
+    /// A name is not of 1 to 64 letters, digits, `_`, `-` and `.`.
+    #[error("name")]
+    Name = 4,
+    /// A number is not of 1 to 16 hexadecimal digits.
+    #[error("number")]
+    Number = 5,
+    /// A path is empty, has a NUL, or is no UTF-8.
+    #[error("path")]
+    Path = 6,
 }
 
 /// What a line asks for.

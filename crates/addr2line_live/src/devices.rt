@@ -1,4 +1,5 @@
-// What the command loop reads from, writes to and asks for objects.
+//! What the command loop reads from, writes to and asks for objects.
+
 ghost use Rattle.std.specs.Prelude.{◌≡◌, ◌≢◌, ℕ, ◌+◌, ◌-◌, ◌*◌, ◌<◌, ◌≤◌, ◌^◌, List, [], ◌∷◌, ◌++◌, length, take, drop, Option, None, Some, Result, IfOk, OnErr, OnOk, IfErr, MatchResult, is_ok};
 ghost use Rattle.std.specs.Io.{ReadsAtMost, WritesAtMost};
 ghost use Rattle.std.specs.Io.KnownBytes.{ReadConsumes, WriteAppends, Keeps, Appends};
@@ -7,9 +8,11 @@ ghost use Rattle.addr2line_live.specs.declared.faults.FetchFault.{FetchFault};
 
 use crate::faults::FetchFault;
 use std::io::{Read, Write};
+use thiserror::Error;
 
 /// A read, a write or a flush that failed.
-#[derive(Debug, Drop, Clone, Copy)]
+#[derive(Clone, Copy, Debug, PartialEq, Eq, Error)]
+#[error("the device failed")]
 pub struct DeviceFault;
 
 /// A reader of bytes that counts its failures and has a bounded number of reads.
@@ -63,7 +66,11 @@ pub struct Device<T: Drop> {
 }
 
 impl<T: Drop> Device<T> {
-    pub fn new(inner: T) -> Self {
+    /// A device that has not failed, and has 2^64-1 reads of some bytes left.
+    pub fn new(inner: T) -> Self
+        ensures failures { result.failures ≡ 0 }
+        ensures reads { result.reads_left ≡ 2 ^ 64 - 1 }
+    {
         Device {
             inner,
             reads_left: u64::MAX,

@@ -1,4 +1,5 @@
-// The line that is being read.
+//! The line that is being read.
+
 ghost use Rattle.std.specs.Prelude.{◌≡◌, ℕ, ◌≤◌, List, [], Option, None, Some, take, if◌then◌else◌, option_copied, IsTrue, ◌↔◌};
 ghost use Rattle.addr2line_live.specs.Lines.{longer};
 

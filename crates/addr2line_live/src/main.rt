@@ -20,6 +20,8 @@ mod replies;
 mod serving;
 mod session;
 mod streams;
+#[cfg(test)]
+mod tests;
 
 use std::process::ExitCode;
 
