@@ -9,6 +9,7 @@ gcc -O2 -o out/leb bench/leb.c
 gcc -O2 -o out/lines bench/lines.c
 [ -f out/leb.bin ] || out/leb make out/leb.bin 100000000
 [ -f out/objects/large ] || tools/make_objects.sh out/objects
+[ -f out/objects/hundred ] || tools/repeat_lines.sh out/objects/large out/objects/hundred
 
 # The least of five times in milliseconds that a command prints last, as `.., N ms`.
 best() {
@@ -23,3 +24,5 @@ compare() {
 
 compare 'LEB128, 100 MB' "$(best $measure leb out/leb.bin)" "$(best out/leb out/leb.bin)"
 compare 'line programs of a C++ program' "$(best $measure lines out/objects/large)" "$(best out/lines out/objects/large)"
+compare 'line programs, 100 MB' "$(best $measure lines out/objects/hundred)" "$(best out/lines out/objects/hundred)"
+$measure values out/objects/large
