@@ -160,7 +160,7 @@ matrix-chain e o bytes place rows is =
     subst (λ (r : List Row). IsChain o.program false 0 r) (ok_is {E = Cause} found rows h2) (any_address o.program false (row_before e []) 0 found refl opened)))
 
 -- the rows of a program
-program-chain : (s : LineSections) (number place : ℕ) (program : Program) → program_at_place s number place ≡ Ok program → IsChain (record { 0 = number }) false 0 program.rows
+pub program-chain : (s : LineSections) (number place : ℕ) (program : Program) → program_at_place s number place ≡ Ok program → IsChain (record { 0 = number }) false 0 program.rows
 unfolding program_at_place
 program-chain s number place program h =
     let P : Type 0 = IsChain (record { 0 = number }) false 0 program.rows in
@@ -194,7 +194,7 @@ chain-continues program has_row previous (row ∷ []) rest chain further = (ende
 chain-continues program has_row previous (row ∷ next ∷ rows) rest chain further =
     (λ e. (chain.2.0 ∙ sym chain.0, chain.2.1 (ap not e)), chain-continues program (not row.«end») row.address (next ∷ rows) rest chain.2 further)
 
-found_at : (s : LineSections) (before : List Program) (place : ℕ) (program : Program) (after : ℕ) → next_program s before place ≡ Ok (Item program after) → program_at_place s (length before) place ≡ Ok program
+pub found_at : (s : LineSections) (before : List Program) (place : ℕ) (program : Program) (after : ℕ) → next_program s before place ≡ Ok (Item program after) → program_at_place s (length before) place ≡ Ok program
 found_at s before place x after h =
     let P : Type 0 = program_at_place s (length before) place ≡ Ok x in
     chosen (nat_le (length s.line) place) (Ok (End place)) (program_at_place s (length before) place >>= λ program. Ok (Item program program.past)) (Ok (Item x after)) h P (λ _ e. cc) (λ _ e.

@@ -1,7 +1,8 @@
 //! What is true of all line programs.
 
 ghost use Rattle.std.specs.Prelude.{◌≡◌, ◌<◌, ◌≤◌, ◌↔◌, ℕ, List, [], length, drop, map, Ok, None};
-ghost use Rattle.std.specs.List.Sorted.{IsStrictlyIncreasing};
+ghost use Rattle.std.specs.List.Sorted.{IsStrictlyIncreasing, IsNonDecreasingBy};
+ghost use Rattle.dwarf_lines.specs.declared.row.Row.{Row};
 ghost use Rattle.dwarf_lines.specs.declared.row.Origin.{Origin};
 ghost use Rattle.dwarf_lines.specs.declared.instruction.Instruction.{Instruction};
 ghost use Rattle.dwarf_lines.specs.Instructions.{Encoding, instruction_at, reading_of};
@@ -15,6 +16,12 @@ ghost use Rattle.dwarf_lines.specs.Lines.{Lines, lines_in, HaveNext};
 /// A row that does not end its sequence has a next row, of its program and at no lower address.
 pub fn rows_have_next()
     ensures { (s : LineSections) (lines : Lines) → lines_in s ≡ Ok lines → HaveNext lines.rows }
+{}
+
+/// The rows of a program stand before those of the next one.
+pub fn rows_are_in_order_of_programs()
+    ensures { (s : LineSections) (lines : Lines) → lines_in s ≡ Ok lines
+        → IsNonDecreasingBy (λ (row : Row). row.program.0) lines.rows }
 {}
 
 /// Each program starts past the one before it.
