@@ -1,7 +1,7 @@
 #!/usr/bin/env python3
 """Compares the rows that `measure rows OBJECT` prints with those that objdump decodes.
 
-objdump prints a row as FILE LINE ADDRESS, with the base name of the file alone, and an end of a
+objdump prints a row as FILE LINE ADDRESS, mostly with the base name of the file alone, and an end of a
 sequence with the line `-`; so base names are compared. Rows are compared in order, all of them.
 """
 import re
@@ -23,7 +23,7 @@ def decoded(path):
         if found["line"] == "-":
             yield address, "end", 0
         else:
-            yield address, found["file"], int(found["line"])
+            yield address, found["file"].rsplit("/", 1)[-1], int(found["line"])
 
 
 def ours(measure, path):
