@@ -1,5 +1,5 @@
 -- What is read of an object.
-use Rattle.std.proofs.Common.{◌≡◌, ℕ, zero, suc, ◌+◌, ◌<◌, ◌≤◌, min, max, true, false, cond, List, [], ◌∷◌, length, take, drop, get_or, map, refl, sym, ◌∙◌, ap, zero-add, arith}
+use Rattle.std.proofs.Common.{◌≡◌, ℕ, zero, suc, ◌+◌, ◌<◌, ◌≤◌, min, max, false, cond, List, [], ◌∷◌, length, take, drop, get_or, map, refl, sym, ◌∙◌, ap, zero-add, arith}
 use Rattle.std.specs.Prelude.{Option, None, Some, Result, Ok, Err, IfOk, unwrap_or, slice_get}
 use Rattle.std.specs.List.{fold, reduce, join_with_byte}
 use Rattle.std.specs.Option.{option_map, option_and_then, option_to_list}
@@ -79,10 +79,6 @@ path_read bytes lines row parts texts s e is told found =
     rw e (ap (λ (z : List (List ℕ)). Some (join_with_byte 47 z)) (told ∙ ap (λ (z : LineSections). map (part_bytes z) parts) is)
     ∙ sym (ap (option_map (path_bytes (line_sections bytes))) found))
 
-pub no_path : (bytes : List ℕ) (lines : Lines) (row : Row) → lines_of bytes ≡ Ok lines → path_of lines row.program row.file ≡ None →
-    IfOk (lines_of bytes) (λ lines. None ≡ path_at bytes lines row)
-no_path bytes lines row e found = rw e (sym (ap (option_map (path_bytes (line_sections bytes))) found))
-
 -- looking through the rows one by one
 moved_nowhere : (o : Option ℕ) → o ≡ option_map (λ n. 0 + n) o
 moved_nowhere None = refl
@@ -101,13 +97,6 @@ row_at [] k d link lt = absurd (omega arith)
 row_at (x ∷ []) k d link lt = absurd (omega arith)
 row_at (x ∷ y ∷ rows) zero d link lt = refl
 row_at (x ∷ y ∷ rows) (suc k) d link lt = row_at (y ∷ rows) k d link (omega arith)
-
-pub row_from_start : (rows : List Row) (link : ℕ) → row_of rows link ≡ row_from 0 rows link
-row_from_start rows link = moved_nowhere (row_of rows link)
-
-pub row_here : (rows : List Row) (k : ℕ) (d : Row) (link : ℕ) → suc k < length rows → covers link (get_or rows k d) (get_or rows (suc k) d) ≡ true → row_from k rows link ≡ Some k
-row_here rows k d link lt here =
-    ap (option_map (λ n. k + n)) (row_at rows k d link lt) ∙ (rw here (ap Some (omega arith)))
 
 pub row_later : (rows : List Row) (k : ℕ) (d : Row) (link : ℕ) → suc k < length rows → covers link (get_or rows k d) (get_or rows (suc k) d) ≡ false →
     row_from k rows link ≡ row_from (suc k) rows link

@@ -4,8 +4,8 @@ use Rattle.std.specs.Prelude.{Option, Some, Result, Ok, Err}
 use Rattle.std.specs.List.{flat_map, join_with_byte}
 use Rattle.std.specs.Io.KnownBytes.{Appends}
 use Rattle.std.proofs.lemmas.List.Concat.{flat_map_single}
-use Rattle.addr2line_live.proofs.DeviceLemmas.{appends_then, appends_nothing}
-use Rattle.addr2line_live.specs.Devices.{IsBeginning, Writes}
+use Rattle.addr2line_live.proofs.DeviceLemmas.{appends_then}
+use Rattle.addr2line_live.specs.Devices.{Writes}
 use Rattle.addr2line_live.specs.Pending.{Put, Cut, Puts}
 use Rattle.addr2line_live.specs.Printable.{printable, known_text, pieces}
 use Rattle.std.proofs.lemmas.List.{map-append, length-map}
@@ -32,9 +32,6 @@ cut_more a b h x y p = record {
   begins = (p.begins.0 ++ y, sym (append_assoc p.sent p.begins.0 y) ∙ ap (λ (z : List ℕ). z ++ y) p.begins.1 ∙ append_assoc h x y);
   appended = p.appended;
 }
-
-pub put_nothing : (a : Option (List ℕ)) (h : List ℕ) → Put a a h h []
-put_nothing a h = record { sent = []; kept = append-nil h; appended = appends_nothing a }
 
 -- a text was written, where nothing was held
 pub puts_through : {E : Type 0} (a b : Option (List ℕ)) (h x : List ℕ) (r : Result (Unit {0}) E) → h ≡ [] → Writes a b r x → Puts a b h h r x
@@ -113,9 +110,6 @@ writes_all a b c h text (Ok done) p w =
     subst P (sym p.kept) (appends_then a b c p.sent h p.appended w)
 writes_all a b c h text (Err fault) p w =
     (p.sent ++ w.0, (w.1.0, append_assoc p.sent w.0 w.1.0 ∙ ap (λ (z : List ℕ). p.sent ++ z) w.1.1 ∙ sym p.kept), appends_then a b c p.sent w.0 p.appended w.2)
-
-pub writes_cut : (a b : Option (List ℕ)) (text : List ℕ) → Cut a b [] text → (part : List ℕ) × IsBeginning part text × Appends a b part
-writes_cut a b text p = (p.sent, p.begins, p.appended)
 
 -- ---- a path
 

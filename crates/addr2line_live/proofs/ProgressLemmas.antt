@@ -176,17 +176,6 @@ continues_line now new held ne s start read r =
     served.steps
     (subst W (sym (append-nil (text (step now.world (parse line) served.outcomes).reply))) served.replied)
 
--- one stretch of input, and then another
-pub continues_then : (a b c : Standing) (ha hb hc : Option (List ℕ)) (xs ys : List ℕ) → Continues xs a ha b hb → Continues ys b hb c hc → Continues (xs ++ ys) a ha c hc
-continues_then a b c ha hb hc xs ys h k start read r =
-    let P : List ℕ → Type 0 = λ z. Reached start z c hc in
-    subst P (append_assoc read xs ys) (k start (read ++ xs) (h start read r))
-
-pub continues_nothing : (a : Standing) (ha : Option (List ℕ)) → Continues [] a ha a ha
-continues_nothing a ha start read r =
-    let P : List ℕ → Type 0 = λ z. Reached start z a ha in
-    subst P (sym (append-nil read)) r
-
 -- outcomes that no request takes change nothing
 spare_world : (rs : List (Result Request BadLine)) (world : World) (os os' : List Outcome) → length os ≡ length (questions rs) →
     world_after world rs (os ++ os') ≡ world_after world rs os

@@ -3,7 +3,6 @@ use Rattle.std.specs.Prelude.{◌≡◌, ℕ, List, [], ◌∷◌, ◌++◌, map
 use Rattle.addr2line_live.specs.declared.commands.BadLine.{BadLine}
 use Rattle.addr2line_live.specs.declared.faults.FetchFault.{FetchFault}
 use Rattle.addr2line_live.specs.Requests.{Request, parse}
-use Rattle.addr2line_live.specs.Lines.{lines}
 use Rattle.addr2line_live.specs.World.{World, no_modules}
 use Rattle.addr2line_live.specs.Replies.{Outcome, step, question}
 use Rattle.addr2line_live.specs.Text.{text}
@@ -32,10 +31,6 @@ requests lines = map parse lines
 -- the paths that the source is asked for, in order
 abbrev pub questions : List (Result Request BadLine) → List (List ℕ)
 questions requests = flat_map question requests
-
--- what is written for an input
-unfoldable pub output : List ℕ → List Outcome → List ℕ
-output input outcomes = replies no_modules (requests (lines input)) outcomes
 
 -- each question has one outcome, and the source has been asked these questions, and has answered so
 pub record Asked (old new : Option (List (List ℕ × Result (List ℕ) FetchFault))) (questions : List (List ℕ)) (outcomes : List Outcome) : Type 0 where
