@@ -18,8 +18,8 @@ mod running;
 
 pub use entries::Part;
 pub use laws::{
-    instructions_are_spelled, program_offsets_rise, rows_are_appended_by_the_machine,
-    rows_have_next,
+    instructions_are_spelled, program_offsets_rise, programs_are_spelled,
+    rows_are_appended_by_the_machine, rows_have_next,
 };
 pub use lines::LineTables;
 pub use path::PathParts;
