@@ -60,14 +60,18 @@ address_of sections addr form number = if form == addr_form then Ok number else 
 abbrev pub address_in : Sections → Option Table → Attribute → Result ℕ Cause
 address_in sections addr a = address_of sections addr a.form (number_of a.content)
 
--- what a root tells, in the order in which it is judged
-abbrev pub bases_at : Sections → Format → Die → Result Bases Cause
-bases_at sections format root = do
-  str_offsets ← optional (table_of StrOffsets format sections.debug_str_offsets) (attribute root DW_AT_str_offsets_base)
-  addr ← optional (table_of Addr format sections.debug_addr) (attribute root DW_AT_addr_base)
-  rnglists ← optional (table_of RngLists format sections.debug_rnglists) (attribute root DW_AT_rnglists_base)
-  low_pc ← optional (address_in sections addr) (attribute root DW_AT_low_pc)
+-- what a root tells by its attributes, in the order in which they are judged
+abbrev pub bases_by : Sections → Format → Option Attribute → Option Attribute → Option Attribute → Option Attribute → Result Bases Cause
+bases_by sections format str_offsets addr rnglists low_pc = do
+  str_offsets ← optional (table_of StrOffsets format sections.debug_str_offsets) str_offsets
+  addr ← optional (table_of Addr format sections.debug_addr) addr
+  rnglists ← optional (table_of RngLists format sections.debug_rnglists) rnglists
+  low_pc ← optional (address_in sections addr) low_pc
   Ok (record { str_offsets = str_offsets; addr = addr; rnglists = rnglists; low_pc = low_pc })
+
+abbrev pub bases_at : Sections → Format → Die → Result Bases Cause
+bases_at sections format root =
+    bases_by sections format (attribute root DW_AT_str_offsets_base) (attribute root DW_AT_addr_base) (attribute root DW_AT_rnglists_base) (attribute root DW_AT_low_pc)
 
 -- a unit with its entries, of which the first, if there is one, is the root, and with what the root tells
 pub record CompilationUnit : Type 0 where

@@ -130,13 +130,18 @@ list_at room sections bases place = do
 abbrev pub high_of : Sections → Bases → ℕ → Attribute → Result ℕ Cause
 high_of sections bases low high = if is_among address_forms high.form then address_in sections bases.addr high else Ok (low + number_of high.content)
 
--- what a pair of low_pc and high_pc covers
+-- the range of a pair of low_pc and high_pc
+abbrev pub pair_range : Sections → Bases → Attribute → Attribute → Result (Option Range) Cause
+pair_range sections bases low high = do
+  start ← address_in sections bases.addr low
+  end ← high_of sections bases start high
+  covered (start, end)
+
+-- what it covers, where there is room for one more item
 abbrev pub pair_at : ℕ → Sections → Bases → Attribute → Attribute → Result Covering Cause
 pair_at room sections bases low high = do
   _ ← refuse_if (room == 0) causes.TooMany
-  start ← address_in sections bases.addr low
-  end ← high_of sections bases start high
-  range ← covered (start, end)
+  range ← pair_range sections bases low high
   Ok (record { ranges = option_to_list range; items = 1 })
 
 -- what an entry covers, by its low_pc, high_pc and ranges
