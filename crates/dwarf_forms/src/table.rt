@@ -63,7 +63,7 @@ impl Abbrevs {
     pub fn decls(&self) -> &[Decl]
         ensures { result.now ≡ self.now }
     {
-        &self.decls
+        self.decls.as_slice()
     }
 
     /// The declaration of a code, found in constant time where codes count up from 1, and by the
