@@ -1,0 +1,33 @@
+-- Items of tables that stand past the end of the section.
+use Rattle.std.proofs.Common.{◌≡◌, ℕ, ◌+◌, ◌*◌, ◌<◌, List, true, false, length, refl, arith}
+use Rattle.std.specs.Prelude.{Option, Some, Err, nat_lt, nat_le}
+use Rattle.std.proofs.lemmas.Bool.{lt-ltb}
+use Rattle.dwarf_bytes.specs.declared.fault.Cause.TheVariants as causes
+use Rattle.dwarf_bytes.specs.declared.fault.ReadFault.TheVariants.{Short}
+use Rattle.dwarf_bytes.specs.declared.format.Format.{Format}
+use Rattle.dwarf_bytes.specs.declared.format.Format.TheVariants.{Dwarf32}
+use Rattle.dwarf_bytes.specs.declared.tables.TableKind.{TableKind}
+use Rattle.dwarf_bytes.specs.declared.tables.TableKind.TheVariants.{StrOffsets, Addr, RngLists}
+use Rattle.dwarf_bytes.specs.Numbers.{block_at, fixed_at}
+use Rattle.dwarf_entries.specs.declared.bases.Table.{Table}
+use Rattle.dwarf_entries.specs.Bases.{item_len, item_in, item_at}
+
+fixed-outside : (n : ℕ) (bytes : List ℕ) (at : ℕ) → length bytes < at → fixed_at n bytes at ≡ Err Short
+unfolding fixed_at block_at
+fixed-outside n bytes at h =
+    let past : nat_lt (length bytes) (at + n) ≡ true = lt-ltb (length bytes) (at + n) (omega arith) in rw past refl
+
+item-outside : (kind : TableKind) (format : Format) (bytes : List ℕ) (at : ℕ) → length bytes < at → item_in kind format bytes at ≡ Err Short
+item-outside StrOffsets Dwarf32 bytes at h = fixed-outside 4 bytes at h
+item-outside Addr format bytes at h = fixed-outside 8 bytes at h
+item-outside RngLists Dwarf32 bytes at h = fixed-outside 4 bytes at h
+
+pub item_at-outside : (kind : TableKind) (section : List ℕ) (found : Option Table) (table : Table) (index place : ℕ) → found ≡ Some table → index < table.head.items → place ≡ table.base + item_len kind table.format * index → length section < place →
+    Err causes.Short ≡ item_at kind section found index
+item_at-outside kind section found table index place is within at past =
+    let inside : nat_le table.head.items index ≡ false = lt-leb index table.head.items within in
+    let beyond : length section < table.base + item_len kind table.format * index = omega (arith, at, past) in
+    rw (is, inside, item-outside kind table.format section (table.base + item_len kind table.format * index) beyond) refl
+  where
+    lt-leb : (m n : ℕ) → m < n → nat_le n m ≡ false
+    lt-leb m n h = grind arith

@@ -1,0 +1,4 @@
+pub mod UnitLaws
+pub mod TableLaws
+pub mod BaseLaws
+pub mod RangeLaws

@@ -1,0 +1,78 @@
+-- The turns of the loop over the tables of the units.
+use Rattle.std.proofs.Common.{◌≡◌, ℕ, ◌+◌, ◌-◌, ◌<◌, ◌≤◌, ◌⊎◌, inl, inr, List, [], ◌∷◌, ◌++◌, length, drop, get_or, refl, ap, sym, ◌∙◌, arith, drop-cons, add-one}
+use Rattle.std.specs.Prelude.{Result, Ok, Err, sum_by}
+use Rattle.std.proofs.lemmas.List.Sums.{sum_by-append}
+use Rattle.std.proofs.lemmas.List.{drop_all}
+use Rattle.dwarf_bytes.specs.declared.fault.Section.{Section}
+use Rattle.dwarf_bytes.specs.declared.fault.Section.TheVariants as sections
+use Rattle.dwarf_bytes.specs.declared.fault.LoadFault.{LoadFault}
+use Rattle.dwarf_bytes.specs.Items.{At, each_from, each}
+use Rattle.dwarf_bytes.specs.Refusals.{memory_fault, in_section}
+use Rattle.dwarf_bytes.proofs.EachLaws.{made_front, each-next, each-fault, each-end}
+use Rattle.dwarf_forms.specs.Declarations.{Declaration}
+use Rattle.dwarf_forms.specs.Tables.{declarations_of}
+use Rattle.dwarf_entries.specs.declared.units.UnitHeader.{UnitHeader}
+use Rattle.dwarf_entries.specs.Units.{declarations_limit, tables_of}
+
+abbrev pub table_for : List ℕ → List (List Declaration) → UnitHeader → Result (List Declaration) At
+table_for section before header = declarations_of (declarations_limit - sum_by length before) section header.abbreviations
+
+-- the tables of the units before the index, of which there are so many declarations left
+pub record Judged (section : List ℕ) (units : List UnitHeader) (index left : ℕ) : Type 0 where
+  pub made : List (List Declaration)
+  pub counted : left + sum_by length made ≡ declarations_limit
+  pub read : made_front made (each_from (table_for section) made (drop index units)) ≡ each_from (table_for section) [] units
+
+pub judged_none : (section : List ℕ) (units : List UnitHeader) → Judged section units 0 declarations_limit
+judged_none section units = record { made = []; counted = refl; read = same (each_from (table_for section) [] units) }
+  where
+    same : (r : Result (List (List Declaration)) At) → made_front [] r ≡ r
+    same (Ok x) = refl
+    same (Err e) = refl
+
+in_section_ok : {X : Type 0} (section : Section) (r : Result X At) (x : X) → in_section section r ≡ Ok x → r ≡ Ok x
+in_section_ok section (Ok y) x h = cc
+in_section_ok section (Err e) x h = cc
+
+pub judged_next : (section : List ℕ) (units : List UnitHeader) (index left after : ℕ) (d : UnitHeader) (table : List Declaration) → Judged section units index left → index < length units →
+    in_section sections.DebugAbbrev (declarations_of left section (get_or units index d).abbreviations) ≡ Ok table → after + length table ≡ left → Judged section units (index + 1) after
+judged_next section units index left after d table so_far within found counted =
+    let unit = get_or units index d in
+    let room : left ≡ declarations_limit - sum_by length so_far.made = omega (arith, so_far.counted) in
+    let here : table_for section so_far.made unit ≡ Ok table =
+    ap (λ (k : ℕ). declarations_of k section unit.abbreviations) (sym room) ∙ in_section_ok sections.DebugAbbrev (declarations_of left section unit.abbreviations) table found in
+    let rest : drop index units ≡ unit ∷ drop (index + 1) units = rw (add-one, drop-cons units index d within) refl in
+    let sum : sum_by length (so_far.made ++ table ∷ []) ≡ sum_by length so_far.made + length table = sum_by-append length so_far.made (table ∷ []) ∙ omega arith in
+    record {
+      made = so_far.made ++ table ∷ [];
+      counted = omega (arith, so_far.counted, counted, sum);
+      read = sym (each-next (table_for section) so_far.made unit (drop (index + 1) units) table here)
+          ∙ (ap (λ (us : List UnitHeader). made_front so_far.made (each_from (table_for section) so_far.made us)) (sym rest) ∙ so_far.read);
+    }
+
+pub judged_end : (section : List ℕ) (units : List UnitHeader) (index left : ℕ) → Judged section units index left → length units ≤ index → (tables : List (List Declaration)) × (in_section sections.DebugAbbrev (tables_of section units) ≡ Ok tables)
+unfolding tables_of
+judged_end section units index left so_far past =
+    let none : drop index units ≡ [] = drop_all index units past in
+    let all : each_from (table_for section) [] units ≡ Ok so_far.made =
+    sym so_far.read ∙ (ap (λ (us : List UnitHeader). made_front so_far.made (each_from (table_for section) so_far.made us)) none ∙ each-end (table_for section) so_far.made) in
+    (so_far.made, rw all refl)
+
+pub judged_fault : (section : List ℕ) (units : List UnitHeader) (index left : ℕ) (d : UnitHeader) (fault : LoadFault) → Judged section units index left → index < length units →
+    (fault ≡ memory_fault) ⊎ (in_section sections.DebugAbbrev (declarations_of left section (get_or units index d).abbreviations) ≡ Err fault) → (fault ≡ memory_fault) ⊎ (in_section sections.DebugAbbrev (tables_of section units) ≡ Err fault)
+unfolding tables_of
+judged_fault section units index left d fault so_far within (inl memory) = inl memory
+judged_fault section units index left d fault so_far within (inr bad) = by_read (declarations_of left section (get_or units index d).abbreviations) refl bad
+  where
+    same_err : {X : Type 0} (x y : LoadFault) → (let f : LoadFault → Result X LoadFault = λ z. Err z in f x ≡ f y) → x ≡ y
+    same_err x y h = cc
+
+    by_read : (r : Result (List Declaration) At) → declarations_of left section (get_or units index d).abbreviations ≡ r → in_section sections.DebugAbbrev r ≡ Err fault → (fault ≡ memory_fault) ⊎ (in_section sections.DebugAbbrev (each (table_for section) units) ≡ Err fault)
+    by_read (Ok x) read h = cc
+    by_read (Err e) read h =
+        let room : left ≡ declarations_limit - sum_by length so_far.made = omega (arith, so_far.counted) in
+        let here : table_for section so_far.made (get_or units index d) ≡ Err e = ap (λ (k : ℕ). declarations_of k section (get_or units index d).abbreviations) (sym room) ∙ read in
+        let rest : drop index units ≡ get_or units index d ∷ drop (index + 1) units = rw (add-one, drop-cons units index d within) refl in
+        let all : each_from (table_for section) [] units ≡ Err e =
+        sym so_far.read ∙ (ap (λ (us : List UnitHeader). made_front so_far.made (each_from (table_for section) so_far.made us)) rest ∙ each-fault (table_for section) so_far.made (get_or units index d) (drop (index + 1) units) e here) in
+        inr (rw all (ap (λ (f : LoadFault). Err f) (same_err {X = List Declaration} (record { section = sections.DebugAbbrev; cause = e.0; at = e.1 }) fault h)))

@@ -1,0 +1,5 @@
+use Rattle.dwarf_entries.proofs.TableLaws.{Judged}
+use Rattle.dwarf_entries.proofs.tables.judge_tables.Given as goal
+
+abbrev pub invariant-loop-unit : goal.invariant-loop-unit
+invariant-loop-unit l = Judged l.section l.units l.unit-index l.left

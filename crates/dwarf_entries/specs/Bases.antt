@@ -1,0 +1,86 @@
+-- What a unit's root tells of the whole unit: its tables and its low_pc (DWARF 5, 3.1.1, 7.26 to 7.28).
+use Rattle.std.specs.Prelude.{ℕ, ◌+◌, ◌*◌, List, [], ◌∷◌, Option, Some, None, Result, Ok, Err, nat_le, ◌==◌, if◌then◌else◌}
+use Rattle.dwarf_bytes.specs.declared.fault.Cause.{Cause}
+use Rattle.dwarf_bytes.specs.declared.fault.Cause.TheVariants as causes
+use Rattle.dwarf_bytes.specs.declared.fault.ReadFault.{ReadFault}
+use Rattle.dwarf_bytes.specs.declared.format.Format.{Format}
+use Rattle.dwarf_bytes.specs.declared.tables.TableKind.{TableKind}
+use Rattle.dwarf_bytes.specs.declared.tables.TableKind.TheVariants.{StrOffsets, Addr, RngLists}
+use Rattle.dwarf_bytes.specs.Bind.{◌>>=◌}
+use Rattle.dwarf_bytes.specs.Items.{At, reading, refuse_if, told_at}
+use Rattle.dwarf_bytes.specs.Numbers.{u64_at, offset_len, offset_at}
+use Rattle.dwarf_bytes.specs.Tables.{table_before}
+use Rattle.dwarf_entries.specs.declared.units.UnitHeader.{UnitHeader}
+use Rattle.dwarf_entries.specs.declared.bases.Table.{Table}
+use Rattle.dwarf_entries.specs.declared.bases.Bases.{Bases}
+use Rattle.dwarf_entries.specs.Sections.{Sections}
+use Rattle.dwarf_entries.specs.Attributes.{DW_AT_str_offsets_base, DW_AT_addr_base, DW_AT_rnglists_base, DW_AT_low_pc, number_of}
+use Rattle.dwarf_entries.specs.Entries.{Attribute, Die, attribute}
+
+-- a unit without a root
+abbrev pub no_bases : Bases
+no_bases = record { str_offsets = None; addr = None; rnglists = None; low_pc = None }
+
+-- what is made of an option's value, if there is one
+abbrev pub optional : {X Y : Type 0} → (X → Result Y Cause) → Option X → Result (Option Y) Cause
+optional f None = Ok None
+optional f (Some x) = f x >>= λ y. Ok (Some y)
+
+-- the table at the base that an attribute of the root names
+abbrev pub table_of : TableKind → Format → List ℕ → Attribute → Result Table Cause
+table_of kind format section a = table_before kind format section (number_of a.content) >>= λ head. Ok (record { base = number_of a.content; head = head; format = format })
+
+-- the bytes of an item of a table: an offset, or an address
+abbrev pub item_len : TableKind → Format → ℕ
+item_len StrOffsets format = offset_len format
+item_len Addr format = 8
+item_len RngLists format = offset_len format
+
+abbrev pub item_in : TableKind → Format → List ℕ → ℕ → Result (ℕ × ℕ) ReadFault
+item_in StrOffsets format = offset_at format
+item_in Addr format = u64_at
+item_in RngLists format = offset_at format
+
+-- the item at an index of a table, counted from its base
+abbrev pub item_at : TableKind → List ℕ → Option Table → ℕ → Result ℕ Cause
+item_at kind section None index = Err causes.Base
+item_at kind section (Some table) index = do
+  _ ← refuse_if (nat_le table.head.items index) causes.Index
+  item ← reading (item_in kind table.format section (table.base + item_len kind table.format * index))
+  Ok item.0
+
+-- DW_FORM_addr; the other forms of an address are indexes of .debug_addr
+abbrev pub addr_form : ℕ
+addr_form = 0x01
+
+-- the address that a value of class address is
+abbrev pub address_of : Sections → Option Table → ℕ → ℕ → Result ℕ Cause
+address_of sections addr form number = if form == addr_form then Ok number else item_at Addr sections.debug_addr addr number
+
+abbrev pub address_in : Sections → Option Table → Attribute → Result ℕ Cause
+address_in sections addr a = address_of sections addr a.form (number_of a.content)
+
+-- what a root tells by its attributes, in the order in which they are judged
+abbrev pub bases_by : Sections → Format → Option Attribute → Option Attribute → Option Attribute → Option Attribute → Result Bases Cause
+bases_by sections format str_offsets addr rnglists low_pc = do
+  str_offsets ← optional (table_of StrOffsets format sections.debug_str_offsets) str_offsets
+  addr ← optional (table_of Addr format sections.debug_addr) addr
+  rnglists ← optional (table_of RngLists format sections.debug_rnglists) rnglists
+  low_pc ← optional (address_in sections addr) low_pc
+  Ok (record { str_offsets = str_offsets; addr = addr; rnglists = rnglists; low_pc = low_pc })
+
+abbrev pub bases_at : Sections → Format → Die → Result Bases Cause
+bases_at sections format root =
+    bases_by sections format (attribute root DW_AT_str_offsets_base) (attribute root DW_AT_addr_base) (attribute root DW_AT_rnglists_base) (attribute root DW_AT_low_pc)
+
+-- a unit with its entries, of which the first, if there is one, is the root, and with what the root tells
+pub record CompilationUnit : Type 0 where
+  pub header : UnitHeader
+  pub dies : List Die
+  pub bases : Bases
+
+unfoldable pub unit_of : Sections → UnitHeader → List Die → Result CompilationUnit At
+unit_of sections header [] = Ok (record { header = header; dies = []; bases = no_bases })
+unit_of sections header (root ∷ dies) = do
+  bases ← told_at root.offset (bases_at sections header.format root)
+  Ok (record { header = header; dies = root ∷ dies; bases = bases })

@@ -1,0 +1,10 @@
+pub mod Sections
+pub mod Attributes
+pub mod Units
+pub mod Entries
+pub mod Bases
+pub mod Names
+pub mod Ranges
+pub mod Scopes
+pub mod Steps
+pub mod Values

@@ -1,0 +1,115 @@
+-- References between entries (DWARF 5, 2.13 and 7.5.5) and the names of an entry (2.15, 3.3.8).
+use Rattle.std.specs.Prelude.{ℕ, zero, suc, ◌+◌, ◌-◌, List, [], ◌∷◌, length, Option, Some, None, Result, Ok, Err, ◌==◌, if◌then◌else◌, find, ok_or, option_map, map, flat_map}
+use Rattle.dwarf_bytes.specs.declared.fault.Cause.{Cause}
+use Rattle.dwarf_bytes.specs.declared.fault.Cause.TheVariants as causes
+use Rattle.dwarf_bytes.specs.declared.fault.Section.{Section}
+use Rattle.dwarf_bytes.specs.declared.fault.Section.TheVariants as sections
+use Rattle.dwarf_bytes.specs.declared.tables.TableKind.TheVariants.{StrOffsets}
+use Rattle.dwarf_bytes.specs.Bind.{◌>>=◌}
+use Rattle.dwarf_bytes.specs.Items.{reading}
+use Rattle.dwarf_bytes.specs.Numbers.{text_at}
+use Rattle.dwarf_bytes.specs.Contents.{block_in}
+use Rattle.dwarf_entries.specs.declared.scope.Text.{Text}
+use Rattle.dwarf_entries.specs.declared.bases.Table.{Table}
+use Rattle.dwarf_entries.specs.Sections.{Sections}
+use Rattle.dwarf_entries.specs.Attributes.{DW_AT_abstract_origin, DW_AT_specification, number_of}
+use Rattle.dwarf_entries.specs.Entries.{Attribute, Die, attribute}
+use Rattle.dwarf_entries.specs.Bases.{CompilationUnit, item_at, optional}
+
+-- an entry with its unit
+pub record Member : Type 0 where
+  pub unit : CompilationUnit
+  pub die : Die
+
+-- the entries of some units, in file order
+abbrev pub members_of : List CompilationUnit → List Member
+members_of units = flat_map (λ unit. map (λ die. record { unit = unit; die = die }) unit.dies) units
+
+-- the first of two that is there
+abbrev pub or_else : {X : Type 0} → Option X → Option X → Option X
+or_else (Some x) other = Some x
+or_else None other = other
+
+-- DW_FORM_ref_addr, which counts from the start of the section, and DW_FORM_ref_sig8, which is not followed
+abbrev pub ref_addr : ℕ
+ref_addr = 0x10
+
+abbrev pub ref_sig8 : ℕ
+ref_sig8 = 0x20
+
+abbrev pub followed : Option Attribute → Option Attribute
+followed None = None
+followed (Some a) = if a.form == ref_sig8 then None else Some a
+
+-- the reference to the next entry: abstract_origin, else specification
+abbrev pub next_of : Die → Option Attribute
+next_of die = followed (or_else (attribute die DW_AT_abstract_origin) (attribute die DW_AT_specification))
+
+-- the entry at an offset of .debug_info, among these
+abbrev pub member_at : List Member → ℕ → Result Member Cause
+member_at members offset = ok_or (find (λ m. m.die.offset == offset) members) causes.Reference
+
+-- the entry that a reference in a unit names: one of any unit, or one of the unit, counted from its first byte
+abbrev pub target_of : List CompilationUnit → CompilationUnit → Attribute → Result Member Cause
+target_of units unit a =
+    if a.form == ref_addr then member_at (members_of units) (number_of a.content)
+    else member_at (members_of (unit ∷ [])) (unit.header.start + number_of a.content)
+
+-- the hops that a path may have
+abbrev pub hops_limit : ℕ
+hops_limit = 16
+
+-- an entry, its next entry, and so on to one without, in at most so many hops
+unfoldable pub path_within : ℕ → List CompilationUnit → Member → Result (List Member) Cause
+path_within zero units m = elim (next_of (m.die)) [ None ↦ Ok (m ∷ []) | Some a ↦ Err causes.OriginDepth ]
+path_within (suc hops) units m = elim (next_of (m.die)) [
+  | None ↦ Ok (m ∷ [])
+  | Some a ↦ target_of units m.unit a >>= λ next. path_within hops units next >>= λ rest. Ok (m ∷ rest)
+]
+
+abbrev pub path_of : List CompilationUnit → Member → Result (List Member) Cause
+path_of = path_within hops_limit
+
+-- DW_FORM_string, strp and line_strp; the other forms of a text are indexes of .debug_str_offsets
+abbrev pub string_form : ℕ
+string_form = 0x08
+
+abbrev pub strp : ℕ
+strp = 0x0e
+
+abbrev pub line_strp : ℕ
+line_strp = 0x1f
+
+-- where a text stands
+abbrev pub text : Section → ℕ → ℕ → Text
+text section place len = record { section = section; span = record { place = place; len = len } }
+
+-- the text at an offset of a section
+abbrev pub text_in : Section → List ℕ → ℕ → Result Text Cause
+text_in name section offset = reading (text_at section offset) >>= λ found. Ok (text name offset (length found))
+
+-- the text of an offset or an index, by its form and the table of the unit in which it stands
+abbrev pub text_by : Sections → Option Table → ℕ → ℕ → Result Text Cause
+text_by s str_offsets form number =
+    if form == strp then text_in sections.DebugStr s.debug_str number
+    else (if form == line_strp then text_in sections.DebugLineStr s.debug_line_str number
+    else (item_at StrOffsets s.debug_str_offsets str_offsets number >>= λ offset. text_in sections.DebugStr s.debug_str offset))
+
+-- the text that an attribute is: one of form string stands in the entry, with a NUL behind it
+abbrev pub text_of : Sections → Option Table → Attribute → Result Text Cause
+text_of s str_offsets a =
+    let len = length (block_in a.content) in
+    if a.form == string_form then Ok (text sections.DebugInfo (a.after - 1 - len) len) else text_by s str_offsets a.form (number_of a.content)
+
+-- an attribute of an entry, with the entry's unit
+abbrev pub of_member : ℕ → Member → Option (CompilationUnit × Attribute)
+of_member name m = option_map (λ a. (m.unit, a)) (attribute m.die name)
+
+-- the first attribute of this name on a path
+abbrev pub first_on : ℕ → List Member → Option (CompilationUnit × Attribute)
+first_on name [] = None
+first_on name (m ∷ path) = or_else (of_member name m) (first_on name path)
+
+-- its text
+abbrev pub name_on : ℕ → Sections → List Member → Result (Option Text) Cause
+name_on name s path = optional (λ found. text_of s found.0.bases.str_offsets found.1) (first_on name path)

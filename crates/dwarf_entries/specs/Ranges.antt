@@ -1,0 +1,156 @@
+-- The addresses of an entry (DWARF 5, 2.17 and 7.25).
+use Rattle.std.specs.Prelude.{ℕ, ◌+◌, ◌^◌, List, [], ◌∷◌, length, Option, Some, None, Result, Ok, Err, nat_lt, nat_le, ◌==◌, ◌||◌, if◌then◌else◌, ok_or, option_to_list, flat_map, slice_get}
+use Rattle.dwarf_bytes.specs.declared.fault.Cause.{Cause}
+use Rattle.dwarf_bytes.specs.declared.fault.Cause.TheVariants as causes
+use Rattle.dwarf_bytes.specs.declared.tables.TableKind.TheVariants.{Addr, RngLists}
+use Rattle.dwarf_bytes.specs.Bind.{◌>>=◌}
+use Rattle.dwarf_bytes.specs.Items.{Next, Item, End, reading, refuse_if, untold, items_from}
+use Rattle.dwarf_bytes.specs.Numbers.{u8_at, u64_at, uleb_at}
+use Rattle.dwarf_entries.specs.declared.scope.Range.{Range}
+use Rattle.dwarf_entries.specs.declared.bases.Bases.{Bases}
+use Rattle.dwarf_entries.specs.declared.ranges.RangeListKind.{RangeListKind}
+use Rattle.dwarf_entries.specs.declared.ranges.RangeListKind.TheVariants.{BaseAddressx, StartxEndx, StartxLength, OffsetPair, BaseAddress, StartEnd, StartLength}
+use Rattle.dwarf_entries.specs.declared.ranges.RangeListEntry.{RangeListEntry}
+use Rattle.dwarf_entries.specs.declared.ranges.RangeListEntry.TheVariants.{Base, Covers}
+use Rattle.dwarf_entries.specs.Sections.{Sections}
+use Rattle.dwarf_entries.specs.Attributes.{DW_AT_low_pc, DW_AT_high_pc, DW_AT_ranges, number_of, is_among, address_forms}
+use Rattle.dwarf_entries.specs.Entries.{Attribute, Die, attribute}
+use Rattle.dwarf_entries.specs.Bases.{item_at, address_in}
+
+-- the range from a start up to an end; one with equal ends covers nothing
+abbrev pub covered : ℕ × ℕ → Result (Option Range) Cause
+covered bounds = do
+  _ ← refuse_if (nat_le (2 ^ 64) bounds.0 || nat_le (2 ^ 64) bounds.1) causes.Overflow
+  _ ← refuse_if (nat_lt bounds.1 bounds.0) causes.RangeBackwards
+  Ok (if bounds.0 == bounds.1 then None else Some (record { from = bounds.0; to = bounds.1 }))
+
+-- the kinds by their numbers, DW_RLE_end_of_list to DW_RLE_start_length (7.25, table 7.30); the end of a list is none
+abbrev pub kinds : List (Option RangeListKind)
+kinds = None ∷ Some BaseAddressx ∷ Some StartxEndx ∷ Some StartxLength ∷ Some OffsetPair ∷ Some BaseAddress ∷ Some StartEnd ∷ Some StartLength ∷ []
+
+abbrev pub kind_of : ℕ → Result (Option RangeListKind) Cause
+kind_of number = ok_or (slice_get kinds number) causes.RangeKind
+
+-- the base in force behind these entries of a list: that of the last base entry, else the unit's low_pc
+abbrev pub base_after : Option ℕ → List RangeListEntry → Option ℕ
+base_after low_pc [] = low_pc
+base_after low_pc (Base base ∷ rest) = base_after (Some base) rest
+base_after low_pc (Covers range ∷ rest) = base_after low_pc rest
+
+-- what an entry of a list covers
+abbrev pub ranges_in : RangeListEntry → List Range
+ranges_in (Base base) = []
+ranges_in (Covers range) = option_to_list range
+
+-- an operand in the bytes of .debug_rnglists: an index of .debug_addr, an address, or a number
+abbrev pub index_at : Sections → Bases → List ℕ → ℕ → Result (ℕ × ℕ) Cause
+index_at sections bases lists at = do
+  index ← reading (uleb_at lists at)
+  address ← item_at Addr sections.debug_addr bases.addr index.0
+  Ok (address, index.1)
+
+abbrev pub address_at : List ℕ → ℕ → Result (ℕ × ℕ) Cause
+address_at lists at = reading (u64_at lists at)
+
+abbrev pub number_at : List ℕ → ℕ → Result (ℕ × ℕ) Cause
+number_at lists at = reading (uleb_at lists at)
+
+-- a start and an end, and a start and a length
+abbrev pub start_and_end : (List ℕ → ℕ → Result (ℕ × ℕ) Cause) → List ℕ → ℕ → Result ((ℕ × ℕ) × ℕ) Cause
+start_and_end read lists at = read lists at >>= λ start. read lists start.1 >>= λ end. Ok ((start.0, end.0), end.1)
+
+abbrev pub start_and_length : (List ℕ → ℕ → Result (ℕ × ℕ) Cause) → List ℕ → ℕ → Result ((ℕ × ℕ) × ℕ) Cause
+start_and_length read lists at = read lists at >>= λ start. number_at lists start.1 >>= λ len. Ok ((start.0, start.0 + len.0), len.1)
+
+-- two offsets from the base in force
+abbrev pub offset_pair : Option ℕ → List ℕ → ℕ → Result ((ℕ × ℕ) × ℕ) Cause
+offset_pair base lists at = do
+  start ← number_at lists at
+  end ← number_at lists start.1
+  from ← ok_or base causes.Base
+  Ok ((from + start.0, from + end.0), end.1)
+
+-- an entry that sets the base, and one that covers what is between two bounds
+abbrev pub sets_base : Result (ℕ × ℕ) Cause → Result (RangeListEntry × ℕ) Cause
+sets_base read = read >>= λ new. Ok (Base new.0, new.1)
+
+abbrev pub covers : Result ((ℕ × ℕ) × ℕ) Cause → Result (RangeListEntry × ℕ) Cause
+covers read = read >>= λ bounds. covered bounds.0 >>= λ range. Ok (Covers range, bounds.1)
+
+-- the entry of a kind, by the operands at a place; base is the base in force
+unfoldable pub entry_at : Sections → Bases → Option ℕ → RangeListKind → List ℕ → ℕ → Result (RangeListEntry × ℕ) Cause
+entry_at sections bases base BaseAddressx lists at = sets_base (index_at sections bases lists at)
+entry_at sections bases base StartxEndx lists at = covers (start_and_end (index_at sections bases) lists at)
+entry_at sections bases base StartxLength lists at = covers (start_and_length (index_at sections bases) lists at)
+entry_at sections bases base OffsetPair lists at = covers (offset_pair base lists at)
+entry_at sections bases base BaseAddress lists at = sets_base (address_at lists at)
+entry_at sections bases base StartEnd lists at = covers (start_and_end address_at lists at)
+entry_at sections bases base StartLength lists at = covers (start_and_length address_at lists at)
+
+-- the entry at a place, behind so many in its list, of which there may be as many as there is room for
+abbrev pub listed_behind : ℕ → Sections → Bases → ℕ → Option ℕ → List ℕ → ℕ → Result (Next RangeListEntry) Cause
+listed_behind room sections bases count base lists at = do
+  number ← reading (u8_at lists at)
+  kind ← kind_of number.0
+  elim kind [
+    | None ↦ Ok (End number.1)
+    | Some kind ↦ (do
+      _ ← refuse_if (nat_le room count) causes.TooMany
+      entry ← entry_at sections bases base kind lists number.1
+      Ok (Item entry.0 entry.1))
+  ]
+
+-- the same, behind the entries before it
+abbrev pub listed_at : ℕ → Sections → Bases → List ℕ → List RangeListEntry → ℕ → Result (Next RangeListEntry) Cause
+listed_at room sections bases lists before at = listed_behind room sections bases (length before) (base_after bases.low_pc before) lists at
+
+-- the ranges of a scope, and how many items they were read from
+pub record Covering : Type 0 where
+  pub ranges : List Range
+  pub items : ℕ
+
+-- DW_FORM_rnglistx; the other form of a list is its offset
+abbrev pub rnglistx : ℕ
+rnglistx = 0x23
+
+-- where the list of an attribute stands
+abbrev pub list_place : Sections → Bases → Attribute → Result ℕ Cause
+list_place sections bases a = if a.form == rnglistx then (do
+  offset ← item_at RngLists sections.debug_rnglists bases.rnglists (number_of a.content)
+  table ← ok_or bases.rnglists causes.Base
+  Ok (table.base + offset)) else Ok (number_of a.content)
+
+-- what the range list at a place covers
+unfoldable pub list_at : ℕ → Sections → Bases → ℕ → Result Covering Cause
+list_at room sections bases place = do
+  all ← untold (items_from (length sections.debug_rnglists) (listed_at room sections bases sections.debug_rnglists) [] place)
+  Ok (record { ranges = flat_map ranges_in all.0; items = length all.0 })
+
+-- the end of a pair: an address, or a count from the start
+abbrev pub high_of : Sections → Bases → ℕ → Attribute → Result ℕ Cause
+high_of sections bases low high = if is_among address_forms high.form then address_in sections bases.addr high else Ok (low + number_of high.content)
+
+-- the range of a pair of low_pc and high_pc
+abbrev pub pair_range : Sections → Bases → Attribute → Attribute → Result (Option Range) Cause
+pair_range sections bases low high = do
+  start ← address_in sections bases.addr low
+  end ← high_of sections bases start high
+  covered (start, end)
+
+-- what it covers, where there is room for one more item
+abbrev pub pair_at : ℕ → Sections → Bases → Attribute → Attribute → Result Covering Cause
+pair_at room sections bases low high = do
+  _ ← refuse_if (room == 0) causes.TooMany
+  range ← pair_range sections bases low high
+  Ok (record { ranges = option_to_list range; items = 1 })
+
+-- what an entry covers, by its low_pc, high_pc and ranges
+abbrev pub covers_by : ℕ → Sections → Bases → Option Attribute → Option Attribute → Option Attribute → Result Covering Cause
+covers_by room sections bases None None (Some ranges) = list_place sections bases ranges >>= list_at room sections bases
+covers_by room sections bases low high (Some ranges) = Err causes.PcAndRanges
+covers_by room sections bases None (Some high) None = Err causes.PcAndRanges
+covers_by room sections bases (Some low) (Some high) None = pair_at room sections bases low high
+covers_by room sections bases low None None = Ok (record { ranges = []; items = 0 })
+
+unfoldable pub covers_of : ℕ → Sections → Bases → Die → Result Covering Cause
+covers_of room sections bases die = covers_by room sections bases (attribute die DW_AT_low_pc) (attribute die DW_AT_high_pc) (attribute die DW_AT_ranges)

@@ -1,0 +1,130 @@
+-- The subprograms and inlined subroutines of all units (DWARF 5, 3.3), and the faults of .debug_info.
+use Rattle.std.specs.Prelude.{ℕ, ◌+◌, ◌-◌, List, [], ◌∷◌, length, Bool, Option, Some, None, Result, Ok, ◌==◌, if◌then◌else◌, is_some, option_map, map, flat_map, count_by, sum_by, zip}
+use Rattle.dwarf_bytes.specs.declared.fault.Cause.{Cause}
+use Rattle.dwarf_bytes.specs.declared.fault.Section.TheVariants as names
+use Rattle.dwarf_bytes.specs.declared.fault.LoadFault.{LoadFault}
+use Rattle.dwarf_bytes.specs.Bind.{◌>>=◌}
+use Rattle.dwarf_bytes.specs.Items.{told_at, each}
+use Rattle.dwarf_bytes.specs.Refusals.{in_section}
+use Rattle.dwarf_entries.specs.declared.scope.Text.{Text}
+use Rattle.dwarf_entries.specs.declared.scope.Range.{Range}
+use Rattle.dwarf_entries.specs.declared.scope.ScopeKind.{ScopeKind}
+use Rattle.dwarf_entries.specs.declared.scope.ScopeKind.TheVariants.{Subprogram, Inlined}
+use Rattle.dwarf_entries.specs.Sections.{Sections}
+use Rattle.dwarf_entries.specs.Units.{units_of, tables_of}
+use Rattle.dwarf_entries.specs.Attributes.{DW_AT_name, DW_AT_linkage_name, DW_AT_stmt_list, DW_AT_call_file, DW_AT_call_line, number_of}
+use Rattle.dwarf_entries.specs.Entries.{Die, attribute, below, entries_of}
+use Rattle.dwarf_entries.specs.Bases.{CompilationUnit, unit_of}
+use Rattle.dwarf_entries.specs.Names.{Member, path_of, name_on}
+use Rattle.dwarf_entries.specs.Ranges.{covers_of}
+
+-- what is told of a scope; end is the number of the first later scope that is not below it
+pub record Scope : Type 0 where
+  pub kind : ScopeKind
+  pub offset : ℕ
+  pub number : ℕ
+  pub end : ℕ
+  pub ranges : List Range
+  pub name : Option Text
+  pub linkage_name : Option Text
+  pub stmt_list : Option ℕ
+  pub call_file : Option ℕ
+  pub call_line : Option ℕ
+
+-- what is told of a root: its unit's scopes are those from the number first up to, not including, past
+pub record Root : Type 0 where
+  pub offset : ℕ
+  pub stmt_list : Option ℕ
+  pub first : ℕ
+  pub past : ℕ
+
+pub record Tree : Type 0 where
+  pub roots : List Root
+  pub scopes : List Scope
+
+-- DW_TAG_subprogram and DW_TAG_inlined_subroutine (7.5.3, table 7.3)
+abbrev pub kind_of : ℕ → Option ScopeKind
+kind_of tag = if tag == 0x2e then Some Subprogram else (if tag == 0x1d then Some Inlined else None)
+
+abbrev pub is_scope : Die → Bool
+is_scope die = is_some (kind_of die.tag)
+
+-- a scope before its names and ranges: its entry, its kind, and how many scopes are below it
+pub record Place : Type 0 where
+  pub member : Member
+  pub kind : ScopeKind
+  pub inside : ℕ
+
+-- an entry in front of the places behind it, if it is a scope
+abbrev pub place_of : CompilationUnit → Die → List Die → Option ScopeKind → List Place → List Place
+place_of unit die rest None places = places
+place_of unit die rest (Some kind) places =
+    record { member = record { unit = unit; die = die }; kind = kind; inside = count_by is_scope (below die rest) } ∷ places
+
+-- the scopes among the entries of a unit
+abbrev pub places_in : CompilationUnit → List Die → List Place
+places_in unit [] = []
+places_in unit (die ∷ rest) = place_of unit die rest (kind_of die.tag) (places_in unit rest)
+
+abbrev pub value_of : ℕ → Die → Option ℕ
+value_of name die = option_map (λ a. number_of a.content) (attribute die name)
+
+-- the stmt_list of a unit, which is its root's
+abbrev pub stmt_list_of : List Die → Option ℕ
+stmt_list_of [] = None
+stmt_list_of (root ∷ dies) = value_of DW_AT_stmt_list root
+
+-- the range items that may be read for a module
+abbrev pub items_limit : ℕ
+items_limit = 4194304
+
+-- a scope, and how many range items it was read from
+pub record Judged : Type 0 where
+  pub scope : Scope
+  pub items : ℕ
+
+-- the scope at a place, behind the scopes before it: its path, its names, its ranges
+abbrev pub scope_at : Sections → List CompilationUnit → List Judged → Place → Result Judged Cause
+scope_at sections units before p = do
+  path ← path_of units p.member
+  name ← name_on DW_AT_name sections path
+  linkage_name ← name_on DW_AT_linkage_name sections path
+  let die = p.member.die
+  covering ← covers_of (items_limit - sum_by (λ s. s.items) before) sections p.member.unit.bases die
+  Ok (record {
+    items = covering.items;
+    scope = record {
+      kind = p.kind;
+      offset = die.offset;
+      number = length before;
+      end = length before + 1 + p.inside;
+      ranges = covering.ranges;
+      name = name;
+      linkage_name = linkage_name;
+      stmt_list = stmt_list_of p.member.unit.dies;
+      call_file = value_of DW_AT_call_file die;
+      call_line = value_of DW_AT_call_line die;
+    };
+  })
+
+-- the root of a unit in front of the roots behind it, if the unit has one
+abbrev pub root_of : ℕ → ℕ → List Die → List Root → List Root
+root_of first past [] roots = roots
+root_of first past (root ∷ dies) roots =
+    record { offset = root.offset; stmt_list = value_of DW_AT_stmt_list root; first = first; past = past } ∷ roots
+
+-- the roots of the units, where so many scopes stand before them
+abbrev pub roots_from : ℕ → List CompilationUnit → List Root
+roots_from number [] = []
+roots_from number (unit ∷ units) =
+    let past = number + count_by is_scope unit.dies in root_of number past unit.dies (roots_from past units)
+
+-- Pass by pass over all units: headers, tables, entries, roots, scopes.
+unfoldable pub tree_of : Sections → Result Tree LoadFault
+tree_of s = do
+  headers ← in_section names.DebugInfo (units_of s.debug_info)
+  tables ← in_section names.DebugAbbrev (tables_of s.debug_abbrev headers)
+  dies ← in_section names.DebugInfo (each (λ _ p. entries_of s.debug_info p.0 p.1) (zip headers tables))
+  units ← in_section names.DebugInfo (each (λ _ p. unit_of s p.0 p.1) (zip headers dies))
+  judged ← in_section names.DebugInfo (each (λ before p. told_at p.member.die.offset (scope_at s units before p)) (flat_map (λ unit. places_in unit unit.dies) units))
+  Ok (record { roots = roots_from 0 units; scopes = map (λ j. j.scope) judged })

@@ -1,0 +1,88 @@
+//! What a unit's root tells of the whole unit (DWARF 5, 3.1.1), and the items of its tables (7.26
+//! to 7.28).
+
+ghost use Rattle.std.specs.Prelude.{◌≡◌, ◌+◌, ◌*◌};
+ghost use Rattle.dwarf_bytes.specs.Position.{Reads};
+ghost use Rattle.dwarf_entries.specs.Bases.{item_len, item_in, item_at, address_of};
+ghost use Rattle.dwarf_entries.specs.Sections.{sections_of};
+
+use crate::sections::Sections;
+use dwarf_bytes::{Cause, Cursor, Format, ReadFault, TableHead, TableKind};
+
+/// DW_FORM_addr; the other forms of an address are indexes of `.debug_addr`.
+const ADDR_FORM: u64 = 0x01;
+
+/// A table of a unit: its base, what its header says, and the unit's format.
+#[derive(Clone, Copy, Debug, PartialEq, Eq)]
+pub(crate) struct Table {
+    pub(crate) base: u64,
+    pub(crate) head: TableHead,
+    pub(crate) format: Format,
+}
+
+/// The tables of a unit and its low_pc, each where its root has it.
+#[derive(Clone, Copy, Debug, PartialEq, Eq)]
+pub(crate) struct Bases {
+    pub(crate) str_offsets: Option<Table>,
+    pub(crate) addr: Option<Table>,
+    pub(crate) rnglists: Option<Table>,
+    pub(crate) low_pc: Option<u64>,
+}
+
+/// The bytes of an item of a table.
+fn item_len(kind: TableKind, format: Format) -> u64
+    ensures { result ≡ item_len kind format }
+{
+    match kind {
+        TableKind::StrOffsets | TableKind::RngLists => format.offset_len(),
+        TableKind::Addr => 8,
+    }
+}
+
+/// The item of a table at the cursor.
+fn item(kind: TableKind, format: Format, cursor: &mut Cursor) -> Result<u64, ReadFault>
+    ensures { Reads (λ x. x) result (item_in kind format) cursor.old cursor.new }
+{
+    match kind {
+        TableKind::StrOffsets | TableKind::RngLists => cursor.offset(format),
+        TableKind::Addr => cursor.u64(),
+    }
+}
+
+/// The item at an index of a table, counted from its base.
+pub(crate) fn item_at(
+    kind: TableKind,
+    section: &[u8],
+    table: Option<Table>,
+    index: u64,
+) -> Result<u64, Cause>
+    ensures { result ≡ item_at kind section.now table index }
+{
+    let table = table.ok_or(Cause::Base)?;
+    if index >= table.head.items {
+        return Err(Cause::Index);
+    }
+    let place = u128::from(table.base)
+        + u128::from(item_len(kind, table.format)) * u128::from(index);
+    if place > section.len() as u128 {
+        return Err(Cause::Short);
+    }
+    let mut cursor = Cursor::new(section);
+    cursor.seek(place as usize)?;
+    Ok(item(kind, table.format, &mut cursor)?)
+}
+
+/// The address that a value of class address is.
+pub(crate) fn address_of(
+    sections: &Sections<'_>,
+    addr: Option<Table>,
+    form: u64,
+    number: u64,
+) -> Result<u64, Cause>
+    ensures { result ≡ address_of (sections_of sections.now) addr form number }
+{
+    if form == ADDR_FORM {
+        return Ok(number);
+    }
+    item_at(TableKind::Addr, sections.debug_addr, addr, number)
+}

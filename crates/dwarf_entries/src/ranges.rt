@@ -1,0 +1,223 @@
+//! Range lists (DWARF 5, 2.17.3 and 7.25).
+
+ghost use Rattle.std.specs.Prelude.{◌≡◌, ◌<◌, IsSome, IfOk};
+ghost use Rattle.dwarf_bytes.specs.Refusals.{ReadsField};
+ghost use Rattle.dwarf_forms.specs.Tables.{ReadsNext};
+ghost use Rattle.dwarf_entries.specs.Ranges.{kind_of, covered, index_at, entry_at, listed_behind, list_at, high_of, pair_range};
+ghost use Rattle.dwarf_entries.specs.Bases.{address_in};
+ghost use Rattle.dwarf_entries.specs.Values.{attribute_of};
+ghost use Rattle.dwarf_entries.specs.Steps.{Gives, covering_of};
+ghost use Rattle.dwarf_entries.specs.Sections.{sections_of};
+
+use crate::attributes::{Attribute, is_address, number_of};
+use crate::bases::{Bases, Table, address_of, item_at};
+use crate::scope::Range;
+use crate::sections::Sections;
+use dwarf_bytes::{Cause, Cursor, TableKind};
+use std::alloc::Global;
+
+/// The kinds of range list entries, but the end of a list.
+#[derive(Clone, Copy, Debug, PartialEq, Eq)]
+pub(crate) enum RangeListKind {
+    BaseAddressx,
+    StartxEndx,
+    StartxLength,
+    OffsetPair,
+    BaseAddress,
+    StartEnd,
+    StartLength,
+}
+
+impl RangeListKind {
+    /// The kind of a number; none for the end of a list.
+    fn of(number: u8) -> Result<Option<RangeListKind>, Cause>
+        ensures { result ≡ kind_of number }
+    {
+        Ok(Some(match number {
+            0 => return Ok(None),
+            1 => RangeListKind::BaseAddressx,
+            2 => RangeListKind::StartxEndx,
+            3 => RangeListKind::StartxLength,
+            4 => RangeListKind::OffsetPair,
+            5 => RangeListKind::BaseAddress,
+            6 => RangeListKind::StartEnd,
+            7 => RangeListKind::StartLength,
+            _ => return Err(Cause::RangeKind),
+        }))
+    }
+}
+
+/// An entry of a range list: the base that it sets, or the addresses that it covers, if any.
+#[derive(Clone, Copy, Debug, PartialEq, Eq)]
+pub(crate) enum RangeListEntry {
+    Base(u64),
+    Covers(Option<Range>),
+}
+
+/// The ranges of a scope, and how many items they were read from.
+#[derive(Debug, Drop)]
+pub(crate) struct Covering {
+    pub(crate) ranges: Vec<Range>,
+    pub(crate) items: u64,
+}
+
+/// What the range list at a place of `.debug_rnglists` covers. `room` is how many of its entries
+/// may be counted.
+pub(crate) fn list(
+    alloc: Global,
+    room: u64,
+    sections: &Sections<'_>,
+    bases: &Bases,
+    place: u64,
+) -> Result<Covering, Cause>
+    ensures { Gives (λ covering. covering_of covering) result (list_at room (sections_of sections.now) bases.now place) }
+{
+    let mut cursor = Cursor::new(sections.debug_rnglists);
+    cursor.seek(place as usize)?;
+    let mut ranges = Vec::new(alloc);
+    let mut items = 0;
+    let mut base = bases.low_pc;
+    while let Some(entry) = next_entry(room, items, base, sections, bases, &mut cursor)? {
+        items += 1;
+        match entry {
+            RangeListEntry::Base(new) => base = Some(new),
+            RangeListEntry::Covers(covered) => {
+                if let Some(range) = covered {
+                    ranges.push(range)?;
+                }
+            }
+        }
+    }
+    Ok(Covering { ranges, items })
+}
+
+/// The range from a start up to an end; one with equal ends covers nothing.
+fn covered(start: u128, end: u128) -> Result<Option<Range>, Cause>
+    ensures { result ≡ covered (start, end) }
+{
+    let (Ok(from), Ok(to)) = (u64::try_from(start), u64::try_from(end)) else {
+        return Err(Cause::Overflow);
+    };
+    if to < from {
+        return Err(Cause::RangeBackwards);
+    }
+    if from == to {
+        return Ok(None);
+    }
+    Ok(Some(Range { from, to }))
+}
+
+/// The address of an index of `.debug_addr` at the cursor.
+fn indexed(sections: &Sections<'_>, bases: &Bases, cursor: &mut Cursor) -> Result<u64, Cause>
+    ensures { ReadsField (λ address. address) result (index_at (sections_of sections.now) bases.now) cursor.old cursor.new }
+{
+    let index = cursor.uleb()?;
+    item_at(TableKind::Addr, sections.debug_addr, bases.addr, index)
+}
+
+/// The entry of a kind, by the operands at the cursor. `base` is the base in force.
+#[tactic(auto, unfolding(crate::specs::Ranges::entry_at))]
+fn entry(
+    kind: RangeListKind,
+    base: Option<u64>,
+    sections: &Sections<'_>,
+    bases: &Bases,
+    cursor: &mut Cursor,
+) -> Result<RangeListEntry, Cause>
+    ensures { ReadsField (λ entry. entry) result (entry_at (sections_of sections.now) bases.now base kind) cursor.old cursor.new }
+{
+    let (start, end) = match kind {
+        RangeListKind::BaseAddressx => {
+            return Ok(RangeListEntry::Base(indexed(sections, bases, cursor)?));
+        }
+        RangeListKind::BaseAddress => return Ok(RangeListEntry::Base(cursor.u64()?)),
+        RangeListKind::StartxEndx => {
+            let start = indexed(sections, bases, cursor)?;
+            (
+                u128::from(start),
+                u128::from(indexed(sections, bases, cursor)?),
+            )
+        }
+        RangeListKind::StartxLength => {
+            let start = u128::from(indexed(sections, bases, cursor)?);
+            (start, start + u128::from(cursor.uleb()?))
+        }
+        RangeListKind::OffsetPair => {
+            let start = u128::from(cursor.uleb()?);
+            let end = u128::from(cursor.uleb()?);
+            let base = u128::from(base.ok_or(Cause::Base)?);
+            (base + start, base + end)
+        }
+        RangeListKind::StartEnd => {
+            let start = u128::from(cursor.u64()?);
+            (start, u128::from(cursor.u64()?))
+        }
+        RangeListKind::StartLength => {
+            let start = u128::from(cursor.u64()?);
+            (start, start + u128::from(cursor.uleb()?))
+        }
+    };
+    Ok(RangeListEntry::Covers(covered(start, end)?))
+}
+
+/// The next entry of a list behind `count` of them, or none at the list's end. `room` is how many
+/// entries may be counted, and `base` the base in force.
+fn next_entry(
+    room: u64,
+    count: u64,
+    base: Option<u64>,
+    sections: &Sections<'_>,
+    bases: &Bases,
+    cursor: &mut Cursor,
+) -> Result<Option<RangeListEntry>, Cause>
+    ensures reads { ReadsNext result (listed_behind room (sections_of sections.now) bases.now count base) cursor.old cursor.new }
+    ensures room { IfOk result (λ next. IsSome next → count < room) }
+{
+    let Some(kind) = RangeListKind::of(cursor.u8()?)? else {
+        return Ok(None);
+    };
+    if count >= room {
+        return Err(Cause::TooMany);
+    }
+    Ok(Some(entry(kind, base, sections, bases, cursor)?))
+}
+
+/// The address of an attribute of class address.
+fn address(
+    sections: &Sections<'_>,
+    addr: Option<Table>,
+    attribute: &Attribute<'_>,
+) -> Result<u64, Cause>
+    ensures { result ≡ address_in (sections_of sections.now) addr (attribute_of attribute.now) }
+{
+    address_of(sections, addr, attribute.form, number_of(attribute.content))
+}
+
+/// The end of a pair: an address, or a count from the start.
+fn high(
+    sections: &Sections<'_>,
+    bases: &Bases,
+    low: u64,
+    high: &Attribute<'_>,
+) -> Result<u128, Cause>
+    ensures { result ≡ high_of (sections_of sections.now) bases.now low (attribute_of high.now) }
+{
+    if is_address(high.form) {
+        return Ok(u128::from(address(sections, bases.addr, high)?));
+    }
+    Ok(u128::from(low) + u128::from(number_of(high.content)))
+}
+
+/// The range of a pair of low_pc and high_pc, if it covers anything.
+pub(crate) fn pair(
+    sections: &Sections<'_>,
+    bases: &Bases,
+    low_pc: &Attribute<'_>,
+    high_pc: &Attribute<'_>,
+) -> Result<Option<Range>, Cause>
+    ensures { result ≡ pair_range (sections_of sections.now) bases.now (attribute_of low_pc.now) (attribute_of high_pc.now) }
+{
+    let start = address(sections, bases.addr, low_pc)?;
+    let end = high(sections, bases, start, high_pc)?;
+    covered(u128::from(start), end)
+}
