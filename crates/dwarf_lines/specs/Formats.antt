@@ -37,14 +37,14 @@ abbrev pub layout_of : ℕ → Option ValueLayout
 layout_of form = direct (form_of form)
 
 -- The form of a field is one for its content: a text for a path, a count for a directory index, and any that can be
--- passed over for another content (own).
+-- passed over for another content (our choice).
 abbrev pub has_good_form : EntryTable → Field → Bool
 has_good_form table field =
     if is_path field then is_text_form field.form
     else if is_index table field then is_index_form field.form
     else is_some (layout_of field.form)
 
--- A path stands exactly once, a directory index once at most (own).
+-- A path stands exactly once, a directory index once at most (our choice).
 abbrev pub is_format : EntryTable → List Field → Bool
 is_format table fields =
     (count_by is_path fields == 1)

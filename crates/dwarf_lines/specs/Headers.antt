@@ -38,7 +38,7 @@ bounds_at line place = do
 abbrev pub standard_lengths : List ℕ
 standard_lengths = 0 ∷ 1 ∷ 1 ∷ 1 ∷ 1 ∷ 0 ∷ 0 ∷ 0 ∷ 1 ∷ 0 ∷ 0 ∷ 1 ∷ []
 
--- whether the lengths of opcodes, from opcode 1 on, are the standard's where it has one (own)
+-- whether the lengths of opcodes, from opcode 1 on, are the standard's where it has one (our choice)
 abbrev pub are_standard : List ℕ → Bool
 are_standard lengths = list_all (λ pair. pair.0 == pair.1) (zip lengths standard_lengths)
 

@@ -15,7 +15,7 @@ texts_of current number directory file =
     else if (number == 0) || directory.absolute then directory ∷ file ∷ []
     else current ∷ directory ∷ file ∷ []
 
--- an empty part is left out, with its slash (own)
+-- An empty part is left out, with its slash.
 abbrev pub nonempty_parts : List PathText → List Part
 nonempty_parts texts = filter (λ part. nat_lt 0 part.span.len) (map (λ text. text.part) texts)
 
