@@ -21,6 +21,14 @@ pub fn two_sequences() -> [u8; 97] {
     line
 }
 
+/// Both, one after the other.
+pub fn two_programs() -> [u8; 172] {
+    let mut line = [0; 172];
+    line[..75].copy_from_slice(&INLINED[259..334]);
+    line[75..].copy_from_slice(&TWO_SEQUENCES[259..356]);
+    line
+}
+
 /// The first sample's header with these instructions behind it.
 pub fn with_instructions(alloc: Global, instructions: &[u8]) -> Result<Vec<u8>, AllocError> {
     let mut line = Vec::new(alloc);
@@ -70,6 +78,15 @@ pub fn fault(cause: Cause, at: u64) -> LoadFault {
         section: Section::DebugLine,
         cause,
         at,
+    }
+}
+
+/// Want of memory.
+pub fn memory_fault() -> LoadFault {
+    LoadFault {
+        section: Section::Elf,
+        cause: Cause::Memory,
+        at: 0,
     }
 }
 

@@ -94,9 +94,7 @@ fn rows_of_one_and_two_sequences(rt: HostRuntime) -> Result<(), Fail> {
 
 #[test]
 fn programs_start_where_the_last_one_ends(rt: HostRuntime) -> Result<(), Fail> {
-    let mut line = one_sequence().to_vec(rt.alloc())?;
-    line.extend_from_slice(&two_sequences())?;
-    let tables = LineTables::read(rt.alloc(), line.as_slice(), &[], &[])?;
+    let tables = LineTables::read(rt.alloc(), &two_programs(), &[], &[])?;
     assert_eq!(rt; tables.program_at(0), Some(ProgramNo(0)));
     assert_eq!(rt; tables.program_at(75), Some(ProgramNo(1)));
     for offset in [1, 74, 76, 172, u64::MAX] {
@@ -215,4 +213,16 @@ fn no_programs(rt: HostRuntime) -> Result<(), Fail> {
     assert_eq!(rt; tables.rows().len(), 0);
     assert_eq!(rt; tables.program_at(0), None);
     Ok(())
+}
+
+// Each allocation can be made to fail by the way in which the tests are run.
+#[test]
+fn want_of_memory_is_the_only_other_answer(rt: HostRuntime) {
+    match LineTables::read(rt.alloc(), &two_programs(), &[], &[]) {
+        Ok(tables) => {
+            assert_eq!(rt; tables.rows().len(), 8);
+            assert_eq!(rt; tables.program_at(75), Some(ProgramNo(1)));
+        }
+        Err(fault) => assert_eq!(rt; fault, memory_fault()),
+    }
 }
