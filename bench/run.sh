@@ -25,4 +25,5 @@ compare() {
 compare 'LEB128, 100 MB' "$(best $measure leb out/leb.bin)" "$(best out/leb out/leb.bin)"
 compare 'line programs of a C++ program' "$(best $measure lines out/objects/large)" "$(best out/lines out/objects/large)"
 compare 'line programs, 100 MB' "$(best $measure lines out/objects/hundred)" "$(best out/lines out/objects/hundred)"
+$measure declarations out/objects/large
 $measure values out/objects/large

@@ -37,6 +37,39 @@ pub fn read(alloc: Global, bytes: &[u8]) -> Result<Counts, LoadFault> {
         values: 0,
     };
     let mut left = DECLARATIONS;
+    for unit in &units(alloc, info)? {
+        let table = Abbrevs::read(alloc, abbrev, unit.abbreviations, &mut left)?;
+        counts.units = counts.units.wrapping_add(1);
+        read_entries(info, unit, &table, &mut counts);
+    }
+    counts.declarations = DECLARATIONS.saturating_sub(left);
+    Ok(counts)
+}
+
+/// Reads the tables of all units so many times, and counts their declarations.
+pub fn count_declarations(alloc: Global, bytes: &[u8], rounds: u64) -> Result<u64, LoadFault> {
+    let layout = Object::find(bytes)?;
+    let abbrev = layout.debug_abbrev.of(bytes);
+    let units = units(alloc, layout.debug_info.of(bytes))?;
+    let mut count = 0u64;
+    for _ in 0..rounds {
+        count = count.wrapping_add(read_tables(alloc, abbrev, &units)?);
+    }
+    Ok(count)
+}
+
+/// Reads the table of each unit, and counts their declarations.
+fn read_tables(alloc: Global, abbrev: &[u8], units: &[Unit]) -> Result<u64, LoadFault> {
+    let mut left = DECLARATIONS;
+    for unit in units {
+        let _ = Abbrevs::read(alloc, abbrev, unit.abbreviations, &mut left)?;
+    }
+    Ok(DECLARATIONS.saturating_sub(left))
+}
+
+/// All units, one after the other.
+fn units(alloc: Global, info: &[u8]) -> Result<Vec<Unit>, LoadFault> {
+    let mut units = Vec::new(alloc);
     let mut place = 0;
     for _ in 0..info.len() {
         if place >= info.len() {
@@ -45,15 +78,14 @@ pub fn read(alloc: Global, bytes: &[u8]) -> Result<Counts, LoadFault> {
         match read_unit(info, place) {
             Ok(unit) => {
                 place = unit.end;
-                let table = Abbrevs::read(alloc, abbrev, unit.abbreviations, &mut left)?;
-                counts.units = counts.units.wrapping_add(1);
-                read_entries(info, &unit, &table, &mut counts);
+                if units.push(unit).is_err() {
+                    return Err(LoadFault::told(Section::DebugInfo, Cause::Memory, 0));
+                }
             }
             Err(cause) => return Err(LoadFault::told(Section::DebugInfo, cause, place as u64)),
         }
     }
-    counts.declarations = DECLARATIONS.saturating_sub(left);
-    Ok(counts)
+    Ok(units)
 }
 
 /// The unit at a place; of other types than 1 and 3 without its entries.

@@ -1,7 +1,8 @@
 //! Measures the readers, and shows what they read:
 //! `measure leb FILE` reads the LEB128 numbers of a file from end to end,
 //! `measure lines OBJECT` reads the line programs of an object,
-//! `measure rows OBJECT` prints their rows, and
+//! `measure rows OBJECT` prints their rows,
+//! `measure declarations OBJECT` reads its abbreviation tables 1,000 times, and
 //! `measure values OBJECT` reads the abbreviation tables and the values of all entries.
 #![tactic(auto)]
 
@@ -16,13 +17,14 @@ use std::{env, fs};
 fn main(rt: HostRuntime) -> Result<()> {
     let words: Vec<String> = env::args(&rt)?.skip(1).collect(rt.alloc())?;
     if words.len() != 2 {
-        println!(rt; "usage: measure leb|lines|rows|values FILE")?;
+        println!(rt; "usage: measure leb|lines|rows|declarations|values FILE")?;
         return Ok(());
     }
     let bytes = fs::read(&rt, words[1].as_str()).context("reading the file")?;
     match words[0].as_str() {
         "leb" => measure_leb(&rt, &bytes),
         "lines" => measure_lines(&rt, &bytes),
+        "declarations" => measure_declarations(&rt, &bytes),
         "values" => measure_values(&rt, &bytes),
         _ => lines::print_rows(&rt, &bytes),
     }
@@ -46,6 +48,14 @@ fn measure_lines(rt: &HostRuntime, bytes: &[u8]) -> Result<()> {
     let lines = lines::read(rt.alloc(), bytes)?;
     let time = start.elapsed(rt)?;
     println!(rt; "{} rows, {} ms", lines.rows().len(), time.as_millis())?;
+    Ok(())
+}
+
+fn measure_declarations(rt: &HostRuntime, bytes: &[u8]) -> Result<()> {
+    let start = Instant::now(rt)?;
+    let count = entries::count_declarations(rt.alloc(), bytes, 1000)?;
+    let time = start.elapsed(rt)?;
+    println!(rt; "{count} declarations, {} ms", time.as_millis())?;
     Ok(())
 }
 
