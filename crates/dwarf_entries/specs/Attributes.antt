@@ -1,8 +1,8 @@
 -- The attributes that are used, and the forms that each may have (DWARF 5, 2.2 and 7.5.4 to 7.5.6).
-use Rattle.std.specs.Prelude.{ℕ, pos, negsuc, List, [], ◌∷◌, ◌++◌, Bool, true, false, Option, find, option_map, ◌==◌, ◌&&◌}
+use Rattle.std.specs.Prelude.{ℕ, ◌-◌, pos, negsuc, List, [], ◌∷◌, ◌++◌, length, Bool, true, false, Option, find, option_map, ◌==◌, ◌&&◌}
 use Rattle.std.specs.Option.{option_map_or}
 use Rattle.std.specs.List.{list_any}
-use Rattle.dwarf_bytes.specs.Contents.{Content, Number, Signed}
+use Rattle.dwarf_bytes.specs.Contents.{Content, Number, Signed, Bytes}
 
 abbrev pub DW_AT_name : ℕ
 DW_AT_name = 0x03
@@ -99,8 +99,9 @@ sdata = 0x0d
 abbrev pub is_negative_count : ℕ → Content → Bool
 is_negative_count name content = option_map_or (λ allowed. is_among allowed sdata) (forms_of name) false && is_negative content
 
--- the number that a content is
-abbrev pub number_of : Content → ℕ
-number_of (Number n) = n
-number_of (Signed (pos n)) = n
-number_of content = 0
+-- the number that a content is, where its bytes end at a place; of a text that stands there with its NUL, its place
+abbrev pub number_of : Content → ℕ → ℕ
+number_of (Number n) after = n
+number_of (Signed (pos n)) after = n
+number_of (Signed (negsuc n)) after = 0
+number_of (Bytes text) after = after - 1 - length text

@@ -14,8 +14,9 @@ use Rattle.dwarf_entries.specs.declared.units.UnitHeader.{UnitHeader}
 use Rattle.dwarf_entries.specs.declared.bases.Table.{Table}
 use Rattle.dwarf_entries.specs.declared.bases.Bases.{Bases}
 use Rattle.dwarf_entries.specs.Sections.{Sections}
-use Rattle.dwarf_entries.specs.Attributes.{DW_AT_str_offsets_base, DW_AT_addr_base, DW_AT_rnglists_base, DW_AT_low_pc, number_of}
-use Rattle.dwarf_entries.specs.Entries.{Attribute, Die, attribute}
+use Rattle.dwarf_entries.specs.Attributes.{DW_AT_str_offsets_base, DW_AT_addr_base, DW_AT_rnglists_base, DW_AT_low_pc}
+use Rattle.dwarf_entries.specs.declared.attributes.AttributeValue.{AttributeValue}
+use Rattle.dwarf_entries.specs.Entries.{Die, attribute}
 
 -- a unit without a root
 abbrev pub no_bases : Bases
@@ -27,8 +28,8 @@ optional f None = Ok None
 optional f (Some x) = f x >>= λ y. Ok (Some y)
 
 -- the table at the base that an attribute of the root names
-abbrev pub table_of : TableKind → Format → List ℕ → Attribute → Result Table Cause
-table_of kind format section a = table_before kind format section (number_of a.content) >>= λ head. Ok (record { base = number_of a.content; head = head; format = format })
+abbrev pub table_of : TableKind → Format → List ℕ → AttributeValue → Result Table Cause
+table_of kind format section value = table_before kind format section value.number >>= λ head. Ok (record { base = value.number; head = head; format = format })
 
 -- the bytes of an item of a table: an offset, or an address
 abbrev pub item_len : TableKind → Format → ℕ
@@ -54,19 +55,16 @@ abbrev pub addr_form : ℕ
 addr_form = 0x01
 
 -- the address that a value of class address is
-abbrev pub address_of : Sections → Option Table → ℕ → ℕ → Result ℕ Cause
-address_of sections addr form number = if form == addr_form then Ok number else item_at Addr sections.debug_addr addr number
-
-abbrev pub address_in : Sections → Option Table → Attribute → Result ℕ Cause
-address_in sections addr a = address_of sections addr a.form (number_of a.content)
+abbrev pub address_of : Sections → Option Table → AttributeValue → Result ℕ Cause
+address_of sections addr value = if value.form == addr_form then Ok value.number else item_at Addr sections.debug_addr addr value.number
 
 -- what a root tells by its attributes, in the order in which they are judged
-abbrev pub bases_by : Sections → Format → Option Attribute → Option Attribute → Option Attribute → Option Attribute → Result Bases Cause
+abbrev pub bases_by : Sections → Format → Option AttributeValue → Option AttributeValue → Option AttributeValue → Option AttributeValue → Result Bases Cause
 bases_by sections format str_offsets addr rnglists low_pc = do
   str_offsets ← optional (table_of StrOffsets format sections.debug_str_offsets) str_offsets
   addr ← optional (table_of Addr format sections.debug_addr) addr
   rnglists ← optional (table_of RngLists format sections.debug_rnglists) rnglists
-  low_pc ← optional (address_in sections addr) low_pc
+  low_pc ← optional (address_of sections addr) low_pc
   Ok (record { str_offsets = str_offsets; addr = addr; rnglists = rnglists; low_pc = low_pc })
 
 abbrev pub bases_at : Sections → Format → Die → Result Bases Cause

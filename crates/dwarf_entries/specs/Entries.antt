@@ -1,5 +1,5 @@
 -- Debugging information entries (DWARF 5, 2.1 to 2.3, 7.5.2 and 7.5.3): a flat list of entries and nulls.
-use Rattle.std.specs.Prelude.{◌≡◌, ℕ, ◌-◌, ◌<◌, ◌≤◌, List, [], ◌∷◌, length, take, Bool, true, false, Option, Some, None, Result, Ok, Err, nat_lt, nat_le, ◌==◌, not, ◌&&◌, if◌then◌else◌, find, count_by, take_while, ok_or, slice_index_or}
+use Rattle.std.specs.Prelude.{◌≡◌, ℕ, ◌-◌, ◌<◌, ◌≤◌, List, [], ◌∷◌, length, take, Bool, true, false, Option, Some, None, Result, Ok, Err, nat_lt, nat_le, ◌==◌, not, ◌&&◌, if◌then◌else◌, find, count_by, take_while, ok_or, option_map, slice_index_or}
 use Rattle.std.specs.List.{list_any, filter_map}
 use Rattle.dwarf_bytes.specs.declared.fault.Cause.{Cause}
 use Rattle.dwarf_bytes.specs.declared.fault.Cause.TheVariants as causes
@@ -8,7 +8,6 @@ use Rattle.dwarf_bytes.specs.declared.form.Form.{Form}
 use Rattle.dwarf_bytes.specs.declared.form.Form.TheVariants.{Direct, ImplicitConst, Indirect}
 use Rattle.dwarf_bytes.specs.Bind.{◌>>=◌}
 use Rattle.dwarf_bytes.specs.Forms.{form_of}
-use Rattle.dwarf_bytes.specs.Contents.{Content}
 use Rattle.dwarf_bytes.specs.Items.{Next, Item, End, At, reading, refuse_if, told_at, items_from}
 use Rattle.dwarf_bytes.specs.Numbers.{uleb_at}
 use Rattle.dwarf_bytes.specs.Words.{cause_of}
@@ -18,14 +17,9 @@ use Rattle.dwarf_forms.specs.declared.attribute.AttributeSpecification.{Attribut
 use Rattle.dwarf_forms.specs.Declarations.{Declaration}
 use Rattle.dwarf_forms.specs.Values.{value_at}
 use Rattle.dwarf_entries.specs.declared.units.UnitHeader.{UnitHeader}
-use Rattle.dwarf_entries.specs.Attributes.{accepts, is_negative_count}
-
--- an attribute of an entry: its form after indirect, its content, and the place after its value
-pub record Attribute : Type 0 where
-  pub name : ℕ
-  pub form : ℕ
-  pub content : Content
-  pub after : ℕ
+use Rattle.dwarf_entries.specs.declared.attributes.AttributeValue.{AttributeValue}
+use Rattle.dwarf_entries.specs.declared.attributes.Attribute.{Attribute}
+use Rattle.dwarf_entries.specs.Attributes.{accepts, is_negative_count, number_of}
 
 -- An entry (its tag, whether it has children, its attributes) or a null entry. The children of an entry follow it,
 -- up to a null entry.
@@ -95,21 +89,21 @@ form_at form bytes at = if form == indirect then (do
   Ok inner) else Ok (form, at)
 
 -- the attribute at a place, as its declaration names it
-abbrev pub attribute_at : Format → AttributeSpecification → List ℕ → ℕ → Result Attribute Cause
+abbrev pub attribute_at : Format → AttributeSpecification → List ℕ → ℕ → Result (Attribute × ℕ) Cause
 attribute_at format s bytes at = do
   form ← form_at s.form bytes at
   _ ← refuse_if (not (accepts s.name form.0)) causes.AttrForm
   value ← reading_value (value_at form.0 s.constant format bytes form.1)
   _ ← refuse_if (is_negative_count s.name value.0.content) causes.AttrForm
-  Ok (record { name = s.name; form = form.0; content = value.0.content; after = value.1 })
+  Ok (record { name = s.name; value = record { form = form.0; number = number_of value.0.content value.1 } }, value.1)
 
 -- the attributes of a declaration, one after another from a place on, and the place after them
 unfoldable pub attributes_at : Format → List AttributeSpecification → List ℕ → ℕ → Result (List Attribute × ℕ) Cause
 attributes_at format [] bytes at = Ok ([], at)
 attributes_at format (s ∷ ss) bytes at = do
   first ← attribute_at format s bytes at
-  rest ← attributes_at format ss bytes first.after
-  Ok (first ∷ rest.0, rest.1)
+  rest ← attributes_at format ss bytes first.1
+  Ok (first.0 ∷ rest.0, rest.1)
 
 -- the declaration of a code
 abbrev pub declaration_of : List Declaration → ℕ → Option Declaration
@@ -156,6 +150,10 @@ below die rest = take_while (λ d. nat_lt die.depth d.depth) rest
 abbrev pub IsBelow : List Die → ℕ → ℕ → Type 0
 IsBelow all j i = (i < j) × (j < length all) × ((k : ℕ) (d : Die) → i < k → k ≤ j → (slice_index_or all i d).depth < (slice_index_or all k d).depth)
 
--- an attribute of an entry, if it has it
-abbrev pub attribute : Die → ℕ → Option Attribute
-attribute die name = find (λ attribute. attribute.name == name) die.attributes
+-- the value of an attribute among these, if it is there
+abbrev pub value_of : List Attribute → ℕ → Option AttributeValue
+value_of attributes name = option_map (λ a. a.value) (find (λ a. a.name == name) attributes)
+
+-- the value of an attribute of an entry
+abbrev pub attribute : Die → ℕ → Option AttributeValue
+attribute die name = value_of die.attributes name

@@ -7,4 +7,3 @@ pub mod Names
 pub mod Ranges
 pub mod Scopes
 pub mod Steps
-pub mod Values

@@ -1,5 +1,5 @@
 -- References between entries (DWARF 5, 2.13 and 7.5.5) and the names of an entry (2.15, 3.3.8).
-use Rattle.std.specs.Prelude.{ℕ, zero, suc, ◌+◌, ◌-◌, List, [], ◌∷◌, length, Option, Some, None, Result, Ok, Err, ◌==◌, if◌then◌else◌, find, ok_or, option_map, map, flat_map}
+use Rattle.std.specs.Prelude.{ℕ, zero, suc, ◌+◌, List, [], ◌∷◌, length, Option, Some, None, Result, Ok, Err, ◌==◌, if◌then◌else◌, find, ok_or, option_map, map, flat_map}
 use Rattle.dwarf_bytes.specs.declared.fault.Cause.{Cause}
 use Rattle.dwarf_bytes.specs.declared.fault.Cause.TheVariants as causes
 use Rattle.dwarf_bytes.specs.declared.fault.Section.{Section}
@@ -8,12 +8,12 @@ use Rattle.dwarf_bytes.specs.declared.tables.TableKind.TheVariants.{StrOffsets}
 use Rattle.dwarf_bytes.specs.Bind.{◌>>=◌}
 use Rattle.dwarf_bytes.specs.Items.{reading}
 use Rattle.dwarf_bytes.specs.Numbers.{text_at}
-use Rattle.dwarf_bytes.specs.Contents.{block_in}
 use Rattle.dwarf_entries.specs.declared.scope.Text.{Text}
 use Rattle.dwarf_entries.specs.declared.bases.Table.{Table}
 use Rattle.dwarf_entries.specs.Sections.{Sections}
-use Rattle.dwarf_entries.specs.Attributes.{DW_AT_abstract_origin, DW_AT_specification, number_of}
-use Rattle.dwarf_entries.specs.Entries.{Attribute, Die, attribute}
+use Rattle.dwarf_entries.specs.Attributes.{DW_AT_abstract_origin, DW_AT_specification}
+use Rattle.dwarf_entries.specs.declared.attributes.AttributeValue.{AttributeValue}
+use Rattle.dwarf_entries.specs.Entries.{Die, attribute}
 use Rattle.dwarf_entries.specs.Bases.{CompilationUnit, item_at, optional}
 
 -- an entry with its unit
@@ -37,12 +37,12 @@ ref_addr = 0x10
 abbrev pub ref_sig8 : ℕ
 ref_sig8 = 0x20
 
-abbrev pub followed : Option Attribute → Option Attribute
+abbrev pub followed : Option AttributeValue → Option AttributeValue
 followed None = None
-followed (Some a) = if a.form == ref_sig8 then None else Some a
+followed (Some value) = if value.form == ref_sig8 then None else Some value
 
 -- the reference to the next entry: abstract_origin, else specification
-abbrev pub next_of : Die → Option Attribute
+abbrev pub next_of : Die → Option AttributeValue
 next_of die = followed (or_else (attribute die DW_AT_abstract_origin) (attribute die DW_AT_specification))
 
 -- the entry at an offset of .debug_info, among these
@@ -50,10 +50,10 @@ abbrev pub member_at : List Member → ℕ → Result Member Cause
 member_at members offset = ok_or (find (λ m. m.die.offset == offset) members) causes.Reference
 
 -- the entry that a reference in a unit names: one of any unit, or one of the unit, counted from its first byte
-abbrev pub target_of : List CompilationUnit → CompilationUnit → Attribute → Result Member Cause
-target_of units unit a =
-    if a.form == ref_addr then member_at (members_of units) (number_of a.content)
-    else member_at (members_of (unit ∷ [])) (unit.header.start + number_of a.content)
+abbrev pub target_of : List CompilationUnit → CompilationUnit → AttributeValue → Result Member Cause
+target_of units unit reference =
+    if reference.form == ref_addr then member_at (members_of units) reference.number
+    else member_at (members_of (unit ∷ [])) (unit.header.start + reference.number)
 
 -- the hops that a path may have
 abbrev pub hops_limit : ℕ
@@ -61,10 +61,10 @@ hops_limit = 16
 
 -- an entry, its next entry, and so on to one without, in at most so many hops
 unfoldable pub path_within : ℕ → List CompilationUnit → Member → Result (List Member) Cause
-path_within zero units m = elim (next_of (m.die)) [ None ↦ Ok (m ∷ []) | Some a ↦ Err causes.OriginDepth ]
+path_within zero units m = elim (next_of (m.die)) [ None ↦ Ok (m ∷ []) | Some reference ↦ Err causes.OriginDepth ]
 path_within (suc hops) units m = elim (next_of (m.die)) [
   | None ↦ Ok (m ∷ [])
-  | Some a ↦ target_of units m.unit a >>= λ next. path_within hops units next >>= λ rest. Ok (m ∷ rest)
+  | Some reference ↦ target_of units m.unit reference >>= λ next. path_within hops units next >>= λ rest. Ok (m ∷ rest)
 ]
 
 abbrev pub path_of : List CompilationUnit → Member → Result (List Member) Cause
@@ -88,25 +88,20 @@ text section place len = record { section = section; span = record { place = pla
 abbrev pub text_in : Section → List ℕ → ℕ → Result Text Cause
 text_in name section offset = reading (text_at section offset) >>= λ found. Ok (text name offset (length found))
 
--- the text of an offset or an index, by its form and the table of the unit in which it stands
-abbrev pub text_by : Sections → Option Table → ℕ → ℕ → Result Text Cause
-text_by s str_offsets form number =
-    if form == strp then text_in sections.DebugStr s.debug_str number
-    else (if form == line_strp then text_in sections.DebugLineStr s.debug_line_str number
-    else (item_at StrOffsets s.debug_str_offsets str_offsets number >>= λ offset. text_in sections.DebugStr s.debug_str offset))
+-- the text that a value is, by the table of the unit in which it stands; one of form string stands in the entry
+abbrev pub text_of : Sections → Option Table → AttributeValue → Result Text Cause
+text_of s str_offsets value =
+    if value.form == string_form then text_in sections.DebugInfo s.debug_info value.number
+    else if value.form == strp then text_in sections.DebugStr s.debug_str value.number
+    else if value.form == line_strp then text_in sections.DebugLineStr s.debug_line_str value.number
+    else item_at StrOffsets s.debug_str_offsets str_offsets value.number >>= λ offset. text_in sections.DebugStr s.debug_str offset
 
--- the text that an attribute is: one of form string stands in the entry, with a NUL behind it
-abbrev pub text_of : Sections → Option Table → Attribute → Result Text Cause
-text_of s str_offsets a =
-    let len = length (block_in a.content) in
-    if a.form == string_form then Ok (text sections.DebugInfo (a.after - 1 - len) len) else text_by s str_offsets a.form (number_of a.content)
-
--- an attribute of an entry, with the entry's unit
-abbrev pub of_member : ℕ → Member → Option (CompilationUnit × Attribute)
-of_member name m = option_map (λ a. (m.unit, a)) (attribute m.die name)
+-- the value of an attribute of an entry, with the entry's unit
+abbrev pub of_member : ℕ → Member → Option (CompilationUnit × AttributeValue)
+of_member name m = option_map (λ value. (m.unit, value)) (attribute m.die name)
 
 -- the first attribute of this name on a path
-abbrev pub first_on : ℕ → List Member → Option (CompilationUnit × Attribute)
+abbrev pub first_on : ℕ → List Member → Option (CompilationUnit × AttributeValue)
 first_on name [] = None
 first_on name (m ∷ path) = or_else (of_member name m) (first_on name path)
 

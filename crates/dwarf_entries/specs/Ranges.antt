@@ -13,9 +13,10 @@ use Rattle.dwarf_entries.specs.declared.ranges.RangeListKind.TheVariants.{BaseAd
 use Rattle.dwarf_entries.specs.declared.ranges.RangeListEntry.{RangeListEntry}
 use Rattle.dwarf_entries.specs.declared.ranges.RangeListEntry.TheVariants.{Base, Covers}
 use Rattle.dwarf_entries.specs.Sections.{Sections}
-use Rattle.dwarf_entries.specs.Attributes.{DW_AT_low_pc, DW_AT_high_pc, DW_AT_ranges, number_of, is_among, address_forms}
-use Rattle.dwarf_entries.specs.Entries.{Attribute, Die, attribute}
-use Rattle.dwarf_entries.specs.Bases.{item_at, address_in}
+use Rattle.dwarf_entries.specs.Attributes.{DW_AT_low_pc, DW_AT_high_pc, DW_AT_ranges, is_among, address_forms}
+use Rattle.dwarf_entries.specs.declared.attributes.AttributeValue.{AttributeValue}
+use Rattle.dwarf_entries.specs.Entries.{Die, attribute}
+use Rattle.dwarf_entries.specs.Bases.{item_at, address_of}
 
 -- the range from a start up to an end; one with equal ends covers nothing
 abbrev pub covered : ℕ × ℕ → Result (Option Range) Cause
@@ -114,11 +115,11 @@ abbrev pub rnglistx : ℕ
 rnglistx = 0x23
 
 -- where the list of an attribute stands
-abbrev pub list_place : Sections → Bases → Attribute → Result ℕ Cause
-list_place sections bases a = if a.form == rnglistx then (do
-  offset ← item_at RngLists sections.debug_rnglists bases.rnglists (number_of a.content)
+abbrev pub list_place : Sections → Bases → AttributeValue → Result ℕ Cause
+list_place sections bases value = if value.form == rnglistx then (do
+  offset ← item_at RngLists sections.debug_rnglists bases.rnglists value.number
   table ← ok_or bases.rnglists causes.Base
-  Ok (table.base + offset)) else Ok (number_of a.content)
+  Ok (table.base + offset)) else Ok value.number
 
 -- what the range list at a place covers
 unfoldable pub list_at : ℕ → Sections → Bases → ℕ → Result Covering Cause
@@ -127,25 +128,25 @@ list_at room sections bases place = do
   Ok (record { ranges = flat_map ranges_in all.0; items = length all.0 })
 
 -- the end of a pair: an address, or a count from the start
-abbrev pub high_of : Sections → Bases → ℕ → Attribute → Result ℕ Cause
-high_of sections bases low high = if is_among address_forms high.form then address_in sections bases.addr high else Ok (low + number_of high.content)
+abbrev pub high_of : Sections → Bases → ℕ → AttributeValue → Result ℕ Cause
+high_of sections bases low high = if is_among address_forms high.form then address_of sections bases.addr high else Ok (low + high.number)
 
 -- the range of a pair of low_pc and high_pc
-abbrev pub pair_range : Sections → Bases → Attribute → Attribute → Result (Option Range) Cause
+abbrev pub pair_range : Sections → Bases → AttributeValue → AttributeValue → Result (Option Range) Cause
 pair_range sections bases low high = do
-  start ← address_in sections bases.addr low
+  start ← address_of sections bases.addr low
   end ← high_of sections bases start high
   covered (start, end)
 
 -- what it covers, where there is room for one more item
-abbrev pub pair_at : ℕ → Sections → Bases → Attribute → Attribute → Result Covering Cause
+abbrev pub pair_at : ℕ → Sections → Bases → AttributeValue → AttributeValue → Result Covering Cause
 pair_at room sections bases low high = do
   _ ← refuse_if (room == 0) causes.TooMany
   range ← pair_range sections bases low high
   Ok (record { ranges = option_to_list range; items = 1 })
 
 -- what an entry covers, by its low_pc, high_pc and ranges
-abbrev pub covers_by : ℕ → Sections → Bases → Option Attribute → Option Attribute → Option Attribute → Result Covering Cause
+abbrev pub covers_by : ℕ → Sections → Bases → Option AttributeValue → Option AttributeValue → Option AttributeValue → Result Covering Cause
 covers_by room sections bases None None (Some ranges) = list_place sections bases ranges >>= list_at room sections bases
 covers_by room sections bases low high (Some ranges) = Err causes.PcAndRanges
 covers_by room sections bases None (Some high) None = Err causes.PcAndRanges

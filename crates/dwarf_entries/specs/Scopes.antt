@@ -12,7 +12,7 @@ use Rattle.dwarf_entries.specs.declared.scope.ScopeKind.{ScopeKind}
 use Rattle.dwarf_entries.specs.declared.scope.ScopeKind.TheVariants.{Subprogram, Inlined}
 use Rattle.dwarf_entries.specs.Sections.{Sections}
 use Rattle.dwarf_entries.specs.Units.{units_of, tables_of}
-use Rattle.dwarf_entries.specs.Attributes.{DW_AT_name, DW_AT_linkage_name, DW_AT_stmt_list, DW_AT_call_file, DW_AT_call_line, number_of}
+use Rattle.dwarf_entries.specs.Attributes.{DW_AT_name, DW_AT_linkage_name, DW_AT_stmt_list, DW_AT_call_file, DW_AT_call_line}
 use Rattle.dwarf_entries.specs.Entries.{Die, attribute, below, entries_of}
 use Rattle.dwarf_entries.specs.Bases.{CompilationUnit, unit_of}
 use Rattle.dwarf_entries.specs.Names.{Member, path_of, name_on}
@@ -66,13 +66,13 @@ abbrev pub places_in : CompilationUnit → List Die → List Place
 places_in unit [] = []
 places_in unit (die ∷ rest) = place_of unit die rest (kind_of die.tag) (places_in unit rest)
 
-abbrev pub value_of : ℕ → Die → Option ℕ
-value_of name die = option_map (λ a. number_of a.content) (attribute die name)
+abbrev pub number_of : ℕ → Die → Option ℕ
+number_of name die = option_map (λ value. value.number) (attribute die name)
 
 -- the stmt_list of a unit, which is its root's
 abbrev pub stmt_list_of : List Die → Option ℕ
 stmt_list_of [] = None
-stmt_list_of (root ∷ dies) = value_of DW_AT_stmt_list root
+stmt_list_of (root ∷ dies) = number_of DW_AT_stmt_list root
 
 -- the range items that may be read for a module
 abbrev pub items_limit : ℕ
@@ -102,8 +102,8 @@ scope_at sections units before p = do
       name = name;
       linkage_name = linkage_name;
       stmt_list = stmt_list_of p.member.unit.dies;
-      call_file = value_of DW_AT_call_file die;
-      call_line = value_of DW_AT_call_line die;
+      call_file = number_of DW_AT_call_file die;
+      call_line = number_of DW_AT_call_line die;
     };
   })
 
@@ -111,7 +111,7 @@ scope_at sections units before p = do
 abbrev pub root_of : ℕ → ℕ → List Die → List Root → List Root
 root_of first past [] roots = roots
 root_of first past (root ∷ dies) roots =
-    record { offset = root.offset; stmt_list = value_of DW_AT_stmt_list root; first = first; past = past } ∷ roots
+    record { offset = root.offset; stmt_list = number_of DW_AT_stmt_list root; first = first; past = past } ∷ roots
 
 -- the roots of the units, where so many scopes stand before them
 abbrev pub roots_from : ℕ → List CompilationUnit → List Root

@@ -5,28 +5,70 @@ ghost use Rattle.dwarf_bytes.specs.Contents.{content_of};
 ghost use Rattle.dwarf_bytes.specs.Refusals.{ReadsField};
 ghost use Rattle.dwarf_bytes.specs.Forms.{form_of};
 ghost use Rattle.dwarf_entries.specs.Attributes.{accepts, is_negative_count, number_of, is_among, string_forms, address_forms, count_forms, reference_forms};
-ghost use Rattle.dwarf_forms.specs.Values.{value_at};
+ghost use Rattle.dwarf_forms.specs.Values.{value_of, value_at};
 ghost use Rattle.dwarf_entries.specs.Entries.{is_direct, form_at, reading_value, attribute_at};
-ghost use Rattle.dwarf_entries.specs.Values.{ReadsAttribute, ReadsContent};
 
 use dwarf_bytes::{Cause, Content, Cursor, Form, Format};
-use dwarf_forms::{AttributeSpecification, ValueFault, value};
+use dwarf_forms::{AttributeSpecification, Value, ValueFault, value};
+
+pub(crate) const DW_AT_NAME: u64 = 0x03;
+
+pub(crate) const DW_AT_STMT_LIST: u64 = 0x10;
+
+pub(crate) const DW_AT_LOW_PC: u64 = 0x11;
+
+pub(crate) const DW_AT_HIGH_PC: u64 = 0x12;
+
+pub(crate) const DW_AT_ABSTRACT_ORIGIN: u64 = 0x31;
+
+pub(crate) const DW_AT_SPECIFICATION: u64 = 0x47;
+
+pub(crate) const DW_AT_RANGES: u64 = 0x55;
+
+pub(crate) const DW_AT_CALL_FILE: u64 = 0x58;
+
+pub(crate) const DW_AT_CALL_LINE: u64 = 0x59;
+
+pub(crate) const DW_AT_LINKAGE_NAME: u64 = 0x6e;
+
+pub(crate) const DW_AT_STR_OFFSETS_BASE: u64 = 0x72;
+
+pub(crate) const DW_AT_ADDR_BASE: u64 = 0x73;
+
+pub(crate) const DW_AT_RNGLISTS_BASE: u64 = 0x74;
 
 /// DW_FORM_indirect
 const INDIRECT: u64 = 0x16;
+
+/// The value of an attribute: its form behind DW_FORM_indirect, and its number. The number of a text
+/// that stands in the entry is its offset in the section.
+#[derive(Clone, Copy, Debug, PartialEq, Eq)]
+pub(crate) struct AttributeValue {
+    pub(crate) form: u64,
+    pub(crate) number: u64,
+}
+
+/// An attribute of an entry.
+#[derive(Clone, Copy, Debug, PartialEq, Eq)]
+pub(crate) struct Attribute {
+    pub(crate) name: u64,
+    pub(crate) value: AttributeValue,
+}
 
 /// Whether an attribute may have a form; those that are not used may have any.
 pub(crate) fn accepts(name: u64, form: u64) -> bool
     ensures { result ≡ accepts name form }
 {
     match name {
-        0x03 | 0x6e => is_string(form),
-        0x11 => is_address(form),
-        0x12 => is_address(form) || is_count(form),
-        0x58 | 0x59 => is_count(form),
-        0x31 | 0x47 => is_reference(form),
-        0x55 => matches!(form, 0x17 | 0x23),
-        0x10 | 0x72 | 0x73 | 0x74 => form == 0x17,
+        DW_AT_NAME | DW_AT_LINKAGE_NAME => is_string(form),
+        DW_AT_LOW_PC => is_address(form),
+        DW_AT_HIGH_PC => is_address(form) || is_count(form),
+        DW_AT_CALL_FILE | DW_AT_CALL_LINE => is_count(form),
+        DW_AT_ABSTRACT_ORIGIN | DW_AT_SPECIFICATION => is_reference(form),
+        DW_AT_RANGES => matches!(form, 0x17 | 0x23),
+        DW_AT_STMT_LIST | DW_AT_STR_OFFSETS_BASE | DW_AT_ADDR_BASE | DW_AT_RNGLISTS_BASE => {
+            form == 0x17
+        }
         _ => true,
     }
 }
@@ -65,14 +107,15 @@ fn is_negative_count(name: u64, content: Content<'_>) -> bool
     }
 }
 
-/// The number that a content is.
-pub(crate) fn number_of(content: Content<'_>) -> u64
-    ensures { result ≡ number_of (content_of content.entry) }
+/// The number that a content is, where its bytes end at a place; of a text that stands there, its
+/// place.
+fn number_of(content: Content<'_>, after: usize) -> u64
+    ensures { result ≡ number_of (content_of content.entry) after }
 {
     match content {
         Content::Number(number) => number,
         Content::Signed(number) => u64::try_from(number).unwrap_or(0),
-        Content::Bytes(_) => 0,
+        Content::Bytes(text) => after.saturating_sub(1).saturating_sub(text.len()) as u64,
     }
 }
 
@@ -96,51 +139,40 @@ fn is_direct(form: u64) -> bool
     matches!(Form::of(form), Some(Form::Direct(_)))
 }
 
-/// An attribute of an entry: its form behind DW_FORM_indirect, its content, and the place behind its
-/// value, which counts from the section's start.
-#[derive(Clone, Copy, Debug)]
-pub(crate) struct Attribute<'a> {
-    pub(crate) name: u64,
-    pub(crate) form: u64,
-    pub(crate) content: Content<'a>,
-    pub(crate) after: usize,
-}
-
 /// The attribute at the cursor, as its declaration names it.
-fn read_attribute<'a>(
+fn read_attribute(
     format: Format,
     specification: &AttributeSpecification,
-    cursor: &mut Cursor<'a>,
-) -> Result<Attribute<'a>, Cause>
-    ensures { ReadsAttribute result (attribute_at format specification.now) cursor.old cursor.new }
+    cursor: &mut Cursor,
+) -> Result<Attribute, Cause>
+    ensures { ReadsField (λ a. a) result (attribute_at format specification.now) cursor.old cursor.new }
 {
     let form = form(specification.form, cursor)?;
     if !accepts(specification.name, form) {
         return Err(Cause::AttrForm);
     }
-    let content = content(form, specification.constant, format, cursor)?;
-    if is_negative_count(specification.name, content) {
+    let value = read_value(form, specification.constant, format, cursor)?;
+    if is_negative_count(specification.name, value.content) {
         return Err(Cause::AttrForm);
     }
+    let number = number_of(value.content, cursor.place());
     Ok(Attribute {
         name: specification.name,
-        form,
-        content,
-        after: cursor.place(),
+        value: AttributeValue { form, number },
     })
 }
 
-/// The content of a value at the cursor.
-fn content<'a>(
+/// The value at the cursor in a form.
+fn read_value<'a>(
     form: u64,
     constant: Option<i64>,
     format: Format,
     cursor: &mut Cursor<'a>,
-) -> Result<Content<'a>, Cause>
-    ensures { ReadsContent result (λ bytes at. reading_value (value_at form constant format bytes at)) cursor.old cursor.new }
+) -> Result<Value<'a>, Cause>
+    ensures { ReadsField value_of result (λ bytes at. reading_value (value_at form constant format bytes at)) cursor.old cursor.new }
 {
     match value(form, constant, format, cursor) {
-        Ok(value) => Ok(value.content),
+        Ok(value) => Ok(value),
         Err(ValueFault::Form) => Err(Cause::Form),
         Err(ValueFault::Read(fault)) => Err(Cause::from(fault)),
     }

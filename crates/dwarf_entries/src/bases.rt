@@ -6,6 +6,7 @@ ghost use Rattle.dwarf_bytes.specs.Position.{Reads};
 ghost use Rattle.dwarf_entries.specs.Bases.{item_len, item_in, item_at, address_of};
 ghost use Rattle.dwarf_entries.specs.Sections.{sections_of};
 
+use crate::attributes::AttributeValue;
 use crate::sections::Sections;
 use dwarf_bytes::{Cause, Cursor, Format, ReadFault, TableHead, TableKind};
 
@@ -76,13 +77,12 @@ pub(crate) fn item_at(
 pub(crate) fn address_of(
     sections: &Sections<'_>,
     addr: Option<Table>,
-    form: u64,
-    number: u64,
+    value: AttributeValue,
 ) -> Result<u64, Cause>
-    ensures { result ≡ address_of (sections_of sections.now) addr form number }
+    ensures { result ≡ address_of (sections_of sections.now) addr value }
 {
-    if form == ADDR_FORM {
-        return Ok(number);
+    if value.form == ADDR_FORM {
+        return Ok(value.number);
     }
-    item_at(TableKind::Addr, sections.debug_addr, addr, number)
+    item_at(TableKind::Addr, sections.debug_addr, addr, value.number)
 }

@@ -4,13 +4,11 @@ ghost use Rattle.std.specs.Prelude.{◌≡◌, ◌<◌, IsSome, IfOk};
 ghost use Rattle.dwarf_bytes.specs.Refusals.{ReadsField};
 ghost use Rattle.dwarf_forms.specs.Tables.{ReadsNext};
 ghost use Rattle.dwarf_entries.specs.Ranges.{kind_of, covered, index_at, entry_at, listed_behind, list_at, high_of, pair_range};
-ghost use Rattle.dwarf_entries.specs.Bases.{address_in};
-ghost use Rattle.dwarf_entries.specs.Values.{attribute_of};
 ghost use Rattle.dwarf_entries.specs.Steps.{Gives, covering_of};
 ghost use Rattle.dwarf_entries.specs.Sections.{sections_of};
 
-use crate::attributes::{Attribute, is_address, number_of};
-use crate::bases::{Bases, Table, address_of, item_at};
+use crate::attributes::{AttributeValue, is_address};
+use crate::bases::{Bases, address_of, item_at};
 use crate::scope::Range;
 use crate::sections::Sections;
 use dwarf_bytes::{Cause, Cursor, TableKind};
@@ -182,42 +180,31 @@ fn next_entry(
     Ok(Some(entry(kind, base, sections, bases, cursor)?))
 }
 
-/// The address of an attribute of class address.
-fn address(
-    sections: &Sections<'_>,
-    addr: Option<Table>,
-    attribute: &Attribute<'_>,
-) -> Result<u64, Cause>
-    ensures { result ≡ address_in (sections_of sections.now) addr (attribute_of attribute.now) }
-{
-    address_of(sections, addr, attribute.form, number_of(attribute.content))
-}
-
 /// The end of a pair: an address, or a count from the start.
 fn high(
     sections: &Sections<'_>,
     bases: &Bases,
     low: u64,
-    high: &Attribute<'_>,
+    high_pc: AttributeValue,
 ) -> Result<u128, Cause>
-    ensures { result ≡ high_of (sections_of sections.now) bases.now low (attribute_of high.now) }
+    ensures { result ≡ high_of (sections_of sections.now) bases.now low high_pc }
 {
-    if is_address(high.form) {
-        return Ok(u128::from(address(sections, bases.addr, high)?));
+    if is_address(high_pc.form) {
+        return Ok(u128::from(address_of(sections, bases.addr, high_pc)?));
     }
-    Ok(u128::from(low) + u128::from(number_of(high.content)))
+    Ok(u128::from(low) + u128::from(high_pc.number))
 }
 
 /// The range of a pair of low_pc and high_pc, if it covers anything.
 pub(crate) fn pair(
     sections: &Sections<'_>,
     bases: &Bases,
-    low_pc: &Attribute<'_>,
-    high_pc: &Attribute<'_>,
+    low_pc: AttributeValue,
+    high_pc: AttributeValue,
 ) -> Result<Option<Range>, Cause>
-    ensures { result ≡ pair_range (sections_of sections.now) bases.now (attribute_of low_pc.now) (attribute_of high_pc.now) }
+    ensures { result ≡ pair_range (sections_of sections.now) bases.now low_pc high_pc }
 {
-    let start = address(sections, bases.addr, low_pc)?;
+    let start = address_of(sections, bases.addr, low_pc)?;
     let end = high(sections, bases, start, high_pc)?;
     covered(u128::from(start), end)
 }

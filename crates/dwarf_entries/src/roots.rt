@@ -1,51 +1,45 @@
 //! What a unit's root tells of the whole unit (DWARF 5, 3.1.1).
 
-ghost use Rattle.std.specs.Prelude.{◌≡◌, option_map};
-ghost use Rattle.dwarf_entries.specs.Bases.{optional, table_of, address_in, bases_by};
+ghost use Rattle.std.specs.Prelude.{◌≡◌};
+ghost use Rattle.dwarf_entries.specs.Bases.{optional, table_of, address_of, bases_by};
 ghost use Rattle.dwarf_entries.specs.Sections.{sections_of};
-ghost use Rattle.dwarf_entries.specs.Values.{attribute_of};
 
-use crate::attributes::{Attribute, number_of};
+use crate::attributes::AttributeValue;
 use crate::bases::{Bases, Table, address_of};
 use crate::sections::Sections;
 use dwarf_bytes::{Cause, Format, TableHead, TableKind};
 
 /// The attributes of a root that tell of its unit.
 #[derive(Clone, Copy, Debug)]
-pub(crate) struct RootAttributes<'a> {
-    pub(crate) str_offsets_base: Option<Attribute<'a>>,
-    pub(crate) addr_base: Option<Attribute<'a>>,
-    pub(crate) rnglists_base: Option<Attribute<'a>>,
-    pub(crate) low_pc: Option<Attribute<'a>>,
+pub(crate) struct RootAttributes {
+    pub(crate) str_offsets_base: Option<AttributeValue>,
+    pub(crate) addr_base: Option<AttributeValue>,
+    pub(crate) rnglists_base: Option<AttributeValue>,
+    pub(crate) low_pc: Option<AttributeValue>,
 }
 
 /// What the root of a unit of the format tells, judged in this order.
 pub(crate) fn bases(
     sections: &Sections<'_>,
     format: Format,
-    root: &RootAttributes<'_>,
+    root: RootAttributes,
 ) -> Result<Bases, Cause>
-    ensures { result ≡ bases_by (sections_of sections.now) format (option_map attribute_of root.now.str_offsets_base) (option_map attribute_of root.now.addr_base) (option_map attribute_of root.now.rnglists_base) (option_map attribute_of root.now.low_pc) }
+    ensures { result ≡ bases_by (sections_of sections.now) format root.str_offsets_base root.addr_base root.rnglists_base root.low_pc }
 {
     let str_offsets = table(
         TableKind::StrOffsets,
         format,
         sections.debug_str_offsets,
-        &root.str_offsets_base,
+        root.str_offsets_base,
     )?;
-    let addr = table(
-        TableKind::Addr,
-        format,
-        sections.debug_addr,
-        &root.addr_base,
-    )?;
+    let addr = table(TableKind::Addr, format, sections.debug_addr, root.addr_base)?;
     let rnglists = table(
         TableKind::RngLists,
         format,
         sections.debug_rnglists,
-        &root.rnglists_base,
+        root.rnglists_base,
     )?;
-    let low_pc = low_pc(sections, addr, &root.low_pc)?;
+    let low_pc = low_pc(sections, addr, root.low_pc)?;
     Ok(Bases {
         str_offsets,
         addr,
@@ -59,14 +53,14 @@ fn table(
     kind: TableKind,
     format: Format,
     section: &[u8],
-    attribute: &Option<Attribute<'_>>,
+    value: Option<AttributeValue>,
 ) -> Result<Option<Table>, Cause>
-    ensures { result ≡ optional (table_of kind format section.now) (option_map attribute_of attribute.now) }
+    ensures { result ≡ optional (table_of kind format section.now) value }
 {
-    match attribute {
+    match value {
         None => Ok(None),
-        Some(attribute) => {
-            let base = number_of(attribute.content);
+        Some(value) => {
+            let base = value.number;
             let head = TableHead::before(section, base, kind, format)?;
             Ok(Some(Table { base, head, format }))
         }
@@ -77,15 +71,12 @@ fn table(
 fn low_pc(
     sections: &Sections<'_>,
     addr: Option<Table>,
-    attribute: &Option<Attribute<'_>>,
+    value: Option<AttributeValue>,
 ) -> Result<Option<u64>, Cause>
-    ensures { result ≡ optional (address_in (sections_of sections.now) addr) (option_map attribute_of attribute.now) }
+    ensures { result ≡ optional (address_of (sections_of sections.now) addr) value }
 {
-    match attribute {
+    match value {
         None => Ok(None),
-        Some(attribute) => {
-            let number = number_of(attribute.content);
-            Ok(Some(address_of(sections, addr, attribute.form, number)?))
-        }
+        Some(value) => Ok(Some(address_of(sections, addr, value)?)),
     }
 }
