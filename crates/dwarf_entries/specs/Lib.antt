@@ -7,3 +7,4 @@ pub mod Names
 pub mod Ranges
 pub mod Scopes
 pub mod Steps
+pub mod Kept

@@ -3,6 +3,7 @@
 
 mod attributes;
 mod bases;
+mod kept;
 mod names;
 mod ranges;
 mod roots;

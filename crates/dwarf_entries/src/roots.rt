@@ -6,25 +6,17 @@ ghost use Rattle.dwarf_entries.specs.Sections.{sections_of};
 
 use crate::attributes::AttributeValue;
 use crate::bases::{Bases, Table, address_of};
+use crate::kept::RootEntry;
 use crate::sections::Sections;
 use dwarf_bytes::{Cause, Format, TableHead, TableKind};
-
-/// The attributes of a root that tell of its unit.
-#[derive(Clone, Copy, Debug)]
-pub(crate) struct RootAttributes {
-    pub(crate) str_offsets_base: Option<AttributeValue>,
-    pub(crate) addr_base: Option<AttributeValue>,
-    pub(crate) rnglists_base: Option<AttributeValue>,
-    pub(crate) low_pc: Option<AttributeValue>,
-}
 
 /// What the root of a unit of the format tells, judged in this order.
 pub(crate) fn bases(
     sections: &Sections<'_>,
     format: Format,
-    root: RootAttributes,
+    root: &RootEntry,
 ) -> Result<Bases, Cause>
-    ensures { result ≡ bases_by (sections_of sections.now) format root.str_offsets_base root.addr_base root.rnglists_base root.low_pc }
+    ensures { result ≡ bases_by (sections_of sections.now) format root.now.str_offsets_base root.now.addr_base root.now.rnglists_base root.now.low_pc }
 {
     let str_offsets = table(
         TableKind::StrOffsets,

@@ -1,0 +1,89 @@
+-- What is kept of the entries of a unit, for the contracts of the passes.
+use Rattle.std.specs.Prelude.{ℕ, suc, ◌≤◌, List, [], ◌∷◌, Option, Some, None, option_map, map, count_by}
+use Rattle.std.specs.List.{filter_map}
+use Rattle.dwarf_entries.specs.declared.scope.ScopeKind.{ScopeKind}
+use Rattle.dwarf_entries.specs.declared.units.UnitHeader.{UnitHeader}
+use Rattle.dwarf_entries.specs.declared.kept.NamedEntry.{NamedEntry}
+use Rattle.dwarf_entries.specs.declared.kept.ScopeEntry.{ScopeEntry}
+use Rattle.dwarf_entries.specs.declared.kept.RootEntry.{RootEntry}
+use Rattle.dwarf_entries.specs.declared.kept.UnitEntries.{UnitEntries}
+use Rattle.dwarf_entries.specs.Attributes.{DW_AT_name, DW_AT_linkage_name, DW_AT_stmt_list, DW_AT_low_pc, DW_AT_high_pc, DW_AT_ranges, DW_AT_call_file, DW_AT_call_line, DW_AT_str_offsets_base, DW_AT_addr_base, DW_AT_rnglists_base}
+use Rattle.dwarf_entries.specs.Entries.{Die, attribute, below}
+use Rattle.dwarf_entries.specs.Bases.{CompilationUnit}
+use Rattle.dwarf_entries.specs.Names.{next_of}
+use Rattle.dwarf_entries.specs.Scopes.{kind_of, is_scope, number_of}
+
+abbrev pub named_entry : Die → NamedEntry
+named_entry die = record { offset = die.offset; next = next_of die; name = attribute die DW_AT_name; linkage_name = attribute die DW_AT_linkage_name }
+
+abbrev pub scope_entry : Die → ScopeKind → ScopeEntry
+scope_entry die kind = record {
+  entry = named_entry die;
+  kind = kind;
+  low_pc = attribute die DW_AT_low_pc;
+  high_pc = attribute die DW_AT_high_pc;
+  ranges = attribute die DW_AT_ranges;
+  call_file = number_of DW_AT_call_file die;
+  call_line = number_of DW_AT_call_line die;
+}
+
+-- an entry that is a scope
+abbrev pub scope_entry_of : Die → Option ScopeEntry
+scope_entry_of die = option_map (scope_entry die) (kind_of die.tag)
+
+abbrev pub root_entry : Die → RootEntry
+root_entry die = record {
+  offset = die.offset;
+  stmt_list = number_of DW_AT_stmt_list die;
+  str_offsets_base = attribute die DW_AT_str_offsets_base;
+  addr_base = attribute die DW_AT_addr_base;
+  rnglists_base = attribute die DW_AT_rnglists_base;
+  low_pc = attribute die DW_AT_low_pc;
+}
+
+-- the root of a unit, which is its first entry
+abbrev pub root_in : List Die → Option RootEntry
+root_in [] = None
+root_in (root ∷ dies) = Some (root_entry root)
+
+-- how many scopes are below an entry, in front of the counts behind it, if it is a scope
+abbrev pub inside_of : Die → List Die → Option ScopeKind → List ℕ → List ℕ
+inside_of die rest None insides = insides
+inside_of die rest (Some kind) insides = count_by is_scope (below die rest) ∷ insides
+
+-- how many scopes are below each scope
+abbrev pub insides_in : List Die → List ℕ
+insides_in [] = []
+insides_in (die ∷ rest) = inside_of die rest (kind_of die.tag) (insides_in rest)
+
+-- what is kept of a unit
+pub record KeptUnit : Type 0 where
+  pub header : UnitHeader
+  pub root : Option RootEntry
+  pub entries : List NamedEntry
+  pub scopes : List ScopeEntry
+  pub insides : List ℕ
+
+-- .. of these entries
+abbrev pub kept_unit : UnitHeader → List Die → KeptUnit
+kept_unit header dies = record {
+  header = header;
+  root = root_in dies;
+  entries = map named_entry dies;
+  scopes = filter_map scope_entry_of dies;
+  insides = insides_in dies;
+}
+
+-- .. by the program
+abbrev pub kept_of : UnitEntries → KeptUnit
+kept_of unit = record { header = unit.header; root = unit.root; entries = unit.entries.items; scopes = unit.scopes.items; insides = unit.insides.items }
+
+-- The offsets of entries rise strictly, from a place on and up to an end.
+abbrev pub RiseWithin : ℕ → ℕ → List Die → Type 0
+RiseWithin from end [] = from ≤ end
+RiseWithin from end (die ∷ dies) = (from ≤ die.offset) × RiseWithin (suc die.offset) end dies
+
+-- The units stand one behind another, from a place on, and hold their entries.
+abbrev pub AreInOrder : ℕ → List CompilationUnit → Type 0
+AreInOrder from [] = Unit {0}
+AreInOrder from (unit ∷ units) = (from ≤ unit.header.start) × RiseWithin unit.header.start unit.header.end unit.dies × AreInOrder unit.header.end units
