@@ -30,7 +30,7 @@ judged_none section units = record { made = []; counted = refl; read = same (eac
     same (Ok x) = refl
     same (Err e) = refl
 
-in_section_ok : {X : Type 0} (section : Section) (r : Result X At) (x : X) → in_section section r ≡ Ok x → r ≡ Ok x
+pub in_section_ok : {X : Type 0} (section : Section) (r : Result X At) (x : X) → in_section section r ≡ Ok x → r ≡ Ok x
 in_section_ok section (Ok y) x h = cc
 in_section_ok section (Err e) x h = cc
 

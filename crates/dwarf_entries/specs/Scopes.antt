@@ -8,6 +8,8 @@ use Rattle.dwarf_bytes.specs.Items.{told_at, each}
 use Rattle.dwarf_bytes.specs.Refusals.{in_section}
 use Rattle.dwarf_entries.specs.declared.scope.Text.{Text}
 use Rattle.dwarf_entries.specs.declared.scope.Range.{Range}
+use Rattle.dwarf_entries.specs.declared.scope.Root.{Root}
+use Rattle.dwarf_entries.specs.declared.scope.Scope.{Scope as Kept}
 use Rattle.dwarf_entries.specs.declared.scope.ScopeKind.{ScopeKind}
 use Rattle.dwarf_entries.specs.declared.scope.ScopeKind.TheVariants.{Subprogram, Inlined}
 use Rattle.dwarf_entries.specs.Sections.{Sections}
@@ -31,12 +33,20 @@ pub record Scope : Type 0 where
   pub call_file : Option ℕ
   pub call_line : Option ℕ
 
--- what is told of a root: its unit's scopes are those from the number first up to, not including, past
-pub record Root : Type 0 where
-  pub offset : ℕ
-  pub stmt_list : Option ℕ
-  pub first : ℕ
-  pub past : ℕ
+-- a scope of the program
+abbrev pub scope_of : Kept → Scope
+scope_of s = record {
+  kind = s.kind;
+  offset = s.offset;
+  number = s.number;
+  end = s.«end»;
+  ranges = s.ranges.items;
+  name = s.name;
+  linkage_name = s.linkage_name;
+  stmt_list = s.stmt_list;
+  call_file = s.call_file;
+  call_line = s.call_line;
+}
 
 pub record Tree : Type 0 where
   pub roots : List Root

@@ -3,8 +3,10 @@
 
 mod attributes;
 mod bases;
+mod entries;
 mod kept;
 mod names;
+mod passes;
 mod ranges;
 mod roots;
 mod scope;
@@ -12,5 +14,5 @@ mod sections;
 mod tables;
 mod units;
 
-pub use scope::{Range, ScopeKind, Text};
+pub use scope::{Range, Root, Scope, ScopeKind, Text};
 pub use sections::Sections;

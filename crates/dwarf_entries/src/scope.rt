@@ -22,3 +22,33 @@ pub enum ScopeKind {
     Subprogram,
     Inlined,
 }
+
+/// A subprogram or an inlined subroutine. Its number is its place among all scopes of the object in
+/// file order; those from the next number up to `end`, which is not of them, are below it. Offsets
+/// count from the start of their section, addresses are link addresses.
+#[derive(Debug, Drop)]
+pub struct Scope {
+    pub kind: ScopeKind,
+    /// Where its entry stands in `.debug_info`.
+    pub offset: usize,
+    pub number: usize,
+    pub end: usize,
+    /// What it covers, without the ranges that cover nothing.
+    pub ranges: Vec<Range>,
+    pub name: Option<Text>,
+    pub linkage_name: Option<Text>,
+    /// Where the line program of its unit starts in `.debug_line`.
+    pub stmt_list: Option<u64>,
+    pub call_file: Option<u64>,
+    pub call_line: Option<u64>,
+}
+
+/// The root of a unit, by its offset in `.debug_info`. The scopes of the unit are those from the number
+/// `first` up to `past`, which is not of them.
+#[derive(Clone, Copy, Debug, PartialEq, Eq)]
+pub struct Root {
+    pub offset: usize,
+    pub stmt_list: Option<u64>,
+    pub first: usize,
+    pub past: usize,
+}

@@ -12,7 +12,7 @@ use dwarf_forms::Abbrevs;
 use std::alloc::Global;
 
 /// The declarations that may be read for all units of an object.
-const DECLARATIONS_LIMIT: u64 = 4_194_304;
+pub(crate) const DECLARATIONS_LIMIT: u64 = 4_194_304;
 
 /// Reads the table of each unit and drops it again. A fault is told at its declaration.
 pub(crate) fn judge_tables(

@@ -1,0 +1,31 @@
+-- The turns of the passes over all units.
+use Rattle.std.proofs.Common.{◌≡◌, ℕ, zero, suc, ◌+◌, ◌-◌, ◌<◌, ◌≤◌, ◌⊎◌, inl, inr, List, [], ◌∷◌, ◌++◌, length, take, drop, get_or, map, refl, ap, sym, ◌∙◌, subst, arith, drop-cons, add-one}
+use Rattle.std.specs.Prelude.{Result, Ok, Err, Option, Some, None, sum_by, zip}
+use Rattle.dwarf_bytes.specs.declared.fault.Cause.{Cause}
+use Rattle.dwarf_bytes.specs.declared.fault.Cause.TheVariants as causes
+use Rattle.dwarf_bytes.specs.declared.fault.Section.TheVariants as names
+use Rattle.dwarf_bytes.specs.declared.fault.LoadFault.{LoadFault}
+use Rattle.dwarf_bytes.specs.declared.format.Format.{Format}
+use Rattle.dwarf_bytes.specs.Bind.{◌>>=◌}
+use Rattle.dwarf_bytes.specs.Items.{At, told_at, each, each_from}
+use Rattle.dwarf_bytes.specs.Refusals.{Decodes, memory_fault, told, in_section}
+use Rattle.dwarf_entries.specs.declared.bases.Bases.{Bases}
+use Rattle.dwarf_entries.specs.declared.kept.RootEntry.{RootEntry}
+use Rattle.dwarf_entries.specs.Sections.{Sections}
+use Rattle.dwarf_entries.specs.Bases.{bases_by}
+use Rattle.dwarf_entries.specs.Passes.{bases_in}
+
+-- a cause that is told at an item is the item's, unless memory ran out
+pub told_cases : (cause : Cause) (at : ℕ) → (told names.DebugInfo cause at ≡ memory_fault) ⊎ (told names.DebugInfo cause at ≡ record { section = names.DebugInfo; cause = cause; at = at })
+told_cases causes.Memory at = inl refl
+told_cases cause at = inr refl
+
+pub root_fault : (s : Sections) (format : Format) (found : Option RootEntry) (root : RootEntry) (cause : Cause) (fault : LoadFault) → found ≡ Some root →
+    Err cause ≡ bases_by s format root.str_offsets_base root.addr_base root.rnglists_base root.low_pc → fault ≡ told names.DebugInfo cause root.offset →
+    (fault ≡ memory_fault) ⊎ (in_section names.DebugInfo (bases_in s format found) ≡ Err fault)
+root_fault s format found root cause fault found_is bad told_is = by_cause (told_cases cause root.offset)
+  where
+    by_cause : (told names.DebugInfo cause root.offset ≡ memory_fault) ⊎ (told names.DebugInfo cause root.offset ≡ record { section = names.DebugInfo; cause = cause; at = root.offset }) →
+        (fault ≡ memory_fault) ⊎ (in_section names.DebugInfo (bases_in s format found) ≡ Err fault)
+    by_cause (inl memory) = inl (told_is ∙ memory)
+    by_cause (inr itself) = inr (rw (found_is, sym bad) (ap (λ (f : LoadFault). Err f) (sym (told_is ∙ itself))))

@@ -1,0 +1,13 @@
+use Rattle.std.proofs.Common.{◌≡◌, List, map}
+use Rattle.dwarf_entries.specs.declared.units.UnitHeader.{UnitHeader}
+use Rattle.dwarf_entries.specs.Entries.{Die}
+use Rattle.dwarf_entries.specs.Sections.{sections_of}
+use Rattle.dwarf_entries.specs.Kept.{kept_of}
+use Rattle.dwarf_entries.specs.Passes.{kept_units}
+use Rattle.dwarf_entries.proofs.BasesPass.{BasesSoFar}
+use Rattle.dwarf_entries.proofs.passes.all_bases.Given as goal
+
+abbrev pub invariant-loop-unit : goal.invariant-loop-unit
+invariant-loop-unit l =
+    (headers : List UnitHeader) (dies : List (List Die)) → map kept_of l.units ≡ kept_units headers dies
+        → BasesSoFar (sections_of l.sections) headers dies l.unit-index l.all.items

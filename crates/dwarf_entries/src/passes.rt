@@ -1,0 +1,85 @@
+//! The passes over all units: their entries, and what their roots tell.
+
+ghost use Rattle.std.specs.Prelude.{◌≡◌, List, Ok, map};
+ghost use Rattle.dwarf_bytes.specs.declared.fault.Section.TheVariants as names;
+ghost use Rattle.dwarf_bytes.specs.Refusals.{Decodes, in_section};
+ghost use Rattle.dwarf_forms.specs.Declarations.{Declaration};
+ghost use Rattle.dwarf_entries.specs.declared.units.UnitHeader.{UnitHeader};
+ghost use Rattle.dwarf_entries.specs.Entries.{Die};
+ghost use Rattle.dwarf_entries.specs.Sections.{sections_of};
+ghost use Rattle.dwarf_entries.specs.Units.{tables_of};
+ghost use Rattle.dwarf_entries.specs.Kept.{kept_of};
+ghost use Rattle.dwarf_entries.specs.Passes.{all_kept, kept_units, bases_in, all_bases};
+
+use crate::bases::Bases;
+use crate::entries::entries;
+use crate::kept::UnitEntries;
+use crate::roots::bases;
+use crate::sections::Sections;
+use crate::tables::DECLARATIONS_LIMIT;
+use crate::units::UnitHeader;
+use dwarf_bytes::{Cause, LoadFault, Section};
+use dwarf_forms::Abbrevs;
+use std::alloc::Global;
+
+/// The entries of all units, whose tables are good. A table is read again, and dropped with its unit.
+pub(crate) fn all_entries(
+    alloc: Global,
+    sections: &Sections<'_>,
+    headers: &[UnitHeader],
+) -> Result<Vec<UnitEntries>, LoadFault>
+    ensures { (tables : List (List Declaration)) → tables_of sections.now.debug_abbrev.now headers.now ≡ Ok tables
+        → Decodes (λ units. map kept_of units.items) result (in_section names.DebugInfo (all_kept sections.now.debug_info.now headers.now tables)) }
+{
+    let mut left = DECLARATIONS_LIMIT;
+    let mut units = Vec::new(alloc);
+    for header in headers {
+        let table = Abbrevs::read(
+            alloc,
+            sections.debug_abbrev,
+            header.abbreviations,
+            &mut left,
+        )?;
+        let unit = entries(alloc, sections.debug_info, *header, &table)?;
+        if units.push(unit).is_err() {
+            return Err(LoadFault::told(Section::DebugInfo, Cause::Memory, 0));
+        }
+    }
+    Ok(units)
+}
+
+/// What the roots of all units tell.
+pub(crate) fn all_bases(
+    alloc: Global,
+    sections: &Sections<'_>,
+    units: &[UnitEntries],
+) -> Result<Vec<Bases>, LoadFault>
+    ensures { (headers : List UnitHeader) (dies : List (List Die)) → map kept_of units.now ≡ kept_units headers dies
+        → Decodes (λ all. all.items) result (in_section names.DebugInfo (all_bases (sections_of sections.now) headers dies)) }
+{
+    let mut all = Vec::new(alloc);
+    for unit in units {
+        if all.push(unit_bases(sections, unit)?).is_err() {
+            return Err(LoadFault::told(Section::DebugInfo, Cause::Memory, 0));
+        }
+    }
+    Ok(all)
+}
+
+/// What the root of a unit tells; a unit without entries has no bases.
+fn unit_bases(sections: &Sections<'_>, unit: &UnitEntries) -> Result<Bases, LoadFault>
+    ensures { Decodes (λ bases. bases) result (in_section names.DebugInfo (bases_in (sections_of sections.now) unit.now.header.format unit.now.root)) }
+{
+    match &unit.root {
+        None => Ok(Bases {
+            str_offsets: None,
+            addr: None,
+            rnglists: None,
+            low_pc: None,
+        }),
+        Some(root) => match bases(sections, unit.header.format, root) {
+            Ok(bases) => Ok(bases),
+            Err(cause) => Err(LoadFault::told(Section::DebugInfo, cause, root.offset as u64)),
+        },
+    }
+}
