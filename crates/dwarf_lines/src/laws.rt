@@ -8,6 +8,9 @@ ghost use Rattle.dwarf_lines.specs.declared.instruction.Instruction.{Instruction
 ghost use Rattle.dwarf_lines.specs.Instructions.{Encoding, instruction_at, reading_of};
 ghost use Rattle.dwarf_bytes.specs.Numbers.{StandsAt};
 ghost use Rattle.dwarf_lines.specs.Spelling.{Spells, AreSpelled};
+ghost use Rattle.dwarf_lines.specs.declared.formats.Field.{Field};
+ghost use Rattle.dwarf_lines.specs.Entries.{repeated_at, format_at};
+ghost use Rattle.dwarf_lines.specs.HeaderSpelling.{SpellsEach, SpellsField};
 ghost use Rattle.dwarf_lines.specs.Matrix.{rows_from};
 ghost use Rattle.dwarf_lines.specs.Machine.{at_start, rows_by};
 ghost use Rattle.dwarf_lines.specs.Sections.{LineSections};
@@ -51,4 +54,12 @@ pub fn programs_are_spelled()
         → 0 < e.opcode_base → at ≤ length bytes
         → (reading_of e bytes at ≡ record { instructions = is; fault = None })
         ↔ AreSpelled e (drop at bytes) is }
+{}
+
+/// The fields of a format are read exactly where the bytes at the place begin with spellings of so
+/// many.
+pub fn formats_are_spelled()
+    ensures { (count : ℕ) (bytes : List ℕ) (at : ℕ) (fields : List Field) (next : ℕ)
+        → (repeated_at format_at count bytes at ≡ Ok (fields, next))
+        ↔ (StandsAt (SpellsEach SpellsField at) bytes at fields next × (length fields ≡ count)) }
 {}
