@@ -30,3 +30,28 @@ pub record SpellsField (place : ℕ) (bytes : List ℕ) (field : Field) : Type 0
   pub whole : bytes ≡ content ++ form
   pub content_is : IsUleb content field.content
   pub form_is : IsUleb form field.form
+
+-- The bytes at the place are a path in a form (7.5.5): a text, or the offset of one in its section.
+pub data SpellsPath (s : LineSections) (format : Format) (place : ℕ) : ℕ → List ℕ → PathText → Type 0 where
+  string : {bytes : List ℕ} → (text : List ℕ) → IsText bytes text → SpellsPath s format place 0x08 bytes (text_from sections.DebugLine place text)
+  strp : {bytes : List ℕ} → (offset past : ℕ) (text : List ℕ) → IsFixed (offset_len format) bytes offset → StandsAt IsText s.str offset text past → SpellsPath s format place 0x0e bytes (text_from sections.DebugStr offset text)
+  line_strp : {bytes : List ℕ} → (offset past : ℕ) (text : List ℕ) → IsFixed (offset_len format) bytes offset → StandsAt IsText s.line_str offset text past → SpellsPath s format place 0x1f bytes (text_from sections.DebugLineStr offset text)
+
+-- The bytes are a directory index in a form.
+pub data SpellsIndex : ℕ → List ℕ → ℕ → Type 0 where
+  data1 : {bytes : List ℕ} {index : ℕ} → IsFixed 1 bytes index → SpellsIndex 0x0b bytes index
+  data2 : {bytes : List ℕ} {index : ℕ} → IsFixed 2 bytes index → SpellsIndex 0x05 bytes index
+  udata : {bytes : List ℕ} {index : ℕ} → IsUleb bytes index → SpellsIndex 0x0f bytes index
+
+-- The bytes at the place are a field of the entry: its path, its directory, or what the entry does not keep.
+pub data SpellsPart (s : LineSections) (format : Format) (table : EntryTable) (entry : Entry) (place : ℕ) (bytes : List ℕ) (field : Field) : Type 0 where
+  path : is_path field ≡ true → SpellsPath s format place field.form bytes entry.path → SpellsPart s format table entry place bytes field
+  directory : is_index table field ≡ true → SpellsIndex field.form bytes entry.directory → SpellsPart s format table entry place bytes field
+  other : (layout : ValueLayout) (content : Content) → is_path field ≡ false → is_index table field ≡ false → layout_of field.form ≡ Some layout → SpellsContent layout format bytes content → SpellsPart s format table entry place bytes field
+
+-- The bytes at the place are an entry: its fields, in the order of the format. Its directory is there, and is
+-- directory 0 where no field says one.
+pub record SpellsEntry (s : LineSections) (format : Format) (table : EntryTable) (fields : List Field) (place : ℕ) (bytes : List ℕ) (entry : Entry) : Type 0 where
+  pub parts : SpellsEach (SpellsPart s format table entry) place bytes fields
+  pub unsaid : count_by (is_index table) fields ≡ 0 → entry.directory ≡ 0
+  pub known : has_directory table entry ≡ true

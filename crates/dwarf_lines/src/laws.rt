@@ -1,6 +1,6 @@
 //! What is true of all line programs.
 
-ghost use Rattle.std.specs.Prelude.{◌≡◌, ◌<◌, ◌≤◌, ◌↔◌, ℕ, List, [], length, drop, map, Ok, None};
+ghost use Rattle.std.specs.Prelude.{◌≡◌, ◌<◌, ◌≤◌, ◌↔◌, ℕ, List, [], length, drop, map, Ok, None, true};
 ghost use Rattle.std.specs.List.Sorted.{IsStrictlyIncreasing, IsNonDecreasingBy};
 ghost use Rattle.dwarf_lines.specs.declared.row.Row.{Row};
 ghost use Rattle.dwarf_lines.specs.declared.row.Origin.{Origin};
@@ -9,8 +9,12 @@ ghost use Rattle.dwarf_lines.specs.Instructions.{Encoding, instruction_at, readi
 ghost use Rattle.dwarf_bytes.specs.Numbers.{StandsAt};
 ghost use Rattle.dwarf_lines.specs.Spelling.{Spells, AreSpelled};
 ghost use Rattle.dwarf_lines.specs.declared.formats.Field.{Field};
-ghost use Rattle.dwarf_lines.specs.Entries.{repeated_at, format_at};
-ghost use Rattle.dwarf_lines.specs.HeaderSpelling.{SpellsEach, SpellsField};
+ghost use Rattle.dwarf_bytes.specs.declared.format.Format.{Format};
+ghost use Rattle.dwarf_lines.specs.declared.formats.EntryTable.{EntryTable};
+ghost use Rattle.dwarf_lines.specs.declared.entries.Entry.{Entry};
+ghost use Rattle.dwarf_lines.specs.Formats.{is_format};
+ghost use Rattle.dwarf_lines.specs.Entries.{repeated_at, format_at, entry_at};
+ghost use Rattle.dwarf_lines.specs.HeaderSpelling.{SpellsEach, SpellsField, SpellsEntry};
 ghost use Rattle.dwarf_lines.specs.Matrix.{rows_from};
 ghost use Rattle.dwarf_lines.specs.Machine.{at_start, rows_by};
 ghost use Rattle.dwarf_lines.specs.Sections.{LineSections};
@@ -62,4 +66,14 @@ pub fn formats_are_spelled()
     ensures { (count : ℕ) (bytes : List ℕ) (at : ℕ) (fields : List Field) (next : ℕ)
         → (repeated_at format_at count bytes at ≡ Ok (fields, next))
         ↔ (StandsAt (SpellsEach SpellsField at) bytes at fields next × (length fields ≡ count)) }
+{}
+
+/// An entry of a good format is read exactly where the bytes at the place begin with a spelling of
+/// it.
+pub fn entries_are_spelled()
+    ensures { (s : LineSections) (format : Format) (table : EntryTable) (fields : List Field)
+        (bytes : List ℕ) (at : ℕ) (entry : Entry) (next : ℕ)
+        → is_format table fields ≡ true
+        → (entry_at s format table fields bytes at ≡ Ok (entry, next))
+        ↔ StandsAt (SpellsEntry s format table fields at) bytes at entry next }
 {}
