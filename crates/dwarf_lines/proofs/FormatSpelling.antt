@@ -18,32 +18,34 @@ Stands {X = X} spells item bytes = (at : ℕ) (x : X) (next : ℕ) → item byte
 abbrev pub IsRead : {X : Type 0} → (ℕ → List ℕ → X → Type 0) → (List ℕ → ℕ → Result (X × ℕ) Cause) → List ℕ → Type 0
 IsRead {X = X} spells item bytes = (at : ℕ) (x : X) (next : ℕ) → StandsAt (spells at) bytes at x next → item bytes at ≡ Ok (x, next)
 
-pub each_stands : {X : Type 0} (spells : ℕ → List ℕ → X → Type 0) (item : List ℕ → ℕ → Result (X × ℕ) Cause) (bytes : List ℕ) → Stands spells item bytes → (count at : ℕ) (xs : List X) (next : ℕ) → repeated_at item count bytes at ≡ Ok (xs, next)
+pub each_stands : {X : Type 0} (spells : ℕ → List ℕ → X → Type 0) (item : List ℕ → ℕ → Result (X × ℕ) Cause) (bytes : List ℕ) (count at : ℕ) (xs : List X) (next : ℕ) → (0 < count → Stands spells item bytes) → repeated_at item count bytes at ≡ Ok (xs, next)
     → StandsAt (SpellsEach spells at) bytes at xs next × (length xs ≡ count)
 unfolding repeated_at
-each_stands {X = X} spells item bytes stands zero at xs next h =
+each_stands {X = X} spells item bytes zero at xs next stands h =
     subst (λ (p : List X × ℕ). StandsAt (SpellsEach spells at) bytes at p.0 p.1 × (length p.0 ≡ 0)) (ok_is {E = Cause} ([], at) (xs, next) h)
     (stands_of (SpellsEach spells at) bytes at [] at [] (none_at bytes at) refl, refl)
-each_stands {X = X} spells item bytes stands (suc count) at xs next h =
+each_stands {X = X} spells item bytes (suc count) at xs next stands h =
     let P : Type 0 = StandsAt (SpellsEach spells at) bytes at xs next × (length xs ≡ suc count) in
     after_bind (item bytes at) _ (xs, next) h P (λ first first_is h1.
     after_bind (repeated_at item count bytes first.1) _ (xs, next) h1 P (λ rest rest_is h2.
-    let here = stands at first.0 first.1 first_is in
-    let others = each_stands spells item bytes stands count first.1 rest.0 rest.1 rest_is in
+    let every = stands (omega arith) in
+    let here = every at first.0 first.1 first_is in
+    let others = each_stands spells item bytes count first.1 rest.0 rest.1 (λ some. every) rest_is in
     let both = join bytes at here.front first.1 others.0.front rest.1 (stretch_of (spells at) bytes at first.0 first.1 here) (stretch_of (SpellsEach spells first.1) bytes first.1 rest.0 rest.1 others.0) in
     let last = subst (λ (n : ℕ). SpellsEach spells n others.0.front rest.0) here.next_is others.0.spelled in
     subst (λ (p : List X × ℕ). StandsAt (SpellsEach spells at) bytes at p.0 p.1 × (length p.0 ≡ suc count)) (ok_is {E = Cause} (first.0 ∷ rest.0, rest.1) (xs, next) h2)
     (stands_of (SpellsEach spells at) bytes at (first.0 ∷ rest.0) rest.1 (here.front ++ others.0.front) both (here.front, others.0.front, refl, here.spelled, last), ap suc others.1)))
 
-pub each_again : {X : Type 0} (spells : ℕ → List ℕ → X → Type 0) (item : List ℕ → ℕ → Result (X × ℕ) Cause) (bytes : List ℕ) → IsRead spells item bytes → (at : ℕ) (front : List ℕ) (xs : List X) (next : ℕ) → Stretch bytes at front next → SpellsEach spells at front xs
+pub each_again : {X : Type 0} (spells : ℕ → List ℕ → X → Type 0) (item : List ℕ → ℕ → Result (X × ℕ) Cause) (bytes : List ℕ) (at : ℕ) (front : List ℕ) (xs : List X) (next : ℕ) → (0 < length xs → IsRead spells item bytes) → Stretch bytes at front next → SpellsEach spells at front xs
     → repeated_at item (length xs) bytes at ≡ Ok (xs, next)
 unfolding repeated_at
-each_again spells item bytes again at front [] next there none = ap (λ (n : ℕ). Ok ([], n)) (omega (arith, there.next_is, ap length none))
-each_again spells item bytes again at front (x ∷ xs) next there some =
+each_again spells item bytes at front [] next again there none = ap (λ (n : ℕ). Ok ([], n)) (omega (arith, there.next_is, ap length none))
+each_again spells item bytes at front (x ∷ xs) next again there some =
+    let every = again (omega arith) in
     let all = subst (λ (b : List ℕ). Stretch bytes at b next) some.2 there in
     let mid = at + length some.0 in
-    let here = again at x mid (stands_of (spells at) bytes at x mid some.0 (first_of bytes at some.0 some.1 next all) some.3) in
-    rw (here, each_again spells item bytes again mid some.1 xs next (rest_of bytes at some.0 some.1 next all) some.4) refl
+    let here = every at x mid (stands_of (spells at) bytes at x mid some.0 (first_of bytes at some.0 some.1 next all) some.3) in
+    rw (here, each_again spells item bytes mid some.1 xs next (λ more. every) (rest_of bytes at some.0 some.1 next all) some.4) refl
 
 -- ---- formats
 
@@ -71,9 +73,9 @@ field_again bytes at field next s =
     rw (content, form) refl
 
 pub format_stands : (count : ℕ) (bytes : List ℕ) (at : ℕ) (fields : List Field) (next : ℕ) → repeated_at format_at count bytes at ≡ Ok (fields, next) → StandsAt (SpellsEach SpellsField at) bytes at fields next × (length fields ≡ count)
-format_stands count bytes at fields next h = each_stands SpellsField format_at bytes (field_stands bytes) count at fields next h
+format_stands count bytes at fields next h = each_stands SpellsField format_at bytes count at fields next (λ some. field_stands bytes) h
 
 pub format_again : (count : ℕ) (bytes : List ℕ) (at : ℕ) (fields : List Field) (next : ℕ) → StandsAt (SpellsEach SpellsField at) bytes at fields next × (length fields ≡ count) → repeated_at format_at count bytes at ≡ Ok (fields, next)
 format_again count bytes at fields next s =
     ap (λ (n : ℕ). repeated_at format_at n bytes at) (sym s.1)
-    ∙ each_again SpellsField format_at bytes (field_again bytes) at s.0.front fields next (stretch_of (SpellsEach SpellsField at) bytes at fields next s.0) s.0.spelled
+    ∙ each_again SpellsField format_at bytes at s.0.front fields next (λ some. field_again bytes) (stretch_of (SpellsEach SpellsField at) bytes at fields next s.0) s.0.spelled

@@ -55,3 +55,16 @@ pub record SpellsEntry (s : LineSections) (format : Format) (table : EntryTable)
   pub parts : SpellsEach (SpellsPart s format table entry) place bytes fields
   pub unsaid : count_by (is_index table) fields ≡ 0 → entry.directory ≡ 0
   pub known : has_directory table entry ≡ true
+
+-- The bytes at the place are a table: how many fields its format has, the format, how many entries there are, and these.
+-- The format of a table that has entries is a good one.
+pub record SpellsTable (s : LineSections) (format : Format) (table : EntryTable) (place : ℕ) (bytes : List ℕ) (entries : List Entry) : Type 0 where
+  pub fields : List Field
+  pub entry_format : List ℕ
+  pub count : List ℕ
+  pub items : List ℕ
+  pub whole : bytes ≡ (length fields ∷ entry_format) ++ (count ++ items)
+  pub fields_are : SpellsEach SpellsField (place + 1) entry_format fields
+  pub count_is : IsUleb count (length entries)
+  pub good : 0 < length entries → is_format table fields ≡ true
+  pub entries_are : SpellsEach (SpellsEntry s format table fields) (place + 1 + length entry_format + length count) items entries

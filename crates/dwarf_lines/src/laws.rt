@@ -13,8 +13,8 @@ ghost use Rattle.dwarf_bytes.specs.declared.format.Format.{Format};
 ghost use Rattle.dwarf_lines.specs.declared.formats.EntryTable.{EntryTable};
 ghost use Rattle.dwarf_lines.specs.declared.entries.Entry.{Entry};
 ghost use Rattle.dwarf_lines.specs.Formats.{is_format};
-ghost use Rattle.dwarf_lines.specs.Entries.{repeated_at, format_at, entry_at};
-ghost use Rattle.dwarf_lines.specs.HeaderSpelling.{SpellsEach, SpellsField, SpellsEntry};
+ghost use Rattle.dwarf_lines.specs.Entries.{repeated_at, format_at, entry_at, table_at};
+ghost use Rattle.dwarf_lines.specs.HeaderSpelling.{SpellsEach, SpellsField, SpellsEntry, SpellsTable};
 ghost use Rattle.dwarf_lines.specs.Matrix.{rows_from};
 ghost use Rattle.dwarf_lines.specs.Machine.{at_start, rows_by};
 ghost use Rattle.dwarf_lines.specs.Sections.{LineSections};
@@ -76,4 +76,12 @@ pub fn entries_are_spelled()
         → is_format table fields ≡ true
         → (entry_at s format table fields bytes at ≡ Ok (entry, next))
         ↔ StandsAt (SpellsEntry s format table fields at) bytes at entry next }
+{}
+
+/// A table of a header is read exactly where the bytes at the place begin with a spelling of it.
+pub fn tables_are_spelled()
+    ensures { (s : LineSections) (format : Format) (table : EntryTable) (bytes : List ℕ) (at : ℕ)
+        (entries : List Entry) (next : ℕ)
+        → (table_at s format table bytes at ≡ Ok (entries, next))
+        ↔ StandsAt (SpellsTable s format table at) bytes at entries next }
 {}
