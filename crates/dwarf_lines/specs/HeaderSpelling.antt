@@ -68,3 +68,14 @@ pub record SpellsTable (s : LineSections) (format : Format) (table : EntryTable)
   pub count_is : IsUleb count (length entries)
   pub good : 0 < length entries → is_format table fields ≡ true
   pub entries_are : SpellsEach (SpellsEntry s format table fields) (place + 1 + length entry_format + length count) items entries
+
+-- The bytes are what a header says of the instructions, from minimum_instruction_length to standard_opcode_lengths.
+-- maximum_operations_per_instruction is 1, line_range is not 0, and each opcode before opcode_base has a length.
+pub record SpellsEncoding (bytes : List ℕ) (e : Encoding) : Type 0 where
+  pub default_is_stmt : ℕ
+  pub line_base : ℕ
+  pub whole : bytes ≡ e.minimum_length ∷ 1 ∷ default_is_stmt ∷ line_base ∷ e.line_range ∷ e.opcode_base ∷ e.opcode_lengths
+  pub base_is : e.line_base ≡ signed_byte line_base
+  pub range : e.line_range ≢ 0
+  pub lengths : e.opcode_base ≡ suc (length e.opcode_lengths)
+  pub standard : are_standard e.opcode_lengths ≡ true

@@ -13,8 +13,9 @@ ghost use Rattle.dwarf_bytes.specs.declared.format.Format.{Format};
 ghost use Rattle.dwarf_lines.specs.declared.formats.EntryTable.{EntryTable};
 ghost use Rattle.dwarf_lines.specs.declared.entries.Entry.{Entry};
 ghost use Rattle.dwarf_lines.specs.Formats.{is_format};
+ghost use Rattle.dwarf_lines.specs.Headers.{encoding_at};
 ghost use Rattle.dwarf_lines.specs.Entries.{repeated_at, format_at, entry_at, table_at};
-ghost use Rattle.dwarf_lines.specs.HeaderSpelling.{SpellsEach, SpellsField, SpellsEntry, SpellsTable};
+ghost use Rattle.dwarf_lines.specs.HeaderSpelling.{SpellsEach, SpellsField, SpellsEntry, SpellsTable, SpellsEncoding};
 ghost use Rattle.dwarf_lines.specs.Matrix.{rows_from};
 ghost use Rattle.dwarf_lines.specs.Machine.{at_start, rows_by};
 ghost use Rattle.dwarf_lines.specs.Sections.{LineSections};
@@ -84,4 +85,11 @@ pub fn tables_are_spelled()
         (entries : List Entry) (next : ℕ)
         → (table_at s format table bytes at ≡ Ok (entries, next))
         ↔ StandsAt (SpellsTable s format table at) bytes at entries next }
+{}
+
+/// What a header says of the instructions is read exactly where the bytes at the place begin with a
+/// spelling of it.
+pub fn encodings_are_spelled()
+    ensures { (bytes : List ℕ) (at : ℕ) (e : Encoding) (next : ℕ)
+        → (encoding_at bytes at ≡ Ok (e, next)) ↔ StandsAt SpellsEncoding bytes at e next }
 {}
