@@ -1,5 +1,5 @@
 -- A field of an entry, as what is spelled: in both directions.
-use Rattle.std.proofs.Common.{◌≡◌, ℕ, ◌+◌, ◌<◌, ◌≤◌, List, ◌++◌, length, drop, Bool, true, false, cond, ◌||◌, ◌==◌, Result, Ok, Err, Some, None, refl, sym, ap, ◌∙◌, subst, arith, length-append, length-drop, eq-eqb}
+use Rattle.std.proofs.Common.{◌≡◌, ℕ, ◌+◌, ◌<◌, List, ◌++◌, length, drop, Bool, true, false, cond, ◌||◌, ◌==◌, Result, Ok, Err, Some, None, refl, sym, ap, subst, arith, length-append, length-drop}
 use Rattle.std.specs.Prelude.{Option, is_some}
 use Rattle.std.specs.Option.{option_map_or}
 use Rattle.std.proofs.lemmas.Bool.Decides.{nat_tests}
@@ -28,7 +28,7 @@ use Rattle.dwarf_lines.specs.declared.entries.PathText.{PathText}
 use Rattle.dwarf_lines.specs.declared.entries.Entry.{Entry}
 use Rattle.dwarf_lines.specs.Sections.{LineSections}
 use Rattle.dwarf_lines.specs.Formats.{is_path, is_index, is_text_form, is_index_form, layout_of, has_good_form}
-use Rattle.dwarf_lines.specs.Entries.{text_from, text_by_offset, text_here, path_at, index_at, after_value, field_at}
+use Rattle.dwarf_lines.specs.Entries.{text_from, text_by_offset, path_at, index_at, after_value, field_at}
 use Rattle.dwarf_lines.specs.HeaderSpelling.{SpellsPath, string, strp, line_strp, SpellsIndex, data1, data2, udata, SpellsPart, path, directory, other}
 use Rattle.dwarf_lines.proofs.BoundsLaws.{ok_is}
 

@@ -1,10 +1,9 @@
 -- A table of a header, as what is spelled: in both directions.
-use Rattle.std.proofs.Common.{◌≡◌, ℕ, zero, suc, ◌+◌, ◌<◌, ◌≤◌, List, [], ◌∷◌, ◌++◌, length, Bool, true, false, not, ◌&&◌, ◌==◌, Result, Ok, refl, sym, ap, ◌∙◌, subst, arith}
+use Rattle.std.proofs.Common.{◌≡◌, ℕ, zero, suc, ◌+◌, ◌<◌, List, [], ◌∷◌, ◌++◌, length, Bool, true, false, not, ◌&&◌, ◌==◌, Ok, refl, sym, ap, subst, arith}
 use Rattle.std.proofs.lemmas.Bool.Decides.{nat_tests}
-use Rattle.dwarf_bytes.specs.declared.fault.Cause.{Cause}
 use Rattle.dwarf_bytes.specs.declared.fault.Cause.TheVariants as causes
 use Rattle.dwarf_bytes.specs.declared.format.Format.{Format}
-use Rattle.dwarf_bytes.specs.Items.{reading, refuse_if}
+use Rattle.dwarf_bytes.specs.Items.{reading}
 use Rattle.dwarf_bytes.specs.Numbers.{IsUleb, StandsAt, u8_at, uleb_at}
 use Rattle.dwarf_bytes.proofs.Advance.{after_bind, after_test, reading_ok}
 use Rattle.dwarf_bytes.proofs.Spelling.{uleb_stands, uleb_again}
@@ -15,9 +14,8 @@ use Rattle.dwarf_lines.specs.Sections.{LineSections}
 use Rattle.dwarf_lines.specs.Formats.{is_format}
 use Rattle.dwarf_lines.specs.Entries.{entry_at, repeated_at, format_at, table_at}
 use Rattle.dwarf_lines.specs.HeaderSpelling.{SpellsEach, SpellsField, SpellsEntry, SpellsTable}
-use Rattle.dwarf_lines.proofs.BoundsLaws.{ok_is}
 use Rattle.dwarf_lines.proofs.Stretches.{Stretch, stretch_of, stands_of, join, first_of, rest_of, byte_stands, byte_again}
-use Rattle.dwarf_lines.proofs.FormatSpelling.{Stands, IsRead, each_stands, each_again, format_stands, format_again}
+use Rattle.dwarf_lines.proofs.FormatSpelling.{each_stands, each_again, format_stands, format_again}
 use Rattle.dwarf_lines.proofs.EntrySpelling.{entry_stands, entry_again}
 
 is_some : (count : ℕ) → 0 < count → (count == 0) ≡ false

@@ -79,3 +79,36 @@ pub record SpellsEncoding (bytes : List ℕ) (e : Encoding) : Type 0 where
   pub range : e.line_range ≢ 0
   pub lengths : e.opcode_base ≡ suc (length e.opcode_lengths)
   pub standard : are_standard e.opcode_lengths ≡ true
+
+-- The bytes are an initial length (7.4).
+abbrev pub IsInitialLength : Format → List ℕ → ℕ → Type 0
+IsInitialLength Dwarf32 bytes len = IsFixed 4 bytes len × (len < 0xfffffff0)
+
+-- The bytes at the place are what header_length counts: the fields from minimum_instruction_length to the last file, and
+-- what stands behind them up to the first instruction, which is not read.
+pub record SpellsFields (s : LineSections) (format : Format) (place : ℕ) (bytes : List ℕ) (header : LineHeader) : Type 0 where
+  pub encoding : List ℕ
+  pub directories : List ℕ
+  pub files : List ℕ
+  pub unread : List ℕ
+  pub whole : bytes ≡ encoding ++ (directories ++ (files ++ unread))
+  pub encoding_is : SpellsEncoding encoding header.encoding
+  pub directories_are : SpellsTable s format Directories (place + length encoding) directories header.directories
+  pub files_are : SpellsTable s format (Files (length header.directories)) (place + length encoding + length directories) files header.files
+  pub first_is : header.first ≡ place + length bytes
+
+-- The bytes at the place are a line program that has the header. unit_length counts what stands behind it, version is 5,
+-- address_size 8 and segment_selector_size 0, and header_length counts what stands between it and the instructions.
+pub record SpellsHeader (s : LineSections) (place : ℕ) (bytes : List ℕ) (header : LineHeader) : Type 0 where
+  pub format : Format
+  pub unit_length : List ℕ
+  pub unit : List ℕ
+  pub header_length : List ℕ
+  pub fields : List ℕ
+  pub instructions : List ℕ
+  pub whole : bytes ≡ unit_length ++ unit
+  pub unit_is : unit ≡ (5 ∷ 0 ∷ 8 ∷ 0 ∷ header_length) ++ (fields ++ instructions)
+  pub unit_length_is : IsInitialLength format unit_length (length unit)
+  pub header_length_is : IsFixed (offset_len format) header_length (length fields)
+  pub fields_are : SpellsFields s format (place + length unit_length + 4 + length header_length) fields header
+  pub past_is : header.past ≡ place + length bytes

@@ -13,9 +13,9 @@ ghost use Rattle.dwarf_bytes.specs.declared.format.Format.{Format};
 ghost use Rattle.dwarf_lines.specs.declared.formats.EntryTable.{EntryTable};
 ghost use Rattle.dwarf_lines.specs.declared.entries.Entry.{Entry};
 ghost use Rattle.dwarf_lines.specs.Formats.{is_format};
-ghost use Rattle.dwarf_lines.specs.Headers.{encoding_at};
+ghost use Rattle.dwarf_lines.specs.Headers.{LineHeader, encoding_at, header_at};
 ghost use Rattle.dwarf_lines.specs.Entries.{repeated_at, format_at, entry_at, table_at};
-ghost use Rattle.dwarf_lines.specs.HeaderSpelling.{SpellsEach, SpellsField, SpellsEntry, SpellsTable, SpellsEncoding};
+ghost use Rattle.dwarf_lines.specs.HeaderSpelling.{SpellsEach, SpellsField, SpellsEntry, SpellsTable, SpellsEncoding, SpellsHeader};
 ghost use Rattle.dwarf_lines.specs.Matrix.{rows_from};
 ghost use Rattle.dwarf_lines.specs.Machine.{at_start, rows_by};
 ghost use Rattle.dwarf_lines.specs.Sections.{LineSections};
@@ -92,4 +92,11 @@ pub fn tables_are_spelled()
 pub fn encodings_are_spelled()
     ensures { (bytes : List ℕ) (at : ℕ) (e : Encoding) (next : ℕ)
         → (encoding_at bytes at ≡ Ok (e, next)) ↔ StandsAt SpellsEncoding bytes at e next }
+{}
+
+/// The header of a line program is read exactly where a program that has it stands.
+pub fn headers_are_spelled()
+    ensures { (s : LineSections) (place : ℕ) (header : LineHeader)
+        → (header_at s place ≡ Ok header)
+        ↔ StandsAt (SpellsHeader s place) s.line place header header.past }
 {}
