@@ -1,5 +1,5 @@
 -- The bounds of a line program, as what is spelled: in both directions.
-use Rattle.std.proofs.Common.{◌≡◌, ℕ, ◌+◌, ◌-◌, ◌<◌, ◌≤◌, List, [], ◌∷◌, ◌++◌, length, take, drop, true, false, not, ◌==◌, Ok, Err, refl, sym, ap, ◌∙◌, subst, arith, append_assoc, length-take, length-drop}
+use Rattle.std.proofs.Common.{◌≡◌, ℕ, ◌+◌, ◌-◌, ◌<◌, ◌≤◌, List, [], ◌∷◌, ◌++◌, length, take, drop, true, not, ◌==◌, Ok, Err, refl, sym, ap, ◌∙◌, subst, arith, append_assoc, length-take, length-drop}
 use Rattle.std.specs.Prelude.{nat_lt, nat_le}
 use Rattle.std.proofs.Math.Seq.{take-append-add}
 use Rattle.std.proofs.lemmas.List.{take-append-drop, drop-take, drop-append-le}
@@ -21,7 +21,7 @@ use Rattle.dwarf_lines.specs.HeaderSpelling.{IsInitialLength}
 use Rattle.dwarf_lines.proofs.BoundsLaws.{ok_is, within-is}
 use Rattle.dwarf_lines.proofs.Stretches.{Stretch, stretch, stretch_of, stands_of, join, first_of, rest_of, two_bytes, fixed_stands, fixed_again, byte_stands, byte_again}
 use Rattle.dwarf_lines.proofs.PartSpelling.{number_again, offset_stands, offset_again}
-use Rattle.dwarf_lines.proofs.EncodingSpelling.{inside}
+use Rattle.dwarf_lines.proofs.EncodingSpelling.{asked_for, inside}
 
 -- ---- bytes that are cut at an end
 
@@ -92,12 +92,6 @@ is_version block size value =
     let high : two.1 ≡ 0 = omega (arith, sum) in
     two.2 ∙ (ap (λ (n : ℕ). n ∷ two.1 ∷ []) low ∙ ap (λ (n : ℕ). 5 ∷ n ∷ []) high)
 
-is_byte : (byte : ℕ × ℕ) (n : ℕ) → not (byte.0 == n) ≡ false → byte.0 ≡ n
-is_byte byte n h = by byte.0 h
-  where
-    by : (b : ℕ) → not (b == n) ≡ false → b ≡ n
-    by b h = grind (arith, nat_tests)
-
 pub bounds_stand : (line : List ℕ) (place : ℕ) (b : Bounds) → bounds_at line place ≡ Ok b → AreSpelled line place b
 unfolding bounds_at
 bounds_stand line place b h =
@@ -117,9 +111,9 @@ bounds_stand line place b h =
     let ended = within-is line (unit.1 + unit.0.1) past past_is in
     let began = within-is all (len.1 + len.0) first first_is in
     let block = fixed_stands 2 all unit.1 version (reading_ok (u16_at all unit.1) version version_is) in
-    let v = subst (λ (front : List ℕ). Stretch all unit.1 front version.1) (is_version block.0 block.2 (sym block.3 ∙ is_byte version 5 five)) block.1 in
-    let a = subst (λ (n : ℕ). Stretch all version.1 (n ∷ []) address.1) (is_byte address 8 eight) (byte_stands all version.1 address (reading_ok (u8_at all version.1) address address_is)) in
-    let g = subst (λ (n : ℕ). Stretch all address.1 (n ∷ []) segment.1) (is_byte segment 0 zero_is) (byte_stands all address.1 segment (reading_ok (u8_at all address.1) segment segment_is)) in
+    let v = subst (λ (front : List ℕ). Stretch all unit.1 front version.1) (is_version block.0 block.2 (sym block.3 ∙ asked_for version.0 5 five)) block.1 in
+    let a = subst (λ (n : ℕ). Stretch all version.1 (n ∷ []) address.1) (asked_for address.0 8 eight) (byte_stands all version.1 address (reading_ok (u8_at all version.1) address address_is)) in
+    let g = subst (λ (n : ℕ). Stretch all address.1 (n ∷ []) segment.1) (asked_for segment.0 0 zero_is) (byte_stands all address.1 segment (reading_ok (u8_at all address.1) segment segment_is)) in
     let l = offset_stands unit.0.0 all segment.1 len.0 len.1 (reading_ok (offset_at unit.0.0 all segment.1) len len_is) in
     let gl = join all address.1 (0 ∷ []) segment.1 l.front len.1 g (stretch_of (IsFixed (offset_len unit.0.0)) all segment.1 len.0 len.1 l) in
     let agl = join all version.1 (8 ∷ []) address.1 (0 ∷ l.front) len.1 a gl in

@@ -1,7 +1,6 @@
 -- What a header says of the instructions, as what is spelled: in both directions.
-use Rattle.std.proofs.Common.{◌≡◌, ◌≢◌, ℕ, ◌+◌, ◌-◌, ◌<◌, ◌≤◌, List, [], ◌∷◌, length, take, drop, Bool, true, false, not, ◌==◌, Ok, refl, sym, ap, ◌∙◌, subst, arith, length-append, length-drop}
+use Rattle.std.proofs.Common.{◌≡◌, ℕ, ◌+◌, ◌-◌, ◌<◌, ◌≤◌, List, [], ◌∷◌, length, take, drop, Bool, true, false, not, ◌==◌, Ok, refl, sym, ap, ◌∙◌, subst, arith, length-append, length-drop}
 use Rattle.std.proofs.Math.Seq.{take-append_seam}
-use Rattle.std.proofs.lemmas.Bool.Decides.{nat_tests}
 use Rattle.dwarf_bytes.specs.declared.fault.Cause.{Cause}
 use Rattle.dwarf_bytes.specs.declared.fault.Cause.TheVariants as causes
 use Rattle.dwarf_bytes.specs.Items.{reading}
@@ -12,20 +11,17 @@ use Rattle.dwarf_lines.specs.Instructions.{Encoding}
 use Rattle.dwarf_lines.specs.Headers.{are_standard, lengths_at, signed_byte, encoding_at}
 use Rattle.dwarf_lines.specs.HeaderSpelling.{SpellsEncoding}
 use Rattle.dwarf_lines.proofs.BoundsLaws.{ok_is}
+use Rattle.dwarf_lines.proofs.SpellingLaws.{eqb-eq, differs, is_not}
 use Rattle.dwarf_lines.proofs.Stretches.{Stretch, stretch_of, stands_of, join, first_of, rest_of, block_stands, byte_stands, byte_again}
 
-passed : (b : Bool) → not b ≡ false → b ≡ true
+-- a test that did not refuse
+pub passed : (b : Bool) → not b ≡ false → b ≡ true
 passed true h = refl
 passed false h = absurd cc
 
-same_number : (a b : ℕ) → not (a == b) ≡ false → a ≡ b
-same_number a b h = grind (arith, nat_tests)
-
-differs : (a b : ℕ) → (a == b) ≡ false → a ≢ b
-differs a b h = grind (arith, nat_tests)
-
-is_not : (a b : ℕ) → a ≢ b → (a == b) ≡ false
-is_not a b h = grind (arith, nat_tests)
+-- a number that a test asks for
+pub asked_for : (a b : ℕ) → not (a == b) ≡ false → a ≡ b
+asked_for a b h = eqb-eq a b (passed (a == b) h)
 
 -- a stretch of a byte or more ends inside the bytes
 pub inside : (bytes : List ℕ) (at : ℕ) (front : List ℕ) (next : ℕ) → 0 < length front → Stretch bytes at front next → next ≤ length bytes
@@ -78,7 +74,7 @@ module _ (bytes : List ℕ) where
       let spelled : SpellsEncoding (minimum.0 ∷ operations.0 ∷ is_stmt.0 ∷ base.0 ∷ range.0 ∷ opcode_base.0 ∷ lengths.0) it = record {
         default_is_stmt = is_stmt.0;
         line_base = base.0;
-        whole = ap (λ (n : ℕ). minimum.0 ∷ n ∷ is_stmt.0 ∷ base.0 ∷ range.0 ∷ opcode_base.0 ∷ lengths.0) (same_number operations.0 1 one);
+        whole = ap (λ (n : ℕ). minimum.0 ∷ n ∷ is_stmt.0 ∷ base.0 ∷ range.0 ∷ opcode_base.0 ∷ lengths.0) (asked_for operations.0 1 one);
         base_is = refl;
         range = differs range.0 0 some;
         lengths = let nonzero = differs opcode_base.0 0 any in omega (arith, nonzero, b6.1);

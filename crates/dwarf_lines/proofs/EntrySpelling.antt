@@ -19,6 +19,7 @@ use Rattle.dwarf_lines.specs.Entries.{field_at, fields_at, no_entry, has_directo
 use Rattle.dwarf_lines.specs.HeaderSpelling.{SpellsEach, SpellsPart, path, directory, other, SpellsEntry}
 use Rattle.dwarf_lines.proofs.BoundsLaws.{ok_is}
 use Rattle.dwarf_lines.proofs.Stretches.{Stretch, stretch_of, stands_of, none_at, join, first_of, rest_of}
+use Rattle.dwarf_lines.proofs.EncodingSpelling.{passed}
 use Rattle.dwarf_lines.proofs.PartSpelling.{part_stands, part_again}
 
 -- ---- how many fields are of a kind
@@ -130,11 +131,7 @@ module _ (s : LineSections) (format : Format) (table : EntryTable) (bytes : List
       let a = fields_stand fields no_entry at read.0 read.1 (omega (arith, parts.0)) parts.1 parts.2 read_is in
       subst (λ (p : Entry × ℕ). StandsAt (SpellsEntry s format table fields at) bytes at p.0 p.1) (ok_is {E = Cause} read (entry, next) h2)
       (stands_of (SpellsEntry s format table fields at) bytes at read.0 read.1 a.0.front (stretch_of (SpellsEach (SpellsPart s format table read.0) at) bytes at fields read.1 a.0)
-      (record { parts = a.0.spelled; unsaid = a.1.1; known = is_not (has_directory table read.0) known }))))
-    where
-      is_not : (b : Bool) → not b ≡ false → b ≡ true
-      is_not true h = refl
-      is_not false h = absurd cc
+      (record { parts = a.0.spelled; unsaid = a.1.1; known = passed (has_directory table read.0) known }))))
 
   pub entry_again : (fields : List Field) → is_format table fields ≡ true → (at : ℕ) (entry : Entry) (next : ℕ) → StandsAt (SpellsEntry s format table fields at) bytes at entry next → entry_at s format table fields bytes at ≡ Ok (entry, next)
   unfolding entry_at

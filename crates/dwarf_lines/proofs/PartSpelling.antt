@@ -2,7 +2,6 @@
 use Rattle.std.proofs.Common.{◌≡◌, ℕ, ◌+◌, ◌<◌, List, ◌++◌, length, drop, Bool, true, false, cond, ◌||◌, ◌==◌, Result, Ok, Err, Some, None, refl, sym, ap, subst, arith, length-append, length-drop}
 use Rattle.std.specs.Prelude.{Option, is_some}
 use Rattle.std.specs.Option.{option_map_or}
-use Rattle.std.proofs.lemmas.Bool.Decides.{nat_tests}
 use Rattle.dwarf_bytes.specs.declared.fault.ReadFault.{ReadFault}
 use Rattle.dwarf_bytes.specs.declared.fault.ReadFault.TheVariants.{Unterminated}
 use Rattle.dwarf_bytes.specs.declared.fault.Cause.{Cause}
@@ -31,13 +30,11 @@ use Rattle.dwarf_lines.specs.Formats.{is_path, is_index, is_text_form, is_index_
 use Rattle.dwarf_lines.specs.Entries.{text_from, text_by_offset, path_at, index_at, after_value, field_at}
 use Rattle.dwarf_lines.specs.HeaderSpelling.{SpellsPath, string, strp, line_strp, SpellsIndex, data1, data2, udata, SpellsPart, path, directory, other}
 use Rattle.dwarf_lines.proofs.BoundsLaws.{ok_is}
+use Rattle.dwarf_lines.proofs.SpellingLaws.{eqb-eq}
 
 -- what stands at a place, in other words
 pub spelled_as : {X Y : Type 0} (S : List ℕ → X → Type 0) (T : List ℕ → Y → Type 0) (bytes : List ℕ) (at : ℕ) (x : X) (y : Y) (next : ℕ) → ((front : List ℕ) → S front x → T front y) → StandsAt S bytes at x next → StandsAt T bytes at y next
 spelled_as S T bytes at x y next as_other s = record { front = s.front; rest = s.rest; spelled = as_other s.front s.spelled; parts = s.parts; next_is = s.next_is }
-
-same_number : (a b : ℕ) → (a == b) ≡ true → a ≡ b
-same_number a b h = grind (arith, nat_tests)
 
 -- the last of three forms
 third : (a b c : Bool) → (a || b || c) ≡ true → a ≡ false → b ≡ false → c ≡ true
@@ -96,11 +93,11 @@ module _ (s : LineSections) (format : Format) (bytes : List ℕ) (at : ℕ) wher
       (λ is h1. after_bind (reading (cstr_at bytes at)) _ (text, next) h1 P (λ found found_is h2.
       let a = text_stands bytes at found.0 found.1 (reading_ok (cstr_at bytes at) found found_is) in
       let whole = spelled_as IsText (SpellsPath s format at 0x08) bytes at found.0 (text_from sections.DebugLine at found.0) found.1 (λ front there. string found.0 there) a in
-      rw (same_number form 0x08 is)
+      rw (eqb-eq form 0x08 is)
       (subst (λ (p : PathText × ℕ). StandsAt (SpellsPath s format at 0x08) bytes at p.0 p.1) (ok_is {E = Cause} (text_from sections.DebugLine at found.0, found.1) (text, next) h2) whole)))
       (λ not8 h1. chosen (form == 0x0e) _ _ (Ok (text, next)) h1 P
-      (λ is h2. rw (same_number form 0x0e is) (by_offset_stands sections.DebugStr s.str 0x0e text next (λ front offset past found is there. strp offset past found is there) h2))
-      (λ not14 h2. rw (same_number form 0x1f (third (form == 0x08) (form == 0x0e) (form == 0x1f) good not8 not14))
+      (λ is h2. rw (eqb-eq form 0x0e is) (by_offset_stands sections.DebugStr s.str 0x0e text next (λ front offset past found is there. strp offset past found is there) h2))
+      (λ not14 h2. rw (eqb-eq form 0x1f (third (form == 0x08) (form == 0x0e) (form == 0x1f) good not8 not14))
       (by_offset_stands sections.DebugLineStr s.line_str 0x1f text next (λ front offset past found is there. line_strp offset past found is there) h2)))
 
   path_again : (form : ℕ) (front : List ℕ) (text : PathText) (next : ℕ) → (rest : List ℕ) → drop at bytes ≡ front ++ rest → next ≡ at + length front → SpellsPath s format at form front text → path_at s format form bytes at ≡ Ok (text, next)
@@ -117,12 +114,12 @@ module _ (s : LineSections) (format : Format) (bytes : List ℕ) (at : ℕ) wher
   index_stands form index next good h =
       let P : Type 0 = StandsAt (SpellsIndex form) bytes at index next in
       chosen (form == 0x0b) _ _ (Ok (index, next)) h P
-      (λ is h1. rw (same_number form 0x0b is)
+      (λ is h1. rw (eqb-eq form 0x0b is)
       (spelled_as (IsFixed 1) (SpellsIndex 0x0b) bytes at index index next (λ front there. data1 there) (fixed_stands 1 bytes at index next (reading_ok (u8_at bytes at) (index, next) h1))))
       (λ not11 h1. chosen (form == 0x05) _ _ (Ok (index, next)) h1 P
-      (λ is h2. rw (same_number form 0x05 is)
+      (λ is h2. rw (eqb-eq form 0x05 is)
       (spelled_as (IsFixed 2) (SpellsIndex 0x05) bytes at index index next (λ front there. data2 there) (fixed_stands 2 bytes at index next (reading_ok (u16_at bytes at) (index, next) h2))))
-      (λ not5 h2. rw (same_number form 0x0f (third (form == 0x0b) (form == 0x05) (form == 0x0f) good not11 not5))
+      (λ not5 h2. rw (eqb-eq form 0x0f (third (form == 0x0b) (form == 0x05) (form == 0x0f) good not11 not5))
       (spelled_as IsUleb (SpellsIndex 0x0f) bytes at index index next (λ front there. udata there) (uleb_stands bytes at index next (reading_ok (uleb_at bytes at) (index, next) h2)))))
 
   index_again : (form : ℕ) (front : List ℕ) (index next : ℕ) → (rest : List ℕ) → drop at bytes ≡ front ++ rest → next ≡ at + length front → SpellsIndex form front index → index_at form bytes at ≡ Ok (index, next)
@@ -156,14 +153,14 @@ module _ (s : LineSections) (format : Format) (bytes : List ℕ) (at : ℕ) wher
       where
         by : (t : EntryTable) → is_index t field ≡ true → is_path field ≡ false
         by Directories h = cc
-        by (Files directories) h = let two = same_number field.content 2 h in rw two refl
+        by (Files directories) h = let two = eqb-eq field.content 2 h in rw two refl
 
     path_is_no_index : (field : Field) → is_path field ≡ true → is_index table field ≡ false
     path_is_no_index field h = by table h
       where
         by : (t : EntryTable) → is_path field ≡ true → is_index t field ≡ false
         by Directories h = refl
-        by (Files directories) h = let one = same_number field.content 1 h in rw one refl
+        by (Files directories) h = let one = eqb-eq field.content 1 h in rw one refl
 
     first_form : (a b x y z : Bool) → cond a x (cond b y z) ≡ true → a ≡ true → x ≡ true
     first_form true b x y z h is = h

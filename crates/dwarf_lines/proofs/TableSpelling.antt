@@ -1,6 +1,5 @@
 -- A table of a header, as what is spelled: in both directions.
 use Rattle.std.proofs.Common.{◌≡◌, ℕ, zero, suc, ◌+◌, ◌<◌, List, [], ◌∷◌, ◌++◌, length, Bool, true, false, not, ◌&&◌, ◌==◌, Ok, refl, sym, ap, subst, arith}
-use Rattle.std.proofs.lemmas.Bool.Decides.{nat_tests}
 use Rattle.dwarf_bytes.specs.declared.fault.Cause.TheVariants as causes
 use Rattle.dwarf_bytes.specs.declared.format.Format.{Format}
 use Rattle.dwarf_bytes.specs.Items.{reading}
@@ -15,23 +14,18 @@ use Rattle.dwarf_lines.specs.Formats.{is_format}
 use Rattle.dwarf_lines.specs.Entries.{entry_at, repeated_at, format_at, table_at}
 use Rattle.dwarf_lines.specs.HeaderSpelling.{SpellsEach, SpellsField, SpellsEntry, SpellsTable}
 use Rattle.dwarf_lines.proofs.Stretches.{Stretch, stretch_of, stands_of, join, first_of, rest_of, byte_stands, byte_again}
+use Rattle.dwarf_lines.proofs.SpellingLaws.{is_not}
+use Rattle.dwarf_lines.proofs.EncodingSpelling.{passed}
 use Rattle.dwarf_lines.proofs.FormatSpelling.{each_stands, each_again, format_stands, format_again}
 use Rattle.dwarf_lines.proofs.EntrySpelling.{entry_stands, entry_again}
 
-is_some : (count : ℕ) → 0 < count → (count == 0) ≡ false
-is_some count some = grind (arith, nat_tests)
-
 -- a format is judged where there are entries
 judged : (count : ℕ) (good : Bool) → (not (count == 0) && not good) ≡ false → 0 < count → good ≡ true
-judged count good h some = by good (rw (is_some count some) at h)
-  where
-    by : (b : Bool) → not b ≡ false → b ≡ true
-    by true is = refl
-    by false is = absurd cc
+judged count good h some = passed good (rw (is_not count 0 (λ none. omega (arith, some, none))) at h)
 
 not_refused : (count : ℕ) (good : Bool) → (0 < count → good ≡ true) → (not (count == 0) && not good) ≡ false
 not_refused zero good h = refl
-not_refused (suc count) good h = rw (h (omega arith), is_some (suc count) (omega arith)) refl
+not_refused (suc count) good h = rw (h (omega arith), is_not (suc count) 0 (λ none. omega (arith, none))) refl
 
 module _ (s : LineSections) (format : Format) (table : EntryTable) (bytes : List ℕ) where
   entries_stand : (fields : List Field) (count at : ℕ) (entries : List Entry) (next : ℕ) → (0 < count → is_format table fields ≡ true) → repeated_at (entry_at s format table fields) count bytes at ≡ Ok (entries, next)

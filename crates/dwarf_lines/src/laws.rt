@@ -2,14 +2,14 @@
 
 ghost use Rattle.std.specs.Prelude.{◌≡◌, ◌<◌, ◌≤◌, ◌↔◌, ℕ, List, [], length, drop, map, Ok, None, true};
 ghost use Rattle.std.specs.List.Sorted.{IsStrictlyIncreasing, IsNonDecreasingBy};
+ghost use Rattle.dwarf_bytes.specs.Numbers.{StandsAt};
+ghost use Rattle.dwarf_bytes.specs.declared.format.Format.{Format};
 ghost use Rattle.dwarf_lines.specs.declared.row.Row.{Row};
 ghost use Rattle.dwarf_lines.specs.declared.row.Origin.{Origin};
 ghost use Rattle.dwarf_lines.specs.declared.instruction.Instruction.{Instruction};
 ghost use Rattle.dwarf_lines.specs.Instructions.{Encoding, instruction_at, reading_of};
-ghost use Rattle.dwarf_bytes.specs.Numbers.{StandsAt};
 ghost use Rattle.dwarf_lines.specs.Spelling.{Spells, AreSpelled};
 ghost use Rattle.dwarf_lines.specs.declared.formats.Field.{Field};
-ghost use Rattle.dwarf_bytes.specs.declared.format.Format.{Format};
 ghost use Rattle.dwarf_lines.specs.declared.formats.EntryTable.{EntryTable};
 ghost use Rattle.dwarf_lines.specs.declared.entries.Entry.{Entry};
 ghost use Rattle.dwarf_lines.specs.Formats.{is_format};
