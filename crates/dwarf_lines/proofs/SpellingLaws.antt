@@ -14,13 +14,13 @@ use Rattle.dwarf_lines.specs.Spelling.{AreUlebs, none, more, IsPassedOver, Spell
 use Rattle.dwarf_lines.proofs.BoundsLaws.{ok_is}
 use Rattle.dwarf_lines.proofs.Stretches.{Stretch, stretch_of, stands_of, none_at, join, first_of, rest_of, block_stands, block_again, two_bytes, fixed_stands, fixed_again, byte_stands, byte_again}
 
-eqb-eq : (a b : ℕ) → (a == b) ≡ true → a ≡ b
+pub eqb-eq : (a b : ℕ) → (a == b) ≡ true → a ≡ b
 eqb-eq a b h = grind (arith, nat_tests)
 
-differs : (a b : ℕ) → (a == b) ≡ false → a ≢ b
+pub differs : (a b : ℕ) → (a == b) ≡ false → a ≢ b
 differs a b h = grind (arith, nat_tests)
 
-is_not : (a b : ℕ) → a ≢ b → (a == b) ≡ false
+pub is_not : (a b : ℕ) → a ≢ b → (a == b) ≡ false
 is_not a b h = grind (arith, nat_tests)
 
 -- operands that are passed over

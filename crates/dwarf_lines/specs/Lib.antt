@@ -12,3 +12,4 @@ pub mod Paths
 pub mod Lines
 pub mod Readers
 pub mod Kept
+pub mod HeaderSpelling

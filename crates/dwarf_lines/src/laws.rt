@@ -1,13 +1,21 @@
 //! What is true of all line programs.
 
-ghost use Rattle.std.specs.Prelude.{◌≡◌, ◌<◌, ◌≤◌, ◌↔◌, ℕ, List, [], length, drop, map, Ok, None};
+ghost use Rattle.std.specs.Prelude.{◌≡◌, ◌<◌, ◌≤◌, ◌↔◌, ℕ, List, [], length, drop, map, Ok, None, true};
 ghost use Rattle.std.specs.List.Sorted.{IsStrictlyIncreasing, IsNonDecreasingBy};
+ghost use Rattle.dwarf_bytes.specs.Numbers.{StandsAt};
+ghost use Rattle.dwarf_bytes.specs.declared.format.Format.{Format};
 ghost use Rattle.dwarf_lines.specs.declared.row.Row.{Row};
 ghost use Rattle.dwarf_lines.specs.declared.row.Origin.{Origin};
 ghost use Rattle.dwarf_lines.specs.declared.instruction.Instruction.{Instruction};
 ghost use Rattle.dwarf_lines.specs.Instructions.{Encoding, instruction_at, reading_of};
-ghost use Rattle.dwarf_bytes.specs.Numbers.{StandsAt};
 ghost use Rattle.dwarf_lines.specs.Spelling.{Spells, AreSpelled};
+ghost use Rattle.dwarf_lines.specs.declared.formats.Field.{Field};
+ghost use Rattle.dwarf_lines.specs.declared.formats.EntryTable.{EntryTable};
+ghost use Rattle.dwarf_lines.specs.declared.entries.Entry.{Entry};
+ghost use Rattle.dwarf_lines.specs.Formats.{is_format};
+ghost use Rattle.dwarf_lines.specs.Headers.{LineHeader, encoding_at, header_at};
+ghost use Rattle.dwarf_lines.specs.Entries.{repeated_at, format_at, entry_at, table_at};
+ghost use Rattle.dwarf_lines.specs.HeaderSpelling.{SpellsEach, SpellsField, SpellsEntry, SpellsTable, SpellsEncoding, SpellsHeader};
 ghost use Rattle.dwarf_lines.specs.Matrix.{rows_from};
 ghost use Rattle.dwarf_lines.specs.Machine.{at_start, rows_by};
 ghost use Rattle.dwarf_lines.specs.Sections.{LineSections};
@@ -51,4 +59,44 @@ pub fn programs_are_spelled()
         → 0 < e.opcode_base → at ≤ length bytes
         → (reading_of e bytes at ≡ record { instructions = is; fault = None })
         ↔ AreSpelled e (drop at bytes) is }
+{}
+
+/// The fields of a format are read exactly where the bytes at the place begin with spellings of so
+/// many.
+pub fn formats_are_spelled()
+    ensures { (count : ℕ) (bytes : List ℕ) (at : ℕ) (fields : List Field) (next : ℕ)
+        → (repeated_at format_at count bytes at ≡ Ok (fields, next))
+        ↔ (StandsAt (SpellsEach SpellsField at) bytes at fields next × (length fields ≡ count)) }
+{}
+
+/// An entry of a good format is read exactly where the bytes at the place begin with a spelling of
+/// it.
+pub fn entries_are_spelled()
+    ensures { (s : LineSections) (format : Format) (table : EntryTable) (fields : List Field)
+        (bytes : List ℕ) (at : ℕ) (entry : Entry) (next : ℕ)
+        → is_format table fields ≡ true
+        → (entry_at s format table fields bytes at ≡ Ok (entry, next))
+        ↔ StandsAt (SpellsEntry s format table fields at) bytes at entry next }
+{}
+
+/// A table of a header is read exactly where the bytes at the place begin with a spelling of it.
+pub fn tables_are_spelled()
+    ensures { (s : LineSections) (format : Format) (table : EntryTable) (bytes : List ℕ) (at : ℕ)
+        (entries : List Entry) (next : ℕ)
+        → (table_at s format table bytes at ≡ Ok (entries, next))
+        ↔ StandsAt (SpellsTable s format table at) bytes at entries next }
+{}
+
+/// What a header says of the instructions is read exactly where the bytes at the place begin with a
+/// spelling of it.
+pub fn encodings_are_spelled()
+    ensures { (bytes : List ℕ) (at : ℕ) (e : Encoding) (next : ℕ)
+        → (encoding_at bytes at ≡ Ok (e, next)) ↔ StandsAt SpellsEncoding bytes at e next }
+{}
+
+/// The header of a line program is read exactly where a program that has it stands.
+pub fn headers_are_spelled()
+    ensures { (s : LineSections) (place : ℕ) (header : LineHeader)
+        → (header_at s place ≡ Ok header)
+        ↔ StandsAt (SpellsHeader s place) s.line place header header.past }
 {}
