@@ -6,3 +6,6 @@ pub mod EachPlaces
 pub mod PassLaws
 pub mod EntriesPass
 pub mod BasesPass
+pub mod ScopeLaws
+pub mod PlaceLaws
+pub mod ScopesPass

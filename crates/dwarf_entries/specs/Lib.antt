@@ -9,3 +9,4 @@ pub mod Scopes
 pub mod Steps
 pub mod Kept
 pub mod Passes
+pub mod Members

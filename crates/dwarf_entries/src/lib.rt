@@ -7,11 +7,13 @@ mod entries;
 mod kept;
 mod names;
 mod passes;
+mod paths;
 mod ranges;
 mod roots;
 mod scope;
 mod sections;
 mod tables;
+mod unit_scopes;
 mod units;
 
 pub use scope::{Range, Root, Scope, ScopeKind, Text};

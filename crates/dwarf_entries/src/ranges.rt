@@ -3,7 +3,7 @@
 ghost use Rattle.std.specs.Prelude.{◌≡◌, ◌<◌, IsSome, IfOk};
 ghost use Rattle.dwarf_bytes.specs.Refusals.{ReadsField};
 ghost use Rattle.dwarf_forms.specs.Tables.{ReadsNext};
-ghost use Rattle.dwarf_entries.specs.Ranges.{kind_of, covered, index_at, entry_at, listed_behind, list_at, high_of, pair_range};
+ghost use Rattle.dwarf_entries.specs.Ranges.{kind_of, covered, index_at, entry_at, listed_behind, list_at, high_of, pair_range, covers_by};
 ghost use Rattle.dwarf_entries.specs.Steps.{Gives, covering_of};
 ghost use Rattle.dwarf_entries.specs.Sections.{sections_of};
 
@@ -207,4 +207,19 @@ pub(crate) fn pair(
     let start = address_of(sections, bases.addr, low_pc)?;
     let end = high(sections, bases, start, high_pc)?;
     covered(u128::from(start), end)
+}
+
+/// Stub.
+pub(crate) fn covers(
+    alloc: Global,
+    room: u64,
+    sections: &Sections<'_>,
+    bases: &Bases,
+    low_pc: Option<AttributeValue>,
+    high_pc: Option<AttributeValue>,
+    ranges: Option<AttributeValue>,
+) -> Result<Covering, Cause>
+    ensures { Gives (λ covering. covering_of covering) result (covers_by room (sections_of sections.now) bases.now low_pc high_pc ranges) }
+{
+    Err(Cause::Memory)
 }

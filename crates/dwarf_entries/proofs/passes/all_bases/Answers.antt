@@ -17,6 +17,5 @@ loop-unit-preserved c headers dies same =
     rw (c.push.ensures.items, c.if-is_err.ensures.negation)
     (bases_next (sections_of c.args.sections.now) c.args.units.now headers dies c.loop-unit.unit-index c.unit-item.result c.loop-unit.all.items c.in_ok-unit_bases.field-0 same c.loop-unit-test.true c.unit-item.is (c.loop-unit.invariant headers dies same) c.in_ok-unit_bases.ensures)
 
-
 pub returns : goal.returns
 returns c headers dies same = bases_end (sections_of c.args.sections.now) c.args.units.now headers dies c.loop-unit.unit-index c.loop-unit.all.items same c.loop-unit-test.false (c.loop-unit.invariant headers dies same)

@@ -1,0 +1,102 @@
+-- The places of the scopes of a unit, by what is kept of it.
+use Rattle.std.proofs.Common.{◌≡◌, ℕ, zero, suc, ◌+◌, ◌<◌, ◌≤◌, List, [], ◌∷◌, length, drop, get_or, map, Bool, refl, ap, sym, ◌∙◌, arith, drop-cons, add-one, length-take}
+use Rattle.std.specs.Prelude.{Option, Some, None, count_by, nat_lt, take_while}
+use Rattle.std.specs.List.{filter_map, prefix_len}
+use Rattle.std.proofs.lemmas.List.{get_or-map, length-map}
+use Rattle.std.proofs.lemmas.List.Sums.{count_by-le-length}
+use Rattle.dwarf_entries.specs.declared.scope.ScopeKind.TheVariants.{Subprogram}
+use Rattle.dwarf_entries.specs.declared.scope.ScopeKind.{ScopeKind}
+use Rattle.dwarf_entries.specs.declared.kept.ScopeEntry.{ScopeEntry}
+use Rattle.dwarf_entries.specs.Entries.{Die, below}
+use Rattle.dwarf_entries.specs.Bases.{CompilationUnit}
+use Rattle.dwarf_entries.specs.Scopes.{Place, kind_of, is_scope, place_of, places_in}
+use Rattle.dwarf_entries.specs.Kept.{scope_entry, scope_entry_of, inside_of, insides_in}
+
+abbrev pub entry_in : Place → ScopeEntry
+entry_in p = scope_entry p.member.die p.kind
+
+pub entries_are : (u : CompilationUnit) (dies : List Die) → filter_map scope_entry_of dies ≡ map entry_in (places_in u dies)
+entries_are u [] = refl
+entries_are u (die ∷ rest) = by_kind (kind_of die.tag) refl (entries_are u rest)
+  where
+    by_kind : (kind : Option ScopeKind) → kind_of die.tag ≡ kind → filter_map scope_entry_of rest ≡ map entry_in (places_in u rest) → filter_map scope_entry_of (die ∷ rest) ≡ map entry_in (place_of u die rest kind (places_in u rest))
+    by_kind None is later = rw is later
+    by_kind (Some kind) is later = rw is (ap (λ (es : List ScopeEntry). scope_entry die kind ∷ es) later)
+
+pub insides_are : (u : CompilationUnit) (dies : List Die) → insides_in dies ≡ map (λ p. p.inside) (places_in u dies)
+insides_are u [] = refl
+insides_are u (die ∷ rest) = by_kind (kind_of die.tag) (insides_are u rest)
+  where
+    by_kind : (kind : Option ScopeKind) → insides_in rest ≡ map (λ p. p.inside) (places_in u rest) → inside_of die rest kind (insides_in rest) ≡ map (λ p. p.inside) (place_of u die rest kind (places_in u rest))
+    by_kind None later = later
+    by_kind (Some kind) later = ap (λ (ns : List ℕ). count_by is_scope (below die rest) ∷ ns) later
+
+-- a place of a unit is in the unit, and no more scopes are below it than the unit has entries
+pub record IsPlaceIn (u : CompilationUnit) (many : ℕ) (p : Place) : Type 0 where
+  pub unit_is : p.member.unit ≡ u
+  pub few : p.inside ≤ many
+
+taken-few : (p : Die → Bool) (rest : List Die) → length (take_while p rest) ≤ length rest
+taken-few p rest = omega (arith, length-take (prefix_len p rest) rest)
+
+below-few : (die : Die) (rest : List Die) → count_by is_scope (below die rest) ≤ length rest
+below-few die rest =
+    let counted = count_by-le-length is_scope (below die rest) in
+    let taken = taken-few (λ d. nat_lt die.depth d.depth) rest in
+    omega (arith, counted, taken)
+
+places-each : (u : CompilationUnit) (dies : List Die) (many : ℕ) → length dies ≤ many → (i : ℕ) (d : Place) → i < length (places_in u dies) → IsPlaceIn u many (get_or (places_in u dies) i d)
+places-each u [] many fits i d within = absurd (omega (arith, within))
+places-each u (die ∷ rest) many fits i d within = by_kind (kind_of die.tag) i within (λ (j : ℕ) (inside : j < length (places_in u rest)). places-each u rest many (omega (arith, fits)) j d inside)
+  where
+    by_kind : (kind : Option ScopeKind) (i : ℕ) → i < length (place_of u die rest kind (places_in u rest)) → ((j : ℕ) → j < length (places_in u rest) → IsPlaceIn u many (get_or (places_in u rest) j d)) →
+        IsPlaceIn u many (get_or (place_of u die rest kind (places_in u rest)) i d)
+    by_kind None i within later = later i within
+    by_kind (Some kind) zero within later = record { unit_is = refl; few = omega (arith, below-few die rest, fits) }
+    by_kind (Some kind) (suc i) within later = later i (omega (arith, within))
+
+-- the place of the scope at an index of what is kept of a unit
+pub record PlaceAt (u : CompilationUnit) (i : ℕ) (entry : ScopeEntry) (inside : ℕ) : Type 0 where
+  pub place : Place
+  pub rest : drop i (places_in u u.dies) ≡ place ∷ drop (i + 1) (places_in u u.dies)
+  pub entry_is : entry ≡ scope_entry place.member.die place.kind
+  pub inside_is : inside ≡ place.inside
+  pub unit_is : place.member.unit ≡ u
+  pub few : place.inside ≤ length u.dies
+
+abbrev no_place : CompilationUnit → Place
+no_place u = record { member = record { unit = u; die = record { offset = 0; depth = 0; tag = 0; attributes = [] } }; kind = Subprogram; inside = 0 }
+
+pub place_at : (u : CompilationUnit) (entries : List ScopeEntry) (insides : List ℕ) (i d : ℕ) (x entry : ScopeEntry) (inside : ℕ) → entries ≡ filter_map scope_entry_of u.dies → insides ≡ insides_in u.dies →
+    i < length entries → entry ≡ get_or entries i x → inside ≡ get_or insides i d → PlaceAt u i entry inside
+place_at u entries insides i d x entry inside entries_kept insides_kept within entry_here inside_here =
+    let places = places_in u u.dies in
+    let p : Place = get_or places i (no_place u) in
+    let sizes : length entries ≡ length places = ap (λ (es : List ScopeEntry). length es) (entries_kept ∙ entries_are u u.dies) ∙ length-map places entry_in in
+    let there : i < length places = omega (arith, sizes, within) in
+    let each = places-each u u.dies (length u.dies) (omega arith) i (no_place u) there in
+    record {
+      place = p;
+      rest = rw (add-one, drop-cons places i (no_place u) there) refl;
+      entry_is = entry_here ∙ (ap (λ (es : List ScopeEntry). get_or es i x) (entries_kept ∙ entries_are u u.dies) ∙ get_or-map entry_in places i (no_place u) x there);
+      inside_is = inside_here ∙ (ap (λ (ns : List ℕ). get_or ns i d) (insides_kept ∙ insides_are u u.dies) ∙ get_or-map (λ q. q.inside) places i (no_place u) d there);
+      unit_is = each.unit_is;
+      few = each.few;
+    }
+
+-- as many counts as scopes
+pub as_many : (u : CompilationUnit) (entries : List ScopeEntry) (insides : List ℕ) → entries ≡ filter_map scope_entry_of u.dies → insides ≡ insides_in u.dies → length insides ≡ length entries
+as_many u entries insides entries_kept insides_kept =
+    let places = places_in u u.dies in
+    ap (λ (ns : List ℕ). length ns) (insides_kept ∙ insides_are u u.dies)
+    ∙ (length-map places (λ q. q.inside) ∙ (sym (length-map places entry_in) ∙ ap (λ (es : List ScopeEntry). length es) (sym (entries_kept ∙ entries_are u u.dies))))
+
+-- a count is no more than the unit has entries
+pub few_there : (u : CompilationUnit) (insides : List ℕ) (i d inside : ℕ) → insides ≡ insides_in u.dies → i < length insides → inside ≡ get_or insides i d → inside ≤ length u.dies
+few_there u insides i d inside insides_kept within inside_here =
+    let places = places_in u u.dies in
+    let sizes : length insides ≡ length places = ap (λ (ns : List ℕ). length ns) (insides_kept ∙ insides_are u u.dies) ∙ length-map places (λ q. q.inside) in
+    let there : i < length places = omega (arith, sizes, within) in
+    let each = places-each u u.dies (length u.dies) (omega arith) i (no_place u) there in
+    let is : inside ≡ (get_or places i (no_place u)).inside = inside_here ∙ (ap (λ (ns : List ℕ). get_or ns i d) (insides_kept ∙ insides_are u u.dies) ∙ get_or-map (λ q. q.inside) places i (no_place u) d there) in
+    omega (arith, is, each.few)

@@ -1,0 +1,132 @@
+//! The pass over the scopes of all units (DWARF 5, 3.3): their names, then their ranges.
+
+ghost use Rattle.std.specs.Prelude.{◌≡◌, ◌≤◌, ◌<◌, ◌+◌, ◌^◌, List, Some, length, map, slice_get, IfOk};
+ghost use Rattle.dwarf_bytes.specs.declared.fault.Section.TheVariants as names;
+ghost use Rattle.dwarf_bytes.specs.Refusals.{Decodes, in_section};
+ghost use Rattle.dwarf_entries.specs.Sections.{sections_of};
+ghost use Rattle.dwarf_entries.specs.Bases.{CompilationUnit};
+ghost use Rattle.dwarf_entries.specs.Scopes.{Judged, Place, places_in, scope_of, scope_at};
+ghost use Rattle.dwarf_entries.specs.Steps.{Gives};
+ghost use Rattle.dwarf_entries.specs.Passes.{AreUnits, stmt_list_in, judged_of, IsPlace, AreJudged, AddsScopes, all_scopes};
+
+use crate::bases::Bases;
+use crate::kept::{ScopeEntry, UnitEntries};
+use crate::paths::names;
+use crate::ranges::covers;
+use crate::scope::Scope;
+use crate::sections::Sections;
+use dwarf_bytes::{Cause, LoadFault, Section};
+use std::alloc::Global;
+
+/// The range items that may be read for an object.
+const ITEMS_LIMIT: u64 = 4_194_304;
+
+/// The units of an object, each with what its root tells.
+#[derive(Clone, Copy)]
+pub(crate) struct Units<'a> {
+    pub(crate) sections: &'a Sections<'a>,
+    pub(crate) units: &'a [UnitEntries],
+    pub(crate) bases: &'a [Bases],
+}
+
+impl<'a> Units<'a> {
+    /// The scope of an entry, and how many range items it was read from. `room` is how many it may be.
+    fn scope(
+        self,
+        alloc: Global,
+        unit: usize,
+        entry: &ScopeEntry,
+        inside: usize,
+        number: usize,
+        room: u64,
+    ) -> Result<(Scope, u64), Cause>
+        requires unit { (unit < length self.units.now) × (unit < length self.bases.now) }
+        requires end { number + inside + 1 < 2 ^ 64 }
+        ensures judged { (us : List CompilationUnit) (before : List Judged) (p : Place) → AreUnits self.entry.units.now self.entry.bases.now us → IsPlace us unit entry.now inside number room before p
+            → Gives (λ found. judged_of found) result (scope_at (sections_of self.entry.sections.now) us before p) }
+        ensures room { IfOk result (λ found. found.1 ≤ room) }
+    {
+        let names = names(self.sections, self.units, self.bases, unit, &entry.entry)?;
+        let covering = covers(
+            alloc,
+            room,
+            self.sections,
+            &self.bases[unit],
+            entry.low_pc,
+            entry.high_pc,
+            entry.ranges,
+        )?;
+        let scope = Scope {
+            kind: entry.kind,
+            offset: entry.entry.offset,
+            number,
+            end: number + inside + 1,
+            ranges: covering.ranges,
+            name: names.name,
+            linkage_name: names.linkage_name,
+            stmt_list: stmt_list(&self.units[unit]),
+            call_file: entry.call_file,
+            call_line: entry.call_line,
+        };
+        Ok((scope, covering.items))
+    }
+
+    /// Puts the scopes of a unit behind those before it. `left` is how many range items may still be
+    /// read.
+    fn unit_scopes(
+        self,
+        alloc: Global,
+        unit: usize,
+        left: &mut u64,
+        scopes: &mut Vec<Scope>,
+    ) -> Result<(), LoadFault>
+        requires unit { unit < length self.units.now }
+        requires known { (us : List CompilationUnit) × AreUnits self.units.now self.bases.now us }
+        ensures { (us : List CompilationUnit) (u : CompilationUnit) (before : List Judged) → AreUnits self.entry.units.now self.entry.bases.now us → slice_get us unit ≡ Some u → AreJudged before scopes.old.items left.old
+            → AddsScopes result (sections_of self.entry.sections.now) us (places_in u u.dies) before scopes.new.items left.new }
+    {
+        let kept = &self.units[unit];
+        let first = scopes.len();
+        for entry in kept.scopes.as_slice() {
+            let number = scopes.len();
+            let inside = kept.insides[number - first];
+            match self.scope(alloc, unit, entry, inside, number, *left) {
+                Err(cause) => {
+                    let at = entry.entry.offset as u64;
+                    return Err(LoadFault::told(Section::DebugInfo, cause, at));
+                }
+                Ok((scope, items)) => {
+                    *left -= items;
+                    if scopes.push(scope).is_err() {
+                        return Err(LoadFault::told(Section::DebugInfo, Cause::Memory, 0));
+                    }
+                }
+            }
+        }
+        Ok(())
+    }
+
+    /// The scopes of all units.
+    pub(crate) fn scopes(self, alloc: Global) -> Result<Vec<Scope>, LoadFault>
+        requires { (us : List CompilationUnit) × AreUnits self.units.now self.bases.now us }
+        ensures { (us : List CompilationUnit) → AreUnits self.entry.units.now self.entry.bases.now us
+            → Decodes (λ scopes. map scope_of scopes.items) result (in_section names.DebugInfo (all_scopes (sections_of self.entry.sections.now) us)) }
+    {
+        let mut left = ITEMS_LIMIT;
+        let mut scopes = Vec::new(alloc);
+        for unit in 0..self.units.len() {
+            self.unit_scopes(alloc, unit, &mut left, &mut scopes)?;
+        }
+        Ok(scopes)
+    }
+}
+
+/// Where the line program of a unit starts.
+fn stmt_list(unit: &UnitEntries) -> Option<u64>
+    ensures { result ≡ stmt_list_in unit.now.root }
+{
+    match &unit.root {
+        Some(root) => root.stmt_list,
+        None => None,
+    }
+}
