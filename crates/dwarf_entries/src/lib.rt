@@ -5,6 +5,7 @@ mod attributes;
 mod bases;
 mod kept;
 mod names;
+mod paths;
 mod ranges;
 mod roots;
 mod scope;

@@ -1,0 +1,29 @@
+-- Entries with their units, as the program keeps them, for the contracts of paths.
+use Rattle.std.specs.Prelude.{◌≡◌, ℕ, List, Option, Some, None, Result, Ok, Err, map, slice_get, option_to_list}
+use Rattle.dwarf_bytes.specs.declared.fault.Cause.{Cause}
+use Rattle.dwarf_bytes.specs.declared.fault.Cause.TheVariants as causes
+use Rattle.dwarf_entries.specs.declared.kept.NamedEntry.{NamedEntry}
+use Rattle.dwarf_entries.specs.declared.kept.UnitEntries.{UnitEntries}
+use Rattle.dwarf_entries.specs.declared.paths.UnitEntry.{UnitEntry}
+use Rattle.dwarf_entries.specs.Bases.{CompilationUnit}
+use Rattle.dwarf_entries.specs.Names.{Member, members_of, member_at}
+use Rattle.dwarf_entries.specs.Kept.{named_entry, kept_unit, kept_of, AreInOrder}
+
+-- what is kept are these units, which stand in order
+pub record AreKept (kept : List UnitEntries) (units : List CompilationUnit) : Type 0 where
+  pub same : map kept_of kept ≡ map (λ unit. kept_unit unit.header unit.dies) units
+  pub order : AreInOrder 0 units
+
+-- the entry, in the unit of the number, is what is kept of the member
+pub record IsMember (units : List CompilationUnit) (number : ℕ) (entry : NamedEntry) (m : Member) : Type 0 where
+  pub unit_is : slice_get units number ≡ Some m.unit
+  pub entry_is : entry ≡ named_entry m.die
+
+-- what is found is the member of the outcome
+abbrev pub Finds : List CompilationUnit → Option UnitEntry → Result Member Cause → Type 0
+Finds units (Some found) outcome = (m : Member) × (outcome ≡ Ok m) × IsMember units found.unit found.entry m
+Finds units None outcome = outcome ≡ Err causes.Reference
+
+-- the entry at an offset of .debug_info, among those of the unit of the number, if there is one
+abbrev pub member_in : List CompilationUnit → ℕ → ℕ → Result Member Cause
+member_in units number offset = member_at (members_of (option_to_list (slice_get units number))) offset
