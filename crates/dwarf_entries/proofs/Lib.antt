@@ -9,3 +9,5 @@ pub mod BasesPass
 pub mod ScopeLaws
 pub mod PlaceLaws
 pub mod ScopesPass
+pub mod ReferenceLaws
+pub mod PathLaws

@@ -1,9 +1,19 @@
 -- Entries with their units, as the program keeps them, for the contracts of paths.
-use Rattle.std.specs.Prelude.{◌≡◌, ℕ, List, Some, map, slice_get}
+use Rattle.std.specs.Prelude.{◌≡◌, ℕ, List, Option, Some, None, Result, Ok, Err, map, slice_get, option_to_list}
+use Rattle.std.specs.Option.{option_and_then}
+use Rattle.dwarf_bytes.specs.declared.fault.Cause.{Cause}
+use Rattle.dwarf_bytes.specs.declared.fault.Cause.TheVariants as causes
 use Rattle.dwarf_entries.specs.declared.kept.NamedEntry.{NamedEntry}
 use Rattle.dwarf_entries.specs.declared.kept.UnitEntries.{UnitEntries}
+use Rattle.dwarf_entries.specs.declared.paths.UnitEntry.{UnitEntry}
+use Rattle.dwarf_entries.specs.declared.paths.UnitAttribute.{UnitAttribute}
+use Rattle.dwarf_entries.specs.declared.paths.FirstNames.{FirstNames}
+use Rattle.dwarf_entries.specs.declared.attributes.AttributeValue.{AttributeValue}
+use Rattle.dwarf_entries.specs.declared.bases.Table.{Table}
+use Rattle.dwarf_entries.specs.declared.bases.Bases.{Bases}
+use Rattle.dwarf_entries.specs.Attributes.{DW_AT_name, DW_AT_linkage_name}
 use Rattle.dwarf_entries.specs.Bases.{CompilationUnit}
-use Rattle.dwarf_entries.specs.Names.{Member}
+use Rattle.dwarf_entries.specs.Names.{Member, members_of, member_at, first_on}
 use Rattle.dwarf_entries.specs.Kept.{named_entry, kept_unit, kept_of, AreInOrder}
 
 -- what is kept are these units, which stand in order
@@ -15,3 +25,32 @@ pub record AreKept (kept : List UnitEntries) (units : List CompilationUnit) : Ty
 pub record IsMember (units : List CompilationUnit) (number : ℕ) (entry : NamedEntry) (m : Member) : Type 0 where
   pub unit_is : slice_get units number ≡ Some m.unit
   pub entry_is : entry ≡ named_entry m.die
+
+-- what is found is the member of the outcome
+abbrev pub Finds : List CompilationUnit → Option UnitEntry → Result Member Cause → Type 0
+Finds units (Some found) outcome = (m : Member) × (outcome ≡ Ok m) × IsMember units found.unit found.entry m
+Finds units None outcome = outcome ≡ Err causes.Reference
+
+-- the entry at an offset of .debug_info, among those of the unit of the number, if there is one
+abbrev pub member_in : List CompilationUnit → ℕ → ℕ → Result Member Cause
+member_in units number offset = member_at (members_of (option_to_list (slice_get units number))) offset
+
+-- what is kept of the first attribute of a name on a path: its value, in the unit of the number
+abbrev pub IsFirst : List CompilationUnit → Option UnitAttribute → Option (CompilationUnit × AttributeValue) → Type 0
+IsFirst units None None = Unit {0}
+IsFirst units None (Some first) = ⊥
+IsFirst units (Some kept) None = ⊥
+IsFirst units (Some kept) (Some first) = (slice_get units kept.unit ≡ Some first.0) × (kept.value ≡ first.1)
+
+pub record AreFirst (units : List CompilationUnit) (kept : FirstNames) (path : List Member) : Type 0 where
+  pub name : IsFirst units kept.name (first_on DW_AT_name path)
+  pub linkage_name : IsFirst units kept.linkage_name (first_on DW_AT_linkage_name path)
+
+-- what is found is of the path of the outcome
+abbrev pub FindsFirst : List CompilationUnit → Result FirstNames Cause → Result (List Member) Cause → Type 0
+FindsFirst units (Ok kept) outcome = (path : List Member) × (outcome ≡ Ok path) × AreFirst units kept path
+FindsFirst units (Err cause) outcome = outcome ≡ Err cause
+
+-- the table of string offsets of the unit of the number
+abbrev pub str_offsets_of : List Bases → ℕ → Option Table
+str_offsets_of bases number = option_and_then (λ b. b.str_offsets) (slice_get bases number)

@@ -9,10 +9,10 @@ use Rattle.dwarf_bytes.specs.Bind.{◌>>=◌}
 use Rattle.dwarf_bytes.specs.Items.{reading}
 use Rattle.dwarf_bytes.specs.Numbers.{text_at}
 use Rattle.dwarf_entries.specs.declared.scope.Text.{Text}
-use Rattle.dwarf_entries.specs.declared.paths.EntryNames.{EntryNames}
 use Rattle.dwarf_entries.specs.declared.bases.Table.{Table}
+use Rattle.dwarf_entries.specs.declared.paths.EntryNames.{EntryNames}
 use Rattle.dwarf_entries.specs.Sections.{Sections}
-use Rattle.dwarf_entries.specs.Attributes.{DW_AT_abstract_origin, DW_AT_specification, DW_AT_name, DW_AT_linkage_name}
+use Rattle.dwarf_entries.specs.Attributes.{DW_AT_name, DW_AT_linkage_name, DW_AT_abstract_origin, DW_AT_specification}
 use Rattle.dwarf_entries.specs.declared.attributes.AttributeValue.{AttributeValue}
 use Rattle.dwarf_entries.specs.Entries.{Die, attribute}
 use Rattle.dwarf_entries.specs.Bases.{CompilationUnit, item_at, optional}
@@ -110,10 +110,10 @@ first_on name (m ∷ path) = or_else (of_member name m) (first_on name path)
 abbrev pub name_on : ℕ → Sections → List Member → Result (Option Text) Cause
 name_on name s path = optional (λ found. text_of s found.0.bases.str_offsets found.1) (first_on name path)
 
--- the names of an entry, by its path
+-- the names of an entry: of each of the two attributes the first on its path
 abbrev pub names_of : Sections → List CompilationUnit → Member → Result EntryNames Cause
-names_of s us m = do
-  path ← path_of us m
+names_of s units m = do
+  path ← path_of units m
   name ← name_on DW_AT_name s path
   linkage_name ← name_on DW_AT_linkage_name s path
   Ok (record { name = name; linkage_name = linkage_name })

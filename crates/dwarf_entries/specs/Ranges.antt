@@ -127,6 +127,10 @@ list_at room sections bases place = do
   all ← untold (items_from (length sections.debug_rnglists) (listed_at room sections bases sections.debug_rnglists) [] place)
   Ok (record { ranges = flat_map ranges_in all.0; items = length all.0 })
 
+-- what the range list of an attribute covers
+abbrev pub list_of : ℕ → Sections → Bases → AttributeValue → Result Covering Cause
+list_of room sections bases value = list_place sections bases value >>= list_at room sections bases
+
 -- the end of a pair: an address, or a count from the start
 abbrev pub high_of : Sections → Bases → ℕ → AttributeValue → Result ℕ Cause
 high_of sections bases low high = if is_among address_forms high.form then address_of sections bases.addr high else Ok (low + high.number)
@@ -147,7 +151,7 @@ pair_at room sections bases low high = do
 
 -- what an entry covers, by its low_pc, high_pc and ranges
 abbrev pub covers_by : ℕ → Sections → Bases → Option AttributeValue → Option AttributeValue → Option AttributeValue → Result Covering Cause
-covers_by room sections bases None None (Some ranges) = list_place sections bases ranges >>= list_at room sections bases
+covers_by room sections bases None None (Some ranges) = list_of room sections bases ranges
 covers_by room sections bases low high (Some ranges) = Err causes.PcAndRanges
 covers_by room sections bases None (Some high) None = Err causes.PcAndRanges
 covers_by room sections bases (Some low) (Some high) None = pair_at room sections bases low high

@@ -1,16 +1,61 @@
-//! Stand-in.
+//! The names of an entry by way of its references (DWARF 5, 2.13, 2.15 and 3.3.8).
 
-ghost use Rattle.std.specs.Prelude.{◌≡◌, List, map};
-ghost use Rattle.dwarf_entries.specs.Bases.{CompilationUnit};
-ghost use Rattle.dwarf_entries.specs.Names.{Member, names_of};
-ghost use Rattle.dwarf_entries.specs.Members.{AreKept, IsMember};
+ghost use Rattle.std.specs.Prelude.{◌≡◌, ◌<◌, ◌≤◌, ◌==◌, ◌++◌, ◌∷◌, [], List, Some, length, map, find, slice_get, option_map};
+ghost use Rattle.std.specs.Option.{option_or};
+ghost use Rattle.std.specs.List.Sorted.{IsNonDecreasingBy, IsPartitionPoint};
 ghost use Rattle.dwarf_entries.specs.Sections.{sections_of};
+ghost use Rattle.dwarf_entries.specs.Bases.{CompilationUnit, optional};
+ghost use Rattle.dwarf_entries.specs.Names.{Member, target_of, path_of, text_of, names_of};
+ghost use Rattle.dwarf_entries.specs.Members.{AreKept, IsMember, Finds, member_in, AreFirst, FindsFirst, str_offsets_of};
 
+use crate::attributes::AttributeValue;
 use crate::bases::Bases;
 use crate::kept::{NamedEntry, UnitEntries};
+use crate::names::text_of;
 use crate::scope::Text;
 use crate::sections::Sections;
 use dwarf_bytes::Cause;
+
+/// DW_FORM_ref_addr, an offset into `.debug_info`. The other forms of a reference count from the
+/// first byte of the unit.
+const REF_ADDR: u64 = 0x10;
+
+/// The hops that a path may have.
+const HOPS_LIMIT: u32 = 16;
+
+/// An entry, with the number of its unit.
+#[derive(Clone, Copy, Debug, PartialEq, Eq)]
+pub(crate) struct UnitEntry {
+    pub(crate) unit: usize,
+    pub(crate) entry: NamedEntry,
+}
+
+/// The value of an attribute, with the number of the unit in which it stands.
+#[derive(Clone, Copy, Debug, PartialEq, Eq)]
+pub(crate) struct UnitAttribute {
+    pub(crate) unit: usize,
+    pub(crate) value: AttributeValue,
+}
+
+/// The first name and the first linkage_name on a path.
+#[derive(Clone, Copy, Debug, PartialEq, Eq)]
+pub(crate) struct FirstNames {
+    pub(crate) name: Option<UnitAttribute>,
+    pub(crate) linkage_name: Option<UnitAttribute>,
+}
+
+impl FirstNames {
+    /// Those on the path with one more entry behind it.
+    fn or(self, last: UnitEntry) -> FirstNames
+        ensures { (us : List CompilationUnit) (path : List Member) (m : Member) → AreFirst us self path → IsMember us last.unit last.entry m
+            → AreFirst us result (path ++ m ∷ []) }
+    {
+        FirstNames {
+            name: first(self.name, last.unit, last.entry.name),
+            linkage_name: first(self.linkage_name, last.unit, last.entry.linkage_name),
+        }
+    }
+}
 
 /// The names of an entry.
 #[derive(Clone, Copy, Debug, PartialEq, Eq)]
@@ -19,7 +64,8 @@ pub(crate) struct EntryNames {
     pub(crate) linkage_name: Option<Text>,
 }
 
-/// Stub.
+/// The names of an entry of a unit: of each attribute the first on the path from the entry to its
+/// next one, and so on. The path is followed to its end before a name is judged.
 pub(crate) fn names(
     sections: &Sections<'_>,
     units: &[UnitEntries],
@@ -30,5 +76,109 @@ pub(crate) fn names(
     ensures { (us : List CompilationUnit) → AreKept units.now us → bases.now ≡ map (λ u. u.bases) us
         → (m : Member) → IsMember us unit entry.now m → result ≡ names_of (sections_of sections.now) us m }
 {
-    Err(Cause::Memory)
+    let entry = *entry;
+    let firsts = first_names(units, UnitEntry { unit, entry })?;
+    let name = text(sections, bases, firsts.name)?;
+    let linkage_name = text(sections, bases, firsts.linkage_name)?;
+    Ok(EntryNames { name, linkage_name })
+}
+
+/// The text of an attribute, if there is one.
+fn text(
+    sections: &Sections<'_>,
+    bases: &[Bases],
+    found: Option<UnitAttribute>,
+) -> Result<Option<Text>, Cause>
+    ensures { result ≡ optional (λ found. text_of (sections_of sections.now) (str_offsets_of bases.now found.unit) found.value) found }
+{
+    let Some(found) = found else {
+        return Ok(None);
+    };
+    let str_offsets = bases.get(found.unit).and_then(|unit| unit.str_offsets);
+    Ok(Some(text_of(sections, str_offsets, found.value)?))
+}
+
+/// The first names on the path of an entry.
+fn first_names(units: &[UnitEntries], start: UnitEntry) -> Result<FirstNames, Cause>
+    ensures { (us : List CompilationUnit) → AreKept units.now us → (m : Member) → IsMember us start.unit start.entry m
+        → FindsFirst us result (path_of us m) }
+{
+    let none = FirstNames {
+        name: None,
+        linkage_name: None,
+    };
+    let mut firsts = none.or(start);
+    let mut last = start;
+    let mut left = HOPS_LIMIT;
+    while let Some(reference) = last.entry.next {
+        if left == 0 {
+            return Err(Cause::OriginDepth);
+        }
+        left -= 1;
+        last = target(units, last.unit, reference).ok_or(Cause::Reference)?;
+        firsts = firsts.or(last);
+    }
+    Ok(firsts)
+}
+
+/// The attribute that is known, or else its value in a unit.
+fn first(
+    known: Option<UnitAttribute>,
+    unit: usize,
+    value: Option<AttributeValue>,
+) -> Option<UnitAttribute>
+    ensures { result ≡ option_or known (option_map (λ value. record { unit = unit; value = value }) value) }
+{
+    known.or(value.map(|value| UnitAttribute { unit, value }))
+}
+
+/// The entry that a reference in a unit names, if it names one.
+fn target(units: &[UnitEntries], unit: usize, reference: AttributeValue) -> Option<UnitEntry>
+    ensures { (us : List CompilationUnit) → AreKept units.now us → (u : CompilationUnit) → slice_get us unit ≡ Some u
+        → Finds us result (target_of us u reference) }
+{
+    let number = u128::from(reference.number);
+    if reference.form == REF_ADDR {
+        return entry_in(units, ends_by(units, number), number);
+    }
+    let start = units.get(unit)?.header.start;
+    entry_in(units, unit, start as u128 + number)
+}
+
+/// The entry of a unit at an offset of the section.
+fn entry_in(units: &[UnitEntries], unit: usize, offset: u128) -> Option<UnitEntry>
+    ensures { (us : List CompilationUnit) → AreKept units.now us → Finds us result (member_in us unit offset) }
+{
+    let kept = units.get(unit)?;
+    let entry = entry_at(kept.entries.as_slice(), offset)?;
+    Some(UnitEntry { unit, entry })
+}
+
+/// The entry at an offset, among entries in their order.
+fn entry_at(entries: &[NamedEntry], offset: u128) -> Option<NamedEntry>
+    ensures { IsNonDecreasingBy (λ entry. entry.offset) entries.now → result ≡ find (λ entry. entry.offset == offset) entries.now }
+{
+    let entry = entries.get(starts_before(entries, offset))?;
+    if entry.offset as u128 == offset {
+        Some(*entry)
+    } else {
+        None
+    }
+}
+
+/// How many of the entries start before an offset.
+fn starts_before(entries: &[NamedEntry], offset: u128) -> usize
+    ensures { IsNonDecreasingBy (λ entry. entry.offset) entries.now
+        → IsPartitionPoint (λ entry. entry.offset < offset) (λ entry. offset ≤ entry.offset) entries.now result }
+{
+    entries.partition_point(|entry| (entry.offset as u128) < offset)
+}
+
+/// How many of the units end before an offset or at it.
+fn ends_by(units: &[UnitEntries], offset: u128) -> usize
+    ensures within { result ≤ length units.now }
+    ensures parts { IsNonDecreasingBy (λ unit. unit.header.end) units.now
+        → IsPartitionPoint (λ unit. unit.header.end ≤ offset) (λ unit. offset < unit.header.end) units.now result }
+{
+    units.partition_point(|unit| unit.header.end as u128 <= offset)
 }

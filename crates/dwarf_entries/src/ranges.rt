@@ -3,7 +3,7 @@
 ghost use Rattle.std.specs.Prelude.{◌≡◌, ◌<◌, IsSome, IfOk};
 ghost use Rattle.dwarf_bytes.specs.Refusals.{ReadsField};
 ghost use Rattle.dwarf_forms.specs.Tables.{ReadsNext};
-ghost use Rattle.dwarf_entries.specs.Ranges.{kind_of, covered, index_at, entry_at, listed_behind, list_at, high_of, pair_range, covers_by};
+ghost use Rattle.dwarf_entries.specs.Ranges.{kind_of, covered, index_at, entry_at, listed_behind, list_place, list_at, list_of, high_of, pair_range, pair_at, covers_by};
 ghost use Rattle.dwarf_entries.specs.Steps.{Gives, covering_of};
 ghost use Rattle.dwarf_entries.specs.Sections.{sections_of};
 
@@ -13,6 +13,9 @@ use crate::scope::Range;
 use crate::sections::Sections;
 use dwarf_bytes::{Cause, Cursor, TableKind};
 use std::alloc::Global;
+
+/// DW_FORM_rnglistx; the other form of a range list is its offset.
+const RNGLISTX: u64 = 0x23;
 
 /// The kinds of range list entries, but the end of a list.
 #[derive(Clone, Copy, Debug, PartialEq, Eq)]
@@ -57,6 +60,64 @@ pub(crate) enum RangeListEntry {
 pub(crate) struct Covering {
     pub(crate) ranges: Vec<Range>,
     pub(crate) items: u64,
+}
+
+/// What an entry covers, by its low_pc, high_pc and ranges. `room` is how many items it may be read
+/// from.
+pub(crate) fn covers(
+    alloc: Global,
+    room: u64,
+    sections: &Sections<'_>,
+    bases: &Bases,
+    low_pc: Option<AttributeValue>,
+    high_pc: Option<AttributeValue>,
+    ranges: Option<AttributeValue>,
+) -> Result<Covering, Cause>
+    ensures { Gives (λ covering. covering_of covering) result (covers_by room (sections_of sections.now) bases.now low_pc high_pc ranges) }
+{
+    match (low_pc, high_pc, ranges) {
+        (None, None, Some(ranges)) => listed(alloc, room, sections, bases, ranges),
+        (_, _, Some(_)) | (None, Some(_), None) => Err(Cause::PcAndRanges),
+        (Some(low_pc), Some(high_pc), None) => {
+            paired(alloc, room, sections, bases, low_pc, high_pc)
+        }
+        (_, None, None) => Ok(Covering {
+            ranges: Vec::new(alloc),
+            items: 0,
+        }),
+    }
+}
+
+/// What the range list of an attribute covers.
+#[tactic(auto, using(crate::proofs::RangeLaws::list_outside))]
+fn listed(
+    alloc: Global,
+    room: u64,
+    sections: &Sections<'_>,
+    bases: &Bases,
+    value: AttributeValue,
+) -> Result<Covering, Cause>
+    ensures { Gives (λ covering. covering_of covering) result (list_of room (sections_of sections.now) bases.now value) }
+{
+    let place = list_place(sections, bases, value)?;
+    if place > sections.debug_rnglists.len() as u128 {
+        return Err(Cause::Short);
+    }
+    list(alloc, room, sections, bases, place as u64)
+}
+
+/// Where the range list of an attribute stands.
+fn list_place(sections: &Sections<'_>, bases: &Bases, value: AttributeValue) -> Result<u128, Cause>
+    ensures { result ≡ list_place (sections_of sections.now) bases.now value }
+{
+    if value.form != RNGLISTX {
+        return Ok(u128::from(value.number));
+    }
+    let rnglists = bases.rnglists;
+    let lists = sections.debug_rnglists;
+    let offset = item_at(TableKind::RngLists, lists, rnglists, value.number)?;
+    let table = rnglists.ok_or(Cause::Base)?;
+    Ok(u128::from(table.base) + u128::from(offset))
 }
 
 /// What the range list at a place of `.debug_rnglists` covers. `room` is how many of its entries
@@ -209,17 +270,23 @@ pub(crate) fn pair(
     covered(u128::from(start), end)
 }
 
-/// Stub.
-pub(crate) fn covers(
+/// What a pair covers, where there is room for one more item.
+fn paired(
     alloc: Global,
     room: u64,
     sections: &Sections<'_>,
     bases: &Bases,
-    low_pc: Option<AttributeValue>,
-    high_pc: Option<AttributeValue>,
-    ranges: Option<AttributeValue>,
+    low_pc: AttributeValue,
+    high_pc: AttributeValue,
 ) -> Result<Covering, Cause>
-    ensures { Gives (λ covering. covering_of covering) result (covers_by room (sections_of sections.now) bases.now low_pc high_pc ranges) }
+    ensures { Gives (λ covering. covering_of covering) result (pair_at room (sections_of sections.now) bases.now low_pc high_pc) }
 {
-    Err(Cause::Memory)
+    if room == 0 {
+        return Err(Cause::TooMany);
+    }
+    let mut ranges = Vec::new(alloc);
+    if let Some(range) = pair(sections, bases, low_pc, high_pc)? {
+        ranges.push(range)?;
+    }
+    Ok(Covering { ranges, items: 1 })
 }

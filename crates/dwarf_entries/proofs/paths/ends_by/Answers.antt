@@ -1,0 +1,11 @@
+use Rattle.std.proofs.Common.{rules}
+use Rattle.std.specs.Prelude.{nat_le}
+use Rattle.std.proofs.lemmas.Bool.{leb-true, leb-false}
+use Rattle.std.proofs.lemmas.List.Sorted.{IsPartitionedBy-leb, IsPartitionPoint-from_clause}
+use Rattle.dwarf_entries.specs.declared.kept.UnitEntries.{UnitEntries}
+use Rattle.dwarf_entries.proofs.paths.ends_by.Goals as goal
+
+pub returns-clause-parts : goal.returns-clause-parts
+returns-clause-parts c = λ rise.
+    let parts = IsPartitionPoint-from_clause (λ (u : UnitEntries). nat_le u.header.end c.args.offset) c.args.units.now c.partition_point.result c.partition_point.ensures.partitioned (IsPartitionedBy-leb (λ (u : UnitEntries). u.header.end) c.args.units.now c.args.offset rise) (λ a r f called. search rules) in
+    (λ k d low high. leb-true _ c.args.offset (parts.0 k d low high), λ k d low high. leb-false _ c.args.offset (parts.1 k d low high))

@@ -1,0 +1,12 @@
+use Rattle.std.proofs.Common.{List}
+use Rattle.dwarf_entries.specs.Bases.{CompilationUnit}
+use Rattle.dwarf_entries.specs.Names.{Member}
+use Rattle.dwarf_entries.specs.Members.{AreKept, IsMember}
+use Rattle.dwarf_entries.proofs.PathLaws.{Followed}
+use Rattle.dwarf_entries.proofs.paths.first_names.Given as goal
+
+abbrev pub invariant-loop-last : goal.invariant-loop-last
+invariant-loop-last l = (us : List CompilationUnit) → AreKept l.units us → (m : Member) → IsMember us l.fn.start.unit l.fn.start.entry m → Followed us m l.left l.last l.firsts
+
+abbrev pub decreases-loop-last : goal.decreases-loop-last
+decreases-loop-last l = l.left
