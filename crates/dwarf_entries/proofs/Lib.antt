@@ -6,3 +6,5 @@ pub mod EachPlaces
 pub mod PassLaws
 pub mod EntriesPass
 pub mod BasesPass
+pub mod NodeLaws
+pub mod OrderLaws

@@ -5,6 +5,7 @@ mod attributes;
 mod bases;
 mod entries;
 mod kept;
+mod laws;
 mod names;
 mod passes;
 mod ranges;
@@ -14,5 +15,6 @@ mod sections;
 mod tables;
 mod units;
 
+pub use laws::{entries_stand_at_counted_depths, offsets_of_entries_rise};
 pub use scope::{Range, Root, Scope, ScopeKind, Text};
 pub use sections::Sections;
