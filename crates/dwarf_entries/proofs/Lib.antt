@@ -7,4 +7,5 @@ pub mod PassLaws
 pub mod EntriesPass
 pub mod BasesPass
 pub mod NodeLaws
+pub mod EntryOrder
 pub mod OrderLaws

@@ -42,7 +42,7 @@ stays_on bytes at mid after h1 h2 = (omega (arith, h1.0, h2.0), h2.1)
 
 -- ---- contents
 
-fixed-stays : (n : ℕ) (bytes : List ℕ) (at : ℕ) (read : ℕ × ℕ) → fixed_at n bytes at ≡ Ok read → Stays bytes at read.1
+pub fixed-stays : (n : ℕ) (bytes : List ℕ) (at : ℕ) (read : ℕ × ℕ) → fixed_at n bytes at ≡ Ok read → Stays bytes at read.1
 fixed-stays n bytes at read h =
     let moved = fixed_at-moves n bytes at read h in
     let place : read.1 ≡ at + n = ap (λ (r : ℕ × ℕ). r.1) moved.1 in
@@ -54,7 +54,7 @@ block-stays n bytes at read h =
     let place : read.1 ≡ at + n = ap (λ (r : List ℕ × ℕ). r.1) moved.1 in
     (omega (arith, place), omega (arith, moved.0, place))
 
-offset-stays : (format : Format) (bytes : List ℕ) (at : ℕ) (read : ℕ × ℕ) → offset_at format bytes at ≡ Ok read → Stays bytes at read.1
+pub offset-stays : (format : Format) (bytes : List ℕ) (at : ℕ) (read : ℕ × ℕ) → offset_at format bytes at ≡ Ok read → Stays bytes at read.1
 offset-stays Dwarf32 bytes at read h = fixed-stays 4 bytes at read h
 
 cstr-stays : (bytes : List ℕ) (at : ℕ) (read : List ℕ × ℕ) → cstr_at bytes at ≡ Ok read → Stays bytes at read.1

@@ -1,4 +1,4 @@
-use Rattle.dwarf_entries.proofs.OrderLaws.{offsets-rise}
+use Rattle.dwarf_entries.proofs.EntryOrder.{offsets-rise}
 use Rattle.dwarf_entries.proofs.laws.offsets_of_entries_rise.Goals as goal
 
 pub returns : goal.returns
