@@ -9,3 +9,5 @@ pub mod BasesPass
 pub mod NodeLaws
 pub mod EntryOrder
 pub mod OrderLaws
+pub mod BelowLaws
+pub mod BaseInForce

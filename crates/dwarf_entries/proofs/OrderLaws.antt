@@ -112,9 +112,13 @@ listed-in-order info before at [] after h = tt
 listed-in-order info before at (header ∷ headers) after h =
     let here = header_at-places info before at header h.0 h.1 in
     let start_is : header.start ≡ at = here.0.0 in
-    let first : at ≤ header.first = here.0.1 in
-    (omega (arith, start_is), omega (arith, start_is, first), here.0.2, here.0.3,
-    subst (λ (k : ℕ). HeadersInOrder k (length info) headers) (sym here.1) (listed-in-order info (before ++ header ∷ []) h.0 headers after h.2))
+    let first : at ≤ header.first = here.0.1 in (
+      omega (arith, start_is),
+      omega (arith, start_is, first),
+      here.0.2,
+      here.0.3,
+      subst (λ (k : ℕ). HeadersInOrder k (length info) headers) (sym here.1) (listed-in-order info (before ++ header ∷ []) h.0 headers after h.2),
+    )
 
 -- a place before
 headers-from : (low from size : ℕ) (headers : List UnitHeader) → low ≤ from → HeadersInOrder from size headers → HeadersInOrder low size headers

@@ -15,6 +15,9 @@ mod sections;
 mod tables;
 mod units;
 
-pub use laws::{entries_stand_at_counted_depths, offsets_of_entries_rise};
+pub use laws::{
+    base_is_of_last_base_entry, entries_stand_at_counted_depths, offsets_of_entries_rise,
+    scopes_below_are_between,
+};
 pub use scope::{Range, Root, Scope, ScopeKind, Text};
 pub use sections::Sections;
