@@ -11,3 +11,8 @@ pub mod PlaceLaws
 pub mod ScopesPass
 pub mod ReferenceLaws
 pub mod PathLaws
+pub mod NodeLaws
+pub mod EntryOrder
+pub mod OrderLaws
+pub mod BelowLaws
+pub mod BaseInForce

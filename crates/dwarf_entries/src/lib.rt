@@ -5,6 +5,7 @@ mod attributes;
 mod bases;
 mod entries;
 mod kept;
+mod laws;
 mod names;
 mod passes;
 mod paths;
@@ -16,5 +17,9 @@ mod tables;
 mod unit_scopes;
 mod units;
 
+pub use laws::{
+    base_is_of_last_base_entry, entries_stand_at_counted_depths, offsets_of_entries_rise,
+    scopes_below_are_between,
+};
 pub use scope::{Range, Root, Scope, ScopeKind, Text};
 pub use sections::Sections;

@@ -1,0 +1,51 @@
+//! What is true of all units and their entries.
+
+ghost use Rattle.std.specs.Prelude.{◌≡◌, ◌<◌, ◌+◌, ◌↔◌, ℕ, List, [], ◌∷◌, ◌++◌, Option, Some, Ok, true, map, take, drop, count_by, slice_get};
+ghost use Rattle.std.specs.List.Sorted.{IsStrictlyIncreasing};
+ghost use Rattle.dwarf_bytes.specs.declared.format.Format.{Format};
+ghost use Rattle.dwarf_bytes.specs.Items.{items_from};
+ghost use Rattle.dwarf_forms.specs.Declarations.{Declaration};
+ghost use Rattle.dwarf_entries.specs.declared.units.UnitHeader.{UnitHeader};
+ghost use Rattle.dwarf_entries.specs.declared.scope.Range.{Range};
+ghost use Rattle.dwarf_entries.specs.declared.ranges.RangeListEntry.{RangeListEntry};
+ghost use Rattle.dwarf_entries.specs.declared.ranges.RangeListEntry.TheVariants.{Base, Covers};
+ghost use Rattle.dwarf_entries.specs.Entries.{Standing, Die, AreDepths, node_at, entries_of, below, IsBelow};
+ghost use Rattle.dwarf_entries.specs.Ranges.{base_after};
+ghost use Rattle.dwarf_entries.specs.Scopes.{is_scope};
+
+/// Whatever is read of a unit stands at counted depths: behind the entries with children before it,
+/// less the nulls before it that stand at a depth above 0.
+pub fn entries_stand_at_counted_depths()
+    ensures { (format : Format) (table : List Declaration) (unit : List ℕ) (end first : ℕ)
+        (all : List Standing) (after : ℕ)
+        → items_from end (node_at format table unit) [] first ≡ Ok (all, after) → AreDepths all }
+{}
+
+/// Each entry of a unit stands past the one before it.
+pub fn offsets_of_entries_rise()
+    ensures { (info : List ℕ) (header : UnitHeader) (table : List Declaration) (dies : List Die)
+        → entries_of info header table ≡ Ok dies
+        → IsStrictlyIncreasing (map (λ (die : Die). die.offset) dies) }
+{}
+
+/// Of two scopes among the entries of a unit, one is below the other exactly where its number stands
+/// between the other's number and end. A scope's number is how many scopes stand before it, and its
+/// end is the number behind the scopes that are below it.
+pub fn scopes_below_are_between()
+    ensures { (dies : List Die) (i j : ℕ) (outer inner : Die)
+        → slice_get dies i ≡ Some outer → slice_get dies j ≡ Some inner
+        → is_scope outer ≡ true → is_scope inner ≡ true
+        → let number : ℕ → ℕ = λ place. count_by is_scope (take place dies) in
+        let end : ℕ = number i + 1 + count_by is_scope (below outer (drop (i + 1) dies)) in
+        IsBelow dies j i ↔ ((number i < number j) × (number j < end)) }
+{}
+
+/// The base in force behind entries of a range list is that of the last one that sets a base, or
+/// else the one before the list, which is the unit's low_pc.
+pub fn base_is_of_last_base_entry()
+    ensures last { (low_pc : Option ℕ) (before : List RangeListEntry) (base : ℕ)
+        (ranges : List (Option Range))
+        → base_after low_pc (before ++ Base base ∷ map (λ range. Covers range) ranges) ≡ Some base }
+    ensures none { (low_pc : Option ℕ) (ranges : List (Option Range))
+        → base_after low_pc (map (λ range. Covers range) ranges) ≡ low_pc }
+{}
