@@ -59,32 +59,7 @@ scope_of_place before p names covering =
 -- the names first, then the ranges
 by_names : (s : Sections) (us : List CompilationUnit) (before : List Judged) (p : Place) →
     scope_at s us before p ≡ (names_of s us p.member >>= λ names. covers_of (items_limit - sum_by (λ s. s.items) before) s p.member.unit.bases p.member.die >>= λ covering. Ok (scope_of_place before p names covering))
-by_names s us before p = on_path (path_of us p.member)
-  where
-    last : (name linkage_name : Option Text) → (covering : Result Covering Cause) →
-        (covering >>= λ c. Ok (scope_of_place before p (record { name = name; linkage_name = linkage_name }) c)) ≡ (covering >>= λ c. Ok (scope_of_place before p (record { name = name; linkage_name = linkage_name }) c))
-    last name linkage_name covering = refl
-
-    Covers : Result Covering Cause
-    Covers = covers_of (items_limit - sum_by (λ s. s.items) before) s p.member.unit.bases p.member.die
-
-    on_linkage : (name : Option Text) (linkage : Result (Option Text) Cause) →
-        (linkage >>= λ linkage_name. Covers >>= λ c. Ok (scope_of_place before p (record { name = name; linkage_name = linkage_name }) c))
-        ≡ ((linkage >>= λ linkage_name. (let f : EntryNames → Result EntryNames Cause = λ n. Ok n in f (record { name = name; linkage_name = linkage_name }))) >>= λ names. Covers >>= λ c. Ok (scope_of_place before p names c))
-    on_linkage name (Ok linkage_name) = refl
-    on_linkage name (Err e) = refl
-
-    on_name : (path : List Member) (found : Result (Option Text) Cause) →
-        (found >>= λ name. name_on DW_AT_linkage_name s path >>= λ linkage_name. Covers >>= λ c. Ok (scope_of_place before p (record { name = name; linkage_name = linkage_name }) c))
-        ≡ ((found >>= λ name. name_on DW_AT_linkage_name s path >>= λ linkage_name. (let f : EntryNames → Result EntryNames Cause = λ n. Ok n in f (record { name = name; linkage_name = linkage_name }))) >>= λ names. Covers >>= λ c. Ok (scope_of_place before p names c))
-    on_name path (Ok name) = on_linkage name (name_on DW_AT_linkage_name s path)
-    on_name path (Err e) = refl
-
-    on_path : (found : Result (List Member) Cause) →
-        (found >>= λ path. name_on DW_AT_name s path >>= λ name. name_on DW_AT_linkage_name s path >>= λ linkage_name. Covers >>= λ c. Ok (scope_of_place before p (record { name = name; linkage_name = linkage_name }) c))
-        ≡ ((found >>= λ path. name_on DW_AT_name s path >>= λ name. name_on DW_AT_linkage_name s path >>= λ linkage_name. (let f : EntryNames → Result EntryNames Cause = λ n. Ok n in f (record { name = name; linkage_name = linkage_name }))) >>= λ names. Covers >>= λ c. Ok (scope_of_place before p names c))
-    on_path (Ok path) = on_name path (name_on DW_AT_name s path)
-    on_path (Err e) = refl
+by_names s us before p = refl
 
 -- a name that is not read, or a path that does not end
 pub names_fault : (s : Sections) (units : List UnitEntries) (bases : List Bases) (us : List CompilationUnit) (before : List Judged) (p : Place) (unit inside number room : ℕ) (entry : ScopeEntry) (cause : Cause) → IsPlace us unit entry inside number room before p →
@@ -107,7 +82,7 @@ unit_at units bases us unit u kept found =
     let based : length bases ≡ length us = ap (λ (bs : List Bases). length bs) kept.bases_are ∙ length-map us (λ u. u.bases) in
     record {
       entries_are = λ d.
-      sym (get_or-map kept_of units unit d (kept_of d) (omega (arith, sizes, within))) ∙ (ap (λ (ks : List KeptUnit). get_or ks unit (kept_of d)) kept.kept.same ∙ (get_or-map kept_in us unit u (kept_of d) within ∙ ap kept_in (here u)));
+          sym (get_or-map kept_of units unit d (kept_of d) (omega (arith, sizes, within))) ∙ (ap (λ (ks : List KeptUnit). get_or ks unit (kept_of d)) kept.kept.same ∙ (get_or-map kept_in us unit u (kept_of d) within ∙ ap kept_in (here u)));
       bases_are = λ d. ap (λ (bs : List Bases). get_or bs unit d) kept.bases_are ∙ (get_or-map (λ u. u.bases) us unit u d within ∙ ap (λ (v : CompilationUnit). v.bases) (here u));
     }
   where
@@ -148,7 +123,7 @@ covers_fault s units bases us before p unit inside number room entry names cause
     let named : entry.entry ≡ named_entry p.member.die = ap (λ (e : ScopeEntry). e.entry) place.entry_is in
     inr
     (after_names s us before p names (read (record { unit_is = place.unit_is; entry_is = named }))
-        ∙ ap (λ (r : Result Covering Cause). r >>= λ covering. Ok (scope_of_place before p names covering)) (covers_is s units bases us before p unit inside number room entry d kept place ∙ bad))
+    ∙ ap (λ (r : Result Covering Cause). r >>= λ covering. Ok (scope_of_place before p names covering)) (covers_is s units bases us before p unit inside number room entry d kept place ∙ bad))
 
 -- the scope of the program
 pub scope_is : (s : Sections) (units : List UnitEntries) (bases : List Bases) (us : List CompilationUnit) (before : List Judged) (p : Place) (unit inside number room : ℕ) (entry : ScopeEntry) (names : EntryNames) (covering : Covering) (stmt_list : Option ℕ) (d : Bases) (e : UnitEntries) →

@@ -52,6 +52,10 @@ bases_of unit = unit.bases
 abbrev pub all_bases : Sections → List UnitHeader → List (List Die) → Result (List Bases) At
 all_bases s headers dies = all_units s headers dies >>= λ units. Ok (map bases_of units)
 
+-- what is kept of a unit
+abbrev pub kept_unit_of : CompilationUnit → KeptUnit
+kept_unit_of unit = kept_unit unit.header unit.dies
+
 -- the units of the program, and what their roots tell, are these
 pub record AreUnits (units : List UnitEntries) (bases : List Bases) (us : List CompilationUnit) : Type 0 where
   pub kept : AreKept units us

@@ -14,10 +14,10 @@ use Rattle.dwarf_entries.specs.declared.scope.ScopeKind.{ScopeKind}
 use Rattle.dwarf_entries.specs.declared.scope.ScopeKind.TheVariants.{Subprogram, Inlined}
 use Rattle.dwarf_entries.specs.Sections.{Sections}
 use Rattle.dwarf_entries.specs.Units.{units_of, tables_of}
-use Rattle.dwarf_entries.specs.Attributes.{DW_AT_name, DW_AT_linkage_name, DW_AT_stmt_list, DW_AT_call_file, DW_AT_call_line}
+use Rattle.dwarf_entries.specs.Attributes.{DW_AT_stmt_list, DW_AT_call_file, DW_AT_call_line}
 use Rattle.dwarf_entries.specs.Entries.{Die, attribute, below, entries_of}
 use Rattle.dwarf_entries.specs.Bases.{CompilationUnit, unit_of}
-use Rattle.dwarf_entries.specs.Names.{Member, path_of, name_on}
+use Rattle.dwarf_entries.specs.Names.{Member, names_of}
 use Rattle.dwarf_entries.specs.Ranges.{covers_of}
 
 -- what is told of a scope; end is the number of the first later scope that is not below it
@@ -93,12 +93,10 @@ pub record Judged : Type 0 where
   pub scope : Scope
   pub items : ℕ
 
--- the scope at a place, behind the scopes before it: its path, its names, its ranges
+-- the scope at a place, behind the scopes before it: its names, then its ranges
 abbrev pub scope_at : Sections → List CompilationUnit → List Judged → Place → Result Judged Cause
 scope_at sections units before p = do
-  path ← path_of units p.member
-  name ← name_on DW_AT_name sections path
-  linkage_name ← name_on DW_AT_linkage_name sections path
+  names ← names_of sections units p.member
   let die = p.member.die
   covering ← covers_of (items_limit - sum_by (λ s. s.items) before) sections p.member.unit.bases die
   Ok (record {
@@ -109,8 +107,8 @@ scope_at sections units before p = do
       number = length before;
       end = length before + 1 + p.inside;
       ranges = covering.ranges;
-      name = name;
-      linkage_name = linkage_name;
+      name = names.name;
+      linkage_name = names.linkage_name;
       stmt_list = stmt_list_of p.member.unit.dies;
       call_file = number_of DW_AT_call_file die;
       call_line = number_of DW_AT_call_line die;

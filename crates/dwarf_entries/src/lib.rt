@@ -12,6 +12,7 @@ mod paths;
 mod ranges;
 mod roots;
 mod scope;
+mod scopes;
 mod sections;
 mod tables;
 mod unit_scopes;
@@ -22,4 +23,5 @@ pub use laws::{
     scopes_below_are_between,
 };
 pub use scope::{Range, Root, Scope, ScopeKind, Text};
+pub use scopes::Scopes;
 pub use sections::Sections;

@@ -11,5 +11,5 @@ abbrev pub invariant-loop-entry : goal.invariant-loop-entry
 invariant-loop-entry l = record {
   counted : length l.scopes.items ≡ l.first + l.entry-index;
   so_far : (us : List CompilationUnit) (u : CompilationUnit) (before : List Judged) → AreUnits l.self.units.now l.self.bases.now us → slice_get us l.unit ≡ Some u → AreJudged before l.fn.scopes.items l.fn.left
-      → JudgedSoFar (sections_of l.self.sections.now) us u before l.entry-index l.scopes.items l.left
+      → JudgedSoFar (sections_of l.self.sections.now) us u before l.entry-index l.scopes.items l.left;
 }

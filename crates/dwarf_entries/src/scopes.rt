@@ -1,0 +1,96 @@
+//! The subprograms and inlined subroutines of an object (DWARF 5, 3.3).
+
+ghost use Rattle.std.specs.Prelude.{◌≡◌, map, List, ℕ, ◌+◌};
+ghost use Rattle.dwarf_bytes.specs.Refusals.{Decodes};
+ghost use Rattle.dwarf_entries.specs.Sections.{sections_of};
+ghost use Rattle.dwarf_entries.specs.Bases.{CompilationUnit};
+ghost use Rattle.dwarf_entries.specs.Scopes.{scope_of, roots_from, tree_of};
+ghost use Rattle.dwarf_entries.specs.Steps.{Gives};
+ghost use Rattle.dwarf_entries.specs.Passes.{kept_unit_of};
+ghost use Rattle.dwarf_entries.specs.Kept.{kept_of};
+
+use crate::kept::UnitEntries;
+use crate::passes::{all_bases, all_entries};
+use crate::scope::{Root, Scope};
+use crate::sections::Sections;
+use crate::tables::judge_tables;
+use crate::unit_scopes::Units;
+use crate::units::units;
+use dwarf_bytes::{Cause, LoadFault, Section};
+use std::alloc::Global;
+use std::marker::Model;
+
+/// The roots of the units of an object, and the scopes among its entries, in file order.
+#[derive(Debug, Drop)]
+pub struct Scopes {
+    roots: Vec<Root>,
+    scopes: Vec<Scope>,
+}
+
+impl Model for Scopes {
+    ghost use Rattle.std.specs.Prelude.{map};
+    ghost use Rattle.dwarf_entries.specs.Scopes.{Tree, scope_of};
+
+    ghost Value = { Tree };
+
+    ghost view = { λ s. record { roots = s.roots.items; scopes = map scope_of s.scopes.items } };
+}
+
+impl Scopes {
+    /// Reads units, tables, entries, roots and scopes, each pass over all units before the next.
+    /// A fault is told at its unit, declaration or entry, by an offset from its section's start.
+    pub fn read(alloc: Global, sections: &Sections<'_>) -> Result<Scopes, LoadFault>
+        ensures { Decodes (λ scopes. scopes) result (tree_of (sections_of sections.now)) }
+    {
+        let headers = units(alloc, sections.debug_info)?;
+        judge_tables(alloc, sections.debug_abbrev, headers.as_slice())?;
+        let kept = all_entries(alloc, sections, headers.as_slice())?;
+        let bases = all_bases(alloc, sections, kept.as_slice())?;
+        let units = Units {
+            sections,
+            units: kept.as_slice(),
+            bases: bases.as_slice(),
+        };
+        let scopes = units.scopes(alloc)?;
+        let roots = roots(alloc, kept.as_slice())?;
+        Ok(Scopes { roots, scopes })
+    }
+
+    /// The roots of all units that are read and have entries.
+    pub fn roots(&self) -> &[Root]
+        ensures { result.now ≡ self.now.roots }
+    {
+        self.roots.as_slice()
+    }
+
+    /// The subprograms and inlined subroutines of all units that are read.
+    pub fn scopes(&self) -> &[Scope]
+        ensures { map scope_of result.now ≡ self.now.scopes }
+    {
+        self.scopes.as_slice()
+    }
+}
+
+/// The roots of the units, each with the numbers of its unit's scopes.
+fn roots(alloc: Global, units: &[UnitEntries]) -> Result<Vec<Root>, LoadFault>
+    ensures { (us : List CompilationUnit) → map kept_of units.now ≡ map kept_unit_of us → Told (λ roots. roots.items) result (roots_from 0 us) }
+{
+    let mut roots = Vec::new(alloc);
+    let mut first = 0;
+    for unit in units {
+        let past = first + unit.scopes.len();
+        if let Some(root) = unit.root {
+            let root = Root {
+                offset: root.offset,
+                stmt_list: root.stmt_list,
+                first,
+                past,
+            };
+            if roots.push(root).is_err() {
+                return Err(LoadFault::told(Section::DebugInfo, Cause::Memory, 0));
+            }
+        }
+        first = past;
+    }
+    Ok(roots)
+}
