@@ -16,3 +16,4 @@ pub mod EntryOrder
 pub mod OrderLaws
 pub mod BelowLaws
 pub mod BaseInForce
+pub mod RootsPass

@@ -1,5 +1,5 @@
 -- What is kept of the entries of a unit, for the contracts of the passes.
-use Rattle.std.specs.Prelude.{ℕ, suc, ◌≤◌, List, [], ◌∷◌, Option, Some, None, option_map, map, count_by}
+use Rattle.std.specs.Prelude.{ℕ, suc, ◌≤◌, List, [], ◌∷◌, Option, Some, None, option_map, map, count_by, sum_by, length}
 use Rattle.std.specs.List.{filter_map}
 use Rattle.dwarf_entries.specs.declared.scope.ScopeKind.{ScopeKind}
 use Rattle.dwarf_entries.specs.declared.units.UnitHeader.{UnitHeader}
@@ -77,6 +77,10 @@ kept_unit header dies = record {
 -- .. by the program
 abbrev pub kept_of : UnitEntries → KeptUnit
 kept_of unit = record { header = unit.header; root = unit.root; entries = unit.entries.items; scopes = unit.scopes.items; insides = unit.insides.items }
+
+-- how many scopes the units of the program have
+abbrev pub scope_count : List UnitEntries → ℕ
+scope_count units = sum_by (λ unit. length unit.scopes.items) units
 
 -- The offsets of entries rise strictly, from a place on and up to an end.
 abbrev pub RiseWithin : ℕ → ℕ → List Die → Type 0
