@@ -2,3 +2,4 @@ pub mod UnitLaws
 pub mod TableLaws
 pub mod BaseLaws
 pub mod RangeLaws
+pub mod EntryLaws

@@ -8,3 +8,4 @@ pub mod Ranges
 pub mod Scopes
 pub mod Steps
 pub mod Kept
+pub mod Readers
