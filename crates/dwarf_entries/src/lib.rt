@@ -3,6 +3,7 @@
 
 mod attributes;
 mod bases;
+mod entries;
 mod kept;
 mod names;
 mod ranges;
