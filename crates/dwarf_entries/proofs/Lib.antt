@@ -3,3 +3,4 @@ pub mod TableLaws
 pub mod BaseLaws
 pub mod RangeLaws
 pub mod EntryLaws
+pub mod EntryMoves
