@@ -4,3 +4,4 @@ pub mod BaseLaws
 pub mod RangeLaws
 pub mod EntryLaws
 pub mod EntryMoves
+pub mod WalkLaws

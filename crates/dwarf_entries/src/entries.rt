@@ -1,13 +1,17 @@
 //! The entries of a unit (DWARF 5, 2.3, 7.5.2 and 7.5.3).
 
-ghost use Rattle.std.specs.Prelude.{◌≤◌, IsSome, IfOk};
+ghost use Rattle.std.specs.Prelude.{◌≡◌, ◌≤◌, [], None, IsSome, IfOk, OnOk, take};
+ghost use Rattle.dwarf_bytes.specs.declared.fault.Section.TheVariants as sections;
+ghost use Rattle.dwarf_bytes.specs.Refusals.{Decodes, in_section};
 ghost use Rattle.dwarf_entries.specs.Entries.{node_behind};
-ghost use Rattle.dwarf_entries.specs.Readers.{ReadsNode};
+ghost use Rattle.dwarf_entries.specs.Readers.{Fills, ReadsNode, walked_of, after_die, walked_at, walk_of};
 
 use crate::attributes::{Attribute, attributes};
-use dwarf_bytes::{Cause, Cursor, Format};
+use crate::kept::{NamedEntry, RootEntry, ScopeEntry, kind_of};
+use crate::units::UnitHeader;
+use dwarf_bytes::{Cause, Cursor, Format, LoadFault, Section};
 use dwarf_forms::Abbrevs;
-use std::alloc::Global;
+use std::alloc::{AllocError, Global};
 
 /// The greatest depth of an entry.
 const DEPTH_LIMIT: u16 = 256;
@@ -17,6 +21,116 @@ const DEPTH_LIMIT: u16 = 256;
 pub(crate) struct EntryHead {
     pub(crate) tag: u64,
     pub(crate) children: bool,
+}
+
+/// How deep an entry stands, and whether it is a scope.
+#[derive(Clone, Copy, Debug, PartialEq, Eq)]
+pub(crate) struct Level {
+    pub(crate) depth: u16,
+    pub(crate) is_scope: bool,
+}
+
+/// What is kept of the entries so far, and the depth behind them.
+#[derive(Debug, Drop)]
+pub(crate) struct Walk {
+    pub(crate) depth: u16,
+    pub(crate) root: Option<RootEntry>,
+    pub(crate) entries: Vec<NamedEntry>,
+    pub(crate) scopes: Vec<ScopeEntry>,
+    pub(crate) levels: Vec<Level>,
+}
+
+impl Walk {
+    fn new(alloc: Global) -> Walk
+        ensures { walked_of result ≡ record { depth = 0; root = None; entries = []; scopes = []; levels = [] } }
+    {
+        Walk {
+            depth: 0,
+            root: None,
+            entries: Vec::new(alloc),
+            scopes: Vec::new(alloc),
+            levels: Vec::new(alloc),
+        }
+    }
+
+    /// Takes what stands at the cursor. `found` is a buffer for attributes.
+    fn step(
+        &mut self,
+        format: Format,
+        table: &Abbrevs,
+        cursor: &mut Cursor,
+        found: &mut Vec<Attribute>,
+    ) -> Result<(), Cause>
+        ensures { Fills result (walked_of self.new) (walked_at format table.now (walked_of self.old)) cursor.old cursor.new }
+    {
+        let offset = cursor.place();
+        let rooted = self.root.is_some();
+        match node(format, table, self.depth, rooted, cursor, found)? {
+            None => self.depth = self.depth.saturating_sub(1),
+            Some(head) => {
+                self.keep(offset, head.tag, found)?;
+                if head.children {
+                    self.depth += 1;
+                }
+            }
+        }
+        Ok(())
+    }
+
+    /// Keeps what is wanted of the entry at an offset.
+    fn keep(&mut self, offset: usize, tag: u64, attributes: &[Attribute]) -> Result<(), AllocError>
+        ensures { OnOk result (walked_of self.new ≡ after_die (walked_of self.old) (record { offset = offset; depth = self.old.depth; tag = tag; attributes = attributes.now })) }
+    {
+        let entry = NamedEntry::of(offset, attributes);
+        let kind = kind_of(tag);
+        if self.root.is_none() {
+            self.root = Some(RootEntry::of(offset, attributes));
+        }
+        if let Some(kind) = kind {
+            self.scopes.push(ScopeEntry::of(entry, kind, attributes))?;
+        }
+        self.levels.push(Level {
+            depth: self.depth,
+            is_scope: kind.is_some(),
+        })?;
+        self.entries.push(entry)?;
+        Ok(())
+    }
+}
+
+/// The entries of a unit. A fault is told at what stands there.
+fn walk_unit(
+    alloc: Global,
+    info: &[u8],
+    header: UnitHeader,
+    table: &Abbrevs,
+) -> Result<Walk, LoadFault>
+    ensures { Decodes (λ walk. walked_of walk) result (in_section sections.DebugInfo (walk_of info.now header table.now)) }
+{
+    let unit = up_to(info, header.end);
+    let mut cursor = Cursor::new(unit);
+    let mut walk = Walk::new(alloc);
+    let mut found = Vec::new(alloc);
+    if cursor.seek(header.first).is_err() {
+        return Ok(walk);
+    }
+    while cursor.place() < unit.len() {
+        let at = cursor.place();
+        match walk.step(header.format, table, &mut cursor, &mut found) {
+            Ok(()) => {}
+            Err(cause) => {
+                return Err(LoadFault::told(Section::DebugInfo, cause, at as u64));
+            }
+        }
+    }
+    Ok(walk)
+}
+
+/// The bytes up to an end, or all where they are fewer.
+fn up_to(bytes: &[u8], end: usize) -> &[u8]
+    ensures { result.now ≡ take end bytes.now }
+{
+    bytes.get(..end).unwrap_or(bytes)
 }
 
 /// The entry at the cursor, at a depth, or none for a null. Its attributes come into `found`.
