@@ -5,3 +5,4 @@ pub mod RangeLaws
 pub mod EntryLaws
 pub mod EntryMoves
 pub mod WalkLaws
+pub mod InsideLaws

@@ -1,5 +1,5 @@
 -- What the steps of the pass over entries leave, for the contracts of its parts.
-use Rattle.std.specs.Prelude.{◌≡◌, ℕ, ◌+◌, ◌-◌, List, [], ◌∷◌, ◌++◌, Bool, Option, Some, None, is_some, option_to_list, Result, Ok, Err, if◌then◌else◌, map, take}
+use Rattle.std.specs.Prelude.{◌≡◌, ℕ, ◌+◌, ◌-◌, List, [], ◌∷◌, ◌++◌, Bool, Option, Some, None, is_some, option_to_list, Result, Ok, Err, if◌then◌else◌, nat_lt, nat_le, map, take, take_while, count_by}
 use Rattle.std.specs.List.{filter_map}
 use Rattle.dwarf_bytes.specs.declared.fault.Cause.{Cause}
 use Rattle.dwarf_bytes.specs.declared.format.Format.{Format}
@@ -11,6 +11,7 @@ use Rattle.dwarf_forms.specs.Declarations.{Declaration}
 use Rattle.dwarf_entries.specs.declared.attributes.Attribute.{Attribute}
 use Rattle.dwarf_entries.specs.declared.entries.EntryHead.{EntryHead}
 use Rattle.dwarf_entries.specs.declared.entries.Level.{Level}
+use Rattle.dwarf_entries.specs.declared.entries.Boundary.{Boundary}
 use Rattle.dwarf_entries.specs.declared.entries.Walk.{Walk}
 use Rattle.dwarf_entries.specs.declared.kept.NamedEntry.{NamedEntry}
 use Rattle.dwarf_entries.specs.declared.kept.ScopeEntry.{ScopeEntry}
@@ -94,3 +95,18 @@ unfoldable pub walk_of : List ℕ → UnitHeader → List Declaration → Result
 walk_of info header table = do
   all ← items_from header.end (node_at header.format table (take header.end info)) [] header.first
   Ok (walked all.0)
+
+-- how many scopes are below each scope, by the levels of all entries
+abbrev pub insides_of : List Level → List ℕ
+insides_of [] = []
+insides_of (l ∷ ls) = if l.is_scope then count_by (λ m. m.is_scope) (take_while (λ m. nat_lt l.depth m.depth) ls) ∷ insides_of ls else insides_of ls
+
+-- the boundaries from the first that is above a depth on
+abbrev pub above : ℕ → List Boundary → List Boundary
+above depth [] = []
+above depth (b ∷ bs) = if nat_le depth b.depth then above depth bs else b ∷ bs
+
+-- the scopes from the first boundary on
+abbrev pub scopes_from : List Boundary → ℕ
+scopes_from [] = 0
+scopes_from (b ∷ bs) = b.scopes

@@ -1,10 +1,10 @@
 //! The entries of a unit (DWARF 5, 2.3, 7.5.2 and 7.5.3).
 
-ghost use Rattle.std.specs.Prelude.{◌≡◌, ◌≤◌, [], None, IsSome, IfOk, OnOk, take};
+ghost use Rattle.std.specs.Prelude.{◌≡◌, ◌≤◌, [], None, IsSome, IfOk, OnOk, take, reverse};
 ghost use Rattle.dwarf_bytes.specs.declared.fault.Section.TheVariants as sections;
 ghost use Rattle.dwarf_bytes.specs.Refusals.{Decodes, in_section};
 ghost use Rattle.dwarf_entries.specs.Entries.{node_behind};
-ghost use Rattle.dwarf_entries.specs.Readers.{Fills, ReadsNode, walked_of, after_die, walked_at, walk_of};
+ghost use Rattle.dwarf_entries.specs.Readers.{Fills, ReadsNode, walked_of, after_die, walked_at, walk_of, insides_of, above, scopes_from};
 
 use crate::attributes::{Attribute, attributes};
 use crate::kept::{NamedEntry, RootEntry, ScopeEntry, kind_of};
@@ -28,6 +28,14 @@ pub(crate) struct EntryHead {
 pub(crate) struct Level {
     pub(crate) depth: u16,
     pub(crate) is_scope: bool,
+}
+
+/// An entry that ends the lists of all deeper ones before it: how deep it stands, and how many scopes
+/// there are from it on.
+#[derive(Clone, Copy, Debug, PartialEq, Eq)]
+pub(crate) struct Boundary {
+    pub(crate) depth: u16,
+    pub(crate) scopes: usize,
 }
 
 /// What is kept of the entries so far, and the depth behind them.
@@ -162,4 +170,49 @@ fn node(
         tag: declaration.tag(),
         children: declaration.children(),
     }))
+}
+
+/// How many scopes are below each scope.
+fn insides(alloc: Global, mut levels: Vec<Level>) -> Result<Vec<usize>, AllocError>
+    ensures { IfOk result (λ insides. insides.items ≡ insides_of levels.items) }
+{
+    let mut insides = Vec::new(alloc);
+    let mut boundaries = Vec::new(alloc);
+    let mut count = 0;
+    while let Some(level) = levels.pop() {
+        pop_from(&mut boundaries, u32::from(level.depth) + 1);
+        if level.is_scope {
+            insides.push(count - scopes_from(&boundaries))?;
+            count += 1;
+        }
+        pop_from(&mut boundaries, u32::from(level.depth));
+        boundaries.push(Boundary {
+            depth: level.depth,
+            scopes: count,
+        })?;
+    }
+    insides.reverse();
+    Ok(insides)
+}
+
+/// Removes the last boundaries, up to the last that is above a depth.
+fn pop_from(boundaries: &mut Vec<Boundary>, depth: u32)
+    ensures { reverse boundaries.new.items ≡ above depth (reverse boundaries.old.items) }
+{
+    while let Some(last) = boundaries.last() {
+        if u32::from(last.depth) < depth {
+            return;
+        }
+        boundaries.pop();
+    }
+}
+
+/// How many scopes there are from the last boundary on.
+fn scopes_from(boundaries: &[Boundary]) -> usize
+    ensures { result ≡ scopes_from (reverse boundaries.now) }
+{
+    match boundaries.last() {
+        Some(last) => last.scopes,
+        None => 0,
+    }
 }
