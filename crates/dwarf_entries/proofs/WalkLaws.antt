@@ -2,7 +2,7 @@
 use Rattle.std.proofs.Common.{◌≡◌, ℕ, ◌+◌, ◌-◌, ◌<◌, ◌≤◌, ◌⊎◌, inl, inr, List, [], ◌∷◌, ◌++◌, Bool, true, false, length, take, refl, ap, sym, ◌∙◌, cond, zero-add, subst, arith, length-take, append-nil}
 use Rattle.std.specs.Prelude.{Option, Some, None, is_some, option_to_list, Result, Ok, Err, IsOk, is_err, ◌↔◌, nat_lt, nat_le, ◌==◌, not, ◌&&◌, ◌||◌, count_by, map}
 use Rattle.std.specs.List.{filter_map, list_any}
-use Rattle.std.proofs.lemmas.Bool.{ltb-false, ltb-true, lt-leb, le-leb, cases_lt}
+use Rattle.std.proofs.lemmas.Bool.{ltb-false, ltb-true, lt-ltb, le-ltb, lt-leb, le-leb, cases_lt}
 use Rattle.std.proofs.lemmas.List.{map-append}
 use Rattle.std.proofs.lemmas.List.Elements.{filter_map-append}
 use Rattle.std.proofs.lemmas.List.Folds.{list_any-append}
@@ -14,7 +14,7 @@ use Rattle.dwarf_bytes.specs.declared.fault.ReadFault.{ReadFault}
 use Rattle.dwarf_bytes.specs.declared.fault.Section.TheVariants as sections
 use Rattle.dwarf_bytes.specs.declared.format.Format.{Format}
 use Rattle.dwarf_bytes.specs.Bind.{◌>>=◌}
-use Rattle.dwarf_bytes.specs.Items.{At, Next, Item, End, Advances, items_from}
+use Rattle.dwarf_bytes.specs.Items.{At, Next, Item, End, Advances, refuse_if, told_at, items_from}
 use Rattle.dwarf_bytes.specs.Position.{Position}
 use Rattle.dwarf_bytes.specs.Refusals.{memory_fault, told, in_section, Fails}
 use Rattle.dwarf_bytes.proofs.Advance.{after_bind}
@@ -27,10 +27,11 @@ use Rattle.dwarf_entries.specs.declared.kept.NamedEntry.{NamedEntry}
 use Rattle.dwarf_entries.specs.declared.kept.ScopeEntry.{ScopeEntry}
 use Rattle.dwarf_entries.specs.declared.kept.RootEntry.{RootEntry}
 use Rattle.dwarf_entries.specs.declared.units.UnitHeader.{UnitHeader}
-use Rattle.dwarf_entries.specs.Entries.{Node, Entry, Null, Standing, Die, die_in, die_of, opens, closes, is_root, is_null_node, depth_after, node_behind, node_at}
-use Rattle.dwarf_entries.specs.Kept.{named_entry, scope_entry_of, root_entry, root_in}
+use Rattle.dwarf_entries.specs.Entries.{Node, Entry, Null, Standing, Die, die_in, die_of, opens, closes, is_root, is_null_node, depth_after, node_behind, node_at, entries_of}
+use Rattle.dwarf_entries.specs.Kept.{named_entry, scope_entry_of, root_entry, root_in, insides_in, KeptUnit, kept_unit, kept_entries}
 use Rattle.dwarf_entries.specs.Names.{or_else}
-use Rattle.dwarf_entries.specs.Readers.{Fills, Walked, level_of, walked_by, walked, after_die, depth_behind, after_node, walked_at, walk_of}
+use Rattle.dwarf_entries.specs.Readers.{Fills, Walked, level_of, walked_by, walked, after_die, depth_behind, after_node, walked_at, walk_of, insides_of}
+use Rattle.dwarf_entries.proofs.InsideLaws.{insides-are}
 use Rattle.dwarf_entries.proofs.EntryMoves.{node_behind-moves, node_at-advances}
 
 -- what stands at a place, behind these
@@ -265,3 +266,55 @@ sought_past (Err fault) refused place len is was within = by_order (cases_lt len
       where
         never : IsOk (let f : ReadFault → Result (Unit {0}) ReadFault = λ z. Err z in f fault) → ⊥
         never h = cc
+
+-- ---- what is kept of a unit, by what its walk left
+
+abbrev walk_in : Result (List Standing × ℕ) At → Result Walked At
+walk_in all = all >>= λ all. Ok (walked all.0)
+
+abbrev dies_in : UnitHeader → Result (List Standing × ℕ) At → Result (List Die) At
+dies_in header all = all >>= λ all. told_at header.start (refuse_if (nat_lt 0 (depth_after all.0)) causes.TreeOpen) >>= λ _. Ok (filter_map die_of all.0)
+
+abbrev unit_in : UnitHeader → Result (List Standing × ℕ) At → Result KeptUnit LoadFault
+unit_in header all = in_section sections.DebugInfo (dies_in header all >>= λ dies. Ok (kept_unit header dies))
+
+kept-same : (h : UnitHeader) (r s : Option RootEntry) (n m : List NamedEntry) (p q : List ScopeEntry) (i j : List ℕ) → r ≡ s → n ≡ m → p ≡ q → i ≡ j →
+    (let x : KeptUnit = record { header = h; root = r; entries = n; scopes = p; insides = i } in x) ≡ record { header = h; root = s; entries = m; scopes = q; insides = j }
+kept-same h r s n m p q i j h1 h2 h3 h4 = cc
+
+unit_end : (header : UnitHeader) (all : Result (List Standing × ℕ) At) (w : Walked) (insides : List ℕ) → in_section sections.DebugInfo (walk_in all) ≡ Ok w → w.depth ≡ 0 → insides ≡ insides_of w.levels →
+    unit_in header all ≡ Ok (record { header = header; root = w.root; entries = w.entries; scopes = w.scopes; insides = insides })
+unit_end header (Err e) w insides h none are = cc
+unit_end header (Ok all) w insides h none are =
+    let same : walked all.0 ≡ w = same_ok (walked all.0) w h in
+    let closed : nat_lt 0 (depth_after all.0) ≡ false = le-ltb 0 (depth_after all.0) (let depth = ap (λ (x : Walked). x.depth) same in omega (arith, depth, none)) in
+    let counted : insides_in (filter_map die_of all.0) ≡ insides = sym (insides-are (filter_map die_of all.0)) ∙ (ap (λ (x : Walked). insides_of x.levels) same ∙ sym are) in
+    rw closed (ap (λ (k : KeptUnit). Ok k) (kept-same header _ _ _ _ _ _ _ _ (ap (λ (x : Walked). x.root) same) (ap (λ (x : Walked). x.entries) same) (ap (λ (x : Walked). x.scopes) same) counted))
+
+unit_open : (header : UnitHeader) (all : Result (List Standing × ℕ) At) (w : Walked) (fault : LoadFault) → in_section sections.DebugInfo (walk_in all) ≡ Ok w → 0 < w.depth → fault ≡ record { section = sections.DebugInfo; cause = causes.TreeOpen; at = header.start } →
+    unit_in header all ≡ Err fault
+unit_open header (Err e) w fault h some is = cc
+unit_open header (Ok all) w fault h some is =
+    let same : walked all.0 ≡ w = same_ok (walked all.0) w h in
+    let open_still : nat_lt 0 (depth_after all.0) ≡ true = lt-ltb 0 (depth_after all.0) (let depth = ap (λ (x : Walked). x.depth) same in omega (arith, depth, some)) in
+    rw open_still (ap (λ (f : LoadFault). Err f) (sym is))
+
+unit_fault : (header : UnitHeader) (all : Result (List Standing × ℕ) At) (fault : LoadFault) → in_section sections.DebugInfo (walk_in all) ≡ Err fault → unit_in header all ≡ Err fault
+unit_fault header (Err e) fault h = cc
+unit_fault header (Ok all) fault h = cc
+
+pub entries_end : (info : List ℕ) (header : UnitHeader) (table : List Declaration) (w : Walked) (insides : List ℕ) → in_section sections.DebugInfo (walk_of info header table) ≡ Ok w → w.depth ≡ 0 → insides ≡ insides_of w.levels →
+    in_section sections.DebugInfo (kept_entries info header table) ≡ Ok (record { header = header; root = w.root; entries = w.entries; scopes = w.scopes; insides = insides })
+unfolding walk_of entries_of
+entries_end info header table w insides h none are = unit_end header (items_from header.end (node_at header.format table (take header.end info)) [] header.first) w insides h none are
+
+pub entries_open : (info : List ℕ) (header : UnitHeader) (table : List Declaration) (w : Walked) (fault : LoadFault) → in_section sections.DebugInfo (walk_of info header table) ≡ Ok w → 0 < w.depth → fault ≡ record { section = sections.DebugInfo; cause = causes.TreeOpen; at = header.start } →
+    in_section sections.DebugInfo (kept_entries info header table) ≡ Err fault
+unfolding walk_of entries_of
+entries_open info header table w fault h some is = unit_open header (items_from header.end (node_at header.format table (take header.end info)) [] header.first) w fault h some is
+
+pub entries_fault : (info : List ℕ) (header : UnitHeader) (table : List Declaration) (fault : LoadFault) → (fault ≡ memory_fault) ⊎ (in_section sections.DebugInfo (walk_of info header table) ≡ Err fault) →
+    (fault ≡ memory_fault) ⊎ (in_section sections.DebugInfo (kept_entries info header table) ≡ Err fault)
+unfolding walk_of entries_of
+entries_fault info header table fault (inl memory) = inl memory
+entries_fault info header table fault (inr h) = inr (unit_fault header (items_from header.end (node_at header.format table (take header.end info)) [] header.first) fault h)

@@ -4,10 +4,11 @@ ghost use Rattle.std.specs.Prelude.{◌≡◌, ◌≤◌, [], None, IsSome, IfOk
 ghost use Rattle.dwarf_bytes.specs.declared.fault.Section.TheVariants as sections;
 ghost use Rattle.dwarf_bytes.specs.Refusals.{Decodes, in_section};
 ghost use Rattle.dwarf_entries.specs.Entries.{node_behind};
+ghost use Rattle.dwarf_entries.specs.Kept.{kept_of, kept_entries};
 ghost use Rattle.dwarf_entries.specs.Readers.{Fills, ReadsNode, walked_of, after_die, walked_at, walk_of, insides_of, above, scopes_from};
 
 use crate::attributes::{Attribute, attributes};
-use crate::kept::{NamedEntry, RootEntry, ScopeEntry, kind_of};
+use crate::kept::{NamedEntry, RootEntry, ScopeEntry, UnitEntries, kind_of};
 use crate::units::UnitHeader;
 use dwarf_bytes::{Cause, Cursor, Format, LoadFault, Section};
 use dwarf_forms::Abbrevs;
@@ -46,6 +47,33 @@ pub(crate) struct Walk {
     pub(crate) entries: Vec<NamedEntry>,
     pub(crate) scopes: Vec<ScopeEntry>,
     pub(crate) levels: Vec<Level>,
+}
+
+/// What is kept of the entries of a unit. A fault is told at its entry, and a list of children that is
+/// not ended at the unit.
+pub(crate) fn entries(
+    alloc: Global,
+    info: &[u8],
+    header: UnitHeader,
+    table: &Abbrevs,
+) -> Result<UnitEntries, LoadFault>
+    ensures { Decodes (λ unit. kept_of unit) result (in_section sections.DebugInfo (kept_entries info.now header table.now)) }
+{
+    let walk = walk_unit(alloc, info, header, table)?;
+    if walk.depth > 0 {
+        let at = header.start as u64;
+        return Err(LoadFault::told(Section::DebugInfo, Cause::TreeOpen, at));
+    }
+    let Ok(insides) = insides(alloc, walk.levels) else {
+        return Err(LoadFault::told(Section::DebugInfo, Cause::Memory, 0));
+    };
+    Ok(UnitEntries {
+        header,
+        root: walk.root,
+        entries: walk.entries,
+        scopes: walk.scopes,
+        insides,
+    })
 }
 
 impl Walk {
