@@ -1,12 +1,11 @@
 -- What stands at a place of a unit takes a byte or more, and does not reach past the end.
 use Rattle.std.specs.Option.{option_map_or}
-use Rattle.std.proofs.Common.{◌≡◌, ℕ, ◌+◌, ◌<◌, ◌≤◌, ℤ, List, [], ◌∷◌, Bool, true, false, length, take, drop, refl, ap, subst, arith, length-take, length-drop}
+use Rattle.std.proofs.Common.{◌≡◌, ℕ, ◌+◌, ◌<◌, ◌≤◌, ℤ, List, [], ◌∷◌, Bool, length, take, drop, refl, ap, subst, arith, length-take, length-drop}
 use Rattle.std.specs.Prelude.{Option, Some, None, Result, Ok, Err, position, option_map, ok_or, nat_lt, nat_le, not, ◌==◌, ◌&&◌}
 use Rattle.std.specs.List.{list_any}
 use Rattle.std.proofs.lemmas.List.Quantifiers.{position-Some}
 use Rattle.dwarf_bytes.specs.declared.fault.ReadFault.{ReadFault}
 use Rattle.dwarf_bytes.specs.declared.fault.ReadFault.TheVariants.{Unterminated}
-use Rattle.dwarf_bytes.specs.declared.fault.Cause.{Cause}
 use Rattle.dwarf_bytes.specs.declared.fault.Cause.TheVariants as causes
 use Rattle.dwarf_bytes.specs.declared.format.Format.{Format}
 use Rattle.dwarf_bytes.specs.declared.format.Format.TheVariants.{Dwarf32}
@@ -17,7 +16,7 @@ use Rattle.dwarf_bytes.specs.declared.form.ValueLayout.TheVariants as layouts
 use Rattle.dwarf_bytes.specs.Bind.{◌>>=◌}
 use Rattle.dwarf_bytes.specs.Forms.{form_of, byte_len}
 use Rattle.dwarf_bytes.specs.Contents.{Content, Number, Signed, Bytes, read_as, content_at}
-use Rattle.dwarf_bytes.specs.Items.{Next, Item, End, Advances, reading, refuse_if}
+use Rattle.dwarf_bytes.specs.Items.{Item, Advances, reading}
 use Rattle.dwarf_bytes.specs.Numbers.{block_at, fixed_at, uleb_at, sleb_at, cstr_at, text_front, offset_at}
 use Rattle.dwarf_bytes.proofs.Advance.{after_bind, after_test, chosen, MovesOn, uleb_at-moves, sleb_at-moves}
 use Rattle.dwarf_forms.proofs.Moves.{same_ok, same_item, uleb_moves, block_at-moves, fixed_at-moves}
@@ -26,10 +25,9 @@ use Rattle.dwarf_forms.specs.declared.values.ValueFault.TheVariants as values
 use Rattle.dwarf_forms.specs.declared.attribute.AttributeSpecification.{AttributeSpecification}
 use Rattle.dwarf_forms.specs.Declarations.{Declaration}
 use Rattle.dwarf_forms.specs.Values.{Value, reading_value as of_value, direct_at, value_at}
-use Rattle.dwarf_entries.specs.declared.attributes.AttributeValue.{AttributeValue}
 use Rattle.dwarf_entries.specs.declared.attributes.Attribute.{Attribute}
 use Rattle.dwarf_entries.specs.Attributes.{accepts, is_negative_count, number_of}
-use Rattle.dwarf_entries.specs.Entries.{Node, Entry, Null, Standing, depth_after, depth_limit, is_root, reading_value, is_direct, indirect, form_at, attribute_at, attributes_at, declaration_of, node_behind, node_at}
+use Rattle.dwarf_entries.specs.Entries.{Node, Entry, Null, depth_after, depth_limit, is_root, reading_value, is_direct, indirect, form_at, attribute_at, attributes_at, declaration_of, node_behind, node_at}
 
 -- what a read of bytes or of none leaves: this place or one behind it, and not past the end
 abbrev StaysWithin : List ℕ → ℕ → ℕ → Type 0

@@ -1,14 +1,14 @@
 -- How many scopes are below each scope, from the last entry to the first.
-use Rattle.std.proofs.Common.{◌≡◌, ℕ, suc, ◌+◌, ◌-◌, ◌<◌, ◌≤◌, List, [], ◌∷◌, ◌++◌, Bool, true, false, cond, length, reverse, take, get_or, refl, ap, sym, ◌∙◌, subst, arith, append_assoc, append-nil, add-one, length-append}
-use Rattle.std.specs.Prelude.{Option, Some, None, is_some, nat_lt, nat_le, count_by, map, take_while, option_to_list, slice_get}
-use Rattle.std.proofs.lemmas.Bool.{ltb-false, ltb-true, le-leb, lt-leb, leb-true, leb-false}
+use Rattle.std.proofs.Common.{◌≡◌, ℕ, suc, ◌+◌, ◌-◌, ◌≤◌, List, [], ◌∷◌, ◌++◌, Bool, true, false, cond, length, reverse, take, get_or, refl, ap, sym, ◌∙◌, subst, arith, append_assoc, add-one}
+use Rattle.std.specs.Prelude.{Option, Some, None, is_some, nat_lt, nat_le, count_by, map, take_while, slice_get}
+use Rattle.std.proofs.lemmas.Bool.{ltb-false, ltb-true, le-leb, lt-leb, leb-true}
 use Rattle.std.proofs.lemmas.List.{reverse-append, take_more, take_all}
-use Rattle.std.proofs.lemmas.Option.{slice_get_within, get_or_from_slice_get, slice_get-get_or}
-use Rattle.std.proofs.lemmas.List.Sums.{sum_by-cons, take_while-cons, count_by-le-length}
+use Rattle.std.proofs.lemmas.Option.{slice_get_within, get_or_from_slice_get}
+use Rattle.std.proofs.lemmas.List.Sums.{sum_by-cons, take_while-cons}
 use Rattle.dwarf_entries.specs.declared.entries.Level.{Level}
 use Rattle.dwarf_entries.specs.declared.entries.Boundary.{Boundary}
 use Rattle.dwarf_entries.specs.declared.scope.ScopeKind.{ScopeKind}
-use Rattle.dwarf_entries.specs.Entries.{Die, below}
+use Rattle.dwarf_entries.specs.Entries.{Die}
 use Rattle.dwarf_entries.specs.Kept.{inside_of, insides_in}
 use Rattle.dwarf_entries.specs.Scopes.{kind_of, is_scope}
 use Rattle.dwarf_entries.specs.Readers.{level_of, insides_of, above, scopes_from}
@@ -80,32 +80,6 @@ above-pop depth items seen front len b same size found left le =
     let passes : nat_le depth b.depth ≡ true = le-leb depth b.depth le in
     sym (ap (λ (xs : List Boundary). above depth (reverse xs)) (last_split items seen front len b same size found left) ∙ (ap (λ (xs : List Boundary). above depth xs) (reverse-push front b) ∙ rw passes refl))
 
-pub above-stop : (depth : ℕ) (items seen : List Boundary) (b : Boundary) → seen ≡ items → Some b ≡ slice_get seen (length seen - 1) → b.depth < depth → above depth (reverse items) ≡ reverse items
-above-stop depth items seen b same found lt =
-    let stops : nat_le depth b.depth ≡ false = lt-leb depth b.depth lt in
-    let split = last_split items seen (take (length items - 1) items) (length items) b same refl found refl in
-    let turned : reverse items ≡ b ∷ reverse (take (length items - 1) items) = ap reverse split ∙ reverse-push (take (length items - 1) items) b in
-    subst (λ (xs : List Boundary). above depth xs ≡ xs) (sym turned) (rw stops refl)
-
-pub above-none : (depth : ℕ) (items : List Boundary) → slice_get items (length items - 1) ≡ None → above depth (reverse items) ≡ reverse items
-above-none depth [] none = refl
-above-none depth (b ∷ bs) none = absurd (never (slice_get-get_or (b ∷ bs) (length (b ∷ bs) - 1) b (omega arith)))
-  where
-    never : slice_get (b ∷ bs) (length (b ∷ bs) - 1) ≡ Some (get_or (b ∷ bs) (length (b ∷ bs) - 1) b) → ⊥
-    never h = cc
-
-pub scopes_from-last : (items : List Boundary) (b : Boundary) → Some b ≡ slice_get items (length items - 1) → scopes_from (reverse items) ≡ b.scopes
-scopes_from-last items b found =
-    let split = last_split items items (take (length items - 1) items) (length items) b refl refl found refl in
-    ap (λ (xs : List Boundary). scopes_from (reverse xs)) split ∙ ap scopes_from (reverse-push (take (length items - 1) items) b)
-
-pub scopes_from-none : (items : List Boundary) → slice_get items (length items - 1) ≡ None → scopes_from (reverse items) ≡ 0
-scopes_from-none [] none = refl
-scopes_from-none (b ∷ bs) none = absurd (never (slice_get-get_or (b ∷ bs) (length (b ∷ bs) - 1) b (omega arith)))
-  where
-    never : slice_get (b ∷ bs) (length (b ∷ bs) - 1) ≡ Some (get_or (b ∷ bs) (length (b ∷ bs) - 1) b) → ⊥
-    never h = cc
-
 -- ---- the loop from the last level to the first
 
 pub record InsidesSoFar (all front : List Level) (insides : List ℕ) (behind : List Boundary) (count : ℕ) : Type 0 where
@@ -114,9 +88,6 @@ pub record InsidesSoFar (all front : List Level) (insides : List ℕ) (behind : 
   pub insides_are : reverse insides ≡ insides_of rest
   pub behind_are : reverse behind ≡ boundaries rest
   pub counted : count ≡ scopes_in rest
-
-pub insides_none : (all : List Level) → InsidesSoFar all all [] [] 0
-insides_none all = record { rest = []; parts = append-nil all; insides_are = refl; behind_are = refl; counted = refl }
 
 -- the count of a scope, by the boundaries above it
 pub inside_here : (all front : List Level) (insides : List ℕ) (behind behind1 : List Boundary) (count from depth : ℕ) (so_far : InsidesSoFar all front insides behind count) → reverse behind1 ≡ above (depth + 1) (reverse behind) → from ≡ scopes_from (reverse behind1) →
@@ -166,13 +137,6 @@ insides_other all front0 front insides behind behind1 behind2 count l so_far spl
       behind_are = behind-push all front0 insides behind behind1 behind2 count l (record { depth = l.depth; scopes = count }) so_far popped again (ap (λ (k : ℕ). (let b : Boundary = record { depth = l.depth; scopes = k } in b)) counted);
       counted = counted;
     }
-
--- there are not more scopes than levels
-pub count_small : (all front : List Level) (insides : List ℕ) (behind : List Boundary) (count : ℕ) → InsidesSoFar all front insides behind count → length front + count ≤ length all
-count_small all front insides behind count so_far = omega (arith, so_far.counted, count_by-le-length (λ (m : Level). m.is_scope) so_far.rest, length-append front so_far.rest, ap length so_far.parts)
-
-pub insides_end : (all front : List Level) (insides : List ℕ) (behind : List Boundary) (count : ℕ) → InsidesSoFar all front insides behind count → front ≡ [] → reverse insides ≡ insides_of all
-insides_end all front insides behind count so_far none = so_far.insides_are ∙ ap insides_of (ap (λ (f : List Level). f ++ so_far.rest) (sym none) ∙ so_far.parts)
 
 -- ---- the same by the entries
 

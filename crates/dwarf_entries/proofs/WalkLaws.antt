@@ -1,6 +1,6 @@
 -- The turns of the loop over the entries of a unit.
 use Rattle.std.proofs.Common.{◌≡◌, ℕ, ◌+◌, ◌-◌, ◌<◌, ◌≤◌, ◌⊎◌, inl, inr, List, [], ◌∷◌, ◌++◌, Bool, true, false, length, take, refl, ap, sym, ◌∙◌, cond, zero-add, subst, arith, length-take, append-nil}
-use Rattle.std.specs.Prelude.{Option, Some, None, is_some, option_to_list, Result, Ok, Err, IsOk, is_err, ◌↔◌, nat_lt, nat_le, ◌==◌, not, ◌&&◌, ◌||◌, count_by, map}
+use Rattle.std.specs.Prelude.{Option, Some, None, is_some, option_to_list, Result, Ok, Err, IsOk, is_err, ◌↔◌, nat_lt, nat_le, ◌==◌, ◌&&◌, ◌||◌, count_by}
 use Rattle.std.specs.List.{filter_map, list_any}
 use Rattle.std.proofs.lemmas.Bool.{ltb-false, ltb-true, lt-ltb, le-ltb, lt-leb, le-leb, cases_lt}
 use Rattle.std.proofs.lemmas.List.{map-append}
@@ -14,7 +14,7 @@ use Rattle.dwarf_bytes.specs.declared.fault.ReadFault.{ReadFault}
 use Rattle.dwarf_bytes.specs.declared.fault.Section.TheVariants as sections
 use Rattle.dwarf_bytes.specs.declared.format.Format.{Format}
 use Rattle.dwarf_bytes.specs.Bind.{◌>>=◌}
-use Rattle.dwarf_bytes.specs.Items.{At, Next, Item, End, Advances, refuse_if, told_at, items_from}
+use Rattle.dwarf_bytes.specs.Items.{At, Item, End, Advances, refuse_if, told_at, items_from}
 use Rattle.dwarf_bytes.specs.Position.{Position}
 use Rattle.dwarf_bytes.specs.Refusals.{memory_fault, told, in_section, Fails}
 use Rattle.dwarf_bytes.proofs.Advance.{after_bind}
@@ -27,7 +27,7 @@ use Rattle.dwarf_entries.specs.declared.kept.NamedEntry.{NamedEntry}
 use Rattle.dwarf_entries.specs.declared.kept.ScopeEntry.{ScopeEntry}
 use Rattle.dwarf_entries.specs.declared.kept.RootEntry.{RootEntry}
 use Rattle.dwarf_entries.specs.declared.units.UnitHeader.{UnitHeader}
-use Rattle.dwarf_entries.specs.Entries.{Node, Entry, Null, Standing, Die, die_in, die_of, opens, closes, is_root, is_null_node, depth_after, node_behind, node_at, entries_of}
+use Rattle.dwarf_entries.specs.Entries.{Node, Entry, Null, Standing, Die, die_of, opens, closes, is_root, depth_after, node_behind, node_at, entries_of}
 use Rattle.dwarf_entries.specs.Kept.{named_entry, scope_entry_of, root_entry, root_in, insides_in, KeptUnit, kept_unit, kept_entries}
 use Rattle.dwarf_entries.specs.Names.{or_else}
 use Rattle.dwarf_entries.specs.Readers.{Fills, Walked, level_of, walked_by, walked, after_die, depth_behind, after_node, walked_at, walk_of, insides_of}

@@ -1,4 +1,4 @@
-use Rattle.std.proofs.Common.{◌≡◌, ◌<◌, ap, sym, ◌∙◌, arith, length, subst}
+use Rattle.std.proofs.Common.{◌<◌, ap, arith, length}
 use Rattle.dwarf_bytes.specs.Position.{Position}
 use Rattle.dwarf_entries.specs.Readers.{walked_of}
 use Rattle.dwarf_entries.proofs.WalkLaws.{walk_item, walk_end, walk_fault, walk_outside, sought_past}
