@@ -1,5 +1,5 @@
 -- What stands at a place of a unit: where, how deep, and up to where.
-use Rattle.std.proofs.Common.{◌≡◌, ℕ, List, length, refl, ap, sym, subst}
+use Rattle.std.proofs.Common.{◌≡◌, ℕ, List, length, ap, sym, subst}
 use Rattle.std.specs.Prelude.{Result, Ok, nat_le}
 use Rattle.std.specs.List.{list_any}
 use Rattle.dwarf_bytes.specs.declared.fault.Cause.{Cause}

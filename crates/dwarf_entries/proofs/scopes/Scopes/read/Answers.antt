@@ -1,4 +1,4 @@
-use Rattle.std.proofs.Common.{◌∙◌, ap, sym, arith, inl}
+use Rattle.std.proofs.Common.{arith, inl}
 use Rattle.std.proofs.lemmas.Result.{err_from_is_err_and}
 use Rattle.dwarf_entries.specs.Sections.{sections_of}
 use Rattle.dwarf_entries.proofs.ReadLaws.{tables_read, entries_read, units_read, units_fault, tables_fault, entries_pass_fault, bases_pass_fault, scopes_pass_fault, tree_read, scopes_counted}
