@@ -16,8 +16,8 @@ use Rattle.dwarf_forms.specs.Tables.{declarations_of}
 use Rattle.dwarf_entries.specs.declared.units.UnitHeader.{UnitHeader}
 use Rattle.dwarf_entries.specs.Units.{declarations_limit, tables_of}
 use Rattle.dwarf_entries.specs.Entries.{Die, entries_of}
-use Rattle.dwarf_entries.specs.Kept.{KeptUnit, kept_unit}
-use Rattle.dwarf_entries.specs.Passes.{all_entries, kept_entries, kept_units, all_kept}
+use Rattle.dwarf_entries.specs.Kept.{KeptUnit, kept_unit, kept_entries}
+use Rattle.dwarf_entries.specs.Passes.{all_entries, kept_units, all_kept}
 use Rattle.dwarf_entries.proofs.EachPlaces.{each-length, each-place}
 use Rattle.dwarf_entries.proofs.TableLaws.{table_for, in_section_ok}
 

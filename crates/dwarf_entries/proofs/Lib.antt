@@ -16,3 +16,9 @@ pub mod EntryOrder
 pub mod OrderLaws
 pub mod BelowLaws
 pub mod BaseInForce
+pub mod RootsPass
+pub mod EntryLaws
+pub mod EntryMoves
+pub mod WalkLaws
+pub mod InsideLaws
+pub mod ReadLaws

@@ -1,9 +1,9 @@
 -- The turns of the pass over the scopes of all units.
-use Rattle.std.proofs.Common.{◌≡◌, ℕ, zero, suc, ◌+◌, ◌-◌, ◌^◌, ◌<◌, ◌≤◌, ◌⊎◌, inl, inr, List, [], ◌∷◌, ◌++◌, length, drop, get_or, map, refl, ap, sym, ◌∙◌, subst, arith, length-append}
+use Rattle.std.proofs.Common.{◌≡◌, ℕ, zero, suc, ◌+◌, ◌-◌, ◌^◌, ◌<◌, ◌≤◌, ◌⊎◌, inl, inr, List, [], ◌∷◌, ◌++◌, length, drop, get_or, map, refl, ap, sym, ◌∙◌, subst, arith, length-append, append_assoc, drop-cons, add-one}
 use Rattle.std.specs.Prelude.{Result, Ok, Err, Option, Some, None, slice_get, sum_by, flat_map}
 use Rattle.std.proofs.lemmas.List.{drop_all, map-append, length-map}
 use Rattle.std.proofs.lemmas.List.Sums.{sum_by-append}
-use Rattle.std.proofs.lemmas.Option.{slice_get_cases}
+use Rattle.std.proofs.lemmas.Option.{slice_get_cases, get_or_from_slice_get}
 use Rattle.std.specs.List.{filter_map}
 use Rattle.dwarf_bytes.specs.declared.fault.Cause.{Cause}
 use Rattle.dwarf_bytes.specs.declared.fault.Section.TheVariants as names
@@ -18,8 +18,9 @@ use Rattle.dwarf_entries.specs.declared.kept.ScopeEntry.{ScopeEntry}
 use Rattle.dwarf_entries.specs.declared.scope.Scope.{Scope as Kept}
 use Rattle.dwarf_entries.specs.Sections.{Sections}
 use Rattle.dwarf_entries.specs.Bases.{CompilationUnit}
-use Rattle.dwarf_entries.specs.Scopes.{Judged, Place, items_limit, places_in, scope_of, scope_at}
+use Rattle.dwarf_entries.specs.Scopes.{Judged, Place, Scope, items_limit, places_in, scope_of, scope_at}
 use Rattle.dwarf_entries.specs.Passes.{AreUnits, judged_of, IsPlace, judge, AreJudged, AddsScopes, all_places, all_scopes}
+use Rattle.dwarf_entries.proofs.EachPlaces.{each-append}
 use Rattle.dwarf_entries.proofs.PassLaws.{told_cases}
 use Rattle.dwarf_entries.specs.declared.kept.NamedEntry.{NamedEntry}
 use Rattle.dwarf_entries.specs.Kept.{KeptUnit, named_entry, scope_entry_of, insides_in, kept_of}
@@ -173,3 +174,93 @@ all_there units bases us u unit index d list are found list_is past =
     let there = kept_there units bases us unit u d are found in
     let sizes : length list ≡ length (places_in u u.dies) = ap (λ (es : List ScopeEntry). length es) (list_is ∙ (there.scopes_are ∙ entries_are u u.dies)) ∙ length-map (places_in u u.dies) entry_in in
     omega (arith, sizes, past)
+
+-- ---- the loop over the units
+
+-- the scopes of the units before the index
+pub record ScopesSoFar (s : Sections) (us : List CompilationUnit) (index : ℕ) (scopes : List Kept) (left : ℕ) : Type 0 where
+  pub judged : List Judged
+  pub are_judged : AreJudged judged scopes left
+  pub read : made_front judged (each_from (judge s us) judged (all_places (drop index us))) ≡ each (judge s us) (all_places us)
+
+pub scopes_none : (s : Sections) (us : List CompilationUnit) → ScopesSoFar s us 0 [] items_limit
+scopes_none s us = record { judged = []; are_judged = (refl, refl); read = no_front (each (judge s us) (all_places us)) }
+  where
+    no_front : (r : Result (List Judged) At) → made_front [] r ≡ r
+    no_front (Ok x) = refl
+    no_front (Err e) = refl
+
+-- the places from a unit on are its own, and those of the units behind it
+places_from : (us : List CompilationUnit) (u : CompilationUnit) (index : ℕ) → slice_get us index ≡ Some u → all_places (drop index us) ≡ places_in u u.dies ++ all_places (drop (index + 1) us)
+places_from us u index found =
+    let within : index < length us = inside ((slice_get_cases us index).1) in
+    let here : get_or us index u ≡ u = get_or_from_slice_get us index u u found in
+    let rest : drop index us ≡ u ∷ drop (index + 1) us = rw (add-one, drop-cons us index u within, here) refl in
+    ap (λ (vs : List CompilationUnit). all_places vs) rest
+  where
+    inside : ((x : CompilationUnit) × (index < length us) × (slice_get us index ≡ Some x) × (get_or us index x ≡ x)) ⊎ ((length us ≤ index) × (slice_get us index ≡ None)) → index < length us
+    inside (inl there) = there.1
+    inside (inr past) = absurd (never (sym found ∙ past.1))
+      where
+        never : (let f : CompilationUnit → Option CompilationUnit = λ z. Some z in f u) ≡ None → ⊥
+        never h = cc
+
+-- what is made of two lists, from what is made of the first
+stretch : (s : Sections) (us : List CompilationUnit) (judged after : List Judged) (places more : List Place) → each_from (judge s us) judged places ≡ Ok after →
+    made_front judged (each_from (judge s us) judged (places ++ more)) ≡ made_front (judged ++ after) (each_from (judge s us) (judged ++ after) more)
+stretch s us judged after places more is =
+    ap (λ (r : Result (List Judged) At). made_front judged r) (each-append (judge s us) judged places more ∙ ap (λ (r : Result (List Judged) At). r >>= λ ys. each_from (judge s us) (judged ++ ys) more >>= λ zs. Ok (ys ++ zs)) is)
+    ∙ behind (each_from (judge s us) (judged ++ after) more)
+  where
+    behind : (r : Result (List Judged) At) → made_front judged (r >>= λ zs. Ok (after ++ zs)) ≡ made_front (judged ++ after) r
+    behind (Ok zs) = ap (λ (js : List Judged). Ok js) (sym (append_assoc judged after zs))
+    behind (Err e) = refl
+
+pub scopes_next : (s : Sections) (units : List UnitEntries) (bases : List Bases) (us : List CompilationUnit) (index : ℕ) (old scopes : List Kept) (left after : ℕ) → AreUnits units bases us → index < length units → (so_far : ScopesSoFar s us index old left) →
+    ((u : CompilationUnit) (before : List Judged) → slice_get us index ≡ Some u → AreJudged before old left → AddsScopes (Ok tt) s us (places_in u u.dies) before scopes after) → ScopesSoFar s us (index + 1) scopes after
+scopes_next s units bases us index old scopes left after are within so_far adds =
+    let u = known_unit units bases us index are within in
+    let judged = so_far.judged in
+    let added = adds u.0 judged u.1 so_far.are_judged in
+    record {
+      judged = judged ++ added.0;
+      are_judged = added.2;
+      read = sym (stretch s us judged added.0 (places_in u.0 u.0.dies) (all_places (drop (index + 1) us)) added.1)
+          ∙ (ap (λ (ps : List Place). made_front judged (each_from (judge s us) judged ps)) (sym (places_from us u.0 index u.1)) ∙ so_far.read);
+    }
+
+pub scopes_fault : (s : Sections) (units : List UnitEntries) (bases : List Bases) (us : List CompilationUnit) (index : ℕ) (old scopes : List Kept) (left after : ℕ) (fault : LoadFault) → AreUnits units bases us → index < length units → (so_far : ScopesSoFar s us index old left) →
+    ((u : CompilationUnit) (before : List Judged) → slice_get us index ≡ Some u → AreJudged before old left → AddsScopes (Err fault) s us (places_in u u.dies) before scopes after) →
+    (fault ≡ memory_fault) ⊎ (in_section names.DebugInfo (all_scopes s us) ≡ Err fault)
+scopes_fault s units bases us index old scopes left after fault are within so_far adds =
+    let u = known_unit units bases us index are within in
+    by_fault u.0 u.1 (adds u.0 so_far.judged u.1 so_far.are_judged)
+  where
+    judged : List Judged
+    judged = so_far.judged
+
+    by_read : (u : CompilationUnit) → slice_get us index ≡ Some u → (r : Result (List Judged) At) → each_from (judge s us) judged (places_in u u.dies) ≡ r → in_section names.DebugInfo r ≡ Err fault → in_section names.DebugInfo (all_scopes s us) ≡ Err fault
+    by_read u found (Ok x) is h = cc
+    by_read u found (Err e) is h =
+        let here : each_from (judge s us) judged (places_in u u.dies ++ all_places (drop (index + 1) us)) ≡ Err e =
+        each-append (judge s us) judged (places_in u u.dies) (all_places (drop (index + 1) us)) ∙ ap (λ (r : Result (List Judged) At). r >>= λ ys. each_from (judge s us) (judged ++ ys) (all_places (drop (index + 1) us)) >>= λ zs. Ok (ys ++ zs)) is in
+        let all : each (judge s us) (all_places us) ≡ Err e =
+        sym so_far.read ∙ ap (λ (r : Result (List Judged) At). made_front judged r) (ap (λ (ps : List Place). each_from (judge s us) judged ps) (places_from us u index found) ∙ here) in
+        rw all (ap (λ (f : LoadFault). Err f) (same_fault h))
+      where
+        same_fault : {x y : LoadFault} → (let f : LoadFault → Result (List Judged) LoadFault = λ z. Err z in f x ≡ f y) → x ≡ y
+        same_fault h = cc
+
+    by_fault : (u : CompilationUnit) → slice_get us index ≡ Some u → (fault ≡ memory_fault) ⊎ (in_section names.DebugInfo (each_from (judge s us) judged (places_in u u.dies)) ≡ Err fault) → (fault ≡ memory_fault) ⊎ (in_section names.DebugInfo (all_scopes s us) ≡ Err fault)
+    by_fault u found (inl memory) = inl memory
+    by_fault u found (inr bad) = inr (by_read u found (each_from (judge s us) judged (places_in u u.dies)) refl bad)
+
+pub scopes_end : (s : Sections) (units : List UnitEntries) (bases : List Bases) (us : List CompilationUnit) (index : ℕ) (scopes : List Kept) (left : ℕ) → AreUnits units bases us → length units ≤ index → ScopesSoFar s us index scopes left →
+    in_section names.DebugInfo (all_scopes s us) ≡ Ok (map scope_of scopes)
+scopes_end s units bases us index scopes left are past so_far =
+    let judged = so_far.judged in
+    let sizes : length units ≡ length us = sym (length-map units kept_of) ∙ (ap (λ (ks : List KeptUnit). length ks) are.kept.same ∙ length-map us kept_in) in
+    let none : drop index us ≡ [] = drop_all index us (omega (arith, sizes, past)) in
+    let all : each (judge s us) (all_places us) ≡ Ok judged =
+    sym so_far.read ∙ (ap (λ (vs : List CompilationUnit). made_front judged (each_from (judge s us) judged (all_places vs))) none ∙ each-end (judge s us) judged) in
+    rw all (ap (λ (ss : List Scope). Ok ss) (sym so_far.are_judged.0))

@@ -109,17 +109,22 @@ attributes_at format (s ∷ ss) bytes at = do
 abbrev pub declaration_of : List Declaration → ℕ → Option Declaration
 declaration_of table code = find (λ declaration. declaration.code == code) table
 
--- what stands at a place of a unit, behind what stands before it; the bytes end with the unit
-abbrev pub node_at : Format → List Declaration → List ℕ → List Standing → ℕ → Result (Next Standing) Cause
-node_at format table unit before at = if nat_le (length unit) at then Ok (End at) else do
-  let depth = depth_after before
+-- what stands at a place of a unit, at a depth, and the place after it; rooted is whether the unit's root stands before it
+abbrev pub node_behind : Format → List Declaration → ℕ → Bool → List ℕ → ℕ → Result (Node × ℕ) Cause
+node_behind format table depth rooted unit at = do
   code ← reading (uleb_at unit at)
-  if code.0 == 0 then Ok (Item (record { offset = at; depth = depth; node = Null }) code.1) else do
+  if code.0 == 0 then Ok (Null, code.1) else do
     declaration ← ok_or (declaration_of table code.0) causes.AbbrevCode
-    _ ← refuse_if ((depth == 0) && list_any is_root before) causes.TwoRoots
+    _ ← refuse_if ((depth == 0) && rooted) causes.TwoRoots
     _ ← refuse_if (nat_lt depth_limit depth) causes.TooDeep
     attributes ← attributes_at format declaration.attributes unit code.1
-    Ok (Item (record { offset = at; depth = depth; node = Entry declaration.tag declaration.children attributes.0 }) attributes.1)
+    Ok (Entry declaration.tag declaration.children attributes.0, attributes.1)
+
+-- the same, behind what stands before it; the bytes end with the unit
+abbrev pub node_at : Format → List Declaration → List ℕ → List Standing → ℕ → Result (Next Standing) Cause
+node_at format table unit before at = if nat_le (length unit) at then Ok (End at) else do
+  node ← node_behind format table (depth_after before) (list_any is_root before) unit at
+  Ok (Item (record { offset = at; depth = depth_after before; node = node.0 }) node.1)
 
 -- an entry, without the nulls
 pub record Die : Type 0 where

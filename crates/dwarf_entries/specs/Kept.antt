@@ -1,6 +1,9 @@
 -- What is kept of the entries of a unit, for the contracts of the passes.
-use Rattle.std.specs.Prelude.{ℕ, suc, ◌≤◌, List, [], ◌∷◌, Option, Some, None, option_map, map, count_by}
+use Rattle.std.specs.Prelude.{ℕ, suc, ◌≤◌, List, [], ◌∷◌, Option, Some, None, Result, Ok, option_map, map, count_by, sum_by, length}
 use Rattle.std.specs.List.{filter_map}
+use Rattle.dwarf_bytes.specs.Bind.{◌>>=◌}
+use Rattle.dwarf_bytes.specs.Items.{At}
+use Rattle.dwarf_forms.specs.Declarations.{Declaration}
 use Rattle.dwarf_entries.specs.declared.scope.ScopeKind.{ScopeKind}
 use Rattle.dwarf_entries.specs.declared.units.UnitHeader.{UnitHeader}
 use Rattle.dwarf_entries.specs.declared.kept.NamedEntry.{NamedEntry}
@@ -8,7 +11,7 @@ use Rattle.dwarf_entries.specs.declared.kept.ScopeEntry.{ScopeEntry}
 use Rattle.dwarf_entries.specs.declared.kept.RootEntry.{RootEntry}
 use Rattle.dwarf_entries.specs.declared.kept.UnitEntries.{UnitEntries}
 use Rattle.dwarf_entries.specs.Attributes.{DW_AT_name, DW_AT_linkage_name, DW_AT_stmt_list, DW_AT_low_pc, DW_AT_high_pc, DW_AT_ranges, DW_AT_call_file, DW_AT_call_line, DW_AT_str_offsets_base, DW_AT_addr_base, DW_AT_rnglists_base}
-use Rattle.dwarf_entries.specs.Entries.{Die, attribute, below}
+use Rattle.dwarf_entries.specs.Entries.{Die, attribute, below, entries_of}
 use Rattle.dwarf_entries.specs.Bases.{CompilationUnit}
 use Rattle.dwarf_entries.specs.Names.{next_of}
 use Rattle.dwarf_entries.specs.Scopes.{kind_of, is_scope, number_of}
@@ -74,9 +77,17 @@ kept_unit header dies = record {
   insides = insides_in dies;
 }
 
+-- .. of those that stand in it, by the declarations of its table
+abbrev pub kept_entries : List ℕ → UnitHeader → List Declaration → Result KeptUnit At
+kept_entries info header table = entries_of info header table >>= λ dies. Ok (kept_unit header dies)
+
 -- .. by the program
 abbrev pub kept_of : UnitEntries → KeptUnit
 kept_of unit = record { header = unit.header; root = unit.root; entries = unit.entries.items; scopes = unit.scopes.items; insides = unit.insides.items }
+
+-- how many scopes the units of the program have
+abbrev pub scope_count : List UnitEntries → ℕ
+scope_count units = sum_by (λ unit. length unit.scopes.items) units
 
 -- The offsets of entries rise strictly, from a place on and up to an end.
 abbrev pub RiseWithin : ℕ → ℕ → List Die → Type 0

@@ -10,3 +10,4 @@ pub mod Steps
 pub mod Kept
 pub mod Passes
 pub mod Members
+pub mod Readers

@@ -24,10 +24,6 @@ use Rattle.dwarf_entries.specs.Kept.{KeptUnit, scope_entry, kept_unit}
 abbrev pub all_entries : List ℕ → List UnitHeader → List (List Declaration) → Result (List (List Die)) At
 all_entries info headers tables = each (λ _ p. entries_of info p.0 p.1) (zip headers tables)
 
--- what is kept of the entries of a unit
-abbrev pub kept_entries : List ℕ → UnitHeader → List Declaration → Result KeptUnit At
-kept_entries info header table = entries_of info header table >>= λ dies. Ok (kept_unit header dies)
-
 -- what is kept of each unit
 abbrev pub kept_units : List UnitHeader → List (List Die) → List KeptUnit
 kept_units headers dies = map (λ p. kept_unit p.0 p.1) (zip headers dies)

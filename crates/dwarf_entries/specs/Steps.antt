@@ -16,6 +16,11 @@ abbrev pub Gives : {X Y : Type 0} → (X → Y) → Result X Cause → Result Y 
 Gives view (Ok x) outcome = outcome ≡ Ok (view x)
 Gives view (Err cause) outcome = Fails cause outcome
 
+-- What a step builds, seen by view, is this, unless memory ran out.
+abbrev pub Builds : {X Y : Type 0} → (X → Y) → Result X LoadFault → Y → Type 0
+Builds view (Ok x) whole = view x ≡ whole
+Builds view (Err fault) whole = fault ≡ memory_fault
+
 -- the ranges of the program, as a list
 abbrev pub covering_of : Kept → Covering
 covering_of c = record { ranges = c.ranges.items; items = c.items }

@@ -1,25 +1,246 @@
-//! The entries of a unit.
+//! The entries of a unit (DWARF 5, 2.3, 7.5.2 and 7.5.3).
 
-ghost use Rattle.std.specs.Prelude.{◌≡◌};
+ghost use Rattle.std.specs.Prelude.{◌≡◌, ◌≤◌, [], None, IsSome, IfOk, OnOk, take, reverse};
 ghost use Rattle.dwarf_bytes.specs.declared.fault.Section.TheVariants as sections;
 ghost use Rattle.dwarf_bytes.specs.Refusals.{Decodes, in_section};
-ghost use Rattle.dwarf_entries.specs.Kept.{kept_of};
-ghost use Rattle.dwarf_entries.specs.Passes.{kept_entries};
+ghost use Rattle.dwarf_entries.specs.Entries.{node_behind};
+ghost use Rattle.dwarf_entries.specs.Kept.{kept_of, kept_entries};
+ghost use Rattle.dwarf_entries.specs.Readers.{Fills, ReadsNode, walked_of, after_die, walked_at, walk_of, insides_of, above, scopes_from};
 
-use crate::kept::UnitEntries;
+use crate::attributes::{Attribute, attributes};
+use crate::kept::{NamedEntry, RootEntry, ScopeEntry, UnitEntries, kind_of};
 use crate::units::UnitHeader;
-use dwarf_bytes::{Cause, LoadFault, Section};
+use dwarf_bytes::{Cause, Cursor, Format, LoadFault, Section};
 use dwarf_forms::Abbrevs;
-use std::alloc::Global;
+use std::alloc::{AllocError, Global};
 
-/// Stub.
+/// The greatest depth of an entry.
+const DEPTH_LIMIT: u16 = 256;
+
+/// What the declaration of an entry tells of it, but its attributes.
+#[derive(Clone, Copy, Debug, PartialEq, Eq)]
+pub(crate) struct EntryHead {
+    pub(crate) tag: u64,
+    pub(crate) children: bool,
+}
+
+/// How deep an entry stands, and whether it is a scope.
+#[derive(Clone, Copy, Debug, PartialEq, Eq)]
+pub(crate) struct Level {
+    pub(crate) depth: u16,
+    pub(crate) is_scope: bool,
+}
+
+/// An entry that ends the lists of all deeper ones before it: how deep it stands, and how many scopes
+/// there are from it on.
+#[derive(Clone, Copy, Debug, PartialEq, Eq)]
+pub(crate) struct Boundary {
+    pub(crate) depth: u16,
+    pub(crate) scopes: usize,
+}
+
+/// What is kept of the entries so far, and the depth behind them.
+#[derive(Debug, Drop)]
+pub(crate) struct Walk {
+    pub(crate) depth: u16,
+    pub(crate) root: Option<RootEntry>,
+    pub(crate) entries: Vec<NamedEntry>,
+    pub(crate) scopes: Vec<ScopeEntry>,
+    pub(crate) levels: Vec<Level>,
+}
+
+/// What is kept of the entries of a unit. A fault is told at its entry, and a list of children that is
+/// not ended at the unit.
 pub(crate) fn entries(
-    _alloc: Global,
-    _info: &[u8],
-    _header: UnitHeader,
-    _table: &Abbrevs,
+    alloc: Global,
+    info: &[u8],
+    header: UnitHeader,
+    table: &Abbrevs,
 ) -> Result<UnitEntries, LoadFault>
-    ensures { Decodes (λ unit. kept_of unit) result (in_section sections.DebugInfo (kept_entries _info.now _header _table.now)) }
+    ensures { Decodes (λ unit. kept_of unit) result (in_section sections.DebugInfo (kept_entries info.now header table.now)) }
 {
-    Err(LoadFault::told(Section::DebugInfo, Cause::Memory, 0))
+    let walk = walk_unit(alloc, info, header, table)?;
+    if walk.depth > 0 {
+        let at = header.start as u64;
+        return Err(LoadFault::told(Section::DebugInfo, Cause::TreeOpen, at));
+    }
+    let Ok(insides) = insides(alloc, walk.levels) else {
+        return Err(LoadFault::told(Section::DebugInfo, Cause::Memory, 0));
+    };
+    Ok(UnitEntries {
+        header,
+        root: walk.root,
+        entries: walk.entries,
+        scopes: walk.scopes,
+        insides,
+    })
+}
+
+impl Walk {
+    fn new(alloc: Global) -> Walk
+        ensures { walked_of result ≡ record { depth = 0; root = None; entries = []; scopes = []; levels = [] } }
+    {
+        Walk {
+            depth: 0,
+            root: None,
+            entries: Vec::new(alloc),
+            scopes: Vec::new(alloc),
+            levels: Vec::new(alloc),
+        }
+    }
+
+    /// Takes what stands at the cursor. `found` is a buffer for attributes.
+    fn step(
+        &mut self,
+        format: Format,
+        table: &Abbrevs,
+        cursor: &mut Cursor,
+        found: &mut Vec<Attribute>,
+    ) -> Result<(), Cause>
+        ensures { Fills result (walked_of self.new) (walked_at format table.now (walked_of self.old)) cursor.old cursor.new }
+    {
+        let offset = cursor.place();
+        let rooted = self.root.is_some();
+        match node(format, table, self.depth, rooted, cursor, found)? {
+            None => self.depth = self.depth.saturating_sub(1),
+            Some(head) => {
+                self.keep(offset, head.tag, found)?;
+                if head.children {
+                    self.depth += 1;
+                }
+            }
+        }
+        Ok(())
+    }
+
+    /// Keeps what is wanted of the entry at an offset.
+    fn keep(&mut self, offset: usize, tag: u64, attributes: &[Attribute]) -> Result<(), AllocError>
+        ensures { OnOk result (walked_of self.new ≡ after_die (walked_of self.old) (record { offset = offset; depth = self.old.depth; tag = tag; attributes = attributes.now })) }
+    {
+        let entry = NamedEntry::of(offset, attributes);
+        let kind = kind_of(tag);
+        if self.root.is_none() {
+            self.root = Some(RootEntry::of(offset, attributes));
+        }
+        if let Some(kind) = kind {
+            self.scopes.push(ScopeEntry::of(entry, kind, attributes))?;
+        }
+        self.levels.push(Level {
+            depth: self.depth,
+            is_scope: kind.is_some(),
+        })?;
+        self.entries.push(entry)?;
+        Ok(())
+    }
+}
+
+/// The entries of a unit. A fault is told at what stands there.
+fn walk_unit(
+    alloc: Global,
+    info: &[u8],
+    header: UnitHeader,
+    table: &Abbrevs,
+) -> Result<Walk, LoadFault>
+    ensures { Decodes (λ walk. walked_of walk) result (in_section sections.DebugInfo (walk_of info.now header table.now)) }
+{
+    let unit = up_to(info, header.end);
+    let mut cursor = Cursor::new(unit);
+    let mut walk = Walk::new(alloc);
+    let mut found = Vec::new(alloc);
+    if cursor.seek(header.first).is_err() {
+        return Ok(walk);
+    }
+    while cursor.place() < unit.len() {
+        let at = cursor.place();
+        match walk.step(header.format, table, &mut cursor, &mut found) {
+            Ok(()) => {}
+            Err(cause) => {
+                return Err(LoadFault::told(Section::DebugInfo, cause, at as u64));
+            }
+        }
+    }
+    Ok(walk)
+}
+
+/// The bytes up to an end, or all where they are fewer.
+fn up_to(bytes: &[u8], end: usize) -> &[u8]
+    ensures { result.now ≡ take end bytes.now }
+{
+    bytes.get(..end).unwrap_or(bytes)
+}
+
+/// The entry at the cursor, at a depth, or none for a null. Its attributes come into `found`.
+/// `rooted` is whether the root of the unit stands before it.
+fn node(
+    format: Format,
+    table: &Abbrevs,
+    depth: u16,
+    rooted: bool,
+    cursor: &mut Cursor,
+    found: &mut Vec<Attribute>,
+) -> Result<Option<EntryHead>, Cause>
+    ensures reads { ReadsNode result found.new.items (node_behind format table.now depth rooted) cursor.old cursor.new }
+    ensures limit { IfOk result (λ entry. IsSome entry → depth ≤ DEPTH_LIMIT) }
+{
+    let code = cursor.uleb()?;
+    if code == 0 {
+        return Ok(None);
+    }
+    let declaration = table.find(code).ok_or(Cause::AbbrevCode)?;
+    if depth == 0 && rooted {
+        return Err(Cause::TwoRoots);
+    }
+    if depth > DEPTH_LIMIT {
+        return Err(Cause::TooDeep);
+    }
+    attributes(format, declaration.attributes(), cursor, found)?;
+    Ok(Some(EntryHead {
+        tag: declaration.tag(),
+        children: declaration.children(),
+    }))
+}
+
+/// How many scopes are below each scope.
+fn insides(alloc: Global, mut levels: Vec<Level>) -> Result<Vec<usize>, AllocError>
+    ensures { IfOk result (λ insides. insides.items ≡ insides_of levels.items) }
+{
+    let mut insides = Vec::new(alloc);
+    let mut boundaries = Vec::new(alloc);
+    let mut count = 0;
+    while let Some(level) = levels.pop() {
+        pop_from(&mut boundaries, u32::from(level.depth) + 1);
+        if level.is_scope {
+            insides.push(count - scopes_from(&boundaries))?;
+            count += 1;
+        }
+        pop_from(&mut boundaries, u32::from(level.depth));
+        boundaries.push(Boundary {
+            depth: level.depth,
+            scopes: count,
+        })?;
+    }
+    insides.reverse();
+    Ok(insides)
+}
+
+/// Removes the last boundaries, up to the last that is above a depth.
+fn pop_from(boundaries: &mut Vec<Boundary>, depth: u32)
+    ensures { reverse boundaries.new.items ≡ above depth (reverse boundaries.old.items) }
+{
+    while let Some(last) = boundaries.last() {
+        if u32::from(last.depth) < depth {
+            return;
+        }
+        boundaries.pop();
+    }
+}
+
+/// How many scopes there are from the last boundary on.
+fn scopes_from(boundaries: &[Boundary]) -> usize
+    ensures { result ≡ scopes_from (reverse boundaries.now) }
+{
+    match boundaries.last() {
+        Some(last) => last.scopes,
+        None => 0,
+    }
 }

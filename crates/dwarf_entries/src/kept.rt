@@ -1,8 +1,26 @@
 //! What is kept of the entries of a unit until all units are read.
 
-use crate::attributes::AttributeValue;
+ghost use Rattle.std.specs.Prelude.{◌≡◌};
+ghost use Rattle.dwarf_entries.specs.Entries.{value_of};
+ghost use Rattle.dwarf_entries.specs.Kept.{named_entry, scope_entry, root_entry};
+ghost use Rattle.dwarf_entries.specs.Names.{followed, next_of};
+ghost use Rattle.dwarf_entries.specs.Readers.{die_with};
+ghost use Rattle.dwarf_entries.specs.Scopes.{kind_of, number_of};
+
+use crate::attributes::{
+    Attribute, AttributeValue, DW_AT_ABSTRACT_ORIGIN, DW_AT_ADDR_BASE, DW_AT_CALL_FILE,
+    DW_AT_CALL_LINE, DW_AT_HIGH_PC, DW_AT_LINKAGE_NAME, DW_AT_LOW_PC, DW_AT_NAME, DW_AT_RANGES,
+    DW_AT_RNGLISTS_BASE, DW_AT_SPECIFICATION, DW_AT_STMT_LIST, DW_AT_STR_OFFSETS_BASE,
+};
 use crate::scope::ScopeKind;
 use crate::units::UnitHeader;
+
+/// DW_FORM_ref_sig8, which is not followed.
+const REF_SIG8: u64 = 0x20;
+
+const DW_TAG_INLINED_SUBROUTINE: u64 = 0x1d;
+
+const DW_TAG_SUBPROGRAM: u64 = 0x2e;
 
 /// An entry, as far as names go: its offset in the section, the reference to its next entry, and its
 /// names.
@@ -46,4 +64,99 @@ pub(crate) struct UnitEntries {
     pub(crate) entries: Vec<NamedEntry>,
     pub(crate) scopes: Vec<ScopeEntry>,
     pub(crate) insides: Vec<usize>,
+}
+
+impl NamedEntry {
+    /// Of the entry at an offset, by its attributes.
+    pub(crate) fn of(offset: usize, attributes: &[Attribute]) -> NamedEntry
+        ensures { result ≡ named_entry (die_with offset 0 attributes.now) }
+    {
+        NamedEntry {
+            offset,
+            next: next_of(attributes),
+            name: value_of(attributes, DW_AT_NAME),
+            linkage_name: value_of(attributes, DW_AT_LINKAGE_NAME),
+        }
+    }
+}
+
+impl ScopeEntry {
+    /// Of a scope of the kind, by its attributes.
+    pub(crate) fn of(entry: NamedEntry, kind: ScopeKind, attributes: &[Attribute]) -> ScopeEntry
+        ensures { result ≡ record (scope_entry (die_with entry.offset 0 attributes.now) kind) { entry = entry } }
+    {
+        ScopeEntry {
+            entry,
+            kind,
+            low_pc: value_of(attributes, DW_AT_LOW_PC),
+            high_pc: value_of(attributes, DW_AT_HIGH_PC),
+            ranges: value_of(attributes, DW_AT_RANGES),
+            call_file: number_of(attributes, DW_AT_CALL_FILE),
+            call_line: number_of(attributes, DW_AT_CALL_LINE),
+        }
+    }
+}
+
+impl RootEntry {
+    /// Of the root at an offset, by its attributes.
+    pub(crate) fn of(offset: usize, attributes: &[Attribute]) -> RootEntry
+        ensures { result ≡ root_entry (die_with offset 0 attributes.now) }
+    {
+        RootEntry {
+            offset,
+            stmt_list: number_of(attributes, DW_AT_STMT_LIST),
+            str_offsets_base: value_of(attributes, DW_AT_STR_OFFSETS_BASE),
+            addr_base: value_of(attributes, DW_AT_ADDR_BASE),
+            rnglists_base: value_of(attributes, DW_AT_RNGLISTS_BASE),
+            low_pc: value_of(attributes, DW_AT_LOW_PC),
+        }
+    }
+}
+
+/// The kind of the scopes of a tag; none for the other entries.
+pub(crate) fn kind_of(tag: u64) -> Option<ScopeKind>
+    ensures { result ≡ kind_of tag }
+{
+    match tag {
+        DW_TAG_SUBPROGRAM => Some(ScopeKind::Subprogram),
+        DW_TAG_INLINED_SUBROUTINE => Some(ScopeKind::Inlined),
+        _ => None,
+    }
+}
+
+/// The value of an attribute among these.
+fn value_of(attributes: &[Attribute], name: u64) -> Option<AttributeValue>
+    ensures { result ≡ value_of attributes.now name }
+{
+    attributes
+        .iter()
+        .find(|attribute| attribute.name == name)
+        .map(|attribute| attribute.value)
+}
+
+/// Its number.
+fn number_of(attributes: &[Attribute], name: u64) -> Option<u64>
+    ensures { result ≡ number_of name (die_with 0 0 attributes.now) }
+{
+    value_of(attributes, name).map(|value| value.number)
+}
+
+/// The reference to the next entry.
+fn next_of(attributes: &[Attribute]) -> Option<AttributeValue>
+    ensures { result ≡ next_of (die_with 0 0 attributes.now) }
+{
+    if let Some(origin) = value_of(attributes, DW_AT_ABSTRACT_ORIGIN) {
+        return followed(origin);
+    }
+    followed(value_of(attributes, DW_AT_SPECIFICATION)?)
+}
+
+/// A reference, unless it is one that is not followed.
+fn followed(value: AttributeValue) -> Option<AttributeValue>
+    ensures { result ≡ followed (Some value) }
+{
+    if value.form == REF_SIG8 {
+        return None;
+    }
+    Some(value)
 }

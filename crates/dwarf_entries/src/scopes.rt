@@ -1,13 +1,13 @@
 //! The subprograms and inlined subroutines of an object (DWARF 5, 3.3).
 
-ghost use Rattle.std.specs.Prelude.{◌≡◌, map, List, ℕ, ◌+◌};
+ghost use Rattle.std.specs.Prelude.{◌≡◌, ◌<◌, ◌^◌, map, List};
 ghost use Rattle.dwarf_bytes.specs.Refusals.{Decodes};
 ghost use Rattle.dwarf_entries.specs.Sections.{sections_of};
 ghost use Rattle.dwarf_entries.specs.Bases.{CompilationUnit};
 ghost use Rattle.dwarf_entries.specs.Scopes.{scope_of, roots_from, tree_of};
-ghost use Rattle.dwarf_entries.specs.Steps.{Gives};
+ghost use Rattle.dwarf_entries.specs.Steps.{Builds};
 ghost use Rattle.dwarf_entries.specs.Passes.{kept_unit_of};
-ghost use Rattle.dwarf_entries.specs.Kept.{kept_of};
+ghost use Rattle.dwarf_entries.specs.Kept.{kept_of, scope_count};
 
 use crate::kept::UnitEntries;
 use crate::passes::{all_bases, all_entries};
@@ -73,7 +73,8 @@ impl Scopes {
 
 /// The roots of the units, each with the numbers of its unit's scopes.
 fn roots(alloc: Global, units: &[UnitEntries]) -> Result<Vec<Root>, LoadFault>
-    ensures { (us : List CompilationUnit) → map kept_of units.now ≡ map kept_unit_of us → Told (λ roots. roots.items) result (roots_from 0 us) }
+    requires { scope_count units.now < 2 ^ 63 }
+    ensures { (us : List CompilationUnit) → map kept_of units.now ≡ map kept_unit_of us → Builds (λ roots. roots.items) result (roots_from 0 us) }
 {
     let mut roots = Vec::new(alloc);
     let mut first = 0;

@@ -1,0 +1,112 @@
+-- What the steps of the pass over entries leave, for the contracts of its parts.
+use Rattle.std.specs.Prelude.{◌≡◌, ℕ, ◌+◌, ◌-◌, List, [], ◌∷◌, ◌++◌, Bool, Option, Some, None, is_some, option_to_list, Result, Ok, Err, if◌then◌else◌, nat_lt, nat_le, map, take, take_while, count_by}
+use Rattle.std.specs.List.{filter_map}
+use Rattle.dwarf_bytes.specs.declared.fault.Cause.{Cause}
+use Rattle.dwarf_bytes.specs.declared.format.Format.{Format}
+use Rattle.dwarf_bytes.specs.Bind.{◌>>=◌}
+use Rattle.dwarf_bytes.specs.Items.{At, items_from}
+use Rattle.dwarf_bytes.specs.Position.{Position}
+use Rattle.dwarf_bytes.specs.Refusals.{Fails}
+use Rattle.dwarf_forms.specs.Declarations.{Declaration}
+use Rattle.dwarf_entries.specs.declared.attributes.Attribute.{Attribute}
+use Rattle.dwarf_entries.specs.declared.entries.EntryHead.{EntryHead}
+use Rattle.dwarf_entries.specs.declared.entries.Level.{Level}
+use Rattle.dwarf_entries.specs.declared.entries.Boundary.{Boundary}
+use Rattle.dwarf_entries.specs.declared.entries.Walk.{Walk}
+use Rattle.dwarf_entries.specs.declared.kept.NamedEntry.{NamedEntry}
+use Rattle.dwarf_entries.specs.declared.kept.ScopeEntry.{ScopeEntry}
+use Rattle.dwarf_entries.specs.declared.kept.RootEntry.{RootEntry}
+use Rattle.dwarf_entries.specs.declared.units.UnitHeader.{UnitHeader}
+use Rattle.dwarf_entries.specs.Entries.{Node, Entry, Null, Standing, Die, die_of, depth_after, node_behind, node_at}
+use Rattle.dwarf_entries.specs.Kept.{named_entry, scope_entry_of, root_entry, root_in}
+use Rattle.dwarf_entries.specs.Names.{or_else}
+use Rattle.dwarf_entries.specs.Scopes.{is_scope}
+
+-- What a step left in its place is what is read, and the cursor stands after it, unless memory ran out.
+abbrev pub Fills : {Y : Type 0} → Result (Unit {0}) Cause → Y → (List ℕ → ℕ → Result (Y × ℕ) Cause) → Position → Position → Type 0
+Fills (Ok u) left read old new = (read old.bytes old.place ≡ Ok (left, new.place)) × (new.bytes ≡ old.bytes)
+Fills (Err cause) left read old new = Fails cause (read old.bytes old.place)
+
+-- an entry by its offset, its tag and its attributes, whatever its depth
+abbrev pub die_with : ℕ → ℕ → List Attribute → Die
+die_with offset tag attributes = record { offset = offset; depth = 0; tag = tag; attributes = attributes }
+
+-- an entry by what its declaration tells of it and by its attributes, or a null
+abbrev pub node_of : Option EntryHead → List Attribute → Node
+node_of (Some head) attributes = Entry head.tag head.children attributes
+node_of None attributes = Null
+
+-- What a step found, with the attributes that it left in a buffer, is what is read, and the cursor stands after it, unless memory
+-- ran out.
+abbrev pub ReadsNode : Result (Option EntryHead) Cause → List Attribute → (List ℕ → ℕ → Result (Node × ℕ) Cause) → Position → Position → Type 0
+ReadsNode (Ok found) attributes read old new = (read old.bytes old.place ≡ Ok (node_of found attributes, new.place)) × (new.bytes ≡ old.bytes)
+ReadsNode (Err cause) attributes read old new = Fails cause (read old.bytes old.place)
+
+-- how deep an entry stands, and whether it is a scope
+abbrev pub level_of : Die → Level
+level_of die = record { depth = die.depth; is_scope = is_scope die }
+
+-- what is kept of the entries so far, and the depth behind them
+pub record Walked : Type 0 where
+  pub depth : ℕ
+  pub root : Option RootEntry
+  pub entries : List NamedEntry
+  pub scopes : List ScopeEntry
+  pub levels : List Level
+
+-- .. of these
+abbrev pub walked_by : ℕ → List Die → Walked
+walked_by depth dies = record { depth = depth; root = root_in dies; entries = map named_entry dies; scopes = filter_map scope_entry_of dies; levels = map level_of dies }
+
+-- .. behind what stands before
+abbrev pub walked : List Standing → Walked
+walked before = walked_by (depth_after before) (filter_map die_of before)
+
+-- .. by the program
+abbrev pub walked_of : Walk → Walked
+walked_of w = record { depth = w.depth; root = w.root; entries = w.entries.items; scopes = w.scopes.items; levels = w.levels.items }
+
+-- one more entry
+abbrev pub after_die : Walked → Die → Walked
+after_die w die = record {
+  depth = w.depth;
+  root = or_else w.root (Some (root_entry die));
+  entries = w.entries ++ named_entry die ∷ [];
+  scopes = w.scopes ++ option_to_list (scope_entry_of die);
+  levels = w.levels ++ level_of die ∷ [];
+}
+
+-- the depth behind an entry, which may begin a list of children
+abbrev pub depth_behind : Bool → ℕ → ℕ
+depth_behind children depth = if children then depth + 1 else depth
+
+-- one more entry or null, at a place
+abbrev pub after_node : Walked → ℕ → Node → Walked
+after_node w at (Entry tag children attributes) =
+    record (after_die w (record { offset = at; depth = w.depth; tag = tag; attributes = attributes })) { depth = depth_behind children w.depth }
+after_node w at Null = record w { depth = w.depth - 1 }
+
+-- what a step makes of the entries so far, and the place after it
+abbrev pub walked_at : Format → List Declaration → Walked → List ℕ → ℕ → Result (Walked × ℕ) Cause
+walked_at format table w unit at = node_behind format table w.depth (is_some w.root) unit at >>= λ node. Ok (after_node w at node.0, node.1)
+
+-- all entries of a unit, and the depth behind them
+unfoldable pub walk_of : List ℕ → UnitHeader → List Declaration → Result Walked At
+walk_of info header table = do
+  all ← items_from header.end (node_at header.format table (take header.end info)) [] header.first
+  Ok (walked all.0)
+
+-- how many scopes are below each scope, by the levels of all entries
+abbrev pub insides_of : List Level → List ℕ
+insides_of [] = []
+insides_of (l ∷ ls) = if l.is_scope then count_by (λ m. m.is_scope) (take_while (λ m. nat_lt l.depth m.depth) ls) ∷ insides_of ls else insides_of ls
+
+-- the boundaries from the first that is above a depth on
+abbrev pub above : ℕ → List Boundary → List Boundary
+above depth [] = []
+above depth (b ∷ bs) = if nat_le depth b.depth then above depth bs else b ∷ bs
+
+-- the scopes from the first boundary on
+abbrev pub scopes_from : List Boundary → ℕ
+scopes_from [] = 0
+scopes_from (b ∷ bs) = b.scopes
