@@ -1,19 +1,19 @@
 -- The turns of the pass over the roots of all units.
-use Rattle.std.proofs.Common.{◌≡◌, ℕ, zero, suc, ◌+◌, ◌<◌, ◌≤◌, ◌⊎◌, inl, inr, List, [], ◌∷◌, ◌++◌, length, drop, get_or, map, refl, ap, sym, ◌∙◌, subst, arith, drop-cons, add-one, length-append}
+use Rattle.std.proofs.Common.{◌≡◌, ℕ, ◌+◌, ◌<◌, ◌≤◌, ◌⊎◌, inl, inr, List, [], ◌∷◌, ◌++◌, length, drop, get_or, map, refl, ap, sym, ◌∙◌, arith, drop-cons, add-one}
 use Rattle.std.specs.Prelude.{Result, Ok, Err, zip}
 use Rattle.std.proofs.lemmas.List.{drop_all, map-append, get_or-map, length-map}
 use Rattle.dwarf_bytes.specs.declared.fault.Section.TheVariants as names
 use Rattle.dwarf_bytes.specs.declared.fault.LoadFault.{LoadFault}
 use Rattle.dwarf_bytes.specs.Bind.{◌>>=◌}
-use Rattle.dwarf_bytes.specs.Items.{At, told_at, each, each_from}
-use Rattle.dwarf_bytes.specs.Refusals.{Decodes, memory_fault, in_section}
+use Rattle.dwarf_bytes.specs.Items.{At, each_from}
+use Rattle.dwarf_bytes.specs.Refusals.{memory_fault, in_section}
 use Rattle.dwarf_bytes.proofs.EachLaws.{made_front, each-next, each-fault, each-end}
 use Rattle.dwarf_entries.specs.declared.units.UnitHeader.{UnitHeader}
 use Rattle.dwarf_entries.specs.declared.bases.Bases.{Bases}
 use Rattle.dwarf_entries.specs.declared.kept.UnitEntries.{UnitEntries}
 use Rattle.dwarf_entries.specs.Sections.{Sections}
 use Rattle.dwarf_entries.specs.Entries.{Die}
-use Rattle.dwarf_entries.specs.Bases.{CompilationUnit, bases_at, unit_of}
+use Rattle.dwarf_entries.specs.Bases.{CompilationUnit, unit_of}
 use Rattle.dwarf_entries.specs.Kept.{KeptUnit, root_in, kept_unit, kept_of}
 use Rattle.dwarf_entries.specs.Passes.{kept_units, bases_in, all_units, bases_of, all_bases}
 use Rattle.dwarf_entries.proofs.TableLaws.{in_section_ok}

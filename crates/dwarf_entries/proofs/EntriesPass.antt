@@ -1,14 +1,13 @@
 -- The turns of the pass over the entries of all units.
-use Rattle.std.proofs.Common.{◌≡◌, ℕ, zero, suc, ◌+◌, ◌-◌, ◌<◌, ◌≤◌, ◌⊎◌, inl, inr, List, [], ◌∷◌, ◌++◌, length, take, drop, get_or, map, refl, ap, sym, ◌∙◌, subst, arith, drop-cons, add-one, length-append}
+use Rattle.std.proofs.Common.{◌≡◌, ℕ, ◌+◌, ◌-◌, ◌<◌, ◌≤◌, ◌⊎◌, inl, inr, List, [], ◌∷◌, ◌++◌, length, take, drop, get_or, refl, ap, sym, ◌∙◌, subst, arith, drop-cons, add-one, length-append}
 use Rattle.std.specs.Prelude.{Result, Ok, Err, sum_by, zip}
 use Rattle.std.proofs.lemmas.List.{drop_all, take_more}
 use Rattle.std.proofs.lemmas.List.Sums.{sum_by-append}
 use Rattle.std.proofs.lemmas.Slice.Zip.{length-zip, get_or-zip}
-use Rattle.dwarf_bytes.specs.declared.fault.Section.{Section}
 use Rattle.dwarf_bytes.specs.declared.fault.Section.TheVariants as names
 use Rattle.dwarf_bytes.specs.declared.fault.LoadFault.{LoadFault}
 use Rattle.dwarf_bytes.specs.Bind.{◌>>=◌}
-use Rattle.dwarf_bytes.specs.Items.{At, each, each_from}
+use Rattle.dwarf_bytes.specs.Items.{At, each_from}
 use Rattle.dwarf_bytes.specs.Refusals.{memory_fault, in_section}
 use Rattle.dwarf_bytes.proofs.EachLaws.{made_front, each-next, each-fault, each-end}
 use Rattle.dwarf_forms.specs.Declarations.{Declaration}

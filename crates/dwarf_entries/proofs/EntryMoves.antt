@@ -33,7 +33,7 @@ use Rattle.dwarf_entries.specs.Entries.{Node, Entry, Null, depth_after, depth_li
 abbrev StaysWithin : List ℕ → ℕ → ℕ → Type 0
 StaysWithin bytes at after = (at ≤ after) × (after ≤ length bytes)
 
-fixed-stays : (n : ℕ) (bytes : List ℕ) (at : ℕ) (x : ℕ × ℕ) → fixed_at n bytes at ≡ Ok x → StaysWithin bytes at x.1
+pub fixed-stays : (n : ℕ) (bytes : List ℕ) (at : ℕ) (x : ℕ × ℕ) → fixed_at n bytes at ≡ Ok x → StaysWithin bytes at x.1
 fixed-stays n bytes at x h =
     let moved = fixed_at-moves n bytes at x h in
     let place : x.1 ≡ at + n = ap (λ (r : ℕ × ℕ). r.1) moved.1 in
@@ -77,7 +77,7 @@ counted-stays bytes at read x stays h =
     let second = as-stays bytes len.1 Bytes (block_at len.0 bytes len.1) x (λ y is. block-stays len.0 bytes len.1 y is) last in
     (omega (arith, first.0, second.0), second.1))
 
-offset-stays : (format : Format) (bytes : List ℕ) (at : ℕ) (x : ℕ × ℕ) → offset_at format bytes at ≡ Ok x → StaysWithin bytes at x.1
+pub offset-stays : (format : Format) (bytes : List ℕ) (at : ℕ) (x : ℕ × ℕ) → offset_at format bytes at ≡ Ok x → StaysWithin bytes at x.1
 offset-stays Dwarf32 bytes at x h = fixed-stays 4 bytes at x h
 
 content-stays : (layout : ValueLayout) (format : Format) (bytes : List ℕ) (at : ℕ) (x : Content × ℕ) → at ≤ length bytes → content_at layout format bytes at ≡ Ok x → StaysWithin bytes at x.1

@@ -23,7 +23,7 @@ use Rattle.dwarf_entries.specs.Entries.{Die, entries_of}
 use Rattle.dwarf_entries.specs.Bases.{CompilationUnit, no_bases, bases_at, unit_of}
 use Rattle.dwarf_entries.specs.Kept.{KeptUnit, kept_unit, RiseWithin, AreInOrder}
 use Rattle.dwarf_entries.specs.Passes.{kept_units, kept_unit_of, all_entries, all_units}
-use Rattle.dwarf_entries.proofs.NodeLaws.{fixed-stays, offset-stays}
+use Rattle.dwarf_entries.proofs.EntryMoves.{fixed-stays, offset-stays}
 pub use Rattle.dwarf_entries.proofs.EntryOrder.{entries-rise}
 use Rattle.dwarf_entries.proofs.EntriesPass.{entries_for}
 use Rattle.dwarf_entries.proofs.BasesPass.{unit_for}

@@ -1,7 +1,6 @@
 -- From pass to pass.
-use Rattle.std.proofs.Common.{◌≡◌, ℕ, ◌^◌, ◌<◌, ◌≤◌, ◌⊎◌, inl, inr, List, [], ◌∷◌, ◌++◌, length, map, refl, ap, sym, ◌∙◌, subst, arith, length-append}
-use Rattle.std.specs.Prelude.{Result, Ok, Err, sum_by, flat_map, zip}
-use Rattle.std.specs.List.{filter_map}
+use Rattle.std.proofs.Common.{◌≡◌, ◌+◌, ◌⊎◌, inl, inr, List, [], ◌∷◌, length, map, refl, ap, sym, ◌∙◌, arith, length-append}
+use Rattle.std.specs.Prelude.{Result, Ok, Err}
 use Rattle.std.proofs.lemmas.List.{length-map}
 use Rattle.std.proofs.lemmas.List.Sums.{sum_by-cons}
 use Rattle.dwarf_bytes.specs.declared.fault.Section.TheVariants as names
@@ -20,8 +19,8 @@ use Rattle.dwarf_entries.specs.Sections.{Sections}
 use Rattle.dwarf_entries.specs.Units.{units_of, tables_of}
 use Rattle.dwarf_entries.specs.Entries.{Die}
 use Rattle.dwarf_entries.specs.Bases.{CompilationUnit}
-use Rattle.dwarf_entries.specs.Scopes.{Tree, Scope, Judged, Place, places_in, roots_from, scope_of, tree_of}
-use Rattle.dwarf_entries.specs.Kept.{KeptUnit, kept_of, scope_entry_of, scope_count}
+use Rattle.dwarf_entries.specs.Scopes.{Tree, Scope, Judged, places_in, roots_from, scope_of, tree_of}
+use Rattle.dwarf_entries.specs.Kept.{KeptUnit, kept_of, scope_count}
 use Rattle.dwarf_entries.specs.Passes.{all_entries, kept_units, all_kept, all_units, bases_of, all_bases, kept_unit_of, AreUnits, judge, all_places, all_scopes}
 use Rattle.dwarf_entries.proofs.EachPlaces.{each-length}
 use Rattle.dwarf_entries.proofs.TableLaws.{in_section_ok}
@@ -126,7 +125,7 @@ entries_pass_fault s headers fault before (inl memory) = inl memory
 entries_pass_fault s headers fault before (inr bad) =
     inr
     (after_tables s headers before
-        ∙ told (from_dies s headers) (in_section names.DebugInfo (all_entries s.debug_info headers before.tables)) fault (first_fault (λ dies. kept_units headers dies) (all_entries s.debug_info headers before.tables) fault bad))
+    ∙ told (from_dies s headers) (in_section names.DebugInfo (all_entries s.debug_info headers before.tables)) fault (first_fault (λ dies. kept_units headers dies) (all_entries s.debug_info headers before.tables) fault bad))
 
 after_entries : (s : Sections) (headers : List UnitHeader) (units : List UnitEntries) (before : EntriesRead s headers units) → tree_of s ≡ from_dies s headers before.dies
 after_entries s headers units before =
@@ -138,7 +137,7 @@ bases_pass_fault s headers units fault before (inl memory) = inl memory
 bases_pass_fault s headers units fault before (inr bad) =
     inr
     (after_entries s headers units before
-        ∙ told (from_units s) (in_section names.DebugInfo (all_units s headers before.dies)) fault (first_fault (λ us. map bases_of us) (all_units s headers before.dies) fault bad))
+    ∙ told (from_units s) (in_section names.DebugInfo (all_units s headers before.dies)) fault (first_fault (λ us. map bases_of us) (all_units s headers before.dies) fault bad))
 
 after_units : (s : Sections) (headers : List UnitHeader) (units : List UnitEntries) (bases : List Bases) (before : UnitsRead s headers units bases) → tree_of s ≡ from_units s before.us
 after_units s headers units bases before = after_entries s headers units before.before ∙ ap (λ (r : Result (List CompilationUnit) At). in_section names.DebugInfo r >>= from_units s) before.us_are
@@ -149,7 +148,7 @@ scopes_pass_fault s headers units bases fault before (inl memory) = inl memory
 scopes_pass_fault s headers units bases fault before (inr bad) =
     inr
     (after_units s headers units bases before
-        ∙ told (λ judged. Ok (record { roots = roots_from 0 before.us; scopes = map (λ j. j.scope) judged })) (in_section names.DebugInfo (each (judge s before.us) (all_places before.us))) fault (first_fault (λ judged. map (λ j. j.scope) judged) (each (judge s before.us) (all_places before.us)) fault bad))
+    ∙ told (λ judged. Ok (record { roots = roots_from 0 before.us; scopes = map (λ j. j.scope) judged })) (in_section names.DebugInfo (each (judge s before.us) (all_places before.us))) fault (first_fault (λ judged. map (λ j. j.scope) judged) (each (judge s before.us) (all_places before.us)) fault bad))
 
 -- ---- the whole answer
 

@@ -1,5 +1,5 @@
 -- The scope of an entry, from what is kept of its unit.
-use Rattle.std.proofs.Common.{◌≡◌, ℕ, zero, suc, ◌+◌, ◌-◌, ◌<◌, ◌≤◌, ◌⊎◌, inl, inr, List, [], ◌∷◌, ◌++◌, length, get_or, map, refl, ap, sym, ◌∙◌, subst, arith, length-append, false}
+use Rattle.std.proofs.Common.{◌≡◌, ℕ, zero, suc, ◌+◌, ◌-◌, ◌<◌, ◌≤◌, ◌⊎◌, inl, inr, List, [], ◌∷◌, ◌++◌, length, get_or, refl, ap, sym, ◌∙◌, arith, length-append, false}
 use Rattle.std.specs.Prelude.{Result, Ok, Err, Option, Some, None, slice_get, sum_by, nat_le, ◌==◌, flat_map}
 use Rattle.std.proofs.lemmas.Option.{get_or_from_slice_get, slice_get_cases}
 use Rattle.std.proofs.lemmas.List.{get_or-map, length-map}
@@ -16,20 +16,17 @@ use Rattle.dwarf_entries.specs.declared.attributes.AttributeValue.{AttributeValu
 use Rattle.dwarf_bytes.specs.Bind.{◌>>=◌}
 use Rattle.dwarf_bytes.specs.Refusals.{Fails}
 use Rattle.dwarf_entries.specs.declared.bases.Bases.{Bases}
-use Rattle.dwarf_entries.specs.declared.scope.Text.{Text}
 use Rattle.dwarf_entries.specs.declared.paths.EntryNames.{EntryNames}
 use Rattle.dwarf_entries.specs.declared.kept.UnitEntries.{UnitEntries}
 use Rattle.dwarf_entries.specs.declared.kept.ScopeEntry.{ScopeEntry}
-use Rattle.dwarf_entries.specs.declared.kept.NamedEntry.{NamedEntry}
-use Rattle.dwarf_entries.specs.declared.kept.RootEntry.{RootEntry}
 use Rattle.dwarf_entries.specs.Sections.{Sections}
-use Rattle.dwarf_entries.specs.Attributes.{DW_AT_name, DW_AT_linkage_name, DW_AT_call_file, DW_AT_call_line}
+use Rattle.dwarf_entries.specs.Attributes.{DW_AT_call_file, DW_AT_call_line}
 use Rattle.dwarf_entries.specs.Entries.{Die}
 use Rattle.dwarf_entries.specs.Bases.{CompilationUnit}
-use Rattle.dwarf_entries.specs.Names.{Member, path_of, name_on, names_of}
+use Rattle.dwarf_entries.specs.Names.{names_of}
 use Rattle.dwarf_entries.specs.Ranges.{Covering, kind_of, base_after, ranges_in, entry_at, listed_at, list_place, list_at, pair_range, covers_by, covers_of}
-use Rattle.dwarf_entries.specs.Scopes.{Scope, Judged, Place, items_limit, scope_at, stmt_list_of, number_of}
-use Rattle.dwarf_entries.specs.Kept.{KeptUnit, named_entry, scope_entry, root_in, kept_unit, kept_of}
+use Rattle.dwarf_entries.specs.Scopes.{Judged, Place, items_limit, scope_at, stmt_list_of, number_of}
+use Rattle.dwarf_entries.specs.Kept.{KeptUnit, named_entry, root_in, kept_unit, kept_of}
 use Rattle.dwarf_entries.specs.Members.{IsMember}
 use Rattle.dwarf_entries.specs.Passes.{AreUnits, stmt_list_in, IsPlace}
 

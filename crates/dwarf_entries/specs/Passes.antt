@@ -1,5 +1,5 @@
 -- What the passes over all units leave, for their contracts.
-use Rattle.std.specs.Prelude.{◌≡◌, ◌⊎◌, ◌++◌, ◌+◌, ◌-◌, ℕ, List, [], ◌∷◌, length, Option, Some, None, Result, Ok, Err, map, flat_map, slice_get, sum_by, zip}
+use Rattle.std.specs.Prelude.{◌≡◌, ◌⊎◌, ◌++◌, ◌+◌, ◌-◌, ℕ, List, length, Option, Some, None, Result, Ok, Err, map, flat_map, slice_get, sum_by, zip}
 use Rattle.dwarf_bytes.specs.declared.fault.Section.TheVariants as names
 use Rattle.dwarf_bytes.specs.declared.fault.LoadFault.{LoadFault}
 use Rattle.dwarf_bytes.specs.declared.format.Format.{Format}

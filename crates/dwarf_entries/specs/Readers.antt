@@ -27,9 +27,9 @@ abbrev pub Fills : {Y : Type 0} → Result (Unit {0}) Cause → Y → (List ℕ 
 Fills (Ok u) left read old new = (read old.bytes old.place ≡ Ok (left, new.place)) × (new.bytes ≡ old.bytes)
 Fills (Err cause) left read old new = Fails cause (read old.bytes old.place)
 
--- an entry by its offset, its tag and its attributes, whatever its depth
-abbrev pub die_with : ℕ → ℕ → List Attribute → Die
-die_with offset tag attributes = record { offset = offset; depth = 0; tag = tag; attributes = attributes }
+-- an entry by its offset and its attributes, where neither its tag nor its depth counts
+abbrev pub die_with : ℕ → List Attribute → Die
+die_with offset attributes = record { offset = offset; depth = 0; tag = 0; attributes = attributes }
 
 -- an entry by what its declaration tells of it and by its attributes, or a null
 abbrev pub node_of : Option EntryHead → List Attribute → Node

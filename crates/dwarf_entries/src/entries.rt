@@ -152,11 +152,8 @@ fn walk_unit(
     }
     while cursor.place() < unit.len() {
         let at = cursor.place();
-        match walk.step(header.format, table, &mut cursor, &mut found) {
-            Ok(()) => {}
-            Err(cause) => {
-                return Err(LoadFault::told(Section::DebugInfo, cause, at as u64));
-            }
+        if let Err(cause) = walk.step(header.format, table, &mut cursor, &mut found) {
+            return Err(LoadFault::told(Section::DebugInfo, cause, at as u64));
         }
     }
     Ok(walk)

@@ -69,7 +69,7 @@ pub(crate) struct UnitEntries {
 impl NamedEntry {
     /// Of the entry at an offset, by its attributes.
     pub(crate) fn of(offset: usize, attributes: &[Attribute]) -> NamedEntry
-        ensures { result ≡ named_entry (die_with offset 0 attributes.now) }
+        ensures { result ≡ named_entry (die_with offset attributes.now) }
     {
         NamedEntry {
             offset,
@@ -83,7 +83,7 @@ impl NamedEntry {
 impl ScopeEntry {
     /// Of a scope of the kind, by its attributes.
     pub(crate) fn of(entry: NamedEntry, kind: ScopeKind, attributes: &[Attribute]) -> ScopeEntry
-        ensures { result ≡ record (scope_entry (die_with entry.offset 0 attributes.now) kind) { entry = entry } }
+        ensures { result ≡ record (scope_entry (die_with entry.offset attributes.now) kind) { entry = entry } }
     {
         ScopeEntry {
             entry,
@@ -100,7 +100,7 @@ impl ScopeEntry {
 impl RootEntry {
     /// Of the root at an offset, by its attributes.
     pub(crate) fn of(offset: usize, attributes: &[Attribute]) -> RootEntry
-        ensures { result ≡ root_entry (die_with offset 0 attributes.now) }
+        ensures { result ≡ root_entry (die_with offset attributes.now) }
     {
         RootEntry {
             offset,
@@ -136,14 +136,14 @@ fn value_of(attributes: &[Attribute], name: u64) -> Option<AttributeValue>
 
 /// Its number.
 fn number_of(attributes: &[Attribute], name: u64) -> Option<u64>
-    ensures { result ≡ number_of name (die_with 0 0 attributes.now) }
+    ensures { result ≡ number_of name (die_with 0 attributes.now) }
 {
     value_of(attributes, name).map(|value| value.number)
 }
 
 /// The reference to the next entry.
 fn next_of(attributes: &[Attribute]) -> Option<AttributeValue>
-    ensures { result ≡ next_of (die_with 0 0 attributes.now) }
+    ensures { result ≡ next_of (die_with 0 attributes.now) }
 {
     if let Some(origin) = value_of(attributes, DW_AT_ABSTRACT_ORIGIN) {
         return followed(origin);

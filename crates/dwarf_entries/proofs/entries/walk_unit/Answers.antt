@@ -19,13 +19,13 @@ returns-in-Err c =
 pub loop-unit-smaller : goal.loop-unit-smaller
 loop-unit-smaller c =
     let within : c.loop-unit.cursor.place < length c.loop-unit.cursor.bytes = omega (arith, c.loop-unit-test.true, c.place.ensures.place, ap length c.up_to-unit.ensures, ap length c.loop-unit.invariant.bytes) in
-    let turn = walk_item c.args.info.now c.args.header c.args.table.now c.loop-unit.cursor c.step.new.cursor (walked_of c.loop-unit.walk) (walked_of c.step.new.self) c.loop-unit.invariant.bytes within c.loop-unit.invariant.walked c.in-Ok.ensures in
-    omega (arith, turn.moves, turn.within, ap length c.in-Ok.ensures.1)
+    let turn = walk_item c.args.info.now c.args.header c.args.table.now c.loop-unit.cursor c.step.new.cursor (walked_of c.loop-unit.walk) (walked_of c.step.new.self) c.loop-unit.invariant.bytes within c.loop-unit.invariant.walked c.in_default.ensures in
+    omega (arith, turn.moves, turn.within, ap length c.in_default.ensures.1)
 
 pub loop-unit-preserved : goal.loop-unit-preserved
 loop-unit-preserved c =
     let within : c.loop-unit.cursor.place < length c.loop-unit.cursor.bytes = omega (arith, c.loop-unit-test.true, c.place.ensures.place, ap length c.up_to-unit.ensures, ap length c.loop-unit.invariant.bytes) in
-    let turn = walk_item c.args.info.now c.args.header c.args.table.now c.loop-unit.cursor c.step.new.cursor (walked_of c.loop-unit.walk) (walked_of c.step.new.self) c.loop-unit.invariant.bytes within c.loop-unit.invariant.walked c.in-Ok.ensures in
+    let turn = walk_item c.args.info.now c.args.header c.args.table.now c.loop-unit.cursor c.step.new.cursor (walked_of c.loop-unit.walk) (walked_of c.step.new.self) c.loop-unit.invariant.bytes within c.loop-unit.invariant.walked c.in_default.ensures in
     record { bytes = turn.bytes_stay; walked = turn.walked_so }
 
 pub returns : goal.returns

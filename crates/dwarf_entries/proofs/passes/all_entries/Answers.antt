@@ -1,8 +1,8 @@
-use Rattle.std.proofs.Common.{◌∷◌, [], map, inl, subst, sym}
+use Rattle.std.proofs.Common.{◌∷◌, [], inl}
 use Rattle.std.proofs.lemmas.List.{map-append}
 use Rattle.std.proofs.lemmas.Result.{err_from_is_err_and}
-use Rattle.dwarf_entries.specs.Kept.{KeptUnit, kept_of}
-use Rattle.dwarf_entries.proofs.EntriesPass.{EntriesSoFar, entries_none, entries_next, entries_end, entries_table_fault, entries_fault}
+use Rattle.dwarf_entries.specs.Kept.{kept_of}
+use Rattle.dwarf_entries.proofs.EntriesPass.{entries_none, entries_next, entries_end, entries_table_fault, entries_fault}
 use Rattle.dwarf_entries.proofs.passes.all_entries.Goals as goal
 
 pub loop-header-init : goal.loop-header-init

@@ -1,4 +1,4 @@
-use Rattle.std.proofs.Common.{◌+◌, ◌∙◌, ap, append-nil, arith, length}
+use Rattle.std.proofs.Common.{◌+◌, ap, append-nil, arith}
 use Rattle.std.specs.Prelude.{Some, None}
 use Rattle.dwarf_entries.proofs.RootsPass.{count_within, roots_turn, roots_end}
 use Rattle.dwarf_entries.proofs.scopes.roots.Goals as goal
@@ -11,14 +11,14 @@ loop-unit-preserved c =
       | in-Some+else-is_err w ↦ record {
         first_is = omega (arith, w.first-is, c.len.ensures, c.unit-item.result.scopes.ok.0, counted);
         so_far = λ us same.
-          rw (w.roots-is, w.push.ensures.items, w.if-is_err.ensures.negation, w.first-is)
-          (roots_turn c.args.units.now us c.loop-unit.unit-index c.loop-unit.first (c.loop-unit.first + c.len.result) c.unit-item.result (Some w.in-Some.root) c.loop-unit.roots.items same c.loop-unit-test.true c.unit-item.is (c.loop-unit.invariant.so_far us same) (ap (λ n. c.loop-unit.first + n) c.len.ensures) w.in-Some.is);
+            rw (w.roots-is, w.push.ensures.items, w.if-is_err.ensures.negation, w.first-is)
+            (roots_turn c.args.units.now us c.loop-unit.unit-index c.loop-unit.first (c.loop-unit.first + c.len.result) c.unit-item.result (Some w.in-Some.root) c.loop-unit.roots.items same c.loop-unit-test.true c.unit-item.is (c.loop-unit.invariant.so_far us same) (ap (λ n. c.loop-unit.first + n) c.len.ensures) w.in-Some.is);
       }
       | in_default w ↦ record {
         first_is = omega (arith, w.first-is, c.len.ensures, c.unit-item.result.scopes.ok.0, counted);
         so_far = λ us same.
-          rw (w.roots-is, w.first-is, ← append-nil c.loop-unit.roots.items)
-          (roots_turn c.args.units.now us c.loop-unit.unit-index c.loop-unit.first (c.loop-unit.first + c.len.result) c.unit-item.result None c.loop-unit.roots.items same c.loop-unit-test.true c.unit-item.is (c.loop-unit.invariant.so_far us same) (ap (λ n. c.loop-unit.first + n) c.len.ensures) w.in_default.is);
+            rw (w.roots-is, w.first-is, ← append-nil c.loop-unit.roots.items)
+            (roots_turn c.args.units.now us c.loop-unit.unit-index c.loop-unit.first (c.loop-unit.first + c.len.result) c.unit-item.result None c.loop-unit.roots.items same c.loop-unit-test.true c.unit-item.is (c.loop-unit.invariant.so_far us same) (ap (λ n. c.loop-unit.first + n) c.len.ensures) w.in_default.is);
       }
     ]
 
