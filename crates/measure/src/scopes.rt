@@ -1,15 +1,20 @@
 //! The scopes of an object.
 
 use anyhow::{Context, Result};
-use dwarf_bytes::{Layout, LoadFault, Object, Section};
+use dwarf_bytes::{LoadFault, Object, Section};
 use dwarf_entries::{Range, Scope, ScopeKind, Scopes, Sections, Text};
 use std::alloc::Global;
 use std::io::{self, BufWriter, Write};
 
 /// The scopes of an object.
 pub fn read(alloc: Global, bytes: &[u8]) -> Result<Scopes, LoadFault> {
+    Scopes::read(alloc, &sections(bytes)?)
+}
+
+/// The sections of an object.
+fn sections(bytes: &[u8]) -> Result<Sections<'_>, LoadFault> {
     let layout = Object::find(bytes)?;
-    let sections = Sections {
+    Ok(Sections {
         debug_info: layout.debug_info.of(bytes),
         debug_abbrev: layout.debug_abbrev.of(bytes),
         debug_line: layout.debug_line.of(bytes),
@@ -18,8 +23,7 @@ pub fn read(alloc: Global, bytes: &[u8]) -> Result<Scopes, LoadFault> {
         debug_str_offsets: layout.debug_str_offsets.of(bytes),
         debug_addr: layout.debug_addr.of(bytes),
         debug_rnglists: layout.debug_rnglists.of(bytes),
-    };
-    Scopes::read(alloc, &sections)
+    })
 }
 
 /// How many ranges scopes have.
@@ -34,26 +38,26 @@ pub fn count_ranges(scopes: &[Scope]) -> u64 {
 /// Prints each scope as `OFFSET KIND NAME LINKAGE_NAME RANGES CALL_FILE CALL_LINE`, with tabs between
 /// them, ranges as `FROM-TO,..`, and `-` for what is absent.
 pub fn print_scopes(rt: &HostRuntime, bytes: &[u8]) -> Result<()> {
-    let layout = Object::find(bytes)?;
-    let scopes = read(rt.alloc(), bytes)?;
+    let sections = sections(bytes)?;
+    let scopes = Scopes::read(rt.alloc(), &sections)?;
     let mut out = BufWriter::new(rt.alloc(), io::writer(rt))?;
     for scope in scopes.scopes() {
-        print_scope(&mut out, bytes, &layout, scope)?;
+        print_scope(&mut out, &sections, scope)?;
     }
     out.flush().context("writing")?;
     Ok(())
 }
 
 /// Prints a scope.
-fn print_scope<W: Write>(out: &mut W, bytes: &[u8], layout: &Layout, scope: &Scope) -> Result<()> {
+fn print_scope<W: Write>(out: &mut W, sections: &Sections<'_>, scope: &Scope) -> Result<()> {
     let kind = match scope.kind {
         ScopeKind::Subprogram => "subprogram",
         ScopeKind::Inlined => "inlined",
     };
     write!(out, "{:x}\t{}\t", scope.offset, kind)?;
-    print_text(out, bytes, layout, scope.name)?;
+    print_text(out, sections, scope.name)?;
     out.write_all(b"\t")?;
-    print_text(out, bytes, layout, scope.linkage_name)?;
+    print_text(out, sections, scope.linkage_name)?;
     out.write_all(b"\t")?;
     print_ranges(out, scope.ranges.as_slice())?;
     out.write_all(b"\t")?;
@@ -65,22 +69,20 @@ fn print_scope<W: Write>(out: &mut W, bytes: &[u8], layout: &Layout, scope: &Sco
 }
 
 /// Prints the bytes of a text.
-fn print_text<W: Write>(
-    out: &mut W,
-    bytes: &[u8],
-    layout: &Layout,
-    text: Option<Text>,
-) -> Result<()> {
+fn print_text<W: Write>(out: &mut W, sections: &Sections<'_>, text: Option<Text>) -> Result<()> {
     let Some(text) = text else {
         out.write_all(b"-")?;
         return Ok(());
     };
     let section = match text.section {
-        Section::DebugStr => layout.debug_str,
-        Section::DebugLineStr => layout.debug_line_str,
-        _ => layout.debug_info,
+        Section::DebugStr => sections.debug_str,
+        Section::DebugLineStr => sections.debug_line_str,
+        _ => sections.debug_info,
     };
-    out.write_all(text.span.of(section.of(bytes)))?;
+    let start = text.span.place;
+    if let Some(bytes) = section.get(start..start.saturating_add(text.span.len)) {
+        out.write_all(bytes)?;
+    }
     Ok(())
 }
 
