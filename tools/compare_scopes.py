@@ -57,7 +57,8 @@ def attributes_of(path):
 
 
 def named(scopes, offset, name):
-    """The first name of a kind along the references of a scope, or `-`."""
+    """The first name of a kind along the references of a scope, `-` where there is none, and `?` where
+    they lead to no scope or go on."""
     for _ in range(HOPS + 1):
         attributes = scopes.get(offset)
         if attributes is None:
