@@ -1,4 +1,4 @@
-.PHONY: demo test check bench
+.PHONY: demo test check compare bench
 
 # Shows the program at work on an object that the compiler makes there and then.
 demo:
@@ -11,6 +11,10 @@ test:
 # One crate, quickly, over what earlier checks kept: make check CRATE=dwarf_lines
 check:
 	cd crates/$(CRATE) && rt check
+
+# What is read from objects, beside what other readers show.
+compare:
+	tools/compare_objects.sh
 
 bench:
 	bench/run.sh

@@ -7,6 +7,7 @@ mkdir -p out
 measure=crates/measure/out/measure
 gcc -O2 -o out/leb bench/leb.c
 gcc -O2 -o out/lines bench/lines.c
+gcc -O2 -o out/entries bench/entries.c
 [ -f out/leb.bin ] || out/leb make out/leb.bin 100000000
 [ -f out/objects/large ] || tools/make_objects.sh out/objects
 [ -f out/objects/hundred ] || tools/repeat_lines.sh out/objects/large out/objects/hundred
@@ -22,8 +23,32 @@ compare() {
     awk -v w="$what" -v a="$ours" -v b="$plain" 'BEGIN { printf "%-40s %6d ms, plain C %6d ms, ratio %.2f\n", w, a, b, b / (a > 0 ? a : 1) }'
 }
 
+# The most memory that a command holds, in megabytes.
+peak() {
+    python3 -c 'import resource, subprocess, sys
+subprocess.run(sys.argv[1:], stdout=subprocess.DEVNULL, check=True)
+print(resource.getrusage(resource.RUSAGE_CHILDREN).ru_maxrss // 1024)' "$@"
+}
+
+# How long a command takes that prints no time, in milliseconds.
+duration() {
+    local start
+    start=$(date +%s%N)
+    "$@" > /dev/null
+    echo $((($(date +%s%N) - start) / 1000000))
+}
+
 compare 'LEB128, 100 MB' "$(best $measure leb out/leb.bin)" "$(best out/leb out/leb.bin)"
 compare 'line programs of a C++ program' "$(best $measure lines out/objects/large)" "$(best out/lines out/objects/large)"
 compare 'line programs, 100 MB' "$(best $measure lines out/objects/hundred)" "$(best out/lines out/objects/hundred)"
+compare 'scopes of a C++ program' "$(best $measure scopes out/objects/large)" "$(best out/entries out/objects/large)"
+$measure scopes out/objects/large
+out/entries out/objects/large
+echo "memory for its scopes: $(peak $measure scopes out/objects/large) MB, plain C $(peak out/entries out/objects/large) MB"
+for peer in 'llvm-dwarfdump --debug-info' 'readelf --debug-dump=info'; do
+    if command -v "${peer%% *}" > /dev/null; then
+        echo "$peer of it: $(duration $peer out/objects/large) ms, $(peak $peer out/objects/large) MB"
+    fi
+done
 $measure declarations out/objects/large
 $measure values out/objects/large

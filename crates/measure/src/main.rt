@@ -2,13 +2,16 @@
 //! `measure leb FILE` reads the LEB128 numbers of a file from end to end,
 //! `measure lines OBJECT` reads the line programs of an object,
 //! `measure rows OBJECT` prints their rows,
-//! `measure declarations OBJECT` reads its abbreviation tables 1,000 times, and
-//! `measure values OBJECT` reads the abbreviation tables and the values of all entries.
+//! `measure declarations OBJECT` reads its abbreviation tables 1,000 times,
+//! `measure values OBJECT` reads the abbreviation tables and the values of all entries,
+//! `measure scopes OBJECT` reads its subprograms and inlined subroutines, and
+//! `measure scope-table OBJECT` prints them.
 #![tactic(auto)]
 
 mod entries;
 mod leb;
 mod lines;
+mod scopes;
 
 use anyhow::{Context, Result};
 use std::time::Instant;
@@ -17,7 +20,7 @@ use std::{env, fs};
 fn main(rt: HostRuntime) -> Result<()> {
     let words: Vec<String> = env::args(&rt)?.skip(1).collect(rt.alloc())?;
     if words.len() != 2 {
-        println!(rt; "usage: measure leb|lines|rows|declarations|values FILE")?;
+        println!(rt; "usage: measure leb|lines|rows|declarations|values|scopes|scope-table FILE")?;
         return Ok(());
     }
     let bytes = fs::read(&rt, words[1].as_str()).context("reading the file")?;
@@ -26,6 +29,8 @@ fn main(rt: HostRuntime) -> Result<()> {
         "lines" => measure_lines(&rt, &bytes),
         "declarations" => measure_declarations(&rt, &bytes),
         "values" => measure_values(&rt, &bytes),
+        "scopes" => measure_scopes(&rt, &bytes),
+        "scope-table" => scopes::print_scopes(&rt, &bytes),
         _ => lines::print_rows(&rt, &bytes),
     }
 }
@@ -69,6 +74,20 @@ fn measure_values(rt: &HostRuntime, bytes: &[u8]) -> Result<()> {
         counts.declarations,
         counts.entries,
         counts.values,
+        time.as_millis()
+    )?;
+    Ok(())
+}
+
+fn measure_scopes(rt: &HostRuntime, bytes: &[u8]) -> Result<()> {
+    let start = Instant::now(rt)?;
+    let scopes = scopes::read(rt.alloc(), bytes)?;
+    let time = start.elapsed(rt)?;
+    println!(rt;
+        "{} roots, {} scopes, {} ranges, {} ms",
+        scopes.roots().len(),
+        scopes.scopes().len(),
+        scopes::count_ranges(scopes.scopes()),
         time.as_millis()
     )?;
     Ok(())

@@ -1,0 +1,110 @@
+//! The scopes of an object.
+
+use anyhow::{Context, Result};
+use dwarf_bytes::{LoadFault, Object, Section};
+use dwarf_entries::{Range, Scope, ScopeKind, Scopes, Sections, Text};
+use std::alloc::Global;
+use std::io::{self, BufWriter, Write};
+
+/// The scopes of an object.
+pub fn read(alloc: Global, bytes: &[u8]) -> Result<Scopes, LoadFault> {
+    Scopes::read(alloc, &sections(bytes)?)
+}
+
+/// The sections of an object.
+fn sections(bytes: &[u8]) -> Result<Sections<'_>, LoadFault> {
+    let layout = Object::find(bytes)?;
+    Ok(Sections {
+        debug_info: layout.debug_info.of(bytes),
+        debug_abbrev: layout.debug_abbrev.of(bytes),
+        debug_line: layout.debug_line.of(bytes),
+        debug_line_str: layout.debug_line_str.of(bytes),
+        debug_str: layout.debug_str.of(bytes),
+        debug_str_offsets: layout.debug_str_offsets.of(bytes),
+        debug_addr: layout.debug_addr.of(bytes),
+        debug_rnglists: layout.debug_rnglists.of(bytes),
+    })
+}
+
+/// How many ranges scopes have.
+pub fn count_ranges(scopes: &[Scope]) -> u64 {
+    let mut count = 0u64;
+    for scope in scopes {
+        count = count.wrapping_add(scope.ranges.len() as u64);
+    }
+    count
+}
+
+/// Prints each scope as `OFFSET KIND NAME LINKAGE_NAME RANGES CALL_FILE CALL_LINE`, with tabs between
+/// them, ranges as `FROM-TO,..`, and `-` for what is absent.
+pub fn print_scopes(rt: &HostRuntime, bytes: &[u8]) -> Result<()> {
+    let sections = sections(bytes)?;
+    let scopes = Scopes::read(rt.alloc(), &sections)?;
+    let mut out = BufWriter::new(rt.alloc(), io::writer(rt))?;
+    for scope in scopes.scopes() {
+        print_scope(&mut out, &sections, scope)?;
+    }
+    out.flush().context("writing")?;
+    Ok(())
+}
+
+/// Prints a scope.
+fn print_scope<W: Write>(out: &mut W, sections: &Sections<'_>, scope: &Scope) -> Result<()> {
+    let kind = match scope.kind {
+        ScopeKind::Subprogram => "subprogram",
+        ScopeKind::Inlined => "inlined",
+    };
+    write!(out, "{:x}\t{}\t", scope.offset, kind)?;
+    print_text(out, sections, scope.name)?;
+    out.write_all(b"\t")?;
+    print_text(out, sections, scope.linkage_name)?;
+    out.write_all(b"\t")?;
+    print_ranges(out, scope.ranges.as_slice())?;
+    out.write_all(b"\t")?;
+    print_number(out, scope.call_file)?;
+    out.write_all(b"\t")?;
+    print_number(out, scope.call_line)?;
+    out.write_all(b"\n")?;
+    Ok(())
+}
+
+/// Prints the bytes of a text.
+fn print_text<W: Write>(out: &mut W, sections: &Sections<'_>, text: Option<Text>) -> Result<()> {
+    let Some(text) = text else {
+        out.write_all(b"-")?;
+        return Ok(());
+    };
+    let section = match text.section {
+        Section::DebugStr => sections.debug_str,
+        Section::DebugLineStr => sections.debug_line_str,
+        _ => sections.debug_info,
+    };
+    let start = text.span.place;
+    if let Some(bytes) = section.get(start..start.saturating_add(text.span.len)) {
+        out.write_all(bytes)?;
+    }
+    Ok(())
+}
+
+/// Prints ranges with commas between them.
+fn print_ranges<W: Write>(out: &mut W, ranges: &[Range]) -> Result<()> {
+    if ranges.is_empty() {
+        out.write_all(b"-")?;
+    }
+    for (i, range) in ranges.iter().enumerate() {
+        if i > 0 {
+            out.write_all(b",")?;
+        }
+        write!(out, "{:x}-{:x}", range.from, range.to)?;
+    }
+    Ok(())
+}
+
+/// Prints a number.
+fn print_number<W: Write>(out: &mut W, number: Option<u64>) -> Result<()> {
+    match number {
+        Some(number) => write!(out, "{number}")?,
+        None => out.write_all(b"-")?,
+    }
+    Ok(())
+}

@@ -1,0 +1,138 @@
+#!/usr/bin/env python3
+"""Compares the scopes that `measure scope-table OBJECT` prints with those that other readers show.
+
+compare_scopes.py OBJECT TABLE, where TABLE holds what was printed. Kinds, names, linkage names, call
+files and call lines are those of readelf; a name that is not at the entry is looked for along its
+references, up to 16 of them. Ranges are those of llvm-dwarfdump, which adds the base in force; empty
+ones are left out.
+"""
+import re
+import subprocess
+import sys
+from pathlib import Path
+
+KINDS = {"DW_TAG_subprogram": "subprogram", "DW_TAG_inlined_subroutine": "inlined"}
+HOPS = 16
+FIELDS = ["kind", "name", "linkage name", "ranges", "call file", "call line"]
+
+ENTRY = re.compile(r"^ <[0-9a-f]+><(?P<offset>[0-9a-f]+)>: Abbrev Number: \d+ \((?P<tag>\w+)")
+ATTRIBUTE = re.compile(r"^    <[0-9a-f]+>   (?P<name>DW_AT_\w+) *: (?P<value>.*)$")
+FORM = re.compile(r"^\((?P<form>\w+)\) ")
+ELSEWHERE = re.compile(r"^\([^)]*\): ")
+REFERENCE = re.compile(r"^<(0x[0-9a-f]+)>")
+
+DUMPED_ENTRY = re.compile(r"^(?P<offset>0x[0-9a-f]+): +(?P<tag>DW_TAG_\w+)")
+DUMPED_ADDRESS = re.compile(r"^ +DW_AT_(?P<name>low_pc|high_pc)\t\((?P<address>0x[0-9a-f]+)\)")
+DUMPED_RANGES = re.compile(r"^ +DW_AT_ranges\t")
+DUMPED_RANGE = re.compile(r"^ +\[(?P<start>0x[0-9a-f]+), (?P<end>0x[0-9a-f]+)\)")
+
+
+def lines(*command):
+    """The lines that a command prints, without their ends."""
+    with subprocess.Popen(command, stdout=subprocess.PIPE, text=True, errors="surrogateescape") as running:
+        for text in running.stdout:
+            yield text.rstrip("\n")
+    if running.returncode != 0:
+        raise SystemExit(f"{command[0]} ended with {running.returncode}")
+
+
+def value_of(text):
+    """What readelf shows behind the form of a value, and behind the offset of a string."""
+    form = FORM.match(text)
+    value = text[form.end():]
+    return value if form["form"] == "string" else ELSEWHERE.sub("", value)
+
+
+def attributes_of(path):
+    """The attributes of each scope as readelf shows them, by its offset; its tag stands with them."""
+    scopes, current = {}, None
+    for text in lines("readelf", "--wide", "--debug-dump=info", path):
+        if found := ENTRY.match(text):
+            current = None
+            if found["tag"] in KINDS:
+                current = scopes[int(found["offset"], 16)] = {"tag": found["tag"]}
+        elif current is not None and (found := ATTRIBUTE.match(text)):
+            current.setdefault(found["name"], value_of(found["value"]))
+    return scopes
+
+
+def named(scopes, offset, name):
+    """The first name of a kind along the references of a scope, `-` where there is none, and `?` where
+    they lead to no scope or go on."""
+    for _ in range(HOPS + 1):
+        attributes = scopes.get(offset)
+        if attributes is None:
+            return "?"
+        if name in attributes:
+            return attributes[name]
+        reference = attributes.get("DW_AT_abstract_origin", attributes.get("DW_AT_specification"))
+        target = reference and REFERENCE.match(reference)
+        if not target:
+            return "-"
+        offset = int(target[1], 16)
+    return "?"
+
+
+def ranges_of(path):
+    """The ranges of each scope as llvm-dwarfdump shows them, by its offset."""
+    scopes, current, low, listed = {}, None, None, False
+    for text in lines("llvm-dwarfdump", "--debug-info", path):
+        if found := DUMPED_ENTRY.match(text):
+            current, low, listed = None, None, False
+            if found["tag"] in KINDS:
+                current = scopes[int(found["offset"], 16)] = []
+        elif current is None:
+            continue
+        elif listed and (found := DUMPED_RANGE.match(text)):
+            current.append((int(found["start"], 16), int(found["end"], 16)))
+        elif found := DUMPED_ADDRESS.match(text):
+            listed = False
+            if found["name"] == "low_pc":
+                low = int(found["address"], 16)
+            else:
+                current.append((low, int(found["address"], 16)))
+        else:
+            listed = bool(DUMPED_RANGES.match(text))
+    return scopes
+
+
+def spelled(ranges):
+    return ",".join(f"{start:x}-{end:x}" for start, end in ranges if start != end) or "-"
+
+
+def shown(path):
+    """The fields of each scope as the other readers show them, by its offset."""
+    scopes, ranges = attributes_of(path), ranges_of(path)
+    for offset, attributes in scopes.items():
+        yield offset, [
+            KINDS[attributes["tag"]],
+            named(scopes, offset, "DW_AT_name"),
+            named(scopes, offset, "DW_AT_linkage_name"),
+            spelled(ranges.get(offset, [])),
+            attributes.get("DW_AT_call_file", "-"),
+            attributes.get("DW_AT_call_line", "-"),
+        ]
+
+
+def ours(table):
+    """The fields of each scope of a table, by its offset."""
+    for text in Path(table).read_bytes().decode(errors="surrogateescape").split("\n")[:-1]:
+        offset, *fields = text.split("\t")
+        yield int(offset, 16), fields
+
+
+def main():
+    path, table = sys.argv[1:]
+    left, right = dict(ours(table)), dict(shown(path))
+    both = [offset for offset in left if offset in right]
+    print(f"{Path(path).name}: {len(left)} scopes, the others {len(right)}, {len(both)} at the same offsets")
+    for number, field in enumerate(FIELDS):
+        print(f"  {field}: {sum(left[offset][number] == right[offset][number] for offset in both)} agree")
+    different = [offset for offset in sorted(left.keys() | right.keys()) if left.get(offset) != right.get(offset)]
+    for offset in different[:5]:
+        print(ascii(f"  scope {offset:x}: {left.get(offset)} beside {right.get(offset)}"))
+    print(f"  {len(different)} differ")
+
+
+if __name__ == "__main__":
+    main()
