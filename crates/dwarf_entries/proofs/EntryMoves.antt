@@ -30,7 +30,7 @@ use Rattle.dwarf_entries.specs.Attributes.{accepts, is_negative_count, number_of
 use Rattle.dwarf_entries.specs.Entries.{Node, Entry, Null, depth_after, depth_limit, is_root, reading_value, is_direct, indirect, form_at, attribute_at, attributes_at, declaration_of, node_behind, node_at}
 
 -- what a read of bytes or of none leaves: this place or one behind it, and not past the end
-abbrev StaysWithin : List ℕ → ℕ → ℕ → Type 0
+abbrev pub StaysWithin : List ℕ → ℕ → ℕ → Type 0
 StaysWithin bytes at after = (at ≤ after) × (after ≤ length bytes)
 
 pub fixed-stays : (n : ℕ) (bytes : List ℕ) (at : ℕ) (x : ℕ × ℕ) → fixed_at n bytes at ≡ Ok x → StaysWithin bytes at x.1
