@@ -1,0 +1,15 @@
+//! Tests of `dwarf_entries` on small objects, with answers worked out by hand.
+#![tactic(auto)]
+
+#[cfg(test)]
+mod fixtures;
+#[cfg(test)]
+mod names;
+#[cfg(test)]
+mod passes;
+#[cfg(test)]
+mod ranges;
+#[cfg(test)]
+mod samples;
+#[cfg(test)]
+mod units;

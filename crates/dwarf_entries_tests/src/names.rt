@@ -1,0 +1,338 @@
+//! Names, and the references between entries.
+
+use crate::fixtures::*;
+use dwarf_bytes::{Cause, Section};
+use dwarf_entries::{Scopes, Sections, Text};
+use dwarf_samples::INLINED;
+use std::alloc::{AllocError, Global};
+use std::process::Abort;
+use std::test::*;
+
+/// `ab` at 0, `c` at 3.
+const TEXTS: [u8; 5] = [0x61, 0x62, 0, 0x63, 0];
+
+/// A table of two string offsets, 3 and 0, whose base is 8.
+const OFFSETS: [u8; 16] = [12, 0, 0, 0, 5, 0, 0, 0, 3, 0, 0, 0, 0, 0, 0, 0];
+
+/// The texts and their offsets, beside these entries.
+fn with_texts<'a>(info: &'a [u8], table: &'a [u8]) -> Sections<'a> {
+    Sections {
+        debug_str: &TEXTS,
+        debug_str_offsets: &OFFSETS,
+        debug_line_str: &[0x78, 0, 0x79, 0x7a, 0, 0x78],
+        ..sections(info, table)
+    }
+}
+
+/// Checks the names of scopes.
+fn have_names(rt: &impl Abort, read: &Scopes, names: &[Option<Text>]) {
+    assert_eq!(rt; read.scopes().len(), names.len());
+    for (scope, name) in read.scopes().iter().zip(names) {
+        assert_eq!(rt; scope.name, *name, "scope {}", scope.number);
+    }
+}
+
+/// A subprogram at 17 whose name is an index, in a unit with this base.
+#[test]
+fn names_by_index(rt: HostRuntime) -> Result<(), Fail> {
+    let c = text(Section::DebugStr, 3, 1);
+    let ab = text(Section::DebugStr, 0, 2);
+    for (base, index, wanted) in [
+        (8, 0, Ok(c)),
+        (8, 1, Ok(ab)),
+        (8, 2, Err(fault(Cause::Index, 17))),
+        (7, 0, Err(fault(Cause::Base, 12))),
+        (16, 0, Err(fault(Cause::Short, 12))),
+        (17, 0, Err(fault(Cause::Base, 12))),
+    ] {
+        // str_offsets_base, and name as strx1
+        let base = [base, 0, 0, 0];
+        let index = [index];
+        let root: Attributes<'_> = (&[0x72, 0x17], &base);
+        let scope: Attributes<'_> = (&[0x03, 0x25], &index);
+        let table = declarations(rt.alloc(), root, scope)?;
+        let info = one_scope(rt.alloc(), root, scope)?;
+        match Scopes::read(rt.alloc(), &with_texts(&info, &table)) {
+            Ok(read) => have_names(&rt, &read, &[wanted?]),
+            Err(told) => assert_eq!(rt; Some(told), wanted.err()),
+        }
+    }
+    let scope: Attributes<'_> = (&[0x03, 0x25], &[0]);
+    let table = declarations(rt.alloc(), (&[], &[]), scope)?;
+    let info = one_scope(rt.alloc(), (&[], &[]), scope)?;
+    is_refused(&rt, &with_texts(&info, &table), Cause::Base, 13);
+    Ok(())
+}
+
+/// A subprogram at 17 with a name in each form, or with one that is no text.
+#[test]
+fn forms_of_names(rt: HostRuntime) -> Result<(), Fail> {
+    let ab = text(Section::DebugStr, 0, 2);
+    let names: [(u8, &[u8], Option<Text>); 13] = [
+        // string, in the entry
+        (0x08, &[0x7a, 0], text(Section::DebugInfo, 18, 1)),
+        (0x08, &[0], text(Section::DebugInfo, 18, 0)),
+        // strp
+        (0x0e, &[3, 0, 0, 0], text(Section::DebugStr, 3, 1)),
+        (0x0e, &[4, 0, 0, 0], text(Section::DebugStr, 4, 0)),
+        (0x0e, &[5, 0, 0, 0], None),
+        // line_strp, at the last text without a NUL
+        (0x1f, &[2, 0, 0, 0], text(Section::DebugLineStr, 2, 2)),
+        (0x1f, &[5, 0, 0, 0], None),
+        // strx to strx4
+        (0x1a, &[0x81, 0], ab),
+        (0x25, &[1], ab),
+        (0x26, &[1, 0], ab),
+        (0x27, &[1, 0, 0], ab),
+        (0x28, &[1, 0, 0, 0], ab),
+        // indirect
+        (0x16, &[0x25, 1], ab),
+    ];
+    for (form, values, wanted) in names {
+        let declared = [0x03, form];
+        let root: Attributes<'_> = (&[0x72, 0x17], &[8, 0, 0, 0]);
+        let scope = (declared.as_slice(), values);
+        let table = declarations(rt.alloc(), root, scope)?;
+        let info = one_scope(rt.alloc(), root, scope)?;
+        match Scopes::read(rt.alloc(), &with_texts(&info, &table)) {
+            Ok(read) => have_names(&rt, &read, &[wanted]),
+            Err(told) => {
+                assert_eq!(rt; wanted, None);
+                assert_eq!(rt; told, fault(Cause::Text, 17));
+            }
+        }
+    }
+    Ok(())
+}
+
+/// An indexed name counts from the base of the unit in which it stands.
+#[test]
+fn names_of_another_unit(rt: HostRuntime) -> Result<(), Fail> {
+    let table = [
+        1, 0x11, 1, 0x72, 0x17, 0, 0, // unit: str_offsets_base
+        2, 0x2e, 0, 0x03, 0x25, 0, 0, // subprogram: name as strx1
+        3, 0x2e, 0, 0x31, 0x10, 0, 0, // subprogram: abstract_origin as ref_addr
+        4, 0x11, 1, 0, 0, // unit
+        0,
+    ];
+    let mut info = Vec::new(rt.alloc());
+    // the name of index 0 at 17, and the origin 42 at 19
+    add_unit(&mut info, 1, 0, &[1, 8, 0, 0, 0, 2, 0, 3, 42, 0, 0, 0, 0])?;
+    // the name of index 0 at 42, and the origin 17 at 44
+    add_unit(&mut info, 1, 0, &[1, 24, 0, 0, 0, 2, 0, 3, 17, 0, 0, 0, 0])?;
+    // the origin 17 at 63, in a unit without a base
+    add_unit(&mut info, 1, 0, &[4, 3, 17, 0, 0, 0, 0])?;
+    // a table of the offsets 3 and 0 at base 8, and one of the offset 0 at base 24
+    let offsets = [
+        12, 0, 0, 0, 5, 0, 0, 0, 3, 0, 0, 0, 0, 0, 0, 0, 8, 0, 0, 0, 5, 0, 0, 0, 0, 0, 0, 0,
+    ];
+    let all = Sections {
+        debug_str: &TEXTS,
+        debug_str_offsets: &offsets,
+        ..sections(&info, &table)
+    };
+    let read = Scopes::read(rt.alloc(), &all)?;
+    assert_eq!(rt;
+        read.roots(),
+        [root(12, 0, 2), root(37, 2, 4), root(62, 4, 5)].as_slice()
+    );
+    let c = text(Section::DebugStr, 3, 1);
+    let ab = text(Section::DebugStr, 0, 2);
+    have_names(&rt, &read, &[c, ab, ab, c, c]);
+    Ok(())
+}
+
+#[test]
+fn first_names_on_a_path(rt: HostRuntime) -> Result<(), Fail> {
+    let table = [
+        1, 0x11, 1, 0, 0, // unit
+        // subprogram: abstract_origin as ref1, linkage_name as string
+        2, 0x2e, 0, 0x31, 0x11, 0x6e, 0x08, 0, 0,
+        // subprogram: name, linkage_name, specification
+        3, 0x2e, 0, 0x03, 0x08, 0x6e, 0x08, 0x47, 0x11, 0, 0,
+        // subprogram: name
+        4, 0x2e, 0, 0x03, 0x08, 0, 0,
+        // subprogram: specification, abstract_origin
+        5, 0x2e, 0, 0x47, 0x11, 0x31, 0x11, 0, 0,
+        // subprogram: specification
+        6, 0x2e, 0, 0x47, 0x11, 0, 0,
+        // subprogram: specification, abstract_origin as ref_sig8
+        7, 0x2e, 0, 0x47, 0x11, 0x31, 0x20, 0, 0, 0,
+    ];
+    let entries = [
+        1, // 12
+        2, 17, 0x4c, 0, // 13: origin 17, linkage_name L
+        3, 0x6e, 0, 0x4d, 0, 23, // 17: name n, linkage_name M, specification 23
+        4, 0x6f, 0, // 23: name o
+        5, 17, 23, // 26: specification 17, origin 23
+        6, 23, // 29: specification 23
+        3, 0, 0x4d, 0, 23, // 31: an empty name, linkage_name M, specification 23
+        7, 23, 23, 0, 0, 0, 0, 0, 0, 0, // 36: specification 23, a signature
+        0,
+    ];
+    let info = unit(rt.alloc(), &entries)?;
+    let read = Scopes::read(rt.alloc(), &sections(&info, &table))?;
+    let at = |place, len| text(Section::DebugInfo, place, len);
+    let names = [
+        (at(18, 1), at(15, 1)),
+        (at(18, 1), at(20, 1)),
+        (at(24, 1), None),
+        (at(24, 1), None),
+        (at(24, 1), None),
+        (at(32, 0), at(33, 1)),
+        (None, None),
+    ];
+    assert_eq!(rt; read.scopes().len(), names.len());
+    for (scope, wanted) in read.scopes().iter().zip(names) {
+        assert_eq!(rt;
+            (scope.name, scope.linkage_name),
+            wanted,
+            "scope {}",
+            scope.number
+        );
+    }
+    Ok(())
+}
+
+/// Subprograms from 13 on, of which each but the last names the next, by so many hops, and the last
+/// is named `z`.
+fn linked(alloc: Global, hops: u8) -> Result<Vec<u8>, AllocError> {
+    let mut entries = Vec::new(alloc);
+    entries.push(1)?;
+    for hop in 1..=hops {
+        entries.push(2)?;
+        entries.push(hop.saturating_mul(5).saturating_add(13))?;
+        entries.extend_from_slice(&[0, 0, 0])?;
+    }
+    entries.extend_from_slice(&[3, 0x7a, 0, 0])?;
+    unit(alloc, &entries)
+}
+
+#[test]
+fn linked_subprograms(rt: HostRuntime) -> Result<(), Fail> {
+    let table = [
+        1, 0x11, 1, 0, 0, // unit
+        2, 0x2e, 0, 0x31, 0x13, 0, 0, // subprogram: abstract_origin as ref4
+        3, 0x2e, 0, 0x03, 0x08, 0, 0, // subprogram: name as string
+        0,
+    ];
+    let info = linked(rt.alloc(), 16)?;
+    let read = Scopes::read(rt.alloc(), &sections(&info, &table))?;
+    assert_eq!(rt; read.scopes().len(), 17);
+    for scope in read.scopes() {
+        assert_eq!(rt; scope.name, text(Section::DebugInfo, 94, 1));
+    }
+    let info = linked(rt.alloc(), 17)?;
+    is_refused(&rt, &sections(&info, &table), Cause::OriginDepth, 13);
+    // of a bad reference behind the last hop nothing is told
+    let mut info = linked(rt.alloc(), 17)?;
+    assert_eq!(rt; info.len(), 102);
+    assert_eq!(rt; info[94], 98);
+    info[94] = 0;
+    is_refused(&rt, &sections(&info, &table), Cause::OriginDepth, 13);
+    Ok(())
+}
+
+/// Two units whose roots are named `q`, at 12, and `r`, at 28. The abstract origin of the subprogram
+/// at 31 is this value.
+fn referring(alloc: Global, value: &[u8]) -> Result<Vec<u8>, AllocError> {
+    let mut info = unit(alloc, &[1, 0x71, 0, 0])?;
+    let mut entries = Vec::new(alloc);
+    entries.extend_from_slice(&[1, 0x72, 0, 2])?;
+    entries.extend_from_slice(value)?;
+    entries.push(0)?;
+    add_unit(&mut info, 1, 0, &entries)?;
+    Ok(info)
+}
+
+#[test]
+fn forms_of_references(rt: HostRuntime) -> Result<(), Fail> {
+    let q = text(Section::DebugInfo, 13, 1);
+    let r = text(Section::DebugInfo, 29, 1);
+    let references: [(u8, &[u8], Option<Text>); 9] = [
+        // ref1, ref2, ref4, ref8 and ref_udata count from the unit, ref_addr from the section
+        (0x11, &[12], r),
+        (0x12, &[12, 0], r),
+        (0x13, &[12, 0, 0, 0], r),
+        (0x14, &[12, 0, 0, 0, 0, 0, 0, 0], r),
+        (0x15, &[0x8c, 0], r),
+        (0x10, &[12, 0, 0, 0], q),
+        (0x10, &[28, 0, 0, 0], r),
+        // ref_sig8 is not followed
+        (0x20, &[12, 0, 0, 0, 0, 0, 0, 0], None),
+        // indirect
+        (0x16, &[0x11, 12], r),
+    ];
+    for (form, value, name) in references {
+        let declared = [0x31, form];
+        let table = declarations(rt.alloc(), (&[0x03, 0x08], &[]), (&declared, &[]))?;
+        let info = referring(rt.alloc(), value)?;
+        let read = Scopes::read(rt.alloc(), &sections(&info, &table))?;
+        have_names(&rt, &read, &[name]);
+    }
+    Ok(())
+}
+
+#[test]
+fn references_to_no_entry(rt: HostRuntime) -> Result<(), Fail> {
+    let references: [(u8, &[u8]); 11] = [
+        // ref_addr: a header, inside a root, the nulls of both units, past the section
+        (0x10, &[0, 0, 0, 0]),
+        (0x10, &[16, 0, 0, 0]),
+        (0x10, &[13, 0, 0, 0]),
+        (0x10, &[15, 0, 0, 0]),
+        (0x10, &[36, 0, 0, 0]),
+        (0x10, &[37, 0, 0, 0]),
+        // ref1: the unit's header, inside its root, its null, past it
+        (0x11, &[0]),
+        (0x11, &[13]),
+        (0x11, &[17]),
+        (0x11, &[18]),
+        // ref8: past all numbers of 64 bits
+        (0x14, &[0xff; 8]),
+    ];
+    for (form, value) in references {
+        let declared = [0x31, form];
+        let table = declarations(rt.alloc(), (&[0x03, 0x08], &[]), (&declared, &[]))?;
+        let info = referring(rt.alloc(), value)?;
+        is_refused(&rt, &sections(&info, &table), Cause::Reference, 31);
+    }
+    Ok(())
+}
+
+/// Nulls, headers and the inside of entries of the first object.
+#[test]
+fn an_origin_that_is_no_entry(rt: HostRuntime) -> Result<(), Fail> {
+    let whole = sections_of(&INLINED)?;
+    let mut info = [0; 96];
+    info.copy_from_slice(&INLINED[163..259]);
+    for origin in [0, 11, 13, 26, 91, 92, 93, 94, 95, 96, 255] {
+        info[55] = origin;
+        is_refused(
+            &rt,
+            &sections(&info, whole.debug_abbrev),
+            Cause::Reference,
+            54,
+        );
+    }
+    Ok(())
+}
+
+/// References that count from a unit stay in it, and no entry of a type unit is read.
+#[test]
+fn references_out_of_the_unit(rt: HostRuntime) -> Result<(), Fail> {
+    // ref4 to the root of the next unit
+    let declared = [0x31, 0x13];
+    let table = declarations(rt.alloc(), (&[], &[]), (&declared, &[]))?;
+    let mut info = unit(rt.alloc(), &[1, 2, 31, 0, 0, 0, 0])?;
+    add_unit(&mut info, 1, 0, &[1, 0])?;
+    is_refused(&rt, &sections(&info, &table), Cause::Reference, 13);
+    // ref_addr to what would be the root of the type unit before
+    let declared = [0x31, 0x10];
+    let table = declarations(rt.alloc(), (&[], &[]), (&declared, &[]))?;
+    let mut info = Vec::new(rt.alloc());
+    add_unit(&mut info, 2, 0, &[1, 0])?;
+    add_unit(&mut info, 1, 0, &[1, 2, 12, 0, 0, 0, 0])?;
+    is_refused(&rt, &sections(&info, &table), Cause::Reference, 27);
+    Ok(())
+}
