@@ -22,3 +22,4 @@ pub mod EntryMoves
 pub mod WalkLaws
 pub mod InsideLaws
 pub mod ReadLaws
+pub mod TextLaws

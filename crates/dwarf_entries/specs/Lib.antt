@@ -11,3 +11,4 @@ pub mod Kept
 pub mod Passes
 pub mod Members
 pub mod Readers
+pub mod Texts

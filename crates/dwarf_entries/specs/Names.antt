@@ -85,9 +85,13 @@ line_strp = 0x1f
 abbrev pub text : Section → ℕ → ℕ → Text
 text section place len = record { section = section; span = record { place = place; len = len } }
 
+-- how long the text at an offset of a section is
+abbrev pub text_len : List ℕ → ℕ → Result ℕ Cause
+text_len section offset = reading (text_at section offset) >>= λ found. Ok (length found)
+
 -- the text at an offset of a section
 abbrev pub text_in : Section → List ℕ → ℕ → Result Text Cause
-text_in name section offset = reading (text_at section offset) >>= λ found. Ok (text name offset (length found))
+text_in name section offset = text_len section offset >>= λ len. Ok (text name offset len)
 
 -- the text that a value is, by the table of the unit in which it stands; one of form string stands in the entry
 abbrev pub text_of : Sections → Option Table → AttributeValue → Result Text Cause

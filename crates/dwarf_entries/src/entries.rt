@@ -160,7 +160,7 @@ fn walk_unit(
 }
 
 /// The bytes up to an end, or all where they are fewer.
-fn up_to(bytes: &[u8], end: usize) -> &[u8]
+pub(crate) fn up_to(bytes: &[u8], end: usize) -> &[u8]
     ensures { result.now ≡ take end bytes.now }
 {
     bytes.get(..end).unwrap_or(bytes)

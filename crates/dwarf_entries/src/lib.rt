@@ -15,6 +15,7 @@ mod scope;
 mod scopes;
 mod sections;
 mod tables;
+mod text_ends;
 mod unit_scopes;
 mod units;
 

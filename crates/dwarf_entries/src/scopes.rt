@@ -14,6 +14,7 @@ use crate::passes::{all_bases, all_entries};
 use crate::scope::{Root, Scope};
 use crate::sections::Sections;
 use crate::tables::judge_tables;
+use crate::text_ends::TextEnds;
 use crate::unit_scopes::Units;
 use crate::units::units;
 use dwarf_bytes::{Cause, LoadFault, Section};
@@ -46,8 +47,12 @@ impl Scopes {
         judge_tables(alloc, sections.debug_abbrev, headers.as_slice())?;
         let kept = all_entries(alloc, sections, headers.as_slice())?;
         let bases = all_bases(alloc, sections, kept.as_slice())?;
+        let Ok(ends) = TextEnds::of(alloc, sections) else {
+            return Err(LoadFault::told(Section::DebugInfo, Cause::Memory, 0));
+        };
         let units = Units {
             sections,
+            ends: &ends,
             units: kept.as_slice(),
             bases: bases.as_slice(),
         };

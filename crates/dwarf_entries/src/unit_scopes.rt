@@ -4,6 +4,7 @@ ghost use Rattle.std.specs.Prelude.{◌≡◌, ◌≤◌, ◌<◌, ◌+◌, ◌^
 ghost use Rattle.dwarf_bytes.specs.declared.fault.Section.TheVariants as names;
 ghost use Rattle.dwarf_bytes.specs.Refusals.{Decodes, in_section};
 ghost use Rattle.dwarf_entries.specs.Sections.{sections_of};
+ghost use Rattle.dwarf_entries.specs.Texts.{AreEnds};
 ghost use Rattle.dwarf_entries.specs.Bases.{CompilationUnit};
 ghost use Rattle.dwarf_entries.specs.Scopes.{Judged, Place, places_in, scope_of, scope_at};
 ghost use Rattle.dwarf_entries.specs.Steps.{Gives};
@@ -15,6 +16,7 @@ use crate::paths::names;
 use crate::ranges::covers;
 use crate::scope::Scope;
 use crate::sections::Sections;
+use crate::text_ends::TextEnds;
 use dwarf_bytes::{Cause, LoadFault, Section};
 use std::alloc::Global;
 
@@ -25,6 +27,7 @@ const ITEMS_LIMIT: u64 = 4_194_304;
 #[derive(Clone, Copy)]
 pub(crate) struct Units<'a> {
     pub(crate) sections: &'a Sections<'a>,
+    pub(crate) ends: &'a TextEnds,
     pub(crate) units: &'a [UnitEntries],
     pub(crate) bases: &'a [Bases],
 }
@@ -40,13 +43,21 @@ impl<'a> Units<'a> {
         number: usize,
         room: u64,
     ) -> Result<(Scope, u64), Cause>
+        requires ends { AreEnds (sections_of self.sections.now) self.ends.now }
         requires unit { (unit < length self.units.now) × (unit < length self.bases.now) }
         requires end { number + inside + 1 < 2 ^ 64 }
         ensures judged { (us : List CompilationUnit) (before : List Judged) (p : Place) → AreUnits self.entry.units.now self.entry.bases.now us → IsPlace us unit entry.now inside number room before p
             → Gives (λ found. judged_of found) result (scope_at (sections_of self.entry.sections.now) us before p) }
         ensures room { IfOk result (λ found. found.1 ≤ room) }
     {
-        let names = names(self.sections, self.units, self.bases, unit, &entry.entry)?;
+        let names = names(
+            self.sections,
+            self.ends,
+            self.units,
+            self.bases,
+            unit,
+            &entry.entry,
+        )?;
         let covering = covers(
             alloc,
             room,
@@ -80,6 +91,7 @@ impl<'a> Units<'a> {
         left: &mut u64,
         scopes: &mut Vec<Scope>,
     ) -> Result<(), LoadFault>
+        requires ends { AreEnds (sections_of self.sections.now) self.ends.now }
         requires unit { unit < length self.units.now }
         requires known { (us : List CompilationUnit) × AreUnits self.units.now self.bases.now us }
         ensures { (us : List CompilationUnit) (u : CompilationUnit) (before : List Judged) → AreUnits self.entry.units.now self.entry.bases.now us → slice_get us unit ≡ Some u → AreJudged before scopes.old.items left.old
@@ -108,7 +120,8 @@ impl<'a> Units<'a> {
 
     /// The scopes of all units.
     pub(crate) fn scopes(self, alloc: Global) -> Result<Vec<Scope>, LoadFault>
-        requires { (us : List CompilationUnit) × AreUnits self.units.now self.bases.now us }
+        requires ends { AreEnds (sections_of self.sections.now) self.ends.now }
+        requires known { (us : List CompilationUnit) × AreUnits self.units.now self.bases.now us }
         ensures { (us : List CompilationUnit) → AreUnits self.entry.units.now self.entry.bases.now us
             → Decodes (λ scopes. map scope_of scopes.items) result (in_section names.DebugInfo (all_scopes (sections_of self.entry.sections.now) us)) }
     {

@@ -29,8 +29,8 @@ returns-in_err-bases c =
     rw (p.1, p.2)
     (bases_pass_fault (sections_of c.args.sections.now) c.in_ok-headers.headers.items c.in_ok-kept.kept.items c.in_err-bases.field-0.0 entries ((rw c.as_slice-3.ensures.value at c.in_err-bases.ensures) c.in_ok-headers.headers.items entries.dies entries.kept_are))
 
-pub scopes-requires : goal.scopes-requires
-scopes-requires c =
+pub scopes-requires-clause-known : goal.scopes-requires-clause-known
+scopes-requires-clause-known c =
     let tables = tables_read (sections_of c.args.sections.now) c.in_ok-headers.headers.items c.in_ok-headers.ensures (rw c.as_slice.ensures.value at c.in_ok-judge_tables.ensures) in
     let entries = entries_read (sections_of c.args.sections.now) c.in_ok-headers.headers.items c.in_ok-kept.kept.items tables ((rw c.as_slice-2.ensures.value at c.in_ok-kept.ensures) tables.tables tables.tables_are) in
     let units = units_read (sections_of c.args.sections.now) c.in_ok-headers.headers.items c.in_ok-kept.kept.items c.in_ok-bases.bases.items entries ((rw c.as_slice-3.ensures.value at c.in_ok-bases.ensures) c.in_ok-headers.headers.items entries.dies entries.kept_are) in
