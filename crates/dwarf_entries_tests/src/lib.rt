@@ -12,4 +12,6 @@ mod ranges;
 #[cfg(test)]
 mod samples;
 #[cfg(test)]
+mod texts;
+#[cfg(test)]
 mod units;

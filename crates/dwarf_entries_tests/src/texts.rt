@@ -1,0 +1,49 @@
+//! Texts that are longer than the stretches in which their ends are looked for.
+
+use crate::fixtures::*;
+use dwarf_bytes::{Cause, Section};
+use dwarf_entries::{Scopes, Sections};
+use std::test::*;
+
+/// A text of 10,000 bytes at 0, one of 2 at 10,001, and one without a NUL at 10,004: each is named by
+/// strp, from its start or from a place in it.
+#[test]
+fn long_texts(rt: HostRuntime) -> Result<(), Fail> {
+    let mut texts = Vec::new(rt.alloc());
+    for _ in 0..10_000 {
+        texts.push(0x61u8)?;
+    }
+    texts.extend_from_slice(&[0, 0x62, 0x63, 0, 0x64])?;
+    let names: [(u32, Option<usize>); 11] = [
+        (0, Some(10_000)),
+        (1, Some(9_999)),
+        (4_095, Some(5_905)),
+        (4_096, Some(5_904)),
+        (4_097, Some(5_903)),
+        (8_192, Some(1_808)),
+        (9_999, Some(1)),
+        (10_000, Some(0)),
+        (10_001, Some(2)),
+        (10_003, Some(0)),
+        (10_004, None),
+    ];
+    for (place, len) in names {
+        let offset = place.to_le_bytes();
+        let scope: Attributes<'_> = (&[0x03, 0x0e], &offset);
+        let table = declarations(rt.alloc(), (&[], &[]), scope)?;
+        let info = one_scope(rt.alloc(), (&[], &[]), scope)?;
+        let sections = Sections {
+            debug_str: &texts,
+            ..sections(&info, &table)
+        };
+        match len {
+            Some(len) => {
+                let read = Scopes::read(rt.alloc(), &sections)?;
+                let name = read.scopes().first().and_then(|scope| scope.name);
+                assert_eq!(rt; name, text(Section::DebugStr, place as usize, len));
+            }
+            None => is_refused(&rt, &sections, Cause::Text, 13),
+        }
+    }
+    Ok(())
+}
