@@ -12,6 +12,7 @@ use Rattle.dwarf_bytes.specs.Refusals.{memory_fault, in_section}
 use Rattle.dwarf_bytes.proofs.EachLaws.{made_front, each-next, each-fault, each-end}
 use Rattle.dwarf_forms.specs.Declarations.{Declaration}
 use Rattle.dwarf_forms.specs.Tables.{declarations_of}
+use Rattle.dwarf_entries.specs.declared.kept.Keeping.{Keeping}
 use Rattle.dwarf_entries.specs.declared.units.UnitHeader.{UnitHeader}
 use Rattle.dwarf_entries.specs.Units.{declarations_limit, tables_of}
 use Rattle.dwarf_entries.specs.Entries.{Die, entries_of}
@@ -24,31 +25,31 @@ abbrev pub entries_for : List ℕ → List (List Die) → UnitHeader × List Dec
 entries_for info before p = entries_of info p.0 p.1
 
 -- the entries of the units before the index, what is kept of them, and how many declarations are left for the tables
-pub record EntriesSoFar (info : List ℕ) (headers : List UnitHeader) (tables : List (List Declaration)) (index left : ℕ) (kept : List KeptUnit) : Type 0 where
+pub record EntriesSoFar (keeping : Keeping) (info : List ℕ) (headers : List UnitHeader) (tables : List (List Declaration)) (index left : ℕ) (kept : List KeptUnit) : Type 0 where
   pub made : List (List Die)
   pub len : length made ≡ index
   pub counted : left + sum_by length (take index tables) ≡ declarations_limit
-  pub kept_are : kept ≡ kept_units headers made
+  pub kept_are : kept ≡ kept_units keeping headers made
   pub read : made_front made (each_from (entries_for info) made (drop index (zip headers tables))) ≡ all_entries info headers tables
 
 no_front : {Y : Type 0} (r : Result (List Y) At) → made_front [] r ≡ r
 no_front (Ok x) = refl
 no_front (Err e) = refl
 
-kept_none : (headers : List UnitHeader) → [] ≡ kept_units headers []
-kept_none [] = refl
-kept_none (header ∷ headers) = refl
+kept_none : (keeping : Keeping) (headers : List UnitHeader) → [] ≡ kept_units keeping headers []
+kept_none keeping [] = refl
+kept_none keeping (header ∷ headers) = refl
 
-pub entries_none : (info : List ℕ) (headers : List UnitHeader) (tables : List (List Declaration)) → EntriesSoFar info headers tables 0 declarations_limit []
-entries_none info headers tables = record { made = []; len = refl; counted = refl; kept_are = kept_none headers; read = no_front (all_entries info headers tables) }
+pub entries_none : (keeping : Keeping) (info : List ℕ) (headers : List UnitHeader) (tables : List (List Declaration)) → EntriesSoFar keeping info headers tables 0 declarations_limit []
+entries_none keeping info headers tables = record { made = []; len = refl; counted = refl; kept_are = kept_none keeping headers; read = no_front (all_entries info headers tables) }
 
 -- one more unit behind those that are kept
-kept_more : (headers : List UnitHeader) (made : List (List Die)) (d : UnitHeader) (dies : List Die) → length made < length headers →
-    kept_units headers (made ++ dies ∷ []) ≡ kept_units headers made ++ kept_unit (get_or headers (length made) d) dies ∷ []
-kept_more [] made d dies within = absurd (omega (arith, within))
-kept_more (header ∷ []) [] d dies within = refl
-kept_more (header ∷ next ∷ headers) [] d dies within = refl
-kept_more (header ∷ headers) (first ∷ made) d dies within = ap (λ (us : List KeptUnit). kept_unit header first ∷ us) (kept_more headers made d dies (omega (arith, within)))
+kept_more : (keeping : Keeping) (headers : List UnitHeader) (made : List (List Die)) (d : UnitHeader) (dies : List Die) → length made < length headers →
+    kept_units keeping headers (made ++ dies ∷ []) ≡ kept_units keeping headers made ++ kept_unit keeping (get_or headers (length made) d) dies ∷ []
+kept_more keeping [] made d dies within = absurd (omega (arith, within))
+kept_more keeping (header ∷ []) [] d dies within = refl
+kept_more keeping (header ∷ next ∷ headers) [] d dies within = refl
+kept_more keeping (header ∷ headers) (first ∷ made) d dies within = ap (λ (us : List KeptUnit). kept_unit keeping header first ∷ us) (kept_more keeping headers made d dies (omega (arith, within)))
 
 -- the table of a unit is the one that was read before
 table_is : (section : List ℕ) (headers : List UnitHeader) (tables : List (List Declaration)) (index left : ℕ) (d : UnitHeader) → tables_of section headers ≡ Ok tables → index < length headers →
@@ -58,22 +59,22 @@ table_is section headers tables index left d all within counted =
     let room : left ≡ declarations_limit - sum_by length (take index tables) = omega (arith, counted) in
     ap (λ (k : ℕ). declarations_of k section (get_or headers index d).abbreviations) room ∙ each-place (table_for section) [] headers tables all index d [] within
 
-pub entries_next : (info section : List ℕ) (headers : List UnitHeader) (tables : List (List Declaration)) (index left after : ℕ) (kept : List KeptUnit) (d : UnitHeader) (table : List Declaration) (unit : KeptUnit) →
-    EntriesSoFar info headers tables index left kept → tables_of section headers ≡ Ok tables → index < length headers →
+pub entries_next : (keeping : Keeping) (info section : List ℕ) (headers : List UnitHeader) (tables : List (List Declaration)) (index left after : ℕ) (kept : List KeptUnit) (d : UnitHeader) (table : List Declaration) (unit : KeptUnit) →
+    EntriesSoFar keeping info headers tables index left kept → tables_of section headers ≡ Ok tables → index < length headers →
     in_section names.DebugAbbrev (declarations_of left section (get_or headers index d).abbreviations) ≡ Ok table → after + length table ≡ left →
-    in_section names.DebugInfo (kept_entries info (get_or headers index d) table) ≡ Ok unit → EntriesSoFar info headers tables (index + 1) after (kept ++ unit ∷ [])
+    in_section names.DebugInfo (kept_entries keeping info (get_or headers index d) table) ≡ Ok unit → EntriesSoFar keeping info headers tables (index + 1) after (kept ++ unit ∷ [])
 unfolding tables_of
-entries_next info section headers tables index left after kept d table unit so_far all within table_read counted unit_read =
+entries_next keeping info section headers tables index left after kept d table unit so_far all within table_read counted unit_read =
     let header = get_or headers index d in
     let read = table_is section headers tables index left d all within so_far.counted in
     let same : get_or tables index [] ≡ table = same_ok_list (sym read ∙ in_section_ok names.DebugAbbrev (declarations_of left section header.abbreviations) table table_read) in
-    by_dies (entries_of info header table) refl (in_section_ok names.DebugInfo (kept_entries info header table) unit unit_read) same
+    by_dies (entries_of info header table) refl (in_section_ok names.DebugInfo (kept_entries keeping info header table) unit unit_read) same
   where
     same_ok_list : {x y : List Declaration} → (let f : List Declaration → Result (List Declaration) At = λ z. Ok z in f x ≡ f y) → x ≡ y
     same_ok_list h = cc
 
-    by_dies : (r : Result (List Die) At) → entries_of info (get_or headers index d) table ≡ r → (r >>= λ dies. Ok (kept_unit (get_or headers index d) dies)) ≡ Ok unit → get_or tables index [] ≡ table →
-        EntriesSoFar info headers tables (index + 1) after (kept ++ unit ∷ [])
+    by_dies : (r : Result (List Die) At) → entries_of info (get_or headers index d) table ≡ r → (r >>= λ dies. Ok (kept_unit keeping (get_or headers index d) dies)) ≡ Ok unit → get_or tables index [] ≡ table →
+        EntriesSoFar keeping info headers tables (index + 1) after (kept ++ unit ∷ [])
     by_dies (Err e) is h same = cc
     by_dies (Ok dies) is h same =
         let made = so_far.made in
@@ -87,13 +88,13 @@ entries_next info section headers tables index left after kept d table unit so_f
         let sum : sum_by length (take index tables ++ get_or tables index [] ∷ []) ≡ sum_by length (take index tables) + length (get_or tables index []) = sum_by-append length (take index tables) (get_or tables index [] ∷ []) ∙ omega arith in
         let taken : sum_by length (take (index + 1) tables) ≡ sum_by length (take index tables) + length table =
         ap (λ (ts : List (List Declaration)). sum_by length ts) (take_more tables index [] inside) ∙ (sum ∙ ap (λ (t : List Declaration). sum_by length (take index tables) + length t) same) in
-        let more : kept_units headers (made ++ dies ∷ []) ≡ kept_units headers made ++ kept_unit header dies ∷ [] =
-        subst (λ (k : ℕ). kept_units headers (made ++ dies ∷ []) ≡ kept_units headers made ++ kept_unit (get_or headers k d) dies ∷ []) so_far.len (kept_more headers made d dies (omega (arith, so_far.len, within))) in
+        let more : kept_units keeping headers (made ++ dies ∷ []) ≡ kept_units keeping headers made ++ kept_unit keeping header dies ∷ [] =
+        subst (λ (k : ℕ). kept_units keeping headers (made ++ dies ∷ []) ≡ kept_units keeping headers made ++ kept_unit keeping (get_or headers k d) dies ∷ []) so_far.len (kept_more keeping headers made d dies (omega (arith, so_far.len, within))) in
         record {
           made = made ++ dies ∷ [];
           len = omega (arith, so_far.len, length-append made (dies ∷ []));
           counted = omega (arith, so_far.counted, counted, taken);
-          kept_are = ap (λ (us : List KeptUnit). us ++ unit ∷ []) so_far.kept_are ∙ (ap (λ (u : KeptUnit). kept_units headers made ++ u ∷ []) (sym (same_unit h)) ∙ sym more);
+          kept_are = ap (λ (us : List KeptUnit). us ++ unit ∷ []) so_far.kept_are ∙ (ap (λ (u : KeptUnit). kept_units keeping headers made ++ u ∷ []) (sym (same_unit h)) ∙ sym more);
           read = sym (each-next (entries_for info) made (header, get_or tables index []) (drop (index + 1) (zip headers tables)) dies here)
               ∙ (ap (λ (ps : List (UnitHeader × List Declaration)). made_front made (each_from (entries_for info) made ps)) (sym rest) ∙ so_far.read);
         }
@@ -101,9 +102,9 @@ entries_next info section headers tables index left after kept d table unit so_f
         same_unit : {x y : KeptUnit} → (let f : KeptUnit → Result KeptUnit At = λ z. Ok z in f x ≡ f y) → x ≡ y
         same_unit h = cc
 
-pub entries_end : (info : List ℕ) (headers : List UnitHeader) (tables : List (List Declaration)) (index left : ℕ) (kept : List KeptUnit) →
-    EntriesSoFar info headers tables index left kept → length headers ≤ index → in_section names.DebugInfo (all_kept info headers tables) ≡ Ok kept
-entries_end info headers tables index left kept so_far past =
+pub entries_end : (keeping : Keeping) (info : List ℕ) (headers : List UnitHeader) (tables : List (List Declaration)) (index left : ℕ) (kept : List KeptUnit) →
+    EntriesSoFar keeping info headers tables index left kept → length headers ≤ index → in_section names.DebugInfo (all_kept keeping info headers tables) ≡ Ok kept
+entries_end keeping info headers tables index left kept so_far past =
     let made = so_far.made in
     let none : drop index (zip headers tables) ≡ [] = drop_all index (zip headers tables) (subst (λ (n : ℕ). n ≤ index) (sym (length-zip headers tables)) (omega (arith, past))) in
     let all : all_entries info headers tables ≡ Ok made =
@@ -111,25 +112,25 @@ entries_end info headers tables index left kept so_far past =
     rw all (ap (λ (us : List KeptUnit). Ok us) (sym so_far.kept_are))
 
 -- a table that was good is read again, unless memory ran out
-pub entries_table_fault : (info section : List ℕ) (headers : List UnitHeader) (tables : List (List Declaration)) (index left : ℕ) (kept : List KeptUnit) (d : UnitHeader) (fault : LoadFault) →
-    EntriesSoFar info headers tables index left kept → tables_of section headers ≡ Ok tables → index < length headers →
+pub entries_table_fault : (keeping : Keeping) (info section : List ℕ) (headers : List UnitHeader) (tables : List (List Declaration)) (index left : ℕ) (kept : List KeptUnit) (d : UnitHeader) (fault : LoadFault) →
+    EntriesSoFar keeping info headers tables index left kept → tables_of section headers ≡ Ok tables → index < length headers →
     (fault ≡ memory_fault) ⊎ (in_section names.DebugAbbrev (declarations_of left section (get_or headers index d).abbreviations) ≡ Err fault) → fault ≡ memory_fault
-entries_table_fault info section headers tables index left kept d fault so_far all within (inl memory) = memory
-entries_table_fault info section headers tables index left kept d fault so_far all within (inr bad) =
+entries_table_fault keeping info section headers tables index left kept d fault so_far all within (inl memory) = memory
+entries_table_fault keeping info section headers tables index left kept d fault so_far all within (inr bad) =
     let read = table_is section headers tables index left d all within so_far.counted in
     absurd (never (sym (ap (λ (r : Result (List Declaration) At). in_section names.DebugAbbrev r) read) ∙ bad))
   where
     never : {x : List Declaration} → (let f : List Declaration → Result (List Declaration) LoadFault = λ z. Ok z in f x ≡ Err fault) → ⊥
     never h = cc
 
-pub entries_fault : (info section : List ℕ) (headers : List UnitHeader) (tables : List (List Declaration)) (index left : ℕ) (kept : List KeptUnit) (d : UnitHeader) (table : List Declaration) (fault : LoadFault) →
-    EntriesSoFar info headers tables index left kept → tables_of section headers ≡ Ok tables → index < length headers →
+pub entries_fault : (keeping : Keeping) (info section : List ℕ) (headers : List UnitHeader) (tables : List (List Declaration)) (index left : ℕ) (kept : List KeptUnit) (d : UnitHeader) (table : List Declaration) (fault : LoadFault) →
+    EntriesSoFar keeping info headers tables index left kept → tables_of section headers ≡ Ok tables → index < length headers →
     in_section names.DebugAbbrev (declarations_of left section (get_or headers index d).abbreviations) ≡ Ok table →
-    (fault ≡ memory_fault) ⊎ (in_section names.DebugInfo (kept_entries info (get_or headers index d) table) ≡ Err fault) →
-    (fault ≡ memory_fault) ⊎ (in_section names.DebugInfo (all_kept info headers tables) ≡ Err fault)
+    (fault ≡ memory_fault) ⊎ (in_section names.DebugInfo (kept_entries keeping info (get_or headers index d) table) ≡ Err fault) →
+    (fault ≡ memory_fault) ⊎ (in_section names.DebugInfo (all_kept keeping info headers tables) ≡ Err fault)
 unfolding tables_of
-entries_fault info section headers tables index left kept d table fault so_far all within table_read (inl memory) = inl memory
-entries_fault info section headers tables index left kept d table fault so_far all within table_read (inr bad) =
+entries_fault keeping info section headers tables index left kept d table fault so_far all within table_read (inl memory) = inl memory
+entries_fault keeping info section headers tables index left kept d table fault so_far all within table_read (inr bad) =
     let header = get_or headers index d in
     let read = table_is section headers tables index left d all within so_far.counted in
     let same : get_or tables index [] ≡ table = same_table (sym read ∙ in_section_ok names.DebugAbbrev (declarations_of left section header.abbreviations) table table_read) in
@@ -138,8 +139,8 @@ entries_fault info section headers tables index left kept d table fault so_far a
     same_table : {x y : List Declaration} → (let f : List Declaration → Result (List Declaration) At = λ z. Ok z in f x ≡ f y) → x ≡ y
     same_table h = cc
 
-    by_dies : (r : Result (List Die) At) → entries_of info (get_or headers index d) table ≡ r → in_section names.DebugInfo (r >>= λ dies. Ok (kept_unit (get_or headers index d) dies)) ≡ Err fault → get_or tables index [] ≡ table →
-        in_section names.DebugInfo (all_kept info headers tables) ≡ Err fault
+    by_dies : (r : Result (List Die) At) → entries_of info (get_or headers index d) table ≡ r → in_section names.DebugInfo (r >>= λ dies. Ok (kept_unit keeping (get_or headers index d) dies)) ≡ Err fault → get_or tables index [] ≡ table →
+        in_section names.DebugInfo (all_kept keeping info headers tables) ≡ Err fault
     by_dies (Ok dies) is h same = cc
     by_dies (Err e) is h same =
         let made = so_far.made in

@@ -11,6 +11,7 @@ pub mod PlaceLaws
 pub mod ScopesPass
 pub mod ReferenceLaws
 pub mod PathLaws
+pub mod OnlyLaws
 pub mod NodeLaws
 pub mod EntryOrder
 pub mod OrderLaws

@@ -1,9 +1,9 @@
 -- The places of the scopes of a unit, by what is kept of it.
-use Rattle.std.proofs.Common.{◌≡◌, ℕ, zero, suc, ◌+◌, ◌<◌, ◌≤◌, List, [], ◌∷◌, length, drop, get_or, map, Bool, refl, ap, sym, ◌∙◌, arith, drop-cons, add-one, length-take}
-use Rattle.std.specs.Prelude.{Option, Some, None, count_by, nat_lt, take_while}
+use Rattle.std.proofs.Common.{◌≡◌, ℕ, zero, suc, ◌+◌, ◌<◌, ◌≤◌, List, [], ◌∷◌, length, drop, get_or, map, take, Bool, cond, refl, ap, sym, ◌∙◌, arith, drop-cons, add-one}
+use Rattle.std.specs.Prelude.{Option, Some, None, is_some, count_by, sum_by, nat_lt, take_while}
 use Rattle.std.specs.List.{filter_map, prefix_len}
-use Rattle.std.proofs.lemmas.List.{get_or-map, length-map}
-use Rattle.std.proofs.lemmas.List.Sums.{count_by-le-length}
+use Rattle.std.proofs.lemmas.List.{get_or-map, length-map, take-append-drop}
+use Rattle.std.proofs.lemmas.List.Sums.{sum_by-append, sum_by-cons}
 use Rattle.dwarf_entries.specs.declared.scope.ScopeKind.TheVariants.{Subprogram}
 use Rattle.dwarf_entries.specs.declared.scope.ScopeKind.{ScopeKind}
 use Rattle.dwarf_entries.specs.declared.kept.ScopeEntry.{ScopeEntry}
@@ -31,29 +31,46 @@ insides_are u (die ∷ rest) = by_kind (kind_of die.tag) (insides_are u rest)
     by_kind None later = later
     by_kind (Some kind) later = ap (λ (ns : List ℕ). count_by is_scope (below die rest) ∷ ns) later
 
--- a place of a unit is in the unit, and no more scopes are below it than the unit has entries
+-- as many places as scopes
+places-counted : (u : CompilationUnit) (dies : List Die) → count_by is_scope dies ≡ length (places_in u dies)
+places-counted u [] = refl
+places-counted u (die ∷ rest) = by_kind (kind_of die.tag) refl (places-counted u rest)
+  where
+    f : Die → ℕ
+    f d = cond (is_scope d) 1 0
+
+    by_kind : (kind : Option ScopeKind) → kind_of die.tag ≡ kind → count_by is_scope rest ≡ length (places_in u rest) → count_by is_scope (die ∷ rest) ≡ length (place_of u die rest kind (places_in u rest))
+    by_kind kind is later = by_count kind (sum_by-cons f die rest ∙ ap (λ (k : Option ScopeKind). cond (is_some k) 1 0 + sum_by f rest) is)
+      where
+        by_count : (kind : Option ScopeKind) → count_by is_scope (die ∷ rest) ≡ cond (is_some kind) 1 0 + sum_by f rest → count_by is_scope (die ∷ rest) ≡ length (place_of u die rest kind (places_in u rest))
+        by_count None counted = omega (arith, counted, later)
+        by_count (Some k) counted = omega (arith, counted, later)
+
+-- a place of a unit is in the unit, and no more scopes are below it than the unit has
 pub record IsPlaceIn (u : CompilationUnit) (many : ℕ) (p : Place) : Type 0 where
   pub unit_is : p.member.unit ≡ u
   pub few : p.inside ≤ many
 
-taken-few : (p : Die → Bool) (rest : List Die) → length (take_while p rest) ≤ length rest
-taken-few p rest = omega (arith, length-take (prefix_len p rest) rest)
+taken-few : (p : Die → Bool) (k : ℕ) (rest : List Die) → count_by p (take k rest) ≤ count_by p rest
+taken-few p k rest =
+    let f : Die → ℕ = λ d. cond (p d) 1 0 in
+    let whole : sum_by f (take k rest) + sum_by f (drop k rest) ≡ sum_by f rest = sym (sum_by-append f (take k rest) (drop k rest)) ∙ ap (λ (ds : List Die). sum_by f ds) (take-append-drop k rest) in
+    omega (arith, whole)
 
-below-few : (die : Die) (rest : List Die) → count_by is_scope (below die rest) ≤ length rest
-below-few die rest =
-    let counted = count_by-le-length is_scope (below die rest) in
-    let taken = taken-few (λ d. nat_lt die.depth d.depth) rest in
-    omega (arith, counted, taken)
+below-few : (u : CompilationUnit) (die : Die) (rest : List Die) → count_by is_scope (below die rest) ≤ length (places_in u rest)
+below-few u die rest =
+    let taken = taken-few is_scope (prefix_len (λ d. nat_lt die.depth d.depth) rest) rest in
+    omega (arith, taken, places-counted u rest)
 
-places-each : (u : CompilationUnit) (dies : List Die) (many : ℕ) → length dies ≤ many → (i : ℕ) (d : Place) → i < length (places_in u dies) → IsPlaceIn u many (get_or (places_in u dies) i d)
+places-each : (u : CompilationUnit) (dies : List Die) (many : ℕ) → length (places_in u dies) ≤ many → (i : ℕ) (d : Place) → i < length (places_in u dies) → IsPlaceIn u many (get_or (places_in u dies) i d)
 places-each u [] many fits i d within = absurd (omega (arith, within))
-places-each u (die ∷ rest) many fits i d within = by_kind (kind_of die.tag) i within (λ (j : ℕ) (inside : j < length (places_in u rest)). places-each u rest many (omega (arith, fits)) j d inside)
+places-each u (die ∷ rest) many fits i d within = by_kind (kind_of die.tag) i fits within (λ (j : ℕ) (fit : length (places_in u rest) ≤ many) (inside : j < length (places_in u rest)). places-each u rest many fit j d inside)
   where
-    by_kind : (kind : Option ScopeKind) (i : ℕ) → i < length (place_of u die rest kind (places_in u rest)) → ((j : ℕ) → j < length (places_in u rest) → IsPlaceIn u many (get_or (places_in u rest) j d)) →
-        IsPlaceIn u many (get_or (place_of u die rest kind (places_in u rest)) i d)
-    by_kind None i within later = later i within
-    by_kind (Some kind) zero within later = record { unit_is = refl; few = omega (arith, below-few die rest, fits) }
-    by_kind (Some kind) (suc i) within later = later i (omega (arith, within))
+    by_kind : (kind : Option ScopeKind) (i : ℕ) → length (place_of u die rest kind (places_in u rest)) ≤ many → i < length (place_of u die rest kind (places_in u rest)) →
+        ((j : ℕ) → length (places_in u rest) ≤ many → j < length (places_in u rest) → IsPlaceIn u many (get_or (places_in u rest) j d)) → IsPlaceIn u many (get_or (place_of u die rest kind (places_in u rest)) i d)
+    by_kind None i fit within later = later i fit within
+    by_kind (Some kind) zero fit within later = record { unit_is = refl; few = omega (arith, below-few u die rest, fit) }
+    by_kind (Some kind) (suc i) fit within later = later i (omega (arith, fit)) (omega (arith, within))
 
 -- the place of the scope at an index of what is kept of a unit
 pub record PlaceAt (u : CompilationUnit) (i : ℕ) (entry : ScopeEntry) (inside : ℕ) : Type 0 where
@@ -62,7 +79,6 @@ pub record PlaceAt (u : CompilationUnit) (i : ℕ) (entry : ScopeEntry) (inside 
   pub entry_is : entry ≡ scope_entry place.member.die place.kind
   pub inside_is : inside ≡ place.inside
   pub unit_is : place.member.unit ≡ u
-  pub few : place.inside ≤ length u.dies
 
 abbrev no_place : CompilationUnit → Place
 no_place u = record { member = record { unit = u; die = record { offset = 0; depth = 0; tag = 0; attributes = [] } }; kind = Subprogram; inside = 0 }
@@ -74,14 +90,13 @@ place_at u entries insides i d x entry inside entries_kept insides_kept within e
     let p : Place = get_or places i (no_place u) in
     let sizes : length entries ≡ length places = ap (λ (es : List ScopeEntry). length es) (entries_kept ∙ entries_are u u.dies) ∙ length-map places entry_in in
     let there : i < length places = omega (arith, sizes, within) in
-    let each = places-each u u.dies (length u.dies) (omega arith) i (no_place u) there in
+    let each = places-each u u.dies (length places) (omega arith) i (no_place u) there in
     record {
       place = p;
       rest = rw (add-one, drop-cons places i (no_place u) there) refl;
       entry_is = entry_here ∙ (ap (λ (es : List ScopeEntry). get_or es i x) (entries_kept ∙ entries_are u u.dies) ∙ get_or-map entry_in places i (no_place u) x there);
       inside_is = inside_here ∙ (ap (λ (ns : List ℕ). get_or ns i d) (insides_kept ∙ insides_are u u.dies) ∙ get_or-map (λ q. q.inside) places i (no_place u) d there);
       unit_is = each.unit_is;
-      few = each.few;
     }
 
 -- as many counts as scopes
@@ -91,12 +106,12 @@ as_many u entries insides entries_kept insides_kept =
     ap (λ (ns : List ℕ). length ns) (insides_kept ∙ insides_are u u.dies)
     ∙ (length-map places (λ q. q.inside) ∙ (sym (length-map places entry_in) ∙ ap (λ (es : List ScopeEntry). length es) (sym (entries_kept ∙ entries_are u u.dies))))
 
--- a count is no more than the unit has entries
-pub few_there : (u : CompilationUnit) (insides : List ℕ) (i d inside : ℕ) → insides ≡ insides_in u.dies → i < length insides → inside ≡ get_or insides i d → inside ≤ length u.dies
+-- a count is no more than the unit has scopes
+pub few_there : (u : CompilationUnit) (insides : List ℕ) (i d inside : ℕ) → insides ≡ insides_in u.dies → i < length insides → inside ≡ get_or insides i d → inside ≤ length insides
 few_there u insides i d inside insides_kept within inside_here =
     let places = places_in u u.dies in
     let sizes : length insides ≡ length places = ap (λ (ns : List ℕ). length ns) (insides_kept ∙ insides_are u u.dies) ∙ length-map places (λ q. q.inside) in
     let there : i < length places = omega (arith, sizes, within) in
-    let each = places-each u u.dies (length u.dies) (omega arith) i (no_place u) there in
+    let each = places-each u u.dies (length places) (omega arith) i (no_place u) there in
     let is : inside ≡ (get_or places i (no_place u)).inside = inside_here ∙ (ap (λ (ns : List ℕ). get_or ns i d) (insides_kept ∙ insides_are u u.dies) ∙ get_or-map (λ q. q.inside) places i (no_place u) d there) in
-    omega (arith, is, each.few)
+    omega (arith, is, each.few, sizes)

@@ -18,8 +18,8 @@ use Rattle.dwarf_entries.specs.declared.paths.UnitEntry.{UnitEntry}
 use Rattle.dwarf_entries.specs.Entries.{Die}
 use Rattle.dwarf_entries.specs.Bases.{CompilationUnit}
 use Rattle.dwarf_entries.specs.Names.{Member, members_of, member_at, target_of, ref_addr}
-use Rattle.dwarf_entries.specs.Kept.{KeptUnit, named_entry, kept_unit, kept_of, RiseWithin, AreInOrder}
-use Rattle.dwarf_entries.specs.Members.{AreKept, Finds, member_in}
+use Rattle.dwarf_entries.specs.Kept.{named_entry, RiseWithin, AreInOrder}
+use Rattle.dwarf_entries.specs.Members.{NamedUnit, named_unit, named_of, AreKept, Finds, member_in}
 
 -- ---- lists of numbers that do not fall
 
@@ -149,20 +149,17 @@ in_unit from (u ∷ units) offset (suc n) h parts =
 
 -- ---- what is kept of the units
 
-map-twice : {X Y Z : Type 0} (f : Y → Z) (g : X → Y) (xs : List X) → map f (map g xs) ≡ map (λ x. f (g x)) xs
+pub map-twice : {X Y Z : Type 0} (f : Y → Z) (g : X → Y) (xs : List X) → map f (map g xs) ≡ map (λ x. f (g x)) xs
 map-twice f g [] = refl
 map-twice f g (x ∷ xs) = ap (λ (zs : List _). f (g x) ∷ zs) (map-twice f g xs)
 
-abbrev unit_kept : CompilationUnit → KeptUnit
-unit_kept u = kept_unit u.header u.dies
-
 pub kept-length : (kept : List UnitEntries) (units : List CompilationUnit) → AreKept kept units → length kept ≡ length units
-kept-length kept units are = sym (length-map kept kept_of) ∙ (ap length are.same ∙ length-map units unit_kept)
+kept-length kept units are = sym (length-map kept named_of) ∙ (ap length are.same ∙ length-map units named_unit)
 
 ends-kept : (kept : List UnitEntries) (units : List CompilationUnit) → AreKept kept units → map (λ (k : UnitEntries). k.header.end) kept ≡ map (λ (u : CompilationUnit). u.header.end) units
 ends-kept kept units are =
-    let end : KeptUnit → ℕ = λ r. r.header.end in
-    sym (map-twice end kept_of kept) ∙ (ap (λ (rs : List KeptUnit). map end rs) are.same ∙ map-twice end unit_kept units)
+    let end : NamedUnit → ℕ = λ r. r.header.end in
+    sym (map-twice end named_of kept) ∙ (ap (λ (rs : List NamedUnit). map end rs) are.same ∙ map-twice end named_unit units)
 
 pub ends-rise : (kept : List UnitEntries) (units : List CompilationUnit) → AreKept kept units → IsNonDecreasingBy (λ (k : UnitEntries). k.header.end) kept
 ends-rise kept units are = rising-by (λ (k : UnitEntries). k.header.end) kept 0 (subst (λ (xs : List ℕ). RiseFrom 0 xs) (sym (ends-kept kept units are)) (units-rise 0 units are.order))
@@ -183,24 +180,24 @@ pub record UnitAt (units : List CompilationUnit) (n : ℕ) (k : UnitEntries) : T
 pub unit-at : (kept : List UnitEntries) (units : List CompilationUnit) → AreKept kept units → (n : ℕ) (k : UnitEntries) → n < length kept → ((d : UnitEntries) → k ≡ get_or kept n d) → UnitAt units n k
 unit-at kept units are n k lt is = by_found (slice_get units n) refl
   where
-    same : Some (kept_of k) ≡ option_map unit_kept (slice_get units n)
+    same : Some (named_of k) ≡ option_map named_unit (slice_get units n)
     same =
         let here : slice_get kept n ≡ Some k = slice_get-get_or kept n k lt ∙ ap (λ (x : UnitEntries). Some x) (sym (is k)) in
-        ap (λ (o : Option UnitEntries). option_map kept_of o) (sym here)
-        ∙ (sym (slice_get-map kept_of kept n) ∙ (ap (λ (rs : List KeptUnit). slice_get rs n) are.same ∙ slice_get-map unit_kept units n))
+        ap (λ (o : Option UnitEntries). option_map named_of o) (sym here)
+        ∙ (sym (slice_get-map named_of kept n) ∙ (ap (λ (rs : List NamedUnit). slice_get rs n) are.same ∙ slice_get-map named_unit units n))
 
     by_found : (found : Option CompilationUnit) → slice_get units n ≡ found → UnitAt units n k
-    by_found None h = absurd (never (same ∙ ap (λ (o : Option CompilationUnit). option_map unit_kept o) h))
+    by_found None h = absurd (never (same ∙ ap (λ (o : Option CompilationUnit). option_map named_unit o) h))
       where
-        never : Some (kept_of k) ≡ None → ⊥
+        never : Some (named_of k) ≡ None → ⊥
         never e = cc
     by_found (Some u) h =
-        let e : kept_of k ≡ unit_kept u = same_Some (kept_of k) (unit_kept u) (same ∙ ap (λ (o : Option CompilationUnit). option_map unit_kept o) h) in
+        let e : named_of k ≡ named_unit u = same_Some (named_of k) (named_unit u) (same ∙ ap (λ (o : Option CompilationUnit). option_map named_unit o) h) in
         record {
           unit = u;
           is = h;
-          header = ap (λ (r : KeptUnit). r.header) e;
-          entries = ap (λ (r : KeptUnit). r.entries) e;
+          header = ap (λ (r : NamedUnit). r.header) e;
+          entries = ap (λ (r : NamedUnit). r.entries) e;
           within = within-at 0 units are.order n u h;
         }
 

@@ -17,6 +17,7 @@ use Rattle.dwarf_bytes.specs.Bind.{◌>>=◌}
 use Rattle.dwarf_bytes.specs.Refusals.{Fails}
 use Rattle.dwarf_entries.specs.declared.bases.Bases.{Bases}
 use Rattle.dwarf_entries.specs.declared.paths.EntryNames.{EntryNames}
+use Rattle.dwarf_entries.specs.declared.kept.Keeping.{Keeping}
 use Rattle.dwarf_entries.specs.declared.kept.UnitEntries.{UnitEntries}
 use Rattle.dwarf_entries.specs.declared.kept.ScopeEntry.{ScopeEntry}
 use Rattle.dwarf_entries.specs.Sections.{Sections}
@@ -25,13 +26,14 @@ use Rattle.dwarf_entries.specs.Entries.{Die}
 use Rattle.dwarf_entries.specs.Bases.{CompilationUnit}
 use Rattle.dwarf_entries.specs.Names.{names_of}
 use Rattle.dwarf_entries.specs.Ranges.{Covering, kind_of, base_after, ranges_in, entry_at, listed_at, list_place, list_at, pair_range, covers_by, covers_of}
-use Rattle.dwarf_entries.specs.Scopes.{Judged, Place, items_limit, scope_at, stmt_list_of, number_of}
+use Rattle.dwarf_entries.specs.Scopes.{Judged, Place, items_limit, stmt_list_of, number_of}
 use Rattle.dwarf_entries.specs.Kept.{KeptUnit, named_entry, root_in, kept_unit, kept_of}
 use Rattle.dwarf_entries.specs.Members.{IsMember}
-use Rattle.dwarf_entries.specs.Passes.{AreUnits, stmt_list_in, IsPlace}
+use Rattle.dwarf_entries.specs.Passes.{AreUnits, stmt_list_in, IsPlace, only_units, only_member, scope_with}
+use Rattle.dwarf_entries.proofs.OnlyLaws.{is_member}
 
-abbrev pub kept_in : CompilationUnit → KeptUnit
-kept_in u = kept_unit u.header u.dies
+abbrev pub kept_in : Keeping → CompilationUnit → KeptUnit
+kept_in keeping u = kept_unit keeping u.header u.dies
 
 -- the scope at a place, of its names and of what it covers
 abbrev pub scope_of_place : List Judged → Place → EntryNames → Covering → Judged
@@ -54,32 +56,32 @@ scope_of_place before p names covering =
     }
 
 -- the names first, then the ranges
-by_names : (s : Sections) (us : List CompilationUnit) (before : List Judged) (p : Place) →
-    scope_at s us before p ≡ (names_of s us p.member >>= λ names. covers_of (items_limit - sum_by (λ s. s.items) before) s p.member.unit.bases p.member.die >>= λ covering. Ok (scope_of_place before p names covering))
-by_names s us before p = refl
+by_names : (keeping : Keeping) (s : Sections) (us : List CompilationUnit) (before : List Judged) (p : Place) →
+    scope_with keeping s us before p ≡ (names_of s (only_units keeping us) (only_member keeping p.member) >>= λ names. covers_of (items_limit - sum_by (λ s. s.items) before) s p.member.unit.bases p.member.die >>= λ covering. Ok (scope_of_place before p names covering))
+by_names keeping s us before p = refl
 
 -- a name that is not read, or a path that does not end
-pub names_fault : (s : Sections) (units : List UnitEntries) (bases : List Bases) (us : List CompilationUnit) (before : List Judged) (p : Place) (unit inside number room : ℕ) (entry : ScopeEntry) (cause : Cause) → IsPlace us unit entry inside number room before p →
-    (IsMember us unit entry.entry p.member → Err cause ≡ names_of s us p.member) → Fails cause (scope_at s us before p)
-names_fault s units bases us before p unit inside number room entry cause place read =
+pub names_fault : (keeping : Keeping) (s : Sections) (units : List UnitEntries) (bases : List Bases) (us : List CompilationUnit) (before : List Judged) (p : Place) (unit inside number room : ℕ) (entry : ScopeEntry) (cause : Cause) → IsPlace us unit entry inside number room before p →
+    (IsMember (only_units keeping us) unit entry.entry (only_member keeping p.member) → Err cause ≡ names_of s (only_units keeping us) (only_member keeping p.member)) → Fails cause (scope_with keeping s us before p)
+names_fault keeping s units bases us before p unit inside number room entry cause place read =
     let named : entry.entry ≡ named_entry p.member.die = ap (λ (e : ScopeEntry). e.entry) place.entry_is in
     inr
-    (by_names s us before p ∙ ap (λ (r : Result EntryNames Cause). r >>= λ names. covers_of (items_limit - sum_by (λ s. s.items) before) s p.member.unit.bases p.member.die >>= λ covering. Ok (scope_of_place before p names covering)) (sym (read (record { unit_is = place.unit_is; entry_is = named }))))
+    (by_names keeping s us before p ∙ ap (λ (r : Result EntryNames Cause). r >>= λ names. covers_of (items_limit - sum_by (λ s. s.items) before) s p.member.unit.bases p.member.die >>= λ covering. Ok (scope_of_place before p names covering)) (sym (read (is_member keeping us unit entry.entry p.member place.unit_is named))))
 
 -- the root and the bases of the place's unit
-pub record UnitAt (units : List UnitEntries) (bases : List Bases) (unit : ℕ) (u : CompilationUnit) : Type 0 where
-  pub entries_are : (d : UnitEntries) → kept_of (get_or units unit d) ≡ kept_in u
+pub record UnitAt (keeping : Keeping) (units : List UnitEntries) (bases : List Bases) (unit : ℕ) (u : CompilationUnit) : Type 0 where
+  pub entries_are : (d : UnitEntries) → kept_of (get_or units unit d) ≡ kept_in keeping u
   pub bases_are : (d : Bases) → get_or bases unit d ≡ u.bases
 
-pub unit_at : (units : List UnitEntries) (bases : List Bases) (us : List CompilationUnit) (unit : ℕ) (u : CompilationUnit) → AreUnits units bases us → slice_get us unit ≡ Some u → UnitAt units bases unit u
-unit_at units bases us unit u kept found =
+pub unit_at : (keeping : Keeping) (units : List UnitEntries) (bases : List Bases) (us : List CompilationUnit) (unit : ℕ) (u : CompilationUnit) → AreUnits keeping units bases us → slice_get us unit ≡ Some u → UnitAt keeping units bases unit u
+unit_at keeping units bases us unit u kept found =
     let here : (d : CompilationUnit) → get_or us unit d ≡ u = λ d. get_or_from_slice_get us unit u d found in
     let within : unit < length us = inside ((slice_get_cases us unit).1) in
-    let sizes : length units ≡ length us = sym (length-map units kept_of) ∙ (ap (λ (ks : List KeptUnit). length ks) kept.kept.same ∙ length-map us kept_in) in
+    let sizes : length units ≡ length us = sym (length-map units kept_of) ∙ (ap (λ (ks : List KeptUnit). length ks) kept.same ∙ length-map us (kept_in keeping)) in
     let based : length bases ≡ length us = ap (λ (bs : List Bases). length bs) kept.bases_are ∙ length-map us (λ u. u.bases) in
     record {
       entries_are = λ d.
-          sym (get_or-map kept_of units unit d (kept_of d) (omega (arith, sizes, within))) ∙ (ap (λ (ks : List KeptUnit). get_or ks unit (kept_of d)) kept.kept.same ∙ (get_or-map kept_in us unit u (kept_of d) within ∙ ap kept_in (here u)));
+          sym (get_or-map kept_of units unit d (kept_of d) (omega (arith, sizes, within))) ∙ (ap (λ (ks : List KeptUnit). get_or ks unit (kept_of d)) kept.same ∙ (get_or-map (kept_in keeping) us unit u (kept_of d) within ∙ ap (kept_in keeping) (here u)));
       bases_are = λ d. ap (λ (bs : List Bases). get_or bs unit d) kept.bases_are ∙ (get_or-map (λ u. u.bases) us unit u d within ∙ ap (λ (v : CompilationUnit). v.bases) (here u));
     }
   where
@@ -98,35 +100,35 @@ stmt_list_is (root ∷ dies) = refl
 abbrev covers_there : Sections → List Judged → Place → Result Covering Cause
 covers_there s before p = covers_of (items_limit - sum_by (λ s. s.items) before) s p.member.unit.bases p.member.die
 
-covers_is : (s : Sections) (units : List UnitEntries) (bases : List Bases) (us : List CompilationUnit) (before : List Judged) (p : Place) (unit inside number room : ℕ) (entry : ScopeEntry) (d : Bases) → AreUnits units bases us → IsPlace us unit entry inside number room before p →
+covers_is : (keeping : Keeping) (s : Sections) (units : List UnitEntries) (bases : List Bases) (us : List CompilationUnit) (before : List Judged) (p : Place) (unit inside number room : ℕ) (entry : ScopeEntry) (d : Bases) → AreUnits keeping units bases us → IsPlace us unit entry inside number room before p →
     covers_there s before p ≡ covers_by room s (get_or bases unit d) entry.low_pc entry.high_pc entry.ranges
 unfolding covers_of
-covers_is s units bases us before p unit inside number room entry d kept place =
-    let here = (unit_at units bases us unit p.member.unit kept place.unit_is).bases_are d in
+covers_is keeping s units bases us before p unit inside number room entry d kept place =
+    let here = (unit_at keeping units bases us unit p.member.unit kept place.unit_is).bases_are d in
     rw (here, place.entry_is, place.room_is) refl
 
 -- the scope behind its names
-after_names : (s : Sections) (us : List CompilationUnit) (before : List Judged) (p : Place) (names : EntryNames) → Ok names ≡ names_of s us p.member →
-    scope_at s us before p ≡ (covers_there s before p >>= λ covering. Ok (scope_of_place before p names covering))
-after_names s us before p names read =
-    by_names s us before p ∙ ap (λ (r : Result EntryNames Cause). r >>= λ names. covers_there s before p >>= λ covering. Ok (scope_of_place before p names covering)) (sym read)
+after_names : (keeping : Keeping) (s : Sections) (us : List CompilationUnit) (before : List Judged) (p : Place) (names : EntryNames) → Ok names ≡ names_of s (only_units keeping us) (only_member keeping p.member) →
+    scope_with keeping s us before p ≡ (covers_there s before p >>= λ covering. Ok (scope_of_place before p names covering))
+after_names keeping s us before p names read =
+    by_names keeping s us before p ∙ ap (λ (r : Result EntryNames Cause). r >>= λ names. covers_there s before p >>= λ covering. Ok (scope_of_place before p names covering)) (sym read)
 
 -- ranges that are not read
-pub covers_fault : (s : Sections) (units : List UnitEntries) (bases : List Bases) (us : List CompilationUnit) (before : List Judged) (p : Place) (unit inside number room : ℕ) (entry : ScopeEntry) (names : EntryNames) (cause : Cause) (d : Bases) →
-    AreUnits units bases us → IsPlace us unit entry inside number room before p → (IsMember us unit entry.entry p.member → Ok names ≡ names_of s us p.member) →
-    Fails cause (covers_by room s (get_or bases unit d) entry.low_pc entry.high_pc entry.ranges) → Fails cause (scope_at s us before p)
-covers_fault s units bases us before p unit inside number room entry names cause d kept place read (inl memory) = inl memory
-covers_fault s units bases us before p unit inside number room entry names cause d kept place read (inr bad) =
+pub covers_fault : (keeping : Keeping) (s : Sections) (units : List UnitEntries) (bases : List Bases) (us : List CompilationUnit) (before : List Judged) (p : Place) (unit inside number room : ℕ) (entry : ScopeEntry) (names : EntryNames) (cause : Cause) (d : Bases) →
+    AreUnits keeping units bases us → IsPlace us unit entry inside number room before p → (IsMember (only_units keeping us) unit entry.entry (only_member keeping p.member) → Ok names ≡ names_of s (only_units keeping us) (only_member keeping p.member)) →
+    Fails cause (covers_by room s (get_or bases unit d) entry.low_pc entry.high_pc entry.ranges) → Fails cause (scope_with keeping s us before p)
+covers_fault keeping s units bases us before p unit inside number room entry names cause d kept place read (inl memory) = inl memory
+covers_fault keeping s units bases us before p unit inside number room entry names cause d kept place read (inr bad) =
     let named : entry.entry ≡ named_entry p.member.die = ap (λ (e : ScopeEntry). e.entry) place.entry_is in
     inr
-    (after_names s us before p names (read (record { unit_is = place.unit_is; entry_is = named }))
-    ∙ ap (λ (r : Result Covering Cause). r >>= λ covering. Ok (scope_of_place before p names covering)) (covers_is s units bases us before p unit inside number room entry d kept place ∙ bad))
+    (after_names keeping s us before p names (read (is_member keeping us unit entry.entry p.member place.unit_is named))
+    ∙ ap (λ (r : Result Covering Cause). r >>= λ covering. Ok (scope_of_place before p names covering)) (covers_is keeping s units bases us before p unit inside number room entry d kept place ∙ bad))
 
 -- the scope of the program
-pub scope_is : (s : Sections) (units : List UnitEntries) (bases : List Bases) (us : List CompilationUnit) (before : List Judged) (p : Place) (unit inside number room : ℕ) (entry : ScopeEntry) (names : EntryNames) (covering : Covering) (stmt_list : Option ℕ) (d : Bases) (e : UnitEntries) →
-    AreUnits units bases us → IsPlace us unit entry inside number room before p → (IsMember us unit entry.entry p.member → Ok names ≡ names_of s us p.member) →
+pub scope_is : (keeping : Keeping) (s : Sections) (units : List UnitEntries) (bases : List Bases) (us : List CompilationUnit) (before : List Judged) (p : Place) (unit inside number room : ℕ) (entry : ScopeEntry) (names : EntryNames) (covering : Covering) (stmt_list : Option ℕ) (d : Bases) (e : UnitEntries) →
+    AreUnits keeping units bases us → IsPlace us unit entry inside number room before p → (IsMember (only_units keeping us) unit entry.entry (only_member keeping p.member) → Ok names ≡ names_of s (only_units keeping us) (only_member keeping p.member)) →
     covers_by room s (get_or bases unit d) entry.low_pc entry.high_pc entry.ranges ≡ Ok covering → stmt_list ≡ stmt_list_in (get_or units unit e).root →
-    scope_at s us before p ≡ Ok (record {
+    scope_with keeping s us before p ≡ Ok (record {
       items = covering.items;
       scope = record {
         kind = entry.kind;
@@ -141,13 +143,13 @@ pub scope_is : (s : Sections) (units : List UnitEntries) (bases : List Bases) (u
         call_line = entry.call_line;
       };
     })
-scope_is s units bases us before p unit inside number room entry names covering stmt_list d e kept place read covers_read stmt_is =
+scope_is keeping s units bases us before p unit inside number room entry names covering stmt_list d e kept place read covers_read stmt_is =
     let named : entry.entry ≡ named_entry p.member.die = ap (λ (e : ScopeEntry). e.entry) place.entry_is in
-    let root : (get_or units unit e).root ≡ root_in p.member.unit.dies = ap (λ (k : KeptUnit). k.root) ((unit_at units bases us unit p.member.unit kept place.unit_is).entries_are e) in
+    let root : (get_or units unit e).root ≡ root_in p.member.unit.dies = ap (λ (k : KeptUnit). k.root) ((unit_at keeping units bases us unit p.member.unit kept place.unit_is).entries_are e) in
     let stmt : stmt_list ≡ stmt_list_of p.member.unit.dies = stmt_is ∙ (ap stmt_list_in root ∙ stmt_list_is p.member.unit.dies) in
     let ending : number + inside + 1 ≡ length before + 1 + p.inside = omega (arith, place.number_is, place.inside_is) in
-    after_names s us before p names (read (record { unit_is = place.unit_is; entry_is = named }))
-    ∙ (ap (λ (r : Result Covering Cause). r >>= λ covering. Ok (scope_of_place before p names covering)) (covers_is s units bases us before p unit inside number room entry d kept place ∙ covers_read)
+    after_names keeping s us before p names (read (is_member keeping us unit entry.entry p.member place.unit_is named))
+    ∙ (ap (λ (r : Result Covering Cause). r >>= λ covering. Ok (scope_of_place before p names covering)) (covers_is keeping s units bases us before p unit inside number room entry d kept place ∙ covers_read)
     ∙ rw (place.entry_is, stmt, ending, place.number_is) refl)
 
 -- ---- the items that were read for a scope are no more than there was room for

@@ -1,11 +1,13 @@
 -- What is kept of the entries of a unit, for the contracts of the passes.
-use Rattle.std.specs.Prelude.{ℕ, suc, ◌≤◌, List, [], ◌∷◌, Option, Some, None, Result, Ok, option_map, map, count_by, sum_by, length}
+use Rattle.std.specs.Prelude.{ℕ, suc, ◌≤◌, List, [], ◌∷◌, Bool, true, Option, Some, None, is_some, Result, Ok, option_map, map, filter, count_by, sum_by, length}
 use Rattle.std.specs.List.{filter_map}
 use Rattle.dwarf_bytes.specs.Bind.{◌>>=◌}
 use Rattle.dwarf_bytes.specs.Items.{At}
 use Rattle.dwarf_forms.specs.Declarations.{Declaration}
 use Rattle.dwarf_entries.specs.declared.scope.ScopeKind.{ScopeKind}
 use Rattle.dwarf_entries.specs.declared.units.UnitHeader.{UnitHeader}
+use Rattle.dwarf_entries.specs.declared.kept.Keeping.{Keeping}
+use Rattle.dwarf_entries.specs.declared.kept.Keeping.TheVariants as keepings
 use Rattle.dwarf_entries.specs.declared.kept.NamedEntry.{NamedEntry}
 use Rattle.dwarf_entries.specs.declared.kept.ScopeEntry.{ScopeEntry}
 use Rattle.dwarf_entries.specs.declared.kept.RootEntry.{RootEntry}
@@ -15,6 +17,11 @@ use Rattle.dwarf_entries.specs.Entries.{Die, attribute, below, entries_of}
 use Rattle.dwarf_entries.specs.Bases.{CompilationUnit}
 use Rattle.dwarf_entries.specs.Names.{next_of}
 use Rattle.dwarf_entries.specs.Scopes.{kind_of, is_scope, number_of}
+
+-- whether the names and the reference of an entry with the tag are kept
+abbrev pub keeps : Keeping → ℕ → Bool
+keeps keepings.Scopes tag = is_some (kind_of tag)
+keeps keepings.Every tag = true
 
 abbrev pub named_entry : Die → NamedEntry
 named_entry die = record { offset = die.offset; next = next_of die; name = attribute die DW_AT_name; linkage_name = attribute die DW_AT_linkage_name }
@@ -68,18 +75,18 @@ pub record KeptUnit : Type 0 where
   pub insides : List ℕ
 
 -- .. of these entries
-abbrev pub kept_unit : UnitHeader → List Die → KeptUnit
-kept_unit header dies = record {
+abbrev pub kept_unit : Keeping → UnitHeader → List Die → KeptUnit
+kept_unit keeping header dies = record {
   header = header;
   root = root_in dies;
-  entries = map named_entry dies;
+  entries = map named_entry (filter (λ die. keeps keeping die.tag) dies);
   scopes = filter_map scope_entry_of dies;
   insides = insides_in dies;
 }
 
 -- .. of those that stand in it, by the declarations of its table
-abbrev pub kept_entries : List ℕ → UnitHeader → List Declaration → Result KeptUnit At
-kept_entries info header table = entries_of info header table >>= λ dies. Ok (kept_unit header dies)
+abbrev pub kept_entries : Keeping → List ℕ → UnitHeader → List Declaration → Result KeptUnit At
+kept_entries keeping info header table = entries_of info header table >>= λ dies. Ok (kept_unit keeping header dies)
 
 -- .. by the program
 abbrev pub kept_of : UnitEntries → KeptUnit

@@ -3,6 +3,7 @@ use Rattle.std.specs.Prelude.{◌≡◌, ℕ, List, Option, Some, None, Result, 
 use Rattle.std.specs.Option.{option_and_then}
 use Rattle.dwarf_bytes.specs.declared.fault.Cause.{Cause}
 use Rattle.dwarf_bytes.specs.declared.fault.Cause.TheVariants as causes
+use Rattle.dwarf_entries.specs.declared.units.UnitHeader.{UnitHeader}
 use Rattle.dwarf_entries.specs.declared.kept.NamedEntry.{NamedEntry}
 use Rattle.dwarf_entries.specs.declared.kept.UnitEntries.{UnitEntries}
 use Rattle.dwarf_entries.specs.declared.paths.UnitEntry.{UnitEntry}
@@ -14,11 +15,23 @@ use Rattle.dwarf_entries.specs.declared.bases.Bases.{Bases}
 use Rattle.dwarf_entries.specs.Attributes.{DW_AT_name, DW_AT_linkage_name}
 use Rattle.dwarf_entries.specs.Bases.{CompilationUnit}
 use Rattle.dwarf_entries.specs.Names.{Member, members_of, member_at, first_on}
-use Rattle.dwarf_entries.specs.Kept.{named_entry, kept_unit, kept_of, AreInOrder}
+use Rattle.dwarf_entries.specs.Kept.{named_entry, AreInOrder}
 
--- what is kept are these units, which stand in order
+-- the entries of a unit, as far as names go
+pub record NamedUnit : Type 0 where
+  pub header : UnitHeader
+  pub entries : List NamedEntry
+
+abbrev pub named_unit : CompilationUnit → NamedUnit
+named_unit unit = record { header = unit.header; entries = map named_entry unit.dies }
+
+-- .. by the program
+abbrev pub named_of : UnitEntries → NamedUnit
+named_of unit = record { header = unit.header; entries = unit.entries.items }
+
+-- what is kept are the entries of these units, which stand in order
 pub record AreKept (kept : List UnitEntries) (units : List CompilationUnit) : Type 0 where
-  pub same : map kept_of kept ≡ map (λ unit. kept_unit unit.header unit.dies) units
+  pub same : map named_of kept ≡ map named_unit units
   pub order : AreInOrder 0 units
 
 -- the entry, in the unit of the number, is what is kept of the member

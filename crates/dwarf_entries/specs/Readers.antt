@@ -1,5 +1,5 @@
 -- What the steps of the pass over entries leave, for the contracts of its parts.
-use Rattle.std.specs.Prelude.{◌≡◌, ℕ, ◌+◌, ◌-◌, List, [], ◌∷◌, ◌++◌, Bool, Option, Some, None, is_some, option_to_list, Result, Ok, Err, if◌then◌else◌, nat_lt, nat_le, map, take, take_while, count_by}
+use Rattle.std.specs.Prelude.{◌≡◌, ℕ, ◌+◌, ◌-◌, List, [], ◌∷◌, ◌++◌, Bool, Option, Some, None, is_some, option_to_list, Result, Ok, Err, if◌then◌else◌, nat_lt, nat_le, map, filter, take, take_while, count_by}
 use Rattle.std.specs.List.{filter_map}
 use Rattle.dwarf_bytes.specs.declared.fault.Cause.{Cause}
 use Rattle.dwarf_bytes.specs.declared.format.Format.{Format}
@@ -13,12 +13,13 @@ use Rattle.dwarf_entries.specs.declared.entries.EntryHead.{EntryHead}
 use Rattle.dwarf_entries.specs.declared.entries.Level.{Level}
 use Rattle.dwarf_entries.specs.declared.entries.Boundary.{Boundary}
 use Rattle.dwarf_entries.specs.declared.entries.Walk.{Walk}
+use Rattle.dwarf_entries.specs.declared.kept.Keeping.{Keeping}
 use Rattle.dwarf_entries.specs.declared.kept.NamedEntry.{NamedEntry}
 use Rattle.dwarf_entries.specs.declared.kept.ScopeEntry.{ScopeEntry}
 use Rattle.dwarf_entries.specs.declared.kept.RootEntry.{RootEntry}
 use Rattle.dwarf_entries.specs.declared.units.UnitHeader.{UnitHeader}
 use Rattle.dwarf_entries.specs.Entries.{Node, Entry, Null, Standing, Die, die_of, depth_after, node_behind, node_at}
-use Rattle.dwarf_entries.specs.Kept.{named_entry, scope_entry_of, root_entry, root_in}
+use Rattle.dwarf_entries.specs.Kept.{keeps, named_entry, scope_entry_of, root_entry, root_in}
 use Rattle.dwarf_entries.specs.Names.{or_else}
 use Rattle.dwarf_entries.specs.Scopes.{is_scope}
 
@@ -55,23 +56,23 @@ pub record Walked : Type 0 where
   pub levels : List Level
 
 -- .. of these
-abbrev pub walked_by : ℕ → List Die → Walked
-walked_by depth dies = record { depth = depth; root = root_in dies; entries = map named_entry dies; scopes = filter_map scope_entry_of dies; levels = map level_of dies }
+abbrev pub walked_by : Keeping → ℕ → List Die → Walked
+walked_by keeping depth dies = record { depth = depth; root = root_in dies; entries = map named_entry (filter (λ die. keeps keeping die.tag) dies); scopes = filter_map scope_entry_of dies; levels = map level_of dies }
 
 -- .. behind what stands before
-abbrev pub walked : List Standing → Walked
-walked before = walked_by (depth_after before) (filter_map die_of before)
+abbrev pub walked : Keeping → List Standing → Walked
+walked keeping before = walked_by keeping (depth_after before) (filter_map die_of before)
 
 -- .. by the program
 abbrev pub walked_of : Walk → Walked
 walked_of w = record { depth = w.depth; root = w.root; entries = w.entries.items; scopes = w.scopes.items; levels = w.levels.items }
 
 -- one more entry
-abbrev pub after_die : Walked → Die → Walked
-after_die w die = record {
+abbrev pub after_die : Keeping → Walked → Die → Walked
+after_die keeping w die = record {
   depth = w.depth;
   root = or_else w.root (Some (root_entry die));
-  entries = w.entries ++ named_entry die ∷ [];
+  entries = if keeps keeping die.tag then w.entries ++ named_entry die ∷ [] else w.entries;
   scopes = w.scopes ++ option_to_list (scope_entry_of die);
   levels = w.levels ++ level_of die ∷ [];
 }
@@ -81,20 +82,20 @@ abbrev pub depth_behind : Bool → ℕ → ℕ
 depth_behind children depth = if children then depth + 1 else depth
 
 -- one more entry or null, at a place
-abbrev pub after_node : Walked → ℕ → Node → Walked
-after_node w at (Entry tag children attributes) =
-    record (after_die w (record { offset = at; depth = w.depth; tag = tag; attributes = attributes })) { depth = depth_behind children w.depth }
-after_node w at Null = record w { depth = w.depth - 1 }
+abbrev pub after_node : Keeping → Walked → ℕ → Node → Walked
+after_node keeping w at (Entry tag children attributes) =
+    record (after_die keeping w (record { offset = at; depth = w.depth; tag = tag; attributes = attributes })) { depth = depth_behind children w.depth }
+after_node keeping w at Null = record w { depth = w.depth - 1 }
 
 -- what a step makes of the entries so far, and the place after it
-abbrev pub walked_at : Format → List Declaration → Walked → List ℕ → ℕ → Result (Walked × ℕ) Cause
-walked_at format table w unit at = node_behind format table w.depth (is_some w.root) unit at >>= λ node. Ok (after_node w at node.0, node.1)
+abbrev pub walked_at : Keeping → Format → List Declaration → Walked → List ℕ → ℕ → Result (Walked × ℕ) Cause
+walked_at keeping format table w unit at = node_behind format table w.depth (is_some w.root) unit at >>= λ node. Ok (after_node keeping w at node.0, node.1)
 
 -- all entries of a unit, and the depth behind them
-unfoldable pub walk_of : List ℕ → UnitHeader → List Declaration → Result Walked At
-walk_of info header table = do
+unfoldable pub walk_of : Keeping → List ℕ → UnitHeader → List Declaration → Result Walked At
+walk_of keeping info header table = do
   all ← items_from header.end (node_at header.format table (take header.end info)) [] header.first
-  Ok (walked all.0)
+  Ok (walked keeping all.0)
 
 -- how many scopes are below each scope, by the levels of all entries
 abbrev pub insides_of : List Level → List ℕ

@@ -6,6 +6,7 @@ use Rattle.dwarf_bytes.specs.declared.fault.LoadFault.{LoadFault}
 use Rattle.dwarf_bytes.specs.Bind.{◌>>=◌}
 use Rattle.dwarf_bytes.specs.Items.{told_at, each}
 use Rattle.dwarf_bytes.specs.Refusals.{in_section}
+use Rattle.dwarf_entries.specs.declared.paths.EntryNames.{EntryNames}
 use Rattle.dwarf_entries.specs.declared.scope.Text.{Text}
 use Rattle.dwarf_entries.specs.declared.scope.Range.{Range}
 use Rattle.dwarf_entries.specs.declared.scope.Root.{Root}
@@ -94,9 +95,9 @@ pub record Judged : Type 0 where
   pub items : ℕ
 
 -- the scope at a place, behind the scopes before it: its names, then its ranges
-abbrev pub scope_at : Sections → List CompilationUnit → List Judged → Place → Result Judged Cause
-scope_at sections units before p = do
-  names ← names_of sections units p.member
+abbrev pub scope_by : Result EntryNames Cause → Sections → List Judged → Place → Result Judged Cause
+scope_by found sections before p = do
+  names ← found
   let die = p.member.die
   covering ← covers_of (items_limit - sum_by (λ s. s.items) before) sections p.member.unit.bases die
   Ok (record {
@@ -114,6 +115,9 @@ scope_at sections units before p = do
       call_line = number_of DW_AT_call_line die;
     };
   })
+
+abbrev pub scope_at : Sections → List CompilationUnit → List Judged → Place → Result Judged Cause
+scope_at sections units before p = scope_by (names_of sections units p.member) sections before p
 
 -- the root of a unit in front of the roots behind it, if the unit has one
 abbrev pub root_of : ℕ → ℕ → List Die → List Root → List Root

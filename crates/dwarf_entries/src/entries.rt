@@ -8,7 +8,7 @@ ghost use Rattle.dwarf_entries.specs.Kept.{kept_of, kept_entries};
 ghost use Rattle.dwarf_entries.specs.Readers.{Fills, ReadsNode, walked_of, after_die, walked_at, walk_of, insides_of, above, scopes_from};
 
 use crate::attributes::{Attribute, attributes};
-use crate::kept::{NamedEntry, RootEntry, ScopeEntry, UnitEntries, kind_of};
+use crate::kept::{Keeping, NamedEntry, RootEntry, ScopeEntry, UnitEntries, kind_of};
 use crate::units::UnitHeader;
 use dwarf_bytes::{Cause, Cursor, Format, LoadFault, Section};
 use dwarf_forms::Abbrevs;
@@ -56,10 +56,11 @@ pub(crate) fn entries(
     info: &[u8],
     header: UnitHeader,
     table: &Abbrevs,
+    keeping: Keeping,
 ) -> Result<UnitEntries, LoadFault>
-    ensures { Decodes (λ unit. kept_of unit) result (in_section sections.DebugInfo (kept_entries info.now header table.now)) }
+    ensures { Decodes (λ unit. kept_of unit) result (in_section sections.DebugInfo (kept_entries keeping info.now header table.now)) }
 {
-    let walk = walk_unit(alloc, info, header, table)?;
+    let walk = walk_unit(alloc, info, header, table, keeping)?;
     if walk.depth > 0 {
         let at = header.start as u64;
         return Err(LoadFault::told(Section::DebugInfo, Cause::TreeOpen, at));
@@ -94,17 +95,18 @@ impl Walk {
         &mut self,
         format: Format,
         table: &Abbrevs,
+        keeping: Keeping,
         cursor: &mut Cursor,
         found: &mut Vec<Attribute>,
     ) -> Result<(), Cause>
-        ensures { Fills result (walked_of self.new) (walked_at format table.now (walked_of self.old)) cursor.old cursor.new }
+        ensures { Fills result (walked_of self.new) (walked_at keeping format table.now (walked_of self.old)) cursor.old cursor.new }
     {
         let offset = cursor.place();
         let rooted = self.root.is_some();
         match node(format, table, self.depth, rooted, cursor, found)? {
             None => self.depth = self.depth.saturating_sub(1),
             Some(head) => {
-                self.keep(offset, head.tag, found)?;
+                self.keep(keeping, offset, head.tag, found)?;
                 if head.children {
                     self.depth += 1;
                 }
@@ -114,8 +116,14 @@ impl Walk {
     }
 
     /// Keeps what is wanted of the entry at an offset.
-    fn keep(&mut self, offset: usize, tag: u64, attributes: &[Attribute]) -> Result<(), AllocError>
-        ensures { OnOk result (walked_of self.new ≡ after_die (walked_of self.old) (record { offset = offset; depth = self.old.depth; tag = tag; attributes = attributes.now })) }
+    fn keep(
+        &mut self,
+        keeping: Keeping,
+        offset: usize,
+        tag: u64,
+        attributes: &[Attribute],
+    ) -> Result<(), AllocError>
+        ensures { OnOk result (walked_of self.new ≡ after_die keeping (walked_of self.old) (record { offset = offset; depth = self.old.depth; tag = tag; attributes = attributes.now })) }
     {
         let entry = NamedEntry::of(offset, attributes);
         let kind = kind_of(tag);
@@ -129,7 +137,9 @@ impl Walk {
             depth: self.depth,
             is_scope: kind.is_some(),
         })?;
-        self.entries.push(entry)?;
+        if keeping.keeps(tag) {
+            self.entries.push(entry)?;
+        }
         Ok(())
     }
 }
@@ -140,8 +150,9 @@ fn walk_unit(
     info: &[u8],
     header: UnitHeader,
     table: &Abbrevs,
+    keeping: Keeping,
 ) -> Result<Walk, LoadFault>
-    ensures { Decodes (λ walk. walked_of walk) result (in_section sections.DebugInfo (walk_of info.now header table.now)) }
+    ensures { Decodes (λ walk. walked_of walk) result (in_section sections.DebugInfo (walk_of keeping info.now header table.now)) }
 {
     let unit = up_to(info, header.end);
     let mut cursor = Cursor::new(unit);
@@ -152,7 +163,7 @@ fn walk_unit(
     }
     while cursor.place() < unit.len() {
         let at = cursor.place();
-        if let Err(cause) = walk.step(header.format, table, &mut cursor, &mut found) {
+        if let Err(cause) = walk.step(header.format, table, keeping, &mut cursor, &mut found) {
             return Err(LoadFault::told(Section::DebugInfo, cause, at as u64));
         }
     }

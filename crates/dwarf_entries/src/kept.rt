@@ -2,7 +2,7 @@
 
 ghost use Rattle.std.specs.Prelude.{◌≡◌};
 ghost use Rattle.dwarf_entries.specs.Entries.{value_of};
-ghost use Rattle.dwarf_entries.specs.Kept.{named_entry, scope_entry, root_entry};
+ghost use Rattle.dwarf_entries.specs.Kept.{keeps, named_entry, scope_entry, root_entry};
 ghost use Rattle.dwarf_entries.specs.Names.{followed, next_of};
 ghost use Rattle.dwarf_entries.specs.Readers.{die_with};
 ghost use Rattle.dwarf_entries.specs.Scopes.{kind_of, number_of};
@@ -21,6 +21,13 @@ const REF_SIG8: u64 = 0x20;
 const DW_TAG_INLINED_SUBROUTINE: u64 = 0x1d;
 
 const DW_TAG_SUBPROGRAM: u64 = 0x2e;
+
+/// Which entries a walk keeps by their names and references.
+#[derive(Clone, Copy, Debug, PartialEq, Eq)]
+pub(crate) enum Keeping {
+    Scopes,
+    Every,
+}
 
 /// An entry, as far as names go: its offset in the section, the reference to its next entry, and its
 /// names.
@@ -55,8 +62,8 @@ pub(crate) struct RootEntry {
     pub(crate) low_pc: Option<AttributeValue>,
 }
 
-/// What is kept of a unit: its root, all its entries, its scopes, and how many scopes are below each
-/// of these.
+/// What is kept of a unit: its root, the entries to which a reference may lead, its scopes, and how
+/// many scopes are below each of these.
 #[derive(Debug, Drop)]
 pub(crate) struct UnitEntries {
     pub(crate) header: UnitHeader,
@@ -64,6 +71,18 @@ pub(crate) struct UnitEntries {
     pub(crate) entries: Vec<NamedEntry>,
     pub(crate) scopes: Vec<ScopeEntry>,
     pub(crate) insides: Vec<usize>,
+}
+
+impl Keeping {
+    /// Whether an entry with the tag is kept.
+    pub(crate) fn keeps(self, tag: u64) -> bool
+        ensures { result ≡ keeps self tag }
+    {
+        match self {
+            Keeping::Scopes => kind_of(tag).is_some(),
+            Keeping::Every => true,
+        }
+    }
 }
 
 impl NamedEntry {

@@ -4,6 +4,7 @@ ghost use Rattle.std.specs.Prelude.{◌≡◌, List, Ok, map};
 ghost use Rattle.dwarf_bytes.specs.declared.fault.Section.TheVariants as names;
 ghost use Rattle.dwarf_bytes.specs.Refusals.{Decodes, in_section};
 ghost use Rattle.dwarf_forms.specs.Declarations.{Declaration};
+ghost use Rattle.dwarf_entries.specs.declared.kept.Keeping.{Keeping};
 ghost use Rattle.dwarf_entries.specs.declared.units.UnitHeader.{UnitHeader};
 ghost use Rattle.dwarf_entries.specs.Entries.{Die};
 ghost use Rattle.dwarf_entries.specs.Sections.{sections_of};
@@ -13,7 +14,7 @@ ghost use Rattle.dwarf_entries.specs.Passes.{all_kept, kept_units, bases_in, all
 
 use crate::bases::Bases;
 use crate::entries::entries;
-use crate::kept::UnitEntries;
+use crate::kept::{Keeping, UnitEntries};
 use crate::roots::bases;
 use crate::sections::Sections;
 use crate::tables::DECLARATIONS_LIMIT;
@@ -27,9 +28,10 @@ pub(crate) fn all_entries(
     alloc: Global,
     sections: &Sections<'_>,
     headers: &[UnitHeader],
+    keeping: Keeping,
 ) -> Result<Vec<UnitEntries>, LoadFault>
     ensures { (tables : List (List Declaration)) → tables_of sections.now.debug_abbrev.now headers.now ≡ Ok tables
-        → Decodes (λ units. map kept_of units.items) result (in_section names.DebugInfo (all_kept sections.now.debug_info.now headers.now tables)) }
+        → Decodes (λ units. map kept_of units.items) result (in_section names.DebugInfo (all_kept keeping sections.now.debug_info.now headers.now tables)) }
 {
     let mut left = DECLARATIONS_LIMIT;
     let mut units = Vec::new(alloc);
@@ -40,7 +42,7 @@ pub(crate) fn all_entries(
             header.abbreviations,
             &mut left,
         )?;
-        let unit = entries(alloc, sections.debug_info, *header, &table)?;
+        let unit = entries(alloc, sections.debug_info, *header, &table, keeping)?;
         if units.push(unit).is_err() {
             return Err(LoadFault::told(Section::DebugInfo, Cause::Memory, 0));
         }
@@ -54,7 +56,7 @@ pub(crate) fn all_bases(
     sections: &Sections<'_>,
     units: &[UnitEntries],
 ) -> Result<Vec<Bases>, LoadFault>
-    ensures { (headers : List UnitHeader) (dies : List (List Die)) → map kept_of units.now ≡ kept_units headers dies
+    ensures { (keeping : Keeping) (headers : List UnitHeader) (dies : List (List Die)) → map kept_of units.now ≡ kept_units keeping headers dies
         → Decodes (λ all. all.items) result (in_section names.DebugInfo (all_bases (sections_of sections.now) headers dies)) }
 {
     let mut all = Vec::new(alloc);

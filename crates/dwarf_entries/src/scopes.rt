@@ -1,22 +1,24 @@
 //! The subprograms and inlined subroutines of an object (DWARF 5, 3.3).
 
 ghost use Rattle.std.specs.Prelude.{◌≡◌, ◌<◌, ◌^◌, map, List};
+ghost use Rattle.dwarf_entries.specs.declared.kept.Keeping.{Keeping};
 ghost use Rattle.dwarf_bytes.specs.Refusals.{Decodes};
 ghost use Rattle.dwarf_entries.specs.Sections.{sections_of};
 ghost use Rattle.dwarf_entries.specs.Bases.{CompilationUnit};
 ghost use Rattle.dwarf_entries.specs.Scopes.{scope_of, roots_from, tree_of};
 ghost use Rattle.dwarf_entries.specs.Steps.{Builds};
-ghost use Rattle.dwarf_entries.specs.Passes.{kept_unit_of};
+ghost use Rattle.dwarf_entries.specs.Texts.{AreEnds};
+ghost use Rattle.dwarf_entries.specs.Passes.{kept_unit_of, TablesRead, tree_with};
 ghost use Rattle.dwarf_entries.specs.Kept.{kept_of, scope_count};
 
-use crate::kept::UnitEntries;
+use crate::kept::{Keeping, UnitEntries};
 use crate::passes::{all_bases, all_entries};
 use crate::scope::{Root, Scope};
 use crate::sections::Sections;
 use crate::tables::judge_tables;
 use crate::text_ends::TextEnds;
 use crate::unit_scopes::Units;
-use crate::units::units;
+use crate::units::{UnitHeader, units};
 use dwarf_bytes::{Cause, LoadFault, Section};
 use std::alloc::Global;
 use std::marker::Model;
@@ -45,14 +47,39 @@ impl Scopes {
     {
         let headers = units(alloc, sections.debug_info)?;
         judge_tables(alloc, sections.debug_abbrev, headers.as_slice())?;
-        let kept = all_entries(alloc, sections, headers.as_slice())?;
-        let bases = all_bases(alloc, sections, kept.as_slice())?;
         let Ok(ends) = TextEnds::of(alloc, sections) else {
             return Err(LoadFault::told(Section::DebugInfo, Cause::Memory, 0));
         };
+        match Scopes::read_with(alloc, sections, &ends, headers.as_slice(), Keeping::Scopes) {
+            Ok(scopes) => Ok(scopes),
+            Err(fault) => match fault.cause {
+                Cause::Reference => {
+                    Scopes::read_with(alloc, sections, &ends, headers.as_slice(), Keeping::Every)
+                }
+                _ => Err(fault),
+            },
+        }
+    }
+
+    /// Reads entries, roots and scopes, where the tables are good. A reference is sought among the
+    /// entries that `keeping` keeps.
+    fn read_with(
+        alloc: Global,
+        sections: &Sections<'_>,
+        ends: &TextEnds,
+        headers: &[UnitHeader],
+        keeping: Keeping,
+    ) -> Result<Scopes, LoadFault>
+        requires ends { AreEnds (sections_of sections.now) ends.now }
+        requires tables { TablesRead (sections_of sections.now) headers.now }
+        ensures { (read : TablesRead (sections_of sections.now) headers.now)
+            → Decodes (λ scopes. scopes) result (tree_with keeping (sections_of sections.now) headers.now read.tables) }
+    {
+        let kept = all_entries(alloc, sections, headers, keeping)?;
+        let bases = all_bases(alloc, sections, kept.as_slice())?;
         let units = Units {
             sections,
-            ends: &ends,
+            ends,
             units: kept.as_slice(),
             bases: bases.as_slice(),
         };
@@ -79,7 +106,7 @@ impl Scopes {
 /// The roots of the units, each with the numbers of its unit's scopes.
 fn roots(alloc: Global, units: &[UnitEntries]) -> Result<Vec<Root>, LoadFault>
     requires { scope_count units.now < 2 ^ 63 }
-    ensures { (us : List CompilationUnit) → map kept_of units.now ≡ map kept_unit_of us → Builds (λ roots. roots.items) result (roots_from 0 us) }
+    ensures { (keeping : Keeping) (us : List CompilationUnit) → map kept_of units.now ≡ map (kept_unit_of keeping) us → Builds (λ roots. roots.items) result (roots_from 0 us) }
 {
     let mut roots = Vec::new(alloc);
     let mut first = 0;

@@ -5,10 +5,11 @@ ghost use Rattle.dwarf_bytes.specs.declared.fault.Section.TheVariants as names;
 ghost use Rattle.dwarf_bytes.specs.Refusals.{Decodes, in_section};
 ghost use Rattle.dwarf_entries.specs.Sections.{sections_of};
 ghost use Rattle.dwarf_entries.specs.Texts.{AreEnds};
+ghost use Rattle.dwarf_entries.specs.declared.kept.Keeping.{Keeping};
 ghost use Rattle.dwarf_entries.specs.Bases.{CompilationUnit};
-ghost use Rattle.dwarf_entries.specs.Scopes.{Judged, Place, places_in, scope_of, scope_at};
+ghost use Rattle.dwarf_entries.specs.Scopes.{Judged, Place, places_in, scope_of};
 ghost use Rattle.dwarf_entries.specs.Steps.{Gives};
-ghost use Rattle.dwarf_entries.specs.Passes.{AreUnits, stmt_list_in, judged_of, IsPlace, AreJudged, AddsScopes, all_scopes};
+ghost use Rattle.dwarf_entries.specs.Passes.{AreUnits, stmt_list_in, judged_of, IsPlace, AreJudged, AddsScopes, scope_with, all_scopes};
 
 use crate::bases::Bases;
 use crate::kept::{ScopeEntry, UnitEntries};
@@ -46,8 +47,8 @@ impl<'a> Units<'a> {
         requires ends { AreEnds (sections_of self.sections.now) self.ends.now }
         requires unit { (unit < length self.units.now) × (unit < length self.bases.now) }
         requires end { number + inside + 1 < 2 ^ 64 }
-        ensures judged { (us : List CompilationUnit) (before : List Judged) (p : Place) → AreUnits self.entry.units.now self.entry.bases.now us → IsPlace us unit entry.now inside number room before p
-            → Gives (λ found. judged_of found) result (scope_at (sections_of self.entry.sections.now) us before p) }
+        ensures judged { (keeping : Keeping) (us : List CompilationUnit) (before : List Judged) (p : Place) → AreUnits keeping self.entry.units.now self.entry.bases.now us → IsPlace us unit entry.now inside number room before p
+            → Gives (λ found. judged_of found) result (scope_with keeping (sections_of self.entry.sections.now) us before p) }
         ensures room { IfOk result (λ found. found.1 ≤ room) }
     {
         let names = names(
@@ -93,9 +94,9 @@ impl<'a> Units<'a> {
     ) -> Result<(), LoadFault>
         requires ends { AreEnds (sections_of self.sections.now) self.ends.now }
         requires unit { unit < length self.units.now }
-        requires known { (us : List CompilationUnit) × AreUnits self.units.now self.bases.now us }
-        ensures { (us : List CompilationUnit) (u : CompilationUnit) (before : List Judged) → AreUnits self.entry.units.now self.entry.bases.now us → slice_get us unit ≡ Some u → AreJudged before scopes.old.items left.old
-            → AddsScopes result (sections_of self.entry.sections.now) us (places_in u u.dies) before scopes.new.items left.new }
+        requires known { (keeping : Keeping) × (us : List CompilationUnit) × AreUnits keeping self.units.now self.bases.now us }
+        ensures { (keeping : Keeping) (us : List CompilationUnit) (u : CompilationUnit) (before : List Judged) → AreUnits keeping self.entry.units.now self.entry.bases.now us → slice_get us unit ≡ Some u → AreJudged before scopes.old.items left.old
+            → AddsScopes keeping result (sections_of self.entry.sections.now) us (places_in u u.dies) before scopes.new.items left.new }
     {
         let kept = &self.units[unit];
         let first = scopes.len();
@@ -121,9 +122,9 @@ impl<'a> Units<'a> {
     /// The scopes of all units.
     pub(crate) fn scopes(self, alloc: Global) -> Result<Vec<Scope>, LoadFault>
         requires ends { AreEnds (sections_of self.sections.now) self.ends.now }
-        requires known { (us : List CompilationUnit) × AreUnits self.units.now self.bases.now us }
-        ensures { (us : List CompilationUnit) → AreUnits self.entry.units.now self.entry.bases.now us
-            → Decodes (λ scopes. map scope_of scopes.items) result (in_section names.DebugInfo (all_scopes (sections_of self.entry.sections.now) us)) }
+        requires known { (keeping : Keeping) × (us : List CompilationUnit) × AreUnits keeping self.units.now self.bases.now us }
+        ensures { (keeping : Keeping) (us : List CompilationUnit) → AreUnits keeping self.entry.units.now self.entry.bases.now us
+            → Decodes (λ scopes. map scope_of scopes.items) result (in_section names.DebugInfo (all_scopes keeping (sections_of self.entry.sections.now) us)) }
     {
         let mut left = ITEMS_LIMIT;
         let mut scopes = Vec::new(alloc);

@@ -1,4 +1,5 @@
 use Rattle.std.proofs.Common.{◌≡◌, List, map}
+use Rattle.dwarf_entries.specs.declared.kept.Keeping.{Keeping}
 use Rattle.dwarf_entries.specs.declared.units.UnitHeader.{UnitHeader}
 use Rattle.dwarf_entries.specs.Entries.{Die}
 use Rattle.dwarf_entries.specs.Sections.{sections_of}
@@ -9,5 +10,5 @@ use Rattle.dwarf_entries.proofs.passes.all_bases.Given as goal
 
 abbrev pub invariant-loop-unit : goal.invariant-loop-unit
 invariant-loop-unit l =
-    (headers : List UnitHeader) (dies : List (List Die)) → map kept_of l.units ≡ kept_units headers dies
+    (keeping : Keeping) (headers : List UnitHeader) (dies : List (List Die)) → map kept_of l.units ≡ kept_units keeping headers dies
     → BasesSoFar (sections_of l.sections) headers dies l.unit-index l.all.items

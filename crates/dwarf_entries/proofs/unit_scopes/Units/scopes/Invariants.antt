@@ -1,5 +1,6 @@
 use Rattle.std.proofs.Common.{List}
 use Rattle.dwarf_entries.specs.Sections.{sections_of}
+use Rattle.dwarf_entries.specs.declared.kept.Keeping.{Keeping}
 use Rattle.dwarf_entries.specs.Bases.{CompilationUnit}
 use Rattle.dwarf_entries.specs.Passes.{AreUnits}
 use Rattle.dwarf_entries.proofs.ScopesPass.{ScopesSoFar}
@@ -7,4 +8,4 @@ use Rattle.dwarf_entries.proofs.unit_scopes.Units.scopes.Given as goal
 
 abbrev pub invariant-loop-unit : goal.invariant-loop-unit
 invariant-loop-unit l =
-    (us : List CompilationUnit) → AreUnits l.self.units.now l.self.bases.now us → ScopesSoFar (sections_of l.self.sections.now) us l.unit l.scopes.items l.left
+    (keeping : Keeping) (us : List CompilationUnit) → AreUnits keeping l.self.units.now l.self.bases.now us → ScopesSoFar keeping (sections_of l.self.sections.now) us l.unit l.scopes.items l.left

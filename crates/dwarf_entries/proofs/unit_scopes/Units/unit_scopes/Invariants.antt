@@ -1,6 +1,7 @@
 use Rattle.std.proofs.Common.{◌≡◌, ◌+◌, List, Some, length}
 use Rattle.std.specs.Prelude.{slice_get}
 use Rattle.dwarf_entries.specs.Sections.{sections_of}
+use Rattle.dwarf_entries.specs.declared.kept.Keeping.{Keeping}
 use Rattle.dwarf_entries.specs.Bases.{CompilationUnit}
 use Rattle.dwarf_entries.specs.Scopes.{Judged}
 use Rattle.dwarf_entries.specs.Passes.{AreUnits, AreJudged}
@@ -10,6 +11,6 @@ use Rattle.dwarf_entries.proofs.unit_scopes.Units.unit_scopes.Given as goal
 abbrev pub invariant-loop-entry : goal.invariant-loop-entry
 invariant-loop-entry l = record {
   counted : length l.scopes.items ≡ l.first + l.entry-index;
-  so_far : (us : List CompilationUnit) (u : CompilationUnit) (before : List Judged) → AreUnits l.self.units.now l.self.bases.now us → slice_get us l.unit ≡ Some u → AreJudged before l.fn.scopes.items l.fn.left
-      → JudgedSoFar (sections_of l.self.sections.now) us u before l.entry-index l.scopes.items l.left;
+  so_far : (keeping : Keeping) (us : List CompilationUnit) (u : CompilationUnit) (before : List Judged) → AreUnits keeping l.self.units.now l.self.bases.now us → slice_get us l.unit ≡ Some u → AreJudged before l.fn.scopes.items l.fn.left
+      → JudgedSoFar keeping (sections_of l.self.sections.now) us u before l.entry-index l.scopes.items l.left;
 }
