@@ -1,6 +1,6 @@
 -- The turns of the loop over the tables of the units.
-use Rattle.std.proofs.Common.{◌≡◌, ℕ, ◌+◌, ◌-◌, ◌<◌, ◌≤◌, ◌⊎◌, inl, inr, List, [], ◌∷◌, ◌++◌, length, drop, get_or, refl, ap, sym, ◌∙◌, arith, drop-cons, add-one}
-use Rattle.std.specs.Prelude.{Result, Ok, Err, sum_by}
+use Rattle.std.proofs.Common.{◌≡◌, ℕ, ◌+◌, ◌-◌, ◌<◌, ◌≤◌, ◌⊎◌, inl, inr, List, [], ◌∷◌, ◌++◌, length, drop, get_or, refl, ap, sym, ◌∙◌, subst, arith, drop-cons, add-one}
+use Rattle.std.specs.Prelude.{Option, Some, None, Result, Ok, Err, sum_by}
 use Rattle.std.proofs.lemmas.List.Sums.{sum_by-append}
 use Rattle.std.proofs.lemmas.List.{drop_all}
 use Rattle.dwarf_bytes.specs.declared.fault.Section.{Section}
@@ -10,8 +10,12 @@ use Rattle.dwarf_bytes.specs.Items.{At, each_from, each}
 use Rattle.dwarf_bytes.specs.Refusals.{memory_fault, in_section}
 use Rattle.dwarf_bytes.proofs.EachLaws.{made_front, each-next, each-fault, each-end}
 use Rattle.dwarf_forms.specs.Declarations.{Declaration}
-use Rattle.dwarf_forms.specs.Tables.{declarations_of}
+use Rattle.dwarf_bytes.specs.Bind.{◌>>=◌}
+use Rattle.dwarf_forms.specs.Tables.{table_at, declarations_of}
+use Rattle.dwarf_forms.proofs.TableSpelling.{table_spelled, table_read}
 use Rattle.dwarf_entries.specs.declared.units.UnitHeader.{UnitHeader}
+use Rattle.dwarf_entries.specs.declared.tables.UnitTable.{UnitTable}
+use Rattle.dwarf_entries.specs.Steps.{IsLast}
 use Rattle.dwarf_entries.specs.Units.{declarations_limit, tables_of}
 
 abbrev pub table_for : List ℕ → List (List Declaration) → UnitHeader → Result (List Declaration) At
@@ -76,3 +80,34 @@ judged_fault section units index left d fault so_far within (inr bad) = by_read 
         let all : each_from (table_for section) [] units ≡ Err e =
         sym so_far.read ∙ (ap (λ (us : List UnitHeader). made_front so_far.made (each_from (table_for section) so_far.made us)) rest ∙ each-fault (table_for section) so_far.made (get_or units index d) (drop (index + 1) units) e here) in
         inr (rw all (ap (λ (f : LoadFault). Err f) (same_err {X = List Declaration} (record { section = sections.DebugAbbrev; cause = e.0; at = e.1 }) fault h)))
+
+-- a table that was read is read again where there is room for it
+pub table_again : (room other : ℕ) (section : List ℕ) (offset : ℕ) (table : List Declaration) → declarations_of room section offset ≡ Ok table → length table ≤ other → declarations_of other section offset ≡ Ok table
+unfolding table_at
+table_again room other section offset table read few = by_read (table_at room section offset) refl read
+  where
+    same_table : {x y : List Declaration} → (let f : List Declaration → Result (List Declaration) At = λ z. Ok z in f x ≡ f y) → x ≡ y
+    same_table h = cc
+
+    by_read : (r : Result (List Declaration × ℕ) At) → table_at room section offset ≡ r → (r >>= λ found. Ok found.0) ≡ Ok table → declarations_of other section offset ≡ Ok table
+    by_read (Err e) is h = cc
+    by_read (Ok found) is h =
+        let spelled = table_spelled room section offset found.0 found.1 is in
+        let same = same_table h in
+        let again : table_at other section offset ≡ Ok (found.0, found.1) = table_read other section offset found.0 found.1 spelled.0 spelled.1 (subst (λ (t : List Declaration). length t ≤ other) (sym same) few) in
+        ap (λ (r : Result (List Declaration × ℕ) At). r >>= λ found. (let f : List Declaration → Result (List Declaration) At = λ z. Ok z in f found.0)) again ∙ ap (λ (t : List Declaration). Ok t) same
+
+-- the last table stands where another unit names it
+pub last_again : (section : List ℕ) (last : Option UnitTable) (table : UnitTable) (offset left : ℕ) → IsLast section last → last ≡ Some table → table.offset ≡ offset → length table.declarations ≤ left →
+    in_section sections.DebugAbbrev (declarations_of left section offset) ≡ Ok table.declarations
+last_again section None table offset left known is same few = cc
+last_again section (Some last) table offset left known is same few =
+    let kept = subst (λ (t : UnitTable). (room : ℕ) × (declarations_of room section t.offset ≡ Ok t.declarations)) (same_some is) known in
+    ap (λ (r : Result (List Declaration) At). in_section sections.DebugAbbrev r) (table_again kept.0 left section offset table.declarations (subst (λ (k : ℕ). declarations_of kept.0 section k ≡ Ok table.declarations) same kept.1) few)
+  where
+    same_some : {x y : UnitTable} → (let f : UnitTable → Option UnitTable = λ t. Some t in f x ≡ f y) → x ≡ y
+    same_some h = cc
+
+-- a table that was read is the last one
+pub last_read : (section : List ℕ) (room : ℕ) (table : UnitTable) (offset : ℕ) → table.offset ≡ offset → in_section sections.DebugAbbrev (declarations_of room section offset) ≡ Ok table.declarations → IsLast section (Some table)
+last_read section room table offset same read = (room, in_section_ok sections.DebugAbbrev (declarations_of room section table.offset) table.declarations (subst (λ (k : ℕ). in_section sections.DebugAbbrev (declarations_of room section k) ≡ Ok table.declarations) (sym same) read))

@@ -17,13 +17,13 @@ use crate::entries::entries;
 use crate::kept::{Keeping, UnitEntries};
 use crate::roots::bases;
 use crate::sections::Sections;
-use crate::tables::DECLARATIONS_LIMIT;
+use crate::tables::{DECLARATIONS_LIMIT, unit_table};
 use crate::units::UnitHeader;
 use dwarf_bytes::{Cause, LoadFault, Section};
-use dwarf_forms::Abbrevs;
 use std::alloc::Global;
 
-/// The entries of all units, whose tables are good. A table is read again, and dropped with its unit.
+/// The entries of all units, whose tables are good. A table is read again, and dropped before the next
+/// one is read.
 pub(crate) fn all_entries(
     alloc: Global,
     sections: &Sections<'_>,
@@ -34,18 +34,16 @@ pub(crate) fn all_entries(
         → Decodes (λ units. map kept_of units.items) result (in_section names.DebugInfo (all_kept keeping sections.now.debug_info.now headers.now tables)) }
 {
     let mut left = DECLARATIONS_LIMIT;
+    let mut last = None;
     let mut units = Vec::new(alloc);
     for header in headers {
-        let table = Abbrevs::read(
-            alloc,
-            sections.debug_abbrev,
-            header.abbreviations,
-            &mut left,
-        )?;
-        let unit = entries(alloc, sections.debug_info, *header, &table, keeping)?;
+        let section = sections.debug_abbrev;
+        let table = unit_table(alloc, section, header.abbreviations, &mut left, last)?;
+        let unit = entries(alloc, sections.debug_info, *header, &table.declarations, keeping)?;
         if units.push(unit).is_err() {
             return Err(LoadFault::told(Section::DebugInfo, Cause::Memory, 0));
         }
+        last = Some(table);
     }
     Ok(units)
 }

@@ -12,6 +12,7 @@ use crate::bases::{Bases, address_of, item_at};
 use crate::scope::Range;
 use crate::sections::Sections;
 use dwarf_bytes::{Cause, Cursor, TableKind};
+use smallvec::SmallVec;
 use std::alloc::Global;
 
 /// DW_FORM_rnglistx; the other form of a range list is its offset.
@@ -58,7 +59,7 @@ pub(crate) enum RangeListEntry {
 /// The ranges of a scope, and how many items they were read from.
 #[derive(Debug, Drop)]
 pub(crate) struct Covering {
-    pub(crate) ranges: Vec<Range>,
+    pub(crate) ranges: SmallVec<Range, 1>,
     pub(crate) items: u64,
 }
 
@@ -82,7 +83,7 @@ pub(crate) fn covers(
             paired(alloc, room, sections, bases, low_pc, high_pc)
         }
         (_, None, None) => Ok(Covering {
-            ranges: Vec::new(alloc),
+            ranges: SmallVec::new(alloc),
             items: 0,
         }),
     }
@@ -133,7 +134,7 @@ pub(crate) fn list(
 {
     let mut cursor = Cursor::new(sections.debug_rnglists);
     cursor.seek(place as usize)?;
-    let mut ranges = Vec::new(alloc);
+    let mut ranges = SmallVec::new(alloc);
     let mut items = 0;
     let mut base = bases.low_pc;
     while let Some(entry) = next_entry(room, items, base, sections, bases, &mut cursor)? {
@@ -284,7 +285,7 @@ fn paired(
     if room == 0 {
         return Err(Cause::TooMany);
     }
-    let mut ranges = Vec::new(alloc);
+    let mut ranges = SmallVec::new(alloc);
     if let Some(range) = pair(sections, bases, low_pc, high_pc)? {
         ranges.push(range)?;
     }

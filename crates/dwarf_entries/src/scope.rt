@@ -1,6 +1,7 @@
 //! What is told of subprograms and inlined subroutines (DWARF 5, 3.3).
 
 use dwarf_bytes::{Section, Span};
+use smallvec::SmallVec;
 
 /// A text, by where it stands in one of the sections, without its NUL.
 #[derive(Clone, Copy, Debug, PartialEq, Eq)]
@@ -10,7 +11,7 @@ pub struct Text {
 }
 
 /// The addresses from one up to another, which is not of them.
-#[derive(Clone, Copy, Debug, PartialEq, Eq)]
+#[derive(Clone, Copy, Debug, Default, PartialEq, Eq)]
 pub struct Range {
     pub from: u64,
     pub to: u64,
@@ -33,8 +34,8 @@ pub struct Scope {
     pub offset: usize,
     pub number: usize,
     pub end: usize,
-    /// What it covers, without the ranges that cover nothing.
-    pub ranges: Vec<Range>,
+    /// What it covers, without the ranges that cover nothing. Most scopes have one.
+    pub ranges: SmallVec<Range, 1>,
     pub name: Option<Text>,
     pub linkage_name: Option<Text>,
     /// Where the line program of its unit starts in `.debug_line`.

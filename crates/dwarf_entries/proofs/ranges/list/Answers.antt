@@ -46,7 +46,7 @@ loop-ranges-smaller-in-Continue-branch-4 c =
 pub loop-ranges-preserved-in-Continue-branch-4 : goal.loop-ranges-preserved-in-Continue-branch-4
 loop-ranges-preserved-in-Continue-branch-4 c =
     let turn = list_item c.args.room (sections_of c.args.sections.now) c.args.bases.now c.args.sections.now.debug_rnglists.now c.args.place c.loop-ranges.items c.loop-ranges.base c.loop-ranges.ranges.items c.loop-ranges.cursor c.next_entry.new.cursor _ (Covers (Some c.in-Some-covered.range)) c.loop-ranges.invariant.bytes c.loop-ranges.invariant.listed c.in_ok-entry.ensures.reads (c.in-Some.is ∙ ap (λ (e : RangeListEntry). Some e) (c.in-Covers.is ∙ ap (λ (r : Option Range). Covers r) c.in-Some-covered.is)) in
-    record { bytes = turn.bytes_stay; listed = rw c.in_ok-push-in-Covers.ensures.items turn.listed }
+    record { bytes = turn.bytes_stay; listed = rw c.in_ok-push-in-Covers.ensures.ok turn.listed }
 
 pub loop-ranges-smaller : goal.loop-ranges-smaller
 loop-ranges-smaller c =

@@ -1,16 +1,19 @@
+use Rattle.std.proofs.Common.{}
 use Rattle.std.proofs.lemmas.Result.{err_from_is_err_and}
-use Rattle.dwarf_entries.proofs.TableLaws.{judged_next, judged_end, judged_fault}
+use Rattle.dwarf_entries.proofs.TableLaws.{judged_next, judged_end, judged_fault, last_read}
 use Rattle.dwarf_entries.proofs.tables.judge_tables.Goals as goal
 
-pub returns-in_err-read : goal.returns-in_err-read
-returns-in_err-read c =
+pub returns-in_err-table : goal.returns-in_err-table
+returns-in_err-table c =
     let p = err_from_is_err_and c.from_residual.result c.from_residual.ensures.1 in
     rw (p.1, p.2)
-    (judged_fault c.args.section.now c.args.units.now c.loop-unit.unit-index c.loop-unit.left _ c.in_err-read.field-0.0 c.loop-unit.invariant c.loop-unit-test.true c.in_err-read.ensures.decodes)
+    (judged_fault c.args.section.now c.args.units.now c.loop-unit.unit-index c.loop-unit.left _ c.in_err-table.field-0.0 c.loop-unit.invariant.judged c.loop-unit-test.true c.in_err-table.ensures.decodes)
 
 pub loop-unit-preserved : goal.loop-unit-preserved
-loop-unit-preserved c =
-    judged_next c.args.section.now c.args.units.now c.loop-unit.unit-index c.loop-unit.left c.read.new.left _ c.in_ok-read.field-0 c.loop-unit.invariant c.loop-unit-test.true c.in_ok-read.ensures.decodes c.in_ok-read.ensures.counted
+loop-unit-preserved c = record {
+  judged = judged_next c.args.section.now c.args.units.now c.loop-unit.unit-index c.loop-unit.left c.unit_table.new.left _ c.in_ok-table.table.declarations c.loop-unit.invariant.judged c.loop-unit-test.true c.in_ok-table.ensures.decodes c.in_ok-table.ensures.counted;
+  last = last_read c.args.section.now c.loop-unit.left c.in_ok-table.table _ c.in_ok-table.ensures.offset c.in_ok-table.ensures.decodes;
+}
 
 pub returns : goal.returns
-returns c = judged_end c.args.section.now c.args.units.now c.loop-unit.unit-index c.loop-unit.left c.loop-unit.invariant c.loop-unit-test.false
+returns c = judged_end c.args.section.now c.args.units.now c.loop-unit.unit-index c.loop-unit.left c.loop-unit.invariant.judged c.loop-unit-test.false
