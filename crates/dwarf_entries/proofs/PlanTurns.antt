@@ -1,6 +1,7 @@
 -- The turns of the loop over the steps of a declaration.
-use Rattle.std.proofs.Common.{◌≡◌, ℕ, ◌+◌, ◌<◌, ◌≤◌, List, [], ◌∷◌, ◌++◌, suc, Bool, length, drop, get_or, refl, ap, sym, ◌∙◌, subst, append-nil, add-one, drop-cons, inl, inr}
-use Rattle.std.proofs.lemmas.List.{drop_all}
+use Rattle.std.proofs.Common.{◌≡◌, ℕ, ◌+◌, ◌<◌, ◌≤◌, List, [], ◌∷◌, ◌++◌, suc, Bool, length, take, drop, get_or, refl, ap, sym, ◌∙◌, subst, append_assoc, append-nil, add-one, drop-cons, arith, inl, inr}
+use Rattle.std.proofs.lemmas.List.{drop_all, take-append-drop}
+use Rattle.std.proofs.Math.Seq.{take-append_seam, drop-append_seam}
 use Rattle.std.specs.Prelude.{Result, Ok, Err}
 use Rattle.dwarf_bytes.specs.declared.fault.Cause.{Cause}
 use Rattle.dwarf_bytes.specs.declared.format.Format.{Format}
@@ -11,7 +12,7 @@ use Rattle.dwarf_forms.proofs.Moves.{same_ok}
 use Rattle.dwarf_forms.specs.declared.attribute.AttributeSpecification.{AttributeSpecification}
 use Rattle.dwarf_entries.specs.declared.attributes.Attribute.{Attribute}
 use Rattle.dwarf_entries.specs.declared.plans.Step.{Step}
-use Rattle.dwarf_entries.specs.Plans.{step_at, in_front, steps_of, kept_attributes_at}
+use Rattle.dwarf_entries.specs.Plans.{step_at, in_front, step_of, step_before, steps_of, kept_attributes_at}
 use Rattle.dwarf_entries.specs.Readers.{Fills}
 use Rattle.dwarf_entries.proofs.PlanLaws.{steps_at, in_front-none, in_front-twice, kept-is}
 
@@ -63,3 +64,19 @@ unfolding steps_at
 kept-end keep format declared steps bytes first i found place le so_far within planned =
     sym (kept-is keep format declared bytes first within) ∙ ap (λ (s : List Step). steps_at format s bytes first) (sym planned) ∙ sym so_far
     ∙ rw (drop_all i steps le) (ap (λ (all : List Attribute). Ok (all, place)) (append-nil found))
+
+-- ---- the steps of a declaration, made from its last attribute on
+
+pub made-none : (keep : Bool) (format : Format) (declared : List AttributeSpecification) → [] ≡ steps_of keep format (drop (length declared) declared)
+unfolding steps_of
+made-none keep format declared = rw (drop_all (length declared) declared (omega arith)) refl
+
+pub made-more : (keep : Bool) (format : Format) (declared left before : List AttributeSpecification) (s : AttributeSpecification) (steps more : List Step) → left ≡ take (length left) declared → left ≡ before ++ s ∷ [] →
+    steps ≡ steps_of keep format (drop (length left) declared) → more ≡ step_before (step_of keep format s) steps → (before ≡ take (length before) declared) × (more ≡ steps_of keep format (drop (length before) declared))
+unfolding steps_of
+made-more keep format declared left before s steps more front parts made next =
+    let rest : List AttributeSpecification = drop (length left) declared in
+    let whole : declared ≡ before ++ (s ∷ rest) = sym (take-append-drop (length left) declared) ∙ ap (λ (l : List AttributeSpecification). l ++ rest) (sym front ∙ parts) ∙ append_assoc before (s ∷ []) rest in
+    let taken : take (length before) declared ≡ before = ap (λ (l : List AttributeSpecification). take (length before) l) whole ∙ take-append_seam before (s ∷ rest) in
+    let dropped : drop (length before) declared ≡ s ∷ rest = ap (λ (l : List AttributeSpecification). drop (length before) l) whole ∙ drop-append_seam before (s ∷ rest) in
+    (sym taken, next ∙ ap (λ (l : List Step). step_before (step_of keep format s) l) made ∙ ap (λ (l : List AttributeSpecification). steps_of keep format l) (sym dropped))
