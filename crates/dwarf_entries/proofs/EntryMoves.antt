@@ -153,7 +153,7 @@ form-stays form bytes at x le h =
     (omega (arith, moved.0, place), omega (arith, moved.1, place)))))
     (λ _ last. let place : at ≡ x.1 = ap (λ (r : ℕ × ℕ). r.1) (same_ok (form, at) x last) in (omega (arith, place), omega (arith, place, le)))
 
-attribute-stays : (format : Format) (s : AttributeSpecification) (bytes : List ℕ) (at : ℕ) (x : Attribute × ℕ) → at ≤ length bytes → attribute_at format s bytes at ≡ Ok x → StaysWithin bytes at x.1
+pub attribute-stays : (format : Format) (s : AttributeSpecification) (bytes : List ℕ) (at : ℕ) (x : Attribute × ℕ) → at ≤ length bytes → attribute_at format s bytes at ≡ Ok x → StaysWithin bytes at x.1
 attribute-stays format s bytes at x le h =
     let P : Type 0 = StaysWithin bytes at x.1 in
     after_bind (form_at s.form bytes at) _ x h P (λ form form_is h1.

@@ -21,6 +21,8 @@ pub mod RootsPass
 pub mod EntryLaws
 pub mod EntryMoves
 pub mod WalkLaws
+pub mod PlanLaws
+pub mod PlanTurns
 pub mod InsideLaws
 pub mod ReadLaws
 pub mod TextLaws

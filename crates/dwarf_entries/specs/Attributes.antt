@@ -1,5 +1,5 @@
 -- The attributes that are used, and the forms that each may have (DWARF 5, 2.2 and 7.5.4 to 7.5.6).
-use Rattle.std.specs.Prelude.{ℕ, ◌-◌, pos, negsuc, List, [], ◌∷◌, ◌++◌, length, Bool, true, false, Option, find, option_map, ◌==◌, ◌&&◌}
+use Rattle.std.specs.Prelude.{ℕ, ◌-◌, pos, negsuc, List, [], ◌∷◌, ◌++◌, length, Bool, true, false, Option, is_some, find, option_map, ◌==◌, ◌&&◌}
 use Rattle.std.specs.Option.{option_map_or}
 use Rattle.std.specs.List.{list_any}
 use Rattle.dwarf_bytes.specs.Contents.{Content, Number, Signed, Bytes}
@@ -79,6 +79,10 @@ used_attributes =
 -- the forms of an attribute, if it is used
 abbrev pub forms_of : ℕ → Option (List ℕ)
 forms_of name = option_map (λ row. row.1) (find (λ row. name == row.0) used_attributes)
+
+-- whether an attribute is used
+abbrev pub is_used : ℕ → Bool
+is_used name = is_some (forms_of name)
 
 abbrev pub is_among : List ℕ → ℕ → Bool
 is_among xs x = list_any (λ y. x == y) xs

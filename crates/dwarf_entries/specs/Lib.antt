@@ -2,6 +2,7 @@ pub mod Sections
 pub mod Attributes
 pub mod Units
 pub mod Entries
+pub mod Plans
 pub mod Bases
 pub mod Names
 pub mod Ranges

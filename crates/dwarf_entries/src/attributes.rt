@@ -4,7 +4,7 @@ ghost use Rattle.std.specs.Prelude.{◌≡◌};
 ghost use Rattle.dwarf_bytes.specs.Contents.{content_of};
 ghost use Rattle.dwarf_bytes.specs.Refusals.{ReadsField};
 ghost use Rattle.dwarf_bytes.specs.Forms.{form_of};
-ghost use Rattle.dwarf_entries.specs.Attributes.{accepts, is_negative_count, number_of, is_among, string_forms, address_forms, count_forms, reference_forms};
+ghost use Rattle.dwarf_entries.specs.Attributes.{is_used, accepts, is_negative_count, number_of, is_among, string_forms, address_forms, count_forms, reference_forms};
 ghost use Rattle.dwarf_forms.specs.Values.{value_of, value_at};
 ghost use Rattle.dwarf_entries.specs.Entries.{is_direct, form_at, reading_value, attribute_at, attributes_at};
 ghost use Rattle.dwarf_entries.specs.Readers.{Fills};
@@ -56,6 +56,28 @@ pub(crate) struct Attribute {
     pub(crate) value: AttributeValue,
 }
 
+/// Whether an attribute is used.
+pub(crate) fn is_used(name: u64) -> bool
+    ensures { result ≡ is_used name }
+{
+    matches!(
+        name,
+        DW_AT_NAME
+            | DW_AT_STMT_LIST
+            | DW_AT_LOW_PC
+            | DW_AT_HIGH_PC
+            | DW_AT_ABSTRACT_ORIGIN
+            | DW_AT_SPECIFICATION
+            | DW_AT_RANGES
+            | DW_AT_CALL_FILE
+            | DW_AT_CALL_LINE
+            | DW_AT_LINKAGE_NAME
+            | DW_AT_STR_OFFSETS_BASE
+            | DW_AT_ADDR_BASE
+            | DW_AT_RNGLISTS_BASE
+    )
+}
+
 /// Whether an attribute may have a form; those that are not used may have any.
 pub(crate) fn accepts(name: u64, form: u64) -> bool
     ensures { result ≡ accepts name form }
@@ -99,7 +121,7 @@ fn is_reference(form: u64) -> bool
 }
 
 /// Whether the value of a used attribute is a count below 0.
-fn is_negative_count(name: u64, content: Content<'_>) -> bool
+pub(crate) fn is_negative_count(name: u64, content: Content<'_>) -> bool
     ensures { result ≡ is_negative_count name (content_of content.entry) }
 {
     match content {
@@ -159,7 +181,7 @@ pub(crate) fn attributes(
 }
 
 /// The attribute at the cursor, as its declaration names it.
-fn read_attribute(
+pub(crate) fn read_attribute(
     format: Format,
     specification: &AttributeSpecification,
     cursor: &mut Cursor,

@@ -9,6 +9,7 @@ mod laws;
 mod names;
 mod passes;
 mod paths;
+mod plans;
 mod ranges;
 mod roots;
 mod scope;
