@@ -14,8 +14,9 @@ use Rattle.dwarf_bytes.specs.Bind.{◌>>=◌}
 use Rattle.dwarf_forms.specs.Tables.{table_at, declarations_of}
 use Rattle.dwarf_forms.proofs.TableSpelling.{table_spelled, table_read}
 use Rattle.dwarf_entries.specs.declared.units.UnitHeader.{UnitHeader}
-use Rattle.dwarf_entries.specs.declared.tables.UnitTable.{UnitTable}
-use Rattle.dwarf_entries.specs.Steps.{IsLast}
+use Rattle.dwarf_entries.specs.declared.tables.JudgedTable.{JudgedTable}
+use Rattle.dwarf_entries.specs.Plans.{Table}
+use Rattle.dwarf_entries.specs.Steps.{IsJudged, IsLast}
 use Rattle.dwarf_entries.specs.Units.{declarations_limit, tables_of}
 
 abbrev pub table_for : List ℕ → List (List Declaration) → UnitHeader → Result (List Declaration) At
@@ -98,16 +99,33 @@ table_again room other section offset table read few = by_read (table_at room se
         ap (λ (r : Result (List Declaration × ℕ) At). r >>= λ found. (let f : List Declaration → Result (List Declaration) At = λ z. Ok z in f found.0)) again ∙ ap (λ (t : List Declaration). Ok t) same
 
 -- the last table stands where another unit names it
-pub last_again : (section : List ℕ) (last : Option UnitTable) (table : UnitTable) (offset left : ℕ) → IsLast section last → last ≡ Some table → table.offset ≡ offset → length table.declarations ≤ left →
+pub last_again : (section : List ℕ) (last : Option Table) (table : Table) (offset left : ℕ) → IsLast section last → last ≡ Some table → table.offset ≡ offset → length table.declarations ≤ left →
     in_section sections.DebugAbbrev (declarations_of left section offset) ≡ Ok table.declarations
 last_again section None table offset left known is same few = cc
 last_again section (Some last) table offset left known is same few =
-    let kept = subst (λ (t : UnitTable). (room : ℕ) × (declarations_of room section t.offset ≡ Ok t.declarations)) (same_some is) known in
+    let kept = subst (λ (t : Table). (room : ℕ) × (declarations_of room section t.offset ≡ Ok t.declarations)) (same_some is) known in
     ap (λ (r : Result (List Declaration) At). in_section sections.DebugAbbrev r) (table_again kept.0 left section offset table.declarations (subst (λ (k : ℕ). declarations_of kept.0 section k ≡ Ok table.declarations) same kept.1) few)
   where
-    same_some : {x y : UnitTable} → (let f : UnitTable → Option UnitTable = λ t. Some t in f x ≡ f y) → x ≡ y
+    same_some : {x y : Table} → (let f : Table → Option Table = λ t. Some t in f x ≡ f y) → x ≡ y
     same_some h = cc
 
 -- a table that was read is the last one
-pub last_read : (section : List ℕ) (room : ℕ) (table : UnitTable) (offset : ℕ) → table.offset ≡ offset → in_section sections.DebugAbbrev (declarations_of room section offset) ≡ Ok table.declarations → IsLast section (Some table)
+pub last_read : (section : List ℕ) (room : ℕ) (table : Table) (offset : ℕ) → table.offset ≡ offset → in_section sections.DebugAbbrev (declarations_of room section offset) ≡ Ok table.declarations → IsLast section (Some table)
 last_read section room table offset same read = (room, in_section_ok sections.DebugAbbrev (declarations_of room section table.offset) table.declarations (subst (λ (k : ℕ). in_section sections.DebugAbbrev (declarations_of room section k) ≡ Ok table.declarations) (sym same) read))
+
+-- the table that was judged last stands where another unit names it
+pub judged_again : (section : List ℕ) (last : Option JudgedTable) (judged : JudgedTable) (offset left : ℕ) → IsJudged section last → last ≡ Some judged → judged.offset ≡ offset → judged.len ≤ left →
+    (table : List Declaration) × (in_section sections.DebugAbbrev (declarations_of left section offset) ≡ Ok table) × (length table ≡ judged.len)
+judged_again section None judged offset left known is same few = cc
+judged_again section (Some last) judged offset left known is same few =
+    let kept = subst (λ (t : JudgedTable). (room : ℕ) × (table : List Declaration) × (declarations_of room section t.offset ≡ Ok table) × (length table ≡ t.len)) (same_some is) known in
+    (kept.1,
+    ap (λ (r : Result (List Declaration) At). in_section sections.DebugAbbrev r) (table_again kept.0 left section offset kept.1 (subst (λ (k : ℕ). declarations_of kept.0 section k ≡ Ok kept.1) same kept.2) (omega (arith, kept.3, few))),
+    kept.3)
+  where
+    same_some : {x y : JudgedTable} → (let f : JudgedTable → Option JudgedTable = λ t. Some t in f x ≡ f y) → x ≡ y
+    same_some h = cc
+
+-- a table that was judged is the last one
+pub judged_read : (section : List ℕ) (room : ℕ) (table : List Declaration) (judged : JudgedTable) (offset : ℕ) → in_section sections.DebugAbbrev (declarations_of room section offset) ≡ Ok table → judged ≡ record { offset = offset; len = length table } → IsJudged section (Some judged)
+judged_read section room table judged offset read is = rw is (room, (table, (in_section_ok sections.DebugAbbrev (declarations_of room section offset) table read, refl)))

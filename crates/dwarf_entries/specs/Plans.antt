@@ -12,6 +12,7 @@ use Rattle.dwarf_bytes.specs.Forms.{form_of, byte_len}
 use Rattle.dwarf_bytes.specs.Items.{reading}
 use Rattle.dwarf_bytes.specs.Numbers.{block_at, offset_len}
 use Rattle.dwarf_forms.specs.declared.attribute.AttributeSpecification.{AttributeSpecification}
+use Rattle.dwarf_forms.specs.Declarations.{Declaration}
 use Rattle.dwarf_entries.specs.declared.attributes.Attribute.{Attribute}
 use Rattle.dwarf_entries.specs.declared.plans.Step.{Step}
 use Rattle.dwarf_entries.specs.declared.plans.Step.TheVariants.{Skip, Pass, Keep}
@@ -101,3 +102,9 @@ pub record Planned : Type 0 where
 
 abbrev pub plan_of : Format → List AttributeSpecification → Planned
 plan_of format declared = record { kept = steps_of true format declared; passed = steps_of false format declared }
+
+-- a table of declarations that stands at an offset, for units of a format
+pub record Table : Type 0 where
+  pub offset : ℕ
+  pub format : Format
+  pub declarations : List Declaration

@@ -1,53 +1,117 @@
 //! The abbreviation tables of the units (DWARF 5, 7.5.3).
 
-ghost use Rattle.std.specs.Prelude.{◌≡◌, ◌+◌, length, IfOk};
+ghost use Rattle.std.specs.Prelude.{◌≡◌, ◌⊎◌, ◌+◌, ◌==◌, List, Some, None, Ok, Err, length, find, IfOk, IfErr, IfNone, IfSome};
 ghost use Rattle.dwarf_bytes.specs.declared.fault.Section.TheVariants as sections;
-ghost use Rattle.dwarf_bytes.specs.Refusals.{Decodes, in_section};
+ghost use Rattle.dwarf_bytes.specs.Refusals.{memory_fault, Decodes, in_section};
+ghost use Rattle.dwarf_forms.specs.Declarations.{Declaration};
 ghost use Rattle.dwarf_forms.specs.Tables.{declarations_of};
 ghost use Rattle.dwarf_entries.specs.Units.{tables_of};
-ghost use Rattle.dwarf_entries.specs.Steps.{Judges, IsLast};
+ghost use Rattle.dwarf_entries.specs.Plans.{plan_of};
+ghost use Rattle.dwarf_entries.specs.Steps.{Judges, IsJudged, IsLast};
 
+use crate::plans::{Plan, plans};
 use crate::units::UnitHeader;
-use dwarf_bytes::LoadFault;
-use dwarf_forms::Abbrevs;
+use dwarf_bytes::{Cause, Format, LoadFault, Section};
+use dwarf_forms::{Abbrevs, Decl};
 use std::alloc::Global;
+use std::marker::Model;
 
 /// The declarations that may be read for all units of an object.
 pub(crate) const DECLARATIONS_LIMIT: u64 = 4_194_304;
 
-/// A table of `.debug_abbrev`, and where it stands.
-#[derive(Debug, Drop)]
-pub(crate) struct UnitTable {
+/// Where a table of `.debug_abbrev` stands, and how many declarations it has.
+#[derive(Clone, Copy, Debug, PartialEq, Eq)]
+pub(crate) struct JudgedTable {
     pub(crate) offset: u64,
-    pub(crate) declarations: Abbrevs,
+    pub(crate) len: u64,
 }
 
-/// The table of a unit, as `Abbrevs::read` reads it; the last one that was read is kept where the unit
-/// names it too.
-pub(crate) fn unit_table(
+/// A table of `.debug_abbrev`, where it stands, and how attributes are read by it in units of a format.
+#[derive(Debug, Drop)]
+pub(crate) struct UnitTable {
+    offset: u64,
+    format: Format,
+    declarations: Abbrevs,
+    plans: Vec<Plan>,
+}
+
+impl Model for UnitTable {
+    ghost use Rattle.std.specs.Prelude.{◌≡◌, map};
+    ghost use Rattle.dwarf_entries.specs.Plans.{Table, plan_of};
+
+    ghost Value = { Table };
+
+    ghost view = { λ t. record { offset = t.offset; format = t.format; declarations = t.declarations } };
+
+    ghost invariant = { λ t. t.plans.items ≡ map (λ declaration. plan_of t.format declaration.attributes) t.declarations };
+}
+
+impl UnitTable {
+    /// Reads the table at an offset, as `Abbrevs::read` does.
+    fn read(
+        alloc: Global,
+        section: &[u8],
+        format: Format,
+        offset: u64,
+        left: &mut u64,
+    ) -> Result<UnitTable, LoadFault>
+        ensures decodes { Decodes (λ table. table.declarations) result (in_section sections.DebugAbbrev (declarations_of left.old section.now offset)) }
+        ensures counted { IfOk result (λ table. left.new + length table.declarations ≡ left.old) }
+        ensures place { IfOk result (λ table. (table.offset ≡ offset) × (table.format ≡ format)) }
+    {
+        let declarations = Abbrevs::read(alloc, section, offset, left)?;
+        let Ok(plans) = plans(alloc, format, &declarations) else {
+            return Err(LoadFault::told(Section::DebugAbbrev, Cause::Memory, 0));
+        };
+        Ok(UnitTable {
+            offset,
+            format,
+            declarations,
+            plans,
+        })
+    }
+
+    /// The format of the units whose entries are read by the table.
+    pub(crate) fn format(&self) -> Format
+        ensures { result ≡ self.now.format }
+    {
+        self.format
+    }
+
+    /// The declaration of a code, and how its attributes are read.
+    pub(crate) fn find(&self, code: u64) -> Option<(&Decl, &Plan)>
+        ensures some { IfSome result (λ found. (find (λ declaration. declaration.code == code) self.now.declarations ≡ Some found.0.now) × (found.1.now ≡ plan_of self.now.format found.0.now.attributes)) }
+        ensures none { IfNone result (find (λ declaration. declaration.code == code) self.now.declarations ≡ None) }
+    {
+        let place = self.declarations.position(code)?;
+        let declaration = self.declarations.decls().get(place)?;
+        Some((declaration, self.plans.get(place)?))
+    }
+}
+
+/// The table at an offset, judged; its declarations are taken from those that are left. The last one
+/// that was judged is not read again where it stands there too.
+fn judged_table(
     alloc: Global,
     section: &[u8],
     offset: u64,
     left: &mut u64,
-    last: Option<UnitTable>,
-) -> Result<UnitTable, LoadFault>
-    requires { IsLast section.now last }
-    ensures decodes { Decodes (λ table. table.declarations) result (in_section sections.DebugAbbrev (declarations_of left.old section.now offset)) }
-    ensures counted { IfOk result (λ table. left.new + length table.declarations ≡ left.old) }
-    ensures offset { IfOk result (λ table. table.offset ≡ offset) }
+    last: Option<JudgedTable>,
+) -> Result<JudgedTable, LoadFault>
+    requires { IsJudged section.now last }
+    ensures ok { IfOk result (λ judged. (table : List Declaration) × (in_section sections.DebugAbbrev (declarations_of left.old section.now offset) ≡ Ok table)
+        × (left.new + length table ≡ left.old) × (judged ≡ record { offset = offset; len = length table })) }
+    ensures err { IfErr result (λ fault. (fault ≡ memory_fault) ⊎ (in_section sections.DebugAbbrev (declarations_of left.old section.now offset) ≡ Err fault)) }
 {
     if let Some(last) = last {
-        let len = last.declarations.decls().len() as u64;
-        if last.offset == offset && len <= *left {
-            *left -= len;
+        if last.offset == offset && last.len <= *left {
+            *left -= last.len;
             return Ok(last);
         }
     }
-    let declarations = Abbrevs::read(alloc, section, offset, left)?;
-    Ok(UnitTable {
-        offset,
-        declarations,
-    })
+    let table = Abbrevs::read(alloc, section, offset, left)?;
+    let len = table.decls().len() as u64;
+    Ok(JudgedTable { offset, len })
 }
 
 /// Reads the table of each unit and drops it again. A fault is told at its declaration.
@@ -61,8 +125,32 @@ pub(crate) fn judge_tables(
     let mut left = DECLARATIONS_LIMIT;
     let mut last = None;
     for unit in units {
-        let table = unit_table(alloc, section, unit.abbreviations, &mut left, last)?;
+        let table = judged_table(alloc, section, unit.abbreviations, &mut left, last)?;
         last = Some(table);
     }
     Ok(())
+}
+
+/// The table of a unit, read as `Abbrevs::read` does; the last one that was read where the unit names
+/// it too.
+pub(crate) fn unit_table(
+    alloc: Global,
+    section: &[u8],
+    header: &UnitHeader,
+    left: &mut u64,
+    last: Option<UnitTable>,
+) -> Result<UnitTable, LoadFault>
+    requires { IsLast section.now last }
+    ensures decodes { Decodes (λ table. table.declarations) result (in_section sections.DebugAbbrev (declarations_of left.old section.now header.now.abbreviations)) }
+    ensures counted { IfOk result (λ table. left.new + length table.declarations ≡ left.old) }
+    ensures place { IfOk result (λ table. (table.offset ≡ header.now.abbreviations) × (table.format ≡ header.now.format)) }
+{
+    if let Some(last) = last {
+        let len = last.declarations.decls().len() as u64;
+        if last.offset == header.abbreviations && last.format == header.format && len <= *left {
+            *left -= len;
+            return Ok(last);
+        }
+    }
+    UnitTable::read(alloc, section, header.format, header.abbreviations, left)
 }
