@@ -1,18 +1,19 @@
 -- The declaration of a code, by the place where it stands.
-use Rattle.std.proofs.Common.{◌≡◌, ℕ, zero, suc, ◌+◌, ◌-◌, ◌≢◌, ◌⊎◌, inl, inr, List, [], ◌∷◌, ◌++◌, length, get_or, Bool, true, false, cond, eq-eqb, refl, sym, ap, subst, ◌∙◌, arith}
-use Rattle.std.specs.Prelude.{Option, Some, None, find, is_some, AllPairs, slice_get, ◌==◌, ◌||◌, IfSome, IfNone}
+use Rattle.std.proofs.Common.{◌≡◌, ℕ, zero, suc, ◌+◌, ◌-◌, ◌≢◌, ◌⊎◌, inl, inr, List, [], ◌∷◌, ◌++◌, length, ◌<◌, ◌≤◌, get_or, Bool, true, false, cond, eq-eqb, refl, sym, ap, subst, ◌∙◌, arith}
+use Rattle.std.specs.Prelude.{Option, Some, None, find, position, nat_lt, is_some, AllPairs, slice_get, ◌==◌, ◌||◌, IfSome}
 use Rattle.std.specs.Borrow.{Bor}
-use Rattle.std.specs.Option.{option_copied}
-use Rattle.std.specs.List.{list_any}
+use Rattle.std.specs.Option.{option_copied, option_map_or, option_and_then}
+use Rattle.std.specs.List.{list_any, position_or_len}
 use Rattle.std.specs.Ordering.{nat_cmp}
 use Rattle.std.specs.BTreeMap.{BTreeMap, get, is_at}
 use Rattle.std.proofs.lemmas.Grind.{common_steps}
-use Rattle.std.proofs.lemmas.Option.{get_or_from_slice_get, slice_get_within, slice_get-get_or, same_Some}
+use Rattle.std.proofs.lemmas.Option.{get_or_from_slice_get, slice_get_within, slice_get_cases, slice_get_past, slice_get-get_or, none-some, same_Some}
 use Rattle.std.proofs.lemmas.List.Quantifiers.{all_pairs_push}
-use Rattle.std.proofs.lemmas.List.Folds.{list_any_at}
-use Rattle.std.proofs.lemmas.Bool.{false≢true}
+use Rattle.std.proofs.lemmas.List.Folds.{list_any_at, find_at}
+use Rattle.std.proofs.lemmas.List.Sums.{position_or_len_is}
+use Rattle.std.proofs.lemmas.Bool.{false≢true, ltb-true, ltb-false, lt-ltb, eqb-true, eqb-false}
 use Rattle.dwarf_forms.specs.Declarations.{Declaration}
-use Rattle.dwarf_forms.specs.Index.{AreIndexed}
+use Rattle.dwarf_forms.specs.Index.{AreIndexed, has_code_at}
 
 has : ℕ → Declaration → Bool
 has code d = d.code == code
@@ -113,25 +114,74 @@ index_push xs moved y none place indexed = record {
     found_at (x ∷ ys) number before last zero d at = before 0 d at
     found_at (x ∷ ys) number before last (suc i) d at = found_at ys (λ k. number (suc k)) (λ k e is. before (suc k) e is) last i d at
 
+-- ---- the place of a code
+
+-- where none is found there is no place, and where there is one it is found there
+pub find-place : {X : Type 0} (p : X → Bool) (xs : List X) (place : Option ℕ) → position p xs ≡ place → find p xs ≡ option_and_then (λ i. slice_get xs i) place
+find-place p xs place is = find_at p xs ∙ sym (ap (λ (o : Option ℕ). option_and_then (λ i. slice_get xs i) o) (sym is) ∙ by_test (nat_lt (position_or_len p xs) (length xs)) refl)
+  where
+    by_test : (b : Bool) → nat_lt (position_or_len p xs) (length xs) ≡ b → option_and_then (λ i. slice_get xs i) (cond b (Some (position_or_len p xs)) None) ≡ slice_get xs (position_or_len p xs)
+    by_test true within = refl
+    by_test false past = sym (slice_get_past xs (position_or_len p xs) (ltb-false (position_or_len p xs) (length xs) past))
+
+pub got : {X : Type 0} (xs : List X) (i : ℕ) (r : Option (Bor X)) → is_some r ≡ nat_lt i (length xs) → IfSome r (λ x. x.now ≡ get_or xs i x.now) → option_copied r ≡ slice_get xs i
+got xs i (Some x) within value = ap (λ e. Some e) value ∙ sym (slice_get-get_or xs i x.now (ltb-true i (length xs) (sym within)))
+got xs i None within value = sym (slice_get_past xs i (ltb-false i (length xs) (sym within)))
+
+position-none : {X : Type 0} (p : X → Bool) (xs : List X) → find p xs ≡ None → position p xs ≡ None
+position-none {X = X} p xs none = by_test (nat_lt (position_or_len p xs) (length xs)) refl
+  where
+    by_place : nat_lt (position_or_len p xs) (length xs) ≡ true → ((x : X) × (position_or_len p xs < length xs) × (slice_get xs (position_or_len p xs) ≡ Some x) × (get_or xs (position_or_len p xs) x ≡ x)) ⊎ ((length xs ≤ position_or_len p xs) × (slice_get xs (position_or_len p xs) ≡ None)) → ⊥
+    by_place within (inl found) = none-some found.0 (sym none ∙ find_at p xs ∙ found.2)
+    by_place within (inr past) = omega (arith, past.0, ltb-true (position_or_len p xs) (length xs) within)
+
+    by_test : (b : Bool) → nat_lt (position_or_len p xs) (length xs) ≡ b → cond b (Some (position_or_len p xs)) None ≡ None
+    by_test true within = absurd (by_place within (slice_get_cases xs (position_or_len p xs)).1)
+    by_test false past = refl
+
+-- a place that has the code is its place
+place_is : (xs : List Declaration) (i code : ℕ) → AllPairs (λ a b. a.code ≢ b.code) xs → has_code_at xs i code ≡ true → position (λ declaration. declaration.code == code) xs ≡ Some i
+place_is xs i code once here = by_declaration (slice_get xs i) refl here
+  where
+    apart_test : (a b : ℕ) → a ≢ b → (a == b) ≡ false
+    apart_test a b h = grind arith
+
+    by_declaration : (found : Option Declaration) → slice_get xs i ≡ found → option_map_or (λ declaration. declaration.code == code) found false ≡ true → position (λ declaration. declaration.code == code) xs ≡ Some i
+    by_declaration None at here = cc
+    by_declaration (Some d) at here =
+        let within = slice_get_within xs i d at in
+        let value : get_or xs i d ≡ d = get_or_from_slice_get xs i d d at in
+        let code_is : (get_or xs i d).code ≡ code = ap (λ (e : Declaration). e.code) value ∙ eqb-true d.code code here in
+        let first : position_or_len (λ (declaration : Declaration). declaration.code == code) xs ≡ i =
+        position_or_len_is (λ (declaration : Declaration). declaration.code == code) xs i d (omega (arith, within))
+        (λ k lt. apart_test (get_or xs k d).code code (λ same. once k i d lt within (same ∙ sym code_is)))
+        (λ _. eq-eqb (get_or xs i d).code code code_is) in
+        subst (λ (k : ℕ). cond (nat_lt k (length xs)) (Some k) None ≡ Some i) (sym first) (rw (lt-ltb i (length xs) within) refl)
+
+-- a place that has another code, or none
+has_not : (xs : List Declaration) (i code : ℕ) → has_code_at xs i code ≡ false → (d : Declaration) → slice_get xs i ≡ Some d → d.code ≢ code
+has_not xs i code none d at =
+    let test : (d.code == code) ≡ false = subst (λ (found : Option Declaration). option_map_or (λ (declaration : Declaration). declaration.code == code) found false ≡ false) at none in
+    λ same. eqb-false d.code code test same
+
 -- The same, for the list that a table is seen as.
-pub find_here : (xs seen now : List Declaration) (i code : ℕ) (d : Declaration) → seen ≡ xs → xs ≡ now → AllPairs (λ a b. a.code ≢ b.code) xs → (slice_get seen i ≡ Some d) × (d.code ≡ code) →
-    Some d ≡ find (λ declaration. declaration.code == code) now
-find_here xs seen now i code d same view once at = rw (← view) (sym (find_once xs i d code once (ap (λ (ys : List Declaration). slice_get ys i) (sym same) ∙ at.0) at.1))
+pub place_here : (xs seen now : List Declaration) (i code : ℕ) → seen ≡ xs → xs ≡ now → AllPairs (λ a b. a.code ≢ b.code) xs → has_code_at seen i code ≡ true → Some i ≡ position (λ declaration. declaration.code == code) now
+place_here xs seen now i code same view once here =
+    let there : has_code_at xs i code ≡ true = subst (λ (ys : List Declaration). has_code_at ys i code ≡ true) same here in
+    subst (λ (ys : List Declaration). Some i ≡ position (λ (declaration : Declaration). declaration.code == code) ys) view (sym (place_is xs i code once there))
 
-pub none_here : (xs seen again now : List Declaration) (moved : BTreeMap ℕ ℕ) (own code : ℕ) → seen ≡ xs → again ≡ xs → xs ≡ now → AreIndexed xs moved → own ≡ code - 1 →
-    ((d : Declaration) → slice_get seen own ≡ Some d → d.code ≢ code) →
-    ((i : ℕ) → get nat_cmp moved code ≡ Some i → (d : Declaration) → slice_get again i ≡ Some d → d.code ≢ code) →
-    None ≡ find (λ declaration. declaration.code == code) now
-none_here xs seen again now moved own code same same_again view indexed own_is not_own not_there =
-    rw (← view) (sym (find_nowhere xs moved code indexed (λ d at. not_own d (rw (same, own_is) at)) (λ i is d at. not_there i is d (rw same_again at))))
+pub place_nowhere : (xs seen now : List Declaration) (moved : BTreeMap ℕ ℕ) (own code : ℕ) → seen ≡ xs → xs ≡ now → AreIndexed xs moved → own ≡ code - 1 → has_code_at seen own code ≡ false →
+    ((i : ℕ) → get nat_cmp moved code ≡ Some i → has_code_at xs i code ≡ false) → None ≡ position (λ declaration. declaration.code == code) now
+place_nowhere xs seen now moved own code same view indexed own_is not_own not_there =
+    let here : has_code_at xs (code - 1) code ≡ false = subst (λ (k : ℕ). has_code_at xs k code ≡ false) own_is (subst (λ (ys : List Declaration). has_code_at ys own code ≡ false) same not_own) in
+    let none = find_nowhere xs moved code indexed (λ d at. has_not xs (code - 1) code here d at) (λ i is d at. has_not xs i code (not_there i is) d at) in
+    subst (λ (ys : List Declaration). None ≡ position (λ (declaration : Declaration). declaration.code == code) ys) view (sym (position-none (λ (declaration : Declaration). declaration.code == code) xs none))
 
-pub found_there : (xs seen again now : List Declaration) (moved : BTreeMap ℕ ℕ) (own code place : ℕ) (found : Option (Bor Declaration)) → seen ≡ xs → again ≡ xs → xs ≡ now → AreIndexed xs moved → own ≡ code - 1 →
-    ((d : Declaration) → slice_get seen own ≡ Some d → d.code ≢ code) → get nat_cmp moved code ≡ Some place →
-    IfSome found (λ d. (slice_get again place ≡ Some d.now) × (d.now.code ≡ code)) → IfNone found ((d : Declaration) → slice_get again place ≡ Some d → d.code ≢ code) →
-    option_copied found ≡ find (λ declaration. declaration.code == code) now
-found_there xs seen again now moved own code place (Some d) same same_again view indexed own_is not_own there some none = find_here xs again now place code d.now same_again view indexed.once some
-found_there xs seen again now moved own code place None same same_again view indexed own_is not_own there some none =
-    none_here xs seen again now moved own code same same_again view indexed own_is not_own (λ i is. subst (λ (k : ℕ). (d : Declaration) → slice_get again k ≡ Some d → d.code ≢ code) (same_Some place i (sym there ∙ is)) none)
+pub place_moved : (xs seen again now : List Declaration) (moved : BTreeMap ℕ ℕ) (own code place : ℕ) → seen ≡ xs → again ≡ xs → xs ≡ now → AreIndexed xs moved → own ≡ code - 1 → has_code_at seen own code ≡ false →
+    get nat_cmp moved code ≡ Some place → has_code_at again place code ≡ false → None ≡ position (λ declaration. declaration.code == code) now
+place_moved xs seen again now moved own code place same same_again view indexed own_is not_own there not_there =
+    let none : has_code_at xs place code ≡ false = subst (λ (ys : List Declaration). has_code_at ys place code ≡ false) same_again not_there in
+    place_nowhere xs seen now moved own code same view indexed own_is not_own (λ i is. subst (λ (k : ℕ). has_code_at xs k code ≡ false) (same_Some place i (sym there ∙ is)) none)
 
 -- ---- the map, as the table grows
 

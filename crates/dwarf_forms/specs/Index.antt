@@ -1,6 +1,7 @@
 -- How codes and names are found without a look at each.
-use Rattle.std.specs.Prelude.{◌≡◌, ◌≢◌, ◌⊎◌, ℕ, ◌+◌, List, Some, slice_get, ◌==◌, AllPairs}
+use Rattle.std.specs.Prelude.{◌≡◌, ◌≢◌, ◌⊎◌, ℕ, ◌+◌, List, Bool, false, Some, slice_get, ◌==◌, AllPairs}
 use Rattle.std.specs.List.{list_any}
+use Rattle.std.specs.Option.{option_map_or}
 use Rattle.std.specs.Ordering.{nat_cmp}
 use Rattle.std.specs.BTreeMap.{BTreeMap, get}
 use Rattle.std.specs.BTreeSet.{BTreeSet, contains}
@@ -15,3 +16,7 @@ HoldsNames names attributes = (name : ℕ) → contains nat_cmp names name ≡ l
 pub record AreIndexed (declarations : List Declaration) (moved : BTreeMap ℕ ℕ) : Type 0 where
   pub once : AllPairs (λ a b. a.code ≢ b.code) declarations
   pub found : (i : ℕ) (d : Declaration) → slice_get declarations i ≡ Some d → (d.code ≡ i + 1) ⊎ (get nat_cmp moved d.code ≡ Some i)
+
+-- whether the declaration at a place has a code
+abbrev pub has_code_at : List Declaration → ℕ → ℕ → Bool
+has_code_at declarations place code = option_map_or (λ declaration. declaration.code == code) (slice_get declarations place) false

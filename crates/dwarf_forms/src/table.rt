@@ -1,11 +1,11 @@
 //! Tables of abbreviation declarations (DWARF 5, 7.5.3).
 
-ghost use Rattle.std.specs.Prelude.{◌≡◌, ◌+◌, ◌-◌, ◌≤◌, ◌<◌, ◌≢◌, ◌==◌, [], ◌∷◌, ◌++◌, false, find, length, slice_get, IfOk, IfSome, IfNone, OnOk, OnErr, Some};
+ghost use Rattle.std.specs.Prelude.{◌≡◌, ◌+◌, ◌-◌, ◌≤◌, ◌<◌, ◌==◌, [], ◌∷◌, ◌++◌, false, find, length, position, IfOk, OnOk, OnErr};
 ghost use Rattle.std.specs.List.{list_any};
 ghost use Rattle.std.specs.Option.{option_copied};
 ghost use Rattle.dwarf_bytes.specs.declared.fault.Section.TheVariants as sections;
 ghost use Rattle.dwarf_bytes.specs.Refusals.{Decodes, in_section};
-ghost use Rattle.dwarf_forms.specs.Declarations.{Declaration};
+ghost use Rattle.dwarf_forms.specs.Index.{has_code_at};
 ghost use Rattle.dwarf_forms.specs.Tables.{head_at, declaration_at, declarations_of, ReadsNext};
 ghost use Rattle.dwarf_forms.specs.Steps.{ExtendsTable};
 
@@ -66,15 +66,27 @@ impl Abbrevs {
         self.decls.as_slice()
     }
 
-    /// The declaration of a code, found in constant time where codes count up from 1, and by the
-    /// logarithm of their number otherwise.
+    /// The declaration of a code, found as its place is.
     pub fn find(&self, code: u64) -> Option<&Decl>
         ensures { option_copied result ≡ find (λ declaration. declaration.code == code) self.now }
     {
-        match with_code(&self.decls, code.saturating_sub(1) as usize, code) {
-            Some(decl) => Some(decl),
-            None => with_code(&self.decls, *self.moved.get(&code)?, code),
+        self.decls.get(self.position(code)?)
+    }
+
+    /// The place of the declaration of a code, counted from 0. It is found in constant time where codes
+    /// count up from 1, and by the logarithm of their number otherwise.
+    pub fn position(&self, code: u64) -> Option<usize>
+        ensures { result ≡ position (λ declaration. declaration.code == code) self.now }
+    {
+        let own = code.saturating_sub(1) as usize;
+        if has_code_at(&self.decls, own, code) {
+            return Some(own);
         }
+        let moved = *self.moved.get(&code)?;
+        if has_code_at(&self.decls, moved, code) {
+            return Some(moved);
+        }
+        None
     }
 
     fn new(alloc: Global) -> Abbrevs
@@ -167,13 +179,9 @@ fn declarations(alloc: Global, room: u64, cursor: &mut Cursor) -> Result<Abbrevs
     }
 }
 
-/// The declaration at a place, where it has the code.
-fn with_code(decls: &[Decl], place: usize, code: u64) -> Option<&Decl>
-    ensures some { IfSome result (λ decl. (slice_get decls.now place ≡ Some decl.now) × (decl.now.code ≡ code)) }
-    ensures none { IfNone result ((d : Declaration) → slice_get decls.now place ≡ Some d → d.code ≢ code) }
+/// Whether the declaration at a place has the code.
+fn has_code_at(decls: &[Decl], place: usize, code: u64) -> bool
+    ensures { result ≡ has_code_at decls.now place code }
 {
-    match decls.get(place) {
-        Some(decl) if decl.code() == code => Some(decl),
-        _ => None,
-    }
+    decls.get(place).is_some_and(|decl| decl.code() == code)
 }

@@ -165,6 +165,9 @@ fn codes_out_of_order(rt: HostRuntime) -> Result<(), Fail> {
     ] {
         assert_eq!(rt; table.find(code).map(|decl| decl.tag()), tag, "{code}");
     }
+    for (code, place) in [(5, Some(0)), (1, Some(2)), (256, Some(3)), (3, None)] {
+        assert_eq!(rt; table.position(code), place, "{code}");
+    }
     Ok(())
 }
 

@@ -1,19 +1,14 @@
-use Rattle.std.proofs.Common.{refl, sym, ◌∙◌}
-use Rattle.std.proofs.lemmas.Option.{none-some}
-use Rattle.dwarf_forms.proofs.Codes.{find_here, none_here, found_there}
+use Rattle.std.proofs.Common.{List, ap, sym, ◌∙◌}
+use Rattle.std.specs.Prelude.{Some, None, slice_get, ◌==◌}
+use Rattle.dwarf_forms.specs.Declarations.{Declaration}
+use Rattle.dwarf_forms.proofs.Codes.{find-place, got}
 use Rattle.dwarf_forms.proofs.table.Abbrevs.find.Goals as goal
 
-pub returns-in_err-get-in-None : goal.returns-in_err-get-in-None
-returns-in_err-get-in-None c =
-    rw c.from_residual.ensures
-    (none_here c.self.inside.decls.items c.deref.result.now c.self.inside.decls.items c.args.self.now c.self.inside.moved c.saturating_sub.result c.args.code c.deref.ensures.value refl c.self.view_is c.self.invariant c.saturating_sub.ensures
-    c.in-None.ensures.none (λ i is. absurd (none-some i (c.in_err-get-in-None.ensures.value ∙ is))))
+pub returns-in_err-position : goal.returns-in_err-position
+returns-in_err-position c = rw c.from_residual.ensures (sym (find-place (λ (declaration : Declaration). declaration.code == c.args.code) c.args.self.now None (sym c.in_err-position.ensures)))
 
-pub returns-in-Some : goal.returns-in-Some
-returns-in-Some c =
-    find_here c.self.inside.decls.items c.deref.result.now c.args.self.now c.saturating_sub.result c.args.code c.in-Some.decl.now c.deref.ensures.value c.self.view_is c.self.invariant.once c.in-Some.ensures.some
-
-pub returns-in_ok-get-in-None : goal.returns-in_ok-get-in-None
-returns-in_ok-get-in-None c =
-    found_there c.self.inside.decls.items c.deref.result.now c.deref-in-None.result.now c.args.self.now c.self.inside.moved c.saturating_sub.result c.args.code c.in_ok-get-in-None.field-0.now c.with_code-in-None.result c.deref.ensures.value c.deref-in-None.ensures.value c.self.view_is c.self.invariant c.saturating_sub.ensures
-    c.in-None.ensures.none (sym c.in_ok-get-in-None.ensures.value) c.with_code-in-None.ensures.some c.with_code-in-None.ensures.none
+pub returns : goal.returns
+returns c =
+    got c.deref.result.now c.in_ok-position.field-0 c.get.result c.get.ensures.lookup.0 c.get.ensures.lookup.1
+    ∙ ap (λ (ds : List Declaration). slice_get ds c.in_ok-position.field-0) (c.deref.ensures.value ∙ c.self.view_is)
+    ∙ sym (find-place (λ (declaration : Declaration). declaration.code == c.args.code) c.args.self.now (Some c.in_ok-position.field-0) (sym c.in_ok-position.ensures))
