@@ -13,6 +13,7 @@ pub mod ReferenceLaws
 pub mod PathLaws
 pub mod OnlyLaws
 pub mod NodeLaws
+pub mod KeptNodes
 pub mod EntryOrder
 pub mod OrderLaws
 pub mod BelowLaws

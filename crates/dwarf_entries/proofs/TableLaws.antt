@@ -1,6 +1,9 @@
 -- The turns of the loop over the tables of the units.
 use Rattle.std.proofs.Common.{◌≡◌, ℕ, ◌+◌, ◌-◌, ◌<◌, ◌≤◌, ◌⊎◌, inl, inr, List, [], ◌∷◌, ◌++◌, length, drop, get_or, refl, ap, sym, ◌∙◌, subst, arith, drop-cons, add-one}
-use Rattle.std.specs.Prelude.{Option, Some, None, Result, Ok, Err, sum_by}
+use Rattle.std.specs.Prelude.{Option, Some, None, Result, Ok, Err, ◌==◌, map, find, position, option_map, slice_get, sum_by}
+use Rattle.std.proofs.lemmas.Option.{slice_get-map}
+use Rattle.dwarf_bytes.specs.declared.format.Format.{Format}
+use Rattle.dwarf_forms.proofs.Codes.{find-place}
 use Rattle.std.proofs.lemmas.List.Sums.{sum_by-append}
 use Rattle.std.proofs.lemmas.List.{drop_all}
 use Rattle.dwarf_bytes.specs.declared.fault.Section.{Section}
@@ -15,7 +18,7 @@ use Rattle.dwarf_forms.specs.Tables.{table_at, declarations_of}
 use Rattle.dwarf_forms.proofs.TableSpelling.{table_spelled, table_read}
 use Rattle.dwarf_entries.specs.declared.units.UnitHeader.{UnitHeader}
 use Rattle.dwarf_entries.specs.declared.tables.JudgedTable.{JudgedTable}
-use Rattle.dwarf_entries.specs.Plans.{Table}
+use Rattle.dwarf_entries.specs.Plans.{Planned, plan_of, Table}
 use Rattle.dwarf_entries.specs.Steps.{IsJudged, IsLast}
 use Rattle.dwarf_entries.specs.Units.{declarations_limit, tables_of}
 
@@ -115,17 +118,31 @@ last_read section room table offset same read = (room, in_section_ok sections.De
 
 -- the table that was judged last stands where another unit names it
 pub judged_again : (section : List ℕ) (last : Option JudgedTable) (judged : JudgedTable) (offset left : ℕ) → IsJudged section last → last ≡ Some judged → judged.offset ≡ offset → judged.len ≤ left →
-    (table : List Declaration) × (in_section sections.DebugAbbrev (declarations_of left section offset) ≡ Ok table) × (length table ≡ judged.len)
+    (table : List Declaration) × (in_section sections.DebugAbbrev (declarations_of left section offset) ≡ Ok table) × ((left - judged.len) + length table ≡ left) × (judged ≡ record { offset = offset; len = length table })
 judged_again section None judged offset left known is same few = cc
 judged_again section (Some last) judged offset left known is same few =
     let kept = subst (λ (t : JudgedTable). (room : ℕ) × (table : List Declaration) × (declarations_of room section t.offset ≡ Ok table) × (length table ≡ t.len)) (same_some is) known in
     (kept.1,
     ap (λ (r : Result (List Declaration) At). in_section sections.DebugAbbrev r) (table_again kept.0 left section offset kept.1 (subst (λ (k : ℕ). declarations_of kept.0 section k ≡ Ok kept.1) same kept.2) (omega (arith, kept.3, few))),
-    kept.3)
+    omega (arith, kept.3, few), whole judged.offset offset judged.len (length kept.1) same (sym kept.3))
   where
     same_some : {x y : JudgedTable} → (let f : JudgedTable → Option JudgedTable = λ t. Some t in f x ≡ f y) → x ≡ y
     same_some h = cc
 
+    whole : (a b m n : ℕ) → a ≡ b → m ≡ n → (let t : JudgedTable = record { offset = a; len = m } in t) ≡ record { offset = b; len = n }
+    whole a b m n h1 h2 = cc
+
 -- a table that was judged is the last one
 pub judged_read : (section : List ℕ) (room : ℕ) (table : List Declaration) (judged : JudgedTable) (offset : ℕ) → in_section sections.DebugAbbrev (declarations_of room section offset) ≡ Ok table → judged ≡ record { offset = offset; len = length table } → IsJudged section (Some judged)
-judged_read section room table judged offset read is = rw is (room, (table, (in_section_ok sections.DebugAbbrev (declarations_of room section offset) table read, refl)))
+judged_read section room table judged offset read is = rw is (room, table, in_section_ok sections.DebugAbbrev (declarations_of room section offset) table read, refl)
+
+-- the declaration of a code, and how its attributes are read, by its place
+pub planned_at : (code : ℕ) (format : Format) (table : List Declaration) (plans : List Planned) (place : ℕ) (declaration : Declaration) (plan : Planned) → position (λ d. d.code == code) table ≡ Some place →
+    plans ≡ map (λ d. plan_of format d.attributes) table → slice_get table place ≡ Some declaration → slice_get plans place ≡ Some plan →
+    (find (λ d. d.code == code) table ≡ Some declaration) × (plan ≡ plan_of format declaration.attributes)
+planned_at code format table plans place declaration plan at are here planned =
+    (find-place (λ (d : Declaration). d.code == code) table (Some place) at ∙ here,
+    same_some (sym planned ∙ (ap (λ (ps : List Planned). slice_get ps place) are ∙ (slice_get-map (λ (d : Declaration). plan_of format d.attributes) table place ∙ ap (λ (d : Option Declaration). option_map (λ d. plan_of format d.attributes) d) here))))
+  where
+    same_some : {x y : Planned} → (let f : Planned → Option Planned = λ t. Some t in f x ≡ f y) → x ≡ y
+    same_some h = cc

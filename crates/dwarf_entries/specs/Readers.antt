@@ -1,5 +1,5 @@
 -- What the steps of the pass over entries leave, for the contracts of its parts.
-use Rattle.std.specs.Prelude.{◌≡◌, ℕ, ◌+◌, ◌-◌, List, [], ◌∷◌, ◌++◌, Bool, Option, Some, None, is_some, option_to_list, Result, Ok, Err, if◌then◌else◌, nat_lt, nat_le, map, filter, take, take_while, count_by}
+use Rattle.std.specs.Prelude.{◌≡◌, ℕ, ◌+◌, ◌-◌, List, [], ◌∷◌, ◌++◌, Bool, Option, Some, None, is_some, option_to_list, Result, Ok, Err, if◌then◌else◌, nat_lt, nat_le, map, filter, take, take_while, count_by, not, ◌||◌}
 use Rattle.std.specs.List.{filter_map}
 use Rattle.dwarf_bytes.specs.declared.fault.Cause.{Cause}
 use Rattle.dwarf_bytes.specs.declared.format.Format.{Format}
@@ -20,6 +20,7 @@ use Rattle.dwarf_entries.specs.declared.kept.RootEntry.{RootEntry}
 use Rattle.dwarf_entries.specs.declared.units.UnitHeader.{UnitHeader}
 use Rattle.dwarf_entries.specs.Entries.{Node, Entry, Null, Standing, Die, die_of, depth_after, node_behind, node_at}
 use Rattle.dwarf_entries.specs.Kept.{keeps, named_entry, scope_entry_of, root_entry, root_in}
+use Rattle.dwarf_entries.specs.Plans.{kept_attributes}
 use Rattle.dwarf_entries.specs.Names.{or_else}
 use Rattle.dwarf_entries.specs.Scopes.{is_scope}
 
@@ -37,11 +38,21 @@ abbrev pub node_of : Option EntryHead → List Attribute → Node
 node_of (Some head) attributes = Entry head.tag head.children attributes
 node_of None attributes = Null
 
--- What a step found, with the attributes that it left in a buffer, is what is read, and the cursor stands after it, unless memory
--- ran out.
-abbrev pub ReadsNode : Result (Option EntryHead) Cause → List Attribute → (List ℕ → ℕ → Result (Node × ℕ) Cause) → Position → Position → Type 0
-ReadsNode (Ok found) attributes read old new = (read old.bytes old.place ≡ Ok (node_of found attributes, new.place)) × (new.bytes ≡ old.bytes)
-ReadsNode (Err cause) attributes read old new = Fails cause (read old.bytes old.place)
+-- whether attributes of an entry with a tag are kept: those of a root, and where its names are
+abbrev pub keeps_attributes : Keeping → Bool → ℕ → Bool
+keeps_attributes keeping rooted tag = not rooted || keeps keeping tag
+
+-- What a buffer holds is what is kept of the attributes of an entry; of a null there are none.
+abbrev pub HoldsKept : (ℕ → Bool) → Option EntryHead → List Attribute → List Attribute → Type 0
+HoldsKept keep (Some head) attributes all = attributes ≡ kept_attributes (keep head.tag) all
+HoldsKept keep None attributes all = Unit {0}
+
+-- What a step found, with all attributes of which it left some in a buffer, is what is read, and the cursor stands after it, unless
+-- memory ran out.
+abbrev pub ReadsNode : (ℕ → Bool) → Result (Option EntryHead) Cause → List Attribute → (List ℕ → ℕ → Result (Node × ℕ) Cause) → Position → Position → Type 0
+ReadsNode keep (Ok found) attributes read old new =
+    ((all : List Attribute) × (read old.bytes old.place ≡ Ok (node_of found all, new.place)) × HoldsKept keep found attributes all) × (new.bytes ≡ old.bytes)
+ReadsNode keep (Err cause) attributes read old new = Fails cause (read old.bytes old.place)
 
 -- how deep an entry stands, and whether it is a scope
 abbrev pub level_of : Die → Level

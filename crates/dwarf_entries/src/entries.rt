@@ -5,13 +5,14 @@ ghost use Rattle.dwarf_bytes.specs.declared.fault.Section.TheVariants as section
 ghost use Rattle.dwarf_bytes.specs.Refusals.{Decodes, in_section};
 ghost use Rattle.dwarf_entries.specs.Entries.{node_behind};
 ghost use Rattle.dwarf_entries.specs.Kept.{kept_of, kept_entries};
-ghost use Rattle.dwarf_entries.specs.Readers.{Fills, ReadsNode, walked_of, after_die, walked_at, walk_of, insides_of, above, scopes_from};
+ghost use Rattle.dwarf_entries.specs.Readers.{Fills, keeps_attributes, ReadsNode, walked_of, after_die, walked_at, walk_of, insides_of, above, scopes_from};
 
-use crate::attributes::{Attribute, attributes};
+use crate::attributes::Attribute;
 use crate::kept::{Keeping, NamedEntry, RootEntry, ScopeEntry, UnitEntries, kind_of};
+use crate::plans::read_steps;
+use crate::tables::UnitTable;
 use crate::units::UnitHeader;
-use dwarf_bytes::{Cause, Cursor, Format, LoadFault, Section};
-use dwarf_forms::Abbrevs;
+use dwarf_bytes::{Cause, Cursor, LoadFault, Section};
 use std::alloc::{AllocError, Global};
 
 /// The greatest depth of an entry.
@@ -55,10 +56,10 @@ pub(crate) fn entries(
     alloc: Global,
     info: &[u8],
     header: UnitHeader,
-    table: &Abbrevs,
+    table: &UnitTable,
     keeping: Keeping,
 ) -> Result<UnitEntries, LoadFault>
-    ensures { Decodes (λ unit. kept_of unit) result (in_section sections.DebugInfo (kept_entries keeping info.now header table.now)) }
+    ensures { Decodes (λ unit. kept_of unit) result (in_section sections.DebugInfo (kept_entries keeping info.now header table.now.declarations)) }
 {
     let walk = walk_unit(alloc, info, header, table, keeping)?;
     if walk.depth > 0 {
@@ -93,17 +94,16 @@ impl Walk {
     /// Takes what stands at the cursor. `found` is a buffer for attributes.
     fn step(
         &mut self,
-        format: Format,
-        table: &Abbrevs,
+        table: &UnitTable,
         keeping: Keeping,
         cursor: &mut Cursor,
         found: &mut Vec<Attribute>,
     ) -> Result<(), Cause>
-        ensures { Fills result (walked_of self.new) (walked_at keeping format table.now (walked_of self.old)) cursor.old cursor.new }
+        ensures { Fills result (walked_of self.new) (walked_at keeping table.now.format table.now.declarations (walked_of self.old)) cursor.old cursor.new }
     {
         let offset = cursor.place();
         let rooted = self.root.is_some();
-        match node(format, table, self.depth, rooted, cursor, found)? {
+        match node(table, keeping, self.depth, rooted, cursor, found)? {
             None => self.depth = self.depth.saturating_sub(1),
             Some(head) => {
                 self.keep(keeping, offset, head.tag, found)?;
@@ -125,21 +125,22 @@ impl Walk {
     ) -> Result<(), AllocError>
         ensures { OnOk result (walked_of self.new ≡ after_die keeping (walked_of self.old) (record { offset = offset; depth = self.old.depth; tag = tag; attributes = attributes.now })) }
     {
-        let entry = NamedEntry::of(offset, attributes);
         let kind = kind_of(tag);
         if self.root.is_none() {
             self.root = Some(RootEntry::of(offset, attributes));
-        }
-        if let Some(kind) = kind {
-            self.scopes.push(ScopeEntry::of(entry, kind, attributes))?;
         }
         self.levels.push(Level {
             depth: self.depth,
             is_scope: kind.is_some(),
         })?;
-        if keeping.keeps(tag) {
-            self.entries.push(entry)?;
+        if !keeping.keeps(tag) {
+            return Ok(());
         }
+        let entry = NamedEntry::of(offset, attributes);
+        if let Some(kind) = kind {
+            self.scopes.push(ScopeEntry::of(entry, kind, attributes))?;
+        }
+        self.entries.push(entry)?;
         Ok(())
     }
 }
@@ -149,10 +150,10 @@ fn walk_unit(
     alloc: Global,
     info: &[u8],
     header: UnitHeader,
-    table: &Abbrevs,
+    table: &UnitTable,
     keeping: Keeping,
 ) -> Result<Walk, LoadFault>
-    ensures { Decodes (λ walk. walked_of walk) result (in_section sections.DebugInfo (walk_of keeping info.now header table.now)) }
+    ensures { Decodes (λ walk. walked_of walk) result (in_section sections.DebugInfo (walk_of keeping info.now header table.now.declarations)) }
 {
     let unit = up_to(info, header.end);
     let mut cursor = Cursor::new(unit);
@@ -163,7 +164,7 @@ fn walk_unit(
     }
     while cursor.place() < unit.len() {
         let at = cursor.place();
-        if let Err(cause) = walk.step(header.format, table, keeping, &mut cursor, &mut found) {
+        if let Err(cause) = walk.step(table, keeping, &mut cursor, &mut found) {
             return Err(LoadFault::told(Section::DebugInfo, cause, at as u64));
         }
     }
@@ -177,31 +178,32 @@ pub(crate) fn up_to(bytes: &[u8], end: usize) -> &[u8]
     bytes.get(..end).unwrap_or(bytes)
 }
 
-/// The entry at the cursor, at a depth, or none for a null. Its attributes come into `found`.
-/// `rooted` is whether the root of the unit stands before it.
+/// The entry at the cursor, at a depth, or none for a null. Its attributes come into `found`, where any
+/// are kept. `rooted` is whether the root of the unit stands before it.
 fn node(
-    format: Format,
-    table: &Abbrevs,
+    table: &UnitTable,
+    keeping: Keeping,
     depth: u16,
     rooted: bool,
     cursor: &mut Cursor,
     found: &mut Vec<Attribute>,
 ) -> Result<Option<EntryHead>, Cause>
-    ensures reads { ReadsNode result found.new.items (node_behind format table.now depth rooted) cursor.old cursor.new }
+    ensures reads { ReadsNode (keeps_attributes keeping rooted) result found.new.items (node_behind table.now.format table.now.declarations depth rooted) cursor.old cursor.new }
     ensures limit { IfOk result (λ entry. IsSome entry → depth ≤ DEPTH_LIMIT) }
 {
     let code = cursor.uleb()?;
     if code == 0 {
         return Ok(None);
     }
-    let declaration = table.find(code).ok_or(Cause::AbbrevCode)?;
+    let (declaration, plan) = table.find(code).ok_or(Cause::AbbrevCode)?;
     if depth == 0 && rooted {
         return Err(Cause::TwoRoots);
     }
     if depth > DEPTH_LIMIT {
         return Err(Cause::TooDeep);
     }
-    attributes(format, declaration.attributes(), cursor, found)?;
+    let keep = keeping.keeps_attributes(rooted, declaration.tag());
+    read_steps(table.format(), plan.steps(keep), cursor, found)?;
     Ok(Some(EntryHead {
         tag: declaration.tag(),
         children: declaration.children(),

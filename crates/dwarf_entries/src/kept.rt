@@ -4,7 +4,7 @@ ghost use Rattle.std.specs.Prelude.{◌≡◌};
 ghost use Rattle.dwarf_entries.specs.Entries.{value_of};
 ghost use Rattle.dwarf_entries.specs.Kept.{keeps, named_entry, scope_entry, root_entry};
 ghost use Rattle.dwarf_entries.specs.Names.{followed, next_of};
-ghost use Rattle.dwarf_entries.specs.Readers.{die_with};
+ghost use Rattle.dwarf_entries.specs.Readers.{die_with, keeps_attributes};
 ghost use Rattle.dwarf_entries.specs.Scopes.{kind_of, number_of};
 
 use crate::attributes::{
@@ -82,6 +82,14 @@ impl Keeping {
             Keeping::Scopes => kind_of(tag).is_some(),
             Keeping::Every => true,
         }
+    }
+
+    /// Whether the attributes of an entry with the tag are kept: those of a root, which has none before
+    /// it, are.
+    pub(crate) fn keeps_attributes(self, rooted: bool, tag: u64) -> bool
+        ensures { result ≡ keeps_attributes self rooted tag }
+    {
+        !rooted || self.keeps(tag)
     }
 }
 

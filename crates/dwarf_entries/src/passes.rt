@@ -38,8 +38,8 @@ pub(crate) fn all_entries(
     let mut units = Vec::new(alloc);
     for header in headers {
         let section = sections.debug_abbrev;
-        let table = unit_table(alloc, section, header.abbreviations, &mut left, last)?;
-        let unit = entries(alloc, sections.debug_info, *header, &table.declarations, keeping)?;
+        let table = unit_table(alloc, section, header, &mut left, last)?;
+        let unit = entries(alloc, sections.debug_info, *header, &table, keeping)?;
         if units.push(unit).is_err() {
             return Err(LoadFault::told(Section::DebugInfo, Cause::Memory, 0));
         }

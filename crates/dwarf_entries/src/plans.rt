@@ -53,18 +53,11 @@ impl Plan {
         })
     }
 
-    /// The steps where the used attributes are kept.
-    pub(crate) fn kept(&self) -> &[Step]
-        ensures { result.now ≡ self.now.kept }
+    /// The steps, by whether the used attributes are kept.
+    pub(crate) fn steps(&self, keep: bool) -> &[Step]
+        ensures { (format : Format) (declared : List Specification) → self.now ≡ plan_of format declared → result.now ≡ steps_of keep format declared }
     {
-        &self.kept
-    }
-
-    /// The steps where none are.
-    pub(crate) fn passed(&self) -> &[Step]
-        ensures { result.now ≡ self.now.passed }
-    {
-        &self.passed
+        if keep { &self.kept } else { &self.passed }
     }
 }
 

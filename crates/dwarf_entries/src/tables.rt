@@ -1,6 +1,6 @@
 //! The abbreviation tables of the units (DWARF 5, 7.5.3).
 
-ghost use Rattle.std.specs.Prelude.{◌≡◌, ◌⊎◌, ◌+◌, ◌==◌, List, Some, None, Ok, Err, length, find, IfOk, IfErr, IfNone, IfSome};
+ghost use Rattle.std.specs.Prelude.{◌≡◌, ◌⊎◌, ◌+◌, ◌==◌, List, Some, None, Ok, Err, length, find, IsTrue, ◌↔◌, IfOk, IfErr, IfNone, IfSome};
 ghost use Rattle.dwarf_bytes.specs.declared.fault.Section.TheVariants as sections;
 ghost use Rattle.dwarf_bytes.specs.Refusals.{memory_fault, Decodes, in_section};
 ghost use Rattle.dwarf_forms.specs.Declarations.{Declaration};
@@ -85,7 +85,21 @@ impl UnitTable {
     {
         let place = self.declarations.position(code)?;
         let declaration = self.declarations.decls().get(place)?;
-        Some((declaration, self.plans.get(place)?))
+        let plan = self.plans.get(place)?;
+        Some((declaration, plan))
+    }
+
+    fn len(&self) -> u64
+        ensures { result ≡ length self.now.declarations }
+    {
+        self.declarations.decls().len() as u64
+    }
+
+    /// Whether a unit names the table.
+    fn is_of(&self, header: &UnitHeader) -> bool
+        ensures { IsTrue result ↔ ((self.now.offset ≡ header.now.abbreviations) × (self.now.format ≡ header.now.format)) }
+    {
+        self.offset == header.abbreviations && self.format == header.format
     }
 }
 
@@ -146,8 +160,8 @@ pub(crate) fn unit_table(
     ensures place { IfOk result (λ table. (table.offset ≡ header.now.abbreviations) × (table.format ≡ header.now.format)) }
 {
     if let Some(last) = last {
-        let len = last.declarations.decls().len() as u64;
-        if last.offset == header.abbreviations && last.format == header.format && len <= *left {
+        let len = last.len();
+        if last.is_of(header) && len <= *left {
             *left -= len;
             return Ok(last);
         }

@@ -1,9 +1,9 @@
-use Rattle.dwarf_entries.specs.Steps.{IsLast}
+use Rattle.dwarf_entries.specs.Steps.{IsJudged}
 use Rattle.dwarf_entries.proofs.TableLaws.{Judged}
 use Rattle.dwarf_entries.proofs.tables.judge_tables.Given as goal
 
 abbrev pub invariant-loop-unit : goal.invariant-loop-unit
 invariant-loop-unit l = record {
   judged : Judged l.section l.units l.unit-index l.left;
-  last : IsLast l.section l.last;
+  last : IsJudged l.section l.last;
 }
