@@ -10,11 +10,7 @@ use Rattle.dwarf_bytes.specs.Refusals.{ReadsField}
 use Rattle.dwarf_forms.specs.declared.attribute.AttributeSpecification.{AttributeSpecification}
 use Rattle.dwarf_entries.specs.declared.attributes.Attribute.{Attribute}
 use Rattle.dwarf_entries.specs.Entries.{attribute_at, attributes_at}
-
--- what was read in front of a rest
-abbrev pub in_front : {X : Type 0} → List X → Result (List X × ℕ) Cause → Result (List X × ℕ) Cause
-in_front front (Ok rest) = Ok (front ++ rest.0, rest.1)
-in_front front (Err cause) = Err cause
+use Rattle.dwarf_entries.specs.Plans.{in_front}
 
 -- the attributes that were read, in front of those that the rest of the declaration names, are all of them
 abbrev pub AttributesSoFar : Format → List AttributeSpecification → List ℕ → ℕ → ℕ → List Attribute → ℕ → Type 0

@@ -1,5 +1,5 @@
 -- Reading by the steps of a declaration keeps what reading its attributes one by one does.
-use Rattle.std.proofs.Common.{◌≡◌, ℕ, ◌+◌, ◌<◌, ◌≤◌, ℤ, ◌⊎◌, inl, inr, List, [], ◌∷◌, ◌++◌, Bool, true, false, cond, length, refl, ap, sym, ◌∙◌, subst, arith, append_assoc, append-nil}
+use Rattle.std.proofs.Common.{◌≡◌, ℕ, ◌+◌, ◌<◌, ◌≤◌, ℤ, ◌⊎◌, inl, inr, List, [], ◌∷◌, ◌++◌, Bool, true, false, cond, length, refl, ap, sym, ◌∙◌, subst, arith, append_assoc}
 use Rattle.std.specs.Prelude.{Option, Some, None, Result, Ok, Err, nat_lt, nat_le, not, ◌==◌, ◌&&◌, filter, take, drop}
 use Rattle.std.specs.Option.{option_map_or}
 use Rattle.std.proofs.lemmas.Bool.{ltb-false, ltb-true, cases_lt, eqb-true}
@@ -30,7 +30,7 @@ use Rattle.dwarf_entries.specs.declared.plans.Step.{Step}
 use Rattle.dwarf_entries.specs.declared.plans.Step.TheVariants.{Skip, Pass, Keep}
 use Rattle.dwarf_entries.specs.Attributes.{is_used, accepts, is_negative, is_negative_count, number_of, forms_of, is_among, sdata}
 use Rattle.dwarf_entries.specs.Entries.{reading_value, indirect, is_direct, form_at, attribute_at, attributes_at}
-use Rattle.dwarf_entries.specs.Plans.{kept_attributes, kept_attributes_at, layout_len, constant_len, fixed_len, pass_of, step_of, joined, step_before, steps_of, step_at, skip_limit, in_front}
+use Rattle.dwarf_entries.specs.Plans.{kept_attributes, kept_attributes_at, layout_len, constant_len, fixed_len, pass_of, step_of, step_before, steps_of, step_at, skip_limit, in_front}
 use Rattle.dwarf_entries.proofs.EntryMoves.{attribute-stays}
 
 -- ---- reads of a known length
@@ -190,6 +190,7 @@ fixed-attribute format s n bytes at h le = by_form (accepts s.name s.form) refl 
     by_constant fine is (Some c) there false test h =
         subst (λ (k : ℕ). ReadsFixed (λ _. Unit {0}) causes.Short k bytes at (attribute_at format s bytes at)) (same_some 0 n h)
         (attribute-fixed format s 0 bytes at (not_indirect s.form ImplicitConst is (λ e. cc)) fine (constant-fixed s.name s.form s.constant c format bytes at is there test le))
+
     by_form : (b : Bool) → accepts s.name s.form ≡ b → (found : Option Form) → form_of s.form ≡ found → cond b (elim found as (λ _. Option ℕ) [
       | None ↦ None
       | Some (Direct layout) ↦ layout_len format layout
@@ -235,6 +236,7 @@ step-is keep format s bytes at le = by_test (keep && is_used s.name)
     by_len : (len : Option ℕ) → fixed_len format s ≡ len → step_at format (option_map_or (λ n. Skip n) len (Pass s)) bytes at ≡ (attribute_at format s bytes at >>= λ a. Ok ([], a.1))
     by_len None is = refl
     by_len (Some n) is = sym (same-place (λ _. Unit {0}) (λ _. Unit {0}) n bytes at (attribute_at format s bytes at) (reading (block_at n bytes at)) (fixed-attribute format s n bytes at is le) (skip-fixed n bytes at))
+
     by_test : (b : Bool) → step_at format (cond b (Keep s) (pass_of format s)) bytes at ≡ (attribute_at format s bytes at >>= λ a. Ok (cond b (a.0 ∷ []) [], a.1))
     by_test true = refl
     by_test false = by_len (fixed_len format s) refl
@@ -339,6 +341,7 @@ kept-is keep format (s ∷ ss) bytes at le =
         in_front (cond (keep && is_used s.name) (a ∷ []) []) (rest >>= kept_all keep) ≡ ((rest >>= behind a) >>= kept_all keep)
     by_rest a named (Ok rest) = ap (λ (all : List Attribute). Ok (all, rest.1)) (kept-cons keep s.name a rest.0 named)
     by_rest a named (Err e) = refl
+
     by_first : ((place : ℕ) → place ≤ length bytes → steps_at format (steps_of keep format ss) bytes place ≡ kept_attributes_at keep format ss bytes place) → (first : Result (Attribute × ℕ) Cause) → attribute_at format s bytes at ≡ first →
         ((first >>= kept_one (keep && is_used s.name)) >>= λ first. in_front first.0 (steps_at format (steps_of keep format ss) bytes first.1))
         ≡ ((first >>= λ a. attributes_at format ss bytes a.1 >>= behind a.0) >>= kept_all keep)

@@ -13,7 +13,6 @@ use Rattle.dwarf_forms.specs.declared.attribute.AttributeSpecification.{Attribut
 use Rattle.dwarf_entries.specs.declared.attributes.Attribute.{Attribute}
 use Rattle.dwarf_entries.specs.declared.plans.Step.{Step}
 use Rattle.dwarf_entries.specs.Plans.{step_at, in_front, step_of, step_before, steps_of, kept_attributes_at}
-use Rattle.dwarf_entries.specs.Readers.{Fills}
 use Rattle.dwarf_entries.proofs.PlanLaws.{steps_at, in_front-none, in_front-twice, kept-is}
 
 -- what was kept, in front of what the rest of the steps keeps, is all that they keep
@@ -36,6 +35,7 @@ kept-more format steps bytes first i d found kept old new lt same so_far read =
   where
     here : in_front found (step_at format (get_or steps i d) bytes old.place) ≡ Ok (kept, new.place)
     here = subst (λ (b : List ℕ). in_front found (step_at format (get_or steps i d) b old.place) ≡ Ok (kept, new.place)) same read
+
     by_step : (r : Result (List Attribute × ℕ) Cause) → in_front found r ≡ Ok (kept, new.place) →
         in_front found (r >>= λ first. in_front first.0 (steps_at format (drop (suc i) steps) bytes first.1)) ≡ in_front kept (steps_at format (drop (suc i) steps) bytes new.place)
     by_step (Ok step) is =
@@ -54,6 +54,7 @@ kept-fault keep format declared steps bytes first i d found old cause lt same so
   where
     here : in_front found (step_at format (get_or steps i d) bytes old.place) ≡ Err cause
     here = subst (λ (b : List ℕ). in_front found (step_at format (get_or steps i d) b old.place) ≡ Err cause) same read
+
     by_step : (r : Result (List Attribute × ℕ) Cause) → in_front found r ≡ Err cause → in_front found (r >>= λ first. in_front first.0 (steps_at format (drop (suc i) steps) bytes first.1)) ≡ Err cause
     by_step (Ok step) is = cc
     by_step (Err e) is = is

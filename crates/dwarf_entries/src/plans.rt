@@ -1,7 +1,6 @@
 //! Plans of reading the attributes of entries, which pass over runs of those that are not kept.
 
-ghost use Rattle.std.specs.Prelude.{◌≡◌, List, Bool, IfOk, OnOk, map, reverse, option_map};
-ghost use Rattle.std.specs.Option.{option_and_then};
+ghost use Rattle.std.specs.Prelude.{◌≡◌, List, Bool, IfOk, OnOk, map, reverse};
 ghost use Rattle.dwarf_bytes.specs.Forms.{byte_len};
 ghost use Rattle.dwarf_forms.specs.declared.attribute.AttributeSpecification.{AttributeSpecification as Specification};
 ghost use Rattle.dwarf_entries.specs.Plans.{kept_attributes_at, layout_len, constant_len, fixed_len, step_of, joined, step_before, steps_of, step_at, in_front, plan_of};
@@ -62,11 +61,7 @@ impl Plan {
 }
 
 /// A plan for each declaration of a table, for units of a format.
-pub(crate) fn plans(
-    alloc: Global,
-    format: Format,
-    table: &Abbrevs,
-) -> Result<Vec<Plan>, AllocError>
+pub(crate) fn plans(alloc: Global, format: Format, table: &Abbrevs) -> Result<Vec<Plan>, AllocError>
     ensures { IfOk result (λ plans. plans.items ≡ map (λ declaration. plan_of format declaration.attributes) table.now) }
 {
     let mut plans = Vec::new(alloc);

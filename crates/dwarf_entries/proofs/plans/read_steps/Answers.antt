@@ -1,4 +1,4 @@
-use Rattle.std.proofs.Common.{refl, ◌∙◌, arith, inr}
+use Rattle.std.proofs.Common.{refl, ◌∙◌, arith}
 use Rattle.std.proofs.lemmas.Result.{err_from_is_err_and}
 use Rattle.dwarf_entries.proofs.PlanTurns.{kept-none_yet, kept-more, kept-fault, kept-end}
 use Rattle.dwarf_entries.proofs.plans.read_steps.Goals as goal

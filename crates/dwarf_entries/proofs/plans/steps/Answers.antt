@@ -14,5 +14,5 @@ loop-specification-init c = record {
 pub loop-specification-preserved : goal.loop-specification-preserved
 loop-specification-preserved c =
     let more = made-more c.args.keep c.args.format c.args.declared.now c.loop-specification.left.now c.in-Some.before.now c.in-Some.specification.now (reverse c.loop-specification.steps.items) (reverse c.push_before.new.steps.items) c.loop-specification.invariant.left c.in-Some.ensures.cases.0 c.loop-specification.invariant.made
-        (c.in_ok-push_before.ensures ∙ ap (λ (s : Step). step_before s (reverse c.loop-specification.steps.items)) c.step_of.ensures) in
+    (c.in_ok-push_before.ensures ∙ ap (λ (s : Step). step_before s (reverse c.loop-specification.steps.items)) c.step_of.ensures) in
     record { left = more.0; made = more.1 }
