@@ -4,6 +4,7 @@ use crate::fixtures::*;
 use dwarf_bytes::{Cause, LoadFault, Section};
 use dwarf_entries::{Scopes, Sections};
 use std::alloc::{AllocError, Global};
+use std::process::Abort;
 use std::test::*;
 
 /// The ULEB128 of a number below 2^21, spelled in three bytes.
@@ -28,11 +29,11 @@ fn subprograms(alloc: Global, count: u32) -> Result<Vec<u8>, AllocError> {
     Ok(table)
 }
 
-/// So many units whose abbreviations stand at 1, each of one entry of code 1.
-fn units(alloc: Global, count: usize) -> Result<Vec<u8>, AllocError> {
+/// So many units of 13 bytes with these abbreviations, each of one entry of this code.
+fn units(alloc: Global, count: usize, abbreviations: u8, code: u8) -> Result<Vec<u8>, AllocError> {
     let mut info = Vec::new(alloc);
     for _ in 0..count {
-        add_unit(&mut info, 1, 1, &[1])?;
+        add_unit(&mut info, 1, abbreviations, &[code])?;
     }
     Ok(info)
 }
@@ -41,10 +42,10 @@ fn units(alloc: Global, count: usize) -> Result<Vec<u8>, AllocError> {
 #[test]
 fn declarations_of_an_object(rt: HostRuntime) -> Result<(), Fail> {
     let table = subprograms(rt.alloc(), 65_536)?;
-    let info = units(rt.alloc(), 64)?;
+    let info = units(rt.alloc(), 64, 1, 1)?;
     let read = Scopes::read(rt.alloc(), &sections(&info, &table))?;
     assert_eq!(rt; read.scopes().len(), 64);
-    let info = units(rt.alloc(), 65)?;
+    let info = units(rt.alloc(), 65, 1, 1)?;
     let fault = LoadFault {
         section: Section::DebugAbbrev,
         cause: Cause::TooMany,
@@ -133,12 +134,13 @@ fn entries_of_many_flags(rt: HostRuntime) -> Result<(), Fail> {
     Ok(())
 }
 
-/// Two thousand units of 13 bytes that name one table of a thousand declarations.
-#[test]
-fn units_of_one_table(rt: HostRuntime) -> Result<(), Fail> {
-    let table = subprograms(rt.alloc(), 1_000)?;
-    let info = units(rt.alloc(), 2_000)?;
-    let read = Scopes::read(rt.alloc(), &sections(&info, &table))?;
+/// Checks that two thousand units of 13 bytes are read, each with a root that is its only scope.
+fn are_two_thousand(
+    rt: &(impl Abort + AllocGlobal),
+    info: &[u8],
+    table: &[u8],
+) -> Result<(), Fail> {
+    let read = Scopes::read(rt.alloc(), &sections(info, table))?;
     assert_eq!(rt; read.scopes().len(), 2_000);
     assert_eq!(rt; read.roots().len(), 2_000);
     for (number, unit) in read.roots().iter().enumerate() {
@@ -146,4 +148,18 @@ fn units_of_one_table(rt: HostRuntime) -> Result<(), Fail> {
         assert_eq!(rt; *unit, root(offset, number, number.saturating_add(1)));
     }
     Ok(())
+}
+
+#[test]
+fn units_of_one_table(rt: HostRuntime) -> Result<(), Fail> {
+    let table = subprograms(rt.alloc(), 1_000)?;
+    let info = units(rt.alloc(), 2_000, 1, 1)?;
+    are_two_thousand(&rt, &info, &table)
+}
+
+#[test]
+fn units_of_one_long_declaration(rt: HostRuntime) -> Result<(), Fail> {
+    let table = flags(rt.alloc(), 250)?;
+    let info = units(rt.alloc(), 2_000, 0, 2)?;
+    are_two_thousand(&rt, &info, &table)
 }
