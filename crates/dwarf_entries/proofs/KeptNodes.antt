@@ -1,6 +1,7 @@
 -- An entry of which only some attributes are kept.
-use Rattle.std.proofs.Common.{◌≡◌, ℕ, List, [], ◌∷◌, ◌++◌, Bool, true, false, refl, ap, sym, ◌∙◌, subst, cond}
-use Rattle.std.specs.Prelude.{Option, Some, None, is_some, option_map, option_to_list, Result, Ok, Err, ok_or, find, filter, not, nat_lt, ◌==◌, ◌&&◌, ◌||◌, if◌then◌else◌}
+use Rattle.std.proofs.Common.{◌≡◌, ℕ, ◌+◌, ◌⊎◌, inl, inr, List, [], ◌∷◌, Bool, true, false, cond, refl, ap, sym, ◌∙◌, subst}
+use Rattle.std.specs.Prelude.{Option, Some, None, is_some, option_map, IfSome, Result, Ok, Err, find, filter, not, nat_lt, ◌==◌, ◌&&◌, ◌||◌}
+use Rattle.std.proofs.lemmas.Bool.{false≢true, eqb-true}
 use Rattle.dwarf_bytes.specs.declared.fault.Cause.{Cause}
 use Rattle.dwarf_bytes.specs.declared.fault.Cause.TheVariants as causes
 use Rattle.dwarf_bytes.specs.declared.format.Format.{Format}
@@ -10,7 +11,19 @@ use Rattle.dwarf_bytes.specs.Numbers.{uleb_at}
 use Rattle.dwarf_forms.specs.declared.attribute.AttributeSpecification.{AttributeSpecification}
 use Rattle.dwarf_forms.specs.Declarations.{Declaration}
 use Rattle.dwarf_entries.specs.declared.attributes.Attribute.{Attribute}
-use Rattle.dwarf_entries.specs.Entries.{Node, Entry, Null, Die, attributes_at, declaration_of, depth_limit, node_behind}
+use Rattle.dwarf_entries.specs.declared.attributes.AttributeValue.{AttributeValue}
+use Rattle.dwarf_entries.specs.declared.entries.EntryHead.{EntryHead}
+use Rattle.dwarf_entries.specs.declared.kept.Keeping.{Keeping}
+use Rattle.dwarf_entries.specs.declared.kept.Keeping.TheVariants as keepings
+use Rattle.dwarf_entries.specs.declared.kept.RootEntry.{RootEntry}
+use Rattle.dwarf_entries.specs.declared.kept.ScopeEntry.{ScopeEntry}
+use Rattle.dwarf_entries.specs.declared.scope.ScopeKind.{ScopeKind}
+use Rattle.dwarf_entries.specs.Attributes.{is_used, DW_AT_name, DW_AT_stmt_list, DW_AT_low_pc, DW_AT_high_pc, DW_AT_abstract_origin, DW_AT_specification, DW_AT_ranges, DW_AT_call_file, DW_AT_call_line, DW_AT_linkage_name, DW_AT_str_offsets_base, DW_AT_addr_base, DW_AT_rnglists_base}
+use Rattle.dwarf_entries.specs.Entries.{Entry, Die, value_of, attributes_at, declaration_of, depth_limit, node_behind}
+use Rattle.dwarf_entries.specs.Kept.{keeps, named_entry, scope_entry, root_entry}
+use Rattle.dwarf_entries.specs.Names.{or_else}
+use Rattle.dwarf_entries.specs.Scopes.{kind_of}
+use Rattle.dwarf_entries.specs.Readers.{keeps_attributes, HoldsKept, node_of, Walked, depth_behind, after_die, walked_at}
 use Rattle.dwarf_entries.specs.Plans.{kept_attributes, kept_attributes_at}
 
 -- what is kept of attributes that are read
@@ -36,3 +49,124 @@ pub node_read : (keep : Bool) (format : Format) (table : List Declaration) (dept
 node_read keep format table depth rooted unit at code declaration found after coded some declared rootless shallow kept =
     let read = kept_of_all keep format declaration.attributes unit code.1 found after kept in
     (read.0, rw (coded, some, declared, rootless, shallow, read.1) refl, read.2)
+
+-- an entry is no second root where it is deeper, or where no root stands before it
+pub not_second_root : (depth : ℕ) (rooted : Bool) → ((depth ≡ 0) × (rooted ≡ false)) ⊎ (depth ≡ 0 → ⊥) → ((depth == 0) && rooted) ≡ false
+not_second_root depth rooted which = by_test (depth == 0) refl which
+  where
+    by_test : (t : Bool) → (depth == 0) ≡ t → ((depth ≡ 0) × (rooted ≡ false)) ⊎ (depth ≡ 0 → ⊥) → (t && rooted) ≡ false
+    by_test false is which = refl
+    by_test true is (inl first) = first.1
+    by_test true is (inr deeper) = absurd (deeper (eqb-true depth 0 is))
+
+-- what is told of something that is there
+pub told_some : {X : Type 0} (P : X → Type 0) (found : Option X) (x : X) → found ≡ Some x → IfSome found P → P x
+told_some P None x is told = cc
+told_some P (Some y) x is told = subst P (same_some is) told
+  where
+    same_some : {X : Type 0} {x y : X} → (let f : X → Option X = λ t. Some t in f x ≡ f y) → x ≡ y
+    same_some h = cc
+
+-- the value of a used attribute is kept where used attributes are
+value-kept : (xs : List Attribute) (name : ℕ) → is_used name ≡ true → value_of (filter (λ a. is_used a.name) xs) name ≡ value_of xs name
+value-kept [] name used = refl
+value-kept (a ∷ xs) name used = by_used (is_used a.name) refl (value-kept xs name used)
+  where
+    rest : List Attribute
+    rest = filter (λ b. is_used b.name) xs
+
+    found : Bool → List Attribute → Option AttributeValue
+    found t ys = option_map (λ (b : Attribute). b.value) (cond t (Some a) (find (λ b. b.name == name) ys))
+
+    by_name : (t : Bool) → value_of rest name ≡ value_of xs name → found t rest ≡ found t xs
+    by_name true behind = refl
+    by_name false behind = behind
+
+    by_other : (t : Bool) → (a.name == name) ≡ t → is_used a.name ≡ false → value_of rest name ≡ value_of xs name → value_of rest name ≡ found t xs
+    by_other true same is behind = absurd (false≢true (sym is ∙ (ap (λ (n : ℕ). is_used n) (eqb-true a.name name same) ∙ used)))
+    by_other false same is behind = behind
+
+    by_used : (u : Bool) → is_used a.name ≡ u → value_of rest name ≡ value_of xs name → value_of (cond u (a ∷ rest) rest) name ≡ value_of (a ∷ xs) name
+    by_used true is behind = by_name (a.name == name) behind
+    by_used false is behind = by_other (a.name == name) refl is behind
+
+-- .. whether they are or not
+abbrev die_of_kept : Die → Die
+die_of_kept die = record die { attributes = kept_attributes true die.attributes }
+
+root-kept : (die : Die) → root_entry (die_of_kept die) ≡ root_entry die
+root-kept die =
+    rw (value-kept die.attributes DW_AT_stmt_list refl, value-kept die.attributes DW_AT_str_offsets_base refl, value-kept die.attributes DW_AT_addr_base refl, value-kept die.attributes DW_AT_rnglists_base refl, value-kept die.attributes DW_AT_low_pc refl) refl
+
+named-kept : (die : Die) → named_entry (die_of_kept die) ≡ named_entry die
+named-kept die =
+    rw (value-kept die.attributes DW_AT_abstract_origin refl, value-kept die.attributes DW_AT_specification refl, value-kept die.attributes DW_AT_name refl, value-kept die.attributes DW_AT_linkage_name refl) refl
+
+scope-kept : (die : Die) (kind : ScopeKind) → scope_entry (die_of_kept die) kind ≡ scope_entry die kind
+scope-kept die kind =
+    rw (named-kept die, value-kept die.attributes DW_AT_low_pc refl, value-kept die.attributes DW_AT_high_pc refl, value-kept die.attributes DW_AT_ranges refl, value-kept die.attributes DW_AT_call_file refl, value-kept die.attributes DW_AT_call_line refl) refl
+
+scopes-kept : (die : Die) (kind : Option ScopeKind) → option_map (scope_entry (die_of_kept die)) kind ≡ option_map (scope_entry die) kind
+scopes-kept die None = refl
+scopes-kept die (Some kind) = ap (λ (s : ScopeEntry). Some s) (scope-kept die kind)
+
+or_false : (a b : Bool) → (a || b) ≡ false → (a ≡ false) × (b ≡ false)
+or_false true b h = absurd (false≢true (sym h))
+or_false false b h = (refl, h)
+
+-- where a root stands before, a later entry is none
+root-stays : (root : Option RootEntry) (x y : RootEntry) → not (is_some root) ≡ false → or_else root (Some x) ≡ or_else root (Some y)
+root-stays (Some r) x y rooted = refl
+root-stays None x y rooted = absurd (false≢true (sym rooted))
+
+-- an entry whose names are not kept is no scope
+no_scope : (keeping : Keeping) (tag : ℕ) → keeps keeping tag ≡ false → kind_of tag ≡ None
+no_scope keepings.Every tag h = absurd (false≢true (sym h))
+no_scope keepings.Scopes tag h = by_kind (kind_of tag) h
+  where
+    by_kind : (kind : Option ScopeKind) → is_some kind ≡ false → kind ≡ None
+    by_kind None h = refl
+    by_kind (Some kind) h = absurd (false≢true (sym h))
+
+-- what is kept of an entry is kept of those of its attributes that are
+pub after-kept : (keeping : Keeping) (w : Walked) (offset depth tag : ℕ) (all found : List Attribute) → found ≡ kept_attributes (keeps_attributes keeping (is_some w.root) tag) all →
+    after_die keeping w (record { offset = offset; depth = depth; tag = tag; attributes = found }) ≡ after_die keeping w (record { offset = offset; depth = depth; tag = tag; attributes = all })
+after-kept keeping w offset depth tag all found are = by_flag (keeps_attributes keeping (is_some w.root) tag) refl are
+  where
+    die : Die
+    die = record { offset = offset; depth = depth; tag = tag; attributes = all }
+
+    other : Die
+    other = record { offset = offset; depth = depth; tag = tag; attributes = found }
+
+    by_flag : (f : Bool) → keeps_attributes keeping (is_some w.root) tag ≡ f → found ≡ kept_attributes f all → after_die keeping w other ≡ after_die keeping w die
+    by_flag true is are = rw are (rw (root-kept die, named-kept die, scopes-kept die (kind_of tag)) refl)
+    by_flag false is are =
+        let both = or_false (not (is_some w.root)) (keeps keeping tag) is in
+        rw (both.1, no_scope keeping tag both.1, root-stays w.root (root_entry other) (root_entry die) both.0) refl
+
+-- what a step found is read, and its buffer holds what is kept of the attributes
+abbrev ReadsEntry : Keeping → Format → List Declaration → Walked → Bool → List ℕ → ℕ → ℕ → Option EntryHead → List Attribute → Type 0
+ReadsEntry keeping format table w rooted unit at after found attributes =
+    (all : List Attribute) × (node_behind format table w.depth rooted unit at ≡ Ok (node_of found all, after)) × HoldsKept (keeps_attributes keeping rooted) found attributes all
+
+-- what is kept of an entry that is read
+entry-kept : (keeping : Keeping) (format : Format) (table : List Declaration) (w kept : Walked) (unit : List ℕ) (at after : ℕ) (head : EntryHead) (attributes : List Attribute) →
+    ReadsEntry keeping format table w (is_some w.root) unit at after (Some head) attributes →
+    kept ≡ after_die keeping w (record { offset = at; depth = w.depth; tag = head.tag; attributes = attributes }) →
+    walked_at keeping format table w unit at ≡ Ok (record kept { depth = depth_behind head.children w.depth }, after)
+entry-kept keeping format table w kept unit at after head attributes read is =
+    let all : kept ≡ after_die keeping w (record { offset = at; depth = w.depth; tag = head.tag; attributes = read.0 }) = is ∙ after-kept keeping w at w.depth head.tag read.0 attributes read.2 in
+    rw (read.1, all) refl
+
+-- .. by a step, which knows whether the root stands before, where the entry stands, and what its buffer holds
+pub step-kept : (keeping : Keeping) (format : Format) (table : List Declaration) (w kept : Walked) (unit : List ℕ) (at after : ℕ) (found : Option EntryHead) (head : EntryHead) (attributes buffer : List Attribute) (rooted : Bool) (offset : ℕ) →
+    rooted ≡ is_some w.root → offset ≡ at → buffer ≡ attributes → found ≡ Some head → ReadsEntry keeping format table w rooted unit at after found attributes →
+    kept ≡ after_die keeping w (record { offset = offset; depth = w.depth; tag = head.tag; attributes = buffer }) →
+    walked_at keeping format table w unit at ≡ Ok (record kept { depth = depth_behind head.children w.depth }, after)
+step-kept keeping format table w kept unit at after found head attributes buffer rooted offset known place held is read kept_is =
+    let first = subst (λ (r : Bool). ReadsEntry keeping format table w r unit at after found attributes) known read in
+    let second = subst (λ (f : Option EntryHead). ReadsEntry keeping format table w (is_some w.root) unit at after f attributes) is first in
+    entry-kept keeping format table w kept unit at after head attributes second
+    (kept_is ∙ (ap (λ (k : ℕ). after_die keeping w (record { offset = k; depth = w.depth; tag = head.tag; attributes = buffer })) place
+        ∙ ap (λ (b : List Attribute). after_die keeping w (record { offset = at; depth = w.depth; tag = head.tag; attributes = b })) held))

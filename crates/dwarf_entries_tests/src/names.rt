@@ -142,36 +142,40 @@ fn names_of_another_unit(rt: HostRuntime) -> Result<(), Fail> {
     Ok(())
 }
 
+/// The declarations of subprograms with names and references.
+const NAMED: [u8; 58] = [
+    1, 0x11, 1, 0, 0, // unit
+    // subprogram: abstract_origin as ref1, linkage_name as string
+    2, 0x2e, 0, 0x31, 0x11, 0x6e, 0x08, 0, 0,
+    // subprogram: name, linkage_name, specification
+    3, 0x2e, 0, 0x03, 0x08, 0x6e, 0x08, 0x47, 0x11, 0, 0,
+    // subprogram: name
+    4, 0x2e, 0, 0x03, 0x08, 0, 0,
+    // subprogram: specification, abstract_origin
+    5, 0x2e, 0, 0x47, 0x11, 0x31, 0x11, 0, 0,
+    // subprogram: specification
+    6, 0x2e, 0, 0x47, 0x11, 0, 0,
+    // subprogram: specification, abstract_origin as ref_sig8
+    7, 0x2e, 0, 0x47, 0x11, 0x31, 0x20, 0, 0, 0,
+];
+
+/// A unit of them, by the place of each in the section.
+const NAMED_ENTRIES: [u8; 35] = [
+    1, // 12
+    2, 17, 0x4c, 0, // 13: origin 17, linkage_name L
+    3, 0x6e, 0, 0x4d, 0, 23, // 17: name n, linkage_name M, specification 23
+    4, 0x6f, 0, // 23: name o
+    5, 17, 23, // 26: specification 17, origin 23
+    6, 23, // 29: specification 23
+    3, 0, 0x4d, 0, 23, // 31: an empty name, linkage_name M, specification 23
+    7, 23, 23, 0, 0, 0, 0, 0, 0, 0, // 36: specification 23, a signature
+    0,
+];
+
 #[test]
 fn first_names_on_a_path(rt: HostRuntime) -> Result<(), Fail> {
-    let table = [
-        1, 0x11, 1, 0, 0, // unit
-        // subprogram: abstract_origin as ref1, linkage_name as string
-        2, 0x2e, 0, 0x31, 0x11, 0x6e, 0x08, 0, 0,
-        // subprogram: name, linkage_name, specification
-        3, 0x2e, 0, 0x03, 0x08, 0x6e, 0x08, 0x47, 0x11, 0, 0,
-        // subprogram: name
-        4, 0x2e, 0, 0x03, 0x08, 0, 0,
-        // subprogram: specification, abstract_origin
-        5, 0x2e, 0, 0x47, 0x11, 0x31, 0x11, 0, 0,
-        // subprogram: specification
-        6, 0x2e, 0, 0x47, 0x11, 0, 0,
-        // subprogram: specification, abstract_origin as ref_sig8
-        7, 0x2e, 0, 0x47, 0x11, 0x31, 0x20, 0, 0, 0,
-    ];
-    let entries = [
-        1, // 12
-        2, 17, 0x4c, 0, // 13: origin 17, linkage_name L
-        3, 0x6e, 0, 0x4d, 0, 23, // 17: name n, linkage_name M, specification 23
-        4, 0x6f, 0, // 23: name o
-        5, 17, 23, // 26: specification 17, origin 23
-        6, 23, // 29: specification 23
-        3, 0, 0x4d, 0, 23, // 31: an empty name, linkage_name M, specification 23
-        7, 23, 23, 0, 0, 0, 0, 0, 0, 0, // 36: specification 23, a signature
-        0,
-    ];
-    let info = unit(rt.alloc(), &entries)?;
-    let read = Scopes::read(rt.alloc(), &sections(&info, &table))?;
+    let info = unit(rt.alloc(), &NAMED_ENTRIES)?;
+    let read = Scopes::read(rt.alloc(), &sections(&info, &NAMED))?;
     let at = |place, len| text(Section::DebugInfo, place, len);
     let names = [
         (at(18, 1), at(15, 1)),

@@ -9,8 +9,14 @@ use std::test::*;
 /// The address 0x1000.
 const LOW: [u8; 8] = [0, 0x10, 0, 0, 0, 0, 0, 0];
 
+/// The address 0x1010.
+const HIGH: [u8; 8] = [0x10, 0x10, 0, 0, 0, 0, 0, 0];
+
 /// The highest address.
 const TOP: [u8; 8] = [0xff; 8];
+
+/// The one below it.
+const BELOW_TOP: [u8; 8] = [0xfe, 0xff, 0xff, 0xff, 0xff, 0xff, 0xff, 0xff];
 
 /// Three ranges: from the base in force, from a base of the list, and with a length.
 const LIST: [u8; 29] = [
@@ -76,13 +82,38 @@ fn a_list_without_a_base(rt: HostRuntime) -> Result<(), Fail> {
     Ok(())
 }
 
-/// Lists at 0 that a subprogram at 13 names, in a unit without bases.
-#[test]
-fn lists_and_their_faults(rt: HostRuntime) -> Result<(), Fail> {
+/// Checks lists at 0 that a subprogram at 13 names, in a unit without bases: each covers nothing, or
+/// has this fault.
+fn are_lists(
+    rt: &(impl Abort + AllocGlobal),
+    lists: &[(&[u8], Option<Cause>)],
+) -> Result<(), Fail> {
     let scope: Attributes<'_> = (&[0x55, 0x17], &[0, 0, 0, 0]);
     let table = declarations(rt.alloc(), (&[], &[]), scope)?;
     let info = one_scope(rt.alloc(), (&[], &[]), scope)?;
-    let lists: [(&[u8], Option<Cause>); 20] = [
+    for (number, (list, cause)) in lists.iter().enumerate() {
+        let all = Sections {
+            debug_rnglists: list,
+            ..sections(&info, &table)
+        };
+        match Scopes::read(rt.alloc(), &all) {
+            Ok(read) => {
+                assert_eq!(rt; *cause, None, "list {number}");
+                covers(rt, &read, &[]);
+            }
+            Err(told) => assert_eq!(rt;
+                Some(told),
+                cause.map(|cause| fault(cause, 13)),
+                "list {number}"
+            ),
+        }
+    }
+    Ok(())
+}
+
+#[test]
+fn ends_and_kinds_of_lists(rt: HostRuntime) -> Result<(), Fail> {
+    let lists: [(&[u8], Option<Cause>); 5] = [
         // no list, and one that is not ended
         (&[], Some(Cause::Short)),
         (&[5, 0, 0, 0, 0, 0, 0, 0, 0], Some(Cause::Short)),
@@ -91,6 +122,13 @@ fn lists_and_their_faults(rt: HostRuntime) -> Result<(), Fail> {
         (&[0xff, 0], Some(Cause::RangeKind)),
         // nothing behind the end of the list is read
         (&[0, 8], None),
+    ];
+    are_lists(&rt, &lists)
+}
+
+#[test]
+fn list_entries_without_a_base(rt: HostRuntime) -> Result<(), Fail> {
+    let lists: [(&[u8], Option<Cause>); 5] = [
         // indexes without a table
         (&[1, 0, 0], Some(Cause::Base)),
         (&[2, 0, 0, 0], Some(Cause::Base)),
@@ -98,7 +136,14 @@ fn lists_and_their_faults(rt: HostRuntime) -> Result<(), Fail> {
         // operands before the base that is missing
         (&[4, 0], Some(Cause::Short)),
         (&[4, 0, 0, 0], Some(Cause::Base)),
-        // offsets that pass the highest address, before their order; and that do not
+    ];
+    are_lists(&rt, &lists)
+}
+
+/// Offsets that pass the highest address, before their order; and that do not.
+#[test]
+fn offsets_from_a_base(rt: HostRuntime) -> Result<(), Fail> {
+    let lists: [(&[u8], Option<Cause>); 4] = [
         (
             &[
                 5, 0xff, 0xff, 0xff, 0xff, 0xff, 0xff, 0xff, 0xff, 4, 1, 0, 0,
@@ -121,6 +166,13 @@ fn lists_and_their_faults(rt: HostRuntime) -> Result<(), Fail> {
             &[5, 0, 0, 0, 0, 0, 0, 0, 0, 4, 2, 1, 0],
             Some(Cause::RangeBackwards),
         ),
+    ];
+    are_lists(&rt, &lists)
+}
+
+#[test]
+fn ends_and_lengths_from_a_start(rt: HostRuntime) -> Result<(), Fail> {
+    let lists: [(&[u8], Option<Cause>); 6] = [
         // start_end that goes back, and whose ends are equal
         (
             &[6, 2, 0, 0, 0, 0, 0, 0, 0, 1, 0, 0, 0, 0, 0, 0, 0, 0],
@@ -145,24 +197,7 @@ fn lists_and_their_faults(rt: HostRuntime) -> Result<(), Fail> {
         ),
         (&[7, 0, 0, 0, 0, 0, 0, 0, 0, 0x80], Some(Cause::Short)),
     ];
-    for (number, (list, cause)) in lists.iter().enumerate() {
-        let all = Sections {
-            debug_rnglists: list,
-            ..sections(&info, &table)
-        };
-        match Scopes::read(rt.alloc(), &all) {
-            Ok(read) => {
-                assert_eq!(rt; *cause, None, "list {number}");
-                covers(&rt, &read, &[]);
-            }
-            Err(told) => assert_eq!(rt;
-                Some(told),
-                cause.map(|cause| fault(cause, 13)),
-                "list {number}"
-            ),
-        }
-    }
-    Ok(())
+    are_lists(&rt, &lists)
 }
 
 /// A list by its index, of entries whose addresses are indexes.
@@ -206,6 +241,11 @@ fn lists_and_addresses_by_index(rt: HostRuntime) -> Result<(), Fail> {
             Err(told) => assert_eq!(rt; Some(told), cause.map(|cause| fault(cause, 21))),
         }
     }
+    Ok(())
+}
+
+#[test]
+fn indexes_that_find_nothing(rt: HostRuntime) -> Result<(), Fail> {
     // an index of a list in a unit without a base
     let scope: Attributes<'_> = (&[0x55, 0x23], &[0]);
     let table = declarations(rt.alloc(), (&[], &[]), scope)?;
@@ -259,47 +299,45 @@ fn pair(
 
 #[test]
 fn pairs(rt: HostRuntime) -> Result<(), Fail> {
-    let main = Some(range(0x1000, 0x1010));
-    let first = Some(range(0x1000, 0x2000));
-    let second = Some(range(0x2000, 0x2090));
-    let top = Some(range(u64::MAX - 1, u64::MAX));
-    let pairs: [(&[u8], [&[u8]; 2], Option<Range>); 15] = [
+    let main = range(0x1000, 0x1010);
+    let first = range(0x1000, 0x2000);
+    let second = range(0x2000, 0x2090);
+    let top = range(u64::MAX - 1, u64::MAX);
+    let pairs: [(&[u8], [&[u8]; 2], Range); 9] = [
         // high_pc as a constant, which counts from low_pc
         (&[0x11, 1, 0x12, 0x0b], [&LOW, &[0x10]], main),
         (&[0x11, 1, 0x12, 0x0d], [&LOW, &[0x10]], main),
         (&[0x11, 1, 0x12, 0x21, 0x10], [&LOW, &[]], main),
         // high_pc as an address
-        (
-            &[0x11, 1, 0x12, 1],
-            [&LOW, &[0x10, 0x10, 0, 0, 0, 0, 0, 0]],
-            main,
-        ),
-        (
-            &[0x12, 1, 0x11, 1],
-            [&[0x10, 0x10, 0, 0, 0, 0, 0, 0], &LOW],
-            main,
-        ),
+        (&[0x11, 1, 0x12, 1], [&LOW, &HIGH], main),
+        (&[0x12, 1, 0x11, 1], [&HIGH, &LOW], main),
         // addresses by index
         (&[0x11, 0x29, 0x12, 0x29], [&[0], &[1]], first),
         (&[0x11, 0x1b, 0x12, 0x2a], [&[0], &[1, 0]], first),
         (&[0x11, 0x29, 0x12, 0x0f], [&[1], &[0x90, 1]], second),
-        // equal ends
-        (&[0x11, 1, 0x12, 0x0b], [&LOW, &[0]], None),
-        (&[0x11, 1, 0x12, 1], [&LOW, &LOW], None),
-        (&[0x11, 1, 0x12, 1], [&TOP, &TOP], None),
         // up to the highest address
-        (
-            &[0x11, 1, 0x12, 0x0b],
-            [&[0xfe, 0xff, 0xff, 0xff, 0xff, 0xff, 0xff, 0xff], &[1]],
-            top,
-        ),
-        // no high_pc: an index is not looked up
-        (&[], [&[], &[]], None),
-        (&[0x11, 1], [&LOW, &[]], None),
-        (&[0x11, 0x1b], [&[9], &[]], None),
+        (&[0x11, 1, 0x12, 0x0b], [&BELOW_TOP, &[1]], top),
     ];
     for (declared, values, range) in pairs {
-        pair(&rt, declared, values, Ok(range))?;
+        pair(&rt, declared, values, Ok(Some(range)))?;
+    }
+    Ok(())
+}
+
+#[test]
+fn pairs_that_cover_nothing(rt: HostRuntime) -> Result<(), Fail> {
+    let pairs: [(&[u8], [&[u8]; 2]); 6] = [
+        // equal ends
+        (&[0x11, 1, 0x12, 0x0b], [&LOW, &[0]]),
+        (&[0x11, 1, 0x12, 1], [&LOW, &LOW]),
+        (&[0x11, 1, 0x12, 1], [&TOP, &TOP]),
+        // no high_pc: an index is not looked up
+        (&[], [&[], &[]]),
+        (&[0x11, 1], [&LOW, &[]]),
+        (&[0x11, 0x1b], [&[9], &[]]),
+    ];
+    for (declared, values) in pairs {
+        pair(&rt, declared, values, Ok(None))?;
     }
     Ok(())
 }
@@ -330,9 +368,9 @@ fn faults_of_pairs(rt: HostRuntime) -> Result<(), Fail> {
     Ok(())
 }
 
-/// What is wrong with the tables and the low_pc of a root at 12.
+/// Headers of a table of addresses, each with one byte changed, and what is wrong at the root at 12.
 #[test]
-fn refused_roots(rt: HostRuntime) -> Result<(), Fail> {
+fn headers_of_addresses(rt: HostRuntime) -> Result<(), Fail> {
     let changes = [
         // unit_length up to the base, to one byte before it, past the section, reserved
         (0, 12, None),
@@ -358,7 +396,12 @@ fn refused_roots(rt: HostRuntime) -> Result<(), Fail> {
         let read = Scopes::read(rt.alloc(), &all);
         assert_eq!(rt; read.err(), cause.map(|cause| fault(cause, 12)));
     }
-    // low_pc as addrx1, of an index past the table, and without a table
+    Ok(())
+}
+
+/// The low_pc of a root at 12 as addrx1, of an index past the table, and without a table.
+#[test]
+fn low_pc_of_no_address(rt: HostRuntime) -> Result<(), Fail> {
     let indexed: [(&[u8], &[u8], Cause); 2] = [
         (&[0x73, 0x17, 0x11, 0x29], &[8, 0, 0, 0, 2], Cause::Index),
         (&[0x11, 0x29], &[0], Cause::Base),
@@ -373,7 +416,12 @@ fn refused_roots(rt: HostRuntime) -> Result<(), Fail> {
         };
         is_refused(&rt, &all, cause, 12);
     }
-    // rnglists_base, with more offsets than the table holds
+    Ok(())
+}
+
+/// The rnglists_base of a root at 12: the most offsets that the table holds, and one more.
+#[test]
+fn offsets_of_lists(rt: HostRuntime) -> Result<(), Fail> {
     let root: Attributes<'_> = (&[0x74, 0x17], &[12, 0, 0, 0]);
     let table = declarations(rt.alloc(), root, (&[], &[]))?;
     let info = one_scope(rt.alloc(), root, (&[], &[]))?;

@@ -2,7 +2,7 @@
 
 use crate::fixtures::*;
 use dwarf_bytes::{Cause, LoadFault, Section};
-use dwarf_entries::{Root, ScopeKind, Scopes};
+use dwarf_entries::{Root, ScopeKind, Scopes, Text};
 use dwarf_samples::{
     INLINED, TWO_SEQUENCES, call_file_outside, circular_origins, cut_abbreviations,
     leaf_without_code, origin_of_no_entry, version_four,
@@ -10,33 +10,29 @@ use dwarf_samples::{
 use std::process::Abort;
 use std::test::*;
 
+/// A subprogram of this name without code.
+fn subprogram(offset: usize, end: usize, name: Option<Text>) -> Row {
+    Row {
+        kind: ScopeKind::Subprogram,
+        offset,
+        end,
+        range: None,
+        name,
+        call: None,
+    }
+}
+
 /// The scopes of the first object: `mid` and `leaf`, which have no code of their own, `main`, `mid`
 /// inlined into it, and `leaf` inlined into that.
 fn rows() -> [Row; 5] {
     let mid = text(Section::DebugInfo, 26, 3);
     let leaf = text(Section::DebugInfo, 31, 4);
-    let row = Row {
-        kind: ScopeKind::Subprogram,
-        offset: 25,
-        end: 1,
-        range: None,
-        name: mid,
-        call: None,
-    };
     [
-        row,
+        subprogram(25, 1, mid),
+        subprogram(30, 2, leaf),
         Row {
-            offset: 30,
-            end: 2,
-            name: leaf,
-            ..row
-        },
-        Row {
-            offset: 36,
-            end: 5,
             range: Some(range(0x1000, 0x1010)),
-            name: text(Section::DebugInfo, 37, 4),
-            ..row
+            ..subprogram(36, 5, text(Section::DebugInfo, 37, 4))
         },
         Row {
             kind: ScopeKind::Inlined,

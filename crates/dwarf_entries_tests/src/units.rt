@@ -18,6 +18,23 @@ const TREES: [u8; 31] = [
     0,
 ];
 
+/// A unit of eight entries, by the place of each in the section.
+const TREE: [u8; 13] = [
+    4, // 12: root
+    1, // 13: a subprogram
+    3, // 14: its variable
+    5, // 15: its block
+    2, // 16: a subprogram in the block
+    0, // 17: end of the block
+    6, // 18: an inlined subroutine
+    2, // 19: a subprogram in it
+    0, // 20: end of the inlined subroutine
+    0, // 21: end of the subprogram
+    2, // 22: another subprogram
+    0, // 23: end of the root
+    0, // 24: padding
+];
+
 /// A scope without attributes.
 fn bare(offset: usize, end: usize) -> Row {
     Row {
@@ -44,23 +61,7 @@ fn is_bad_tree(
 
 #[test]
 fn scopes_of_three_trees(rt: HostRuntime) -> Result<(), Fail> {
-    let mut info = Vec::new(rt.alloc());
-    let first = [
-        4, // 12: root
-        1, // 13: a subprogram
-        3, // 14: its variable
-        5, // 15: its block
-        2, // 16: a subprogram in the block
-        0, // 17: end of the block
-        6, // 18: an inlined subroutine
-        2, // 19: a subprogram in it
-        0, // 20: end of the inlined subroutine
-        0, // 21: end of the subprogram
-        2, // 22: another subprogram
-        0, // 23: end of the root
-        0, // 24: padding
-    ];
-    add_unit(&mut info, 1, 0, &first)?;
+    let mut info = unit(rt.alloc(), &TREE)?;
     // padding at 37, a root at 38, a subprogram at 39
     add_unit(&mut info, 1, 0, &[0, 4, 2, 0])?;
     // padding alone
