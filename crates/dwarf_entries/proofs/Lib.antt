@@ -22,5 +22,6 @@ pub mod EntryLaws
 pub mod EntryMoves
 pub mod WalkLaws
 pub mod InsideLaws
+pub mod ScopesOnly
 pub mod ReadLaws
 pub mod TextLaws
