@@ -25,5 +25,6 @@ pub mod WalkLaws
 pub mod PlanLaws
 pub mod PlanTurns
 pub mod InsideLaws
+pub mod ScopesOnly
 pub mod ReadLaws
 pub mod TextLaws

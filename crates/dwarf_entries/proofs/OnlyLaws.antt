@@ -1,5 +1,5 @@
 -- The units as far as their entries are kept, for paths.
-use Rattle.std.proofs.Common.{◌≡◌, ℕ, suc, ◌+◌, ◌≤◌, List, [], ◌∷◌, Bool, true, false, cond, map, refl, ap, sym, ◌∙◌, arith}
+use Rattle.std.proofs.Common.{◌≡◌, ℕ, suc, ◌≤◌, List, [], ◌∷◌, Bool, true, false, cond, map, refl, ap, sym, ◌∙◌, arith}
 use Rattle.std.specs.Prelude.{Option, Some, filter, slice_get, option_map}
 use Rattle.std.proofs.lemmas.Option.{slice_get-map}
 use Rattle.dwarf_entries.specs.declared.bases.Bases.{Bases}
@@ -12,7 +12,7 @@ use Rattle.dwarf_entries.specs.Bases.{CompilationUnit}
 use Rattle.dwarf_entries.specs.Names.{Member}
 use Rattle.dwarf_entries.specs.Scopes.{is_scope}
 use Rattle.dwarf_entries.specs.Kept.{KeptUnit, named_entry, kept_of, RiseWithin, AreInOrder}
-use Rattle.dwarf_entries.specs.Members.{NamedUnit, named_unit, named_of, AreKept, IsMember}
+use Rattle.dwarf_entries.specs.Members.{NamedUnit, named_unit, AreKept, IsMember}
 use Rattle.dwarf_entries.specs.Passes.{bases_of, kept_unit_of, AreUnits, scopes_only, only_units, only_member}
 use Rattle.dwarf_entries.proofs.ReferenceLaws.{map-twice}
 

@@ -81,7 +81,7 @@ next-is : (units : List CompilationUnit) (found : UnitEntry) (last : Member) (ne
 next-is units found last next at is = sym (ap (λ (e : NamedEntry). e.next) at.entry_is) ∙ is
 
 -- a path from an entry, behind it
-abbrev in_front : Member → Result (List Member) Cause → Result (List Member) Cause
+abbrev pub in_front : Member → Result (List Member) Cause → Result (List Member) Cause
 in_front m r = r >>= λ rest. Ok (m ∷ rest)
 
 joined : (before : List Member) (last : Member) (r : Result (List Member) Cause) → behind before (in_front last r) ≡ behind (before ++ last ∷ []) r
@@ -89,7 +89,7 @@ joined before last (Ok rest) = ap (λ (path : List Member). Ok path) (sym (appen
 joined before last (Err e) = refl
 
 -- a path within one hop more, from an entry with a next one
-stepped : (units : List CompilationUnit) (after : ℕ) (last : Member) (reference : AttributeValue) → next_of last.die ≡ Some reference →
+pub stepped : (units : List CompilationUnit) (after : ℕ) (last : Member) (reference : AttributeValue) → next_of last.die ≡ Some reference →
     path_within (suc after) units last ≡ (target_of units last.unit reference >>= λ next. in_front last (path_within after units next))
 unfolding path_within
 stepped units after last reference is = rw (is, path_within) refl
@@ -102,12 +102,12 @@ followed-on units before left after last reference left_is is target target_is =
     ap (λ (k : ℕ). behind before (path_within k units last)) one
     ∙ (ap (λ (r : Result (List Member) Cause). behind before r) (stepped units after last reference is) ∙ ap (λ (t : Result Member Cause). behind before (t >>= λ next. in_front last (path_within after units next))) target_is)
 
-ended : (units : List CompilationUnit) (left : ℕ) (last : Member) → next_of last.die ≡ None → path_within left units last ≡ Ok (last ∷ [])
+pub ended : (units : List CompilationUnit) (left : ℕ) (last : Member) → next_of last.die ≡ None → path_within left units last ≡ Ok (last ∷ [])
 unfolding path_within
 ended units zero last is = rw (is, path_within) refl
 ended units (suc left) last is = rw (is, path_within) refl
 
-stopped : (units : List CompilationUnit) (last : Member) (reference : AttributeValue) → next_of last.die ≡ Some reference → path_within zero units last ≡ Err causes.OriginDepth
+pub stopped : (units : List CompilationUnit) (last : Member) (reference : AttributeValue) → next_of last.die ≡ Some reference → path_within zero units last ≡ Err causes.OriginDepth
 unfolding path_within
 stopped units last reference is = rw (is, path_within) refl
 
@@ -164,7 +164,7 @@ text-is s bases units are (Some k) (Some f) h =
     let table : str_offsets_of bases k.unit ≡ f.0.bases.str_offsets = ap (λ (o : Option Bases). option_and_then (λ b. b.str_offsets) o) at in
     ap (λ (t : Option Table). optional (λ (v : AttributeValue). text_of s t v) (Some k.value)) table ∙ ap (λ (v : AttributeValue). optional (λ (w : AttributeValue). text_of s f.0.bases.str_offsets w) (Some v)) h.1
 
-abbrev both_names : Result (Option Text) Cause → Result (Option Text) Cause → Result EntryNames Cause
+abbrev pub both_names : Result (Option Text) Cause → Result (Option Text) Cause → Result EntryNames Cause
 both_names name linkage_name = name >>= λ n. linkage_name >>= λ l. Ok (record { name = n; linkage_name = l })
 
 -- the names of a member, by what was kept on its path

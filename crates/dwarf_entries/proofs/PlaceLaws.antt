@@ -1,6 +1,6 @@
 -- The places of the scopes of a unit, by what is kept of it.
 use Rattle.std.proofs.Common.{◌≡◌, ℕ, zero, suc, ◌+◌, ◌<◌, ◌≤◌, List, [], ◌∷◌, length, drop, get_or, map, take, Bool, cond, refl, ap, sym, ◌∙◌, arith, drop-cons, add-one}
-use Rattle.std.specs.Prelude.{Option, Some, None, is_some, count_by, sum_by, nat_lt, take_while}
+use Rattle.std.specs.Prelude.{Option, Some, None, is_some, count_by, sum_by, nat_lt}
 use Rattle.std.specs.List.{filter_map, prefix_len}
 use Rattle.std.proofs.lemmas.List.{get_or-map, length-map, take-append-drop}
 use Rattle.std.proofs.lemmas.List.Sums.{sum_by-append, sum_by-cons}

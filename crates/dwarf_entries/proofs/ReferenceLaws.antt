@@ -69,7 +69,7 @@ units-rise from (u ∷ units) h =
 is_not : (a b : ℕ) → a < b → (a == b) ≡ false
 is_not a b lt = grind (arith, nat_tests)
 
-is_not_above : (a b : ℕ) → b < a → (a == b) ≡ false
+pub is_not_above : (a b : ℕ) → b < a → (a == b) ≡ false
 is_not_above a b lt = grind (arith, nat_tests)
 
 pub find-here : {X : Type 0} (key : X → ℕ) (xs : List X) (x n : ℕ) (e : X) → IsPartitionPoint (λ y. key y < x) (λ y. x ≤ key y) xs n → n < length xs → ((d : X) → e ≡ get_or xs n d) → key e ≡ x
@@ -94,7 +94,7 @@ find-missing {X} key (d ∷ ds) x n rise parts differs =
     let none = position_or_len_is p xs (length xs) d (omega arith) fails (λ lt. absurd (omega arith)) in
     sym (find_at p xs ∙ (ap (λ (k : ℕ). slice_get xs k) none ∙ slice_get_past xs (length xs) (omega arith)))
 
-find-map : {X Y : Type 0} (p : Y → Bool) (f : X → Y) (xs : List X) → find p (map f xs) ≡ option_map f (find (λ x. p (f x)) xs)
+pub find-map : {X Y : Type 0} (p : Y → Bool) (f : X → Y) (xs : List X) → find p (map f xs) ≡ option_map f (find (λ x. p (f x)) xs)
 find-map p f [] = refl
 find-map {X} {Y} p f (x ∷ xs) = by_test (p (f x)) (find-map p f xs)
   where
@@ -104,13 +104,13 @@ find-map {X} {Y} p f (x ∷ xs) = by_test (p (f x)) (find-map p f xs)
 
 -- ---- the unit that holds an offset
 
-abbrev stands_at : ℕ → Member → Bool
+abbrev pub stands_at : ℕ → Member → Bool
 stands_at offset m = m.die.offset == offset
 
-abbrev member_of : CompilationUnit → Die → Member
+abbrev pub member_of : CompilationUnit → Die → Member
 member_of u die = record { unit = u; die = die }
 
-none-outside : (u : CompilationUnit) (from end : ℕ) (dies : List Die) (offset : ℕ) → RiseWithin from end dies → (offset < from) ⊎ (end ≤ offset) → find (stands_at offset) (map (member_of u) dies) ≡ None
+pub none-outside : (u : CompilationUnit) (from end : ℕ) (dies : List Die) (offset : ℕ) → RiseWithin from end dies → (offset < from) ⊎ (end ≤ offset) → find (stands_at offset) (map (member_of u) dies) ≡ None
 none-outside u from end [] offset h out = refl
 none-outside u from end (die ∷ dies) offset h out =
     let first = h.0 in
@@ -122,7 +122,7 @@ none-outside u from end (die ∷ dies) offset h out =
     let further : (offset < suc die.offset) ⊎ (end ≤ offset) = elim out [ inl below ↦ inl (omega (arith, below, first)) | inr above ↦ inr above ] in
     rw differs (none-outside u (suc die.offset) end dies offset h.1 further)
 
-none-before : (from : ℕ) (units : List CompilationUnit) (offset : ℕ) → AreInOrder from units → offset < from → find (stands_at offset) (members_of units) ≡ None
+pub none-before : (from : ℕ) (units : List CompilationUnit) (offset : ℕ) → AreInOrder from units → offset < from → find (stands_at offset) (members_of units) ≡ None
 none-before from [] offset h lt = refl
 none-before from (u ∷ units) offset h lt =
     let first = h.0 in

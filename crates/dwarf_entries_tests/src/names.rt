@@ -198,6 +198,39 @@ fn first_names_on_a_path(rt: HostRuntime) -> Result<(), Fail> {
     Ok(())
 }
 
+/// A path may lead out of the scopes, and into them again.
+#[test]
+fn paths_out_of_the_scopes(rt: HostRuntime) -> Result<(), Fail> {
+    let table = [
+        1, 0x11, 1, 0, 0, // unit
+        2, 0x2e, 0, 0x47, 0x11, 0x6e, 0x08, 0, 0, // subprogram: specification, linkage_name
+        3, 0x2e, 0, 0x31, 0x11, 0, 0, // subprogram: abstract_origin
+        4, 0x34, 0, 0x47, 0x11, 0, 0, // variable: specification
+        5, 0x34, 0, 0x03, 0x08, 0, 0, // variable: name
+        0,
+    ];
+    let entries = [
+        1, // 12
+        2, 21, 0x4c, 0, // 13: specification 21, linkage_name L
+        3, 19, // 17: origin 19
+        4, 13, // 19: specification 13
+        5, 0x76, 0, // 21: name v
+        0,
+    ];
+    let mut info = unit(rt.alloc(), &entries)?;
+    let read = Scopes::read(rt.alloc(), &sections(&info, &table))?;
+    assert_eq!(rt; read.scopes().len(), 2);
+    for scope in read.scopes() {
+        assert_eq!(rt; scope.name, text(Section::DebugInfo, 22, 1));
+        assert_eq!(rt; scope.linkage_name, text(Section::DebugInfo, 15, 1));
+    }
+    // the variable at 19 names no entry
+    assert_eq!(rt; info[20], 13);
+    info[20] = 14;
+    is_refused(&rt, &sections(&info, &table), Cause::Reference, 17);
+    Ok(())
+}
+
 /// Subprograms from 13 on, of which each but the last names the next, by so many hops, and the last
 /// is named `z`.
 fn linked(alloc: Global, hops: u8) -> Result<Vec<u8>, AllocError> {
