@@ -19,7 +19,6 @@ pub mod OrderLaws
 pub mod BelowLaws
 pub mod BaseInForce
 pub mod RootsPass
-pub mod EntryLaws
 pub mod EntryMoves
 pub mod WalkLaws
 pub mod PlanLaws

@@ -6,8 +6,7 @@ ghost use Rattle.dwarf_bytes.specs.Refusals.{ReadsField};
 ghost use Rattle.dwarf_bytes.specs.Forms.{form_of};
 ghost use Rattle.dwarf_entries.specs.Attributes.{is_used, accepts, is_negative_count, number_of, is_among, string_forms, address_forms, count_forms, reference_forms};
 ghost use Rattle.dwarf_forms.specs.Values.{value_of, value_at};
-ghost use Rattle.dwarf_entries.specs.Entries.{is_direct, form_at, reading_value, attribute_at, attributes_at};
-ghost use Rattle.dwarf_entries.specs.Readers.{Fills};
+ghost use Rattle.dwarf_entries.specs.Entries.{is_direct, form_at, reading_value, attribute_at};
 
 use dwarf_bytes::{Cause, Content, Cursor, Form, Format};
 use dwarf_forms::{AttributeSpecification, Value, ValueFault, value};
@@ -160,24 +159,6 @@ fn is_direct(form: u64) -> bool
     ensures { result ≡ is_direct (form_of form) }
 {
     matches!(Form::of(form), Some(Form::Direct(_)))
-}
-
-/// Reads the attributes of an entry, as its declaration names them, into `found` in place of what is
-/// there.
-pub(crate) fn attributes(
-    format: Format,
-    declared: &[AttributeSpecification],
-    cursor: &mut Cursor,
-    found: &mut Vec<Attribute>,
-) -> Result<(), Cause>
-    ensures { Fills result found.new.items (attributes_at format declared.now) cursor.old cursor.new }
-{
-    found.clear();
-    for specification in declared {
-        let attribute = read_attribute(format, specification, cursor)?;
-        found.push(attribute)?;
-    }
-    Ok(())
 }
 
 /// The attribute at the cursor, as its declaration names it.

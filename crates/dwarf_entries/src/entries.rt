@@ -59,6 +59,7 @@ pub(crate) fn entries(
     table: &UnitTable,
     keeping: Keeping,
 ) -> Result<UnitEntries, LoadFault>
+    requires { table.now.format ≡ header.format }
     ensures { Decodes (λ unit. kept_of unit) result (in_section sections.DebugInfo (kept_entries keeping info.now header table.now.declarations)) }
 {
     let walk = walk_unit(alloc, info, header, table, keeping)?;
@@ -153,6 +154,7 @@ fn walk_unit(
     table: &UnitTable,
     keeping: Keeping,
 ) -> Result<Walk, LoadFault>
+    requires { table.now.format ≡ header.format }
     ensures { Decodes (λ walk. walked_of walk) result (in_section sections.DebugInfo (walk_of keeping info.now header table.now.declarations)) }
 {
     let unit = up_to(info, header.end);

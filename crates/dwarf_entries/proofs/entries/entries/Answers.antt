@@ -7,10 +7,10 @@ use Rattle.dwarf_entries.proofs.entries.entries.Goals as goal
 pub returns-in_err-walk : goal.returns-in_err-walk
 returns-in_err-walk c =
     let p = err_from_is_err_and c.from_residual.result c.from_residual.ensures.1 in
-    rw (p.1, p.2) (entries_fault c.args.keeping c.args.info.now c.args.header c.args.table.now c.in_err-walk.field-0.0 c.in_err-walk.ensures)
+    rw (p.1, p.2) (entries_fault c.args.keeping c.args.info.now c.args.header c.args.table.now.declarations c.in_err-walk.field-0.0 c.in_err-walk.ensures)
 
 pub returns-then-walk-gt0 : goal.returns-then-walk-gt0
-returns-then-walk-gt0 c = inr (entries_open c.args.keeping c.args.info.now c.args.header c.args.table.now (walked_of c.in_ok-walk.walk) c.told.result c.in_ok-walk.ensures c.if-walk-gt0.true c.told.ensures)
+returns-then-walk-gt0 c = inr (entries_open c.args.keeping c.args.info.now c.args.header c.args.table.now.declarations (walked_of c.in_ok-walk.walk) c.told.result c.in_ok-walk.ensures c.if-walk-gt0.true c.told.ensures)
 
 pub returns : goal.returns
-returns c = entries_end c.args.keeping c.args.info.now c.args.header c.args.table.now (walked_of c.in_ok-walk.walk) c.in-Ok.insides.items c.in_ok-walk.ensures (omega (arith, c.if-walk-gt0.false)) c.in-Ok.ensures
+returns c = entries_end c.args.keeping c.args.info.now c.args.header c.args.table.now.declarations (walked_of c.in_ok-walk.walk) c.in-Ok.insides.items c.in_ok-walk.ensures (omega (arith, c.if-walk-gt0.false)) c.in-Ok.ensures

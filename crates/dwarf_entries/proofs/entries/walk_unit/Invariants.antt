@@ -5,8 +5,8 @@ use Rattle.dwarf_entries.proofs.entries.walk_unit.Given as goal
 
 abbrev pub invariant-loop-unit : goal.invariant-loop-unit
 invariant-loop-unit l = record {
-  bytes : l.cursor.bytes ≡ take l.header.end l.info;
-  walked : WalkedSoFar l.keeping l.info l.header l.table l.cursor.place (walked_of l.walk);
+  bytes : l.cursor.bytes ≡ take l.fn.header.end l.info;
+  walked : WalkedSoFar l.keeping l.info l.fn.header l.table.declarations l.cursor.place (walked_of l.walk);
 }
 
 abbrev pub decreases-loop-unit : goal.decreases-loop-unit

@@ -1,4 +1,4 @@
-use Rattle.std.proofs.Common.{◌≡◌, arith}
+use Rattle.std.proofs.Common.{arith}
 use Rattle.dwarf_entries.proofs.TableLaws.{last_again}
 use Rattle.dwarf_entries.proofs.tables.unit_table.Goals as goal
 
