@@ -7,6 +7,7 @@ use Rattle.std.proofs.lemmas.Option.{slice_get_cases}
 use Rattle.std.proofs.lemmas.Bool.{lt-ltb}
 use Rattle.std.proofs.lemmas.List.{drop_all, drop-drop, reverse-append}
 use Rattle.std.proofs.lemmas.List.Quantifiers.{position-Some}
+use Rattle.memchr.specs.Find.{IsFirstByte, is_byte}
 use Rattle.dwarf_bytes.specs.declared.fault.Cause.{Cause}
 use Rattle.dwarf_bytes.specs.declared.fault.ReadFault.TheVariants.{Unterminated}
 use Rattle.dwarf_bytes.specs.Bind.{◌>>=◌}
@@ -37,6 +38,31 @@ position-skip {X = X} p x xs is = by_len (prefix_len (λ y. not (p y)) xs) refl
 position-first : {X : Type 0} (p : X → Bool) (x : X) (xs : List X) → p x ≡ true → position p (x ∷ xs) ≡ Some 0
 position-first p x xs is =
     let some : nat_lt 0 (length (x ∷ xs)) ≡ true = lt-ltb 0 (length (x ∷ xs)) (omega arith) in rw (is, some) refl
+
+-- the place that a test picks, where it picks none before
+position-is : (p : ℕ → Bool) (xs : List ℕ) (i : ℕ) → i < length xs → p (get_or xs i 0) ≡ true → ((k : ℕ) → k < i → p (get_or xs k 0) ≡ false) → position p xs ≡ Some i
+position-is p [] i within picks none = absurd (omega (arith, within))
+position-is p (x ∷ xs) zero within picks none = position-first p x xs picks
+position-is p (x ∷ xs) (suc i) within picks none =
+    position-skip p x xs (none 0 (omega arith)) ∙ (ap (λ (n : Option ℕ). option_map (λ n. 1 + n) n) (position-is p xs i (omega (arith, within)) picks (λ k lt. none (suc k) (omega (arith, lt)))) ∙ ap (λ (n : ℕ). Some n) (omega arith))
+
+position-none : (p : ℕ → Bool) (xs : List ℕ) → ((k : ℕ) → k < length xs → p (get_or xs k 0) ≡ false) → position p xs ≡ None
+position-none p [] none = refl
+position-none p (x ∷ xs) none =
+    position-skip p x xs (none 0 (omega arith)) ∙ ap (λ (n : Option ℕ). option_map (λ n. 1 + n) n) (position-none p xs (λ k lt. none (suc k) (omega (arith, lt))))
+
+-- the first byte that a search finds
+pub found_first : (bytes : List ℕ) (found : Option ℕ) → IsFirstByte (is_byte 0) bytes found → found ≡ position (λ b. b == 0) bytes
+found_first bytes None nowhere = sym (position-none (λ b. b == 0) bytes (λ k lt. not_true (get_or bytes k 0 == 0) (nowhere k (omega arith) lt)))
+  where
+    not_true : (b : Bool) → (b ≡ true → ⊥) → b ≡ false
+    not_true true never = absurd (never refl)
+    not_true false never = refl
+found_first bytes (Some i) first = sym (position-is (λ b. b == 0) bytes i first.0.high first.1 (λ k lt. not_true (get_or bytes k 0 == 0) (first.0.before k (omega arith) lt)))
+  where
+    not_true : (b : Bool) → (b ≡ true → ⊥) → b ≡ false
+    not_true true never = absurd (never refl)
+    not_true false never = refl
 
 same_position : (found : Option ℕ) → found ≡ option_map (λ n. 0 + n) found
 same_position None = refl

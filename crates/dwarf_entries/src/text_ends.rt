@@ -9,6 +9,7 @@ ghost use Rattle.dwarf_entries.specs.Names.{text_len};
 use crate::entries::up_to;
 use crate::sections::Sections;
 use dwarf_bytes::{Cause, ReadFault};
+use memchr::memchr;
 use std::alloc::{AllocError, Global};
 
 /// The bytes of a block.
@@ -70,7 +71,7 @@ fn first_nul(bytes: &[u8]) -> Option<usize>
     ensures place { result ≡ position (λ byte. byte == 0) bytes.now }
     ensures within { IfSome result (λ place. place < length bytes.now) }
 {
-    bytes.iter().position(|byte| *byte == 0)
+    memchr(0, bytes)
 }
 
 /// The first NUL from a place on, by the first ones from the start of each block on.
