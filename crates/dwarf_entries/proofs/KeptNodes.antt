@@ -168,4 +168,4 @@ step-kept keeping format table w kept unit at after found head attributes buffer
     let second = subst (λ (f : Option EntryHead). ReadsEntry keeping format table w (is_some w.root) unit at after f attributes) is first in
     entry-kept keeping format table w kept unit at after head attributes second
     (kept_is ∙ (ap (λ (k : ℕ). after_die keeping w (record { offset = k; depth = w.depth; tag = head.tag; attributes = buffer })) place
-        ∙ ap (λ (b : List Attribute). after_die keeping w (record { offset = at; depth = w.depth; tag = head.tag; attributes = b })) held))
+    ∙ ap (λ (b : List Attribute). after_die keeping w (record { offset = at; depth = w.depth; tag = head.tag; attributes = b })) held))

@@ -121,10 +121,12 @@ pub judged_again : (section : List ℕ) (last : Option JudgedTable) (judged : Ju
     (table : List Declaration) × (in_section sections.DebugAbbrev (declarations_of left section offset) ≡ Ok table) × ((left - judged.len) + length table ≡ left) × (judged ≡ record { offset = offset; len = length table })
 judged_again section None judged offset left known is same few = cc
 judged_again section (Some last) judged offset left known is same few =
-    let kept = subst (λ (t : JudgedTable). (room : ℕ) × (table : List Declaration) × (declarations_of room section t.offset ≡ Ok table) × (length table ≡ t.len)) (same_some is) known in
-    (kept.1,
-    ap (λ (r : Result (List Declaration) At). in_section sections.DebugAbbrev r) (table_again kept.0 left section offset kept.1 (subst (λ (k : ℕ). declarations_of kept.0 section k ≡ Ok kept.1) same kept.2) (omega (arith, kept.3, few))),
-    omega (arith, kept.3, few), whole judged.offset offset judged.len (length kept.1) same (sym kept.3))
+    let kept = subst (λ (t : JudgedTable). (room : ℕ) × (table : List Declaration) × (declarations_of room section t.offset ≡ Ok table) × (length table ≡ t.len)) (same_some is) known in (
+      kept.1,
+      ap (λ (r : Result (List Declaration) At). in_section sections.DebugAbbrev r) (table_again kept.0 left section offset kept.1 (subst (λ (k : ℕ). declarations_of kept.0 section k ≡ Ok kept.1) same kept.2) (omega (arith, kept.3, few))),
+      omega (arith, kept.3, few),
+      whole judged.offset offset judged.len (length kept.1) same (sym kept.3),
+    )
   where
     same_some : {x y : JudgedTable} → (let f : JudgedTable → Option JudgedTable = λ t. Some t in f x ≡ f y) → x ≡ y
     same_some h = cc
@@ -140,9 +142,10 @@ judged_read section room table judged offset read is = rw is (room, table, in_se
 pub planned_at : (code : ℕ) (format : Format) (table : List Declaration) (plans : List Planned) (place : ℕ) (declaration : Declaration) (plan : Planned) → position (λ d. d.code == code) table ≡ Some place →
     plans ≡ map (λ d. plan_of format d.attributes) table → slice_get table place ≡ Some declaration → slice_get plans place ≡ Some plan →
     (find (λ d. d.code == code) table ≡ Some declaration) × (plan ≡ plan_of format declaration.attributes)
-planned_at code format table plans place declaration plan at are here planned =
-    (find-place (λ (d : Declaration). d.code == code) table (Some place) at ∙ here,
-    same_some (sym planned ∙ (ap (λ (ps : List Planned). slice_get ps place) are ∙ (slice_get-map (λ (d : Declaration). plan_of format d.attributes) table place ∙ ap (λ (d : Option Declaration). option_map (λ d. plan_of format d.attributes) d) here))))
+planned_at code format table plans place declaration plan at are here planned = (
+  find-place (λ (d : Declaration). d.code == code) table (Some place) at ∙ here,
+  same_some (sym planned ∙ (ap (λ (ps : List Planned). slice_get ps place) are ∙ (slice_get-map (λ (d : Declaration). plan_of format d.attributes) table place ∙ ap (λ (d : Option Declaration). option_map (λ d. plan_of format d.attributes) d) here))),
+)
   where
     same_some : {x y : Planned} → (let f : Planned → Option Planned = λ t. Some t in f x ≡ f y) → x ≡ y
     same_some h = cc

@@ -9,7 +9,7 @@ use Rattle.dwarf_entries.proofs.passes.all_entries.Given as goal
 abbrev pub invariant-loop-header : goal.invariant-loop-header
 invariant-loop-header l = record {
   so_far :
-    (tables : List (List Declaration)) → tables_of l.sections.debug_abbrev.now l.headers ≡ Ok tables
-    → EntriesSoFar l.keeping l.sections.debug_info.now l.headers tables l.header-index l.left (map kept_of l.units.items);
+      (tables : List (List Declaration)) → tables_of l.sections.debug_abbrev.now l.headers ≡ Ok tables
+      → EntriesSoFar l.keeping l.sections.debug_info.now l.headers tables l.header-index l.left (map kept_of l.units.items);
   last : IsLast l.sections.debug_abbrev.now l.last;
 }
