@@ -209,7 +209,7 @@ fn paths_out_of_the_scopes(rt: HostRuntime) -> Result<(), Fail> {
         5, 0x34, 0, 0x03, 0x08, 0, 0, // variable: name
         0,
     ];
-    let entries = [
+    let mut entries = [
         1, // 12
         2, 21, 0x4c, 0, // 13: specification 21, linkage_name L
         3, 19, // 17: origin 19
@@ -217,16 +217,15 @@ fn paths_out_of_the_scopes(rt: HostRuntime) -> Result<(), Fail> {
         5, 0x76, 0, // 21: name v
         0,
     ];
-    let mut info = unit(rt.alloc(), &entries)?;
+    let info = unit(rt.alloc(), &entries)?;
     let read = Scopes::read(rt.alloc(), &sections(&info, &table))?;
     assert_eq!(rt; read.scopes().len(), 2);
     for scope in read.scopes() {
         assert_eq!(rt; scope.name, text(Section::DebugInfo, 22, 1));
         assert_eq!(rt; scope.linkage_name, text(Section::DebugInfo, 15, 1));
     }
-    // the variable at 19 names no entry
-    assert_eq!(rt; info[20], 13);
-    info[20] = 14;
+    entries[8] = 14; // 19: specification 14, where no entry stands
+    let info = unit(rt.alloc(), &entries)?;
     is_refused(&rt, &sections(&info, &table), Cause::Reference, 17);
     Ok(())
 }
