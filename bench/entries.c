@@ -1,17 +1,13 @@
 // Reads the units, entries and scopes of an object with plain loops that make the same checks as our
 // reader, and says how long it took. A name is looked for by reading the entries again to which the
 // references of a scope lead.
+#include "bytes.h"
 #include <elf.h>
 #include <stdint.h>
 #include <stdio.h>
 #include <stdlib.h>
 #include <string.h>
 #include <time.h>
-
-struct bytes {
-    const uint8_t *at, *end;
-    int bad;
-};
 
 struct section {
     const uint8_t *start;
@@ -85,43 +81,6 @@ static void *grown(void *items, size_t count, size_t *room, size_t size) {
     items = realloc(items, *room * size);
     if (!items) abort();
     return items;
-}
-
-static uint64_t fixed(struct bytes *b, uint64_t n) {
-    uint64_t value = 0;
-    if ((uint64_t)(b->end - b->at) < n) { b->bad = 1; return 0; }
-    memcpy(&value, b->at, n);
-    b->at += n;
-    return value;
-}
-
-static uint64_t uleb(struct bytes *b) {
-    uint64_t sum = 0;
-    for (int shift = 0; shift < 70; shift += 7) {
-        if (b->at == b->end) break;
-        uint8_t byte = *b->at++;
-        if (shift == 63 && byte > 1) break;
-        sum |= (uint64_t)(byte & 0x7f) << shift;
-        if (byte < 0x80) return sum;
-    }
-    b->bad = 1;
-    return 0;
-}
-
-static int64_t sleb(struct bytes *b) {
-    uint64_t sum = 0;
-    for (int shift = 0; shift < 70; shift += 7) {
-        if (b->at == b->end) break;
-        uint8_t byte = *b->at++;
-        if (shift == 63 && byte != 0 && byte != 0x7f) break;
-        sum |= (uint64_t)(byte & 0x7f) << shift;
-        if (byte < 0x80) {
-            if (shift < 57 && (byte & 0x40)) sum |= ~0ull << (shift + 7);
-            return (int64_t)sum;
-        }
-    }
-    b->bad = 1;
-    return 0;
 }
 
 static void skip(struct bytes *b, uint64_t n) {

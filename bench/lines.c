@@ -1,5 +1,6 @@
 // Reads the line programs of an object with a plain interpreter that makes the same checks and keeps
 // the same rows, and says how long it took.
+#include "bytes.h"
 #include <elf.h>
 #include <stdint.h>
 #include <stdio.h>
@@ -17,48 +18,6 @@ struct rows {
     struct row *items;
     size_t count, room;
 };
-
-struct bytes {
-    const uint8_t *at, *end;
-    int bad;
-};
-
-static uint64_t fixed(struct bytes *b, int n) {
-    uint64_t value = 0;
-    if (b->end - b->at < n) { b->bad = 1; return 0; }
-    memcpy(&value, b->at, n);
-    b->at += n;
-    return value;
-}
-
-static uint64_t uleb(struct bytes *b) {
-    uint64_t sum = 0;
-    for (int shift = 0; shift < 70; shift += 7) {
-        if (b->at == b->end) break;
-        uint8_t byte = *b->at++;
-        if (shift == 63 && byte > 1) break;
-        sum |= (uint64_t)(byte & 0x7f) << shift;
-        if (byte < 0x80) return sum;
-    }
-    b->bad = 1;
-    return 0;
-}
-
-static int64_t sleb(struct bytes *b) {
-    uint64_t sum = 0;
-    for (int shift = 0; shift < 70; shift += 7) {
-        if (b->at == b->end) break;
-        uint8_t byte = *b->at++;
-        if (shift == 63 && byte != 0 && byte != 0x7f) break;
-        sum |= (uint64_t)(byte & 0x7f) << shift;
-        if (byte < 0x80) {
-            if (shift < 57 && (byte & 0x40)) sum |= ~0ull << (shift + 7);
-            return (int64_t)sum;
-        }
-    }
-    b->bad = 1;
-    return 0;
-}
 
 static void text(struct bytes *b) {
     const uint8_t *nul = memchr(b->at, 0, b->end - b->at);
