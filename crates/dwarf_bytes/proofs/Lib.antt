@@ -13,3 +13,6 @@ pub mod GoodObject
 pub mod ItemLaws
 pub mod EachLaws
 pub mod Advance
+pub mod Moves
+pub mod Turns
+pub mod EachPlaces

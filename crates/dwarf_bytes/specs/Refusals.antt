@@ -1,12 +1,12 @@
 -- How a decoding call refuses: by the first fault of the bytes, or for want of memory, which is no fault of theirs.
-use Rattle.std.specs.Prelude.{◌≡◌, ◌⊎◌, ℕ, List, Result, Ok, Err, Vec}
+use Rattle.std.specs.Prelude.{◌≡◌, ◌⊎◌, ℕ, List, Option, Some, None, Result, Ok, Err, Vec}
 use Rattle.std.specs.declared.alloc.Global.{Global}
 use Rattle.dwarf_bytes.specs.declared.fault.Section.{Section}
 use Rattle.dwarf_bytes.specs.declared.fault.Section.TheVariants as sections
 use Rattle.dwarf_bytes.specs.declared.fault.Cause.{Cause}
 use Rattle.dwarf_bytes.specs.declared.fault.Cause.TheVariants as causes
 use Rattle.dwarf_bytes.specs.declared.fault.LoadFault.{LoadFault}
-use Rattle.dwarf_bytes.specs.Items.{At}
+use Rattle.dwarf_bytes.specs.Items.{At, Next, Item, End}
 use Rattle.dwarf_bytes.specs.Position.{Position}
 
 -- want of memory
@@ -47,3 +47,26 @@ ReadsPlace (Err cause) read old new = read old.bytes old.place ≡ Err cause
 abbrev pub ReadsItems : {X : Type 0} → Result (Vec X Global) Cause → (List ℕ → ℕ → Result (List X × ℕ) Cause) → Position → Position → Type 0
 ReadsItems (Ok v) read old new = (read old.bytes old.place ≡ Ok (v.items, new.place)) × (new.bytes ≡ old.bytes)
 ReadsItems (Err cause) read old new = Fails cause (read old.bytes old.place)
+
+-- What a step on a cursor finds is the next item, or the end of the items, and the cursor stands after it. After a fault
+-- nothing is said of the cursor.
+abbrev pub ReadsNext : {X : Type 0} → Result (Option X) Cause → (List ℕ → ℕ → Result (Next X) Cause) → Position → Position → Type 0
+ReadsNext (Ok (Some x)) step old new = (step old.bytes old.place ≡ Ok (Item x new.place)) × (new.bytes ≡ old.bytes)
+ReadsNext (Ok None) step old new = (step old.bytes old.place ≡ Ok (End new.place)) × (new.bytes ≡ old.bytes)
+ReadsNext (Err cause) step old new = step old.bytes old.place ≡ Err cause
+
+
+-- What a step gives, seen by view, is the outcome, unless memory ran out.
+abbrev pub Gives : {X Y : Type 0} → (X → Y) → Result X Cause → Result Y Cause → Type 0
+Gives view (Ok x) outcome = outcome ≡ Ok (view x)
+Gives view (Err cause) outcome = Fails cause outcome
+
+-- A pass that keeps nothing refuses as the outcome does, unless memory ran out.
+abbrev pub Judges : {Y : Type 0} → Result (Unit {0}) LoadFault → Result Y LoadFault → Type 0
+Judges {Y} (Ok u) outcome = (y : Y) × (outcome ≡ Ok y)
+Judges (Err fault) outcome = (fault ≡ memory_fault) ⊎ (outcome ≡ Err fault)
+
+-- What a step builds, seen by view, is this, unless memory ran out.
+abbrev pub Builds : {X Y : Type 0} → (X → Y) → Result X LoadFault → Y → Type 0
+Builds view (Ok x) whole = view x ≡ whole
+Builds view (Err fault) whole = fault ≡ memory_fault

@@ -18,7 +18,7 @@ use Rattle.dwarf_entries.specs.Units.{declarations_limit, tables_of}
 use Rattle.dwarf_entries.specs.Entries.{Die, entries_of}
 use Rattle.dwarf_entries.specs.Kept.{KeptUnit, kept_unit, kept_entries}
 use Rattle.dwarf_entries.specs.Passes.{all_entries, kept_units, all_kept}
-use Rattle.dwarf_entries.proofs.EachPlaces.{each-length, each-place}
+use Rattle.dwarf_bytes.proofs.EachPlaces.{each-length, each-place}
 use Rattle.dwarf_entries.proofs.TableLaws.{table_for, in_section_ok}
 
 abbrev pub entries_for : List ℕ → List (List Die) → UnitHeader × List Declaration → Result (List Die) At

@@ -19,7 +19,7 @@ use Rattle.dwarf_bytes.specs.Contents.{Content, Number, Signed, Bytes, read_as, 
 use Rattle.dwarf_bytes.specs.Items.{Item, Advances, reading}
 use Rattle.dwarf_bytes.specs.Numbers.{block_at, fixed_at, uleb_at, sleb_at, cstr_at, text_front, offset_at}
 use Rattle.dwarf_bytes.proofs.Advance.{after_bind, after_test, chosen, MovesOn, uleb_at-moves, sleb_at-moves}
-use Rattle.dwarf_forms.proofs.Moves.{same_ok, same_item, uleb_moves, block_at-moves, fixed_at-moves}
+use Rattle.dwarf_bytes.proofs.Moves.{same_ok, same_item, uleb_moves, block_at-moves, fixed_at-moves}
 use Rattle.dwarf_forms.specs.declared.values.ValueFault.{ValueFault}
 use Rattle.dwarf_forms.specs.declared.values.ValueFault.TheVariants as values
 use Rattle.dwarf_forms.specs.declared.attribute.AttributeSpecification.{AttributeSpecification}

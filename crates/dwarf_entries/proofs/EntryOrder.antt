@@ -9,7 +9,7 @@ use Rattle.dwarf_bytes.specs.Items.{Lists, refuse_if, told_at, items_from}
 use Rattle.dwarf_bytes.proofs.Advance.{after_bind}
 use Rattle.dwarf_bytes.proofs.ItemLaws.{Lists-within, Lists-each}
 use Rattle.dwarf_forms.specs.Declarations.{Declaration}
-use Rattle.dwarf_forms.proofs.Moves.{same_ok}
+use Rattle.dwarf_bytes.proofs.Moves.{same_ok}
 use Rattle.dwarf_entries.specs.declared.units.UnitHeader.{UnitHeader}
 use Rattle.dwarf_entries.specs.Entries.{Node, Entry, Null, Standing, Die, AreDepths, depth_after, node_at, die_of, entries_of}
 use Rattle.dwarf_entries.specs.Kept.{RiseWithin}

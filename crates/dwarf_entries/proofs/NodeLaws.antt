@@ -7,7 +7,7 @@ use Rattle.dwarf_bytes.specs.declared.format.Format.{Format}
 use Rattle.dwarf_bytes.specs.Items.{Next, Item}
 use Rattle.dwarf_bytes.proofs.Advance.{MovesOn, after_bind, chosen}
 use Rattle.dwarf_forms.specs.Declarations.{Declaration}
-use Rattle.dwarf_forms.proofs.Moves.{same_item}
+use Rattle.dwarf_bytes.proofs.Moves.{same_item}
 use Rattle.dwarf_entries.specs.Entries.{Node, Standing, depth_after, is_root, node_behind, node_at}
 use Rattle.dwarf_entries.proofs.EntryMoves.{node_behind-moves}
 

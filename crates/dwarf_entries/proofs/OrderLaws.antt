@@ -13,7 +13,7 @@ use Rattle.dwarf_bytes.specs.Items.{Item, Lists, reading, told_at, each_from, it
 use Rattle.dwarf_bytes.proofs.Advance.{after_bind, after_test, chosen, reading_ok}
 use Rattle.dwarf_bytes.proofs.ItemLaws.{Lists-within}
 use Rattle.dwarf_forms.specs.Declarations.{Declaration}
-use Rattle.dwarf_forms.proofs.Moves.{same_ok, same_item}
+use Rattle.dwarf_bytes.proofs.Moves.{same_ok, same_item}
 use Rattle.dwarf_entries.specs.declared.kept.Keeping.{Keeping}
 use Rattle.dwarf_entries.specs.declared.units.UnitHeader.{UnitHeader}
 use Rattle.dwarf_entries.specs.declared.units.UnitType.{UnitType}

@@ -20,7 +20,7 @@ use Rattle.dwarf_bytes.specs.Items.{reading, refuse_if}
 use Rattle.dwarf_bytes.specs.Words.{cause_of}
 use Rattle.dwarf_bytes.specs.Numbers.{block_at, fixed_at, little_endian, offset_len, offset_at, uleb_at}
 use Rattle.dwarf_bytes.proofs.Advance.{after_bind, after_test}
-use Rattle.dwarf_forms.proofs.Moves.{same_ok}
+use Rattle.dwarf_bytes.proofs.Moves.{same_ok}
 use Rattle.dwarf_forms.specs.declared.values.ValueFault.{ValueFault}
 use Rattle.dwarf_forms.specs.declared.values.ValueFault.TheVariants as values
 use Rattle.dwarf_forms.specs.declared.attribute.AttributeSpecification.{AttributeSpecification}

@@ -12,11 +12,11 @@ use Rattle.dwarf_bytes.specs.declared.fault.ReadFault.TheVariants.{Short}
 use Rattle.dwarf_bytes.specs.Words.{cause_of}
 use Rattle.dwarf_bytes.specs.Position.{Position}
 use Rattle.dwarf_bytes.specs.Numbers.{block_at, fixed_at, u8_at, u64_at, uleb_at}
-use Rattle.dwarf_forms.specs.Tables.{ReadsNext}
+use Rattle.dwarf_bytes.specs.Refusals.{ReadsNext}
 use Rattle.dwarf_bytes.specs.Items.{Next, Item, End, Advances, reading, refuse_if}
 use Rattle.dwarf_bytes.proofs.Advance.{after_bind, after_test, reading_ok, MovesOn}
-use Rattle.dwarf_forms.proofs.Moves.{same_ok, same_item, uleb_moves, u8_moves, fixed_at-moves}
-use Rattle.dwarf_forms.proofs.Turns.{SoFar, so_far-none, so_far-item, so_far-end, so_far-fault}
+use Rattle.dwarf_bytes.proofs.Moves.{same_ok, same_item, uleb_moves, u8_moves, fixed_at-moves}
+use Rattle.dwarf_bytes.proofs.Turns.{SoFar, so_far-none, so_far-item, so_far-end, so_far-fault}
 use Rattle.dwarf_entries.specs.declared.scope.Range.{Range}
 use Rattle.dwarf_entries.specs.declared.bases.Bases.{Bases}
 use Rattle.dwarf_entries.specs.declared.ranges.RangeListKind.{RangeListKind}

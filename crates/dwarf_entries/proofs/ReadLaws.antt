@@ -25,7 +25,7 @@ use Rattle.dwarf_entries.specs.Bases.{CompilationUnit}
 use Rattle.dwarf_entries.specs.Scopes.{Tree, Scope, Judged, places_in, roots_from, scope_of, tree_of}
 use Rattle.dwarf_entries.specs.Kept.{KeptUnit, kept_of, scope_count}
 use Rattle.dwarf_entries.specs.Passes.{all_entries, kept_units, all_kept, all_units, bases_of, all_bases, kept_unit_of, AreUnits, judge, all_places, all_scopes, TablesRead, tree_of_units, tree_of_dies, tree_with}
-use Rattle.dwarf_entries.proofs.EachPlaces.{each-length}
+use Rattle.dwarf_bytes.proofs.EachPlaces.{each-length}
 use Rattle.dwarf_entries.proofs.TableLaws.{in_section_ok}
 use Rattle.dwarf_entries.proofs.PlaceLaws.{entries_are, entry_in}
 use Rattle.dwarf_entries.proofs.OrderLaws.{units-in-order}

@@ -21,7 +21,7 @@ use Rattle.dwarf_entries.specs.Sections.{Sections}
 use Rattle.dwarf_entries.specs.Bases.{CompilationUnit}
 use Rattle.dwarf_entries.specs.Scopes.{Judged, Place, Scope, items_limit, places_in, scope_of}
 use Rattle.dwarf_entries.specs.Passes.{AreUnits, judged_of, IsPlace, judge, AreJudged, AddsScopes, all_places, scope_with, all_scopes}
-use Rattle.dwarf_entries.proofs.EachPlaces.{each-append}
+use Rattle.dwarf_bytes.proofs.EachPlaces.{each-append}
 use Rattle.dwarf_entries.proofs.PassLaws.{told_cases}
 use Rattle.dwarf_entries.specs.Kept.{KeptUnit, scope_entry_of, insides_in, kept_of}
 use Rattle.dwarf_entries.proofs.ScopeLaws.{kept_in, unit_at}

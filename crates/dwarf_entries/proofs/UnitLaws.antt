@@ -15,8 +15,8 @@ use Rattle.dwarf_bytes.specs.Numbers.{u8_at, u16_at, u32_at, initial_length_at, 
 use Rattle.dwarf_bytes.specs.Items.{At, Item, End, Advances, reading, items_from}
 use Rattle.dwarf_bytes.specs.Refusals.{memory_fault, told, in_section}
 use Rattle.dwarf_bytes.proofs.Advance.{after_bind, after_test, chosen, reading_ok}
-use Rattle.dwarf_forms.proofs.Moves.{same_ok, same_item, fixed_at-moves}
-use Rattle.dwarf_forms.proofs.Turns.{SoFar, so_far-item, so_far-end, so_far-fault}
+use Rattle.dwarf_bytes.proofs.Moves.{same_ok, same_item, fixed_at-moves}
+use Rattle.dwarf_bytes.proofs.Turns.{SoFar, so_far-item, so_far-end, so_far-fault}
 use Rattle.dwarf_entries.specs.declared.units.UnitHeader.{UnitHeader}
 use Rattle.dwarf_entries.specs.Units.{unit_type_of, is_read_type, is_read, header_in, unit_at, header_at, headers_of, units_of}
 

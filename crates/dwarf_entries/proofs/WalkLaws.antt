@@ -19,8 +19,8 @@ use Rattle.dwarf_bytes.specs.Position.{Position}
 use Rattle.dwarf_bytes.specs.Refusals.{memory_fault, told, in_section, Fails}
 use Rattle.dwarf_bytes.proofs.Advance.{after_bind}
 use Rattle.dwarf_forms.specs.Declarations.{Declaration}
-use Rattle.dwarf_forms.proofs.Moves.{same_ok}
-use Rattle.dwarf_forms.proofs.Turns.{SoFar, so_far-none, so_far-item, so_far-end, so_far-fault}
+use Rattle.dwarf_bytes.proofs.Moves.{same_ok}
+use Rattle.dwarf_bytes.proofs.Turns.{SoFar, so_far-none, so_far-item, so_far-end, so_far-fault}
 use Rattle.dwarf_entries.specs.declared.attributes.Attribute.{Attribute}
 use Rattle.dwarf_entries.specs.declared.entries.Level.{Level}
 use Rattle.dwarf_entries.specs.declared.kept.Keeping.{Keeping}

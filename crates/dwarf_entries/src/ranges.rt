@@ -1,10 +1,9 @@
 //! Range lists (DWARF 5, 2.17.3 and 7.25).
 
 ghost use Rattle.std.specs.Prelude.{◌≡◌, ◌<◌, IsSome, IfOk};
-ghost use Rattle.dwarf_bytes.specs.Refusals.{ReadsField};
-ghost use Rattle.dwarf_forms.specs.Tables.{ReadsNext};
+ghost use Rattle.dwarf_bytes.specs.Refusals.{ReadsField, ReadsNext, Gives};
 ghost use Rattle.dwarf_entries.specs.Ranges.{kind_of, covered, index_at, entry_at, listed_behind, list_place, list_at, list_of, high_of, pair_range, pair_at, covers_by};
-ghost use Rattle.dwarf_entries.specs.Steps.{Gives, covering_of};
+ghost use Rattle.dwarf_entries.specs.Steps.{covering_of};
 ghost use Rattle.dwarf_entries.specs.Sections.{sections_of};
 
 use crate::attributes::{AttributeValue, is_address};

@@ -2,11 +2,10 @@
 
 ghost use Rattle.std.specs.Prelude.{◌≡◌, ◌<◌, ◌^◌, map, List};
 ghost use Rattle.dwarf_entries.specs.declared.kept.Keeping.{Keeping};
-ghost use Rattle.dwarf_bytes.specs.Refusals.{Decodes};
+ghost use Rattle.dwarf_bytes.specs.Refusals.{Decodes, Builds};
 ghost use Rattle.dwarf_entries.specs.Sections.{sections_of};
 ghost use Rattle.dwarf_entries.specs.Bases.{CompilationUnit};
 ghost use Rattle.dwarf_entries.specs.Scopes.{scope_of, roots_from, tree_of};
-ghost use Rattle.dwarf_entries.specs.Steps.{Builds};
 ghost use Rattle.dwarf_entries.specs.Texts.{AreEnds};
 ghost use Rattle.dwarf_entries.specs.Passes.{kept_unit_of, TablesRead, tree_with};
 ghost use Rattle.dwarf_entries.specs.Kept.{kept_of, scope_count};

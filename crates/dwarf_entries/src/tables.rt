@@ -2,12 +2,12 @@
 
 ghost use Rattle.std.specs.Prelude.{◌≡◌, ◌⊎◌, ◌+◌, ◌==◌, List, Some, None, Ok, Err, length, find, IsTrue, ◌↔◌, IfOk, IfErr, IfNone, IfSome};
 ghost use Rattle.dwarf_bytes.specs.declared.fault.Section.TheVariants as sections;
-ghost use Rattle.dwarf_bytes.specs.Refusals.{memory_fault, Decodes, in_section};
+ghost use Rattle.dwarf_bytes.specs.Refusals.{memory_fault, Decodes, in_section, Judges};
 ghost use Rattle.dwarf_forms.specs.Declarations.{Declaration};
 ghost use Rattle.dwarf_forms.specs.Tables.{declarations_of};
 ghost use Rattle.dwarf_entries.specs.Units.{tables_of};
 ghost use Rattle.dwarf_entries.specs.Plans.{plan_of};
-ghost use Rattle.dwarf_entries.specs.Steps.{Judges, IsJudged, IsLast};
+ghost use Rattle.dwarf_entries.specs.Steps.{IsJudged, IsLast};
 
 use crate::plans::{Plan, plans};
 use crate::units::UnitHeader;

@@ -2,13 +2,12 @@
 
 ghost use Rattle.std.specs.Prelude.{◌≡◌, ◌≤◌, ◌<◌, ◌+◌, ◌^◌, List, Some, length, map, slice_get, IfOk};
 ghost use Rattle.dwarf_bytes.specs.declared.fault.Section.TheVariants as names;
-ghost use Rattle.dwarf_bytes.specs.Refusals.{Decodes, in_section};
+ghost use Rattle.dwarf_bytes.specs.Refusals.{Decodes, in_section, Gives};
 ghost use Rattle.dwarf_entries.specs.Sections.{sections_of};
 ghost use Rattle.dwarf_entries.specs.Texts.{AreEnds};
 ghost use Rattle.dwarf_entries.specs.declared.kept.Keeping.{Keeping};
 ghost use Rattle.dwarf_entries.specs.Bases.{CompilationUnit};
 ghost use Rattle.dwarf_entries.specs.Scopes.{Judged, Place, places_in, scope_of};
-ghost use Rattle.dwarf_entries.specs.Steps.{Gives};
 ghost use Rattle.dwarf_entries.specs.Passes.{AreUnits, stmt_list_in, judged_of, IsPlace, AreJudged, AddsScopes, scope_with, all_scopes};
 
 use crate::bases::Bases;

@@ -14,7 +14,8 @@ use Rattle.dwarf_forms.specs.declared.attribute.AttributeSpecification.{Attribut
 use Rattle.dwarf_forms.specs.Declarations.{implicit_const, SpellsConstant, SpellsAttribute, SpellsEach, EndsAttributes}
 use Rattle.dwarf_forms.specs.Tables.{constant_at, attribute_at, attributes_at}
 use Rattle.dwarf_forms.proofs.Stretches.{Stretch, stretch_of, stands_from, joined, first_part, second_part, respelled, nothing}
-use Rattle.dwarf_forms.proofs.Moves.{same_ok, same_item, same_end, attribute_at-advances, attributes_at-lists, attributes_ok}
+use Rattle.dwarf_bytes.proofs.Moves.{same_ok, same_item, same_end}
+use Rattle.dwarf_forms.proofs.Moves.{attribute_at-advances, attributes_at-lists, attributes_ok}
 use Rattle.dwarf_forms.proofs.Listed.{SpellsAll, GoodEach, EndStands, IsSpelled, IsRead, spelled_list, read_list, IsNew}
 
 -- ---- numbers

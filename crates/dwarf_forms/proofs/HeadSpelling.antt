@@ -11,7 +11,7 @@ use Rattle.dwarf_forms.specs.declared.declaration.Head.{Head}
 use Rattle.dwarf_forms.specs.Declarations.{Declaration}
 use Rattle.dwarf_forms.specs.Tables.{head_at}
 use Rattle.dwarf_forms.proofs.Stretches.{Stretch, stretch_of, stands_from, joined, first_part, second_part, within, fixed_stands, fixed_again}
-use Rattle.dwarf_forms.proofs.Moves.{same_item, same_end}
+use Rattle.dwarf_bytes.proofs.Moves.{same_item, same_end}
 use Rattle.dwarf_forms.proofs.AttributeSpelling.{uleb_read, uleb_reads, unlike, alike, differ}
 
 pub record SpellsHead (bytes : List ℕ) (head : Head) : Type 0 where

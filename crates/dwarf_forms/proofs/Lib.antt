@@ -1,6 +1,5 @@
 pub mod Codes
 pub mod Names
-pub mod Turns
 pub mod Moves
 pub mod TableTurns
 pub mod Stretches

@@ -4,7 +4,7 @@ use Rattle.std.specs.Prelude.{Ok, nat_lt}
 use Rattle.std.proofs.lemmas.List.{take_at, drop_at, drop-drop}
 use Rattle.std.proofs.lemmas.Bool.{le-ltb}
 use Rattle.dwarf_bytes.specs.Numbers.{StandsAt, block_at, fixed_at, little_endian}
-use Rattle.dwarf_forms.proofs.Moves.{block_at-moves, fixed_at-moves}
+use Rattle.dwarf_bytes.proofs.Moves.{block_at-moves, fixed_at-moves}
 
 -- the stretch from one place to another, and what follows it
 pub record Stretch (bytes : List ℕ) (at : ℕ) (stretch : List ℕ) (next : ℕ) (rest : List ℕ) : Type 0 where

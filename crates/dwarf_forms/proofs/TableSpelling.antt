@@ -13,7 +13,8 @@ use Rattle.dwarf_forms.specs.declared.declaration.Head.{Head}
 use Rattle.dwarf_forms.specs.Declarations.{Declaration, SpellsDeclaration, SpellsTable, IsGood, AreGood}
 use Rattle.dwarf_forms.specs.Tables.{attributes_at, head_at, declaration_at, table_at}
 use Rattle.dwarf_forms.proofs.Stretches.{stretch_of, stands_from, joined, first_part, second_part, respelled}
-use Rattle.dwarf_forms.proofs.Moves.{same_ok, same_item, same_end, declaration_at-advances}
+use Rattle.dwarf_bytes.proofs.Moves.{same_ok, same_item, same_end}
+use Rattle.dwarf_forms.proofs.Moves.{declaration_at-advances}
 use Rattle.dwarf_forms.proofs.Listed.{SpellsAll, EndStands, IsSpelled, IsRead, spelled_list, read_list, GoodEach-map, GoodEach-both, IsNew, all_new, new_each, HasRoom, all_room, room_each}
 use Rattle.dwarf_forms.proofs.AttributeSpelling.{uleb_reads, IsUsable, name_of, SpellsAttributes, GoodAttributes, attributes_spelled, attributes_read}
 use Rattle.dwarf_forms.proofs.HeadSpelling.{SpellsHead, head_spelled, head_end, head_read}

@@ -21,7 +21,7 @@ use Rattle.dwarf_forms.specs.Declarations.{Declaration}
 use Rattle.dwarf_forms.specs.Tables.{attributes_at, head_at, declaration_at, table_at, declarations_of}
 use Rattle.dwarf_forms.specs.Steps.{ExtendsTable}
 use Rattle.dwarf_forms.proofs.Moves.{declaration_at-advances}
-use Rattle.dwarf_forms.proofs.Turns.{SoFar, so_far-none, so_far-item, so_far-end, so_far-fault}
+use Rattle.dwarf_bytes.proofs.Turns.{SoFar, so_far-none, so_far-item, so_far-end, so_far-fault}
 
 -- a declaration is read only where there is room for one more
 head_at-room : (room : ℕ) (section : List ℕ) (before : List Declaration) (at : ℕ) (head : Head) (after : ℕ) → head_at room section before at ≡ Ok (Item head after) → length before < room

@@ -16,7 +16,7 @@ use Rattle.dwarf_bytes.proofs.ContentLaws.{content_stands, content_again}
 use Rattle.dwarf_forms.specs.declared.values.ValueFault.{ValueFault}
 use Rattle.dwarf_forms.specs.declared.values.ValueFault.TheVariants.{Form}
 use Rattle.dwarf_forms.specs.Values.{Value, SpellsDirectly, SpellsIndirectly, Spells, reading_value, direct_at, value_at}
-use Rattle.dwarf_forms.proofs.Moves.{same_ok}
+use Rattle.dwarf_bytes.proofs.Moves.{same_ok}
 use Rattle.dwarf_forms.proofs.Stretches.{Stretch, stretch_of, stands_from, joined, first_part, second_part, respelled, nothing}
 
 reading_ok : {X : Type 0} (r : Result X ReadFault) (x : X) → reading_value r ≡ Ok x → r ≡ Ok x

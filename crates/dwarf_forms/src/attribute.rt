@@ -4,8 +4,8 @@ ghost use Rattle.std.specs.Prelude.{◌≡◌, ◌==◌, ◌&&◌, ◌||◌, [],
 ghost use Rattle.std.specs.List.{list_any};
 ghost use Rattle.dwarf_bytes.specs.Forms.{form_of};
 ghost use Rattle.dwarf_bytes.specs.Items.{items_from, untold};
-ghost use Rattle.dwarf_bytes.specs.Refusals.{ReadsField, ReadsItems};
-ghost use Rattle.dwarf_forms.specs.Tables.{constant_at, attribute_at, attributes_at, ReadsNext};
+ghost use Rattle.dwarf_bytes.specs.Refusals.{ReadsField, ReadsItems, ReadsNext};
+ghost use Rattle.dwarf_forms.specs.Tables.{constant_at, attribute_at, attributes_at};
 ghost use Rattle.dwarf_forms.specs.Index.{HoldsNames};
 
 use dwarf_bytes::{Cause, Cursor, Form};

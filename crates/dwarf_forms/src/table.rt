@@ -4,9 +4,9 @@ ghost use Rattle.std.specs.Prelude.{◌≡◌, ◌+◌, ◌-◌, ◌≤◌, ◌<
 ghost use Rattle.std.specs.List.{list_any};
 ghost use Rattle.std.specs.Option.{option_copied};
 ghost use Rattle.dwarf_bytes.specs.declared.fault.Section.TheVariants as sections;
-ghost use Rattle.dwarf_bytes.specs.Refusals.{Decodes, in_section};
+ghost use Rattle.dwarf_bytes.specs.Refusals.{Decodes, in_section, ReadsNext};
 ghost use Rattle.dwarf_forms.specs.Index.{has_code_at};
-ghost use Rattle.dwarf_forms.specs.Tables.{head_at, declaration_at, declarations_of, ReadsNext};
+ghost use Rattle.dwarf_forms.specs.Tables.{head_at, declaration_at, declarations_of};
 ghost use Rattle.dwarf_forms.specs.Steps.{ExtendsTable};
 
 use crate::attribute::attributes;

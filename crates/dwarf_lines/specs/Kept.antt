@@ -16,11 +16,6 @@ tables_in program = record { offset = program.offset; directories = program.dire
 abbrev pub header_in : ProgramHeader → LineHeader
 header_in h = record { encoding = encoding h.opcodes; directories = h.directories.items; files = h.files.items; first = h.first; past = h.past }
 
--- What a step that may take memory returned, seen by view, is the outcome, unless memory ran out.
-abbrev pub Gives : {X Y : Type 0} → (X → Y) → Result X Cause → Result Y Cause → Type 0
-Gives view (Ok x) outcome = outcome ≡ Ok (view x)
-Gives view (Err cause) outcome = Fails cause outcome
-
 -- The program of the outcome was put at the end, its rows and its files, or the fault is the outcome's, unless
 -- memory ran out.
 abbrev pub AddsProgram : Result ℕ Cause → Result Program Cause → List Row → List Row → List ProgramFiles → List ProgramFiles → Type 0

@@ -4,7 +4,8 @@ ghost use Rattle.std.specs.Prelude.{◌≡◌, ◌≤◌, ◌<◌, length, IfOk,
 ghost use Rattle.dwarf_lines.specs.Readers.{sections_of};
 ghost use Rattle.dwarf_lines.specs.Headers.{header_at};
 ghost use Rattle.dwarf_lines.specs.Programs.{program_at_place};
-ghost use Rattle.dwarf_lines.specs.Kept.{header_in, Gives, AddsProgram};
+ghost use Rattle.dwarf_lines.specs.Kept.{header_in, AddsProgram};
+ghost use Rattle.dwarf_bytes.specs.Refusals.{Gives};
 
 use crate::bounds::bounds_of;
 use crate::entries::{Entry, Texts};

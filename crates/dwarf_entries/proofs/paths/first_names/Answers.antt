@@ -1,7 +1,7 @@
 use Rattle.std.proofs.Common.{◌-◌, [], subst, arith}
 use Rattle.std.specs.Prelude.{Option}
 use Rattle.std.proofs.lemmas.Result.{err_from_is_err_and}
-use Rattle.dwarf_forms.proofs.Turns.{None-from_no_Some}
+use Rattle.dwarf_bytes.proofs.Turns.{None-from_no_Some}
 use Rattle.dwarf_entries.specs.declared.paths.UnitEntry.{UnitEntry}
 use Rattle.dwarf_entries.specs.Names.{target_of}
 use Rattle.dwarf_entries.specs.Members.{Finds}

@@ -7,7 +7,7 @@ use Rattle.dwarf_entries.specs.declared.ranges.RangeListEntry.{RangeListEntry}
 use Rattle.dwarf_entries.specs.declared.ranges.RangeListEntry.TheVariants.{Base, Covers}
 use Rattle.dwarf_entries.specs.Sections.{sections_of}
 use Rattle.dwarf_entries.proofs.RangeLaws.{ListedSoFar, list_item, list_end, list_fault, list_unsought}
-use Rattle.dwarf_forms.proofs.Turns.{None-from_no_Some}
+use Rattle.dwarf_bytes.proofs.Turns.{None-from_no_Some}
 use Rattle.dwarf_entries.proofs.ranges.list.Goals as goal
 
 pub returns-in_err-seek : goal.returns-in_err-seek

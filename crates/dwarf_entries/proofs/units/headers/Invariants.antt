@@ -1,6 +1,6 @@
 use Rattle.std.proofs.Common.{◌≤◌, ◌-◌, length}
 use Rattle.dwarf_entries.specs.Units.{header_at}
-use Rattle.dwarf_forms.proofs.Turns.{SoFar}
+use Rattle.dwarf_bytes.proofs.Turns.{SoFar}
 use Rattle.dwarf_entries.proofs.units.headers.Given as goal
 
 abbrev pub invariant-loop-at : goal.invariant-loop-at

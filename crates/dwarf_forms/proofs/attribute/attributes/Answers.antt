@@ -5,7 +5,7 @@ use Rattle.dwarf_forms.specs.Index.{HoldsNames}
 use Rattle.dwarf_forms.specs.declared.attribute.AttributeSpecification.{AttributeSpecification}
 use Rattle.dwarf_forms.proofs.Names.{held_few, held_more}
 use Rattle.dwarf_forms.proofs.Moves.{attribute_at-advances, attributes_ok, attributes_err}
-use Rattle.dwarf_forms.proofs.Turns.{so_far-item, so_far-end, so_far-fault, next_item, next_end, next_fault, None-from_no_Some}
+use Rattle.dwarf_bytes.proofs.Turns.{so_far-item, so_far-end, so_far-fault, next_item, next_end, next_fault, None-from_no_Some}
 use Rattle.dwarf_forms.proofs.attribute.attributes.Goals.{then-len-ge-FEW+in_ok-insert, else-len-ge-FEW}
 use Rattle.dwarf_forms.proofs.attribute.attributes.Goals as goal
 

@@ -1,7 +1,7 @@
 use Rattle.std.proofs.Common.{◌≡◌, ◌-◌, length, drop}
 use Rattle.dwarf_forms.specs.Tables.{attribute_at}
 use Rattle.dwarf_forms.specs.Index.{HoldsNames}
-use Rattle.dwarf_forms.proofs.Turns.{SoFar}
+use Rattle.dwarf_bytes.proofs.Turns.{SoFar}
 use Rattle.dwarf_forms.proofs.attribute.attributes.Given as goal
 
 abbrev pub invariant-loop-later : goal.invariant-loop-later

@@ -1,6 +1,6 @@
 use Rattle.std.proofs.Common.{◌≡◌, ◌-◌, ◌≤◌, length}
 use Rattle.dwarf_forms.specs.Tables.{declaration_at}
-use Rattle.dwarf_forms.proofs.Turns.{SoFar}
+use Rattle.dwarf_bytes.proofs.Turns.{SoFar}
 use Rattle.dwarf_forms.proofs.table.declarations.Given as goal
 
 abbrev pub invariant-loop-table : goal.invariant-loop-table

@@ -4,7 +4,7 @@ use Rattle.std.specs.Prelude.{Result, Ok, Err, Option, Some, None}
 use Rattle.dwarf_bytes.specs.declared.fault.Cause.{Cause}
 use Rattle.dwarf_bytes.specs.Items.{At, Next, Item, End, items_from, Advances, Lists}
 use Rattle.dwarf_bytes.specs.Position.{Position}
-use Rattle.dwarf_forms.specs.Tables.{ReadsNext}
+use Rattle.dwarf_bytes.specs.Refusals.{ReadsNext}
 use Rattle.dwarf_bytes.proofs.ItemLaws.{with_front, loop-item, loop-end, loop-fault}
 
 -- what was read so far, in front of what is read from here on, is what is read from the first place on

@@ -4,7 +4,7 @@ use Rattle.std.specs.Prelude.{Result, Ok, Err}
 use Rattle.dwarf_bytes.specs.Bind.{◌>>=◌}
 use Rattle.dwarf_bytes.specs.Items.{At, each_from}
 use Rattle.dwarf_bytes.proofs.Advance.{after_bind}
-use Rattle.dwarf_forms.proofs.Moves.{same_ok}
+use Rattle.dwarf_bytes.proofs.Moves.{same_ok}
 
 pub each-length : {X Y : Type 0} (make : List Y → X → Result Y At) (before : List Y) (xs : List X) (ys : List Y) → each_from make before xs ≡ Ok ys → length ys ≡ length xs
 unfolding each_from
