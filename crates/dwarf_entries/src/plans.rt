@@ -81,7 +81,7 @@ pub(crate) fn read_steps(
 ) -> Result<(), Cause>
     ensures { (keep : Bool) (declared : List Specification) → steps.now ≡ steps_of keep format declared → Fills result found.new.items (kept_attributes_at keep format declared) cursor.old cursor.new }
 {
-    let _ = cursor.place(); // of a byte, or their end
+    let _ = cursor.place(); // it stands in the bytes or at their end, also where no step reads
     found.clear();
     for step in steps {
         read_step(format, step, cursor, found)?;
