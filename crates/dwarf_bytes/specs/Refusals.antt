@@ -55,7 +55,6 @@ ReadsNext (Ok (Some x)) step old new = (step old.bytes old.place ≡ Ok (Item x 
 ReadsNext (Ok None) step old new = (step old.bytes old.place ≡ Ok (End new.place)) × (new.bytes ≡ old.bytes)
 ReadsNext (Err cause) step old new = step old.bytes old.place ≡ Err cause
 
-
 -- What a step gives, seen by view, is the outcome, unless memory ran out.
 abbrev pub Gives : {X Y : Type 0} → (X → Y) → Result X Cause → Result Y Cause → Type 0
 Gives view (Ok x) outcome = outcome ≡ Ok (view x)
