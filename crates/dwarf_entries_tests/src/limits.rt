@@ -114,35 +114,37 @@ fn flags(alloc: Global, count: u32) -> Result<Vec<u8>, AllocError> {
     declarations(alloc, (&[], &[]), (&declared, &[]))
 }
 
-/// Two thousand subprograms of two thousand attributes each take one byte each.
+/// A hundred thousand subprograms of a hundred thousand attributes each take one byte each. A step for
+/// each attribute of each entry would never end.
 #[test]
 fn entries_of_many_flags(rt: HostRuntime) -> Result<(), Fail> {
-    let table = flags(rt.alloc(), 2_000)?;
+    let table = flags(rt.alloc(), 100_000)?;
     let mut entries = Vec::new(rt.alloc());
     entries.push(1)?;
-    for _ in 0..2_000 {
+    for _ in 0..100_000 {
         entries.push(2)?;
     }
     entries.push(0)?;
     let info = unit(rt.alloc(), &entries)?;
     let read = Scopes::read(rt.alloc(), &sections(&info, &table))?;
-    assert_eq!(rt; read.roots(), [root(12, 0, 2_000)].as_slice());
-    assert_eq!(rt; read.scopes().len(), 2_000);
+    assert_eq!(rt; read.roots(), [root(12, 0, 100_000)].as_slice());
+    assert_eq!(rt; read.scopes().len(), 100_000);
     for (number, scope) in read.scopes().iter().enumerate() {
         assert_eq!(rt; Some(scope.offset), number.checked_add(13));
     }
     Ok(())
 }
 
-/// Checks that two thousand units of 13 bytes are read, each with a root that is its only scope.
-fn are_two_thousand(
+/// Checks that so many units of 13 bytes are read, each with a root that is its only scope.
+fn are_units(
     rt: &(impl Abort + AllocGlobal),
     info: &[u8],
     table: &[u8],
+    count: usize,
 ) -> Result<(), Fail> {
     let read = Scopes::read(rt.alloc(), &sections(info, table))?;
-    assert_eq!(rt; read.scopes().len(), 2_000);
-    assert_eq!(rt; read.roots().len(), 2_000);
+    assert_eq!(rt; read.scopes().len(), count);
+    assert_eq!(rt; read.roots().len(), count);
     for (number, unit) in read.roots().iter().enumerate() {
         let offset = number.saturating_mul(13).saturating_add(12);
         assert_eq!(rt; *unit, root(offset, number, number.saturating_add(1)));
@@ -153,13 +155,14 @@ fn are_two_thousand(
 #[test]
 fn units_of_one_table(rt: HostRuntime) -> Result<(), Fail> {
     let table = subprograms(rt.alloc(), 1_000)?;
-    let info = units(rt.alloc(), 2_000, 1, 1)?;
-    are_two_thousand(&rt, &info, &table)
+    let info = units(rt.alloc(), 4_000, 1, 1)?;
+    are_units(&rt, &info, &table, 4_000)
 }
 
+/// The table is read once, not once a unit.
 #[test]
 fn units_of_one_long_declaration(rt: HostRuntime) -> Result<(), Fail> {
-    let table = flags(rt.alloc(), 250)?;
-    let info = units(rt.alloc(), 2_000, 0, 2)?;
-    are_two_thousand(&rt, &info, &table)
+    let table = flags(rt.alloc(), 100_000)?;
+    let info = units(rt.alloc(), 20_000, 0, 2)?;
+    are_units(&rt, &info, &table, 20_000)
 }
