@@ -3,7 +3,7 @@ use Rattle.std.proofs.Common.{◌≡◌, ℕ, ◌+◌, ◌<◌, ◌≤◌, List,
 use Rattle.std.proofs.lemmas.List.{drop_at, drop-drop}
 use Rattle.dwarf_bytes.specs.declared.fault.ReadFault.{ReadFault}
 use Rattle.dwarf_bytes.specs.declared.format.Format.{Format}
-use Rattle.dwarf_bytes.specs.declared.format.Format.TheVariants.{Dwarf32}
+use Rattle.dwarf_bytes.specs.declared.format.Format.TheVariants.{Dwarf32, Dwarf64}
 use Rattle.dwarf_bytes.specs.declared.form.ValueLayout.{ValueLayout}
 use Rattle.dwarf_bytes.specs.declared.form.ValueLayout.TheVariants as layouts
 use Rattle.dwarf_bytes.specs.declared.form.Width.{Width}
@@ -39,7 +39,7 @@ read_again make read x next is = rw is refl
 -- ---- a length, and so many bytes
 
 -- the bytes behind what stands at a place
-behind : (bytes : List ℕ) (at : ℕ) (front rest : List ℕ) → drop at bytes ≡ front ++ rest → drop (at + length front) bytes ≡ rest
+pub behind : (bytes : List ℕ) (at : ℕ) (front rest : List ℕ) → drop at bytes ≡ front ++ rest → drop (at + length front) bytes ≡ rest
 behind bytes at front rest parts = sym (drop-drop (length front) at bytes) ∙ ap (drop (length front)) parts ∙ drop_at front rest (length front) refl
 
 -- a block whose length is spelled before it
@@ -85,6 +85,8 @@ content_stands (layouts.Fixed width) format bytes at content next e =
     read_stands (IsFixed (byte_len width)) _ Number bytes at content next (λ front x s. s) (fixed_at (byte_len width) bytes at) (λ x n h. fixed_stands (byte_len width) bytes at x n h) e
 content_stands layouts.Offset Dwarf32 bytes at content next e =
     read_stands (IsFixed 4) _ Number bytes at content next (λ front x s. s) (fixed_at 4 bytes at) (λ x n h. fixed_stands 4 bytes at x n h) e
+content_stands layouts.Offset Dwarf64 bytes at content next e =
+    read_stands (IsFixed 8) _ Number bytes at content next (λ front x s. s) (fixed_at 8 bytes at) (λ x n h. fixed_stands 8 bytes at x n h) e
 content_stands layouts.Present format bytes at content next e =
     let pairs = same_content (Number 1, at) (content, next) e in
     let here : StandsAt (SpellsContent layouts.Present format) bytes at (Number 1) at = record { front = []; rest = drop at bytes; spelled = (refl, refl); parts = refl; next_is = omega arith } in
@@ -117,7 +119,7 @@ as_it_is : {X : Type 0} (S : List ℕ → X → Type 0) (T : List ℕ → Conten
 as_it_is S T bytes at x c next is s = standing_as T S bytes at c x next is s
 
 -- what takes a byte or more stands inside the bytes
-front_within : (bytes : List ℕ) (at : ℕ) (front rest : List ℕ) → drop at bytes ≡ front ++ rest → 0 < length front → at ≤ length bytes
+pub front_within : (bytes : List ℕ) (at : ℕ) (front rest : List ℕ) → drop at bytes ≡ front ++ rest → 0 < length front → at ≤ length bytes
 front_within bytes at front rest parts some = omega (arith, length-drop at bytes, ap length parts, length-append front rest)
 
 some_bytes : (width : Width) → 0 < byte_len width
@@ -144,6 +146,9 @@ unfolding content_at
 offset_content Dwarf32 bytes at (Number v) next s =
     let within = front_within bytes at s.front s.rest s.parts (omega (arith, s.spelled.0)) in
     read_again Number (fixed_at 4 bytes at) v next (fixed_again 4 bytes at v next within (as_it_is _ _ bytes at v (Number v) next (λ front h. h) s))
+offset_content Dwarf64 bytes at (Number v) next s =
+    let within = front_within bytes at s.front s.rest s.parts (omega (arith, s.spelled.0)) in
+    read_again Number (fixed_at 8 bytes at) v next (fixed_again 8 bytes at v next within (as_it_is _ _ bytes at v (Number v) next (λ front h. h) s))
 offset_content format bytes at (Signed v) next s = absurd s.spelled
 offset_content format bytes at (Bytes v) next s = absurd s.spelled
 

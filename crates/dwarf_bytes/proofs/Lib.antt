@@ -6,6 +6,7 @@ pub mod Standing
 pub mod TextLaws
 pub mod FaultLaws
 pub mod ContentLaws
+pub mod LengthLaws
 pub mod Extent
 pub mod Sections
 pub mod Whole

@@ -6,7 +6,7 @@ use Rattle.std.specs.Int.{w64}
 use Rattle.dwarf_bytes.specs.declared.fault.ReadFault.{ReadFault}
 use Rattle.dwarf_bytes.specs.declared.fault.ReadFault.TheVariants.{Short, Leb, Unterminated, Length}
 use Rattle.dwarf_bytes.specs.declared.format.Format.{Format}
-use Rattle.dwarf_bytes.specs.declared.format.Format.TheVariants.{Dwarf32}
+use Rattle.dwarf_bytes.specs.declared.format.Format.TheVariants.{Dwarf32, Dwarf64}
 use Rattle.dwarf_bytes.specs.Bind.{◌>>=◌}
 
 -- the n bytes at the place
@@ -147,15 +147,35 @@ text_at section offset = option_map_or (λ text. Ok text) (text_front (drop offs
 -- the bytes of an initial length, and of an offset into a section (DWARF 5, 7.4)
 abbrev pub length_len : Format → ℕ
 length_len Dwarf32 = 4
+length_len Dwarf64 = 12
 
 abbrev pub offset_len : Format → ℕ
 offset_len Dwarf32 = 4
+offset_len Dwarf64 = 8
 
 abbrev pub offset_at : Format → List ℕ → ℕ → Result (ℕ × ℕ) ReadFault
 offset_at Dwarf32 = u32_at
+offset_at Dwarf64 = u64_at
 
--- An initial length (DWARF 5, 7.4) of the 32-bit format is below 0xfffffff0.
+-- An initial length of the 64-bit format is 0xffffffff, and the length in eight bytes.
+pub record IsLongLength (bytes : List ℕ) (len : ℕ) : Type 0 where
+  pub escape : List ℕ
+  pub long : List ℕ
+  pub whole : bytes ≡ escape ++ long
+  pub escape_is : IsFixed 4 escape 0xffffffff
+  pub long_is : IsFixed 8 long len
+
+-- The bytes are an initial length (7.4). One of the 32-bit format is below 0xfffffff0.
+abbrev pub IsInitialLength : Format → List ℕ → ℕ → Type 0
+IsInitialLength Dwarf32 bytes len = IsFixed 4 bytes len × (len < 0xfffffff0)
+IsInitialLength Dwarf64 bytes len = IsLongLength bytes len
+
+-- the same, read: from 0xfffffff0 to 0xfffffffe there is none
 unfoldable pub initial_length_at : List ℕ → ℕ → Result ((Format × ℕ) × ℕ) ReadFault
 initial_length_at bytes at = do
   read ← u32_at bytes at
-  if nat_lt read.0 0xfffffff0 then Ok ((Dwarf32, read.0), read.1) else Err Length
+  if nat_lt read.0 0xfffffff0 then Ok ((Dwarf32, read.0), read.1)
+      else if read.0 == 0xffffffff then (do
+        long ← u64_at bytes read.1
+        Ok ((Dwarf64, long.0), long.1))
+      else Err Length

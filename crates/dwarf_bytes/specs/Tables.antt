@@ -7,7 +7,7 @@ use Rattle.dwarf_bytes.specs.declared.tables.TableKind.{TableKind}
 use Rattle.dwarf_bytes.specs.declared.tables.TableKind.TheVariants.{StrOffsets, Addr, RngLists}
 use Rattle.dwarf_bytes.specs.declared.tables.TableHead.{TableHead}
 use Rattle.dwarf_bytes.specs.declared.format.Format.{Format}
-use Rattle.dwarf_bytes.specs.declared.format.Format.TheVariants.{Dwarf32}
+use Rattle.dwarf_bytes.specs.declared.format.Format.TheVariants.{Dwarf32, Dwarf64}
 use Rattle.dwarf_bytes.specs.Numbers.{field, length_len, offset_len}
 use Rattle.dwarf_bytes.specs.Faults.{first_failure}
 
@@ -26,9 +26,16 @@ has_sizes RngLists = true
 -- the length at a place, and whether it is one of the format (7.4)
 abbrev pub unit_length : Format → List ℕ → ℕ → ℕ
 unit_length Dwarf32 section start = field 4 section start
+unit_length Dwarf64 section start = field 8 section (start + 4)
 
 abbrev pub is_length : Format → List ℕ → ℕ → Bool
 is_length Dwarf32 section start = nat_lt (field 4 section start) 0xfffffff0
+is_length Dwarf64 section start = field 4 section start == 0xffffffff
+
+-- whether a length of the 64-bit format begins there and is cut
+abbrev pub is_cut : Format → List ℕ → ℕ → Bool
+is_cut Dwarf32 section start = (field 4 section start == 0xffffffff) && nat_lt (length section) (start + 12)
+is_cut Dwarf64 section start = false
 
 -- where the header starts, where its version stands, and where the table ends
 abbrev pub head_start : TableKind → Format → ℕ → ℕ
@@ -57,6 +64,7 @@ head_tests kind format section base =
     let version = version_place kind format base in
     let end = table_end kind format section base in
     (nat_lt base (head_len kind format) || nat_lt (length section) base, causes.Base)
+    ∷ (is_cut format section (head_start kind format base), causes.Short)
     ∷ (not (is_length format section (head_start kind format base)), causes.Length)
     ∷ (nat_lt (length section) end || nat_lt end base, causes.Short)
     ∷ (not (field 2 section version == 5), causes.Version)

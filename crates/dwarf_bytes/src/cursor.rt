@@ -14,6 +14,9 @@ use std::marker::Model;
 /// The first of the initial lengths that are no length of the 32-bit format.
 const RESERVED_LENGTHS: u32 = 0xffff_fff0;
 
+/// What stands before a length of the 64-bit format.
+const LONG_LENGTH: u32 = 0xffff_ffff;
+
 /// A place in bytes.
 #[derive(Debug, Drop)]
 pub struct Cursor<'a> {
@@ -153,23 +156,34 @@ impl<'a> Cursor<'a> {
     /// The length at the front of a unit.
     #[tactic(auto, unfolding(crate::specs::Numbers::initial_length_at))]
     pub fn initial_length(&mut self) -> Result<(Format, u64), ReadFault>
-        ensures { Reads (λ x. x) result initial_length_at self.old self.new }
+        ensures reads { Reads (λ x. x) result initial_length_at self.old self.new }
+        ensures moves { IfOk result (λ _. self.old.place < self.new.place) }
     {
         let start = self.place;
         let length = self.u32()?;
-        if length >= RESERVED_LENGTHS {
-            self.place = start;
-            return Err(ReadFault::Length);
+        if length < RESERVED_LENGTHS {
+            return Ok((Format::Dwarf32, u64::from(length)));
         }
-        Ok((Format::Dwarf32, u64::from(length)))
+        let fault = if length == LONG_LENGTH {
+            match self.u64() {
+                Ok(length) => return Ok((Format::Dwarf64, length)),
+                Err(fault) => fault,
+            }
+        } else {
+            ReadFault::Length
+        };
+        self.place = start;
+        Err(fault)
     }
 
     /// An offset into a section.
     pub fn offset(&mut self, format: Format) -> Result<u64, ReadFault>
-        ensures { Reads (λ x. x) result (offset_at format) self.old self.new }
+        ensures reads { Reads (λ x. x) result (offset_at format) self.old self.new }
+        ensures moves { IfOk result (λ _. self.old.place < self.new.place) }
     {
         match format {
             Format::Dwarf32 => Ok(u64::from(self.u32()?)),
+            Format::Dwarf64 => Ok(self.u64()?),
         }
     }
 }

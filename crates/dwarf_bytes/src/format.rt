@@ -8,6 +8,8 @@ ghost use Rattle.dwarf_bytes.specs.Numbers.{length_len, offset_len};
 pub enum Format {
     /// The 32-bit format.
     Dwarf32,
+    /// The 64-bit format.
+    Dwarf64,
 }
 
 impl Format {
@@ -17,6 +19,7 @@ impl Format {
     {
         match self {
             Format::Dwarf32 => 4, // unit_length
+            Format::Dwarf64 => 12,
         }
     }
 
@@ -26,6 +29,7 @@ impl Format {
     {
         match self {
             Format::Dwarf32 => 4, // offset_size
+            Format::Dwarf64 => 8,
         }
     }
 }

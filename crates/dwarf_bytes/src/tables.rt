@@ -1,10 +1,12 @@
 //! The tables that a unit's bases point into.
 
 ghost use Rattle.std.specs.Prelude.{◌≡◌, MatchResult, Ok, Err};
-ghost use Rattle.dwarf_bytes.specs.Tables.{head_len, table_before};
+ghost use Rattle.std.specs.Prelude.{◌≤◌, ◌+◌, length};
+ghost use Rattle.dwarf_bytes.specs.Tables.{head_len, table_before, is_cut, is_length, unit_length};
+ghost use Rattle.dwarf_bytes.specs.Numbers.{length_len};
 
 use crate::fault::Cause;
-use crate::fields::{byte_at, u16_at, u32_at};
+use crate::fields::{byte_at, u16_at, u32_at, u64_at};
 use crate::format::Format;
 
 /// Which table.
@@ -50,12 +52,16 @@ impl TableHead {
             return Err(Cause::Base);
         }
         let start = (base - kind.head_len(format)) as usize;
-        let length = u32_at(section, start);
-        if length >= 0xffff_fff0 {
+        if is_cut(section, start, format) {
+            return Err(Cause::Short);
+        }
+        if !is_length(section, start, format) {
             return Err(Cause::Length);
         }
         let version = start + format.length_len() as usize;
-        let end = version as u64 + u64::from(length);
+        let Some(end) = (version as u64).checked_add(unit_length(section, start, format)) else {
+            return Err(Cause::Short);
+        };
         if end > section.len() as u64 || end < base {
             return Err(Cause::Short);
         }
@@ -82,5 +88,36 @@ impl TableHead {
             }
         };
         Ok(TableHead { end, items })
+    }
+}
+
+/// Whether a length of the other format begins there and is cut.
+fn is_cut(section: &[u8], start: usize, format: Format) -> bool
+    requires { start + length_len format + 4 ≤ length section.now }
+    ensures { result ≡ is_cut format section.now start }
+{
+    match format {
+        Format::Dwarf32 => u32_at(section, start) == 0xffff_ffff && section.len() - start < 12,
+        Format::Dwarf64 => false,
+    }
+}
+
+fn is_length(section: &[u8], start: usize, format: Format) -> bool
+    requires { start + length_len format + 4 ≤ length section.now }
+    ensures { result ≡ is_length format section.now start }
+{
+    match format {
+        Format::Dwarf32 => u32_at(section, start) < 0xffff_fff0,
+        Format::Dwarf64 => u32_at(section, start) == 0xffff_ffff,
+    }
+}
+
+fn unit_length(section: &[u8], start: usize, format: Format) -> u64
+    requires { start + length_len format + 4 ≤ length section.now }
+    ensures { result ≡ unit_length format section.now start }
+{
+    match format {
+        Format::Dwarf32 => u64::from(u32_at(section, start)),
+        Format::Dwarf64 => u64_at(section, start + 4),
     }
 }

@@ -132,16 +132,21 @@ fn reads_texts(rt: HostRuntime) -> Result<(), Fail> {
 
 #[test]
 fn reads_initial_lengths(rt: HostRuntime) {
-    let table: [(&[u8], Result<(Format, u64), ReadFault>); 5] = [
+    let table: [(&[u8], Result<(Format, u64), ReadFault>); 7] = [
         (&[0x47, 0, 0, 0], Ok((Format::Dwarf32, 0x47))),
         (
             &[0xef, HIGH, HIGH, HIGH],
             Ok((Format::Dwarf32, 0xffff_ffef)),
         ),
         (&[0xf0, HIGH, HIGH, HIGH], Err(ReadFault::Length)),
+        (&[0xfe, HIGH, HIGH, HIGH], Err(ReadFault::Length)),
         (
-            &[HIGH, HIGH, HIGH, HIGH, 0, 0, 0, 0, 0, 0, 0, 0],
-            Err(ReadFault::Length),
+            &[HIGH, HIGH, HIGH, HIGH, 0x4b, 0, 0, 0, 0, 0, 0, 1],
+            Ok((Format::Dwarf64, 0x0100_0000_0000_004b)),
+        ),
+        (
+            &[HIGH, HIGH, HIGH, HIGH, 0x4b, 0, 0, 0, 0, 0, 0],
+            Err(ReadFault::Short),
         ),
         (&[0x47, 0, 0], Err(ReadFault::Short)),
     ];
@@ -149,6 +154,11 @@ fn reads_initial_lengths(rt: HostRuntime) {
         let mut cursor = Cursor::new(bytes);
         let got = cursor.initial_length();
         assert_eq!(rt; got, want, "{bytes:?}");
-        assert_eq!(rt; cursor.place(), if got.is_ok() { 4 } else { 0 });
+        let past = match got {
+            Ok((Format::Dwarf32, _)) => 4,
+            Ok((Format::Dwarf64, _)) => 12,
+            Err(_) => 0,
+        };
+        assert_eq!(rt; cursor.place(), past);
     }
 }

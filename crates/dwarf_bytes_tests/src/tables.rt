@@ -11,6 +11,12 @@ const ADDRESSES: [u8; 16] = [12, 0, 0, 0, 5, 0, 8, 0, 0, 0x10, 0, 0, 0, 0, 0, 0]
 /// One offset, and the end of its list.
 const LISTS: [u8; 17] = [13, 0, 0, 0, 5, 0, 8, 0, 1, 0, 0, 0, 4, 0, 0, 0, 0];
 
+/// The offsets 3 and 0 in the 64-bit format.
+const LONG_OFFSETS: [u8; 32] = [
+    0xff, 0xff, 0xff, 0xff, 0x14, 0, 0, 0, 0, 0, 0, 0, 5, 0, 0, 0, 3, 0, 0, 0, 0, 0, 0, 0, 0, 0, 0,
+    0, 0, 0, 0, 0,
+];
+
 fn before(section: &[u8], base: u64, kind: TableKind) -> Result<TableHead, Cause> {
     TableHead::before(section, base, kind, Format::Dwarf32)
 }
@@ -81,4 +87,30 @@ fn passes_over_the_padding_of_offsets(rt: HostRuntime) {
         before(&section, 8, TableKind::StrOffsets),
         Ok(TableHead { end: 16, items: 2 })
     );
+}
+
+#[test]
+fn reads_tables_of_the_64_bit_format(rt: HostRuntime) {
+    let long = |section: &[u8], base| {
+        TableHead::before(section, base, TableKind::StrOffsets, Format::Dwarf64)
+    };
+    assert_eq!(rt;
+        long(&LONG_OFFSETS, 16),
+        Ok(TableHead { end: 32, items: 2 })
+    );
+    assert_eq!(rt; long(&LONG_OFFSETS, 8), Err(Cause::Base));
+    assert_eq!(rt; long(&OFFSETS, 16), Err(Cause::Length));
+    assert_eq!(rt;
+        before(&LONG_OFFSETS, 8, TableKind::StrOffsets),
+        Err(Cause::Length)
+    );
+    assert_eq!(rt;
+        before(&LONG_OFFSETS[..11], 8, TableKind::StrOffsets),
+        Err(Cause::Short)
+    );
+    let mut huge = LONG_OFFSETS;
+    for place in 4..12 {
+        huge[place] = 0xff;
+    }
+    assert_eq!(rt; long(&huge, 16), Err(Cause::Short));
 }

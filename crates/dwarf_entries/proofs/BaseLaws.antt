@@ -5,7 +5,7 @@ use Rattle.std.proofs.lemmas.Bool.{lt-ltb}
 use Rattle.dwarf_bytes.specs.declared.fault.Cause.TheVariants as causes
 use Rattle.dwarf_bytes.specs.declared.fault.ReadFault.TheVariants.{Short}
 use Rattle.dwarf_bytes.specs.declared.format.Format.{Format}
-use Rattle.dwarf_bytes.specs.declared.format.Format.TheVariants.{Dwarf32}
+use Rattle.dwarf_bytes.specs.declared.format.Format.TheVariants.{Dwarf32, Dwarf64}
 use Rattle.dwarf_bytes.specs.declared.tables.TableKind.{TableKind}
 use Rattle.dwarf_bytes.specs.declared.tables.TableKind.TheVariants.{StrOffsets, Addr, RngLists}
 use Rattle.dwarf_bytes.specs.Numbers.{block_at, fixed_at}
@@ -19,8 +19,10 @@ fixed-outside n bytes at h =
 
 item-outside : (kind : TableKind) (format : Format) (bytes : List ℕ) (at : ℕ) → length bytes < at → item_in kind format bytes at ≡ Err Short
 item-outside StrOffsets Dwarf32 bytes at h = fixed-outside 4 bytes at h
+item-outside StrOffsets Dwarf64 bytes at h = fixed-outside 8 bytes at h
 item-outside Addr format bytes at h = fixed-outside 8 bytes at h
 item-outside RngLists Dwarf32 bytes at h = fixed-outside 4 bytes at h
+item-outside RngLists Dwarf64 bytes at h = fixed-outside 8 bytes at h
 
 pub item_at-outside : (kind : TableKind) (section : List ℕ) (found : Option Table) (table : Table) (index place : ℕ) → found ≡ Some table → index < table.head.items → place ≡ table.base + item_len kind table.format * index → length section < place →
     Err causes.Short ≡ item_at kind section found index

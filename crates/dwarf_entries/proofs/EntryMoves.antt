@@ -8,7 +8,7 @@ use Rattle.dwarf_bytes.specs.declared.fault.ReadFault.{ReadFault}
 use Rattle.dwarf_bytes.specs.declared.fault.ReadFault.TheVariants.{Unterminated}
 use Rattle.dwarf_bytes.specs.declared.fault.Cause.TheVariants as causes
 use Rattle.dwarf_bytes.specs.declared.format.Format.{Format}
-use Rattle.dwarf_bytes.specs.declared.format.Format.TheVariants.{Dwarf32}
+use Rattle.dwarf_bytes.specs.declared.format.Format.TheVariants.{Dwarf32, Dwarf64}
 use Rattle.dwarf_bytes.specs.declared.form.Form.{Form}
 use Rattle.dwarf_bytes.specs.declared.form.Form.TheVariants.{Direct, ImplicitConst, Indirect}
 use Rattle.dwarf_bytes.specs.declared.form.ValueLayout.{ValueLayout}
@@ -79,6 +79,7 @@ counted-stays bytes at read x stays h =
 
 pub offset-stays : (format : Format) (bytes : List ℕ) (at : ℕ) (x : ℕ × ℕ) → offset_at format bytes at ≡ Ok x → StaysWithin bytes at x.1
 offset-stays Dwarf32 bytes at x h = fixed-stays 4 bytes at x h
+offset-stays Dwarf64 bytes at x h = fixed-stays 8 bytes at x h
 
 content-stays : (layout : ValueLayout) (format : Format) (bytes : List ℕ) (at : ℕ) (x : Content × ℕ) → at ≤ length bytes → content_at layout format bytes at ≡ Ok x → StaysWithin bytes at x.1
 unfolding content_at

@@ -1,15 +1,14 @@
 -- The units of .debug_info stand one behind another, and hold their entries, whatever the passes make of them.
 use Rattle.std.proofs.Common.{◌≡◌, ℕ, ◌+◌, ◌≤◌, Bool, true, false, cond, List, [], ◌∷◌, ◌++◌, length, take, map, refl, ap, sym, subst, arith, length-take}
-use Rattle.std.specs.Prelude.{Result, Ok, Err, nat_lt, nat_le, ◌==◌, not, ok_or, filter, zip}
+use Rattle.std.specs.Prelude.{Result, Ok, nat_lt, nat_le, ◌==◌, not, ok_or, filter, zip}
 use Rattle.std.proofs.lemmas.Bool.{ltb-false}
 use Rattle.dwarf_bytes.specs.declared.fault.Cause.{Cause}
 use Rattle.dwarf_bytes.specs.declared.fault.Cause.TheVariants as causes
-use Rattle.dwarf_bytes.specs.declared.fault.ReadFault.TheVariants as faults
 use Rattle.dwarf_bytes.specs.declared.format.Format.{Format}
-use Rattle.dwarf_bytes.specs.declared.format.Format.TheVariants.{Dwarf32}
 use Rattle.dwarf_bytes.specs.Bind.{◌>>=◌}
-use Rattle.dwarf_bytes.specs.Numbers.{u8_at, u16_at, u32_at, initial_length_at, offset_at}
+use Rattle.dwarf_bytes.specs.Numbers.{u8_at, u16_at, initial_length_at, offset_at}
 use Rattle.dwarf_bytes.specs.Items.{Item, Lists, reading, told_at, each_from, items_from}
+use Rattle.dwarf_bytes.proofs.LengthLaws.{initial_length_at-moves}
 use Rattle.dwarf_bytes.proofs.Advance.{after_bind, after_test, chosen, reading_ok}
 use Rattle.dwarf_bytes.proofs.ItemLaws.{Lists-within}
 use Rattle.dwarf_forms.specs.Declarations.{Declaration}
@@ -76,13 +75,7 @@ header_in-places start format unit at header h =
 
 -- an initial length takes bytes
 length-moves : (info : List ℕ) (at : ℕ) (read : (Format × ℕ) × ℕ) → initial_length_at info at ≡ Ok read → at ≤ read.1
-unfolding initial_length_at
-length-moves info at read h =
-    after_bind (u32_at info at) _ read h (at ≤ read.1) (λ x x_is h1.
-    chosen (nat_lt x.0 0xfffffff0) (Ok ((Dwarf32, x.0), x.1)) (Err faults.Length) (Ok read) h1 (at ≤ read.1)
-    (λ _ last. let moved = fixed-stays 4 info at x x_is in
-    let same : x.1 ≡ read.1 = ap (λ (r : (Format × ℕ) × ℕ). r.1) (same_ok ((Dwarf32, x.0), x.1) read last) in omega (arith, moved.0, same))
-    (λ _ last. cc))
+length-moves info at read h = let moves = (initial_length_at-moves info at read h).0 in omega (arith, moves)
 
 -- what stands before the headers from a place on
 abbrev Places : ℕ → ℕ → UnitHeader → Type 0

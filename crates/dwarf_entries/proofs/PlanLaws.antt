@@ -8,7 +8,7 @@ use Rattle.dwarf_bytes.specs.declared.fault.ReadFault.TheVariants as faults
 use Rattle.dwarf_bytes.specs.declared.fault.Cause.{Cause}
 use Rattle.dwarf_bytes.specs.declared.fault.Cause.TheVariants as causes
 use Rattle.dwarf_bytes.specs.declared.format.Format.{Format}
-use Rattle.dwarf_bytes.specs.declared.format.Format.TheVariants.{Dwarf32}
+use Rattle.dwarf_bytes.specs.declared.format.Format.TheVariants.{Dwarf32, Dwarf64}
 use Rattle.dwarf_bytes.specs.declared.form.Form.{Form}
 use Rattle.dwarf_bytes.specs.declared.form.Form.TheVariants.{Direct, ImplicitConst, Indirect}
 use Rattle.dwarf_bytes.specs.declared.form.ValueLayout.{ValueLayout}
@@ -60,6 +60,7 @@ fixed-fixed n bytes at = mapped-fixed (λ _. Unit {0}) (λ _. Unit {0}) faults.S
 
 offset-fixed : (format : Format) (bytes : List ℕ) (at : ℕ) → ReadsFixed (λ _. Unit {0}) faults.Short (offset_len format) bytes at (offset_at format bytes at)
 offset-fixed Dwarf32 bytes at = fixed-fixed 4 bytes at
+offset-fixed Dwarf64 bytes at = fixed-fixed 8 bytes at
 
 same_some : (n m : ℕ) → (let f : ℕ → Option ℕ = λ k. Some k in f n ≡ f m) → n ≡ m
 same_some n m h = cc

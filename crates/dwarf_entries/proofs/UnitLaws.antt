@@ -1,41 +1,22 @@
 -- Each unit takes bytes, and none reaches past the end of the section.
-use Rattle.std.proofs.Common.{◌≡◌, ℕ, ◌+◌, ◌<◌, ◌≤◌, ◌⊎◌, inl, inr, List, [], ◌∷◌, false, cond, length, take, refl, ap, sym, ◌∙◌, arith, length-take, ◌++◌}
+use Rattle.std.proofs.Common.{◌≡◌, ℕ, ◌+◌, ◌<◌, ◌≤◌, ◌⊎◌, inl, inr, List, [], ◌∷◌, false, length, take, refl, ap, sym, ◌∙◌, arith, length-take, ◌++◌}
 use Rattle.std.specs.Prelude.{Result, Ok, Err, nat_lt, nat_le, ◌==◌, not, ok_or, filter}
 use Rattle.std.proofs.lemmas.Bool.{ltb-false, le-leb}
 use Rattle.dwarf_bytes.specs.declared.fault.Cause.{Cause}
 use Rattle.dwarf_bytes.specs.declared.fault.Cause.TheVariants as causes
 use Rattle.dwarf_bytes.specs.declared.fault.Section.TheVariants as sections
 use Rattle.dwarf_bytes.specs.declared.fault.LoadFault.{LoadFault}
-use Rattle.dwarf_bytes.specs.declared.fault.ReadFault.{ReadFault}
-use Rattle.dwarf_bytes.specs.declared.fault.ReadFault.TheVariants as faults
 use Rattle.dwarf_bytes.specs.declared.format.Format.{Format}
-use Rattle.dwarf_bytes.specs.declared.format.Format.TheVariants.{Dwarf32}
 use Rattle.dwarf_bytes.specs.Bind.{◌>>=◌}
-use Rattle.dwarf_bytes.specs.Numbers.{u8_at, u16_at, u32_at, initial_length_at, offset_at}
+use Rattle.dwarf_bytes.specs.Numbers.{u8_at, u16_at, initial_length_at, offset_at}
 use Rattle.dwarf_bytes.specs.Items.{At, Item, End, Advances, reading, items_from}
 use Rattle.dwarf_bytes.specs.Refusals.{memory_fault, told, in_section}
 use Rattle.dwarf_bytes.proofs.Advance.{after_bind, after_test, chosen, reading_ok}
-use Rattle.dwarf_bytes.proofs.Moves.{same_ok, same_item, fixed_at-moves}
+use Rattle.dwarf_bytes.proofs.LengthLaws.{initial_length_at-moves}
+use Rattle.dwarf_bytes.proofs.Moves.{same_ok, same_item}
 use Rattle.dwarf_bytes.proofs.Turns.{SoFar, so_far-item, so_far-end, so_far-fault}
 use Rattle.dwarf_entries.specs.declared.units.UnitHeader.{UnitHeader}
 use Rattle.dwarf_entries.specs.Units.{unit_type_of, is_read_type, is_read, header_in, unit_at, header_at, headers_of, units_of}
-
--- an initial length takes four bytes
-length-moves : (info : List ℕ) (at : ℕ) (read : (Format × ℕ) × ℕ) → initial_length_at info at ≡ Ok read → (at < read.1) × (read.1 ≤ length info)
-unfolding initial_length_at
-length-moves info at read h =
-    let P : Type 0 = (at < read.1) × (read.1 ≤ length info) in
-    after_len (u32_at info at) refl h
-  where
-    after_len : (found : Result (ℕ × ℕ) ReadFault) → u32_at info at ≡ found → (found >>= λ read. cond (nat_lt read.0 0xfffffff0) (Ok ((Dwarf32, read.0), read.1)) (Err faults.Length)) ≡ Ok read → (at < read.1) × (read.1 ≤ length info)
-    after_len (Err e) is h = cc
-    after_len (Ok x) is h =
-        chosen (nat_lt x.0 0xfffffff0) (Ok ((Dwarf32, x.0), x.1)) (Err faults.Length) (Ok read) h ((at < read.1) × (read.1 ≤ length info))
-        (λ _ last. let moved = fixed_at-moves 4 info at x is in
-        let place : x.1 ≡ at + 4 = ap (λ (r : ℕ × ℕ). r.1) moved.1 in
-        let same : x.1 ≡ read.1 = ap (λ (r : (Format × ℕ) × ℕ). r.1) (same_ok ((Dwarf32, x.0), x.1) read last) in
-        (omega (arith, place, same), omega (arith, moved.0, place, same)))
-        (λ _ last. cc)
 
 -- a unit ends where its bytes do
 header_in-end : (start : ℕ) (format : Format) (unit : List ℕ) (at : ℕ) (header : UnitHeader) → header_in start format unit at ≡ Ok header → header.end ≡ length unit
@@ -59,7 +40,7 @@ unit_at-moves info at header h =
     let P : Type 0 = (at < header.end) × (header.end ≤ length info) in
     after_bind (reading (initial_length_at info at)) _ header h P (λ len len_is h1.
     after_test (nat_lt (length info) (len.1 + len.0.1)) causes.Short _ header h1 P (λ fits h2.
-    let moved = length-moves info at len (reading_ok (initial_length_at info at) len len_is) in
+    let moved = initial_length_at-moves info at len (reading_ok (initial_length_at info at) len len_is) in
     let within : len.1 + len.0.1 ≤ length info = ltb-false (length info) (len.1 + len.0.1) fits in
     let end = header_in-end at len.0.0 (take (len.1 + len.0.1) info) len.1 header h2 in
     let size = length-take (len.1 + len.0.1) info in

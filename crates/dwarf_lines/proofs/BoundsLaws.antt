@@ -3,14 +3,13 @@ use Rattle.std.proofs.Common.{◌≡◌, ℕ, ◌+◌, ◌<◌, ◌≤◌, List,
 use Rattle.std.specs.Prelude.{nat_lt}
 use Rattle.std.proofs.lemmas.Bool.Decides.{nat_tests}
 use Rattle.dwarf_bytes.specs.declared.fault.ReadFault.{ReadFault}
-use Rattle.dwarf_bytes.specs.declared.fault.ReadFault.TheVariants.{Short, Length}
+use Rattle.dwarf_bytes.specs.declared.fault.ReadFault.TheVariants.{Short}
 use Rattle.dwarf_bytes.specs.declared.fault.Cause.{Cause}
 use Rattle.dwarf_bytes.specs.declared.fault.Cause.TheVariants as causes
-use Rattle.dwarf_bytes.specs.declared.format.Format.{Format}
-use Rattle.dwarf_bytes.specs.declared.format.Format.TheVariants.{Dwarf32}
 use Rattle.dwarf_bytes.specs.Items.{reading}
-use Rattle.dwarf_bytes.specs.Numbers.{block_at, fixed_at, little_endian, u8_at, u16_at, u32_at, offset_at, initial_length_at}
+use Rattle.dwarf_bytes.specs.Numbers.{block_at, fixed_at, little_endian, u8_at, u16_at, offset_at, initial_length_at}
 use Rattle.dwarf_bytes.proofs.Advance.{after_bind, after_test, chosen, reading_ok}
+use Rattle.dwarf_bytes.proofs.LengthLaws.{initial_length_at-moves}
 use Rattle.dwarf_lines.specs.declared.formats.EntryTable.TheVariants.{Directories, Files}
 use Rattle.dwarf_lines.specs.declared.bounds.Bounds.{Bounds}
 use Rattle.dwarf_lines.specs.Sections.{LineSections}
@@ -31,17 +30,6 @@ fixed_at-place n bytes at v h =
     let pair : (little_endian block.0, block.1) ≡ v = ok_is {E = ReadFault} (little_endian block.0, block.1) v h1 in
     let place : block.1 ≡ v.1 = ap (λ (p : ℕ × ℕ). p.1) pair in
     omega arith))
-
-pub initial_length-place : (bytes : List ℕ) (at : ℕ) (unit : (Format × ℕ) × ℕ) → initial_length_at bytes at ≡ Ok unit → at < unit.1
-unfolding initial_length_at
-initial_length-place bytes at unit h =
-    let P : Type 0 = at < unit.1 in
-    after_bind (u32_at bytes at) _ unit h P (λ read read_is h1.
-    chosen (nat_lt read.0 0xfffffff0) (Ok ((Dwarf32, read.0), read.1)) (Err Length) (Ok unit) h1 P
-    (λ _ e. let same : ((Dwarf32, read.0), read.1) ≡ unit = ok_is {E = ReadFault} ((Dwarf32, read.0), read.1) unit e in
-    let place : read.1 ≡ unit.1 = ap (λ (p : (Format × ℕ) × ℕ). p.1) same in
-    let moved = fixed_at-place 4 bytes at read read_is in omega arith)
-    (λ _ e. cc))
 
 pub within-is : (bytes : List ℕ) (place found : ℕ) → within bytes place ≡ Ok found → (found ≡ place) × (found ≤ length bytes)
 within-is bytes place found h = grind (arith, nat_tests)
@@ -71,11 +59,11 @@ bounds_at-nested line place b h =
     let fields : len.1 ≡ b.fields = ap (λ (c : Bounds). c.fields) same in
     let firsts : first ≡ b.first = ap (λ (c : Bounds). c.first) same in
     let pasts : past ≡ b.past = ap (λ (c : Bounds). c.past) same in
-    let start = initial_length-place line place unit (reading_ok (initial_length_at line place) unit unit_is) in
+    let start = initial_length_at-moves line place unit (reading_ok (initial_length_at line place) unit unit_is) in
     let ended = within-is line (unit.1 + unit.0.1) past past_is in
     let began = within-is (take past line) (len.1 + len.0) first first_is in
     let cut = length-take past line in
-    record { starts = omega (arith, ended.0); fields = omega (arith, began.0); first = omega (arith, began.1, cut); past = omega (arith, ended.1) }))))))))))
+    record { starts = omega (arith, start.0, ended.0); fields = omega (arith, began.0); first = omega (arith, began.1, cut); past = omega (arith, ended.1) }))))))))))
 
 -- where a program whose header is good ends
 pub header_at-past : (s : LineSections) (place : ℕ) (h : LineHeader) → header_at s place ≡ Ok h → (place < h.past) × (h.past ≤ length s.line)

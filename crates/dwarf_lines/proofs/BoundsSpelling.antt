@@ -1,26 +1,20 @@
 -- The bounds of a line program, as what is spelled: in both directions.
-use Rattle.std.proofs.Common.{◌≡◌, ℕ, ◌+◌, ◌-◌, ◌<◌, ◌≤◌, List, [], ◌∷◌, ◌++◌, length, take, drop, true, not, ◌==◌, Ok, Err, refl, sym, ap, ◌∙◌, subst, arith, append_assoc, length-take, length-drop}
-use Rattle.std.specs.Prelude.{nat_lt, nat_le}
+use Rattle.std.proofs.Common.{◌≡◌, ℕ, ◌+◌, ◌-◌, ◌<◌, ◌≤◌, List, [], ◌∷◌, ◌++◌, length, take, drop, true, not, ◌==◌, Ok, refl, sym, ap, ◌∙◌, subst, arith, append_assoc, length-take, length-drop}
+use Rattle.std.specs.Prelude.{nat_le}
 use Rattle.std.proofs.Math.Seq.{take-append-add}
 use Rattle.std.proofs.lemmas.List.{take-append-drop, drop-take, drop-append-le}
-use Rattle.std.proofs.lemmas.Bool.{lt-ltb, ltb-true}
 use Rattle.std.proofs.lemmas.Bool.Decides.{nat_tests}
-use Rattle.dwarf_bytes.specs.declared.fault.ReadFault.{ReadFault}
-use Rattle.dwarf_bytes.specs.declared.fault.ReadFault.TheVariants.{Length}
 use Rattle.dwarf_bytes.specs.declared.fault.Cause.{Cause}
 use Rattle.dwarf_bytes.specs.declared.fault.Cause.TheVariants as causes
-use Rattle.dwarf_bytes.specs.declared.format.Format.{Format}
-use Rattle.dwarf_bytes.specs.declared.format.Format.TheVariants.{Dwarf32}
 use Rattle.dwarf_bytes.specs.Items.{reading}
-use Rattle.dwarf_bytes.specs.Numbers.{StandsAt, IsFixed, little_endian, u8_at, u16_at, u32_at, offset_at, offset_len, initial_length_at}
-use Rattle.dwarf_bytes.proofs.Advance.{after_bind, after_test, chosen, reading_ok}
-use Rattle.dwarf_bytes.proofs.Standing.{fixed_stands as number_stands}
+use Rattle.dwarf_bytes.specs.Numbers.{IsFixed, IsInitialLength, little_endian, u8_at, u16_at, offset_at, offset_len, initial_length_at}
+use Rattle.dwarf_bytes.proofs.Advance.{after_bind, after_test, reading_ok}
+use Rattle.dwarf_bytes.proofs.LengthLaws.{initial_stands, initial_again}
 use Rattle.dwarf_lines.specs.declared.bounds.Bounds.{Bounds}
 use Rattle.dwarf_lines.specs.Headers.{within, bounds_at}
-use Rattle.dwarf_lines.specs.HeaderSpelling.{IsInitialLength}
 use Rattle.dwarf_lines.proofs.BoundsLaws.{ok_is, within-is}
 use Rattle.dwarf_lines.proofs.Stretches.{Stretch, stretch, stretch_of, stands_of, join, first_of, rest_of, two_bytes, fixed_stands, fixed_again, byte_stands, byte_again}
-use Rattle.dwarf_lines.proofs.PartSpelling.{number_again, offset_stands, offset_again}
+use Rattle.dwarf_lines.proofs.PartSpelling.{offset_stands, offset_again}
 use Rattle.dwarf_lines.proofs.EncodingSpelling.{asked_for, inside}
 
 -- ---- bytes that are cut at an end
@@ -45,26 +39,6 @@ pub between : (bytes : List ℕ) (at next : ℕ) → at ≤ next → next ≤ le
 between bytes at next le within =
     let size : next ≡ at + length (take (next - at) (drop at bytes)) = omega (arith, length-take (next - at) (drop at bytes), length-drop at bytes, le, within) in
     (take (next - at) (drop at bytes), stretch bytes at (take (next - at) (drop at bytes)) (drop (next - at) (drop at bytes)) next (sym (take-append-drop (next - at) (drop at bytes))) size)
-
--- ---- the initial length
-
-initial_stands : (bytes : List ℕ) (at : ℕ) (unit : (Format × ℕ) × ℕ) → initial_length_at bytes at ≡ Ok unit → StandsAt (IsInitialLength unit.0.0) bytes at unit.0.1 unit.1
-unfolding initial_length_at
-initial_stands bytes at unit h =
-    let P : Type 0 = StandsAt (IsInitialLength unit.0.0) bytes at unit.0.1 unit.1 in
-    after_bind (u32_at bytes at) _ unit h P (λ read read_is h1.
-    chosen (nat_lt read.0 0xfffffff0) (Ok ((Dwarf32, read.0), read.1)) (Err Length) (Ok unit) h1 P
-    (λ small e.
-    let a = number_stands 4 bytes at read.0 read.1 read_is in
-    let it : StandsAt (IsInitialLength Dwarf32) bytes at read.0 read.1 = record { front = a.front; rest = a.rest; spelled = (a.spelled, ltb-true read.0 0xfffffff0 small); parts = a.parts; next_is = a.next_is } in
-    subst (λ (u : (Format × ℕ) × ℕ). StandsAt (IsInitialLength u.0.0) bytes at u.0.1 u.1) (ok_is {E = ReadFault} ((Dwarf32, read.0), read.1) unit e) it)
-    (λ _ e. cc))
-
-initial_again : (format : Format) (bytes : List ℕ) (at len next : ℕ) → StandsAt (IsInitialLength format) bytes at len next → initial_length_at bytes at ≡ Ok ((format, len), next)
-unfolding initial_length_at
-initial_again Dwarf32 bytes at len next s =
-    let read = number_again 4 bytes at len next (omega arith) (record { front = s.front; rest = s.rest; spelled = s.spelled.0; parts = s.parts; next_is = s.next_is }) in
-    rw (read, lt-ltb len 0xfffffff0 s.spelled.1) refl
 
 -- ---- bounds
 

@@ -2,7 +2,7 @@
 use Rattle.std.proofs.Common.{◌≡◌, ℕ, ◌+◌, ◌<◌, ◌≤◌, List, ◌∷◌, ◌++◌, length, take, Ok, refl, sym, ap, ◌∙◌, subst, arith, length-append, length-take}
 use Rattle.dwarf_bytes.specs.declared.fault.Cause.{Cause}
 use Rattle.dwarf_bytes.specs.declared.format.Format.{Format}
-use Rattle.dwarf_bytes.specs.Numbers.{StandsAt, IsFixed, offset_len}
+use Rattle.dwarf_bytes.specs.Numbers.{IsInitialLength, StandsAt, IsFixed, offset_len}
 use Rattle.dwarf_bytes.proofs.Advance.{after_bind}
 use Rattle.dwarf_lines.specs.declared.formats.EntryTable.{EntryTable}
 use Rattle.dwarf_lines.specs.declared.formats.EntryTable.TheVariants.{Directories, Files}
@@ -12,7 +12,7 @@ use Rattle.dwarf_lines.specs.Sections.{LineSections}
 use Rattle.dwarf_lines.specs.Instructions.{Encoding}
 use Rattle.dwarf_lines.specs.Entries.{table_at}
 use Rattle.dwarf_lines.specs.Headers.{LineHeader, bounds_at, encoding_at, header_at}
-use Rattle.dwarf_lines.specs.HeaderSpelling.{SpellsTable, SpellsEncoding, IsInitialLength, SpellsFields, SpellsHeader}
+use Rattle.dwarf_lines.specs.HeaderSpelling.{SpellsTable, SpellsEncoding, SpellsFields, SpellsHeader}
 use Rattle.dwarf_lines.proofs.BoundsLaws.{ok_is}
 use Rattle.dwarf_lines.proofs.Stretches.{Stretch, stretch_of, stands_of, join, first_of, rest_of}
 use Rattle.dwarf_lines.proofs.TableSpelling.{table_stands, table_again}

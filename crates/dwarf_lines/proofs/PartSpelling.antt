@@ -9,7 +9,7 @@ use Rattle.dwarf_bytes.specs.declared.fault.Cause.TheVariants as causes
 use Rattle.dwarf_bytes.specs.declared.fault.Section.{Section}
 use Rattle.dwarf_bytes.specs.declared.fault.Section.TheVariants as sections
 use Rattle.dwarf_bytes.specs.declared.format.Format.{Format}
-use Rattle.dwarf_bytes.specs.declared.format.Format.TheVariants.{Dwarf32}
+use Rattle.dwarf_bytes.specs.declared.format.Format.TheVariants.{Dwarf32, Dwarf64}
 use Rattle.dwarf_bytes.specs.declared.form.ValueLayout.{ValueLayout}
 use Rattle.dwarf_bytes.specs.Bind.{◌>>=◌}
 use Rattle.dwarf_bytes.specs.Items.{reading}
@@ -50,9 +50,11 @@ number_again n bytes at value next some s =
 
 pub offset_stands : (format : Format) (bytes : List ℕ) (at value next : ℕ) → offset_at format bytes at ≡ Ok (value, next) → StandsAt (IsFixed (offset_len format)) bytes at value next
 offset_stands Dwarf32 bytes at value next h = fixed_stands 4 bytes at value next h
+offset_stands Dwarf64 bytes at value next h = fixed_stands 8 bytes at value next h
 
 pub offset_again : (format : Format) (bytes : List ℕ) (at value next : ℕ) → StandsAt (IsFixed (offset_len format)) bytes at value next → offset_at format bytes at ≡ Ok (value, next)
 offset_again Dwarf32 bytes at value next s = number_again 4 bytes at value next (omega arith) s
+offset_again Dwarf64 bytes at value next s = number_again 8 bytes at value next (omega arith) s
 
 -- the text at an offset is the one that is read there
 text_found : (texts : List ℕ) (offset : ℕ) (text : List ℕ) → text_at texts offset ≡ Ok text → (past : ℕ) × StandsAt IsText texts offset text past

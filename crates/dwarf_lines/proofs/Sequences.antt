@@ -1,5 +1,5 @@
 -- Each row that does not end its sequence has the next row of its sequence behind it.
-use Rattle.std.proofs.Common.{◌≡◌, ℕ, zero, suc, ◌≤◌, List, [], ◌∷◌, ◌++◌, Bool, true, false, not, length, take, Result, Ok, Err, Some, None, refl, sym, ap, ◌∙◌, subst, arith, add-one}
+use Rattle.std.proofs.Common.{◌≡◌, ℕ, zero, suc, ◌≤◌, List, [], ◌∷◌, ◌++◌, Bool, true, false, not, if◌then◌else◌, length, take, Result, Ok, Err, Some, None, refl, sym, ap, ◌∙◌, subst, arith, add-one}
 use Rattle.std.specs.Prelude.{ℤ, Option, nat_le, slice_get}
 use Rattle.std.proofs.lemmas.Bool.{false≢true}
 use Rattle.std.proofs.lemmas.Bool.Decides.{nat_tests}
@@ -16,13 +16,13 @@ use Rattle.dwarf_lines.specs.declared.row.Origin.{Origin}
 use Rattle.dwarf_lines.specs.declared.instruction.Instruction.{Instruction}
 use Rattle.dwarf_lines.specs.declared.instruction.Instruction.TheVariants.{Copy, AdvancePc, AdvanceLine, SetFile, ConstAddPc, FixedAdvancePc, SetAddress, EndSequence, Special, Skipped}
 use Rattle.dwarf_lines.specs.Instructions.{Encoding, reading_of}
-use Rattle.dwarf_lines.specs.Matrix.{address_after, line_after, file_after, ends_sequence, makes_line, is_open, row_before, judged_address, judged_line, judged_file, line_row, end_row, made, rows_from, ending, latest_first, matrix_at}
+use Rattle.dwarf_lines.specs.Matrix.{address_after, line_after, file_after, ends_sequence, makes_line, is_open, is_dead, row_before, judged_address, judged_line, judged_file, line_row, end_row, made, rows_from, ending, latest_first, matrix_at}
 use Rattle.dwarf_lines.specs.Sections.{LineSections}
 use Rattle.dwarf_lines.specs.Headers.{header_at}
 use Rattle.dwarf_lines.specs.Programs.{Program, program_at_place, next_program, programs_of, rows_of}
 use Rattle.dwarf_lines.specs.Lines.{Lines, lines_of, lines_in, HaveNext}
 use Rattle.dwarf_lines.proofs.BoundsLaws.{ok_is}
-use Rattle.dwarf_lines.proofs.Steps.{made_row, made_nothing, row_stays, open_stays, row_here, open_here}
+use Rattle.dwarf_lines.proofs.Steps.{made_row, made_nothing, made_dead, made_alive, row_stays, open_stays, row_here, open_here, dead_here, dead_settled}
 use Rattle.dwarf_lines.proofs.ProgramTurns.{item_or}
 
 -- The rows of a program from a place in a sequence on, which has a row at the address previous before it or none, up to
@@ -55,7 +55,7 @@ line_row-is o previous sum line file row h =
       end_is = sym (ap (λ (r : Row). r.«end») same);
     })))
 
-end_row-is : (o : Origin) (previous sum : ℕ) (row : Row) → end_row o previous sum ≡ Ok row → IsRowAt o previous sum true row
+pub end_row-is : (o : Origin) (previous sum : ℕ) (row : Row) → end_row o previous sum ≡ Ok row → IsRowAt o previous sum true row
 end_row-is o previous sum row h =
     let P : Type 0 = IsRowAt o previous sum true row in
     after_bind (judged_address previous sum) _ row h P (λ address address_is h1.
@@ -86,62 +86,115 @@ kind_of EndSequence = ends refl
 kind_of (Special n) = makes refl refl
 kind_of Skipped = quiet refl refl
 
-after_end : (e : Encoding) (before : List Instruction) → (is_open (EndSequence ∷ before) ≡ false) × (row_before e (EndSequence ∷ before) ≡ 0)
-unfolding is_open row_before address_after
+-- whether the sequence has a row, which was not dropped
+abbrev pub keeps_row : List Instruction → Bool
+keeps_row before = if is_dead before then false else is_open before
+
+after_end : (e : Encoding) (before : List Instruction) → (keeps_row (EndSequence ∷ before) ≡ false) × (row_before e (EndSequence ∷ before) ≡ 0)
+unfolding is_open is_dead row_before address_after
 after_end e before = (refl, refl)
 
-at_first : (e : Encoding) → is_open [] ≡ false
-unfolding is_open
+at_first : (e : Encoding) → keeps_row [] ≡ false
+unfolding is_open is_dead
 at_first e = refl
 
-made_end : (e : Encoding) (o : Origin) (before : List Instruction) → made e o before EndSequence ≡ (end_row o (row_before e before) (address_after e before) >>= λ row. Ok (row ∷ []))
-unfolding made
-made_end e o before = refl
+shut_by : (b : Bool) → (if b then false else false) ≡ false
+shut_by true = refl
+shut_by false = refl
+
+shut_kept : (before : List Instruction) → is_open before ≡ false → keeps_row before ≡ false
+shut_kept before shut = rw shut (shut_by (is_dead before))
+
+dead_kept : (before : List Instruction) → is_dead before ≡ true → keeps_row before ≡ false
+dead_kept before d = rw d refl
+
+kept_stays : (i : Instruction) (before : List Instruction) → ends_sequence i ≡ false → makes_line i ≡ false → keeps_row (i ∷ before) ≡ keeps_row before
+kept_stays i before h m = by (is_open before) refl
+  where
+    by : (b : Bool) → is_open before ≡ b → keeps_row (i ∷ before) ≡ keeps_row before
+    by true o = rw (open_stays i before h m, dead_settled i before h m o) refl
+    by false o = shut_kept (i ∷ before) (open_stays i before h m ∙ o) ∙ sym (shut_kept before o)
+
+kept_here : (i : Instruction) (before : List Instruction) → ends_sequence i ≡ false → makes_line i ≡ true → is_dead before ≡ false → keeps_row (i ∷ before) ≡ true
+kept_here i before h m d = rw (dead_here i before h m, d, open_here i before h m) refl
 
 any_address : (program : ProgramNo) (has_row : Bool) (a b : ℕ) (rows : List Row) → has_row ≡ false → IsChain program has_row a rows → IsChain program has_row b rows
 any_address program has_row a b [] shut chain = chain
 any_address program has_row a b (row ∷ rows) shut chain = (chain.0, λ h. absurd (false≢true (sym shut ∙ h)), chain.2)
 
--- what one instruction makes stands in front of what the others make
-one_more : (e : Encoding) (o : Origin) (before : List Instruction) (i : Instruction) (row rest : List Row) → made e o before i ≡ Ok row → Kind i
-    → IsChain o.program (is_open (i ∷ before)) (row_before e (i ∷ before)) rest → IsChain o.program (is_open before) (row_before e before) (row ++ rest)
-one_more e o before i row rest is (quiet e_is m_is) chain =
-    let none : [] ≡ row = ok_is {E = Cause} [] row (sym (made_nothing e o i before e_is m_is) ∙ is) in
-    let here : IsChain o.program (is_open before) (row_before e before) rest =
-    subst (λ (b : Bool). IsChain o.program b (row_before e before) rest) (open_stays i before e_is m_is)
-    (subst (λ (n : ℕ). IsChain o.program (is_open (i ∷ before)) n rest) (row_stays e i before e_is m_is) chain) in
-    subst (λ (r : List Row). IsChain o.program (is_open before) (row_before e before) (r ++ rest)) none here
-one_more e o before i row rest is (makes e_is m_is) chain =
-    let P : Type 0 = IsChain o.program (is_open before) (row_before e before) (row ++ rest) in
-    after_bind (line_row o (row_before e before) (address_after e (i ∷ before)) (line_after e (i ∷ before)) (file_after (i ∷ before))) _ row (sym (made_row e o i before m_is) ∙ is) P (λ found found_is h.
+-- in a dead sequence an instruction makes nothing
+none_more : (e : Encoding) (o : Origin) (before : List Instruction) (i : Instruction) (row rest : List Row) → made e o before i ≡ Ok row → is_dead before ≡ true → keeps_row (i ∷ before) ≡ false
+    → IsChain o.program (keeps_row (i ∷ before)) (row_before e (i ∷ before)) rest → IsChain o.program (keeps_row before) (row_before e before) (row ++ rest)
+none_more e o before i row rest is d shut chain =
+    let none : [] ≡ row = ok_is {E = Cause} [] row (sym (made_dead e o before i d) ∙ is) in
+    let other : IsChain o.program false (row_before e (i ∷ before)) rest = subst (λ (b : Bool). IsChain o.program b (row_before e (i ∷ before)) rest) shut chain in
+    let here : IsChain o.program (keeps_row before) (row_before e before) rest =
+    subst (λ (b : Bool). IsChain o.program b (row_before e before) rest) (sym (dead_kept before d)) (any_address o.program false (row_before e (i ∷ before)) (row_before e before) rest refl other) in
+    subst (λ (r : List Row). IsChain o.program (keeps_row before) (row_before e before) (r ++ rest)) none here
+
+-- a row of one that is not dead
+line_more : (e : Encoding) (o : Origin) (before : List Instruction) (i : Instruction) (row rest : List Row) → made e o before i ≡ Ok row → is_dead before ≡ false → ends_sequence i ≡ false → makes_line i ≡ true
+    → IsChain o.program (keeps_row (i ∷ before)) (row_before e (i ∷ before)) rest → IsChain o.program (keeps_row before) (row_before e before) (row ++ rest)
+line_more e o before i row rest is d e_is m_is chain =
+    let P : Type 0 = IsChain o.program (keeps_row before) (row_before e before) (row ++ rest) in
+    after_bind (line_row o (row_before e before) (address_after e (i ∷ before)) (line_after e (i ∷ before)) (file_after (i ∷ before))) _ row (sym (made_row e o i before m_is d) ∙ is) P (λ found found_is h.
     let at = line_row-is o (row_before e before) (address_after e (i ∷ before)) (line_after e (i ∷ before)) (file_after (i ∷ before)) found found_is in
     let same : found ∷ [] ≡ row = ok_is {E = Cause} (found ∷ []) row h in
-    let opened : is_open (i ∷ before) ≡ not found.«end» = open_here i before e_is m_is ∙ ap not (sym at.end_is) in
+    let opened : keeps_row (i ∷ before) ≡ not found.«end» = kept_here i before e_is m_is d ∙ ap not (sym at.end_is) in
     let last : row_before e (i ∷ before) ≡ found.address = row_here e i before e_is m_is ∙ sym at.address_is in
     let behind : IsChain o.program (not found.«end») found.address rest =
     subst (λ (n : ℕ). IsChain o.program (not found.«end») n rest) last (subst (λ (b : Bool). IsChain o.program b (row_before e (i ∷ before)) rest) opened chain) in
     let rises : row_before e before ≤ found.address = subst (λ (n : ℕ). row_before e before ≤ n) (sym at.address_is) at.rises in
-    subst (λ (r : List Row). IsChain o.program (is_open before) (row_before e before) (r ++ rest)) same (at.program_is, λ _. rises, behind))
-one_more e o before i row rest is (ends i_is) chain =
-    let P : Type 0 = IsChain o.program (is_open before) (row_before e before) (row ++ rest) in
-    after_bind (end_row o (row_before e before) (address_after e before)) _ row (sym (made_end e o before) ∙ subst (λ (j : Instruction). made e o before j ≡ Ok row) i_is is) P (λ found found_is h.
+    subst (λ (r : List Row). IsChain o.program (keeps_row before) (row_before e before) (r ++ rest)) same (at.program_is, λ _. rises, behind))
+
+-- .. and the row that ends it
+end_more : (e : Encoding) (o : Origin) (before : List Instruction) (row rest : List Row) → made e o before EndSequence ≡ Ok row → is_dead before ≡ false
+    → IsChain o.program (keeps_row (EndSequence ∷ before)) (row_before e (EndSequence ∷ before)) rest → IsChain o.program (keeps_row before) (row_before e before) (row ++ rest)
+end_more e o before row rest is d chain =
+    let P : Type 0 = IsChain o.program (keeps_row before) (row_before e before) (row ++ rest) in
+    after_bind (end_row o (row_before e before) (address_after e before)) _ row (sym (made_alive e o before EndSequence d) ∙ is) P (λ found found_is h.
     let at = end_row-is o (row_before e before) (address_after e before) found found_is in
     let same : found ∷ [] ≡ row = ok_is {E = Cause} (found ∷ []) row h in
-    let closed = subst (λ (j : Instruction). IsChain o.program (is_open (j ∷ before)) (row_before e (j ∷ before)) rest) i_is chain in
-    let shut : is_open (EndSequence ∷ before) ≡ not found.«end» = (after_end e before).0 ∙ ap not (sym at.end_is) in
-    let opened : IsChain o.program (not found.«end») (row_before e (EndSequence ∷ before)) rest = subst (λ (b : Bool). IsChain o.program b (row_before e (EndSequence ∷ before)) rest) shut closed in
+    let shut : keeps_row (EndSequence ∷ before) ≡ not found.«end» = (after_end e before).0 ∙ ap not (sym at.end_is) in
+    let opened : IsChain o.program (not found.«end») (row_before e (EndSequence ∷ before)) rest = subst (λ (b : Bool). IsChain o.program b (row_before e (EndSequence ∷ before)) rest) shut chain in
     let rises : row_before e before ≤ found.address = subst (λ (n : ℕ). row_before e before ≤ n) (sym at.address_is) at.rises in
-    subst (λ (r : List Row). IsChain o.program (is_open before) (row_before e before) (r ++ rest)) same (at.program_is, λ _. rises, any_address o.program (not found.«end») (row_before e (EndSequence ∷ before)) found.address rest (ap not at.end_is) opened))
+    subst (λ (r : List Row). IsChain o.program (keeps_row before) (row_before e before) (r ++ rest)) same (at.program_is, λ _. rises, any_address o.program (not found.«end») (row_before e (EndSequence ∷ before)) found.address rest (ap not at.end_is) opened))
+
+-- what one instruction makes stands in front of what the others make
+one_more : (e : Encoding) (o : Origin) (before : List Instruction) (i : Instruction) (row rest : List Row) → made e o before i ≡ Ok row → Kind i
+    → IsChain o.program (keeps_row (i ∷ before)) (row_before e (i ∷ before)) rest → IsChain o.program (keeps_row before) (row_before e before) (row ++ rest)
+one_more e o before i row rest is (quiet e_is m_is) chain =
+    let none : [] ≡ row = ok_is {E = Cause} [] row (sym (made_nothing e o i before e_is m_is) ∙ is) in
+    let here : IsChain o.program (keeps_row before) (row_before e before) rest =
+    subst (λ (b : Bool). IsChain o.program b (row_before e before) rest) (kept_stays i before e_is m_is)
+    (subst (λ (n : ℕ). IsChain o.program (keeps_row (i ∷ before)) n rest) (row_stays e i before e_is m_is) chain) in
+    subst (λ (r : List Row). IsChain o.program (keeps_row before) (row_before e before) (r ++ rest)) none here
+one_more e o before i row rest is (makes e_is m_is) chain = by (is_dead before) refl
+  where
+    by : (b : Bool) → is_dead before ≡ b → IsChain o.program (keeps_row before) (row_before e before) (row ++ rest)
+    by true d = none_more e o before i row rest is d (dead_kept (i ∷ before) (dead_here i before e_is m_is ∙ d)) chain
+    by false d = line_more e o before i row rest is d e_is m_is chain
+one_more e o before i row rest is (ends i_is) chain = by (is_dead before) refl
+  where
+    made_is : made e o before EndSequence ≡ Ok row
+    made_is = subst (λ (j : Instruction). made e o before j ≡ Ok row) i_is is
+
+    closed : IsChain o.program (keeps_row (EndSequence ∷ before)) (row_before e (EndSequence ∷ before)) rest
+    closed = subst (λ (j : Instruction). IsChain o.program (keeps_row (j ∷ before)) (row_before e (j ∷ before)) rest) i_is chain
+
+    by : (b : Bool) → is_dead before ≡ b → IsChain o.program (keeps_row before) (row_before e before) (row ++ rest)
+    by true d = none_more e o before EndSequence row rest made_is d (after_end e before).0 closed
+    by false d = end_more e o before row rest made_is d closed
 
 -- the rows of instructions behind these, after which no sequence is left open
 rows-chain : (e : Encoding) (o : Origin) (before rest : List Instruction) (rows : List Row) → rows_from e o before rest ≡ Ok rows → is_open (latest_first before rest) ≡ false
-    → IsChain o.program (is_open before) (row_before e before) rows
+    → IsChain o.program (keeps_row before) (row_before e before) rows
 unfolding rows_from
-rows-chain e o before [] rows is shut = subst (λ (r : List Row). IsChain o.program (is_open before) (row_before e before) r) (ok_is {E = Cause} [] rows is) shut
+rows-chain e o before [] rows is shut = subst (λ (r : List Row). IsChain o.program (keeps_row before) (row_before e before) r) (ok_is {E = Cause} [] rows is) (shut_kept before shut)
 rows-chain e o before (i ∷ rest) rows is shut =
-    after_bind (made e o before i) _ rows is (IsChain o.program (is_open before) (row_before e before) rows) (λ row row_is h1.
-    after_bind (rows_from e o (i ∷ before) rest) _ rows h1 (IsChain o.program (is_open before) (row_before e before) rows) (λ others others_is h2.
-    subst (λ (r : List Row). IsChain o.program (is_open before) (row_before e before) r) (ok_is {E = Cause} (row ++ others) rows h2)
+    after_bind (made e o before i) _ rows is (IsChain o.program (keeps_row before) (row_before e before) rows) (λ row row_is h1.
+    after_bind (rows_from e o (i ∷ before) rest) _ rows h1 (IsChain o.program (keeps_row before) (row_before e before) rows) (λ others others_is h2.
+    subst (λ (r : List Row). IsChain o.program (keeps_row before) (row_before e before) r) (ok_is {E = Cause} (row ++ others) rows h2)
     (one_more e o before i row others row_is (kind_of i) (rows-chain e o (i ∷ before) rest others others_is shut))))
 
 ending-shut : (fault : Option Cause) (has_row : Bool) (n : ℕ) → ending fault has_row ≡ Ok n → has_row ≡ false
@@ -218,7 +271,7 @@ lines_in-ok s lines h = by_read (programs_of s) refl h
     by_read (Ok read) is h = (read.0, read.1, is, cc)
     by_read (Err fault) is h = cc
 
-some_is : {X : Type 0} (x y : X) → (let f : X → Option X = λ z. Some z in f x ≡ f y) → x ≡ y
+pub some_is : {X : Type 0} (x y : X) → (let f : X → Option X = λ z. Some z in f x ≡ f y) → x ≡ y
 some_is x y h = cc
 
 have-next : (rows : List Row) → AllContinue rows → HaveNext rows

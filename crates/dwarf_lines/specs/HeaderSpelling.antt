@@ -1,10 +1,9 @@
 -- How the header of a line program is spelled (DWARF 5, 6.2.4 and 6.2.4.1). What is spelled may depend on the place in
 -- the section at which the bytes stand.
 use Rattle.std.specs.Prelude.{◌≡◌, ◌≢◌, ℕ, suc, ◌+◌, ◌<◌, List, [], ◌∷◌, ◌++◌, length, true, false, Some, count_by}
-use Rattle.dwarf_bytes.specs.Numbers.{IsFixed, IsUleb, IsText, StandsAt, offset_len}
+use Rattle.dwarf_bytes.specs.Numbers.{IsFixed, IsUleb, IsText, IsInitialLength, StandsAt, offset_len}
 use Rattle.dwarf_bytes.specs.Contents.{Content, SpellsContent}
 use Rattle.dwarf_bytes.specs.declared.format.Format.{Format}
-use Rattle.dwarf_bytes.specs.declared.format.Format.TheVariants.{Dwarf32}
 use Rattle.dwarf_bytes.specs.declared.form.ValueLayout.{ValueLayout}
 use Rattle.dwarf_bytes.specs.declared.fault.Section.TheVariants as sections
 use Rattle.dwarf_lines.specs.declared.formats.Field.{Field}
@@ -79,10 +78,6 @@ pub record SpellsEncoding (bytes : List ℕ) (e : Encoding) : Type 0 where
   pub range : e.line_range ≢ 0
   pub lengths : e.opcode_base ≡ suc (length e.opcode_lengths)
   pub standard : are_standard e.opcode_lengths ≡ true
-
--- The bytes are an initial length (7.4).
-abbrev pub IsInitialLength : Format → List ℕ → ℕ → Type 0
-IsInitialLength Dwarf32 bytes len = IsFixed 4 bytes len × (len < 0xfffffff0)
 
 -- The bytes at the place are what header_length counts: the fields from minimum_instruction_length to the last file, and
 -- what stands behind them up to the first instruction, which is not read.

@@ -10,6 +10,7 @@ pub mod Headers
 pub mod Programs
 pub mod Paths
 pub mod Lines
+pub mod ProgramSpelling
 pub mod Readers
 pub mod Kept
 pub mod HeaderSpelling

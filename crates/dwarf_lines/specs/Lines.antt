@@ -61,3 +61,8 @@ row_of (row ∷ next ∷ rows) address = if covers address row next then Some 0 
 abbrev pub HaveNext : List Row → Type 0
 HaveNext rows = (i : ℕ) (row : Row) → slice_get rows i ≡ Some row → row.«end» ≡ false
     → (next : Row) × (slice_get rows (i + 1) ≡ Some next) × (next.program ≡ row.program) × (row.address ≤ next.address)
+
+-- Each row that does not end its sequence has a path: its program and its file are there, and the file's directory is.
+abbrev pub HavePaths : Lines → Type 0
+HavePaths lines = (i : ℕ) (row : Row) → slice_get lines.rows i ≡ Some row → row.«end» ≡ false
+    → (parts : List Part) × (path_of lines row.program row.file ≡ Some parts)

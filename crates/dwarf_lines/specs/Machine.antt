@@ -1,6 +1,6 @@
 -- The line number machine (DWARF 5, 6.2.2): its registers, what each instruction does to them, and the rows that it
 -- appends to the matrix.
-use Rattle.std.specs.Prelude.{ℕ, ◌+◌, ◌*◌, ◌-◌, ◌%◌, ℤ, pos, ◌+ℤ◌, List, [], ◌∷◌, ◌++◌, Result, Ok}
+use Rattle.std.specs.Prelude.{ℕ, ◌+◌, ◌*◌, ◌-◌, ◌%◌, ℤ, pos, ◌+ℤ◌, List, [], ◌∷◌, ◌++◌, Bool, true, false, Result, Ok, if◌then◌else◌}
 use Rattle.dwarf_bytes.specs.Bind.{◌>>=◌}
 use Rattle.dwarf_bytes.specs.declared.fault.Cause.{Cause}
 use Rattle.dwarf_lines.specs.declared.row.Row.{Row}
@@ -8,18 +8,21 @@ use Rattle.dwarf_lines.specs.declared.row.Origin.{Origin}
 use Rattle.dwarf_lines.specs.declared.instruction.Instruction.{Instruction}
 use Rattle.dwarf_lines.specs.declared.instruction.Instruction.TheVariants.{Copy, AdvancePc, AdvanceLine, SetFile, ConstAddPc, FixedAdvancePc, SetAddress, EndSequence, Special, Skipped}
 use Rattle.dwarf_lines.specs.Instructions.{Encoding}
-use Rattle.dwarf_lines.specs.Matrix.{address_part, line_row, end_row}
+use Rattle.dwarf_lines.specs.Matrix.{address_part, is_mark, line_row, end_row}
 
--- the registers that rows tell, and the address of the last row of the sequence (0 where it has none)
+-- the registers that rows tell, the address of the last row of the sequence (0 where it has none), whether it has a row,
+-- and whether it is dead
 pub record Machine : Type 0 where
   pub address : ℕ
   pub file : ℕ
   pub line : ℤ
   pub previous : ℕ
+  pub has_row : Bool
+  pub dead : Bool
 
 -- the registers at the beginning of each sequence
 abbrev pub at_start : Machine
-at_start = record { address = 0; file = 1; line = pos 1; previous = 0 }
+at_start = record { address = 0; file = 1; line = pos 1; previous = 0; has_row = false; dead = false }
 
 abbrev pub advanced : ℕ → Machine → Machine
 advanced addresses m = record m { address = m.address + addresses }
@@ -29,7 +32,11 @@ moved lines m = record m { line = m.line +ℤ lines }
 
 -- after a row
 abbrev pub told : Machine → Machine
-told m = record m { previous = m.address }
+told m = record m { previous = m.address; has_row = true }
+
+-- after an address is set: before the first row of the sequence, the mark makes it dead, and another address does not
+abbrev pub placed : ℕ → Machine → Machine
+placed address m = record m { address = address; dead = if m.has_row then m.dead else is_mark address }
 
 -- What an instruction does to the registers (6.2.5.1 to 6.2.5.3).
 abbrev pub step : Encoding → Machine → Instruction → Machine
@@ -39,7 +46,7 @@ step e m (AdvanceLine change) = moved change m
 step e m (SetFile file) = record m { file = file }
 step e m ConstAddPc = advanced (address_part e (255 - e.opcode_base)) m
 step e m (FixedAdvancePc n) = advanced n m
-step e m (SetAddress address) = record m { address = address }
+step e m (SetAddress address) = placed address m
 step e m EndSequence = at_start
 step e m (Special adjusted) = told (moved (e.line_base +ℤ pos (adjusted % e.line_range)) (advanced (address_part e adjusted) m))
 step e m Skipped = m
@@ -48,12 +55,16 @@ step e m Skipped = m
 abbrev pub row_of_registers : Origin → ℕ → Machine → Result (List Row) Cause
 row_of_registers o previous m = line_row o previous m.address m.line m.file >>= λ row. Ok (row ∷ [])
 
--- What an instruction appends: a row or nothing, or the first fault of the row.
+-- what an instruction appends in a sequence that is not dead
+abbrev pub appended_live : Encoding → Origin → Machine → Instruction → Result (List Row) Cause
+appended_live e o m Copy = row_of_registers o m.previous (step e m Copy)
+appended_live e o m (Special adjusted) = row_of_registers o m.previous (step e m (Special adjusted))
+appended_live e o m EndSequence = end_row o m.previous m.address >>= λ row. Ok (row ∷ [])
+appended_live e o m _ = Ok []
+
+-- What an instruction appends: a row or nothing, or the first fault of the row; nothing in a dead sequence.
 abbrev pub appended : Encoding → Origin → Machine → Instruction → Result (List Row) Cause
-appended e o m Copy = row_of_registers o m.previous (step e m Copy)
-appended e o m (Special adjusted) = row_of_registers o m.previous (step e m (Special adjusted))
-appended e o m EndSequence = end_row o m.previous m.address >>= λ row. Ok (row ∷ [])
-appended e o m _ = Ok []
+appended e o m i = if m.dead then Ok [] else appended_live e o m i
 
 -- the rows that are appended while the instructions are executed one after the other, or the first fault
 unfoldable pub rows_by : Encoding → Origin → Machine → List Instruction → Result (List Row) Cause

@@ -1,5 +1,5 @@
 -- What the registers of the code hold.
-use Rattle.std.specs.Prelude.{◌≡◌, ℕ, ◌^◌, ◌≤◌, ◌+◌, ℤ, List, ◌∷◌, Option, Some, None, Result, Ok, Err, option_to_list, true, unsigned_abs}
+use Rattle.std.specs.Prelude.{◌≡◌, ℕ, ◌^◌, ◌≤◌, ◌+◌, ℤ, List, ◌∷◌, Option, Some, None, Result, Ok, Err, option_to_list, Bool, true, false, ◌&&◌, unsigned_abs}
 use Rattle.dwarf_bytes.specs.declared.fault.Cause.{Cause}
 use Rattle.dwarf_lines.specs.declared.row.Row.{Row}
 use Rattle.dwarf_lines.specs.declared.row.Origin.{Origin}
@@ -8,25 +8,37 @@ use Rattle.dwarf_lines.specs.declared.instruction.Instruction.{Instruction}
 use Rattle.dwarf_lines.specs.declared.instruction.Instruction.TheVariants.{AdvanceLine}
 use Rattle.dwarf_bytes.specs.Refusals.{Fails}
 use Rattle.dwarf_lines.specs.Instructions.{Encoding}
-use Rattle.dwarf_lines.specs.Matrix.{address_after, line_after, file_after, is_open, row_before, line_row, made, with_front}
+use Rattle.dwarf_lines.specs.Matrix.{address_after, line_after, file_after, is_open, is_dead, row_before, line_row, made, with_front}
 
 -- a sum that is known below 2 ^ 64
 abbrev pub IsSum : Option ℕ → ℕ → Type 0
 IsSum None sum = 2 ^ 64 ≤ sum
 IsSum (Some n) sum = n ≡ sum
 
--- the registers are those after these instructions
+-- whether the sequence has a row that was dropped
+abbrev pub has_dropped : List Instruction → Bool
+has_dropped before = is_open before && is_dead before
+
+-- The registers are those after these instructions. The address of the last row is kept of a sequence that is not dead.
 pub record AreRegisters (e : Encoding) (before : List Instruction) (r : Registers) : Type 0 where
   pub address : IsSum r.address (address_after e before)
   pub line : r.line ≡ line_after e before
   pub file : r.file ≡ file_after before
-  pub previous : r.previous ≡ row_before e before
+  pub previous : has_dropped before ≡ false → r.previous ≡ row_before e before
   pub has_row : r.has_row ≡ is_open before
+  pub dead : r.dead ≡ is_dead before
 
--- The row of the registers is made at the address sum, and is then the last one.
-abbrev pub KeepsRow : Origin → Registers → ℕ → Result Row Cause → Registers → Type 0
-KeepsRow origin old sum (Ok row) new = (line_row origin old.previous sum old.line old.file ≡ Ok row) × (new ≡ record old { previous = row.address; has_row = true })
-KeepsRow origin old sum (Err cause) new = line_row origin old.previous sum old.line old.file ≡ Err cause
+-- The row of the registers is made at the address sum, and is then the last one; in a dead sequence it is dropped.
+abbrev pub KeepsRow : Origin → Registers → ℕ → Result (Option Row) Cause → Registers → Type 0
+KeepsRow origin old sum (Ok (Some row)) new = (old.dead ≡ false) × (line_row origin old.previous sum old.line old.file ≡ Ok row) × (new ≡ record old { previous = row.address; has_row = true })
+KeepsRow origin old sum (Ok None) new = (old.dead ≡ true) × (new ≡ record old { has_row = true })
+KeepsRow origin old sum (Err cause) new = (old.dead ≡ false) × (line_row origin old.previous sum old.line old.file ≡ Err cause)
+
+-- the row that ends a sequence, which a dead one has not
+abbrev pub last_row : Bool → Result Row Cause → Result (Option Row) Cause
+last_row true row = Ok None
+last_row false (Ok row) = Ok (Some row)
+last_row false (Err cause) = Err cause
 
 -- A step after these instructions gives what the instruction makes, and the registers after it.
 abbrev pub Makes : Encoding → Origin → List Instruction → Instruction → Result (Option Row) Cause → Registers → Type 0

@@ -19,11 +19,24 @@ ghost use Rattle.dwarf_lines.specs.HeaderSpelling.{SpellsEach, SpellsField, Spel
 ghost use Rattle.dwarf_lines.specs.Matrix.{rows_from};
 ghost use Rattle.dwarf_lines.specs.Machine.{at_start, rows_by};
 ghost use Rattle.dwarf_lines.specs.Sections.{LineSections};
-ghost use Rattle.dwarf_lines.specs.Lines.{Lines, lines_in, HaveNext};
+ghost use Rattle.dwarf_lines.specs.Lines.{Lines, lines_in, HaveNext, HavePaths};
+ghost use Rattle.dwarf_lines.specs.Programs.{Program, programs_of, next_program, program_at_place};
+ghost use Rattle.dwarf_lines.specs.ProgramSpelling.{IsProgram};
+ghost use Rattle.dwarf_bytes.specs.Items.{Lists};
+ghost use Rattle.dwarf_bytes.specs.Numbers.{IsText};
+ghost use Rattle.dwarf_bytes.specs.declared.fault.Section.{Section};
+ghost use Rattle.dwarf_lines.specs.Sections.{section_bytes};
+ghost use Rattle.dwarf_lines.specs.Entries.{text_from};
+ghost use Rattle.dwarf_lines.specs.Paths.{part_bytes};
 
 /// A row that does not end its sequence has a next row, of its program and at no lower address.
 pub fn rows_have_next()
     ensures { (s : LineSections) (lines : Lines) → lines_in s ≡ Ok lines → HaveNext lines.rows }
+{}
+
+/// A row that does not end its sequence has a path.
+pub fn rows_have_paths()
+    ensures { (s : LineSections) (lines : Lines) → lines_in s ≡ Ok lines → HavePaths lines }
 {}
 
 /// The rows of a program stand before those of the next one.
@@ -99,4 +112,23 @@ pub fn headers_are_spelled()
     ensures { (s : LineSections) (place : ℕ) (header : LineHeader)
         → (header_at s place ≡ Ok header)
         ↔ StandsAt (SpellsHeader s place) s.line place header header.past }
+{}
+
+/// The programs of a section are read exactly where they stand one after another, to its end.
+pub fn sections_are_programs()
+    ensures { (s : LineSections) (programs : List Program) (after : ℕ)
+        → (programs_of s ≡ Ok (programs, after)) ↔ Lists (next_program s) [] 0 programs after }
+{}
+
+/// The bytes of a part are its text.
+pub fn parts_are_texts()
+    ensures { (s : LineSections) (section : Section) (place past : ℕ) (text : List ℕ)
+        → StandsAt IsText (section_bytes s section) place text past
+        → part_bytes s (text_from section place text).part ≡ text }
+{}
+
+/// A program is read exactly where it stands with its header, its instructions and their rows.
+pub fn whole_programs_are_spelled()
+    ensures { (s : LineSections) (number place : ℕ) (program : Program)
+        → (program_at_place s number place ≡ Ok program) ↔ IsProgram s number place program }
 {}

@@ -170,9 +170,13 @@ fn the_first_bad_program_is_told(rt: HostRuntime) -> Result<(), Fail> {
     let read = LineTables::read(rt.alloc(), line.as_slice(), &[], &[]);
     assert_eq!(rt; read.err(), Some(fault(Cause::FileIndex, 75)));
     let mut line = one_sequence().to_vec(rt.alloc())?;
-    line.extend_from_slice(&[0xff, 0xff, 0xff, 0xff])?;
+    line.extend_from_slice(&[0xf0, 0xff, 0xff, 0xff])?;
     let read = LineTables::read(rt.alloc(), line.as_slice(), &[], &[]);
     assert_eq!(rt; read.err(), Some(fault(Cause::Length, 75)));
+    let mut line = one_sequence().to_vec(rt.alloc())?;
+    line.extend_from_slice(&[0xff, 0xff, 0xff, 0xff])?;
+    let read = LineTables::read(rt.alloc(), line.as_slice(), &[], &[]);
+    assert_eq!(rt; read.err(), Some(fault(Cause::Short, 75)));
     Ok(())
 }
 
@@ -191,7 +195,7 @@ fn sums_are_judged_where_a_row_is_made(rt: HostRuntime) -> Result<(), Fail> {
     for (instructions, cause) in [
         (
             &[
-                0, 9, 2, 255, 255, 255, 255, 255, 255, 255, 255, 2, 1, 1, 0, 1, 1,
+                0, 9, 2, 254, 255, 255, 255, 255, 255, 255, 255, 2, 2, 1, 0, 1, 1,
             ],
             Cause::Overflow,
         ),
@@ -204,6 +208,84 @@ fn sums_are_judged_where_a_row_is_made(rt: HostRuntime) -> Result<(), Fail> {
         let read = LineTables::read(rt.alloc(), line.as_slice(), &[], &[]);
         assert_eq!(rt; read.err(), Some(fault(cause, 0)));
     }
+    Ok(())
+}
+
+#[test]
+fn a_program_of_the_64_bit_format_has_the_same_rows(rt: HostRuntime) -> Result<(), Fail> {
+    let mut line = long_program().to_vec(rt.alloc())?;
+    line.extend_from_slice(&one_sequence())?;
+    let tables = LineTables::read(rt.alloc(), line.as_slice(), &[], &[])?;
+    assert_eq!(rt;
+        tables.rows(),
+        [
+            row(0, 0x1000, 10),
+            row(0, 0x1004, 11),
+            end(0, 0x1010),
+            row(1, 0x1000, 10),
+            row(1, 0x1004, 11),
+            end(1, 0x1010)
+        ]
+        .as_slice()
+    );
+    assert_eq!(rt; tables.program_at(87), Some(ProgramNo(1)));
+    let path = path(rt.alloc(), &tables, [line.as_slice(), &[], &[]], 0, 1)?;
+    assert_eq!(rt; path.ok_or("no path")?.as_slice(), b"/src/a.c".as_slice());
+    for (place, byte, cause) in [
+        (0usize, 0xf0u8, Cause::Length),
+        (11, 1, Cause::Short),
+        (23, 1, Cause::Short),
+        (16, 6, Cause::Short),
+    ] {
+        let mut line = long_program();
+        if let Some(changed) = line.get_mut(place) {
+            *changed = byte;
+        }
+        let read = LineTables::read(rt.alloc(), &line, &[], &[]);
+        assert_eq!(rt; read.err(), Some(fault(cause, 0)), "byte {place}");
+    }
+    Ok(())
+}
+
+#[test]
+fn a_dead_sequence_has_no_rows(rt: HostRuntime) -> Result<(), Fail> {
+    let tables = LineTables::read(rt.alloc(), &dead_program(), &[], &[])?;
+    assert_eq!(rt; tables.rows().len(), 0);
+    let mut open = dead_program();
+    open[74] = 4;
+    let read = LineTables::read(rt.alloc(), &open, &[], &[]);
+    assert_eq!(rt; read.err(), Some(fault(Cause::SequenceOpen, 0)));
+    // set_address 7, set_address 2^64 - 1, advance_pc 1, set_file 9, advance_line -5, copy, set_address 0, copy, end;
+    // then a sequence at 0
+    let line = with_instructions(
+        rt.alloc(),
+        &[
+            0, 9, 2, 7, 0, 0, 0, 0, 0, 0, 0, 0, 9, 2, 255, 255, 255, 255, 255, 255, 255, 255, 2, 1,
+            4, 9, 3, 0x7b, 1, 0, 9, 2, 0, 0, 0, 0, 0, 0, 0, 0, 1, 0, 1, 1, 1, 0, 1, 1,
+        ],
+    )?;
+    let tables = LineTables::read(rt.alloc(), line.as_slice(), &[], &[])?;
+    assert_eq!(rt; tables.rows(), [row(0, 0, 1), end(0, 0)].as_slice());
+    // a sequence of its end alone is dead too
+    let line = with_instructions(
+        rt.alloc(),
+        &[0, 9, 2, 255, 255, 255, 255, 255, 255, 255, 255, 0, 1, 1],
+    )?;
+    let tables = LineTables::read(rt.alloc(), line.as_slice(), &[], &[])?;
+    assert_eq!(rt; tables.rows().len(), 0);
+    // the mark behind a row is an address as before
+    let line = with_instructions(
+        rt.alloc(),
+        &[1, 0, 9, 2, 255, 255, 255, 255, 255, 255, 255, 255, 0, 1, 1],
+    )?;
+    let tables = LineTables::read(rt.alloc(), line.as_slice(), &[], &[])?;
+    assert_eq!(rt; tables.rows(), [row(0, 0, 1), end(0, u64::MAX)].as_slice());
+    let line = with_instructions(
+        rt.alloc(),
+        &[0, 9, 2, 255, 255, 255, 255, 255, 255, 255, 255, 1, 0, 2, 2],
+    )?;
+    let read = LineTables::read(rt.alloc(), line.as_slice(), &[], &[]);
+    assert_eq!(rt; read.err(), Some(fault(Cause::Short, 0)));
     Ok(())
 }
 

@@ -1,0 +1,22 @@
+-- How a whole line program is spelled (DWARF 5, 6.2.4 and 6.2.5), and the rows that it makes.
+use Rattle.std.specs.Prelude.{◌≡◌, ℕ, List, [], length, take, drop, false, Ok}
+use Rattle.dwarf_bytes.specs.Numbers.{StandsAt}
+use Rattle.dwarf_lines.specs.declared.instruction.Instruction.{Instruction}
+use Rattle.dwarf_lines.specs.Sections.{LineSections}
+use Rattle.dwarf_lines.specs.Headers.{LineHeader}
+use Rattle.dwarf_lines.specs.HeaderSpelling.{SpellsHeader}
+use Rattle.dwarf_lines.specs.Spelling.{AreSpelled}
+use Rattle.dwarf_lines.specs.Matrix.{is_open, latest_first}
+use Rattle.dwarf_lines.specs.Machine.{at_start, rows_by}
+use Rattle.dwarf_lines.specs.Programs.{Program}
+
+-- At the place stands the number-th program: a header, and the spellings of instructions up to the program's end. Its rows
+-- are those that the machine appends, and its last sequence is ended.
+pub record IsProgram (s : LineSections) (number place : ℕ) (program : Program) : Type 0 where
+  pub header : LineHeader
+  pub instructions : List Instruction
+  pub header_is : StandsAt (SpellsHeader s place) s.line place header header.past
+  pub instructions_are : AreSpelled header.encoding (drop header.first (take header.past s.line)) instructions
+  pub rows_are : rows_by header.encoding (record { program = record { 0 = number }; files = length header.files }) at_start instructions ≡ Ok program.rows
+  pub ended : is_open (latest_first [] instructions) ≡ false
+  pub program_is : program ≡ record { offset = place; directories = header.directories; files = header.files; rows = program.rows; past = header.past }
