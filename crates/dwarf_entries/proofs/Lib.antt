@@ -26,3 +26,4 @@ pub mod InsideLaws
 pub mod ScopesOnly
 pub mod ReadLaws
 pub mod TextLaws
+pub mod ScopeOrder

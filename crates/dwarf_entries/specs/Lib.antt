@@ -13,3 +13,4 @@ pub mod Passes
 pub mod Members
 pub mod Readers
 pub mod Texts
+pub mod Order

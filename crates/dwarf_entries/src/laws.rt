@@ -11,7 +11,9 @@ ghost use Rattle.dwarf_entries.specs.declared.ranges.RangeListEntry.{RangeListEn
 ghost use Rattle.dwarf_entries.specs.declared.ranges.RangeListEntry.TheVariants.{Base, Covers};
 ghost use Rattle.dwarf_entries.specs.Entries.{Standing, Die, AreDepths, node_at, entries_of, below, IsBelow};
 ghost use Rattle.dwarf_entries.specs.Ranges.{base_after};
-ghost use Rattle.dwarf_entries.specs.Scopes.{is_scope};
+ghost use Rattle.dwarf_entries.specs.Scopes.{is_scope, Tree, tree_of};
+ghost use Rattle.dwarf_entries.specs.Sections.{Sections};
+ghost use Rattle.dwarf_entries.specs.Order.{AreInOrder};
 
 /// Whatever is read of a unit stands at counted depths: behind the entries with children before it,
 /// less the nulls before it that stand at a depth above 0.
@@ -48,4 +50,10 @@ pub fn base_is_of_last_base_entry()
         → base_after low_pc (before ++ Base base ∷ map (λ range. Covers range) ranges) ≡ Some base }
     ensures none { (low_pc : Option ℕ) (ranges : List (Option Range))
         → base_after low_pc (map (λ range. Covers range) ranges) ≡ low_pc }
+{}
+
+/// The scopes of an object have their places as numbers, end within their list, and none ends inside
+/// another one that began before it.
+pub fn scopes_stand_in_order()
+    ensures { (s : Sections) (tree : Tree) → tree_of s ≡ Ok tree → AreInOrder tree.scopes }
 {}
