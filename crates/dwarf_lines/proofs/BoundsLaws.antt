@@ -11,7 +11,7 @@ use Rattle.dwarf_bytes.specs.Numbers.{block_at, fixed_at, little_endian, u8_at, 
 use Rattle.dwarf_bytes.proofs.Advance.{after_bind, after_test, chosen, reading_ok}
 use Rattle.dwarf_bytes.proofs.LengthLaws.{initial_length_at-moves}
 use Rattle.dwarf_lines.specs.declared.formats.EntryTable.TheVariants.{Directories, Files}
-use Rattle.dwarf_lines.specs.declared.bounds.Bounds.{Bounds}
+use Rattle.dwarf_lines.specs.declared.program_bounds.ProgramBounds.{ProgramBounds}
 use Rattle.dwarf_lines.specs.Sections.{LineSections}
 use Rattle.dwarf_lines.specs.Entries.{table_at}
 use Rattle.dwarf_lines.specs.Headers.{LineHeader, within, bounds_at, encoding_at, header_at}
@@ -35,13 +35,13 @@ pub within-is : (bytes : List ℕ) (place found : ℕ) → within bytes place �
 within-is bytes place found h = grind (arith, nat_tests)
 
 -- the bounds of a program lie in one another
-pub record AreNested (line : List ℕ) (place : ℕ) (b : Bounds) : Type 0 where
+pub record AreNested (line : List ℕ) (place : ℕ) (b : ProgramBounds) : Type 0 where
   pub starts : place < b.past
   pub fields : b.fields ≤ b.first
   pub first : b.first ≤ b.past
   pub past : b.past ≤ length line
 
-pub bounds_at-nested : (line : List ℕ) (place : ℕ) (b : Bounds) → bounds_at line place ≡ Ok b → AreNested line place b
+pub bounds_at-nested : (line : List ℕ) (place : ℕ) (b : ProgramBounds) → bounds_at line place ≡ Ok b → AreNested line place b
 unfolding bounds_at
 bounds_at-nested line place b h =
     let P : Type 0 = AreNested line place b in
@@ -56,9 +56,9 @@ bounds_at-nested line place b h =
     after_bind (reading (offset_at unit.0.0 (take past line) segment.1)) _ b h8 P (λ len len_is h9.
     after_bind (within (take past line) (len.1 + len.0)) _ b h9 P (λ first first_is h10.
     let same : record { format = unit.0.0; fields = len.1; first = first; past = past } ≡ b = ok_is {E = Cause} (record { format = unit.0.0; fields = len.1; first = first; past = past }) b h10 in
-    let fields : len.1 ≡ b.fields = ap (λ (c : Bounds). c.fields) same in
-    let firsts : first ≡ b.first = ap (λ (c : Bounds). c.first) same in
-    let pasts : past ≡ b.past = ap (λ (c : Bounds). c.past) same in
+    let fields : len.1 ≡ b.fields = ap (λ (c : ProgramBounds). c.fields) same in
+    let firsts : first ≡ b.first = ap (λ (c : ProgramBounds). c.first) same in
+    let pasts : past ≡ b.past = ap (λ (c : ProgramBounds). c.past) same in
     let start = initial_length_at-moves line place unit (reading_ok (initial_length_at line place) unit unit_is) in
     let ended = within-is line (unit.1 + unit.0.1) past past_is in
     let began = within-is (take past line) (len.1 + len.0) first first_is in

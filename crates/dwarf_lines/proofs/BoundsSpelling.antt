@@ -10,7 +10,7 @@ use Rattle.dwarf_bytes.specs.Items.{reading}
 use Rattle.dwarf_bytes.specs.Numbers.{IsFixed, IsInitialLength, little_endian, u8_at, u16_at, offset_at, offset_len, initial_length_at}
 use Rattle.dwarf_bytes.proofs.Advance.{after_bind, after_test, reading_ok}
 use Rattle.dwarf_bytes.proofs.LengthLaws.{initial_stands, initial_again}
-use Rattle.dwarf_lines.specs.declared.bounds.Bounds.{Bounds}
+use Rattle.dwarf_lines.specs.declared.program_bounds.ProgramBounds.{ProgramBounds}
 use Rattle.dwarf_lines.specs.Headers.{within, bounds_at}
 use Rattle.dwarf_lines.proofs.BoundsLaws.{ok_is, within-is}
 use Rattle.dwarf_lines.proofs.Stretches.{Stretch, stretch, stretch_of, stands_of, join, first_of, rest_of, two_bytes, fixed_stands, fixed_again, byte_stands, byte_again}
@@ -43,7 +43,7 @@ between bytes at next le within =
 -- ---- bounds
 
 -- the fields up to header_length, and what they bound
-pub record AreSpelled (line : List ℕ) (place : ℕ) (b : Bounds) : Type 0 where
+pub record AreSpelled (line : List ℕ) (place : ℕ) (b : ProgramBounds) : Type 0 where
   pub unit_length : List ℕ
   pub header_length : List ℕ
   pub mid : ℕ
@@ -66,7 +66,7 @@ is_version block size value =
     let high : two.1 ≡ 0 = omega (arith, sum) in
     two.2 ∙ (ap (λ (n : ℕ). n ∷ two.1 ∷ []) low ∙ ap (λ (n : ℕ). 5 ∷ n ∷ []) high)
 
-pub bounds_stand : (line : List ℕ) (place : ℕ) (b : Bounds) → bounds_at line place ≡ Ok b → AreSpelled line place b
+pub bounds_stand : (line : List ℕ) (place : ℕ) (b : ProgramBounds) → bounds_at line place ≡ Ok b → AreSpelled line place b
 unfolding bounds_at
 bounds_stand line place b h =
     let P : Type 0 = AreSpelled line place b in
@@ -92,8 +92,8 @@ bounds_stand line place b h =
     let gl = join all address.1 (0 ∷ []) segment.1 l.front len.1 g (stretch_of (IsFixed (offset_len unit.0.0)) all segment.1 len.0 len.1 l) in
     let agl = join all version.1 (8 ∷ []) address.1 (0 ∷ l.front) len.1 a gl in
     let head = join all unit.1 (5 ∷ 0 ∷ []) version.1 (8 ∷ 0 ∷ l.front) len.1 v agl in
-    let it : Bounds = record { format = unit.0.0; fields = len.1; first = first; past = past } in
-    subst (λ (c : Bounds). AreSpelled line place c) (ok_is {E = Cause} it b h10)
+    let it : ProgramBounds = record { format = unit.0.0; fields = len.1; first = first; past = past } in
+    subst (λ (c : ProgramBounds). AreSpelled line place c) (ok_is {E = Cause} it b h10)
     (record {
       unit_length = u.front;
       header_length = l.front;
@@ -118,7 +118,7 @@ within_again bytes place found is le =
     fits : (m n : ℕ) → m ≤ n → nat_le m n ≡ true
     fits m n h = grind (arith, nat_tests)
 
-pub bounds_again : (line : List ℕ) (place : ℕ) (b : Bounds) → AreSpelled line place b → bounds_at line place ≡ Ok b
+pub bounds_again : (line : List ℕ) (place : ℕ) (b : ProgramBounds) → AreSpelled line place b → bounds_at line place ≡ Ok b
 unfolding bounds_at
 bounds_again line place b t =
     let all = take b.past line in

@@ -7,7 +7,7 @@ use Rattle.dwarf_bytes.proofs.Advance.{after_bind}
 use Rattle.dwarf_lines.specs.declared.formats.EntryTable.{EntryTable}
 use Rattle.dwarf_lines.specs.declared.formats.EntryTable.TheVariants.{Directories, Files}
 use Rattle.dwarf_lines.specs.declared.entries.Entry.{Entry}
-use Rattle.dwarf_lines.specs.declared.bounds.Bounds.{Bounds}
+use Rattle.dwarf_lines.specs.declared.program_bounds.ProgramBounds.{ProgramBounds}
 use Rattle.dwarf_lines.specs.Sections.{LineSections}
 use Rattle.dwarf_lines.specs.Instructions.{Encoding}
 use Rattle.dwarf_lines.specs.Entries.{table_at}
@@ -93,7 +93,7 @@ module _ (s : LineSections) (format : Format) (start : ℕ) (fields : List ℕ) 
 
 module _ (s : LineSections) (place : ℕ) where
   -- a program, of its bounds and its fields
-  program_stands : (b : Bounds) (header : LineHeader) → header.first ≡ b.first → header.past ≡ b.past → AreSpelled s.line place b → (fields : List ℕ) → Stretch s.line b.fields fields b.first → SpellsFields s b.format b.fields fields header
+  program_stands : (b : ProgramBounds) (header : LineHeader) → header.first ≡ b.first → header.past ≡ b.past → AreSpelled s.line place b → (fields : List ℕ) → Stretch s.line b.fields fields b.first → SpellsFields s b.format b.fields fields header
       → StandsAt (SpellsHeader s place) s.line place header header.past
   program_stands b header first_is past_is t fields there fields_are =
       let line = s.line in
@@ -152,7 +152,7 @@ module _ (s : LineSections) (place : ℕ) where
       let body = rest_of line mid head (t.fields ++ t.instructions) past unit in
       let spelled = subst (λ (n : ℕ). SpellsFields s t.format n t.fields header) same_start t.fields_are in
       let fields = subst (λ (n : ℕ). Stretch line start t.fields n) (sym spelled.first_is) (first_of line start t.fields t.instructions past body) in
-      let bounds : Bounds = record { format = t.format; fields = start; first = header.first; past = past } in
+      let bounds : ProgramBounds = record { format = t.format; fields = start; first = header.first; past = past } in
       let bounds_is = bounds_again line place bounds (record {
         unit_length = t.unit_length;
         header_length = t.header_length;

@@ -8,7 +8,7 @@ use Rattle.dwarf_bytes.specs.declared.fault.Cause.{Cause}
 use Rattle.dwarf_bytes.specs.declared.fault.Cause.TheVariants as causes
 use Rattle.dwarf_lines.specs.declared.formats.EntryTable.TheVariants.{Directories, Files}
 use Rattle.dwarf_lines.specs.declared.entries.Entry.{Entry}
-use Rattle.dwarf_lines.specs.declared.bounds.Bounds.{Bounds}
+use Rattle.dwarf_lines.specs.declared.program_bounds.ProgramBounds.{ProgramBounds}
 use Rattle.dwarf_lines.specs.Sections.{LineSections}
 use Rattle.dwarf_lines.specs.Instructions.{Encoding}
 use Rattle.dwarf_lines.specs.Entries.{table_at}
@@ -20,7 +20,7 @@ within bytes place = if nat_le place (length bytes) then Ok place else Err cause
 -- The bounds of the program at a place: its format, where the fields after header_length stand, where the
 -- instructions begin, and where it ends. unit_length is read in the bounds of the section, the others in those of
 -- the program.
-unfoldable pub bounds_at : List ℕ → ℕ → Result Bounds Cause
+unfoldable pub bounds_at : List ℕ → ℕ → Result ProgramBounds Cause
 bounds_at line place = do
   unit ← reading (initial_length_at line place)
   past ← within line (unit.1 + unit.0.1)

@@ -4,7 +4,7 @@ use Rattle.dwarf_bytes.specs.Bind.{◌>>=◌}
 use Rattle.dwarf_bytes.specs.Numbers.{block_at, u8_at, u16_at, uleb_at, sleb_at, little_endian}
 use Rattle.dwarf_bytes.specs.declared.fault.Cause.{Cause}
 use Rattle.dwarf_bytes.specs.declared.fault.Cause.TheVariants as causes
-use Rattle.dwarf_lines.specs.declared.header.Header.{Header}
+use Rattle.dwarf_lines.specs.declared.line_encoding.LineEncoding.{LineEncoding}
 use Rattle.dwarf_lines.specs.declared.instruction.Instruction.{Instruction}
 use Rattle.dwarf_lines.specs.declared.instruction.Instruction.TheVariants.{Copy, AdvancePc, AdvanceLine, SetFile, ConstAddPc, FixedAdvancePc, SetAddress, EndSequence, Special, Skipped}
 use Rattle.dwarf_bytes.specs.Items.{reading}
@@ -17,7 +17,7 @@ pub record Encoding : Type 0 where
   pub opcode_base : ℕ
   pub opcode_lengths : List ℕ
 
-abbrev pub encoding : Header → Encoding
+abbrev pub encoding : LineEncoding → Encoding
 encoding h = record {
   minimum_length = h.minimum_instruction_length;
   line_base = h.line_base;

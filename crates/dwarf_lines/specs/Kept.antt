@@ -4,7 +4,7 @@ use Rattle.dwarf_bytes.specs.declared.fault.Cause.{Cause}
 use Rattle.dwarf_bytes.specs.Refusals.{Fails}
 use Rattle.dwarf_lines.specs.declared.row.Row.{Row}
 use Rattle.dwarf_lines.specs.declared.programs.ProgramFiles.{ProgramFiles}
-use Rattle.dwarf_lines.specs.declared.programs.ProgramHeader.{ProgramHeader}
+use Rattle.dwarf_lines.specs.declared.programs.LineProgramHeader.{LineProgramHeader}
 use Rattle.dwarf_lines.specs.Instructions.{encoding}
 use Rattle.dwarf_lines.specs.Headers.{LineHeader}
 use Rattle.dwarf_lines.specs.Programs.{Program}
@@ -13,7 +13,7 @@ use Rattle.dwarf_lines.specs.Lines.{FileTables, tables_of}
 abbrev pub tables_in : ProgramFiles → FileTables
 tables_in program = record { offset = program.offset; directories = program.directories.items; files = program.files.items }
 
-abbrev pub header_in : ProgramHeader → LineHeader
+abbrev pub header_in : LineProgramHeader → LineHeader
 header_in h = record { encoding = encoding h.opcodes; directories = h.directories.items; files = h.files.items; first = h.first; past = h.past }
 
 -- The program of the outcome was put at the end, its rows and its files, or the fault is the outcome's, unless

@@ -5,7 +5,7 @@ ghost use Rattle.dwarf_lines.specs.Instructions.{encoding, extended_of, extended
 ghost use Rattle.dwarf_bytes.specs.Refusals.{ReadsField, ReadsPlace};
 ghost use Rattle.dwarf_lines.specs.Registers.{line_reach};
 
-use crate::header::Header;
+use crate::line_encoding::LineEncoding;
 use byteorder::{ByteOrder, LittleEndian};
 use dwarf_bytes::{Cause, Cursor};
 
@@ -28,7 +28,7 @@ pub enum Instruction {
 
 /// The instruction at the cursor.
 #[tactic(auto, unfolding(crate::specs::Instructions::instruction_at))]
-pub fn decode(header: &Header, cursor: &mut Cursor) -> Result<Instruction, Cause>
+pub fn decode(header: &LineEncoding, cursor: &mut Cursor) -> Result<Instruction, Cause>
     ensures reads { ReadsField (λ i. i) result (instruction_at (encoding header.now)) cursor.old cursor.new }
     ensures moves { IfOk result (λ _. cursor.old.place < cursor.new.place) }
     ensures reach { IfOk result (λ i. line_reach i ≤ 2 ^ 62 * (cursor.new.place - cursor.old.place)) }
@@ -44,7 +44,7 @@ pub fn decode(header: &Header, cursor: &mut Cursor) -> Result<Instruction, Cause
 }
 
 #[tactic(auto, unfolding(crate::specs::Instructions::standard_at))]
-fn standard(header: &Header, opcode: u8, cursor: &mut Cursor) -> Result<Instruction, Cause>
+fn standard(header: &LineEncoding, opcode: u8, cursor: &mut Cursor) -> Result<Instruction, Cause>
     requires { 0 < opcode }
     ensures reads { ReadsField (λ i. i) result (standard_at (encoding header.now) opcode)
         cursor.old cursor.new }

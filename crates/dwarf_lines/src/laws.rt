@@ -67,7 +67,7 @@ pub fn instructions_are_spelled()
 
 /// The instructions of a program are read without a fault exactly where its bytes are their
 /// spellings, one after the other.
-pub fn programs_are_spelled()
+pub fn instruction_lists_are_spelled()
     ensures { (e : Encoding) (bytes : List ℕ) (at : ℕ) (is : List Instruction)
         → 0 < e.opcode_base → at ≤ length bytes
         → (reading_of e bytes at ≡ record { instructions = is; fault = None })
@@ -128,7 +128,7 @@ pub fn parts_are_texts()
 {}
 
 /// A program is read exactly where it stands with its header, its instructions and their rows.
-pub fn whole_programs_are_spelled()
+pub fn programs_are_spelled()
     ensures { (s : LineSections) (number place : ℕ) (program : Program)
         → (program_at_place s number place ≡ Ok program) ↔ IsProgram s number place program }
 {}

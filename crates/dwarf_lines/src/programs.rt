@@ -7,13 +7,13 @@ ghost use Rattle.dwarf_lines.specs.Programs.{program_at_place};
 ghost use Rattle.dwarf_lines.specs.Kept.{header_in, AddsProgram};
 ghost use Rattle.dwarf_bytes.specs.Refusals.{Gives};
 
-use crate::bounds::bounds_of;
 use crate::entries::{Entry, Texts};
 use crate::entry_tables::EntryReader;
 use crate::formats::EntryTable;
-use crate::header::Header;
+use crate::line_encoding::LineEncoding;
+use crate::matrix::add_rows;
+use crate::program_bounds::bounds_of;
 use crate::row::{Origin, ProgramNo, Row};
-use crate::running::run;
 use dwarf_bytes::{Cause, Cursor};
 use std::alloc::Global;
 
@@ -27,8 +27,8 @@ pub struct ProgramFiles {
 
 /// The header of a program.
 #[derive(Drop)]
-pub struct ProgramHeader<'a> {
-    pub opcodes: Header<'a>,
+pub struct LineProgramHeader<'a> {
+    pub opcodes: LineEncoding<'a>,
     pub directories: Vec<Entry>,
     pub files: Vec<Entry>,
     /// The place of the first instruction.
@@ -39,7 +39,7 @@ pub struct ProgramHeader<'a> {
 
 /// The header of the program at a place.
 #[tactic(auto, unfolding(crate::specs::Headers::header_at))]
-fn header<'a>(alloc: Global, texts: Texts<'a>, place: usize) -> Result<ProgramHeader<'a>, Cause>
+fn header<'a>(alloc: Global, texts: Texts<'a>, place: usize) -> Result<LineProgramHeader<'a>, Cause>
     requires { place ≤ length texts.line.now }
     ensures gives { Gives header_in result (header_at (sections_of texts.entry) place) }
     ensures range { IfOk result (λ h. 0 < h.opcodes.line_range) }
@@ -50,7 +50,7 @@ fn header<'a>(alloc: Global, texts: Texts<'a>, place: usize) -> Result<ProgramHe
     let bytes = &texts.line[..bounds.first];
     let mut cursor = Cursor::new(bytes);
     cursor.seek(bounds.fields)?;
-    let opcodes = Header::read(bytes, &mut cursor)?;
+    let opcodes = LineEncoding::read(bytes, &mut cursor)?;
     let reader = EntryReader {
         texts,
         format: bounds.format,
@@ -62,7 +62,7 @@ fn header<'a>(alloc: Global, texts: Texts<'a>, place: usize) -> Result<ProgramHe
         ..reader
     };
     let files = reader.table(alloc, &mut cursor)?;
-    Ok(ProgramHeader {
+    Ok(LineProgramHeader {
         opcodes,
         directories,
         files,
@@ -91,8 +91,8 @@ pub fn add_program(
         files: header.files.len() as u64,
     };
     let bytes = &texts.line[..header.past];
-    run(&header.opcodes, origin, bytes, header.first, rows)?;
-    let ProgramHeader {
+    add_rows(&header.opcodes, origin, bytes, header.first, rows)?;
+    let LineProgramHeader {
         opcodes: _,
         directories,
         files,

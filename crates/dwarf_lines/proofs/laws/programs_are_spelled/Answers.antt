@@ -1,5 +1,5 @@
-use Rattle.dwarf_lines.proofs.ReadingLaws.{reading_is_spelled, spelled_is_read}
+use Rattle.dwarf_lines.proofs.WholePrograms.{program_stands, program_again}
 use Rattle.dwarf_lines.proofs.laws.programs_are_spelled.Goals as goal
 
 pub returns : goal.returns
-returns c e bytes at is known le = (reading_is_spelled e bytes at is le, spelled_is_read e bytes at is known le)
+returns c s number place program = (program_stands s number place program, program_again s number place program)

@@ -5,15 +5,15 @@ ghost use Rattle.dwarf_lines.specs.Instructions.{encoding};
 ghost use Rattle.dwarf_lines.specs.Matrix.{matrix_at};
 ghost use Rattle.dwarf_lines.specs.Registers.{Adds};
 
-use crate::header::Header;
 use crate::instruction::decode;
+use crate::line_encoding::LineEncoding;
 use crate::registers::Registers;
 use crate::row::{Origin, Row};
 use dwarf_bytes::{Cause, Cursor};
 
 /// Adds the rows of the instructions from `start` on.
-pub fn run(
-    header: &Header,
+pub fn add_rows(
+    header: &LineEncoding,
     origin: Origin,
     bytes: &[u8],
     start: usize,

@@ -4,7 +4,7 @@ use Rattle.std.proofs.lemmas.Result.{err_from_is_err_and}
 use Rattle.std.proofs.lemmas.Grind.{common_steps}
 use Rattle.dwarf_lines.specs.Instructions.{encoding}
 use Rattle.dwarf_lines.proofs.Turns.{goes_on, unread, unmade, ends, stays_open, one_step, begins, fault_is}
-use Rattle.dwarf_lines.proofs.running.run.Goals as goal
+use Rattle.dwarf_lines.proofs.matrix.add_rows.Goals as goal
 
 pub loop-cursor-init : goal.loop-cursor-init
 loop-cursor-init c =
