@@ -6,7 +6,6 @@ ghost use Rattle.dwarf_bytes.specs.Refusals.{ReadsField, ReadsPlace};
 ghost use Rattle.dwarf_lines.specs.Registers.{line_reach};
 
 use crate::line_encoding::LineEncoding;
-use byteorder::{ByteOrder, LittleEndian};
 use dwarf_bytes::{Cause, Cursor};
 
 /// An instruction of a line program (DWARF 5, 6.2.5).
@@ -98,7 +97,7 @@ fn extended_in(body: &[u8]) -> Result<Instruction, Cause>
 {
     match body[0] {
         1 if body.len() == 1 => Ok(Instruction::EndSequence),
-        2 if body.len() == 9 => Ok(Instruction::SetAddress(LittleEndian::read_u64(&body[1..]))),
+        2 if body.len() == 9 => Ok(Instruction::SetAddress(Cursor::new(&body[1..]).u64()?)),
         1 | 2 => Err(Cause::Extended),
         _ => Ok(Instruction::Skipped),
     }
