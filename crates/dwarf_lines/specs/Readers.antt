@@ -1,5 +1,5 @@
 -- What the code reads entries from, and what it reads by it.
-use Rattle.std.specs.Prelude.{ℕ, List, Result}
+use Rattle.std.specs.Prelude.{ℕ, List, Bool, not, ◌==◌, Result}
 use Rattle.dwarf_bytes.specs.declared.fault.Cause.{Cause}
 use Rattle.dwarf_lines.specs.declared.formats.Field.{Field}
 use Rattle.dwarf_lines.specs.declared.entries.Texts.{Texts}
@@ -27,3 +27,7 @@ entries_by reader fields count = repeated_at (entry_by reader fields) count
 
 abbrev pub table_by : EntryReader → List ℕ → ℕ → Result (List Entry × ℕ) Cause
 table_by reader = table_at (sections_of reader.texts) reader.format reader.table
+
+-- whether the values of a field have bytes: those of DW_FORM_flag_present have none
+abbrev pub has_bytes : Field → Bool
+has_bytes field = not (field.form == 0x19)

@@ -1,11 +1,12 @@
 //! The two tables of a header.
 
-ghost use Rattle.std.specs.Prelude.{◌≡◌};
+ghost use Rattle.std.specs.Prelude.{◌≡◌, ◌<◌, true};
 ghost use Rattle.dwarf_bytes.specs.Refusals.{ReadsField, ReadsItems};
+ghost use Rattle.dwarf_lines.specs.Formats.{is_format};
 ghost use Rattle.dwarf_lines.specs.Readers.{field_by, fields_by, entry_by, entries_by, table_by};
 
 use crate::entries::{Entry, Texts, directory_index, pass_over, path};
-use crate::formats::{EntryTable, Field, format};
+use crate::formats::{EntryTable, Field, fields_with_bytes, format};
 use dwarf_bytes::{Cause, Cursor, Format};
 use std::alloc::Global;
 
@@ -58,8 +59,8 @@ impl EntryReader<'_> {
         Ok(entry)
     }
 
-    /// So many entries.
-    fn entries(
+    /// So many entries of these fields.
+    fn entries_by(
         &self,
         alloc: Global,
         fields: &[Field],
@@ -75,6 +76,21 @@ impl EntryReader<'_> {
         Ok(entries)
     }
 
+    /// So many entries of a good format. Of each, only the fields whose values have bytes are read.
+    fn entries(
+        &self,
+        alloc: Global,
+        fields: Vec<Field>,
+        count: u64,
+        cursor: &mut Cursor,
+    ) -> Result<Vec<Entry>, Cause>
+        requires { 0 < count → is_format self.now.table fields.items ≡ true }
+        ensures { ReadsItems result (entries_by self.now fields.items count) cursor.old cursor.new }
+    {
+        let fields = fields_with_bytes(fields);
+        self.entries_by(alloc, fields.as_slice(), count, cursor)
+    }
+
     /// The table at the cursor.
     #[tactic(auto, unfolding(crate::specs::Entries::table_at))]
     pub fn table(&self, alloc: Global, cursor: &mut Cursor) -> Result<Vec<Entry>, Cause>
@@ -86,6 +102,6 @@ impl EntryReader<'_> {
         if count != 0 && !self.table.accepts(fields.as_slice()) {
             return Err(Cause::FileFormat);
         }
-        self.entries(alloc, fields.as_slice(), count, cursor)
+        self.entries(alloc, fields, count, cursor)
     }
 }

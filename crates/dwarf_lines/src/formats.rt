@@ -1,10 +1,11 @@
 //! The formats of a header's tables.
 
-ghost use Rattle.std.specs.Prelude.{◌≡◌, count_by};
+ghost use Rattle.std.specs.Prelude.{◌≡◌, count_by, filter};
 ghost use Rattle.std.specs.List.{list_all};
 ghost use Rattle.dwarf_bytes.specs.Refusals.{ReadsField, ReadsItems};
 ghost use Rattle.dwarf_lines.specs.Entries.{format_at, repeated_at};
 ghost use Rattle.dwarf_lines.specs.Formats.{is_path, is_index, is_text_form, is_index_form, layout_of, has_good_form, is_format};
+ghost use Rattle.dwarf_lines.specs.Readers.{has_bytes};
 
 use dwarf_bytes::{Cause, Cursor, Form, ValueLayout};
 use std::alloc::Global;
@@ -52,6 +53,13 @@ impl Field {
         ensures { result ≡ is_index_form self.form }
     {
         self.form == 0x0b || self.form == 0x05 || self.form == 0x0f
+    }
+
+    /// Whether its values have bytes: those of DW_FORM_flag_present have none.
+    fn has_bytes(self) -> bool
+        ensures { result ≡ has_bytes self }
+    {
+        self.form != 0x19
     }
 
     /// Reads a field of a format.
@@ -114,6 +122,14 @@ fn count_of_paths(fields: &[Field]) -> usize
     ensures { result ≡ count_by is_path fields.now }
 {
     fields.iter().filter(|field| field.is_path()).count()
+}
+
+/// The fields whose values have bytes. Only these have to be read of an entry: each costs a byte.
+pub fn fields_with_bytes(mut fields: Vec<Field>) -> Vec<Field>
+    ensures { result.items ≡ filter has_bytes fields.items }
+{
+    fields.retain(|field| field.has_bytes());
+    fields
 }
 
 /// The fields of the entries of a table, of which there are `count`.

@@ -1,26 +1,16 @@
-use Rattle.std.proofs.Common.{◌∙◌, inr}
-use Rattle.std.proofs.lemmas.Result.{err_from_is_err_and}
-use Rattle.dwarf_lines.specs.Readers.{sections_of}
-use Rattle.dwarf_lines.specs.Entries.{entry_at}
-use Rattle.dwarf_lines.proofs.Repeated.{goes_on, ends, is_done}
+use Rattle.std.proofs.Common.{◌∙◌, subst, List, filter}
+use Rattle.dwarf_bytes.specs.Refusals.{ReadsItems}
+use Rattle.dwarf_lines.specs.declared.formats.Field.{Field}
+use Rattle.dwarf_lines.specs.Readers.{sections_of, entries_by, has_bytes}
+use Rattle.dwarf_lines.proofs.FieldsWithBytes.{entries-with-bytes, reads_same}
 use Rattle.dwarf_lines.proofs.entry_tables.EntryReader.entries.Goals as goal
-
-pub returns-in_err-entry : goal.returns-in_err-entry
-returns-in_err-entry c =
-    let p = err_from_is_err_and c.from_residual.result c.from_residual.ensures.1 in
-    let item = entry_at (sections_of c.args.self.now.texts) c.args.self.now.format c.args.self.now.table c.args.fields.now in
-    rw (p.1, p.2) (inr (ends item c.loop.entries.items c.args.count c.loop.counter c.loop.cursor.bytes c.loop.cursor.place _ _ c.loop-test.true c.in_err-entry.ensures c.loop.invariant.rest))
-
-pub loop-preserved : goal.loop-preserved
-loop-preserved c =
-    let h = c.in_ok-entry.ensures in
-    let item = entry_at (sections_of c.args.self.now.texts) c.args.self.now.format c.args.self.now.table c.args.fields.now in
-    record {
-      same = h.1 ∙ c.loop.invariant.same;
-      rest = rw (c.in_ok-push.ensures.items, h.1) (goes_on item c.loop.entries.items c.args.count c.loop.counter c.loop.cursor.bytes c.loop.cursor.place _ c.in_ok-entry.field-0 c.entry.new.cursor.place c.loop-test.true h.0 c.loop.invariant.rest);
-    }
 
 pub returns : goal.returns
 returns c =
-    let item = entry_at (sections_of c.args.self.now.texts) c.args.self.now.format c.args.self.now.table c.args.fields.now in
-    (is_done item c.loop.entries.items c.args.count c.loop.counter c.loop.cursor.bytes c.loop.cursor.place _ c.loop-test.false c.loop.invariant.rest, c.loop.invariant.same)
+    let reader = c.args.self.now in
+    let fields = c.args.fields.items in
+    let old = c.args.cursor.now in
+    let read : List Field → Type 0 = λ fs. ReadsItems c.entries_by.result (entries_by reader fs c.args.count) old c.entries_by.new.cursor in
+    let some : read (filter has_bytes fields) = subst read (c.as_slice.ensures.value ∙ c.fields_with_bytes-fields.ensures) c.entries_by.ensures in
+    reads_same c.entries_by.result (entries_by reader (filter has_bytes fields) c.args.count) (entries_by reader fields c.args.count) old c.entries_by.new.cursor
+    (entries-with-bytes (sections_of reader.texts) reader.format reader.table fields c.args.count c.requires old.bytes old.place) some

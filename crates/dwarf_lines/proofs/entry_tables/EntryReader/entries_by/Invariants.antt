@@ -2,7 +2,7 @@ use Rattle.std.proofs.Common.{◌≡◌, ◌-◌}
 use Rattle.dwarf_lines.specs.Readers.{sections_of}
 use Rattle.dwarf_lines.specs.Entries.{entry_at, repeated_at}
 use Rattle.dwarf_lines.proofs.Repeated.{with_items}
-use Rattle.dwarf_lines.proofs.entry_tables.EntryReader.entries.Given as goal
+use Rattle.dwarf_lines.proofs.entry_tables.EntryReader.entries_by.Given as goal
 
 abbrev pub invariant-loop : goal.invariant-loop
 invariant-loop l =
