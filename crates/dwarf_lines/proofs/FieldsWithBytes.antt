@@ -17,7 +17,7 @@ use Rattle.dwarf_lines.specs.declared.entries.Entry.{Entry}
 use Rattle.dwarf_lines.specs.Sections.{LineSections}
 use Rattle.dwarf_lines.specs.Formats.{is_path, is_index, is_format, has_good_form}
 use Rattle.dwarf_lines.specs.Entries.{field_at, fields_at, entry_at, no_entry, repeated_at}
-use Rattle.dwarf_lines.specs.Readers.{has_bytes}
+use Rattle.dwarf_lines.specs.Private.Readers.{has_bytes}
 
 -- a field of DW_FORM_flag_present
 abbrev flag : ℕ → Field

@@ -13,7 +13,7 @@ use Rattle.dwarf_lines.specs.Matrix.{matrix_at}
 use Rattle.dwarf_lines.specs.Headers.{header_at}
 use Rattle.dwarf_lines.specs.Programs.{Program, program_at_place, next_program, programs_of}
 use Rattle.dwarf_lines.specs.Lines.{FileTables, tables_of}
-use Rattle.dwarf_lines.specs.Kept.{tables_in}
+use Rattle.dwarf_lines.specs.Private.Kept.{tables_in}
 use Rattle.std.proofs.Common.{take}
 use Rattle.dwarf_lines.proofs.BoundsLaws.{ok_is}
 use Rattle.dwarf_lines.proofs.Positions.{rising-cons}

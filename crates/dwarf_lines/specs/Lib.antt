@@ -3,7 +3,6 @@ pub mod Instructions
 pub mod Spelling
 pub mod Matrix
 pub mod Machine
-pub mod Registers
 pub mod Formats
 pub mod Entries
 pub mod Headers
@@ -11,6 +10,5 @@ pub mod Programs
 pub mod Paths
 pub mod Lines
 pub mod ProgramSpelling
-pub mod Readers
-pub mod Kept
 pub mod HeaderSpelling
+pub mod Private

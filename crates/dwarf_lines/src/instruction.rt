@@ -3,7 +3,7 @@
 ghost use Rattle.std.specs.Prelude.{◌≡◌, ◌≤◌, ◌<◌, ◌+◌, ◌*◌, ◌-◌, ◌^◌, ℕ, length, MatchResult, IfOk, unsigned_abs};
 ghost use Rattle.dwarf_lines.specs.Instructions.{encoding, extended_of, extended_at, standard_at, after_ulebs, instruction_at};
 ghost use Rattle.dwarf_bytes.specs.Refusals.{ReadsField, ReadsPlace};
-ghost use Rattle.dwarf_lines.specs.Registers.{line_reach};
+ghost use Rattle.dwarf_lines.specs.Private.Registers.{line_reach};
 
 use crate::line_encoding::LineEncoding;
 use dwarf_bytes::{Cause, Cursor};

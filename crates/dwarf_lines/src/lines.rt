@@ -26,7 +26,7 @@ impl Model for LineTables {
     ghost use Rattle.std.specs.Prelude.{map};
     ghost use Rattle.std.specs.List.Sorted.{IsStrictlyIncreasing};
     ghost use Rattle.dwarf_lines.specs.Lines.{Lines};
-    ghost use Rattle.dwarf_lines.specs.Kept.{tables_in};
+    ghost use Rattle.dwarf_lines.specs.Private.Kept.{tables_in};
 
     ghost Value = { Lines };
 

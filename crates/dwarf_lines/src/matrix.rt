@@ -3,7 +3,7 @@
 ghost use Rattle.std.specs.Prelude.{◌≡◌, ◌≤◌, ◌<◌, length};
 ghost use Rattle.dwarf_lines.specs.Instructions.{encoding};
 ghost use Rattle.dwarf_lines.specs.Matrix.{matrix_at};
-ghost use Rattle.dwarf_lines.specs.Registers.{Adds};
+ghost use Rattle.dwarf_lines.specs.Private.Registers.{Adds};
 
 use crate::instruction::decode;
 use crate::line_encoding::LineEncoding;

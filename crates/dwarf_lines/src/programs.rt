@@ -1,10 +1,10 @@
 //! The line programs of a section.
 
 ghost use Rattle.std.specs.Prelude.{◌≡◌, ◌≤◌, ◌<◌, length, IfOk, vec_len};
-ghost use Rattle.dwarf_lines.specs.Readers.{sections_of};
+ghost use Rattle.dwarf_lines.specs.Private.Readers.{sections_of};
 ghost use Rattle.dwarf_lines.specs.Headers.{header_at};
 ghost use Rattle.dwarf_lines.specs.Programs.{program_at_place};
-ghost use Rattle.dwarf_lines.specs.Kept.{header_in, AddsProgram};
+ghost use Rattle.dwarf_lines.specs.Private.Kept.{header_in, AddsProgram};
 ghost use Rattle.dwarf_bytes.specs.Refusals.{Gives};
 
 use crate::entries::{Entry, Texts};

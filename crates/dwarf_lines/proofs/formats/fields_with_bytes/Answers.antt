@@ -1,6 +1,6 @@
 use Rattle.std.proofs.Common.{rules}
 use Rattle.std.proofs.lemmas.List.Elements.{filter_from_retain}
-use Rattle.dwarf_lines.specs.Readers.{has_bytes}
+use Rattle.dwarf_lines.specs.Private.Readers.{has_bytes}
 use Rattle.dwarf_lines.proofs.formats.fields_with_bytes.Goals as goal
 
 pub returns : goal.returns

@@ -1,7 +1,7 @@
 use Rattle.std.proofs.Common.{◌≡◌, length, refl, vec_len, rules}
-use Rattle.dwarf_lines.specs.Readers.{sections_of}
+use Rattle.dwarf_lines.specs.Private.Readers.{sections_of}
 use Rattle.std.proofs.lemmas.List.{map-append}
-use Rattle.dwarf_lines.specs.Kept.{header_in, tables_in}
+use Rattle.dwarf_lines.specs.Private.Kept.{header_in, tables_in}
 use Rattle.dwarf_lines.proofs.ProgramTurns.{program_of}
 use Rattle.dwarf_lines.proofs.programs.add_program.Goals as goal
 

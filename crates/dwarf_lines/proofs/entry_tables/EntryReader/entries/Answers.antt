@@ -1,7 +1,7 @@
 use Rattle.std.proofs.Common.{◌∙◌, subst, List, filter}
 use Rattle.dwarf_bytes.specs.Refusals.{ReadsItems}
 use Rattle.dwarf_lines.specs.declared.formats.Field.{Field}
-use Rattle.dwarf_lines.specs.Readers.{sections_of, entries_by, has_bytes}
+use Rattle.dwarf_lines.specs.Private.Readers.{sections_of, entries_by, has_bytes}
 use Rattle.dwarf_lines.proofs.FieldsWithBytes.{entries-with-bytes, reads_same}
 use Rattle.dwarf_lines.proofs.entry_tables.EntryReader.entries.Goals as goal
 

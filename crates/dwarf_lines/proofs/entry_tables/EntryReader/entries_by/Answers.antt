@@ -1,6 +1,6 @@
 use Rattle.std.proofs.Common.{◌∙◌, inr}
 use Rattle.std.proofs.lemmas.Result.{err_from_is_err_and}
-use Rattle.dwarf_lines.specs.Readers.{sections_of}
+use Rattle.dwarf_lines.specs.Private.Readers.{sections_of}
 use Rattle.dwarf_lines.specs.Entries.{entry_at}
 use Rattle.dwarf_lines.proofs.Repeated.{goes_on, ends, is_done}
 use Rattle.dwarf_lines.proofs.entry_tables.EntryReader.entries_by.Goals as goal

@@ -1,5 +1,5 @@
 use Rattle.std.proofs.Common.{◌≡◌, ◌-◌}
-use Rattle.dwarf_lines.specs.Readers.{sections_of}
+use Rattle.dwarf_lines.specs.Private.Readers.{sections_of}
 use Rattle.dwarf_lines.specs.Entries.{entry_at, repeated_at}
 use Rattle.dwarf_lines.proofs.Repeated.{with_items}
 use Rattle.dwarf_lines.proofs.entry_tables.EntryReader.entries_by.Given as goal

@@ -1,5 +1,5 @@
 use Rattle.std.proofs.Common.{◌≡◌, drop}
-use Rattle.dwarf_lines.specs.Readers.{sections_of}
+use Rattle.dwarf_lines.specs.Private.Readers.{sections_of}
 use Rattle.dwarf_lines.specs.Entries.{fields_at, no_entry}
 use Rattle.dwarf_lines.proofs.entry_tables.EntryReader.fields.Given as goal
 

@@ -3,7 +3,7 @@ use Rattle.std.proofs.lemmas.List.{length-map}
 use Rattle.dwarf_bytes.specs.Refusals.{Fails}
 use Rattle.dwarf_lines.specs.Sections.{LineSections}
 use Rattle.dwarf_lines.specs.Programs.{program_at_place}
-use Rattle.dwarf_lines.specs.Kept.{tables_in}
+use Rattle.dwarf_lines.specs.Private.Kept.{tables_in}
 use Rattle.dwarf_lines.proofs.ProgramTurns.{goes_on, refuses, gives, is_done, program_at_place-past}
 use Rattle.dwarf_lines.proofs.Offsets.{kept-rise}
 use Rattle.dwarf_lines.proofs.lines.LineTables.read.Goals as goal

@@ -1,6 +1,6 @@
 use Rattle.std.proofs.Common.{List, length, ◌-◌, map}
 use Rattle.dwarf_lines.specs.Programs.{Program}
-use Rattle.dwarf_lines.specs.Kept.{tables_in}
+use Rattle.dwarf_lines.specs.Private.Kept.{tables_in}
 use Rattle.dwarf_lines.proofs.ProgramTurns.{IsReading}
 use Rattle.dwarf_lines.proofs.lines.LineTables.read.Given as goal
 
