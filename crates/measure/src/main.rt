@@ -4,8 +4,9 @@
 //! `measure rows OBJECT` prints their rows,
 //! `measure declarations OBJECT` reads its abbreviation tables 1,000 times,
 //! `measure values OBJECT` reads the abbreviation tables and the values of all entries,
-//! `measure scopes OBJECT` reads its subprograms and inlined subroutines, and
-//! `measure scope-table OBJECT` prints them.
+//! `measure scopes OBJECT` reads its subprograms and inlined subroutines,
+//! `measure scope-table OBJECT` prints them, and
+//! `measure dump OBJECT` prints its rows, and then these.
 #![tactic(auto)]
 
 mod entries;
@@ -20,8 +21,7 @@ use std::{env, fs};
 fn main(rt: HostRuntime) -> Result<()> {
     let words: Vec<String> = env::args(&rt)?.skip(1).collect(rt.alloc())?;
     if words.len() != 2 {
-        println!(rt; "usage: measure leb|lines|rows|declarations|values|scopes|scope-table FILE")?;
-        return Ok(());
+        return print_usage(&rt);
     }
     let bytes = fs::read(&rt, words[1].as_str()).context("reading the file")?;
     match words[0].as_str() {
@@ -30,9 +30,20 @@ fn main(rt: HostRuntime) -> Result<()> {
         "declarations" => measure_declarations(&rt, &bytes),
         "values" => measure_values(&rt, &bytes),
         "scopes" => measure_scopes(&rt, &bytes),
+        "rows" => lines::print_rows(&rt, &bytes),
         "scope-table" => scopes::print_scopes(&rt, &bytes),
-        _ => lines::print_rows(&rt, &bytes),
+        "dump" => {
+            lines::print_rows(&rt, &bytes)?;
+            scopes::print_scopes(&rt, &bytes)
+        }
+        _ => print_usage(&rt),
     }
+}
+
+fn print_usage(rt: &HostRuntime) -> Result<()> {
+    println!(rt; "usage: measure COMMAND FILE, where COMMAND is")?;
+    println!(rt; "leb, lines, rows, declarations, values, scopes, scope-table or dump")?;
+    Ok(())
 }
 
 fn measure_leb(rt: &HostRuntime, bytes: &[u8]) -> Result<()> {
