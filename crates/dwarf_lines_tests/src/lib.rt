@@ -4,4 +4,5 @@
 #[cfg(test)]
 mod fixtures;
 #[cfg(test)]
+mod tables;
 mod tests;

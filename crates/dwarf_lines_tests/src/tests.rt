@@ -65,8 +65,10 @@ fn a_file_without_a_directory_is_in_directory_0(rt: HostRuntime) -> Result<(), F
     let mut line = one_sequence();
     line[42] = 5;
     let tables = LineTables::read(rt.alloc(), &line, &[], &[])?;
-    let path = path(rt.alloc(), &tables, [&line, &[], &[]], 0, 1)?;
-    assert_eq!(rt; path.ok_or("no path")?.as_slice(), b"/src/a.c".as_slice());
+    for file in 0..2 {
+        let path = path(rt.alloc(), &tables, [&line, &[], &[]], 0, file)?;
+        assert_eq!(rt; path.ok_or("no path")?.as_slice(), b"/src/a.c".as_slice());
+    }
     Ok(())
 }
 
@@ -287,6 +289,15 @@ fn a_dead_sequence_has_no_rows(rt: HostRuntime) -> Result<(), Fail> {
     let read = LineTables::read(rt.alloc(), line.as_slice(), &[], &[]);
     assert_eq!(rt; read.err(), Some(fault(Cause::Short, 0)));
     Ok(())
+}
+
+#[test]
+fn a_cut_section_is_short(rt: HostRuntime) {
+    let line = one_sequence();
+    for len in 1..75 {
+        let read = LineTables::read(rt.alloc(), &line[..len], &[], &[]);
+        assert_eq!(rt; read.err(), Some(fault(Cause::Short, 0)), "{len} bytes");
+    }
 }
 
 #[test]

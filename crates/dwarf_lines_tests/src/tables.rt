@@ -1,0 +1,99 @@
+//! The tables of headers, where they could cost more than their bytes.
+
+use crate::fixtures::fault;
+use dwarf_bytes::{Cause, Section, Span};
+use dwarf_lines::{LineTables, Part, ProgramNo};
+use dwarf_samples::INLINED;
+use std::alloc::{AllocError, Global};
+use std::test::Fail;
+
+/// A program without instructions, whose header has these tables.
+fn with_tables(alloc: Global, tables: &[u8]) -> Result<Vec<u8>, AllocError> {
+    let fields = u32::try_from(tables.len()).unwrap_or(0).saturating_add(18);
+    let mut line = Vec::new(alloc);
+    line.extend_from_slice(&fields.saturating_add(8).to_le_bytes())?;
+    line.extend_from_slice(&[5, 0, 8, 0])?;
+    line.extend_from_slice(&fields.to_le_bytes())?;
+    line.extend_from_slice(&INLINED[271..289])?;
+    line.extend_from_slice(tables)?;
+    Ok(line)
+}
+
+/// Tables of 100,000 directories at 0 of `.debug_line_str`, and one file `c` in the last of them.
+fn with_long_directories(alloc: Global) -> Result<Vec<u8>, AllocError> {
+    let mut tables = Vec::new(alloc);
+    tables.extend_from_slice(&[1, 1, 0x1f, 0xa0, 0x8d, 0x06])?;
+    for _ in 0..100_000 {
+        tables.extend_from_slice(&[0, 0, 0, 0])?;
+    }
+    tables.extend_from_slice(&[2, 1, 8, 2, 0x0f, 1, b'c', 0, 0x9f, 0x8d, 0x06])?;
+    with_tables(alloc, tables.as_slice())
+}
+
+/// Tables of 1,000 directories of a path and 254 flags, and one file `c` in directory 999.
+fn with_flags(alloc: Global) -> Result<Vec<u8>, AllocError> {
+    let mut tables = Vec::new(alloc);
+    tables.push(255)?;
+    for _ in 0..127 {
+        tables.extend_from_slice(&[5, 0x19])?;
+    }
+    tables.extend_from_slice(&[1, 8])?;
+    for _ in 0..127 {
+        tables.extend_from_slice(&[4, 0x19])?;
+    }
+    tables.extend_from_slice(&[0xe8, 0x07])?;
+    for _ in 0..1_000 {
+        tables.extend_from_slice(b"/d\0")?;
+    }
+    tables.extend_from_slice(&[2, 1, 8, 2, 0x0f, 1, b'c', 0, 0xe7, 0x07])?;
+    with_tables(alloc, tables.as_slice())
+}
+
+#[test]
+fn many_paths_in_one_long_text(rt: HostRuntime) -> Result<(), Fail> {
+    let line = with_long_directories(rt.alloc())?;
+    let mut text = vec![in rt.alloc(); b'd'; 1_000_000]?;
+    text.push(0)?;
+    let tables = LineTables::read(rt.alloc(), line.as_slice(), text.as_slice(), &[])?;
+    let path = tables.path(ProgramNo(0), 0).ok_or("no path")?;
+    let long = Part {
+        section: Section::DebugLineStr,
+        span: Span {
+            place: 0,
+            len: 1_000_000,
+        },
+    };
+    let place = line.len().saturating_sub(5);
+    let file = Part {
+        section: Section::DebugLine,
+        span: Span { place, len: 1 },
+    };
+    assert_eq!(rt; path.parts(), [long, long, file].as_slice());
+    let cut = LineTables::read(rt.alloc(), line.as_slice(), &text[..1_000_000], &[]);
+    assert_eq!(rt; cut.err(), Some(fault(Cause::Text, 0)));
+    Ok(())
+}
+
+#[test]
+fn fields_without_bytes_tell_nothing(rt: HostRuntime) -> Result<(), Fail> {
+    let line = with_flags(rt.alloc())?;
+    let tables = LineTables::read(rt.alloc(), line.as_slice(), &[], &[])?;
+    let path = tables.path(ProgramNo(0), 0).ok_or("no path")?;
+    let directory = Part {
+        section: Section::DebugLine,
+        span: Span {
+            place: line.len().saturating_sub(13),
+            len: 2,
+        },
+    };
+    let file = Part {
+        section: Section::DebugLine,
+        span: Span {
+            place: line.len().saturating_sub(4),
+            len: 1,
+        },
+    };
+    assert_eq!(rt; tables.files(ProgramNo(0)), 1);
+    assert_eq!(rt; path.parts(), [directory, file].as_slice());
+    Ok(())
+}
