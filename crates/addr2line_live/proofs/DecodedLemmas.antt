@@ -12,7 +12,7 @@ use Rattle.dwarf_lines.specs.declared.row.Row.{Row}
 use Rattle.dwarf_lines.specs.Sections.{LineSections}
 use Rattle.dwarf_lines.specs.Lines.{Lines, lines_in, covers, row_of, path_of}
 use Rattle.dwarf_lines.specs.Paths.{part_bytes, path_bytes}
-use Rattle.dwarf_lines.specs.declared.entries.Part.{Part}
+use Rattle.dwarf_bytes.specs.declared.text.Text.{Text}
 use Rattle.addr2line_live.specs.Decoded.{line_sections, lines_of, fault_of, low_of, high_of, path_at, place_of, scan}
 
 -- the sections of line programs, as they stand in the layout
@@ -72,7 +72,7 @@ unfolding high_of layout
 high_told bytes found is = ap (λ (z : Layout). z.high) is
 
 -- the path of a row
-pub path_read : (bytes : List ℕ) (lines : Lines) (row : Row) (parts : List Part) (texts : List (List ℕ)) (s : LineSections) →
+pub path_read : (bytes : List ℕ) (lines : Lines) (row : Row) (parts : List Text) (texts : List (List ℕ)) (s : LineSections) →
     lines_of bytes ≡ Ok lines → s ≡ line_sections bytes → texts ≡ map (part_bytes s) parts → path_of lines row.program row.file ≡ Some parts →
     IfOk (lines_of bytes) (λ lines. Some (join_with_byte 47 texts) ≡ path_at bytes lines row)
 path_read bytes lines row parts texts s e is told found =

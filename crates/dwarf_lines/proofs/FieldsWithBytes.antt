@@ -4,6 +4,7 @@ use Rattle.std.specs.Prelude.{count_by, nat_le}
 use Rattle.std.specs.declared.alloc.Global.{Global}
 use Rattle.std.proofs.lemmas.Bool.{not-false}
 use Rattle.std.proofs.lemmas.Bool.Decides.{nat_tests}
+use Rattle.dwarf_bytes.specs.declared.constants.TheConstants.{DW_FORM_FLAG_PRESENT}
 use Rattle.dwarf_bytes.specs.Bind.{◌>>=◌}
 use Rattle.std.specs.List.{list_all}
 use Rattle.dwarf_bytes.specs.Contents.{content_at}
@@ -21,7 +22,7 @@ use Rattle.dwarf_lines.specs.Private.Readers.{has_bytes}
 
 -- a field of DW_FORM_flag_present
 abbrev flag : ℕ → Field
-flag content = record { content = content; form = 0x19 }
+flag content = record { content = content; form = DW_FORM_FLAG_PRESENT }
 
 equal : (a b : ℕ) → not (a == b) ≡ false → a ≡ b
 equal a b h = let same : (a == b) ≡ true = not-false (a == b) h in grind (arith, nat_tests)
@@ -63,7 +64,7 @@ module _ (s : LineSections) (format : Format) (table : EntryTable) where
           → fields_at s format table (filter has_bytes (field ∷ fields)) entry bytes place ≡ fields_at s format table (field ∷ fields) entry bytes place
       by rest first true has = rw has (bind_same (field_at s format table field entry bytes place) _ _ (λ next. rest next.0 bytes next.1))
       by rest first false has =
-          let is : field ≡ flag field.content = ap (λ form. record { content = field.content; form = form }) (equal field.form 0x19 has) in
+          let is : field ≡ flag field.content = ap (λ form. record { content = field.content; form = form }) (equal field.form DW_FORM_FLAG_PRESENT has) in
           let good : has_good_form table (flag field.content) ≡ true = subst (λ f. has_good_form table f ≡ true) is first in
           let passes : field_at s format table field entry bytes place ≡ Ok (entry, place) =
           subst (λ f. field_at s format table f entry bytes place ≡ Ok (entry, place)) (sym is) (passes-flag field.content entry bytes place good) in

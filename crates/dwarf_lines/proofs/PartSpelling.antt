@@ -2,6 +2,7 @@
 use Rattle.std.proofs.Common.{◌≡◌, ℕ, ◌+◌, ◌<◌, List, ◌++◌, length, drop, Bool, true, false, cond, ◌||◌, ◌==◌, Result, Ok, Err, Some, None, refl, sym, ap, subst, arith, length-append, length-drop}
 use Rattle.std.specs.Prelude.{Option, is_some}
 use Rattle.std.specs.Option.{option_map_or}
+use Rattle.dwarf_bytes.specs.declared.constants.TheConstants.{DW_FORM_STRING, DW_FORM_STRP, DW_FORM_LINE_STRP, DW_FORM_DATA1, DW_FORM_DATA2, DW_FORM_UDATA}
 use Rattle.dwarf_bytes.specs.declared.fault.ReadFault.{ReadFault}
 use Rattle.dwarf_bytes.specs.declared.fault.ReadFault.TheVariants.{Unterminated}
 use Rattle.dwarf_bytes.specs.declared.fault.Cause.{Cause}
@@ -91,16 +92,16 @@ module _ (s : LineSections) (format : Format) (bytes : List ℕ) (at : ℕ) wher
   path_stands : (form : ℕ) (text : PathText) (next : ℕ) → is_text_form form ≡ true → path_at s format form bytes at ≡ Ok (text, next) → StandsAt (SpellsPath s format at form) bytes at text next
   path_stands form text next good h =
       let P : Type 0 = StandsAt (SpellsPath s format at form) bytes at text next in
-      chosen (form == 0x08) _ _ (Ok (text, next)) h P
+      chosen (form == DW_FORM_STRING) _ _ (Ok (text, next)) h P
       (λ is h1. after_bind (reading (cstr_at bytes at)) _ (text, next) h1 P (λ found found_is h2.
       let a = text_stands bytes at found.0 found.1 (reading_ok (cstr_at bytes at) found found_is) in
-      let whole = spelled_as IsText (SpellsPath s format at 0x08) bytes at found.0 (text_from sections.DebugLine at found.0) found.1 (λ front there. string found.0 there) a in
-      rw (eqb-eq form 0x08 is)
-      (subst (λ (p : PathText × ℕ). StandsAt (SpellsPath s format at 0x08) bytes at p.0 p.1) (ok_is {E = Cause} (text_from sections.DebugLine at found.0, found.1) (text, next) h2) whole)))
-      (λ not8 h1. chosen (form == 0x0e) _ _ (Ok (text, next)) h1 P
-      (λ is h2. rw (eqb-eq form 0x0e is) (by_offset_stands sections.DebugStr s.str 0x0e text next (λ front offset past found is there. strp offset past found is there) h2))
-      (λ not14 h2. rw (eqb-eq form 0x1f (third (form == 0x08) (form == 0x0e) (form == 0x1f) good not8 not14))
-      (by_offset_stands sections.DebugLineStr s.line_str 0x1f text next (λ front offset past found is there. line_strp offset past found is there) h2)))
+      let whole = spelled_as IsText (SpellsPath s format at DW_FORM_STRING) bytes at found.0 (text_from sections.DebugLine at found.0) found.1 (λ front there. string found.0 there) a in
+      rw (eqb-eq form DW_FORM_STRING is)
+      (subst (λ (p : PathText × ℕ). StandsAt (SpellsPath s format at DW_FORM_STRING) bytes at p.0 p.1) (ok_is {E = Cause} (text_from sections.DebugLine at found.0, found.1) (text, next) h2) whole)))
+      (λ not8 h1. chosen (form == DW_FORM_STRP) _ _ (Ok (text, next)) h1 P
+      (λ is h2. rw (eqb-eq form DW_FORM_STRP is) (by_offset_stands sections.DebugStr s.str DW_FORM_STRP text next (λ front offset past found is there. strp offset past found is there) h2))
+      (λ not14 h2. rw (eqb-eq form DW_FORM_LINE_STRP (third (form == DW_FORM_STRING) (form == DW_FORM_STRP) (form == DW_FORM_LINE_STRP) good not8 not14))
+      (by_offset_stands sections.DebugLineStr s.line_str DW_FORM_LINE_STRP text next (λ front offset past found is there. line_strp offset past found is there) h2)))
 
   path_again : (form : ℕ) (front : List ℕ) (text : PathText) (next : ℕ) → (rest : List ℕ) → drop at bytes ≡ front ++ rest → next ≡ at + length front → SpellsPath s format at form front text → path_at s format form bytes at ≡ Ok (text, next)
   path_again form front text next rest parts next_is (string found is) =
@@ -115,14 +116,14 @@ module _ (s : LineSections) (format : Format) (bytes : List ℕ) (at : ℕ) wher
   index_stands : (form index next : ℕ) → is_index_form form ≡ true → index_at form bytes at ≡ Ok (index, next) → StandsAt (SpellsIndex form) bytes at index next
   index_stands form index next good h =
       let P : Type 0 = StandsAt (SpellsIndex form) bytes at index next in
-      chosen (form == 0x0b) _ _ (Ok (index, next)) h P
-      (λ is h1. rw (eqb-eq form 0x0b is)
-      (spelled_as (IsFixed 1) (SpellsIndex 0x0b) bytes at index index next (λ front there. data1 there) (fixed_stands 1 bytes at index next (reading_ok (u8_at bytes at) (index, next) h1))))
-      (λ not11 h1. chosen (form == 0x05) _ _ (Ok (index, next)) h1 P
-      (λ is h2. rw (eqb-eq form 0x05 is)
-      (spelled_as (IsFixed 2) (SpellsIndex 0x05) bytes at index index next (λ front there. data2 there) (fixed_stands 2 bytes at index next (reading_ok (u16_at bytes at) (index, next) h2))))
-      (λ not5 h2. rw (eqb-eq form 0x0f (third (form == 0x0b) (form == 0x05) (form == 0x0f) good not11 not5))
-      (spelled_as IsUleb (SpellsIndex 0x0f) bytes at index index next (λ front there. udata there) (uleb_stands bytes at index next (reading_ok (uleb_at bytes at) (index, next) h2)))))
+      chosen (form == DW_FORM_DATA1) _ _ (Ok (index, next)) h P
+      (λ is h1. rw (eqb-eq form DW_FORM_DATA1 is)
+      (spelled_as (IsFixed 1) (SpellsIndex DW_FORM_DATA1) bytes at index index next (λ front there. data1 there) (fixed_stands 1 bytes at index next (reading_ok (u8_at bytes at) (index, next) h1))))
+      (λ not11 h1. chosen (form == DW_FORM_DATA2) _ _ (Ok (index, next)) h1 P
+      (λ is h2. rw (eqb-eq form DW_FORM_DATA2 is)
+      (spelled_as (IsFixed 2) (SpellsIndex DW_FORM_DATA2) bytes at index index next (λ front there. data2 there) (fixed_stands 2 bytes at index next (reading_ok (u16_at bytes at) (index, next) h2))))
+      (λ not5 h2. rw (eqb-eq form DW_FORM_UDATA (third (form == DW_FORM_DATA1) (form == DW_FORM_DATA2) (form == DW_FORM_UDATA) good not11 not5))
+      (spelled_as IsUleb (SpellsIndex DW_FORM_UDATA) bytes at index index next (λ front there. udata there) (uleb_stands bytes at index next (reading_ok (uleb_at bytes at) (index, next) h2)))))
 
   index_again : (form : ℕ) (front : List ℕ) (index next : ℕ) → (rest : List ℕ) → drop at bytes ≡ front ++ rest → next ≡ at + length front → SpellsIndex form front index → index_at form bytes at ≡ Ok (index, next)
   index_again form front index next rest parts next_is (data1 is) =

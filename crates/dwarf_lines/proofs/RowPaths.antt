@@ -12,7 +12,7 @@ use Rattle.dwarf_bytes.proofs.ItemLaws.{Lists-within}
 use Rattle.dwarf_lines.specs.declared.row.Row.{Row}
 use Rattle.dwarf_lines.specs.declared.row.ProgramNo.{ProgramNo}
 use Rattle.dwarf_lines.specs.declared.row.Origin.{Origin}
-use Rattle.dwarf_lines.specs.declared.entries.Part.{Part}
+use Rattle.dwarf_bytes.specs.declared.text.Text.{Text}
 use Rattle.dwarf_lines.specs.declared.entries.Entry.{Entry}
 use Rattle.dwarf_lines.specs.declared.formats.Field.{Field}
 use Rattle.dwarf_lines.specs.declared.formats.EntryTable.{EntryTable}
@@ -117,7 +117,7 @@ entries-known : (s : LineSections) (format : Format) (table : EntryTable) (field
 entries-known s format table fields place bytes [] h = tt
 entries-known s format table fields place bytes (entry ∷ entries) h = (h.3.known, entries-known s format table fields (place + length h.0) h.1 entries h.4)
 
-path-there : (directories files : List Entry) (number : ℕ) → number < length files → Each (Known (Files (length directories))) files → (parts : List Part) × (path_parts directories files number ≡ Some parts)
+path-there : (directories files : List Entry) (number : ℕ) → number < length files → Each (Known (Files (length directories))) files → (parts : List Text) × (path_parts directories files number ≡ Some parts)
 path-there directories files number lt known =
     let file = got files number lt in
     let within = ltb-true file.0.directory (length directories) (each-at (Known (Files (length directories))) files known number file.0 file.1) in
@@ -128,7 +128,7 @@ path-there directories files number lt known =
 -- ---- the paths of a program's rows
 
 abbrev HasPath : Program → Row → Type 0
-HasPath program row = row.«end» ≡ false → (parts : List Part) × (path_parts program.directories program.files row.file ≡ Some parts)
+HasPath program row = row.«end» ≡ false → (parts : List Text) × (path_parts program.directories program.files row.file ≡ Some parts)
 
 program-paths : (s : LineSections) (number place : ℕ) (program : Program) → program_at_place s number place ≡ Ok program → Each (HasPath program) program.rows
 program-paths s number place program h =
@@ -146,7 +146,7 @@ program-paths s number place program h =
 -- ---- and of those of a section
 
 abbrev HasPathIn : List FileTables → Row → Type 0
-HasPathIn tables row = row.«end» ≡ false → (parts : List Part) × (option_and_then (λ program. path_parts program.directories program.files row.file) (slice_get tables row.program.0) ≡ Some parts)
+HasPathIn tables row = row.«end» ≡ false → (parts : List Text) × (option_and_then (λ program. path_parts program.directories program.files row.file) (slice_get tables row.program.0) ≡ Some parts)
 
 chain-programs : (program : ProgramNo) (has_row : Bool) (previous : ℕ) (rows : List Row) → IsChain program has_row previous rows → Each (λ (row : Row). row.program ≡ program) rows
 chain-programs program has_row previous [] chain = tt

@@ -1,6 +1,7 @@
 -- The entries of a line header's two tables (DWARF 5, 6.2.4 and 6.2.4.1).
 use Rattle.std.specs.Prelude.{ℕ, zero, suc, List, [], ◌∷◌, length, Bool, true, not, ◌&&◌, Result, Ok, Err, slice_index, nat_lt, ◌==◌, if◌then◌else◌}
 use Rattle.std.specs.Option.{option_map_or}
+use Rattle.dwarf_bytes.specs.declared.constants.TheConstants.{DW_FORM_STRING, DW_FORM_STRP, DW_FORM_DATA1, DW_FORM_DATA2}
 use Rattle.dwarf_bytes.specs.Bind.{◌>>=◌}
 use Rattle.dwarf_bytes.specs.Items.{reading, refuse_if}
 use Rattle.dwarf_bytes.specs.Numbers.{u8_at, u16_at, uleb_at, cstr_at, text_at, offset_at}
@@ -41,15 +42,15 @@ text_here bytes place = do
 -- a path
 abbrev pub path_at : LineSections → Format → ℕ → List ℕ → ℕ → Result (PathText × ℕ) Cause
 path_at s format form bytes place =
-    if form == 0x08 then text_here bytes place
-    else if form == 0x0e then text_by_offset format sections.DebugStr s.str bytes place
+    if form == DW_FORM_STRING then text_here bytes place
+    else if form == DW_FORM_STRP then text_by_offset format sections.DebugStr s.str bytes place
     else text_by_offset format sections.DebugLineStr s.line_str bytes place
 
 -- a directory index
 abbrev pub index_at : ℕ → List ℕ → ℕ → Result (ℕ × ℕ) Cause
 index_at form bytes place =
-    if form == 0x0b then reading (u8_at bytes place)
-    else if form == 0x05 then reading (u16_at bytes place)
+    if form == DW_FORM_DATA1 then reading (u8_at bytes place)
+    else if form == DW_FORM_DATA2 then reading (u16_at bytes place)
     else reading (uleb_at bytes place)
 
 -- the place after a value that is passed over

@@ -1,6 +1,7 @@
 -- The formats of a line header's two tables (DWARF 5, 6.2.4 and 6.2.4.1): what the fields of an entry are.
 use Rattle.std.specs.Prelude.{ℕ, List, Bool, false, ◌&&◌, ◌||◌, Option, Some, None, nat_le, is_some, count_by, ◌==◌, if◌then◌else◌}
 use Rattle.std.specs.List.{list_all}
+use Rattle.dwarf_bytes.specs.declared.constants.TheConstants.{DW_FORM_STRING, DW_FORM_STRP, DW_FORM_LINE_STRP, DW_FORM_DATA1, DW_FORM_DATA2, DW_FORM_UDATA, DW_LNCT_PATH, DW_LNCT_DIRECTORY_INDEX}
 use Rattle.dwarf_bytes.specs.declared.form.ValueLayout.{ValueLayout}
 use Rattle.dwarf_bytes.specs.declared.form.Form.{Form}
 use Rattle.dwarf_bytes.specs.declared.form.Form.TheVariants.{Direct, ImplicitConst, Indirect}
@@ -11,20 +12,20 @@ use Rattle.dwarf_lines.specs.declared.formats.EntryTable.TheVariants.{Directorie
 
 -- whether a field is a path (DW_LNCT_path)
 abbrev pub is_path : Field → Bool
-is_path field = field.content == 1
+is_path field = field.content == DW_LNCT_PATH
 
 -- whether a field of a table is the directory of a file (DW_LNCT_directory_index)
 abbrev pub is_index : EntryTable → Field → Bool
 is_index Directories field = false
-is_index (Files directories) field = field.content == 2
+is_index (Files directories) field = field.content == DW_LNCT_DIRECTORY_INDEX
 
 -- string, strp and line_strp
 abbrev pub is_text_form : ℕ → Bool
-is_text_form form = (form == 0x08) || (form == 0x0e) || (form == 0x1f)
+is_text_form form = (form == DW_FORM_STRING) || (form == DW_FORM_STRP) || (form == DW_FORM_LINE_STRP)
 
 -- data1, data2 and udata
 abbrev pub is_index_form : ℕ → Bool
-is_index_form form = (form == 0x0b) || (form == 0x05) || (form == 0x0f)
+is_index_form form = (form == DW_FORM_DATA1) || (form == DW_FORM_DATA2) || (form == DW_FORM_UDATA)
 
 -- the layout of a value that stands in its entry
 abbrev pub direct : Option Form → Option ValueLayout

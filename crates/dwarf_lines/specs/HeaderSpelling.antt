@@ -1,6 +1,7 @@
 -- How the header of a line program is spelled (DWARF 5, 6.2.4 and 6.2.4.1). What is spelled may depend on the place in
 -- the section at which the bytes stand.
 use Rattle.std.specs.Prelude.{◌≡◌, ◌≢◌, ℕ, suc, ◌+◌, ◌<◌, List, [], ◌∷◌, ◌++◌, length, true, false, Some, count_by}
+use Rattle.dwarf_bytes.specs.declared.constants.TheConstants.{DW_FORM_STRING, DW_FORM_STRP, DW_FORM_LINE_STRP, DW_FORM_DATA1, DW_FORM_DATA2, DW_FORM_UDATA}
 use Rattle.dwarf_bytes.specs.Numbers.{IsFixed, IsUleb, IsText, IsInitialLength, StandsAt, offset_len}
 use Rattle.dwarf_bytes.specs.Contents.{Content, SpellsContent}
 use Rattle.dwarf_bytes.specs.declared.format.Format.{Format}
@@ -32,15 +33,15 @@ pub record SpellsField (place : ℕ) (bytes : List ℕ) (field : Field) : Type 0
 
 -- The bytes at the place are a path in a form (7.5.5): a text, or the offset of one in its section.
 pub data SpellsPath (s : LineSections) (format : Format) (place : ℕ) : ℕ → List ℕ → PathText → Type 0 where
-  string : {bytes : List ℕ} → (text : List ℕ) → IsText bytes text → SpellsPath s format place 0x08 bytes (text_from sections.DebugLine place text)
-  strp : {bytes : List ℕ} → (offset past : ℕ) (text : List ℕ) → IsFixed (offset_len format) bytes offset → StandsAt IsText s.str offset text past → SpellsPath s format place 0x0e bytes (text_from sections.DebugStr offset text)
-  line_strp : {bytes : List ℕ} → (offset past : ℕ) (text : List ℕ) → IsFixed (offset_len format) bytes offset → StandsAt IsText s.line_str offset text past → SpellsPath s format place 0x1f bytes (text_from sections.DebugLineStr offset text)
+  string : {bytes : List ℕ} → (text : List ℕ) → IsText bytes text → SpellsPath s format place DW_FORM_STRING bytes (text_from sections.DebugLine place text)
+  strp : {bytes : List ℕ} → (offset past : ℕ) (text : List ℕ) → IsFixed (offset_len format) bytes offset → StandsAt IsText s.str offset text past → SpellsPath s format place DW_FORM_STRP bytes (text_from sections.DebugStr offset text)
+  line_strp : {bytes : List ℕ} → (offset past : ℕ) (text : List ℕ) → IsFixed (offset_len format) bytes offset → StandsAt IsText s.line_str offset text past → SpellsPath s format place DW_FORM_LINE_STRP bytes (text_from sections.DebugLineStr offset text)
 
 -- The bytes are a directory index in a form.
 pub data SpellsIndex : ℕ → List ℕ → ℕ → Type 0 where
-  data1 : {bytes : List ℕ} {index : ℕ} → IsFixed 1 bytes index → SpellsIndex 0x0b bytes index
-  data2 : {bytes : List ℕ} {index : ℕ} → IsFixed 2 bytes index → SpellsIndex 0x05 bytes index
-  udata : {bytes : List ℕ} {index : ℕ} → IsUleb bytes index → SpellsIndex 0x0f bytes index
+  data1 : {bytes : List ℕ} {index : ℕ} → IsFixed 1 bytes index → SpellsIndex DW_FORM_DATA1 bytes index
+  data2 : {bytes : List ℕ} {index : ℕ} → IsFixed 2 bytes index → SpellsIndex DW_FORM_DATA2 bytes index
+  udata : {bytes : List ℕ} {index : ℕ} → IsUleb bytes index → SpellsIndex DW_FORM_UDATA bytes index
 
 -- The bytes at the place are a field of the entry: its path, its directory, or what the entry does not keep.
 pub data SpellsPart (s : LineSections) (format : Format) (table : EntryTable) (entry : Entry) (place : ℕ) (bytes : List ℕ) (field : Field) : Type 0 where

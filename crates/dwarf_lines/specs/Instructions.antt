@@ -1,5 +1,6 @@
 -- The instructions of a line program (DWARF 5, 6.2.5): what the bytes at a place spell.
 use Rattle.std.specs.Prelude.{ℕ, zero, suc, ◌-◌, ℤ, List, [], ◌∷◌, length, drop, slice_index, Result, Ok, Err, Option, Some, None, nat_lt, nat_le, ◌==◌, if◌then◌else◌}
+use Rattle.dwarf_bytes.specs.declared.constants.TheConstants.{DW_LNS_COPY, DW_LNS_ADVANCE_PC, DW_LNS_ADVANCE_LINE, DW_LNS_SET_FILE, DW_LNS_CONST_ADD_PC, DW_LNS_FIXED_ADVANCE_PC, DW_LNE_END_SEQUENCE, DW_LNE_SET_ADDRESS}
 use Rattle.dwarf_bytes.specs.Bind.{◌>>=◌}
 use Rattle.dwarf_bytes.specs.Numbers.{block_at, u8_at, u16_at, uleb_at, sleb_at, little_endian}
 use Rattle.dwarf_bytes.specs.declared.fault.Cause.{Cause}
@@ -40,8 +41,8 @@ with_operand make operand = Ok (make operand.0, operand.1)
 -- Extended opcodes (6.2.5.3): an opcode and its operands, all of the bytes of the length before them.
 unfoldable pub extended_of : List ℕ → Result Instruction Cause
 extended_of body =
-    if slice_index body 0 == 1 then (if length body == 1 then Ok EndSequence else Err causes.Extended)
-    else if slice_index body 0 == 2 then (if length body == 9 then Ok (SetAddress (little_endian (drop 1 body))) else Err causes.Extended)
+    if slice_index body 0 == DW_LNE_END_SEQUENCE then (if length body == 1 then Ok EndSequence else Err causes.Extended)
+    else if slice_index body 0 == DW_LNE_SET_ADDRESS then (if length body == 9 then Ok (SetAddress (little_endian (drop 1 body))) else Err causes.Extended)
     else Ok Skipped
 
 unfoldable pub extended_at : List ℕ → ℕ → Result (Instruction × ℕ) Cause
@@ -55,12 +56,12 @@ extended_at bytes place = do
 -- Standard opcodes (6.2.5.2), and those below opcode_base that the standard does not know.
 unfoldable pub standard_at : Encoding → ℕ → List ℕ → ℕ → Result (Instruction × ℕ) Cause
 standard_at e opcode bytes place =
-    if opcode == 1 then Ok (Copy, place)
-    else if opcode == 2 then reading (uleb_at bytes place) >>= with_operand AdvancePc
-    else if opcode == 3 then reading (sleb_at bytes place) >>= with_operand AdvanceLine
-    else if opcode == 4 then reading (uleb_at bytes place) >>= with_operand SetFile
-    else if opcode == 8 then Ok (ConstAddPc, place)
-    else if opcode == 9 then reading (u16_at bytes place) >>= with_operand FixedAdvancePc
+    if opcode == DW_LNS_COPY then Ok (Copy, place)
+    else if opcode == DW_LNS_ADVANCE_PC then reading (uleb_at bytes place) >>= with_operand AdvancePc
+    else if opcode == DW_LNS_ADVANCE_LINE then reading (sleb_at bytes place) >>= with_operand AdvanceLine
+    else if opcode == DW_LNS_SET_FILE then reading (uleb_at bytes place) >>= with_operand SetFile
+    else if opcode == DW_LNS_CONST_ADD_PC then Ok (ConstAddPc, place)
+    else if opcode == DW_LNS_FIXED_ADVANCE_PC then reading (u16_at bytes place) >>= with_operand FixedAdvancePc
     else after_ulebs (slice_index e.opcode_lengths (opcode - 1)) bytes place >>= λ after. Ok (Skipped, after)
 
 -- An instruction, and the place after it. From opcode_base on an opcode is special, and is adjusted (6.2.5.1).

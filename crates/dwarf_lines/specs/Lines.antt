@@ -7,7 +7,7 @@ use Rattle.dwarf_bytes.specs.declared.fault.LoadFault.{LoadFault}
 use Rattle.dwarf_bytes.specs.declared.fault.Section.TheVariants as sections
 use Rattle.dwarf_lines.specs.declared.row.Row.{Row}
 use Rattle.dwarf_lines.specs.declared.row.ProgramNo.{ProgramNo}
-use Rattle.dwarf_lines.specs.declared.entries.Part.{Part}
+use Rattle.dwarf_bytes.specs.declared.text.Text.{Text}
 use Rattle.dwarf_lines.specs.declared.entries.Entry.{Entry}
 use Rattle.dwarf_lines.specs.Sections.{LineSections}
 use Rattle.dwarf_lines.specs.Programs.{Program, programs_of, rows_of}
@@ -43,7 +43,7 @@ abbrev pub file_count : Lines → ProgramNo → ℕ
 file_count lines number = option_map_or (λ program. length program.files) (slice_get lines.programs number.0) 0
 
 -- the parts of the path of a program's file
-abbrev pub path_of : Lines → ProgramNo → ℕ → Option (List Part)
+abbrev pub path_of : Lines → ProgramNo → ℕ → Option (List Text)
 path_of lines number file = option_and_then (λ program. path_parts program.directories program.files file) (slice_get lines.programs number.0)
 
 -- A row covers an address from its own one on up to that of the next row of its sequence. The next row of one that
@@ -65,4 +65,4 @@ HaveNext rows = (i : ℕ) (row : Row) → slice_get rows i ≡ Some row → row.
 -- Each row that does not end its sequence has a path: its program and its file are there, and the file's directory is.
 abbrev pub HavePaths : Lines → Type 0
 HavePaths lines = (i : ℕ) (row : Row) → slice_get lines.rows i ≡ Some row → row.«end» ≡ false
-    → (parts : List Part) × (path_of lines row.program row.file ≡ Some parts)
+    → (parts : List Text) × (path_of lines row.program row.file ≡ Some parts)

@@ -6,19 +6,13 @@ ghost use Rattle.dwarf_lines.specs.Entries.{text_from, text_here, text_by_offset
 ghost use Rattle.dwarf_lines.specs.Private.Readers.{sections_of};
 
 use crate::formats::{EntryTable, layout_of};
-use dwarf_bytes::{Cause, Content, Cursor, Format, Section, Span, text_at};
-
-/// A part of a path, and the section in which it stands.
-#[derive(Clone, Copy, Debug, PartialEq, Eq)]
-pub struct Part {
-    pub section: Section,
-    pub span: Span,
-}
+use dwarf_bytes::constants::{DW_FORM_DATA1, DW_FORM_DATA2, DW_FORM_STRING, DW_FORM_STRP};
+use dwarf_bytes::{Cause, Content, Cursor, Format, Section, Span, Text, TextIndex};
 
 /// The text of a path.
 #[derive(Clone, Copy, Debug)]
 pub struct PathText {
-    pub part: Part,
+    pub part: Text,
     /// Whether it begins with a slash.
     pub absolute: bool,
 }
@@ -30,12 +24,12 @@ pub struct Entry {
     pub directory: u64,
 }
 
-/// The sections of the programs and of the texts.
+/// The section of the programs, and those of the texts that they name by offsets.
 #[derive(Clone, Copy, Debug, Drop)]
-pub struct Texts<'a> {
+pub struct IndexedSections<'a> {
     pub line: &'a [u8],
-    pub line_str: &'a [u8],
-    pub str: &'a [u8],
+    pub line_str: &'a TextIndex<'a>,
+    pub str: &'a TextIndex<'a>,
 }
 
 /// Where a text stands.
@@ -43,7 +37,7 @@ fn text_of(section: Section, place: usize, text: &[u8]) -> PathText
     ensures { result ≡ text_from section place text.now }
 {
     PathText {
-        part: Part {
+        part: Text {
             section,
             span: Span {
                 place,
@@ -69,7 +63,7 @@ fn text_in_place(cursor: &mut Cursor) -> Result<PathText, Cause>
 /// The text of a section at the offset at the cursor.
 fn text_elsewhere(
     section: Section,
-    texts: &[u8],
+    texts: &TextIndex,
     format: Format,
     cursor: &mut Cursor,
 ) -> Result<PathText, Cause>
@@ -77,19 +71,24 @@ fn text_elsewhere(
         cursor.old cursor.new }
 {
     let place = cursor.offset(format)?;
-    let text = text_at(texts, place)?;
+    let text = texts.text_at(place)?;
     Ok(text_of(section, place as usize, text))
 }
 
 /// A path.
-pub fn path(texts: Texts, format: Format, form: u64, cursor: &mut Cursor) -> Result<PathText, Cause>
-    ensures { ReadsField (λ text. text) result (path_at (sections_of texts.entry) format form)
+pub fn path(
+    sections: IndexedSections,
+    format: Format,
+    form: u64,
+    cursor: &mut Cursor,
+) -> Result<PathText, Cause>
+    ensures { ReadsField (λ text. text) result (path_at (sections_of sections.entry) format form)
         cursor.old cursor.new }
 {
     match form {
-        0x08 => text_in_place(cursor),
-        0x0e => text_elsewhere(Section::DebugStr, texts.str, format, cursor),
-        _ => text_elsewhere(Section::DebugLineStr, texts.line_str, format, cursor),
+        DW_FORM_STRING => text_in_place(cursor),
+        DW_FORM_STRP => text_elsewhere(Section::DebugStr, sections.str, format, cursor),
+        _ => text_elsewhere(Section::DebugLineStr, sections.line_str, format, cursor),
     }
 }
 
@@ -109,8 +108,8 @@ pub fn directory_index(form: u64, cursor: &mut Cursor) -> Result<u64, Cause>
     ensures { ReadsField (λ index. index) result (index_at form) cursor.old cursor.new }
 {
     match form {
-        0x0b => Ok(u64::from(cursor.u8()?)),
-        0x05 => Ok(u64::from(cursor.u16()?)),
+        DW_FORM_DATA1 => Ok(u64::from(cursor.u8()?)),
+        DW_FORM_DATA2 => Ok(u64::from(cursor.u16()?)),
         _ => Ok(cursor.uleb()?),
     }
 }

@@ -5,7 +5,7 @@ ghost use Rattle.dwarf_bytes.specs.Refusals.{ReadsField, ReadsItems};
 ghost use Rattle.dwarf_lines.specs.Formats.{is_format};
 ghost use Rattle.dwarf_lines.specs.Private.Readers.{field_by, fields_by, entry_by, entries_by, table_by};
 
-use crate::entries::{Entry, Texts, directory_index, pass_over, path};
+use crate::entries::{Entry, IndexedSections, directory_index, pass_over, path};
 use crate::formats::{EntryTable, Field, fields_with_bytes, format};
 use dwarf_bytes::{Cause, Cursor, Format};
 use std::alloc::Global;
@@ -13,7 +13,7 @@ use std::alloc::Global;
 /// What the values of entries depend on, beside their fields.
 #[derive(Clone, Copy, Debug, Drop)]
 pub struct EntryReader<'a> {
-    pub texts: Texts<'a>,
+    pub sections: IndexedSections<'a>,
     pub format: Format,
     pub table: EntryTable,
 }
@@ -25,7 +25,7 @@ impl EntryReader<'_> {
         ensures { ReadsField (λ entry. entry) result (field_by self.now field entry) cursor.old cursor.new }
     {
         if field.is_path() {
-            let path = path(self.texts, self.format, field.form, cursor)?;
+            let path = path(self.sections, self.format, field.form, cursor)?;
             return Ok(Entry { path, ..entry });
         }
         if self.table.is_index(field) {

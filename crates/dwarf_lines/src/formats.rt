@@ -7,6 +7,10 @@ ghost use Rattle.dwarf_lines.specs.Entries.{format_at, repeated_at};
 ghost use Rattle.dwarf_lines.specs.Formats.{is_path, is_index, is_text_form, is_index_form, layout_of, has_good_form, is_format};
 ghost use Rattle.dwarf_lines.specs.Private.Readers.{has_bytes};
 
+use dwarf_bytes::constants::{
+    DW_FORM_DATA1, DW_FORM_DATA2, DW_FORM_FLAG_PRESENT, DW_FORM_LINE_STRP, DW_FORM_STRING,
+    DW_FORM_STRP, DW_FORM_UDATA, DW_LNCT_DIRECTORY_INDEX, DW_LNCT_PATH,
+};
 use dwarf_bytes::{Cause, Cursor, Form, ValueLayout};
 use std::alloc::Global;
 
@@ -40,26 +44,26 @@ impl Field {
     pub fn is_path(self) -> bool
         ensures { result ≡ is_path self }
     {
-        self.content == 1
+        self.content == DW_LNCT_PATH
     }
 
     fn has_text_form(self) -> bool
         ensures { result ≡ is_text_form self.form }
     {
-        self.form == 0x08 || self.form == 0x0e || self.form == 0x1f
+        matches!(self.form, DW_FORM_STRING | DW_FORM_STRP | DW_FORM_LINE_STRP)
     }
 
     fn has_index_form(self) -> bool
         ensures { result ≡ is_index_form self.form }
     {
-        self.form == 0x0b || self.form == 0x05 || self.form == 0x0f
+        matches!(self.form, DW_FORM_DATA1 | DW_FORM_DATA2 | DW_FORM_UDATA)
     }
 
     /// Whether its values have bytes: those of DW_FORM_flag_present have none.
     fn has_bytes(self) -> bool
         ensures { result ≡ has_bytes self }
     {
-        self.form != 0x19
+        self.form != DW_FORM_FLAG_PRESENT
     }
 
     /// Reads a field of a format.
@@ -80,7 +84,7 @@ impl EntryTable {
     {
         match self {
             EntryTable::Directories => false,
-            EntryTable::Files(_) => field.content == 2,
+            EntryTable::Files(_) => field.content == DW_LNCT_DIRECTORY_INDEX,
         }
     }
 

@@ -6,6 +6,10 @@ ghost use Rattle.dwarf_bytes.specs.Refusals.{ReadsField, ReadsPlace};
 ghost use Rattle.dwarf_lines.specs.Private.Registers.{line_reach};
 
 use crate::line_encoding::LineEncoding;
+use dwarf_bytes::constants::{
+    DW_LNE_END_SEQUENCE, DW_LNE_SET_ADDRESS, DW_LNS_ADVANCE_LINE, DW_LNS_ADVANCE_PC,
+    DW_LNS_CONST_ADD_PC, DW_LNS_COPY, DW_LNS_FIXED_ADVANCE_PC, DW_LNS_SET_FILE,
+};
 use dwarf_bytes::{Cause, Cursor};
 
 /// An instruction of a line program (DWARF 5, 6.2.5).
@@ -51,12 +55,12 @@ fn standard(header: &LineEncoding, opcode: u8, cursor: &mut Cursor) -> Result<In
     ensures reach { IfOk result (λ i. line_reach i ≤ 2 ^ 62 * (cursor.new.place + 1 - cursor.old.place)) }
 {
     match opcode {
-        1 => Ok(Instruction::Copy),
-        2 => Ok(Instruction::AdvancePc(cursor.uleb()?)),
-        3 => Ok(Instruction::AdvanceLine(cursor.sleb()?)),
-        4 => Ok(Instruction::SetFile(cursor.uleb()?)),
-        8 => Ok(Instruction::ConstAddPc),
-        9 => Ok(Instruction::FixedAdvancePc(cursor.u16()?)),
+        DW_LNS_COPY => Ok(Instruction::Copy),
+        DW_LNS_ADVANCE_PC => Ok(Instruction::AdvancePc(cursor.uleb()?)),
+        DW_LNS_ADVANCE_LINE => Ok(Instruction::AdvanceLine(cursor.sleb()?)),
+        DW_LNS_SET_FILE => Ok(Instruction::SetFile(cursor.uleb()?)),
+        DW_LNS_CONST_ADD_PC => Ok(Instruction::ConstAddPc),
+        DW_LNS_FIXED_ADVANCE_PC => Ok(Instruction::FixedAdvancePc(cursor.u16()?)),
         _ => {
             skip_ulebs(header.operands(opcode), cursor)?;
             Ok(Instruction::Skipped)
@@ -96,9 +100,12 @@ fn extended_in(body: &[u8]) -> Result<Instruction, Cause>
     ensures reach { IfOk result (λ i. line_reach i ≡ 0) }
 {
     match body[0] {
-        1 if body.len() == 1 => Ok(Instruction::EndSequence),
-        2 if body.len() == 9 => Ok(Instruction::SetAddress(Cursor::new(&body[1..]).u64()?)),
-        1 | 2 => Err(Cause::Extended),
+        DW_LNE_END_SEQUENCE if body.len() == 1 => Ok(Instruction::EndSequence),
+        DW_LNE_SET_ADDRESS if body.len() == 9 => {
+            let address = Cursor::new(&body[1..]).u64()?;
+            Ok(Instruction::SetAddress(address))
+        }
+        DW_LNE_END_SEQUENCE | DW_LNE_SET_ADDRESS => Err(Cause::Extended),
         _ => Ok(Instruction::Skipped),
     }
 }

@@ -16,7 +16,7 @@ mod programs;
 mod registers;
 mod row;
 
-pub use entries::Part;
+pub use dwarf_bytes::Text;
 pub use lines::LineTables;
 pub use path::PathParts;
 pub use row::{ProgramNo, Row};

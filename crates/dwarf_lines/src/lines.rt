@@ -5,13 +5,14 @@ ghost use Rattle.std.specs.List.Sorted.{IsStrictlyIncreasing, IsPartitionPoint};
 ghost use Rattle.dwarf_bytes.specs.Refusals.{Decodes};
 ghost use Rattle.dwarf_lines.specs.Sections.{LineSections};
 ghost use Rattle.dwarf_lines.specs.Paths.{path_parts};
+ghost use Rattle.dwarf_lines.specs.Private.Readers.{sections_of};
 ghost use Rattle.dwarf_lines.specs.Lines.{Lines, lines_in, program_at, file_count, path_of};
 
-use crate::entries::{Entry, Texts};
+use crate::entries::{Entry, IndexedSections};
 use crate::path::{PathParts, parts_of};
 use crate::programs::{ProgramFiles, add_program};
 use crate::row::{ProgramNo, Row};
-use dwarf_bytes::{LoadFault, Section};
+use dwarf_bytes::{LoadFault, Section, TextIndex};
 use std::alloc::Global;
 use std::marker::Model;
 
@@ -47,23 +48,14 @@ impl LineTables {
         ensures { Decodes (λ lines. lines) result
             (lines_in (record { line = line.now; line_str = line_str.now; str = str.now })) }
     {
-        let texts = Texts {
+        let line_str = TextIndex::of(alloc, line_str)?;
+        let str = TextIndex::of(alloc, str)?;
+        let sections = IndexedSections {
             line,
-            line_str,
-            str,
+            line_str: &line_str,
+            str: &str,
         };
-        let mut rows = Vec::new(alloc);
-        let mut programs = Vec::new(alloc);
-        let mut place = 0;
-        while place < line.len() {
-            match add_program(alloc, texts, place, &mut rows, &mut programs) {
-                Ok(past) => place = past,
-                Err(cause) => {
-                    return Err(LoadFault::told(Section::DebugLine, cause, place as u64));
-                }
-            }
-        }
-        Ok(LineTables { rows, programs })
+        read_programs(alloc, sections)
     }
 
     /// The rows of all programs, in file order.
@@ -102,6 +94,24 @@ impl LineTables {
         let tables = self.programs.get(program.0)?;
         path_in(tables.directories.as_slice(), tables.files.as_slice(), file)
     }
+}
+
+/// The line programs of a section.
+fn read_programs(alloc: Global, sections: IndexedSections) -> Result<LineTables, LoadFault>
+    ensures { Decodes (λ lines. lines) result (lines_in (sections_of sections.entry)) }
+{
+    let mut rows = Vec::new(alloc);
+    let mut programs = Vec::new(alloc);
+    let mut place = 0;
+    while place < sections.line.len() {
+        match add_program(alloc, sections, place, &mut rows, &mut programs) {
+            Ok(past) => place = past,
+            Err(cause) => {
+                return Err(LoadFault::told(Section::DebugLine, cause, place as u64));
+            }
+        }
+    }
+    Ok(LineTables { rows, programs })
 }
 
 /// The path of a file of a program.

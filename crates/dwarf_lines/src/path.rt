@@ -4,22 +4,22 @@ ghost use Rattle.std.specs.Prelude.{◌≡◌, ◌<◌, ◌≤◌, ◌+◌, ◌+
 ghost use Rattle.dwarf_lines.specs.Paths.{part_if_any};
 ghost use Rattle.dwarf_lines.specs.Paths.{texts_of, nonempty_parts};
 
-use crate::entries::{Part, PathText};
-use dwarf_bytes::{Section, Span};
+use crate::entries::PathText;
+use dwarf_bytes::{Section, Span, Text};
 use std::marker::Model;
 
 /// Up to three parts of a path, between which slashes stand.
 #[derive(Drop)]
 pub struct PathParts {
-    parts: [Part; 3],
+    parts: [Text; 3],
     len: usize,
 }
 
 impl Model for PathParts {
     ghost use Rattle.std.specs.Prelude.{List, take, ◌≤◌};
-    ghost use Rattle.dwarf_lines.specs.declared.entries.Part.{Part};
+    ghost use Rattle.dwarf_bytes.specs.declared.text.Text.{Text};
 
-    ghost Value = { List Part };
+    ghost Value = { List Text };
 
     ghost view = { λ p. take p.len p.parts };
 
@@ -30,7 +30,7 @@ impl PathParts {
     fn new() -> Self
         ensures { result ≡ [] }
     {
-        let none = Part {
+        let none = Text {
             section: Section::DebugLine,
             span: Span { place: 0, len: 0 },
         };
@@ -52,7 +52,7 @@ impl PathParts {
         }
     }
 
-    pub fn parts(&self) -> &[Part]
+    pub fn parts(&self) -> &[Text]
         ensures { result.now ≡ self.now }
     {
         &self.parts[..self.len]

@@ -7,7 +7,7 @@ ghost use Rattle.dwarf_lines.specs.Programs.{program_at_place};
 ghost use Rattle.dwarf_lines.specs.Private.Kept.{header_in, AddsProgram};
 ghost use Rattle.dwarf_bytes.specs.Refusals.{Gives};
 
-use crate::entries::{Entry, Texts};
+use crate::entries::{Entry, IndexedSections};
 use crate::entry_tables::EntryReader;
 use crate::formats::EntryTable;
 use crate::line_encoding::LineEncoding;
@@ -39,20 +39,24 @@ pub struct LineProgramHeader<'a> {
 
 /// The header of the program at a place.
 #[tactic(auto, unfolding(crate::specs::Headers::header_at))]
-fn header<'a>(alloc: Global, texts: Texts<'a>, place: usize) -> Result<LineProgramHeader<'a>, Cause>
-    requires { place ≤ length texts.line.now }
-    ensures gives { Gives header_in result (header_at (sections_of texts.entry) place) }
+fn header<'a>(
+    alloc: Global,
+    sections: IndexedSections<'a>,
+    place: usize,
+) -> Result<LineProgramHeader<'a>, Cause>
+    requires { place ≤ length sections.line.now }
+    ensures gives { Gives header_in result (header_at (sections_of sections.entry) place) }
     ensures range { IfOk result (λ h. 0 < h.opcodes.line_range) }
     ensures first { IfOk result (λ h. h.first ≤ h.past) }
-    ensures past { IfOk result (λ h. h.past ≤ length texts.entry.line.now) }
+    ensures past { IfOk result (λ h. h.past ≤ length sections.entry.line.now) }
 {
-    let bounds = bounds_of(texts.line, place)?;
-    let bytes = &texts.line[..bounds.first];
+    let bounds = bounds_of(sections.line, place)?;
+    let bytes = &sections.line[..bounds.first];
     let mut cursor = Cursor::new(bytes);
     cursor.seek(bounds.fields)?;
     let opcodes = LineEncoding::read(bytes, &mut cursor)?;
     let reader = EntryReader {
-        texts,
+        sections,
         format: bounds.format,
         table: EntryTable::Directories,
     };
@@ -75,22 +79,22 @@ fn header<'a>(alloc: Global, texts: Texts<'a>, place: usize) -> Result<LineProgr
 #[tactic(auto, unfolding(crate::specs::Programs::program_at_place))]
 pub fn add_program(
     alloc: Global,
-    texts: Texts,
+    sections: IndexedSections,
     place: usize,
     rows: &mut Vec<Row>,
     programs: &mut Vec<ProgramFiles>,
 ) -> Result<usize, Cause>
-    requires { place ≤ length texts.line.now }
+    requires { place ≤ length sections.line.now }
     ensures { AddsProgram result
-        (program_at_place (sections_of texts.entry) (vec_len programs.old) place)
+        (program_at_place (sections_of sections.entry) (vec_len programs.old) place)
         rows.old.items rows.new.items programs.old.items programs.new.items }
 {
-    let header = header(alloc, texts, place)?;
+    let header = header(alloc, sections, place)?;
     let origin = Origin {
         program: ProgramNo(programs.len()),
         files: header.files.len() as u64,
     };
-    let bytes = &texts.line[..header.past];
+    let bytes = &sections.line[..header.past];
     add_rows(&header.opcodes, origin, bytes, header.first, rows)?;
     let LineProgramHeader {
         opcodes: _,

@@ -3,7 +3,7 @@
 ghost use Rattle.std.specs.Prelude.{◌≡◌, ◌+◌, length};
 
 use dwarf_bytes::{Cause, LoadFault, Section};
-use dwarf_lines::{LineTables, Part, ProgramNo, Row};
+use dwarf_lines::{LineTables, Text, ProgramNo, Row};
 use dwarf_samples::{INLINED, TWO_SEQUENCES};
 use std::alloc::{AllocError, Global};
 
@@ -151,7 +151,7 @@ pub fn path(
     Ok(Some(text))
 }
 
-fn bytes_of(sections: [&[u8]; 3], part: Part) -> &[u8] {
+fn bytes_of(sections: [&[u8]; 3], part: Text) -> &[u8] {
     let section = match part.section {
         Section::DebugStr => sections[2],
         Section::DebugLineStr => sections[1],

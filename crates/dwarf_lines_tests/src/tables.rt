@@ -2,7 +2,7 @@
 
 use crate::fixtures::fault;
 use dwarf_bytes::{Cause, Section, Span};
-use dwarf_lines::{LineTables, Part, ProgramNo};
+use dwarf_lines::{LineTables, Text, ProgramNo};
 use dwarf_samples::INLINED;
 use std::alloc::{AllocError, Global};
 use std::test::Fail;
@@ -56,7 +56,7 @@ fn many_paths_in_one_long_text(rt: HostRuntime) -> Result<(), Fail> {
     text.push(0)?;
     let tables = LineTables::read(rt.alloc(), line.as_slice(), text.as_slice(), &[])?;
     let path = tables.path(ProgramNo(0), 0).ok_or("no path")?;
-    let long = Part {
+    let long = Text {
         section: Section::DebugLineStr,
         span: Span {
             place: 0,
@@ -64,7 +64,7 @@ fn many_paths_in_one_long_text(rt: HostRuntime) -> Result<(), Fail> {
         },
     };
     let place = line.len().saturating_sub(5);
-    let file = Part {
+    let file = Text {
         section: Section::DebugLine,
         span: Span { place, len: 1 },
     };
@@ -79,14 +79,14 @@ fn fields_without_bytes_tell_nothing(rt: HostRuntime) -> Result<(), Fail> {
     let line = with_flags(rt.alloc())?;
     let tables = LineTables::read(rt.alloc(), line.as_slice(), &[], &[])?;
     let path = tables.path(ProgramNo(0), 0).ok_or("no path")?;
-    let directory = Part {
+    let directory = Text {
         section: Section::DebugLine,
         span: Span {
             place: line.len().saturating_sub(13),
             len: 2,
         },
     };
-    let file = Part {
+    let file = Text {
         section: Section::DebugLine,
         span: Span {
             place: line.len().saturating_sub(4),
