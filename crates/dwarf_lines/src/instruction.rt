@@ -1,6 +1,6 @@
 //! The instructions of a line program.
 
-ghost use Rattle.std.specs.Prelude.{◌≡◌, ◌≤◌, ◌<◌, ◌+◌, ◌*◌, ◌-◌, ◌^◌, ℕ, length, MatchResult, IfOk, unsigned_abs};
+ghost use Rattle.std.specs.Prelude.{◌≡◌, ◌≤◌, ◌<◌, ◌+◌, ◌*◌, ◌-◌, ◌^◌, ◌==◌, ℕ, length, MatchResult, IfOk, unsigned_abs};
 ghost use Rattle.dwarf_lines.specs.Instructions.{encoding, extended_of, extended_at, standard_at, after_ulebs, instruction_at};
 ghost use Rattle.dwarf_bytes.specs.Refusals.{ReadsField, ReadsPlace};
 ghost use Rattle.dwarf_lines.specs.Private.Registers.{line_reach};
@@ -101,11 +101,18 @@ fn extended_in(body: &[u8]) -> Result<Instruction, Cause>
 {
     match body[0] {
         DW_LNE_END_SEQUENCE if body.len() == 1 => Ok(Instruction::EndSequence),
-        DW_LNE_SET_ADDRESS if body.len() == 9 => {
+        DW_LNE_SET_ADDRESS if has_address(body) => {
             let address = Cursor::new(&body[1..]).u64()?;
             Ok(Instruction::SetAddress(address))
         }
         DW_LNE_END_SEQUENCE | DW_LNE_SET_ADDRESS => Err(Cause::Extended),
         _ => Ok(Instruction::Skipped),
     }
+}
+
+/// Whether an address is all that stands behind an extended opcode.
+fn has_address(body: &[u8]) -> bool
+    ensures { result ≡ (length body.now == 9) }
+{
+    body.len() == 9
 }

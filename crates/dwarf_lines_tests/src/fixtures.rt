@@ -3,7 +3,7 @@
 ghost use Rattle.std.specs.Prelude.{◌≡◌, ◌+◌, length};
 
 use dwarf_bytes::{Cause, LoadFault, Section};
-use dwarf_lines::{LineTables, Text, ProgramNo, Row};
+use dwarf_lines::{LineTables, ProgramNo, Row, Text};
 use dwarf_samples::{INLINED, TWO_SEQUENCES};
 use std::alloc::{AllocError, Global};
 

@@ -2,7 +2,7 @@
 
 use crate::fixtures::fault;
 use dwarf_bytes::{Cause, Section, Span};
-use dwarf_lines::{LineTables, Text, ProgramNo};
+use dwarf_lines::{LineTables, ProgramNo, Text};
 use dwarf_samples::INLINED;
 use std::alloc::{AllocError, Global};
 use std::test::Fail;
@@ -49,10 +49,21 @@ fn with_flags(alloc: Global) -> Result<Vec<u8>, AllocError> {
     with_tables(alloc, tables.as_slice())
 }
 
+/// A text of so many bytes, without its NUL.
+fn long_text(alloc: Global, len: u32) -> Result<Vec<u8>, AllocError> {
+    let mut text = Vec::new(alloc);
+    for _ in 0..len {
+        text.push(b'd')?;
+    }
+    Ok(text)
+}
+
 #[test]
 fn many_paths_in_one_long_text(rt: HostRuntime) -> Result<(), Fail> {
     let line = with_long_directories(rt.alloc())?;
-    let mut text = vec![in rt.alloc(); b'd'; 1_000_000]?;
+    let mut text = long_text(rt.alloc(), 1_000_000)?;
+    let cut = LineTables::read(rt.alloc(), line.as_slice(), text.as_slice(), &[]);
+    assert_eq!(rt; cut.err(), Some(fault(Cause::Text, 0)));
     text.push(0)?;
     let tables = LineTables::read(rt.alloc(), line.as_slice(), text.as_slice(), &[])?;
     let path = tables.path(ProgramNo(0), 0).ok_or("no path")?;
@@ -69,8 +80,6 @@ fn many_paths_in_one_long_text(rt: HostRuntime) -> Result<(), Fail> {
         span: Span { place, len: 1 },
     };
     assert_eq!(rt; path.parts(), [long, long, file].as_slice());
-    let cut = LineTables::read(rt.alloc(), line.as_slice(), &text[..1_000_000], &[]);
-    assert_eq!(rt; cut.err(), Some(fault(Cause::Text, 0)));
     Ok(())
 }
 
