@@ -1,0 +1,167 @@
+#!/usr/bin/env python3
+"""Times the readers on objects that are shaped to cost more than their bytes.
+
+hostile.py MEASURE FOLDER [MEGABYTES] writes an object of each shape into FOLDER at a quarter of the size,
+half of it and the whole, reads each with `measure lines` or `measure scopes`, and prints the seconds by
+size. It fails where doubling the size takes more than three times as long, or the whole more than two
+seconds for each 20 MB.
+"""
+import struct
+import subprocess
+import sys
+import time
+from pathlib import Path
+
+MEGABYTE = 1 << 20
+LEAST_TIME = 0.1  # seconds; shorter times say nothing of growth
+
+
+def uleb(number):
+    spelled = bytearray()
+    while number >= 128:
+        spelled.append(number % 128 + 128)
+        number //= 128
+    spelled.append(number)
+    return bytes(spelled)
+
+
+def elf(sections, segments=1, names=None):
+    """An object of these sections, given as (name, bytes). Its section names may be given whole: they
+    are then the text, and how many further headers name it from its start."""
+    text = bytearray(b"\0")
+    offsets = []
+    for name, _ in sections:
+        offsets.append(len(text))
+        text += name.encode() + b"\0"
+    offsets.append(len(text))
+    text += b".shstrtab\0"
+    further = 0
+    if names is not None:
+        further = names[1]
+        offsets = [len(names[0]) + offset for offset in offsets]
+        text = names[0] + text
+    program_headers = struct.pack("<IIQQQQQQ", 1, 0, 0, 0x1000, 0, 0, 0x1000, 0) * segments
+    place = 64 + len(program_headers)
+    headers, body = [bytes(64)], bytearray()
+    for (_, data), offset in zip(list(sections) + [("", bytes(text))], offsets):
+        headers.append(struct.pack("<IIQQQQIIQQ", offset, 1, 0, 0, place + len(body), len(data), 0, 0, 0, 0))
+        body += data
+    headers += [bytes(64)] * further
+    table = b"".join(headers)
+    header = b"\x7fELF\x02\x01\x01" + bytes(9) + struct.pack(
+        "<HHIQQQIHHHHHH", 3, 62, 1, 0, 64, place + len(body), 0, 64, 56, segments, 64, len(headers), len(sections) + 1)
+    return header + program_headers + bytes(body) + table
+
+
+def line_program(tables, instructions=b""):
+    """A program with these tables in its header."""
+    fields = bytes([1, 1, 1, 0xFB, 14, 13, 0, 1, 1, 1, 1, 0, 0, 0, 1, 0, 0, 1]) + tables
+    rest = struct.pack("<HBBI", 5, 8, 0, len(fields)) + fields + instructions
+    return struct.pack("<I", len(rest)) + rest
+
+
+FILES = bytes([1, 1, 8, 1]) + b"/\0" + bytes([1, 1, 8, 2]) + b"a\0b\0"
+
+
+def directories_in_one_text(size):
+    count = size // 8
+    tables = bytes([1, 1, 0x1F]) + uleb(count) + bytes(4 * count) + bytes([0, 0])
+    return elf([(".debug_line", line_program(tables)), (".debug_line_str", b"d" * (size // 2) + b"\0")])
+
+
+def files_in_one_text(size):
+    count = size // 10
+    tables = bytes([1, 1, 8, 1]) + b"/\0" + bytes([2, 1, 0x0E, 2, 0x0B]) + uleb(count) + bytes(5 * count)
+    return elf([(".debug_line", line_program(tables)), (".debug_str", b"f" * (size // 2) + b"\0")])
+
+
+def fields_without_bytes(size):
+    flags = b"".join(bytes([3, 0x19]) for _ in range(254))
+    tables = bytes([255]) + flags + bytes([1, 8]) + uleb(size) + bytes(size) + bytes([0, 0])
+    return elf([(".debug_line", line_program(tables))])
+
+
+def names_of_sections(size):
+    further = min(65_000, size // 128)
+    return elf([], names=(b"s" * (size - 64 * further), further))
+
+
+def rows(size):
+    start = bytes([0, 9, 2]) + bytes(8)
+    return elf([(".debug_line", line_program(FILES, start + bytes([18]) * size + bytes([0, 1, 1])))])
+
+
+def sequences(size):
+    one = bytes([0, 9, 2]) + bytes(8) + bytes([1, 0, 1, 1])
+    return elf([(".debug_line", line_program(FILES, one * (size // len(one))))])
+
+
+def programs(size):
+    one = line_program(bytes([0, 0, 0, 0]))
+    return elf([(".debug_line", one * (size // len(one)))])
+
+
+def segments(size):
+    return elf([(".debug_line", bytes(line_program(FILES)))], segments=min(65_000, size // 56))
+
+
+def names_in_one_text(size):
+    """Subprograms whose names are one long text."""
+    count = size // 10
+    entries = bytes([1]) + (bytes([2]) + bytes(4)) * count + bytes([0])
+    unit = struct.pack("<HBBI", 5, 1, 8, 0) + entries
+    abbreviations = bytes([1, 0x11, 1, 0, 0, 2, 0x2E, 0, 3, 0x0E, 0, 0, 0])
+    return elf([
+        (".debug_abbrev", abbreviations),
+        (".debug_info", struct.pack("<I", len(unit)) + unit),
+        (".debug_str", b"n" * (size // 2) + b"\0"),
+    ])
+
+
+SHAPES = [
+    ("lines", directories_in_one_text),
+    ("lines", files_in_one_text),
+    ("lines", fields_without_bytes),
+    ("lines", names_of_sections),
+    ("lines", rows),
+    ("lines", sequences),
+    ("lines", programs),
+    ("lines", segments),
+    ("scopes", names_in_one_text),
+]
+
+
+def seconds(measure, command, path):
+    """The least of three times."""
+    times = []
+    for _ in range(3):
+        start = time.monotonic()
+        done = subprocess.run([measure, command, path], capture_output=True, text=True, check=False)
+        times.append(time.monotonic() - start)
+        if done.returncode != 0:
+            raise SystemExit(f"{path}: {done.stdout}{done.stderr}")
+    return min(times)
+
+
+def main():
+    measure, folder = sys.argv[1:3]
+    whole = int(sys.argv[3]) if len(sys.argv) > 3 else 20
+    Path(folder).mkdir(parents=True, exist_ok=True)
+    failed = False
+    for command, shape in SHAPES:
+        times = []
+        for size in (whole * MEGABYTE // 4, whole * MEGABYTE // 2, whole * MEGABYTE):
+            path = Path(folder) / "hostile"
+            path.write_bytes(shape(size))
+            times.append(seconds(measure, command, path))
+            path.unlink()
+        growth = max(b / a if b > LEAST_TIME else 0 for a, b in zip(times, times[1:]))
+        bad = growth > 3 or times[-1] > 2 * whole / 20
+        failed = failed or bad
+        shown = ", ".join(f"{t:.3f} s" for t in times)
+        print(f"{shape.__name__.replace('_', ' '):26} {whole / 4:g}, {whole / 2:g}, {whole:g} MB: {shown}{'  TOO LONG' if bad else ''}")
+    sys.exit(failed)
+
+
+if __name__ == "__main__":
+    main()
