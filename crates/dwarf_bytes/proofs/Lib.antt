@@ -18,3 +18,4 @@ pub mod Moves
 pub mod Turns
 pub mod EachPlaces
 pub mod FirstNuls
+pub mod SectionNames

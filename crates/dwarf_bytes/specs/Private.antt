@@ -1,1 +1,2 @@
 pub mod Nuls
+pub mod SectionNames
