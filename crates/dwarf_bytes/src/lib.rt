@@ -4,6 +4,7 @@
 
 pub mod constants;
 mod content;
+mod conversions;
 mod cursor;
 mod fault;
 mod fields;
