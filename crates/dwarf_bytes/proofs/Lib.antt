@@ -1,6 +1,6 @@
 pub mod Fixed
 pub mod Texts
-pub mod Groups
+pub mod LebPrefixes
 pub mod Spelling
 pub mod Standing
 pub mod TextLaws

@@ -1,11 +1,12 @@
 //! The tables of an ELF file.
 
 ghost use Rattle.std.specs.Prelude.{◌≡◌, ◌≤◌, ◌<◌, ◌+◌, ◌*◌, length, MatchResult, Some, None, false, Ok, Err};
-ghost use Rattle.dwarf_bytes.specs.Faults.{item_fault, first_fault};
+ghost use Rattle.dwarf_bytes.specs.Faults.{first_failure, item_fault, first_fault};
 ghost use Rattle.dwarf_bytes.specs.Headers.{file_header};
 ghost use Rattle.dwarf_bytes.specs.Elf.{is_bad_section_table, section_header, names, names_item, section_item, load_items, section_items, elf_fault, layout, low, high, AreInside};
 ghost use Rattle.dwarf_bytes.specs.declared.fault.Section.TheVariants as sections;
-ghost use Rattle.dwarf_bytes.specs.Walks.{extended, layout_of, spans_before};
+ghost use Rattle.dwarf_bytes.specs.Private.Extents.{extended};
+ghost use Rattle.dwarf_bytes.specs.Private.FoundSections.{layout_of, spans_before, wanted_tests};
 
 use crate::fault::{Cause, LoadFault, Section};
 use crate::header_tests::checked_header;
@@ -134,6 +135,25 @@ fn name_section<'a>(bytes: &'a [u8], header: &FileHeader) -> Result<&'a [u8], Lo
     Ok(&bytes[start..start + entry.size as usize])
 }
 
+/// What is wrong with the header of a wanted section, where one before it may have its name.
+fn wanted_fault(bytes: &[u8], entry: &SectionHeader, is_seen: bool) -> Option<Cause>
+    ensures { result ≡ first_failure (wanted_tests bytes.now entry.now is_seen) }
+{
+    if is_seen {
+        return Some(Cause::SectionTwice);
+    }
+    if entry.is_nobits() {
+        return Some(Cause::Table);
+    }
+    if entry.is_compressed() {
+        return Some(Cause::Compressed);
+    }
+    if is_outside(bytes, entry.offset, entry.size) {
+        return Some(Cause::Table);
+    }
+    None
+}
+
 /// Where the wanted sections stand, after the k-th header is judged.
 fn with_section(
     bytes: &[u8],
@@ -156,17 +176,8 @@ fn with_section(
     let Some(number) = number else {
         return Ok(found);
     };
-    if found[number].is_some() {
-        return Err(elf(Cause::SectionTwice, entry.at));
-    }
-    if entry.is_nobits() {
-        return Err(elf(Cause::Table, entry.at));
-    }
-    if entry.is_compressed() {
-        return Err(elf(Cause::Compressed, entry.at));
-    }
-    if is_outside(bytes, entry.offset, entry.size) {
-        return Err(elf(Cause::Table, entry.at));
+    if let Some(cause) = wanted_fault(bytes, &entry, found[number].is_some()) {
+        return Err(elf(cause, entry.at));
     }
     found[number] = Some(Span {
         place: entry.offset as usize,
