@@ -7,7 +7,9 @@ ghost use Rattle.dwarf_bytes.specs.Elf.{is_not_elf, is_other_class, is_other_typ
 
 use crate::fault::Cause;
 use crate::fields::byte_at;
-use crate::headers::{FileHeader, file_header, is_outside};
+use crate::headers::{
+    ET_DYN, ET_EXEC, FileHeader, PN_XNUM, SHN_LORESERVE, file_header, is_outside,
+};
 
 /// The most bytes of an object.
 const MAX_BYTES: usize = 1 << 30;
@@ -59,14 +61,14 @@ fn is_other_class(bytes: &[u8]) -> bool
 fn is_other_type(header: &FileHeader) -> bool
     ensures { result ≡ is_other_type header.now }
 {
-    header.kind != 2 && header.kind != 3
+    header.e_type != ET_EXEC && header.e_type != ET_DYN
 }
 
 fn is_bad_segment_table(bytes: &[u8], header: &FileHeader) -> bool
     ensures { result ≡ is_bad_segment_table bytes.now header.now }
 {
     let size = 56 * u64::from(header.phnum);
-    header.phnum == 0xffff
+    header.phnum == PN_XNUM
         || (header.phnum > 0 && (header.phentsize != 56 || is_outside(bytes, header.phoff, size)))
 }
 
@@ -76,7 +78,7 @@ fn is_bad_section_table(bytes: &[u8], header: &FileHeader) -> bool
     let size = 64 * u64::from(header.shnum);
     (header.shnum != 0 || header.shoff != 0)
         && (header.shnum == 0
-            || header.shnum >= 0xff00
+            || header.shnum >= SHN_LORESERVE
             || header.shentsize != 64
             || header.shstrndx >= header.shnum
             || is_outside(bytes, header.shoff, size))
