@@ -11,7 +11,7 @@ use Rattle.dwarf_bytes.specs.declared.fault.ReadFault.TheVariants.{Short, Leb}
 use Rattle.dwarf_bytes.specs.Bind.{◌>>=◌}
 use Rattle.dwarf_bytes.specs.Numbers.{IsCutLeb, IsEndlessLeb, IsOverLeb, IsOverUleb, IsOverSleb, leb_front, uleb_value, sleb_value, fits_i64, uleb_at, sleb_at}
 use Rattle.dwarf_bytes.proofs.Spelling.{goes_on, front_ok, front_again, fits_of_tests, tests_of_fits}
-use Rattle.dwarf_bytes.proofs.Groups.{GoOn, leb_front-open}
+use Rattle.dwarf_bytes.proofs.LebPrefixes.{GoOn, leb_front-open}
 
 -- the faults of a front, and when each comes
 abbrev pub IsFrontFault : List ℕ → ReadFault → Type 0

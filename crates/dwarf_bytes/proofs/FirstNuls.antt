@@ -13,7 +13,7 @@ use Rattle.dwarf_bytes.specs.Numbers.{text_front, text_at}
 use Rattle.dwarf_bytes.specs.Private.Nuls.{nul_from, block_len, nuls_from, AreNuls}
 
 -- the first place that a test picks, behind an element that it does not pick
-position-skip : {X : Type 0} (p : X → Bool) (x : X) (xs : List X) → p x ≡ false → position p (x ∷ xs) ≡ option_map (λ n. 1 + n) (position p xs)
+pub position-skip : {X : Type 0} (p : X → Bool) (x : X) (xs : List X) → p x ≡ false → position p (x ∷ xs) ≡ option_map (λ n. 1 + n) (position p xs)
 position-skip {X = X} p x xs is = by_len (prefix_len (λ y. not (p y)) xs) refl
   where
     at_len : (n : ℕ) (b : Bool) → nat_lt n (length xs) ≡ b → nat_lt (1 + n) (length (x ∷ xs)) ≡ b
@@ -30,7 +30,7 @@ position-skip {X = X} p x xs is = by_len (prefix_len (λ y. not (p y)) xs) refl
         by_test true fits = rw (is, len, fits, at_len n true fits) refl
         by_test false past = rw (is, len, past, at_len n false past) refl
 
-position-first : {X : Type 0} (p : X → Bool) (x : X) (xs : List X) → p x ≡ true → position p (x ∷ xs) ≡ Some 0
+pub position-first : {X : Type 0} (p : X → Bool) (x : X) (xs : List X) → p x ≡ true → position p (x ∷ xs) ≡ Some 0
 position-first p x xs is =
     let some : nat_lt 0 (length (x ∷ xs)) ≡ true = lt-ltb 0 (length (x ∷ xs)) (omega arith) in rw (is, some) refl
 
@@ -41,7 +41,7 @@ position-is p (x ∷ xs) zero within picks none = position-first p x xs picks
 position-is p (x ∷ xs) (suc i) within picks none =
     position-skip p x xs (none 0 (omega arith)) ∙ (ap (λ (n : Option ℕ). option_map (λ n. 1 + n) n) (position-is p xs i (omega (arith, within)) picks (λ k lt. none (suc k) (omega (arith, lt)))) ∙ ap (λ (n : ℕ). Some n) (omega arith))
 
-position-none : (p : ℕ → Bool) (xs : List ℕ) → ((k : ℕ) → k < length xs → p (get_or xs k 0) ≡ false) → position p xs ≡ None
+pub position-none : (p : ℕ → Bool) (xs : List ℕ) → ((k : ℕ) → k < length xs → p (get_or xs k 0) ≡ false) → position p xs ≡ None
 position-none p [] none = refl
 position-none p (x ∷ xs) none =
     position-skip p x xs (none 0 (omega arith)) ∙ ap (λ (n : Option ℕ). option_map (λ n. 1 + n) n) (position-none p xs (λ k lt. none (suc k) (omega (arith, lt))))

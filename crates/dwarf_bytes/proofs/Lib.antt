@@ -1,6 +1,6 @@
 pub mod Fixed
 pub mod Texts
-pub mod Groups
+pub mod LebPrefixes
 pub mod Spelling
 pub mod Standing
 pub mod TextLaws
@@ -18,3 +18,4 @@ pub mod Moves
 pub mod Turns
 pub mod EachPlaces
 pub mod FirstNuls
+pub mod SectionNames

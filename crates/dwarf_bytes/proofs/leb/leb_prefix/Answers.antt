@@ -1,7 +1,7 @@
 use Rattle.std.proofs.Common.{ℕ, ◌≤◌, arith, length-take}
 use Rattle.std.proofs.lemmas.List.Elements.{All-more}
-use Rattle.dwarf_bytes.proofs.Groups.{grown, whole, low}
-use Rattle.dwarf_bytes.proofs.leb.low_groups.Goals as goal
+use Rattle.dwarf_bytes.proofs.LebPrefixes.{grown, whole, low}
+use Rattle.dwarf_bytes.proofs.leb.leb_prefix.Goals as goal
 
 pub overflow_add-value : goal.overflow_add-value
 overflow_add-value c =
