@@ -1,4 +1,12 @@
-.PHONY: demo test check compare bench
+.PHONY: help demo test check compare hostile bench
+
+help:
+	@echo 'make demo      builds the program and shows it at work (some three minutes at first)'
+	@echo 'make test      the whole gate: every proof, edit that must fail, test and program (some 45 minutes)'
+	@echo 'make check CRATE=dwarf_lines   one crate, over what earlier checks kept'
+	@echo 'make compare   what is read from objects, beside what other readers show'
+	@echo 'make hostile   the time of objects that are shaped to cost more than their bytes'
+	@echo 'make bench     the speed of the readers and of answers, beside plain C and addr2line'
 
 # Shows the program at work on an object that the compiler makes there and then.
 demo:
@@ -10,11 +18,16 @@ test:
 
 # One crate, quickly, over what earlier checks kept: make check CRATE=dwarf_lines
 check:
+	@test -n '$(CRATE)' || { echo 'say which crate: make check CRATE=dwarf_lines'; exit 2; }
 	cd crates/$(CRATE) && rt check
 
 # What is read from objects, beside what other readers show.
 compare:
 	tools/compare_objects.sh
+
+# How long objects take that are shaped to cost more than their bytes.
+hostile:
+	tools/hostile.sh
 
 bench:
 	bench/run.sh

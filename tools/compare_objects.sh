@@ -1,15 +1,18 @@
 #!/usr/bin/env bash
 # Compares what is read from each object of tools/make_objects.sh, rows and scopes, with what other
-# readers show.
+# readers show. Fails where anything differs.
 set -euo pipefail
 cd "$(dirname "$0")/.."
 mkdir -p out
 (cd crates/measure && rt run > ../../out/measure.log 2>&1)
 measure=crates/measure/out/measure
 [ -f out/objects/large ] || tools/make_objects.sh out/objects
-for object in small small.clang library.so program large; do
+objects=(small small.clang small.dwarf64 library.so program program.clang program.dwarf64 program.dead large)
+differ=0
+for object in "${objects[@]}"; do
     [ -f out/objects/$object ] || continue
-    tools/compare_rows.py $measure out/objects/$object
+    tools/compare_rows.py $measure out/objects/$object || differ=1
     $measure scope-table out/objects/$object > out/scopes.table
-    tools/compare_scopes.py out/objects/$object out/scopes.table
+    tools/compare_scopes.py out/objects/$object out/scopes.table || differ=1
 done
+exit $differ

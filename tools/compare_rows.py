@@ -2,13 +2,15 @@
 """Compares the rows that `measure rows OBJECT` prints with those that objdump decodes.
 
 objdump prints a row as FILE LINE ADDRESS, mostly with the base name of the file alone, and an end of a
-sequence with the line `-`; so base names are compared. Rows are compared in order, all of them.
+sequence with the line `-`; so base names are compared. Rows are compared in order, all of them, but for
+those of sequences that start at 2^64-1, the mark of dropped code. Fails where anything differs.
 """
 import re
 import subprocess
 import sys
 from pathlib import Path
 
+DROPPED = 2**64 - 1
 ROW = re.compile(r"^(?P<file>\S.*?)\s+(?P<line>\d+|-)\s+(?P<address>0x[0-9a-f]+|0)(?:\s|$)")
 
 
@@ -26,6 +28,18 @@ def decoded(path):
             yield address, found["file"].rsplit("/", 1)[-1], int(found["line"])
 
 
+def kept(rows):
+    """The rows of the sequences that are not dropped."""
+    sequence = []
+    for row in rows:
+        sequence.append(row)
+        if row[1] == "end":
+            if sequence[0][0] != DROPPED:
+                yield from sequence
+            sequence = []
+    yield from sequence
+
+
 def ours(measure, path):
     done = subprocess.run([measure, "rows", path], capture_output=True, text=True, errors="replace", check=True)
     for text in done.stdout.splitlines():
@@ -39,8 +53,10 @@ def ours(measure, path):
 
 def main():
     measure, *paths = sys.argv[1:]
+    differ = False
     for path in paths:
-        left, right = list(ours(measure, path)), list(decoded(path))
+        left, right = list(ours(measure, path)), list(kept(decoded(path)))
+        differ = differ or left != right
         same = sum(a == b for a, b in zip(left, right))
         print(f"{Path(path).name}: {len(left)} rows, objdump {len(right)}, {same} agree in place")
         shown = 0
@@ -48,6 +64,7 @@ def main():
             if a != b and shown < 5:
                 shown += 1
                 print(f"  row {number}: {a} beside {b}")
+    sys.exit(differ)
 
 
 if __name__ == "__main__":

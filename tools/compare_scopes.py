@@ -4,7 +4,8 @@
 compare_scopes.py OBJECT TABLE, where TABLE holds what was printed. Kinds, names, linkage names, call
 files and call lines are those of readelf; a name that is not at the entry is looked for along its
 references, up to 16 of them. Ranges are those of llvm-dwarfdump, which adds the base in force; empty
-ones are left out.
+ones, and those that start at 2^64-1, the mark of dropped code, are left out. Fails where anything
+differs.
 """
 import re
 import subprocess
@@ -13,6 +14,7 @@ from pathlib import Path
 
 KINDS = {"DW_TAG_subprogram": "subprogram", "DW_TAG_inlined_subroutine": "inlined"}
 HOPS = 16
+DROPPED = 2**64 - 1
 FIELDS = ["kind", "name", "linkage name", "ranges", "call file", "call line"]
 
 ENTRY = re.compile(r"^ <[0-9a-f]+><(?P<offset>[0-9a-f]+)>: Abbrev Number: \d+ \((?P<tag>\w+)")
@@ -22,7 +24,7 @@ ELSEWHERE = re.compile(r"^\([^)]*\): ")
 REFERENCE = re.compile(r"^<(0x[0-9a-f]+)>")
 
 DUMPED_ENTRY = re.compile(r"^(?P<offset>0x[0-9a-f]+): +(?P<tag>DW_TAG_\w+)")
-DUMPED_ADDRESS = re.compile(r"^ +DW_AT_(?P<name>low_pc|high_pc)\t\((?P<address>0x[0-9a-f]+)\)")
+DUMPED_ADDRESS = re.compile(r"^ +DW_AT_(?P<name>low_pc|high_pc)\t\((?P<address>0x[0-9a-f]+|dead code)\)")
 DUMPED_RANGES = re.compile(r"^ +DW_AT_ranges\t")
 DUMPED_RANGE = re.compile(r"^ +\[(?P<start>0x[0-9a-f]+), (?P<end>0x[0-9a-f]+)\)")
 
@@ -87,17 +89,22 @@ def ranges_of(path):
             current.append((int(found["start"], 16), int(found["end"], 16)))
         elif found := DUMPED_ADDRESS.match(text):
             listed = False
-            if found["name"] == "low_pc":
-                low = int(found["address"], 16)
-            else:
+            if found["name"] == "high_pc" and low is not None:
                 current.append((low, int(found["address"], 16)))
+            elif found["address"] != "dead code":
+                low = int(found["address"], 16)
         else:
             listed = bool(DUMPED_RANGES.match(text))
     return scopes
 
 
 def spelled(ranges):
-    return ",".join(f"{start:x}-{end:x}" for start, end in ranges if start != end) or "-"
+    return ",".join(f"{start:x}-{end:x}" for start, end in ranges if start not in (end, DROPPED)) or "-"
+
+
+def number(text):
+    """A number in decimal, which readelf may show in hexadecimal."""
+    return text if text == "-" else str(int(text, 0))
 
 
 def shown(path):
@@ -109,8 +116,8 @@ def shown(path):
             named(scopes, offset, "DW_AT_name"),
             named(scopes, offset, "DW_AT_linkage_name"),
             spelled(ranges.get(offset, [])),
-            attributes.get("DW_AT_call_file", "-"),
-            attributes.get("DW_AT_call_line", "-"),
+            number(attributes.get("DW_AT_call_file", "-")),
+            number(attributes.get("DW_AT_call_line", "-")),
         ]
 
 
@@ -132,6 +139,7 @@ def main():
     for offset in different[:5]:
         print(ascii(f"  scope {offset:x}: {left.get(offset)} beside {right.get(offset)}"))
     print(f"  {len(different)} differ")
+    sys.exit(bool(different))
 
 
 if __name__ == "__main__":

@@ -1,6 +1,8 @@
 #!/usr/bin/env bash
 # Compiles the objects on which the readers are compared and measured, into the folder named: a C
-# program, a C++ program, a shared library, and a large C++ program of many instantiations.
+# program, a C++ program, a shared library, and a large C++ program of many instantiations. Where there
+# is clang, also a C and a C++ program of its own, and these in the 64-bit format of DWARF; where there is
+# lld too, a C++ program whose dropped code is marked by the address 2^64-1.
 set -euo pipefail
 folder=$1
 mkdir -p "$folder"
@@ -51,6 +53,16 @@ g++ "${flags[@]}" -shared -fPIC -o "$folder/library.so" "$folder/library.cpp"
 g++ "${flags[@]}" -o "$folder/program" "$folder/program.cpp"
 if command -v clang > /dev/null; then
     clang "${flags[@]}" -o "$folder/small.clang" "$folder/small.c"
+    clang "${flags[@]}" -gdwarf64 -o "$folder/small.dwarf64" "$folder/small.c"
+fi
+if command -v clang++ > /dev/null; then
+    clang++ "${flags[@]}" -o "$folder/program.clang" "$folder/program.cpp"
+    clang++ "${flags[@]}" -gdwarf64 -o "$folder/program.dwarf64" "$folder/program.cpp"
+    if command -v ld.lld > /dev/null; then
+        clang++ "${flags[@]}" -ffunction-sections -fuse-ld=lld -Wl,--gc-sections \
+            '-Wl,-z,dead-reloc-in-nonalloc=.debug_*=0xffffffffffffffff' \
+            -o "$folder/program.dead" "$folder/program.cpp" "$folder/library.cpp"
+    fi
 fi
 
 # The large program: parts compiled side by side.
@@ -61,10 +73,12 @@ parts=(one two three four)
     for part in "${parts[@]}"; do echo "    + $part::run(argc)"; done
     echo ';}'
 } > "$folder/large.cpp"
+compiling=()
 for part in "${parts[@]}"; do
     instantiate "${2:-60}" "$part"
     g++ "${flags[@]}" -c -o "$folder/$part.o" "$folder/$part.cpp" &
+    compiling+=($!)
 done
-wait
+for compiler in "${compiling[@]}"; do wait "$compiler"; done
 g++ "${flags[@]}" -o "$folder/large" "$folder/large.cpp" "$folder"/*.o
 rm -f "$folder"/*.o
