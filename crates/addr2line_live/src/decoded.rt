@@ -9,7 +9,7 @@ ghost use Rattle.addr2line_live.specs.Decoded.{lines_of, fault_of, low_of, high_
 ghost use Rattle.addr2line_live.specs.Told.{frames_told, path_told};
 
 use crate::places::{Frame, Path};
-use dwarf_bytes::{Layout, LoadFault, Object, Span};
+use dwarf_bytes::{Layout, LoadFault, Object};
 use dwarf_lines::{LineTables, Row};
 use std::alloc::Global;
 use std::marker::Model;
@@ -35,15 +35,6 @@ impl Model for Module {
         × (lines_of m.bytes.items ≡ Ok m.lines) };
 }
 
-/// The bytes of a span.
-pub fn stretch(bytes: &[u8], span: Span) -> &[u8]
-    ensures { result.now ≡ take span.len (drop span.place bytes.now) }
-{
-    let start = span.place.min(bytes.len());
-    let len = span.len.min(bytes.len() - start);
-    &bytes[start..start + len]
-}
-
 /// What is read of an object, or its first fault.
 fn read(alloc: Global, bytes: &[u8]) -> Result<(Layout, LineTables), LoadFault>
     ensures { MatchResult result
@@ -54,9 +45,9 @@ fn read(alloc: Global, bytes: &[u8]) -> Result<(Layout, LineTables), LoadFault>
         Ok(layout) => layout,
         Err(fault) => return Err(fault),
     };
-    let line = stretch(bytes, layout.debug_line);
-    let line_str = stretch(bytes, layout.debug_line_str);
-    let str = stretch(bytes, layout.debug_str);
+    let line = layout.debug_line.of(bytes);
+    let line_str = layout.debug_line_str.of(bytes);
+    let str = layout.debug_str.of(bytes);
     match LineTables::read(alloc, line, line_str, str) {
         Ok(lines) => Ok((layout, lines)),
         Err(fault) => Err(fault),
@@ -137,9 +128,9 @@ impl Module {
     {
         let parts = self.lines.path(row.program, row.file)?;
         let bytes = self.bytes.as_slice();
-        let line = stretch(bytes, self.sections.debug_line);
-        let line_str = stretch(bytes, self.sections.debug_line_str);
-        let str = stretch(bytes, self.sections.debug_str);
+        let line = self.sections.debug_line.of(bytes);
+        let line_str = self.sections.debug_line_str.of(bytes);
+        let str = self.sections.debug_str.of(bytes);
         Some(Path::new(line, line_str, str, parts))
     }
 }

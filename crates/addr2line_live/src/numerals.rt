@@ -1,10 +1,8 @@
-//! Numbers as they are printed.
+//! Addresses as they are printed.
 
-ghost use Rattle.std.specs.Prelude.{◌≡◌, ◌<◌, decimal};
+ghost use Rattle.std.specs.Prelude.{◌≡◌, ◌<◌};
 ghost use Rattle.std.specs.Char.{digit_char};
 ghost use Rattle.addr2line_live.specs.Numerals.{address_text};
-
-use std::marker::Model;
 
 /// The hexadecimal digit of a number below 16.
 fn hex_digit(value: u8) -> u8
@@ -31,45 +29,4 @@ pub fn address_text(address: u64) -> [u8; 18]
         left /= 16;
     }
     text
-}
-
-/// A number as decimal digits.
-#[derive(Drop)]
-pub struct Decimal {
-    digits: [u8; 20],
-    start: usize,
-}
-
-impl Model for Decimal {
-    ghost use Rattle.std.specs.Prelude.{ℕ, ◌≤◌, List, drop};
-
-    ghost Value = { List ℕ };
-
-    ghost view = { λ d. drop d.start d.digits };
-
-    ghost invariant = { λ d. d.start ≤ 20 };
-}
-
-impl Decimal {
-    pub fn new(number: u64) -> Self
-        ensures { result ≡ decimal number }
-    {
-        let mut digits = [0; 20];
-        let mut left = number;
-        let mut start = 20;
-        while left >= 10 {
-            start -= 1;
-            digits[start] = b'0' + (left % 10) as u8;
-            left /= 10;
-        }
-        start -= 1;
-        digits[start] = b'0' + left as u8;
-        Decimal { digits, start }
-    }
-
-    pub fn as_slice(&self) -> &[u8]
-        ensures { result.now ≡ self.now }
-    {
-        &self.digits[self.start..]
-    }
 }

@@ -4,7 +4,6 @@ ghost use Rattle.std.specs.Prelude.{◌≡◌, ◌<◌, ◌↔◌, ℕ, List, []
 ghost use Rattle.std.specs.List.{join_with_byte};
 ghost use Rattle.dwarf_lines.specs.Sections.{section_bytes};
 
-use crate::decoded::stretch;
 use dwarf_bytes::Section;
 use dwarf_lines::PathParts;
 use std::marker::Model;
@@ -69,7 +68,7 @@ impl<'a> Path<'a> {
             Section::DebugLineStr => self.line_str,
             _ => self.line,
         };
-        stretch(bytes, part.span)
+        part.span.of(bytes)
     }
 }
 

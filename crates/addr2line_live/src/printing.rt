@@ -10,10 +10,10 @@ ghost use Rattle.addr2line_live.specs.Told.{answer_told, path_told, frame_told, 
 
 use crate::devices::{DeviceFault, Sink};
 use crate::faults::RunFault;
-use crate::numerals::Decimal;
 use crate::options::Options;
 use crate::pending::Pending;
 use crate::places::{Answer, Frame, Path};
+use itoa::Buffer;
 
 /// Puts a part of a path, and the slash before it.
 fn put_part<W: Sink>(
@@ -76,8 +76,9 @@ fn put_frame<W: Sink>(
     ensures failures { W.failures writer.new ≡ failures_after (W.failures writer.old) result }
 {
     put_path(&frame.path, pending, writer)?;
-    let line = Decimal::new(frame.line);
-    let texts: [&[u8]; 3] = [b":", line.as_slice(), b"\n"];
+    let mut buffer = Buffer::new();
+    let line = buffer.format(frame.line).as_bytes();
+    let texts: [&[u8]; 3] = [b":", line, b"\n"];
     pending.put_all(&texts, writer)
 }
 

@@ -10,12 +10,13 @@ use crate::commands::BadLine;
 use crate::devices::{DeviceFault, Sink};
 use crate::faults::FetchFault;
 use crate::modules::{Extent, MapFault, Modules};
-use crate::numerals::{Decimal, address_text};
+use crate::numerals::address_text;
 use crate::options::Options;
 use crate::pending::write_texts;
 use crate::printing::print;
 use crate::serving::Done;
 use dwarf_bytes::LoadFault;
+use itoa::Buffer;
 
 /// The word for a line that is no command.
 fn line_word(bad: BadLine) -> &'static str
@@ -59,16 +60,9 @@ fn write_object_refusal<W: Sink>(fault: &LoadFault, writer: &mut W) -> Result<()
 {
     let section = fault.section.name().as_bytes();
     let cause = fault.cause.word().as_bytes();
-    let at = Decimal::new(fault.at);
-    let texts: [&[u8]; 7] = [
-        b"refused object ",
-        section,
-        b" ",
-        cause,
-        b" at ",
-        at.as_slice(),
-        b"\n",
-    ];
+    let mut buffer = Buffer::new();
+    let at = buffer.format(fault.at).as_bytes();
+    let texts: [&[u8]; 7] = [b"refused object ", section, b" ", cause, b" at ", at, b"\n"];
     write_texts(&texts, writer)
 }
 

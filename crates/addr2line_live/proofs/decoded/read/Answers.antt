@@ -9,12 +9,12 @@ pub returns-in-Ok-read : goal.returns-in-Ok-read
 returns-in-Ok-read c = (
   c.in-Ok.ensures.0,
   c.in-Ok.ensures.1,
-  lines_read _ _ _ (sections_read _ _ _ _ _ c.in-Ok.ensures.1 c.stretch-line.ensures c.stretch-line_str.ensures c.stretch-str.ensures) c.in-Ok-read.ensures,
+  lines_read _ _ _ (sections_read _ _ _ _ _ c.in-Ok.ensures.1 c.of-line.ensures c.of-line_str.ensures c.of-str.ensures) c.in-Ok-read.ensures,
 )
 
 pub returns-in-Err-read : goal.returns-in-Err-read
 returns-in-Err-read c = elim c.in-Err-read.ensures [
   | inl memory ↦ inl memory
   | inr fault ↦ inr (fault_of_lines _ _ c.in-Ok.ensures.0
-      (lines_read _ _ _ (sections_read _ _ _ _ _ c.in-Ok.ensures.1 c.stretch-line.ensures c.stretch-line_str.ensures c.stretch-str.ensures) fault))
+      (lines_read _ _ _ (sections_read _ _ _ _ _ c.in-Ok.ensures.1 c.of-line.ensures c.of-line_str.ensures c.of-str.ensures) fault))
 ]

@@ -13,6 +13,6 @@ returns-in_err-put_path-clause-bytes g c =
 
 pub returns-clause-bytes : goal.returns-clause-bytes
 returns-clause-bytes g c =
-    let h = rw (c.as_slice.ensures, c.new-line.ensures) at c.put_all.ensures.bytes in
+    let h = rw (c.as_bytes-line.ensures.value, c.format.ensures.text) at c.put_all.ensures.bytes in
     rw (append_assoc (known_text (path_told c.args.frame.now.path)) (58 ∷ decimal c.args.frame.now.line) (10 ∷ []))
     (puts_then _ _ _ _ _ _ _ _ _ c.in_ok-put_path.ensures.bytes h)
