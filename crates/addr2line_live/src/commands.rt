@@ -43,7 +43,7 @@ pub enum Command<'a> {
 fn first_space(text: &[u8]) -> Option<usize>
     ensures { result ≡ position (λ byte. byte == 32) text.now }
 {
-    text.iter().position(|byte| *byte == 32)
+    text.iter().position(|byte| *byte == b' ')
 }
 
 /// What stands before the first space, and what follows it, if there is one.
