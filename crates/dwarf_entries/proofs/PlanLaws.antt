@@ -3,6 +3,7 @@ use Rattle.std.proofs.Common.{◌≡◌, ℕ, ◌+◌, ◌<◌, ◌≤◌, ℤ, 
 use Rattle.std.specs.Prelude.{Option, Some, None, Result, Ok, Err, nat_lt, nat_le, not, ◌==◌, ◌&&◌, filter, take, drop}
 use Rattle.std.specs.Option.{option_map_or}
 use Rattle.std.proofs.lemmas.Bool.{ltb-false, ltb-true, cases_lt, eqb-true}
+use Rattle.dwarf_bytes.specs.declared.constants.TheConstants.{DW_FORM_INDIRECT, DW_FORM_SDATA}
 use Rattle.dwarf_bytes.specs.declared.fault.ReadFault.{ReadFault}
 use Rattle.dwarf_bytes.specs.declared.fault.ReadFault.TheVariants as faults
 use Rattle.dwarf_bytes.specs.declared.fault.Cause.{Cause}
@@ -28,8 +29,8 @@ use Rattle.dwarf_forms.specs.Values.{Value, reading_value as of_value, direct_at
 use Rattle.dwarf_entries.specs.declared.attributes.Attribute.{Attribute}
 use Rattle.dwarf_entries.specs.declared.plans.Step.{Step}
 use Rattle.dwarf_entries.specs.declared.plans.Step.TheVariants.{Skip, Pass, Keep}
-use Rattle.dwarf_entries.specs.Attributes.{is_used, accepts, is_negative, is_negative_count, number_of, forms_of, is_among, sdata}
-use Rattle.dwarf_entries.specs.Entries.{reading_value, indirect, is_direct, form_at, attribute_at, attributes_at}
+use Rattle.dwarf_entries.specs.Attributes.{is_used, accepts, is_negative, is_negative_count, number_of, forms_of, is_among}
+use Rattle.dwarf_entries.specs.Entries.{reading_value, is_direct, form_at, attribute_at, attributes_at}
 use Rattle.dwarf_entries.specs.Plans.{kept_attributes, kept_attributes_at, layout_len, constant_len, fixed_len, pass_of, step_of, step_before, steps_of, step_at, skip_limit, in_front}
 use Rattle.dwarf_entries.proofs.EntryMoves.{attribute-stays}
 
@@ -102,7 +103,7 @@ and_false false = refl
 
 never_count : (name : ℕ) (c : Content) → is_negative c ≡ false → is_negative_count name c ≡ false
 never_count name c h =
-    let counts : Bool = option_map_or (λ allowed. is_among allowed sdata) (forms_of name) false in
+    let counts : Bool = option_map_or (λ allowed. is_among allowed DW_FORM_SDATA) (forms_of name) false in
     subst (λ (b : Bool). (counts && b) ≡ false) (sym h) (and_false counts)
 
 -- a value in a form of a known length
@@ -148,12 +149,12 @@ constant-fixed name form constant c format bytes at is there fine le =
 same_form : (f g : Form) → (let some : Form → Option Form = λ k. Some k in some f ≡ some g) → f ≡ g
 same_form f g h = cc
 
-not_indirect : (form : ℕ) (found : Form) → form_of form ≡ Some found → (found ≡ Indirect → ⊥) → (form == indirect) ≡ false
-not_indirect form found is apart = by_test (form == indirect) refl
+not_indirect : (form : ℕ) (found : Form) → form_of form ≡ Some found → (found ≡ Indirect → ⊥) → (form == DW_FORM_INDIRECT) ≡ false
+not_indirect form found is apart = by_test (form == DW_FORM_INDIRECT) refl
   where
-    by_test : (b : Bool) → (form == indirect) ≡ b → b ≡ false
+    by_test : (b : Bool) → (form == DW_FORM_INDIRECT) ≡ b → b ≡ false
     by_test true same =
-        let number : form ≡ indirect = eqb-true form indirect same in
+        let number : form ≡ DW_FORM_INDIRECT = eqb-true form DW_FORM_INDIRECT same in
         let here : form_of form ≡ Some Indirect = ap form_of number in
         absurd (apart (same_form found Indirect (sym is ∙ here)))
     by_test false same = refl
@@ -169,7 +170,7 @@ judged-fixed n bytes at name make (Ok v) h =
     subst (λ (b : Bool). ReadsFixed (λ _. Unit {0}) causes.Short n bytes at (refuse_if b causes.AttrForm >>= λ _. Ok (make v, v.1))) (sym h.0) (tt, h.1, h.2)
 judged-fixed n bytes at name make (Err e) h = h
 
-attribute-fixed : (format : Format) (s : AttributeSpecification) (n : ℕ) (bytes : List ℕ) (at : ℕ) → (s.form == indirect) ≡ false → accepts s.name s.form ≡ true →
+attribute-fixed : (format : Format) (s : AttributeSpecification) (n : ℕ) (bytes : List ℕ) (at : ℕ) → (s.form == DW_FORM_INDIRECT) ≡ false → accepts s.name s.form ≡ true →
     ReadsFixed (λ v. is_negative_count s.name v.content ≡ false) causes.Short n bytes at (reading_value (value_at s.form s.constant format bytes at)) →
     ReadsFixed (λ _. Unit {0}) causes.Short n bytes at (attribute_at format s bytes at)
 attribute-fixed format s n bytes at plain fine read =
@@ -177,7 +178,7 @@ attribute-fixed format s n bytes at plain fine read =
     let rest : ℕ × ℕ → Result (Attribute × ℕ) Cause = λ form. reading_value (value_at form.0 s.constant format bytes form.1) >>= λ value. refuse_if (is_negative_count s.name value.0.content) causes.AttrForm >>= λ _. Ok (make form.0 value, value.1) in
     let inner : Result (ℕ × ℕ) Cause = reading (uleb_at bytes at) >>= λ inner. refuse_if (not (is_direct (form_of inner.0))) causes.Form >>= λ _. Ok inner in
     subst (λ (r : Result (Attribute × ℕ) Cause). ReadsFixed (λ _. Unit {0}) causes.Short n bytes at r)
-    (sym (direct_chain (s.form == indirect) inner s.form at (λ form. accepts s.name form) rest plain fine))
+    (sym (direct_chain (s.form == DW_FORM_INDIRECT) inner s.form at (λ form. accepts s.name form) rest plain fine))
     (judged-fixed n bytes at s.name (make s.form) (reading_value (value_at s.form s.constant format bytes at)) read)
 
 fixed-attribute : (format : Format) (s : AttributeSpecification) (n : ℕ) (bytes : List ℕ) (at : ℕ) → fixed_len format s ≡ Some n → at ≤ length bytes → ReadsFixed (λ _. Unit {0}) causes.Short n bytes at (attribute_at format s bytes at)

@@ -1,5 +1,6 @@
 -- The addresses of an entry (DWARF 5, 2.17 and 7.25).
 use Rattle.std.specs.Prelude.{ℕ, ◌+◌, ◌^◌, List, [], ◌∷◌, length, Option, Some, None, Result, Ok, Err, nat_lt, nat_le, ◌==◌, ◌||◌, if◌then◌else◌, ok_or, option_to_list, flat_map, slice_get}
+use Rattle.dwarf_bytes.specs.declared.constants.TheConstants.{DW_AT_HIGH_PC, DW_AT_LOW_PC, DW_AT_RANGES, DW_FORM_RNGLISTX}
 use Rattle.dwarf_bytes.specs.declared.fault.Cause.{Cause}
 use Rattle.dwarf_bytes.specs.declared.fault.Cause.TheVariants as causes
 use Rattle.dwarf_bytes.specs.declared.tables.TableKind.TheVariants.{Addr, RngLists}
@@ -13,7 +14,7 @@ use Rattle.dwarf_entries.specs.declared.ranges.RangeListKind.TheVariants.{BaseAd
 use Rattle.dwarf_entries.specs.declared.ranges.RangeListEntry.{RangeListEntry}
 use Rattle.dwarf_entries.specs.declared.ranges.RangeListEntry.TheVariants.{Base, Covers}
 use Rattle.dwarf_entries.specs.Sections.{Sections}
-use Rattle.dwarf_entries.specs.Attributes.{DW_AT_low_pc, DW_AT_high_pc, DW_AT_ranges, is_among, address_forms}
+use Rattle.dwarf_entries.specs.Attributes.{is_among, address_forms}
 use Rattle.dwarf_entries.specs.declared.attributes.AttributeValue.{AttributeValue}
 use Rattle.dwarf_entries.specs.Entries.{Die, attribute}
 use Rattle.dwarf_entries.specs.Bases.{item_at, address_of}
@@ -110,13 +111,9 @@ pub record Covering : Type 0 where
   pub ranges : List Range
   pub items : ℕ
 
--- DW_FORM_rnglistx; the other form of a list is its offset
-abbrev pub rnglistx : ℕ
-rnglistx = 0x23
-
--- where the list of an attribute stands
+-- where the list of an attribute stands: at the item of an index, or at its offset
 abbrev pub list_place : Sections → Bases → AttributeValue → Result ℕ Cause
-list_place sections bases value = if value.form == rnglistx then (do
+list_place sections bases value = if value.form == DW_FORM_RNGLISTX then (do
   offset ← item_at RngLists sections.debug_rnglists bases.rnglists value.number
   table ← ok_or bases.rnglists causes.Base
   Ok (table.base + offset)) else Ok value.number
@@ -158,4 +155,4 @@ covers_by room sections bases (Some low) (Some high) None = pair_at room section
 covers_by room sections bases low None None = Ok (record { ranges = []; items = 0 })
 
 unfoldable pub covers_of : ℕ → Sections → Bases → Die → Result Covering Cause
-covers_of room sections bases die = covers_by room sections bases (attribute die DW_AT_low_pc) (attribute die DW_AT_high_pc) (attribute die DW_AT_ranges)
+covers_of room sections bases die = covers_by room sections bases (attribute die DW_AT_LOW_PC) (attribute die DW_AT_HIGH_PC) (attribute die DW_AT_RANGES)

@@ -10,12 +10,10 @@ use crate::attributes::{AttributeValue, is_address};
 use crate::bases::{Bases, address_of, item_at};
 use crate::scope::Range;
 use crate::sections::Sections;
+use dwarf_bytes::constants::*;
 use dwarf_bytes::{Cause, Cursor, TableKind};
 use smallvec::SmallVec;
 use std::alloc::Global;
-
-/// DW_FORM_rnglistx; the other form of a range list is its offset.
-const RNGLISTX: u64 = 0x23;
 
 /// The kinds of range list entries, but the end of a list.
 #[derive(Clone, Copy, Debug, PartialEq, Eq)]
@@ -35,14 +33,14 @@ impl RangeListKind {
         ensures { result ≡ kind_of number }
     {
         Ok(Some(match number {
-            0 => return Ok(None),
-            1 => RangeListKind::BaseAddressx,
-            2 => RangeListKind::StartxEndx,
-            3 => RangeListKind::StartxLength,
-            4 => RangeListKind::OffsetPair,
-            5 => RangeListKind::BaseAddress,
-            6 => RangeListKind::StartEnd,
-            7 => RangeListKind::StartLength,
+            DW_RLE_END_OF_LIST => return Ok(None),
+            DW_RLE_BASE_ADDRESSX => RangeListKind::BaseAddressx,
+            DW_RLE_STARTX_ENDX => RangeListKind::StartxEndx,
+            DW_RLE_STARTX_LENGTH => RangeListKind::StartxLength,
+            DW_RLE_OFFSET_PAIR => RangeListKind::OffsetPair,
+            DW_RLE_BASE_ADDRESS => RangeListKind::BaseAddress,
+            DW_RLE_START_END => RangeListKind::StartEnd,
+            DW_RLE_START_LENGTH => RangeListKind::StartLength,
             _ => return Err(Cause::RangeKind),
         }))
     }
@@ -110,7 +108,7 @@ fn listed(
 fn list_place(sections: &Sections<'_>, bases: &Bases, value: AttributeValue) -> Result<u128, Cause>
     ensures { result ≡ list_place (sections_of sections.now) bases.now value }
 {
-    if value.form != RNGLISTX {
+    if value.form != DW_FORM_RNGLISTX {
         return Ok(u128::from(value.number));
     }
     let rnglists = bases.rnglists;

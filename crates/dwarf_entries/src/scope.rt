@@ -4,15 +4,8 @@ ghost use Rattle.std.specs.Prelude.{◌≡◌};
 ghost use Rattle.dwarf_entries.specs.Scopes.{own_of, ranges_at, stmt_list_at, call_file_at, call_line_at};
 
 use crate::scopes::Scopes;
-use dwarf_bytes::{Section, Span};
+use dwarf_bytes::Text;
 use smallvec::SmallVec;
-
-/// A text, by where it stands in one of the sections, without its NUL.
-#[derive(Clone, Copy, Debug, PartialEq, Eq)]
-pub struct Text {
-    pub section: Section,
-    pub span: Span,
-}
 
 /// The addresses from one up to another, which is not of them.
 #[derive(Clone, Copy, Debug, Default, PartialEq, Eq)]

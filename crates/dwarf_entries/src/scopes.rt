@@ -7,7 +7,7 @@ ghost use Rattle.dwarf_bytes.specs.Refusals.{Decodes, Builds};
 ghost use Rattle.dwarf_entries.specs.Sections.{sections_of};
 ghost use Rattle.dwarf_entries.specs.Bases.{CompilationUnit};
 ghost use Rattle.dwarf_entries.specs.Scopes.{scope_of, own, own_of, roots_from, tree_of};
-ghost use Rattle.dwarf_entries.specs.Texts.{AreEnds};
+ghost use Rattle.dwarf_entries.specs.Texts.{AreTexts};
 ghost use Rattle.dwarf_entries.specs.Passes.{kept_unit_of, TablesRead, tree_with};
 ghost use Rattle.dwarf_entries.specs.Kept.{kept_of, scope_count};
 
@@ -16,10 +16,10 @@ use crate::passes::{all_bases, all_entries};
 use crate::scope::{Root, Scope};
 use crate::sections::Sections;
 use crate::tables::judge_tables;
-use crate::text_ends::TextEnds;
+use crate::texts::Texts;
 use crate::unit_scopes::Units;
 use crate::units::{UnitHeader, units};
-use dwarf_bytes::{Cause, LoadFault, Section};
+use dwarf_bytes::{Cause, LoadFault};
 use std::alloc::Global;
 use std::marker::Model;
 
@@ -47,14 +47,12 @@ impl Scopes {
     {
         let headers = units(alloc, sections.debug_info)?;
         judge_tables(alloc, sections.debug_abbrev, headers.as_slice())?;
-        let Ok(ends) = TextEnds::of(alloc, sections) else {
-            return Err(LoadFault::told(Section::DebugInfo, Cause::Memory, 0));
-        };
-        match Scopes::read_with(alloc, sections, &ends, headers.as_slice(), Keeping::Scopes) {
+        let texts = Texts::of(alloc, sections)?;
+        match Scopes::read_with(alloc, sections, &texts, headers.as_slice(), Keeping::Scopes) {
             Ok(scopes) => Ok(scopes),
             Err(fault) => match fault.cause {
                 Cause::Reference => {
-                    Scopes::read_with(alloc, sections, &ends, headers.as_slice(), Keeping::Every)
+                    Scopes::read_with(alloc, sections, &texts, headers.as_slice(), Keeping::Every)
                 }
                 _ => Err(fault),
             },
@@ -66,11 +64,11 @@ impl Scopes {
     fn read_with(
         alloc: Global,
         sections: &Sections<'_>,
-        ends: &TextEnds,
+        texts: &Texts<'_>,
         headers: &[UnitHeader],
         keeping: Keeping,
     ) -> Result<Scopes, LoadFault>
-        requires ends { AreEnds (sections_of sections.now) ends.now }
+        requires texts { AreTexts (sections_of sections.now) texts.now }
         requires tables { TablesRead (sections_of sections.now) headers.now }
         ensures { (read : TablesRead (sections_of sections.now) headers.now)
             → Decodes (λ scopes. scopes) result (tree_with keeping (sections_of sections.now) headers.now read.tables) }
@@ -79,7 +77,7 @@ impl Scopes {
         let bases = all_bases(alloc, sections, kept.as_slice())?;
         let units = Units {
             sections,
-            ends,
+            texts,
             units: kept.as_slice(),
             bases: bases.as_slice(),
         };
@@ -126,9 +124,7 @@ fn roots(alloc: Global, units: &[UnitEntries]) -> Result<Vec<Root>, LoadFault>
                 first,
                 past,
             };
-            if roots.push(root).is_err() {
-                return Err(LoadFault::told(Section::DebugInfo, Cause::Memory, 0));
-            }
+            roots.push(root)?;
         }
         first = past;
     }

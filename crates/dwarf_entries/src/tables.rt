@@ -11,7 +11,7 @@ ghost use Rattle.dwarf_entries.specs.Steps.{IsJudged, IsLast};
 
 use crate::plans::{Plan, plans};
 use crate::units::UnitHeader;
-use dwarf_bytes::{Cause, Format, LoadFault, Section};
+use dwarf_bytes::{Format, LoadFault};
 use dwarf_forms::{Abbrevs, Decl};
 use std::alloc::Global;
 use std::marker::Model;
@@ -60,9 +60,7 @@ impl UnitTable {
         ensures place { IfOk result (λ table. (table.offset ≡ offset) × (table.format ≡ format)) }
     {
         let declarations = Abbrevs::read(alloc, section, offset, left)?;
-        let Ok(plans) = plans(alloc, format, &declarations) else {
-            return Err(LoadFault::told(Section::DebugAbbrev, Cause::Memory, 0));
-        };
+        let plans = plans(alloc, format, &declarations)?;
         Ok(UnitTable {
             offset,
             format,

@@ -22,23 +22,7 @@ pub fn sections<'a>(debug_info: &'a [u8], debug_abbrev: &'a [u8]) -> Sections<'a
 
 /// The sections of a sample object.
 pub fn sections_of(object: &[u8]) -> Result<Sections<'_>, LoadFault> {
-    let found = Object::find(object)?;
-    Ok(Sections {
-        debug_info: bytes(object, found.debug_info),
-        debug_abbrev: bytes(object, found.debug_abbrev),
-        debug_line: bytes(object, found.debug_line),
-        debug_line_str: bytes(object, found.debug_line_str),
-        debug_str: bytes(object, found.debug_str),
-        debug_str_offsets: bytes(object, found.debug_str_offsets),
-        debug_addr: bytes(object, found.debug_addr),
-        debug_rnglists: bytes(object, found.debug_rnglists),
-    })
-}
-
-/// A stretch of bytes, which is empty where it does not lie in them.
-fn bytes(all: &[u8], span: Span) -> &[u8] {
-    let rest = all.get(span.place..).unwrap_or(&[]);
-    rest.get(..span.len).unwrap_or(&[])
+    Ok(Sections::of(object, &Object::find(object)?))
 }
 
 /// Puts a unit of a type behind others: the offset of its abbreviations, and its entries.
@@ -144,11 +128,7 @@ pub fn are_scopes(rt: &impl Abort, read: &Scopes, stmt_list: Option<u64>, rows: 
         assert_eq!(rt; scope.kind(), row.kind, "scope {number}");
         assert_eq!(rt; scope.offset(), row.offset, "scope {number}");
         assert_eq!(rt; scope.end(), row.end, "scope {number}");
-        assert_eq!(rt;
-            scope.ranges(read),
-            row.range.as_slice(),
-            "scope {number}"
-        );
+        assert_eq!(rt; scope.ranges(read), row.range.as_slice(), "scope {number}");
         assert_eq!(rt; scope.name(), row.name, "scope {number}");
         assert_eq!(rt; scope.linkage_name(), None, "scope {number}");
         assert_eq!(rt; scope.stmt_list(read), stmt_list, "scope {number}");

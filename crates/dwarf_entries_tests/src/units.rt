@@ -277,7 +277,10 @@ fn forms_of_counts(rt: HostRuntime) -> Result<(), Fail> {
         let info = one_scope(rt.alloc(), (&[], &[]), attributes)?;
         let read = Scopes::read(rt.alloc(), &sections(&info, &table))?;
         let scope = read.scopes().first().ok_or("no scope")?;
-        assert_eq!(rt; (scope.call_file(&read), scope.call_line(&read)), (Some(7), None));
+        assert_eq!(rt;
+            (scope.call_file(&read), scope.call_line(&read)),
+            (Some(7), None)
+        );
     }
     Ok(())
 }

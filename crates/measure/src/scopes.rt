@@ -8,22 +8,7 @@ use std::io::{self, BufWriter, Write};
 
 /// The scopes of an object.
 pub fn read(alloc: Global, bytes: &[u8]) -> Result<Scopes, LoadFault> {
-    Scopes::read(alloc, &sections(bytes)?)
-}
-
-/// The sections of an object.
-fn sections(bytes: &[u8]) -> Result<Sections<'_>, LoadFault> {
-    let layout = Object::find(bytes)?;
-    Ok(Sections {
-        debug_info: layout.debug_info.of(bytes),
-        debug_abbrev: layout.debug_abbrev.of(bytes),
-        debug_line: layout.debug_line.of(bytes),
-        debug_line_str: layout.debug_line_str.of(bytes),
-        debug_str: layout.debug_str.of(bytes),
-        debug_str_offsets: layout.debug_str_offsets.of(bytes),
-        debug_addr: layout.debug_addr.of(bytes),
-        debug_rnglists: layout.debug_rnglists.of(bytes),
-    })
+    Scopes::read(alloc, &Sections::of(bytes, &Object::find(bytes)?))
 }
 
 /// How many ranges scopes have.
@@ -38,7 +23,7 @@ pub fn count_ranges(scopes: &Scopes) -> u64 {
 /// Prints each scope as `OFFSET KIND NAME LINKAGE_NAME RANGES CALL_FILE CALL_LINE`, with tabs between
 /// them, ranges as `FROM-TO,..`, and `-` for what is absent.
 pub fn print_scopes(rt: &HostRuntime, bytes: &[u8]) -> Result<()> {
-    let sections = sections(bytes)?;
+    let sections = Sections::of(bytes, &Object::find(bytes)?);
     let scopes = Scopes::read(rt.alloc(), &sections)?;
     let mut out = BufWriter::new(rt.alloc(), io::writer(rt))?;
     for scope in scopes.scopes() {
