@@ -120,10 +120,10 @@ direct-fixed name form layout format n bytes at is len le =
     (mapped-fixed {Y = Value} (λ c. is_negative c ≡ false) (λ v. is_negative_count name v.content ≡ false) (values.Read faults.Short) n bytes at (of_value (content_at layout format bytes at)) (λ c. record { form = form; content = c })
     (of_value-fixed (λ c. is_negative c ≡ false) n bytes at (content_at layout format bytes at) (content-fixed layout format n bytes at len le)) (λ c h. never_count name c h))
 
-value-fixed : (name form : ℕ) (layout : ValueLayout) (constant : Option ℤ) (format : Format) (n : ℕ) (bytes : List ℕ) (at : ℕ) → form_of form ≡ Some (Direct layout) → layout_len format layout ≡ Some n → at ≤ length bytes →
-    ReadsFixed (λ v. is_negative_count name v.content ≡ false) causes.Short n bytes at (reading_value (value_at form constant format bytes at))
+value-fixed : (name form : ℕ) (layout : ValueLayout) (format : Format) (constant : Option ℤ) (n : ℕ) (bytes : List ℕ) (at : ℕ) → form_of form ≡ Some (Direct layout) → layout_len format layout ≡ Some n → at ≤ length bytes →
+    ReadsFixed (λ v. is_negative_count name v.content ≡ false) causes.Short n bytes at (reading_value (value_at form format constant bytes at))
 unfolding value_at
-value-fixed name form layout constant format n bytes at is len le =
+value-fixed name form layout format constant n bytes at is len le =
     subst (λ (found : Option Form). ReadsFixed (λ (v : Value). is_negative_count name v.content ≡ false) causes.Short n bytes at (reading_value (elim found as (λ _. Result (Value × ℕ) ValueFault) [
       | None ↦ Err values.Form
       | Some (Direct layout) ↦ direct_at form format bytes at
@@ -133,7 +133,7 @@ value-fixed name form layout constant format n bytes at is len le =
     (reading_value-fixed (λ v. is_negative_count name v.content ≡ false) n bytes at (direct_at form format bytes at) (direct-fixed name form layout format n bytes at is len le))
 
 constant-fixed : (name form : ℕ) (constant : Option ℤ) (c : ℤ) (format : Format) (bytes : List ℕ) (at : ℕ) → form_of form ≡ Some ImplicitConst → constant ≡ Some c → is_negative_count name (Signed c) ≡ false → at ≤ length bytes →
-    ReadsFixed (λ v. is_negative_count name v.content ≡ false) causes.Short 0 bytes at (reading_value (value_at form constant format bytes at))
+    ReadsFixed (λ v. is_negative_count name v.content ≡ false) causes.Short 0 bytes at (reading_value (value_at form format constant bytes at))
 unfolding value_at
 constant-fixed name form constant c format bytes at is there fine le =
     let P : Result (Value × ℕ) ValueFault → Type 0 = λ r. ReadsFixed (λ (v : Value). is_negative_count name v.content ≡ false) causes.Short 0 bytes at (reading_value r) in
@@ -171,15 +171,15 @@ judged-fixed n bytes at name make (Ok v) h =
 judged-fixed n bytes at name make (Err e) h = h
 
 attribute-fixed : (format : Format) (s : AttributeSpecification) (n : ℕ) (bytes : List ℕ) (at : ℕ) → (s.form == DW_FORM_INDIRECT) ≡ false → accepts s.name s.form ≡ true →
-    ReadsFixed (λ v. is_negative_count s.name v.content ≡ false) causes.Short n bytes at (reading_value (value_at s.form s.constant format bytes at)) →
+    ReadsFixed (λ v. is_negative_count s.name v.content ≡ false) causes.Short n bytes at (reading_value (value_at s.form format s.constant bytes at)) →
     ReadsFixed (λ _. Unit {0}) causes.Short n bytes at (attribute_at format s bytes at)
 attribute-fixed format s n bytes at plain fine read =
     let make : ℕ → Value × ℕ → Attribute = λ form value. record { name = s.name; value = record { form = form; number = number_of value.0.content value.1 } } in
-    let rest : ℕ × ℕ → Result (Attribute × ℕ) Cause = λ form. reading_value (value_at form.0 s.constant format bytes form.1) >>= λ value. refuse_if (is_negative_count s.name value.0.content) causes.AttrForm >>= λ _. Ok (make form.0 value, value.1) in
+    let rest : ℕ × ℕ → Result (Attribute × ℕ) Cause = λ form. reading_value (value_at form.0 format s.constant bytes form.1) >>= λ value. refuse_if (is_negative_count s.name value.0.content) causes.AttrForm >>= λ _. Ok (make form.0 value, value.1) in
     let inner : Result (ℕ × ℕ) Cause = reading (uleb_at bytes at) >>= λ inner. refuse_if (not (is_direct (form_of inner.0))) causes.Form >>= λ _. Ok inner in
     subst (λ (r : Result (Attribute × ℕ) Cause). ReadsFixed (λ _. Unit {0}) causes.Short n bytes at r)
     (sym (direct_chain (s.form == DW_FORM_INDIRECT) inner s.form at (λ form. accepts s.name form) rest plain fine))
-    (judged-fixed n bytes at s.name (make s.form) (reading_value (value_at s.form s.constant format bytes at)) read)
+    (judged-fixed n bytes at s.name (make s.form) (reading_value (value_at s.form format s.constant bytes at)) read)
 
 fixed-attribute : (format : Format) (s : AttributeSpecification) (n : ℕ) (bytes : List ℕ) (at : ℕ) → fixed_len format s ≡ Some n → at ≤ length bytes → ReadsFixed (λ _. Unit {0}) causes.Short n bytes at (attribute_at format s bytes at)
 unfolding fixed_len
@@ -202,7 +202,7 @@ fixed-attribute format s n bytes at h le = by_form (accepts s.name s.form) refl 
     by_form false fine found is h = cc
     by_form true fine None is h = cc
     by_form true fine (Some (Direct layout)) is h =
-        attribute-fixed format s n bytes at (not_indirect s.form (Direct layout) is (λ e. cc)) fine (value-fixed s.name s.form layout s.constant format n bytes at is h le)
+        attribute-fixed format s n bytes at (not_indirect s.form (Direct layout) is (λ e. cc)) fine (value-fixed s.name s.form layout format s.constant n bytes at is h le)
     by_form true fine (Some ImplicitConst) is h = by_constant fine is s.constant refl _ refl (constant_again s.constant h)
       where
         constant_again : (constant : Option ℤ) → (elim constant as (λ _. Option ℕ) [ None ↦ None | Some c ↦ cond (is_negative_count s.name (Signed c)) None (Some 0) ]) ≡ Some n →
@@ -306,7 +306,7 @@ attribute-name format s bytes at x h =
     let P : Type 0 = x.0.name ≡ s.name in
     after_bind (form_at s.form bytes at) _ x h P (λ form form_is h1.
     after_test (not (accepts s.name form.0)) causes.AttrForm _ x h1 P (λ _ h2.
-    after_bind (reading_value (value_at form.0 s.constant format bytes form.1)) _ x h2 P (λ value value_is h3.
+    after_bind (reading_value (value_at form.0 format s.constant bytes form.1)) _ x h2 P (λ value value_is h3.
     after_test (is_negative_count s.name value.0.content) causes.AttrForm _ x h3 P (λ _ last.
     sym (ap (λ (r : Attribute × ℕ). r.0.name) (same_ok (record { name = s.name; value = record { form = form.0; number = number_of value.0.content value.1 } }, value.1) x last))))))
 

@@ -90,7 +90,7 @@ abbrev pub attribute_at : Format → AttributeSpecification → List ℕ → ℕ
 attribute_at format s bytes at = do
   form ← form_at s.form bytes at
   _ ← refuse_if (not (accepts s.name form.0)) causes.AttrForm
-  value ← reading_value (value_at form.0 s.constant format bytes form.1)
+  value ← reading_value (value_at form.0 format s.constant bytes form.1)
   _ ← refuse_if (is_negative_count s.name value.0.content) causes.AttrForm
   Ok (record { name = s.name; value = record { form = form.0; number = number_of value.0.content value.1 } }, value.1)
 

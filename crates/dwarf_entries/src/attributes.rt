@@ -183,7 +183,7 @@ pub(crate) fn read_attribute(
     if !accepts(specification.name, form) {
         return Err(Cause::AttrForm);
     }
-    let value = read_value(form, specification.constant, format, cursor)?;
+    let value = read_value(form, format, specification.constant, cursor)?;
     if is_negative_count(specification.name, value.content) {
         return Err(Cause::AttrForm);
     }
@@ -197,13 +197,13 @@ pub(crate) fn read_attribute(
 /// The value at the cursor in a form.
 fn read_value<'a>(
     form: u64,
-    constant: Option<i64>,
     format: Format,
+    constant: Option<i64>,
     cursor: &mut Cursor<'a>,
 ) -> Result<Value<'a>, Cause>
-    ensures { ReadsField value_of result (λ bytes at. reading_value (value_at form constant format bytes at)) cursor.old cursor.new }
+    ensures { ReadsField value_of result (λ bytes at. reading_value (value_at form format constant bytes at)) cursor.old cursor.new }
 {
-    match value(form, constant, format, cursor) {
+    match value(form, format, constant, cursor) {
         Ok(value) => Ok(value),
         Err(ValueFault::Form) => Err(Cause::Form),
         Err(ValueFault::Read(fault)) => Err(Cause::from(fault)),
