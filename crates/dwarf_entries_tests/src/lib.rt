@@ -4,6 +4,8 @@
 #[cfg(test)]
 mod codes;
 #[cfg(test)]
+mod dropped;
+#[cfg(test)]
 mod fixtures;
 #[cfg(test)]
 mod limits;

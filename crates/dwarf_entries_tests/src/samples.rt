@@ -103,6 +103,21 @@ fn a_scope_without_code(rt: HostRuntime) -> Result<(), Fail> {
     has(&rt, &leaf_without_code(), &rows)
 }
 
+/// The start 2^64-1 of `main`, and of `mid` inlined into it, is that of dropped code.
+#[test]
+fn scopes_of_dropped_code(rt: HostRuntime) -> Result<(), Fail> {
+    for (start, dropped) in [(205, 2), (222, 3)] {
+        let mut object = INLINED;
+        for byte in &mut object[start..start + 8] {
+            *byte = 0xff;
+        }
+        let mut rows = rows();
+        rows[dropped].range = None;
+        has(&rt, &object, &rows)?;
+    }
+    Ok(())
+}
+
 #[test]
 fn a_call_file_is_not_judged(rt: HostRuntime) -> Result<(), Fail> {
     let mut rows = rows();
