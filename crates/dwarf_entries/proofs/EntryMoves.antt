@@ -4,6 +4,7 @@ use Rattle.std.proofs.Common.{◌≡◌, ℕ, ◌+◌, ◌<◌, ◌≤◌, ℤ, 
 use Rattle.std.specs.Prelude.{Option, Some, None, Result, Ok, Err, position, option_map, ok_or, nat_lt, nat_le, not, ◌==◌, ◌&&◌}
 use Rattle.std.specs.List.{list_any}
 use Rattle.std.proofs.lemmas.List.Quantifiers.{position-Some}
+use Rattle.dwarf_bytes.specs.declared.constants.TheConstants.{DW_FORM_INDIRECT}
 use Rattle.dwarf_bytes.specs.declared.fault.ReadFault.{ReadFault}
 use Rattle.dwarf_bytes.specs.declared.fault.ReadFault.TheVariants.{Unterminated}
 use Rattle.dwarf_bytes.specs.declared.fault.Cause.TheVariants as causes
@@ -27,7 +28,7 @@ use Rattle.dwarf_forms.specs.Declarations.{Declaration}
 use Rattle.dwarf_forms.specs.Values.{Value, reading_value as of_value, direct_at, value_at}
 use Rattle.dwarf_entries.specs.declared.attributes.Attribute.{Attribute}
 use Rattle.dwarf_entries.specs.Attributes.{accepts, is_negative_count, number_of}
-use Rattle.dwarf_entries.specs.Entries.{Node, Entry, Null, depth_after, depth_limit, is_root, reading_value, is_direct, indirect, form_at, attribute_at, attributes_at, declaration_of, node_behind, node_at}
+use Rattle.dwarf_entries.specs.Entries.{Node, Entry, Null, depth_after, depth_limit, is_root, reading_value, is_direct, form_at, attribute_at, attributes_at, declaration_of, node_behind, node_at}
 
 -- what a read of bytes or of none leaves: this place or one behind it, and not past the end
 abbrev pub StaysWithin : List ℕ → ℕ → ℕ → Type 0
@@ -116,9 +117,9 @@ direct-stays form format bytes at x le h = by_form (form_of form) h
     by_form (Some ImplicitConst) h = cc
     by_form (Some Indirect) h = cc
 
-value-stays : (form : ℕ) (constant : Option ℤ) (format : Format) (bytes : List ℕ) (at : ℕ) (x : Value × ℕ) → at ≤ length bytes → value_at form constant format bytes at ≡ Ok x → StaysWithin bytes at x.1
+value-stays : (form : ℕ) (format : Format) (constant : Option ℤ) (bytes : List ℕ) (at : ℕ) (x : Value × ℕ) → at ≤ length bytes → value_at form format constant bytes at ≡ Ok x → StaysWithin bytes at x.1
 unfolding value_at
-value-stays form constant format bytes at x le h = by_form (form_of form) constant h
+value-stays form format constant bytes at x le h = by_form (form_of form) constant h
   where
     by_form : (found : Option Form) (constant : Option ℤ) → (elim found as (λ _. Result (Value × ℕ) ValueFault) [
       | None ↦ Err values.Form
@@ -145,7 +146,7 @@ reading_value-ok (Err (values.Read fault)) x h = cc
 form-stays : (form : ℕ) (bytes : List ℕ) (at : ℕ) (x : ℕ × ℕ) → at ≤ length bytes → form_at form bytes at ≡ Ok x → StaysWithin bytes at x.1
 form-stays form bytes at x le h =
     let P : Type 0 = StaysWithin bytes at x.1 in
-    chosen (form == indirect) _ _ (Ok x) h P
+    chosen (form == DW_FORM_INDIRECT) _ _ (Ok x) h P
     (λ _ h1.
     after_bind (reading (uleb_at bytes at)) _ x h1 P (λ inner inner_is h2.
     after_test (not (is_direct (form_of inner.0))) causes.Form _ x h2 P (λ _ last.
@@ -159,10 +160,10 @@ attribute-stays format s bytes at x le h =
     let P : Type 0 = StaysWithin bytes at x.1 in
     after_bind (form_at s.form bytes at) _ x h P (λ form form_is h1.
     after_test (not (accepts s.name form.0)) causes.AttrForm _ x h1 P (λ _ h2.
-    after_bind (reading_value (value_at form.0 s.constant format bytes form.1)) _ x h2 P (λ value value_is h3.
+    after_bind (reading_value (value_at form.0 format s.constant bytes form.1)) _ x h2 P (λ value value_is h3.
     after_test (is_negative_count s.name value.0.content) causes.AttrForm _ x h3 P (λ _ last.
     let first = form-stays s.form bytes at form le form_is in
-    let second = value-stays form.0 s.constant format bytes form.1 value first.1 (reading_value-ok (value_at form.0 s.constant format bytes form.1) value value_is) in
+    let second = value-stays form.0 format s.constant bytes form.1 value first.1 (reading_value-ok (value_at form.0 format s.constant bytes form.1) value value_is) in
     let place : value.1 ≡ x.1 = ap (λ (r : Attribute × ℕ). r.1) (same_ok (record { name = s.name; value = record { form = form.0; number = number_of value.0.content value.1 } }, value.1) x last) in
     (omega (arith, first.0, second.0, place), omega (arith, second.1, place))))))
 

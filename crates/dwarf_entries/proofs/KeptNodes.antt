@@ -2,6 +2,7 @@
 use Rattle.std.proofs.Common.{◌≡◌, ℕ, ◌⊎◌, inl, inr, List, [], ◌∷◌, Bool, true, false, cond, refl, ap, sym, ◌∙◌, subst}
 use Rattle.std.specs.Prelude.{Option, Some, None, is_some, option_map, IfSome, Result, Ok, Err, find, filter, not, nat_lt, ◌==◌, ◌&&◌, ◌||◌}
 use Rattle.std.proofs.lemmas.Bool.{false≢true, eqb-true}
+use Rattle.dwarf_bytes.specs.declared.constants.TheConstants.{DW_AT_ABSTRACT_ORIGIN, DW_AT_ADDR_BASE, DW_AT_CALL_FILE, DW_AT_CALL_LINE, DW_AT_HIGH_PC, DW_AT_LINKAGE_NAME, DW_AT_LOW_PC, DW_AT_NAME, DW_AT_RANGES, DW_AT_RNGLISTS_BASE, DW_AT_SPECIFICATION, DW_AT_STMT_LIST, DW_AT_STR_OFFSETS_BASE}
 use Rattle.dwarf_bytes.specs.declared.fault.Cause.{Cause}
 use Rattle.dwarf_bytes.specs.declared.format.Format.{Format}
 use Rattle.dwarf_bytes.specs.Bind.{◌>>=◌}
@@ -17,7 +18,7 @@ use Rattle.dwarf_entries.specs.declared.kept.Keeping.TheVariants as keepings
 use Rattle.dwarf_entries.specs.declared.kept.RootEntry.{RootEntry}
 use Rattle.dwarf_entries.specs.declared.kept.ScopeEntry.{ScopeEntry}
 use Rattle.dwarf_entries.specs.declared.scope.ScopeKind.{ScopeKind}
-use Rattle.dwarf_entries.specs.Attributes.{is_used, DW_AT_name, DW_AT_stmt_list, DW_AT_low_pc, DW_AT_high_pc, DW_AT_abstract_origin, DW_AT_specification, DW_AT_ranges, DW_AT_call_file, DW_AT_call_line, DW_AT_linkage_name, DW_AT_str_offsets_base, DW_AT_addr_base, DW_AT_rnglists_base}
+use Rattle.dwarf_entries.specs.Attributes.{is_used}
 use Rattle.dwarf_entries.specs.Entries.{Entry, Die, value_of, attributes_at, declaration_of, depth_limit, node_behind}
 use Rattle.dwarf_entries.specs.Kept.{keeps, named_entry, scope_entry, root_entry}
 use Rattle.dwarf_entries.specs.Names.{or_else}
@@ -95,15 +96,15 @@ die_of_kept die = record die { attributes = kept_attributes true die.attributes 
 
 root-kept : (die : Die) → root_entry (die_of_kept die) ≡ root_entry die
 root-kept die =
-    rw (value-kept die.attributes DW_AT_stmt_list refl, value-kept die.attributes DW_AT_str_offsets_base refl, value-kept die.attributes DW_AT_addr_base refl, value-kept die.attributes DW_AT_rnglists_base refl, value-kept die.attributes DW_AT_low_pc refl) refl
+    rw (value-kept die.attributes DW_AT_STMT_LIST refl, value-kept die.attributes DW_AT_STR_OFFSETS_BASE refl, value-kept die.attributes DW_AT_ADDR_BASE refl, value-kept die.attributes DW_AT_RNGLISTS_BASE refl, value-kept die.attributes DW_AT_LOW_PC refl) refl
 
 named-kept : (die : Die) → named_entry (die_of_kept die) ≡ named_entry die
 named-kept die =
-    rw (value-kept die.attributes DW_AT_abstract_origin refl, value-kept die.attributes DW_AT_specification refl, value-kept die.attributes DW_AT_name refl, value-kept die.attributes DW_AT_linkage_name refl) refl
+    rw (value-kept die.attributes DW_AT_ABSTRACT_ORIGIN refl, value-kept die.attributes DW_AT_SPECIFICATION refl, value-kept die.attributes DW_AT_NAME refl, value-kept die.attributes DW_AT_LINKAGE_NAME refl) refl
 
 scope-kept : (die : Die) (kind : ScopeKind) → scope_entry (die_of_kept die) kind ≡ scope_entry die kind
 scope-kept die kind =
-    rw (named-kept die, value-kept die.attributes DW_AT_low_pc refl, value-kept die.attributes DW_AT_high_pc refl, value-kept die.attributes DW_AT_ranges refl, value-kept die.attributes DW_AT_call_file refl, value-kept die.attributes DW_AT_call_line refl) refl
+    rw (named-kept die, value-kept die.attributes DW_AT_LOW_PC refl, value-kept die.attributes DW_AT_HIGH_PC refl, value-kept die.attributes DW_AT_RANGES refl, value-kept die.attributes DW_AT_CALL_FILE refl, value-kept die.attributes DW_AT_CALL_LINE refl) refl
 
 scopes-kept : (die : Die) (kind : Option ScopeKind) → option_map (scope_entry (die_of_kept die)) kind ≡ option_map (scope_entry die) kind
 scopes-kept die None = refl

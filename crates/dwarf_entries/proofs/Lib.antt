@@ -25,5 +25,6 @@ pub mod PlanTurns
 pub mod InsideLaws
 pub mod ScopesOnly
 pub mod ReadLaws
-pub mod TextLaws
 pub mod ScopeOrder
+pub mod TellLaws
+pub mod CodeLaws

@@ -3,20 +3,20 @@ use Rattle.std.proofs.Common.{◌≡◌, ℕ, zero, suc, ◌+◌, List, [], ◌�
 use Rattle.std.specs.Prelude.{Option, Some, None, Result, Ok, Err, map, slice_get, option_map, ok_or}
 use Rattle.std.specs.Option.{option_or, option_and_then}
 use Rattle.std.proofs.lemmas.Option.{slice_get-map}
+use Rattle.dwarf_bytes.specs.declared.constants.TheConstants.{DW_AT_LINKAGE_NAME, DW_AT_NAME}
 use Rattle.dwarf_bytes.specs.declared.fault.Cause.{Cause}
 use Rattle.dwarf_bytes.specs.declared.fault.Cause.TheVariants as causes
 use Rattle.dwarf_bytes.specs.Bind.{◌>>=◌}
 use Rattle.dwarf_entries.specs.declared.attributes.AttributeValue.{AttributeValue}
 use Rattle.dwarf_entries.specs.declared.bases.Bases.{Bases}
 use Rattle.dwarf_entries.specs.declared.bases.Table.{Table}
-use Rattle.dwarf_entries.specs.declared.scope.Text.{Text}
+use Rattle.dwarf_bytes.specs.declared.text.Text.{Text}
 use Rattle.dwarf_entries.specs.declared.kept.NamedEntry.{NamedEntry}
 use Rattle.dwarf_entries.specs.declared.paths.UnitAttribute.{UnitAttribute}
 use Rattle.dwarf_entries.specs.declared.paths.UnitEntry.{UnitEntry}
 use Rattle.dwarf_entries.specs.declared.paths.FirstNames.{FirstNames}
 use Rattle.dwarf_entries.specs.declared.paths.EntryNames.{EntryNames}
 use Rattle.dwarf_entries.specs.Sections.{Sections}
-use Rattle.dwarf_entries.specs.Attributes.{DW_AT_name, DW_AT_linkage_name}
 use Rattle.dwarf_entries.specs.Entries.{attribute}
 use Rattle.dwarf_entries.specs.Bases.{CompilationUnit, optional}
 use Rattle.dwarf_entries.specs.Names.{Member, or_else, next_of, target_of, path_within, path_of, of_member, first_on, text_of, name_on, names_of, hops_limit}
@@ -172,8 +172,8 @@ pub names-found : (s : Sections) (bases : List Bases) (units : List CompilationU
     (name linkage_name : Result (Option Text) Cause) → name ≡ text_kept s bases firsts.name → linkage_name ≡ text_kept s bases firsts.linkage_name → both_names name linkage_name ≡ names_of s units m
 names-found s bases units m firsts are found name linkage_name name_is linkage_is =
     let path = found.0 in
-    let first : name ≡ name_on DW_AT_name s path = name_is ∙ text-is s bases units are firsts.name (first_on DW_AT_name path) found.2.name in
-    let second : linkage_name ≡ name_on DW_AT_linkage_name s path = linkage_is ∙ text-is s bases units are firsts.linkage_name (first_on DW_AT_linkage_name path) found.2.linkage_name in
+    let first : name ≡ name_on DW_AT_NAME s path = name_is ∙ text-is s bases units are firsts.name (first_on DW_AT_NAME path) found.2.name in
+    let second : linkage_name ≡ name_on DW_AT_LINKAGE_NAME s path = linkage_is ∙ text-is s bases units are firsts.linkage_name (first_on DW_AT_LINKAGE_NAME path) found.2.linkage_name in
     ap (λ (r : Result (Option Text) Cause). both_names r linkage_name) first
-    ∙ (ap (λ (r : Result (Option Text) Cause). both_names (name_on DW_AT_name s path) r) second
-    ∙ ap (λ (p : Result (List Member) Cause). p >>= λ path. both_names (name_on DW_AT_name s path) (name_on DW_AT_linkage_name s path)) (sym found.1))
+    ∙ (ap (λ (r : Result (Option Text) Cause). both_names (name_on DW_AT_NAME s path) r) second
+    ∙ ap (λ (p : Result (List Member) Cause). p >>= λ path. both_names (name_on DW_AT_NAME s path) (name_on DW_AT_LINKAGE_NAME s path)) (sym found.1))

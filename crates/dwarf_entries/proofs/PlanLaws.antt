@@ -3,6 +3,7 @@ use Rattle.std.proofs.Common.{◌≡◌, ℕ, ◌+◌, ◌<◌, ◌≤◌, ℤ, 
 use Rattle.std.specs.Prelude.{Option, Some, None, Result, Ok, Err, nat_lt, nat_le, not, ◌==◌, ◌&&◌, filter, take, drop}
 use Rattle.std.specs.Option.{option_map_or}
 use Rattle.std.proofs.lemmas.Bool.{ltb-false, ltb-true, cases_lt, eqb-true}
+use Rattle.dwarf_bytes.specs.declared.constants.TheConstants.{DW_FORM_INDIRECT, DW_FORM_SDATA}
 use Rattle.dwarf_bytes.specs.declared.fault.ReadFault.{ReadFault}
 use Rattle.dwarf_bytes.specs.declared.fault.ReadFault.TheVariants as faults
 use Rattle.dwarf_bytes.specs.declared.fault.Cause.{Cause}
@@ -28,8 +29,8 @@ use Rattle.dwarf_forms.specs.Values.{Value, reading_value as of_value, direct_at
 use Rattle.dwarf_entries.specs.declared.attributes.Attribute.{Attribute}
 use Rattle.dwarf_entries.specs.declared.plans.Step.{Step}
 use Rattle.dwarf_entries.specs.declared.plans.Step.TheVariants.{Skip, Pass, Keep}
-use Rattle.dwarf_entries.specs.Attributes.{is_used, accepts, is_negative, is_negative_count, number_of, forms_of, is_among, sdata}
-use Rattle.dwarf_entries.specs.Entries.{reading_value, indirect, is_direct, form_at, attribute_at, attributes_at}
+use Rattle.dwarf_entries.specs.Attributes.{is_used, accepts, is_negative, is_negative_count, number_of, forms_of, is_among}
+use Rattle.dwarf_entries.specs.Entries.{reading_value, is_direct, form_at, attribute_at, attributes_at}
 use Rattle.dwarf_entries.specs.Plans.{kept_attributes, kept_attributes_at, layout_len, constant_len, fixed_len, pass_of, step_of, step_before, steps_of, step_at, skip_limit, in_front}
 use Rattle.dwarf_entries.proofs.EntryMoves.{attribute-stays}
 
@@ -102,7 +103,7 @@ and_false false = refl
 
 never_count : (name : ℕ) (c : Content) → is_negative c ≡ false → is_negative_count name c ≡ false
 never_count name c h =
-    let counts : Bool = option_map_or (λ allowed. is_among allowed sdata) (forms_of name) false in
+    let counts : Bool = option_map_or (λ allowed. is_among allowed DW_FORM_SDATA) (forms_of name) false in
     subst (λ (b : Bool). (counts && b) ≡ false) (sym h) (and_false counts)
 
 -- a value in a form of a known length
@@ -119,10 +120,10 @@ direct-fixed name form layout format n bytes at is len le =
     (mapped-fixed {Y = Value} (λ c. is_negative c ≡ false) (λ v. is_negative_count name v.content ≡ false) (values.Read faults.Short) n bytes at (of_value (content_at layout format bytes at)) (λ c. record { form = form; content = c })
     (of_value-fixed (λ c. is_negative c ≡ false) n bytes at (content_at layout format bytes at) (content-fixed layout format n bytes at len le)) (λ c h. never_count name c h))
 
-value-fixed : (name form : ℕ) (layout : ValueLayout) (constant : Option ℤ) (format : Format) (n : ℕ) (bytes : List ℕ) (at : ℕ) → form_of form ≡ Some (Direct layout) → layout_len format layout ≡ Some n → at ≤ length bytes →
-    ReadsFixed (λ v. is_negative_count name v.content ≡ false) causes.Short n bytes at (reading_value (value_at form constant format bytes at))
+value-fixed : (name form : ℕ) (layout : ValueLayout) (format : Format) (constant : Option ℤ) (n : ℕ) (bytes : List ℕ) (at : ℕ) → form_of form ≡ Some (Direct layout) → layout_len format layout ≡ Some n → at ≤ length bytes →
+    ReadsFixed (λ v. is_negative_count name v.content ≡ false) causes.Short n bytes at (reading_value (value_at form format constant bytes at))
 unfolding value_at
-value-fixed name form layout constant format n bytes at is len le =
+value-fixed name form layout format constant n bytes at is len le =
     subst (λ (found : Option Form). ReadsFixed (λ (v : Value). is_negative_count name v.content ≡ false) causes.Short n bytes at (reading_value (elim found as (λ _. Result (Value × ℕ) ValueFault) [
       | None ↦ Err values.Form
       | Some (Direct layout) ↦ direct_at form format bytes at
@@ -132,7 +133,7 @@ value-fixed name form layout constant format n bytes at is len le =
     (reading_value-fixed (λ v. is_negative_count name v.content ≡ false) n bytes at (direct_at form format bytes at) (direct-fixed name form layout format n bytes at is len le))
 
 constant-fixed : (name form : ℕ) (constant : Option ℤ) (c : ℤ) (format : Format) (bytes : List ℕ) (at : ℕ) → form_of form ≡ Some ImplicitConst → constant ≡ Some c → is_negative_count name (Signed c) ≡ false → at ≤ length bytes →
-    ReadsFixed (λ v. is_negative_count name v.content ≡ false) causes.Short 0 bytes at (reading_value (value_at form constant format bytes at))
+    ReadsFixed (λ v. is_negative_count name v.content ≡ false) causes.Short 0 bytes at (reading_value (value_at form format constant bytes at))
 unfolding value_at
 constant-fixed name form constant c format bytes at is there fine le =
     let P : Result (Value × ℕ) ValueFault → Type 0 = λ r. ReadsFixed (λ (v : Value). is_negative_count name v.content ≡ false) causes.Short 0 bytes at (reading_value r) in
@@ -148,12 +149,12 @@ constant-fixed name form constant c format bytes at is there fine le =
 same_form : (f g : Form) → (let some : Form → Option Form = λ k. Some k in some f ≡ some g) → f ≡ g
 same_form f g h = cc
 
-not_indirect : (form : ℕ) (found : Form) → form_of form ≡ Some found → (found ≡ Indirect → ⊥) → (form == indirect) ≡ false
-not_indirect form found is apart = by_test (form == indirect) refl
+not_indirect : (form : ℕ) (found : Form) → form_of form ≡ Some found → (found ≡ Indirect → ⊥) → (form == DW_FORM_INDIRECT) ≡ false
+not_indirect form found is apart = by_test (form == DW_FORM_INDIRECT) refl
   where
-    by_test : (b : Bool) → (form == indirect) ≡ b → b ≡ false
+    by_test : (b : Bool) → (form == DW_FORM_INDIRECT) ≡ b → b ≡ false
     by_test true same =
-        let number : form ≡ indirect = eqb-true form indirect same in
+        let number : form ≡ DW_FORM_INDIRECT = eqb-true form DW_FORM_INDIRECT same in
         let here : form_of form ≡ Some Indirect = ap form_of number in
         absurd (apart (same_form found Indirect (sym is ∙ here)))
     by_test false same = refl
@@ -169,16 +170,16 @@ judged-fixed n bytes at name make (Ok v) h =
     subst (λ (b : Bool). ReadsFixed (λ _. Unit {0}) causes.Short n bytes at (refuse_if b causes.AttrForm >>= λ _. Ok (make v, v.1))) (sym h.0) (tt, h.1, h.2)
 judged-fixed n bytes at name make (Err e) h = h
 
-attribute-fixed : (format : Format) (s : AttributeSpecification) (n : ℕ) (bytes : List ℕ) (at : ℕ) → (s.form == indirect) ≡ false → accepts s.name s.form ≡ true →
-    ReadsFixed (λ v. is_negative_count s.name v.content ≡ false) causes.Short n bytes at (reading_value (value_at s.form s.constant format bytes at)) →
+attribute-fixed : (format : Format) (s : AttributeSpecification) (n : ℕ) (bytes : List ℕ) (at : ℕ) → (s.form == DW_FORM_INDIRECT) ≡ false → accepts s.name s.form ≡ true →
+    ReadsFixed (λ v. is_negative_count s.name v.content ≡ false) causes.Short n bytes at (reading_value (value_at s.form format s.constant bytes at)) →
     ReadsFixed (λ _. Unit {0}) causes.Short n bytes at (attribute_at format s bytes at)
 attribute-fixed format s n bytes at plain fine read =
     let make : ℕ → Value × ℕ → Attribute = λ form value. record { name = s.name; value = record { form = form; number = number_of value.0.content value.1 } } in
-    let rest : ℕ × ℕ → Result (Attribute × ℕ) Cause = λ form. reading_value (value_at form.0 s.constant format bytes form.1) >>= λ value. refuse_if (is_negative_count s.name value.0.content) causes.AttrForm >>= λ _. Ok (make form.0 value, value.1) in
+    let rest : ℕ × ℕ → Result (Attribute × ℕ) Cause = λ form. reading_value (value_at form.0 format s.constant bytes form.1) >>= λ value. refuse_if (is_negative_count s.name value.0.content) causes.AttrForm >>= λ _. Ok (make form.0 value, value.1) in
     let inner : Result (ℕ × ℕ) Cause = reading (uleb_at bytes at) >>= λ inner. refuse_if (not (is_direct (form_of inner.0))) causes.Form >>= λ _. Ok inner in
     subst (λ (r : Result (Attribute × ℕ) Cause). ReadsFixed (λ _. Unit {0}) causes.Short n bytes at r)
-    (sym (direct_chain (s.form == indirect) inner s.form at (λ form. accepts s.name form) rest plain fine))
-    (judged-fixed n bytes at s.name (make s.form) (reading_value (value_at s.form s.constant format bytes at)) read)
+    (sym (direct_chain (s.form == DW_FORM_INDIRECT) inner s.form at (λ form. accepts s.name form) rest plain fine))
+    (judged-fixed n bytes at s.name (make s.form) (reading_value (value_at s.form format s.constant bytes at)) read)
 
 fixed-attribute : (format : Format) (s : AttributeSpecification) (n : ℕ) (bytes : List ℕ) (at : ℕ) → fixed_len format s ≡ Some n → at ≤ length bytes → ReadsFixed (λ _. Unit {0}) causes.Short n bytes at (attribute_at format s bytes at)
 unfolding fixed_len
@@ -201,7 +202,7 @@ fixed-attribute format s n bytes at h le = by_form (accepts s.name s.form) refl 
     by_form false fine found is h = cc
     by_form true fine None is h = cc
     by_form true fine (Some (Direct layout)) is h =
-        attribute-fixed format s n bytes at (not_indirect s.form (Direct layout) is (λ e. cc)) fine (value-fixed s.name s.form layout s.constant format n bytes at is h le)
+        attribute-fixed format s n bytes at (not_indirect s.form (Direct layout) is (λ e. cc)) fine (value-fixed s.name s.form layout format s.constant n bytes at is h le)
     by_form true fine (Some ImplicitConst) is h = by_constant fine is s.constant refl _ refl (constant_again s.constant h)
       where
         constant_again : (constant : Option ℤ) → (elim constant as (λ _. Option ℕ) [ None ↦ None | Some c ↦ cond (is_negative_count s.name (Signed c)) None (Some 0) ]) ≡ Some n →
@@ -305,7 +306,7 @@ attribute-name format s bytes at x h =
     let P : Type 0 = x.0.name ≡ s.name in
     after_bind (form_at s.form bytes at) _ x h P (λ form form_is h1.
     after_test (not (accepts s.name form.0)) causes.AttrForm _ x h1 P (λ _ h2.
-    after_bind (reading_value (value_at form.0 s.constant format bytes form.1)) _ x h2 P (λ value value_is h3.
+    after_bind (reading_value (value_at form.0 format s.constant bytes form.1)) _ x h2 P (λ value value_is h3.
     after_test (is_negative_count s.name value.0.content) causes.AttrForm _ x h3 P (λ _ last.
     sym (ap (λ (r : Attribute × ℕ). r.0.name) (same_ok (record { name = s.name; value = record { form = form.0; number = number_of value.0.content value.1 } }, value.1) x last))))))
 

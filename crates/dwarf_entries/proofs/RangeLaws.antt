@@ -25,7 +25,7 @@ use Rattle.dwarf_entries.specs.declared.ranges.RangeListEntry.{RangeListEntry}
 use Rattle.dwarf_entries.specs.declared.ranges.RangeListEntry.TheVariants.{Base, Covers}
 use Rattle.dwarf_entries.specs.Sections.{Sections}
 use Rattle.dwarf_entries.specs.Bases.{item_at}
-use Rattle.dwarf_entries.specs.Ranges.{base_after, ranges_in, covered, index_at, address_at, number_at, start_and_end, start_and_length, offset_pair, sets_base, covers, entry_at, kind_of, listed_behind, listed_at, list_at, Covering}
+use Rattle.dwarf_entries.specs.Ranges.{base_after, ranges_in, covered_from, covered_pair, index_at, address_at, number_at, start_and_end, start_and_length, offset_pair, sets_base, covers, entry_at, kind_of, listed_behind, listed_at, list_at, Covering}
 
 -- a read that moves on
 abbrev Moving : (List ℕ → ℕ → Result (ℕ × ℕ) Cause) → Type 0
@@ -66,14 +66,14 @@ start_and_length-moves read moving lists at x h =
     let place : len.1 ≡ x.1 = ap (λ (r : (ℕ × ℕ) × ℕ). r.1) (same_ok ((start.0, start.0 + len.0), len.1) x last) in
     (omega (arith, first.0, second.0, place), omega (arith, second.1, place))))
 
-offset_pair-moves : (base : Option ℕ) (lists : List ℕ) (at : ℕ) (x : (ℕ × ℕ) × ℕ) → offset_pair base lists at ≡ Ok x → MovesOn lists at x.1
+offset_pair-moves : (base : Option ℕ) (lists : List ℕ) (at : ℕ) (x : (ℕ × (ℕ × ℕ)) × ℕ) → offset_pair base lists at ≡ Ok x → MovesOn lists at x.1
 offset_pair-moves base lists at x h =
     after_bind (number_at lists at) _ x h (MovesOn lists at x.1) (λ start start_is h1.
     after_bind (number_at lists start.1) _ x h1 (MovesOn lists at x.1) (λ end end_is h2.
     after_bind (ok_or base causes.Base) _ x h2 (MovesOn lists at x.1) (λ from _ last.
     let first = number-moves lists at start start_is in
     let second = number-moves lists start.1 end end_is in
-    let place : end.1 ≡ x.1 = ap (λ (r : (ℕ × ℕ) × ℕ). r.1) (same_ok ((from + start.0, from + end.0), end.1) x last) in
+    let place : end.1 ≡ x.1 = ap (λ (r : (ℕ × (ℕ × ℕ)) × ℕ). r.1) (same_ok ((from, (start.0, end.0)), end.1) x last) in
     (omega (arith, first.0, second.0, place), omega (arith, second.1, place)))))
 
 sets-moves : (lists : List ℕ) (at : ℕ) (read : Result (ℕ × ℕ) Cause) (x : RangeListEntry × ℕ) → ((y : ℕ × ℕ) → read ≡ Ok y → MovesOn lists at y.1) → sets_base read ≡ Ok x → MovesOn lists at x.1
@@ -82,22 +82,23 @@ sets-moves lists at read x moving h =
     let place : y.1 ≡ x.1 = ap (λ (r : RangeListEntry × ℕ). r.1) (same_ok (Base y.0, y.1) x last) in
     subst (λ (k : ℕ). MovesOn lists at k) place (moving y y_is))
 
-covers-moves : (lists : List ℕ) (at : ℕ) (read : Result ((ℕ × ℕ) × ℕ) Cause) (x : RangeListEntry × ℕ) → ((y : (ℕ × ℕ) × ℕ) → read ≡ Ok y → MovesOn lists at y.1) → covers read ≡ Ok x → MovesOn lists at x.1
-covers-moves lists at read x moving h =
+covers-moves : {X : Type 0} (judge : X → Result (Option Range) Cause) (lists : List ℕ) (at : ℕ) (read : Result (X × ℕ) Cause) (x : RangeListEntry × ℕ) →
+    ((y : X × ℕ) → read ≡ Ok y → MovesOn lists at y.1) → covers judge read ≡ Ok x → MovesOn lists at x.1
+covers-moves judge lists at read x moving h =
     after_bind read _ x h (MovesOn lists at x.1) (λ y y_is h1.
-    after_bind (covered y.0) _ x h1 (MovesOn lists at x.1) (λ range _ last.
+    after_bind (judge y.0) _ x h1 (MovesOn lists at x.1) (λ range _ last.
     let place : y.1 ≡ x.1 = ap (λ (r : RangeListEntry × ℕ). r.1) (same_ok (Covers range, y.1) x last) in
     subst (λ (k : ℕ). MovesOn lists at k) place (moving y y_is)))
 
 entry-moves : (sections : Sections) (bases : Bases) (base : Option ℕ) (kind : RangeListKind) (lists : List ℕ) (at : ℕ) (x : RangeListEntry × ℕ) → entry_at sections bases base kind lists at ≡ Ok x → MovesOn lists at x.1
 unfolding entry_at
 entry-moves sections bases base BaseAddressx lists at x h = sets-moves lists at (index_at sections bases lists at) x (λ y is. index-moves sections bases lists at y is) h
-entry-moves sections bases base StartxEndx lists at x h = covers-moves lists at (start_and_end (index_at sections bases) lists at) x (λ y is. start_and_end-moves (index_at sections bases) (index-moves sections bases) lists at y is) h
-entry-moves sections bases base StartxLength lists at x h = covers-moves lists at (start_and_length (index_at sections bases) lists at) x (λ y is. start_and_length-moves (index_at sections bases) (index-moves sections bases) lists at y is) h
-entry-moves sections bases base OffsetPair lists at x h = covers-moves lists at (offset_pair base lists at) x (λ y is. offset_pair-moves base lists at y is) h
+entry-moves sections bases base StartxEndx lists at x h = covers-moves covered_from lists at (start_and_end (index_at sections bases) lists at) x (λ y is. start_and_end-moves (index_at sections bases) (index-moves sections bases) lists at y is) h
+entry-moves sections bases base StartxLength lists at x h = covers-moves covered_from lists at (start_and_length (index_at sections bases) lists at) x (λ y is. start_and_length-moves (index_at sections bases) (index-moves sections bases) lists at y is) h
+entry-moves sections bases base OffsetPair lists at x h = covers-moves (λ (pair : ℕ × (ℕ × ℕ)). covered_pair pair.0 pair.1) lists at (offset_pair base lists at) x (λ y is. offset_pair-moves base lists at y is) h
 entry-moves sections bases base BaseAddress lists at x h = sets-moves lists at (address_at lists at) x (λ y is. address-moves lists at y is) h
-entry-moves sections bases base StartEnd lists at x h = covers-moves lists at (start_and_end address_at lists at) x (λ y is. start_and_end-moves address_at address-moves lists at y is) h
-entry-moves sections bases base StartLength lists at x h = covers-moves lists at (start_and_length address_at lists at) x (λ y is. start_and_length-moves address_at address-moves lists at y is) h
+entry-moves sections bases base StartEnd lists at x h = covers-moves covered_from lists at (start_and_end address_at lists at) x (λ y is. start_and_end-moves address_at address-moves lists at y is) h
+entry-moves sections bases base StartLength lists at x h = covers-moves covered_from lists at (start_and_length address_at lists at) x (λ y is. start_and_length-moves address_at address-moves lists at y is) h
 
 pub listed_at-advances : (room : ℕ) (sections : Sections) (bases : Bases) (lists : List ℕ) → Advances (length lists) (listed_at room sections bases lists)
 listed_at-advances room sections bases lists before at x after h =

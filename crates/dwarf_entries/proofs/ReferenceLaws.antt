@@ -9,6 +9,7 @@ use Rattle.std.proofs.lemmas.List.Sums.{position_or_len_is}
 use Rattle.std.proofs.lemmas.Option.{slice_get-map, slice_get-get_or, slice_get_past, same_Some}
 use Rattle.std.proofs.lemmas.Bool.{cases_lt}
 use Rattle.std.proofs.lemmas.Bool.Decides.{nat_tests}
+use Rattle.dwarf_bytes.specs.declared.constants.TheConstants.{DW_FORM_REF_ADDR}
 use Rattle.dwarf_bytes.specs.declared.fault.Cause.TheVariants as causes
 use Rattle.dwarf_entries.specs.declared.units.UnitHeader.{UnitHeader}
 use Rattle.dwarf_entries.specs.declared.attributes.AttributeValue.{AttributeValue}
@@ -17,7 +18,7 @@ use Rattle.dwarf_entries.specs.declared.kept.UnitEntries.{UnitEntries}
 use Rattle.dwarf_entries.specs.declared.paths.UnitEntry.{UnitEntry}
 use Rattle.dwarf_entries.specs.Entries.{Die}
 use Rattle.dwarf_entries.specs.Bases.{CompilationUnit}
-use Rattle.dwarf_entries.specs.Names.{Member, members_of, member_at, target_of, ref_addr}
+use Rattle.dwarf_entries.specs.Names.{Member, members_of, member_at, target_of}
 use Rattle.dwarf_entries.specs.Kept.{named_entry, RiseWithin, AreInOrder}
 use Rattle.dwarf_entries.specs.Members.{NamedUnit, named_unit, named_of, AreKept, Finds, member_in}
 
@@ -266,13 +267,13 @@ anywhere kept units are n offset le search_is u reference form number =
     let parts_of : IsPartitionPoint (λ x. x ≤ offset) (λ x. offset < x) (map (λ (v : CompilationUnit). v.header.end) units) n =
     subst (λ (xs : List ℕ). IsPartitionPoint (λ x. x ≤ offset) (λ x. offset < x) xs n) (ends-kept kept units are) parts in
     let all : member_at (members_of units) offset ≡ member_in units n offset = ap (λ (o : Option Member). ok_or o causes.Reference) (in_unit 0 units offset n are.order parts_of) in
-    let is : (reference.form == ref_addr) ≡ true = eq-eqb reference.form ref_addr form in
+    let is : (reference.form == DW_FORM_REF_ADDR) ≡ true = eq-eqb reference.form DW_FORM_REF_ADDR form in
     sym (rw (is, number) all)
 
 pub within_unit : (units : List CompilationUnit) (n offset : ℕ) (u : CompilationUnit) (reference : AttributeValue) → (reference.form ≡ 0x10 → ⊥) → slice_get units n ≡ Some u → offset ≡ u.header.start + reference.number →
     member_in units n offset ≡ target_of units u reference
 within_unit units n offset u reference form at place =
-    let is : (reference.form == ref_addr) ≡ false = differs reference.form ref_addr form in
+    let is : (reference.form == DW_FORM_REF_ADDR) ≡ false = differs reference.form DW_FORM_REF_ADDR form in
     rw (is, at, place) refl
   where
     differs : (a b : ℕ) → (a ≡ b → ⊥) → (a == b) ≡ false

@@ -4,6 +4,7 @@ use Rattle.std.specs.Prelude.{Result, Ok, Err, Option, Some, None, slice_get, su
 use Rattle.std.proofs.lemmas.Option.{get_or_from_slice_get, slice_get_cases}
 use Rattle.std.proofs.lemmas.List.{get_or-map, length-map}
 use Rattle.std.proofs.lemmas.Bool.{leb-false}
+use Rattle.dwarf_bytes.specs.declared.constants.TheConstants.{DW_AT_CALL_FILE, DW_AT_CALL_LINE}
 use Rattle.dwarf_bytes.specs.declared.fault.Cause.{Cause}
 use Rattle.dwarf_bytes.specs.declared.fault.Cause.TheVariants as causes
 use Rattle.dwarf_bytes.specs.Items.{At, Next, Item, End, Lists, reading, refuse_if, untold, items_from}
@@ -21,7 +22,6 @@ use Rattle.dwarf_entries.specs.declared.kept.Keeping.{Keeping}
 use Rattle.dwarf_entries.specs.declared.kept.UnitEntries.{UnitEntries}
 use Rattle.dwarf_entries.specs.declared.kept.ScopeEntry.{ScopeEntry}
 use Rattle.dwarf_entries.specs.Sections.{Sections}
-use Rattle.dwarf_entries.specs.Attributes.{DW_AT_call_file, DW_AT_call_line}
 use Rattle.dwarf_entries.specs.Entries.{Die}
 use Rattle.dwarf_entries.specs.Bases.{CompilationUnit}
 use Rattle.dwarf_entries.specs.Names.{names_of}
@@ -50,8 +50,8 @@ scope_of_place before p names covering =
         name = names.name;
         linkage_name = names.linkage_name;
         stmt_list = stmt_list_of p.member.unit.dies;
-        call_file = number_of DW_AT_call_file die;
-        call_line = number_of DW_AT_call_line die;
+        call_file = number_of DW_AT_CALL_FILE die;
+        call_line = number_of DW_AT_CALL_LINE die;
       };
     }
 

@@ -6,6 +6,7 @@ use Rattle.std.proofs.lemmas.List.Folds.{find-append}
 use Rattle.std.proofs.lemmas.Option.{same_Some}
 use Rattle.std.proofs.lemmas.Bool.{cases_lt}
 use Rattle.std.proofs.lemmas.Bool.Decides.{nat_tests}
+use Rattle.dwarf_bytes.specs.declared.constants.TheConstants.{DW_AT_LINKAGE_NAME, DW_AT_NAME, DW_FORM_REF_ADDR}
 use Rattle.dwarf_bytes.specs.declared.fault.Cause.{Cause}
 use Rattle.dwarf_bytes.specs.declared.fault.Cause.TheVariants as causes
 use Rattle.dwarf_bytes.specs.declared.fault.LoadFault.{LoadFault}
@@ -17,13 +18,12 @@ use Rattle.dwarf_entries.specs.declared.attributes.AttributeValue.{AttributeValu
 use Rattle.dwarf_entries.specs.declared.kept.Keeping.TheVariants as keepings
 use Rattle.dwarf_entries.specs.declared.paths.EntryNames.{EntryNames}
 use Rattle.dwarf_entries.specs.declared.scope.ScopeKind.{ScopeKind}
-use Rattle.dwarf_entries.specs.declared.scope.Text.{Text}
+use Rattle.dwarf_bytes.specs.declared.text.Text.{Text}
 use Rattle.dwarf_entries.specs.declared.units.UnitHeader.{UnitHeader}
 use Rattle.dwarf_entries.specs.Sections.{Sections}
-use Rattle.dwarf_entries.specs.Attributes.{DW_AT_name, DW_AT_linkage_name}
 use Rattle.dwarf_entries.specs.Entries.{Die, attribute}
 use Rattle.dwarf_entries.specs.Bases.{CompilationUnit, optional}
-use Rattle.dwarf_entries.specs.Names.{Member, members_of, member_at, or_else, next_of, target_of, ref_addr, hops_limit, path_within, path_of, first_on, text_of, name_on, names_of}
+use Rattle.dwarf_entries.specs.Names.{Member, members_of, member_at, or_else, next_of, target_of, hops_limit, path_within, path_of, first_on, text_of, name_on, names_of}
 use Rattle.dwarf_entries.specs.Scopes.{Tree, Judged, Place, kind_of, is_scope, place_of, places_in, roots_from, scope_by}
 use Rattle.dwarf_entries.specs.Kept.{RiseWithin, AreInOrder}
 use Rattle.dwarf_entries.specs.Passes.{all_entries, all_units, scopes_only, only_member, judge, all_places, TablesRead, tree_of_units, tree_of_dies, tree_with}
@@ -145,7 +145,7 @@ member-alike from offset us h = by_found (find (stands_at offset) (members_of (m
         inr (found.whole, rw is (ap (λ (n : Member). Ok n) found.is), rw found.there refl, found.rises)
 
 target-alike : (us : List CompilationUnit) (u : CompilationUnit) (reference : AttributeValue) → AreInOrder 0 us → Rises u → Alike (target_of (map scopes_only us) (scopes_only u) reference) (target_of us u reference)
-target-alike us u reference h rises = by_form (reference.form == ref_addr)
+target-alike us u reference h rises = by_form (reference.form == DW_FORM_REF_ADDR)
   where
     by_form : (anywhere : Bool) →
         Alike (if anywhere then member_at (members_of (map scopes_only us)) reference.number else member_at (members_of (scopes_only u ∷ [])) (u.header.start + reference.number))
@@ -217,13 +217,13 @@ name-cut name s path = ap (λ (first : Option (CompilationUnit × AttributeValue
     by_first (Some f) = refl
 
 abbrev names_along : Sections → Result (List Member) Cause → Result EntryNames Cause
-names_along s path = path >>= λ path. both_names (name_on DW_AT_name s path) (name_on DW_AT_linkage_name s path)
+names_along s path = path >>= λ path. both_names (name_on DW_AT_NAME s path) (name_on DW_AT_LINKAGE_NAME s path)
 
 names-cut : (s : Sections) (path : Result (List Member) Cause) → names_along s (cut_path path) ≡ names_along s path
 names-cut s (Err e) = refl
 names-cut s (Ok path) =
-    ap (λ (r : Result (Option Text) Cause). both_names r (name_on DW_AT_linkage_name s (map cut path))) (name-cut DW_AT_name s path)
-    ∙ ap (λ (r : Result (Option Text) Cause). both_names (name_on DW_AT_name s path) r) (name-cut DW_AT_linkage_name s path)
+    ap (λ (r : Result (Option Text) Cause). both_names r (name_on DW_AT_LINKAGE_NAME s (map cut path))) (name-cut DW_AT_NAME s path)
+    ∙ ap (λ (r : Result (Option Text) Cause). both_names (name_on DW_AT_NAME s path) r) (name-cut DW_AT_LINKAGE_NAME s path)
 
 names-alike : (s : Sections) (us : List CompilationUnit) (m : Member) → AreInOrder 0 us → Rises m.unit →
     (names_of s (map scopes_only us) (cut m) ≡ Err causes.Reference) ⊎ (names_of s (map scopes_only us) (cut m) ≡ names_of s us m)

@@ -2,79 +2,47 @@
 use Rattle.std.specs.Prelude.{ℕ, ◌-◌, pos, negsuc, List, [], ◌∷◌, ◌++◌, length, Bool, true, false, Option, is_some, find, option_map, ◌==◌, ◌&&◌}
 use Rattle.std.specs.Option.{option_map_or}
 use Rattle.std.specs.List.{list_any}
+use Rattle.dwarf_bytes.specs.declared.constants.TheConstants.{DW_AT_ABSTRACT_ORIGIN, DW_AT_ADDR_BASE, DW_AT_CALL_FILE, DW_AT_CALL_LINE, DW_AT_HIGH_PC, DW_AT_LINKAGE_NAME, DW_AT_LOW_PC, DW_AT_NAME, DW_AT_RANGES, DW_AT_RNGLISTS_BASE, DW_AT_SPECIFICATION, DW_AT_STMT_LIST, DW_AT_STR_OFFSETS_BASE, DW_FORM_ADDR, DW_FORM_ADDRX, DW_FORM_ADDRX1, DW_FORM_ADDRX2, DW_FORM_ADDRX3, DW_FORM_ADDRX4, DW_FORM_DATA1, DW_FORM_DATA2, DW_FORM_DATA4, DW_FORM_DATA8, DW_FORM_IMPLICIT_CONST, DW_FORM_LINE_STRP, DW_FORM_REF1, DW_FORM_REF2, DW_FORM_REF4, DW_FORM_REF8, DW_FORM_REF_ADDR, DW_FORM_REF_SIG8, DW_FORM_REF_UDATA, DW_FORM_RNGLISTX, DW_FORM_SDATA, DW_FORM_SEC_OFFSET, DW_FORM_STRING, DW_FORM_STRP, DW_FORM_STRX, DW_FORM_STRX1, DW_FORM_STRX2, DW_FORM_STRX3, DW_FORM_STRX4, DW_FORM_UDATA}
 use Rattle.dwarf_bytes.specs.Contents.{Content, Number, Signed, Bytes}
 
-abbrev pub DW_AT_name : ℕ
-DW_AT_name = 0x03
-
-abbrev pub DW_AT_stmt_list : ℕ
-DW_AT_stmt_list = 0x10
-
-abbrev pub DW_AT_low_pc : ℕ
-DW_AT_low_pc = 0x11
-
-abbrev pub DW_AT_high_pc : ℕ
-DW_AT_high_pc = 0x12
-
-abbrev pub DW_AT_abstract_origin : ℕ
-DW_AT_abstract_origin = 0x31
-
-abbrev pub DW_AT_specification : ℕ
-DW_AT_specification = 0x47
-
-abbrev pub DW_AT_ranges : ℕ
-DW_AT_ranges = 0x55
-
-abbrev pub DW_AT_call_file : ℕ
-DW_AT_call_file = 0x58
-
-abbrev pub DW_AT_call_line : ℕ
-DW_AT_call_line = 0x59
-
-abbrev pub DW_AT_linkage_name : ℕ
-DW_AT_linkage_name = 0x6e
-
-abbrev pub DW_AT_str_offsets_base : ℕ
-DW_AT_str_offsets_base = 0x72
-
-abbrev pub DW_AT_addr_base : ℕ
-DW_AT_addr_base = 0x73
-
-abbrev pub DW_AT_rnglists_base : ℕ
-DW_AT_rnglists_base = 0x74
-
--- class string: string, strp, line_strp, strx, strx1 to strx4
+-- class string
 abbrev pub string_forms : List ℕ
-string_forms = 0x08 ∷ 0x0e ∷ 0x1f ∷ 0x1a ∷ 0x25 ∷ 0x26 ∷ 0x27 ∷ 0x28 ∷ []
+string_forms =
+    DW_FORM_STRING ∷ DW_FORM_STRP ∷ DW_FORM_LINE_STRP ∷ DW_FORM_STRX ∷ DW_FORM_STRX1 ∷ DW_FORM_STRX2 ∷ DW_FORM_STRX3 ∷ DW_FORM_STRX4 ∷ []
 
--- class address: addr, addrx, addrx1 to addrx4
+-- class address
 abbrev pub address_forms : List ℕ
-address_forms = 0x01 ∷ 0x1b ∷ 0x29 ∷ 0x2a ∷ 0x2b ∷ 0x2c ∷ []
+address_forms =
+    DW_FORM_ADDR ∷ DW_FORM_ADDRX ∷ DW_FORM_ADDRX1 ∷ DW_FORM_ADDRX2 ∷ DW_FORM_ADDRX3 ∷ DW_FORM_ADDRX4 ∷ []
 
--- class constant, as a count: data2, data4, data8, data1, udata; sdata and implicit_const where not negative
+-- class constant, as a count; sdata and implicit_const where not negative
 abbrev pub count_forms : List ℕ
-count_forms = 0x05 ∷ 0x06 ∷ 0x07 ∷ 0x0b ∷ 0x0f ∷ 0x0d ∷ 0x21 ∷ []
+count_forms =
+    DW_FORM_DATA2 ∷ DW_FORM_DATA4 ∷ DW_FORM_DATA8 ∷ DW_FORM_DATA1 ∷ DW_FORM_UDATA ∷ DW_FORM_SDATA ∷ DW_FORM_IMPLICIT_CONST ∷ []
 
--- class reference: ref_addr, ref1 to ref8, ref_udata, ref_sig8
+-- class reference
 abbrev pub reference_forms : List ℕ
-reference_forms = 0x10 ∷ 0x11 ∷ 0x12 ∷ 0x13 ∷ 0x14 ∷ 0x15 ∷ 0x20 ∷ []
+reference_forms =
+    DW_FORM_REF_ADDR ∷ DW_FORM_REF1 ∷ DW_FORM_REF2 ∷ DW_FORM_REF4 ∷ DW_FORM_REF8 ∷ DW_FORM_REF_UDATA ∷ DW_FORM_REF_SIG8 ∷ []
 
--- class rnglist: sec_offset, rnglistx
+-- class rnglist
 abbrev pub range_list_forms : List ℕ
-range_list_forms = 0x17 ∷ 0x23 ∷ []
+range_list_forms =
+    DW_FORM_SEC_OFFSET ∷ DW_FORM_RNGLISTX ∷ []
 
--- classes lineptr, stroffsetsptr, addrptr, rnglistsptr: sec_offset
+-- classes lineptr, stroffsetsptr, addrptr, rnglistsptr
 abbrev pub pointer_forms : List ℕ
-pointer_forms = 0x17 ∷ []
+pointer_forms =
+    DW_FORM_SEC_OFFSET ∷ []
 
 -- the forms that each used attribute may have
 abbrev pub used_attributes : List (ℕ × List ℕ)
 used_attributes =
-    (DW_AT_name, string_forms) ∷ (DW_AT_linkage_name, string_forms) ∷ (DW_AT_low_pc, address_forms) ∷
-    (DW_AT_high_pc, address_forms ++ count_forms) ∷ (DW_AT_call_file, count_forms) ∷ (DW_AT_call_line, count_forms) ∷
-    (DW_AT_abstract_origin, reference_forms) ∷ (DW_AT_specification, reference_forms) ∷ (DW_AT_ranges, range_list_forms) ∷
-    (DW_AT_stmt_list, pointer_forms) ∷ (DW_AT_str_offsets_base, pointer_forms) ∷ (DW_AT_addr_base, pointer_forms) ∷
-    (DW_AT_rnglists_base, pointer_forms) ∷ []
+    (DW_AT_NAME, string_forms) ∷ (DW_AT_LINKAGE_NAME, string_forms) ∷ (DW_AT_LOW_PC, address_forms) ∷
+    (DW_AT_HIGH_PC, address_forms ++ count_forms) ∷ (DW_AT_CALL_FILE, count_forms) ∷ (DW_AT_CALL_LINE, count_forms) ∷
+    (DW_AT_ABSTRACT_ORIGIN, reference_forms) ∷ (DW_AT_SPECIFICATION, reference_forms) ∷ (DW_AT_RANGES, range_list_forms) ∷
+    (DW_AT_STMT_LIST, pointer_forms) ∷ (DW_AT_STR_OFFSETS_BASE, pointer_forms) ∷ (DW_AT_ADDR_BASE, pointer_forms) ∷
+    (DW_AT_RNGLISTS_BASE, pointer_forms) ∷ []
 
 -- the forms of an attribute, if it is used
 abbrev pub forms_of : ℕ → Option (List ℕ)
@@ -95,13 +63,9 @@ abbrev pub is_negative : Content → Bool
 is_negative (Signed (negsuc n)) = true
 is_negative content = false
 
--- DW_FORM_sdata, which counts alone may have of the used attributes
-abbrev pub sdata : ℕ
-sdata = 0x0d
-
--- whether the value of a used attribute is a count below 0
+-- whether the value of a used attribute is a count below 0; of those, counts alone may have the form sdata
 abbrev pub is_negative_count : ℕ → Content → Bool
-is_negative_count name content = option_map_or (λ allowed. is_among allowed sdata) (forms_of name) false && is_negative content
+is_negative_count name content = option_map_or (λ allowed. is_among allowed DW_FORM_SDATA) (forms_of name) false && is_negative content
 
 -- the number that a content is, where its bytes end at a place; of a text that stands there with its NUL, its place
 abbrev pub number_of : Content → ℕ → ℕ

@@ -1,5 +1,6 @@
 -- What a unit's root tells of the whole unit: its tables and its low_pc (DWARF 5, 3.1.1, 7.26 to 7.28).
 use Rattle.std.specs.Prelude.{ℕ, ◌+◌, ◌*◌, List, [], ◌∷◌, Option, Some, None, Result, Ok, Err, nat_le, ◌==◌, if◌then◌else◌}
+use Rattle.dwarf_bytes.specs.declared.constants.TheConstants.{DW_AT_ADDR_BASE, DW_AT_LOW_PC, DW_AT_RNGLISTS_BASE, DW_AT_STR_OFFSETS_BASE, DW_FORM_ADDR}
 use Rattle.dwarf_bytes.specs.declared.fault.Cause.{Cause}
 use Rattle.dwarf_bytes.specs.declared.fault.Cause.TheVariants as causes
 use Rattle.dwarf_bytes.specs.declared.fault.ReadFault.{ReadFault}
@@ -14,7 +15,6 @@ use Rattle.dwarf_entries.specs.declared.units.UnitHeader.{UnitHeader}
 use Rattle.dwarf_entries.specs.declared.bases.Table.{Table}
 use Rattle.dwarf_entries.specs.declared.bases.Bases.{Bases}
 use Rattle.dwarf_entries.specs.Sections.{Sections}
-use Rattle.dwarf_entries.specs.Attributes.{DW_AT_str_offsets_base, DW_AT_addr_base, DW_AT_rnglists_base, DW_AT_low_pc}
 use Rattle.dwarf_entries.specs.declared.attributes.AttributeValue.{AttributeValue}
 use Rattle.dwarf_entries.specs.Entries.{Die, attribute}
 
@@ -50,13 +50,9 @@ item_at kind section (Some table) index = do
   item ← reading (item_in kind table.format section (table.base + item_len kind table.format * index))
   Ok item.0
 
--- DW_FORM_addr; the other forms of an address are indexes of .debug_addr
-abbrev pub addr_form : ℕ
-addr_form = 0x01
-
--- the address that a value of class address is
+-- the address that a value of class address is; its forms but addr are indexes of .debug_addr
 abbrev pub address_of : Sections → Option Table → AttributeValue → Result ℕ Cause
-address_of sections addr value = if value.form == addr_form then Ok value.number else item_at Addr sections.debug_addr addr value.number
+address_of sections addr value = if value.form == DW_FORM_ADDR then Ok value.number else item_at Addr sections.debug_addr addr value.number
 
 -- what a root tells by its attributes, in the order in which they are judged
 abbrev pub bases_by : Sections → Format → Option AttributeValue → Option AttributeValue → Option AttributeValue → Option AttributeValue → Result Bases Cause
@@ -69,7 +65,7 @@ bases_by sections format str_offsets addr rnglists low_pc = do
 
 abbrev pub bases_at : Sections → Format → Die → Result Bases Cause
 bases_at sections format root =
-    bases_by sections format (attribute root DW_AT_str_offsets_base) (attribute root DW_AT_addr_base) (attribute root DW_AT_rnglists_base) (attribute root DW_AT_low_pc)
+    bases_by sections format (attribute root DW_AT_STR_OFFSETS_BASE) (attribute root DW_AT_ADDR_BASE) (attribute root DW_AT_RNGLISTS_BASE) (attribute root DW_AT_LOW_PC)
 
 -- a unit with its entries, of which the first, if there is one, is the root, and with what the root tells
 pub record CompilationUnit : Type 0 where

@@ -1,6 +1,7 @@
 -- Debugging information entries (DWARF 5, 2.1 to 2.3, 7.5.2 and 7.5.3): a flat list of entries and nulls.
 use Rattle.std.specs.Prelude.{◌≡◌, ℕ, ◌-◌, ◌<◌, ◌≤◌, List, [], ◌∷◌, length, take, Bool, true, false, Option, Some, None, Result, Ok, Err, nat_lt, nat_le, ◌==◌, not, ◌&&◌, if◌then◌else◌, find, count_by, take_while, ok_or, option_map, slice_index_or}
 use Rattle.std.specs.List.{list_any, filter_map}
+use Rattle.dwarf_bytes.specs.declared.constants.TheConstants.{DW_FORM_INDIRECT}
 use Rattle.dwarf_bytes.specs.declared.fault.Cause.{Cause}
 use Rattle.dwarf_bytes.specs.declared.fault.Cause.TheVariants as causes
 use Rattle.dwarf_bytes.specs.declared.format.Format.{Format}
@@ -77,13 +78,9 @@ is_direct (Some ImplicitConst) = false
 is_direct (Some Indirect) = false
 is_direct None = false
 
--- DW_FORM_indirect
-abbrev pub indirect : ℕ
-indirect = 0x16
-
 -- the form of a value, which for an indirect one stands before it, and the place after that
 abbrev pub form_at : ℕ → List ℕ → ℕ → Result (ℕ × ℕ) Cause
-form_at form bytes at = if form == indirect then (do
+form_at form bytes at = if form == DW_FORM_INDIRECT then (do
   inner ← reading (uleb_at bytes at)
   _ ← refuse_if (not (is_direct (form_of inner.0))) causes.Form
   Ok inner) else Ok (form, at)
@@ -93,7 +90,7 @@ abbrev pub attribute_at : Format → AttributeSpecification → List ℕ → ℕ
 attribute_at format s bytes at = do
   form ← form_at s.form bytes at
   _ ← refuse_if (not (accepts s.name form.0)) causes.AttrForm
-  value ← reading_value (value_at form.0 s.constant format bytes form.1)
+  value ← reading_value (value_at form.0 format s.constant bytes form.1)
   _ ← refuse_if (is_negative_count s.name value.0.content) causes.AttrForm
   Ok (record { name = s.name; value = record { form = form.0; number = number_of value.0.content value.1 } }, value.1)
 

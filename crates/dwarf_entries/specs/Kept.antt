@@ -1,6 +1,7 @@
 -- What is kept of the entries of a unit, for the contracts of the passes.
 use Rattle.std.specs.Prelude.{ℕ, suc, ◌≤◌, List, [], ◌∷◌, Bool, true, Option, Some, None, is_some, Result, Ok, option_map, map, filter, count_by, sum_by, length}
 use Rattle.std.specs.List.{filter_map}
+use Rattle.dwarf_bytes.specs.declared.constants.TheConstants.{DW_AT_ADDR_BASE, DW_AT_CALL_FILE, DW_AT_CALL_LINE, DW_AT_HIGH_PC, DW_AT_LINKAGE_NAME, DW_AT_LOW_PC, DW_AT_NAME, DW_AT_RANGES, DW_AT_RNGLISTS_BASE, DW_AT_STMT_LIST, DW_AT_STR_OFFSETS_BASE}
 use Rattle.dwarf_bytes.specs.Bind.{◌>>=◌}
 use Rattle.dwarf_bytes.specs.Items.{At}
 use Rattle.dwarf_forms.specs.Declarations.{Declaration}
@@ -12,7 +13,6 @@ use Rattle.dwarf_entries.specs.declared.kept.NamedEntry.{NamedEntry}
 use Rattle.dwarf_entries.specs.declared.kept.ScopeEntry.{ScopeEntry}
 use Rattle.dwarf_entries.specs.declared.kept.RootEntry.{RootEntry}
 use Rattle.dwarf_entries.specs.declared.kept.UnitEntries.{UnitEntries}
-use Rattle.dwarf_entries.specs.Attributes.{DW_AT_name, DW_AT_linkage_name, DW_AT_stmt_list, DW_AT_low_pc, DW_AT_high_pc, DW_AT_ranges, DW_AT_call_file, DW_AT_call_line, DW_AT_str_offsets_base, DW_AT_addr_base, DW_AT_rnglists_base}
 use Rattle.dwarf_entries.specs.Entries.{Die, attribute, below, entries_of}
 use Rattle.dwarf_entries.specs.Bases.{CompilationUnit}
 use Rattle.dwarf_entries.specs.Names.{next_of}
@@ -24,17 +24,17 @@ keeps keepings.Scopes tag = is_some (kind_of tag)
 keeps keepings.Every tag = true
 
 abbrev pub named_entry : Die → NamedEntry
-named_entry die = record { offset = die.offset; next = next_of die; name = attribute die DW_AT_name; linkage_name = attribute die DW_AT_linkage_name }
+named_entry die = record { offset = die.offset; next = next_of die; name = attribute die DW_AT_NAME; linkage_name = attribute die DW_AT_LINKAGE_NAME }
 
 abbrev pub scope_entry : Die → ScopeKind → ScopeEntry
 scope_entry die kind = record {
   entry = named_entry die;
   kind = kind;
-  low_pc = attribute die DW_AT_low_pc;
-  high_pc = attribute die DW_AT_high_pc;
-  ranges = attribute die DW_AT_ranges;
-  call_file = number_of DW_AT_call_file die;
-  call_line = number_of DW_AT_call_line die;
+  low_pc = attribute die DW_AT_LOW_PC;
+  high_pc = attribute die DW_AT_HIGH_PC;
+  ranges = attribute die DW_AT_RANGES;
+  call_file = number_of DW_AT_CALL_FILE die;
+  call_line = number_of DW_AT_CALL_LINE die;
 }
 
 -- an entry that is a scope
@@ -44,11 +44,11 @@ scope_entry_of die = option_map (scope_entry die) (kind_of die.tag)
 abbrev pub root_entry : Die → RootEntry
 root_entry die = record {
   offset = die.offset;
-  stmt_list = number_of DW_AT_stmt_list die;
-  str_offsets_base = attribute die DW_AT_str_offsets_base;
-  addr_base = attribute die DW_AT_addr_base;
-  rnglists_base = attribute die DW_AT_rnglists_base;
-  low_pc = attribute die DW_AT_low_pc;
+  stmt_list = number_of DW_AT_STMT_LIST die;
+  str_offsets_base = attribute die DW_AT_STR_OFFSETS_BASE;
+  addr_base = attribute die DW_AT_ADDR_BASE;
+  rnglists_base = attribute die DW_AT_RNGLISTS_BASE;
+  low_pc = attribute die DW_AT_LOW_PC;
 }
 
 -- the root of a unit, which is its first entry

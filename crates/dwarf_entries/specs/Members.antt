@@ -1,6 +1,7 @@
 -- Entries with their units, as the program keeps them, for the contracts of paths.
 use Rattle.std.specs.Prelude.{◌≡◌, ℕ, List, Option, Some, None, Result, Ok, Err, map, slice_get, option_to_list}
 use Rattle.std.specs.Option.{option_and_then}
+use Rattle.dwarf_bytes.specs.declared.constants.TheConstants.{DW_AT_LINKAGE_NAME, DW_AT_NAME}
 use Rattle.dwarf_bytes.specs.declared.fault.Cause.{Cause}
 use Rattle.dwarf_bytes.specs.declared.fault.Cause.TheVariants as causes
 use Rattle.dwarf_entries.specs.declared.units.UnitHeader.{UnitHeader}
@@ -12,7 +13,6 @@ use Rattle.dwarf_entries.specs.declared.paths.FirstNames.{FirstNames}
 use Rattle.dwarf_entries.specs.declared.attributes.AttributeValue.{AttributeValue}
 use Rattle.dwarf_entries.specs.declared.bases.Table.{Table}
 use Rattle.dwarf_entries.specs.declared.bases.Bases.{Bases}
-use Rattle.dwarf_entries.specs.Attributes.{DW_AT_name, DW_AT_linkage_name}
 use Rattle.dwarf_entries.specs.Bases.{CompilationUnit}
 use Rattle.dwarf_entries.specs.Names.{Member, members_of, member_at, first_on}
 use Rattle.dwarf_entries.specs.Kept.{named_entry, AreInOrder}
@@ -56,8 +56,8 @@ IsFirst units (Some kept) None = ⊥
 IsFirst units (Some kept) (Some first) = (slice_get units kept.unit ≡ Some first.0) × (kept.value ≡ first.1)
 
 pub record AreFirst (units : List CompilationUnit) (kept : FirstNames) (path : List Member) : Type 0 where
-  pub name : IsFirst units kept.name (first_on DW_AT_name path)
-  pub linkage_name : IsFirst units kept.linkage_name (first_on DW_AT_linkage_name path)
+  pub name : IsFirst units kept.name (first_on DW_AT_NAME path)
+  pub linkage_name : IsFirst units kept.linkage_name (first_on DW_AT_LINKAGE_NAME path)
 
 -- what is found is of the path of the outcome
 abbrev pub FindsFirst : List CompilationUnit → Result FirstNames Cause → Result (List Member) Cause → Type 0

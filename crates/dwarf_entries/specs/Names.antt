@@ -1,5 +1,6 @@
 -- References between entries (DWARF 5, 2.13 and 7.5.5) and the names of an entry (2.15, 3.3.8).
 use Rattle.std.specs.Prelude.{ℕ, zero, suc, ◌+◌, List, [], ◌∷◌, length, Option, Some, None, Result, Ok, Err, ◌==◌, if◌then◌else◌, find, ok_or, option_map, map, flat_map}
+use Rattle.dwarf_bytes.specs.declared.constants.TheConstants.{DW_AT_ABSTRACT_ORIGIN, DW_AT_LINKAGE_NAME, DW_AT_NAME, DW_AT_SPECIFICATION, DW_FORM_LINE_STRP, DW_FORM_REF_ADDR, DW_FORM_REF_SIG8, DW_FORM_STRING, DW_FORM_STRP}
 use Rattle.dwarf_bytes.specs.declared.fault.Cause.{Cause}
 use Rattle.dwarf_bytes.specs.declared.fault.Cause.TheVariants as causes
 use Rattle.dwarf_bytes.specs.declared.fault.Section.{Section}
@@ -8,11 +9,10 @@ use Rattle.dwarf_bytes.specs.declared.tables.TableKind.TheVariants.{StrOffsets}
 use Rattle.dwarf_bytes.specs.Bind.{◌>>=◌}
 use Rattle.dwarf_bytes.specs.Items.{reading}
 use Rattle.dwarf_bytes.specs.Numbers.{text_at}
-use Rattle.dwarf_entries.specs.declared.scope.Text.{Text}
+use Rattle.dwarf_bytes.specs.declared.text.Text.{Text}
 use Rattle.dwarf_entries.specs.declared.bases.Table.{Table}
 use Rattle.dwarf_entries.specs.declared.paths.EntryNames.{EntryNames}
 use Rattle.dwarf_entries.specs.Sections.{Sections}
-use Rattle.dwarf_entries.specs.Attributes.{DW_AT_name, DW_AT_linkage_name, DW_AT_abstract_origin, DW_AT_specification}
 use Rattle.dwarf_entries.specs.declared.attributes.AttributeValue.{AttributeValue}
 use Rattle.dwarf_entries.specs.Entries.{Die, attribute}
 use Rattle.dwarf_entries.specs.Bases.{CompilationUnit, item_at, optional}
@@ -31,29 +31,24 @@ abbrev pub or_else : {X : Type 0} → Option X → Option X → Option X
 or_else (Some x) other = Some x
 or_else None other = other
 
--- DW_FORM_ref_addr, which counts from the start of the section, and DW_FORM_ref_sig8, which is not followed
-abbrev pub ref_addr : ℕ
-ref_addr = 0x10
-
-abbrev pub ref_sig8 : ℕ
-ref_sig8 = 0x20
-
+-- a reference, unless it is one by a signature
 abbrev pub followed : Option AttributeValue → Option AttributeValue
 followed None = None
-followed (Some value) = if value.form == ref_sig8 then None else Some value
+followed (Some value) = if value.form == DW_FORM_REF_SIG8 then None else Some value
 
 -- the reference to the next entry: abstract_origin, else specification
 abbrev pub next_of : Die → Option AttributeValue
-next_of die = followed (or_else (attribute die DW_AT_abstract_origin) (attribute die DW_AT_specification))
+next_of die = followed (or_else (attribute die DW_AT_ABSTRACT_ORIGIN) (attribute die DW_AT_SPECIFICATION))
 
 -- the entry at an offset of .debug_info, among these
 abbrev pub member_at : List Member → ℕ → Result Member Cause
 member_at members offset = ok_or (find (λ m. m.die.offset == offset) members) causes.Reference
 
--- the entry that a reference in a unit names: one of any unit, or one of the unit, counted from its first byte
+-- the entry that a reference in a unit names: of form ref_addr one of any unit, counted from the start of the section, else one of
+-- the unit, counted from its first byte
 abbrev pub target_of : List CompilationUnit → CompilationUnit → AttributeValue → Result Member Cause
 target_of units unit reference =
-    if reference.form == ref_addr then member_at (members_of units) reference.number
+    if reference.form == DW_FORM_REF_ADDR then member_at (members_of units) reference.number
     else member_at (members_of (unit ∷ [])) (unit.header.start + reference.number)
 
 -- the hops that a path may have
@@ -71,16 +66,6 @@ path_within (suc hops) units m = elim (next_of (m.die)) [
 abbrev pub path_of : List CompilationUnit → Member → Result (List Member) Cause
 path_of = path_within hops_limit
 
--- DW_FORM_string, strp and line_strp; the other forms of a text are indexes of .debug_str_offsets
-abbrev pub string_form : ℕ
-string_form = 0x08
-
-abbrev pub strp : ℕ
-strp = 0x0e
-
-abbrev pub line_strp : ℕ
-line_strp = 0x1f
-
 -- where a text stands
 abbrev pub text : Section → ℕ → ℕ → Text
 text section place len = record { section = section; span = record { place = place; len = len } }
@@ -93,12 +78,13 @@ text_len section offset = reading (text_at section offset) >>= λ found. Ok (len
 abbrev pub text_in : Section → List ℕ → ℕ → Result Text Cause
 text_in name section offset = text_len section offset >>= λ len. Ok (text name offset len)
 
--- the text that a value is, by the table of the unit in which it stands; one of form string stands in the entry
+-- the text that a value is, by the table of the unit in which it stands; one of form string stands in the entry, and the forms
+-- that are not named here are indexes of .debug_str_offsets
 abbrev pub text_of : Sections → Option Table → AttributeValue → Result Text Cause
 text_of s str_offsets value =
-    if value.form == string_form then text_in sections.DebugInfo s.debug_info value.number
-    else if value.form == strp then text_in sections.DebugStr s.debug_str value.number
-    else if value.form == line_strp then text_in sections.DebugLineStr s.debug_line_str value.number
+    if value.form == DW_FORM_STRING then text_in sections.DebugInfo s.debug_info value.number
+    else if value.form == DW_FORM_STRP then text_in sections.DebugStr s.debug_str value.number
+    else if value.form == DW_FORM_LINE_STRP then text_in sections.DebugLineStr s.debug_line_str value.number
     else item_at StrOffsets s.debug_str_offsets str_offsets value.number >>= λ offset. text_in sections.DebugStr s.debug_str offset
 
 -- the value of an attribute of an entry, with the entry's unit
@@ -118,6 +104,6 @@ name_on name s path = optional (λ found. text_of s found.0.bases.str_offsets fo
 abbrev pub names_of : Sections → List CompilationUnit → Member → Result EntryNames Cause
 names_of s units m = do
   path ← path_of units m
-  name ← name_on DW_AT_name s path
-  linkage_name ← name_on DW_AT_linkage_name s path
+  name ← name_on DW_AT_NAME s path
+  linkage_name ← name_on DW_AT_LINKAGE_NAME s path
   Ok (record { name = name; linkage_name = linkage_name })

@@ -1,5 +1,6 @@
 -- The addresses of an entry (DWARF 5, 2.17 and 7.25).
-use Rattle.std.specs.Prelude.{ℕ, ◌+◌, ◌^◌, List, [], ◌∷◌, length, Option, Some, None, Result, Ok, Err, nat_lt, nat_le, ◌==◌, ◌||◌, if◌then◌else◌, ok_or, option_to_list, flat_map, slice_get}
+use Rattle.std.specs.Prelude.{ℕ, ◌+◌, ◌-◌, ◌^◌, List, [], ◌∷◌, length, Option, Some, None, Result, Ok, Err, nat_lt, nat_le, ◌==◌, ◌||◌, if◌then◌else◌, ok_or, option_to_list, flat_map, slice_get}
+use Rattle.dwarf_bytes.specs.declared.constants.TheConstants.{DW_AT_HIGH_PC, DW_AT_LOW_PC, DW_AT_RANGES, DW_FORM_RNGLISTX}
 use Rattle.dwarf_bytes.specs.declared.fault.Cause.{Cause}
 use Rattle.dwarf_bytes.specs.declared.fault.Cause.TheVariants as causes
 use Rattle.dwarf_bytes.specs.declared.tables.TableKind.TheVariants.{Addr, RngLists}
@@ -13,7 +14,7 @@ use Rattle.dwarf_entries.specs.declared.ranges.RangeListKind.TheVariants.{BaseAd
 use Rattle.dwarf_entries.specs.declared.ranges.RangeListEntry.{RangeListEntry}
 use Rattle.dwarf_entries.specs.declared.ranges.RangeListEntry.TheVariants.{Base, Covers}
 use Rattle.dwarf_entries.specs.Sections.{Sections}
-use Rattle.dwarf_entries.specs.Attributes.{DW_AT_low_pc, DW_AT_high_pc, DW_AT_ranges, is_among, address_forms}
+use Rattle.dwarf_entries.specs.Attributes.{is_among, address_forms}
 use Rattle.dwarf_entries.specs.declared.attributes.AttributeValue.{AttributeValue}
 use Rattle.dwarf_entries.specs.Entries.{Die, attribute}
 use Rattle.dwarf_entries.specs.Bases.{item_at, address_of}
@@ -24,6 +25,18 @@ covered bounds = do
   _ ← refuse_if (nat_le (2 ^ 64) bounds.0 || nat_le (2 ^ 64) bounds.1) causes.Overflow
   _ ← refuse_if (nat_lt bounds.1 bounds.0) causes.RangeBackwards
   Ok (if bounds.0 == bounds.1 then None else Some (record { from = bounds.0; to = bounds.1 }))
+
+-- the start of dropped code, which no code has (this project's own rule: DWARF 5 names no such address)
+abbrev pub dropped : ℕ
+dropped = 2 ^ 64 - 1
+
+-- the range of two bounds, which cover nothing where the first is that of dropped code
+abbrev pub covered_from : ℕ × ℕ → Result (Option Range) Cause
+covered_from bounds = if bounds.0 == dropped then Ok None else covered bounds
+
+-- two offsets from the base in force, which cover nothing where it is that of dropped code
+abbrev pub covered_pair : ℕ → ℕ × ℕ → Result (Option Range) Cause
+covered_pair base offsets = if base == dropped then Ok None else covered (base + offsets.0, base + offsets.1)
 
 -- the kinds by their numbers, DW_RLE_end_of_list to DW_RLE_start_length (7.25, table 7.30); the end of a list is none
 abbrev pub kinds : List (Option RangeListKind)
@@ -63,30 +76,30 @@ start_and_end read lists at = read lists at >>= λ start. read lists start.1 >>=
 abbrev pub start_and_length : (List ℕ → ℕ → Result (ℕ × ℕ) Cause) → List ℕ → ℕ → Result ((ℕ × ℕ) × ℕ) Cause
 start_and_length read lists at = read lists at >>= λ start. number_at lists start.1 >>= λ len. Ok ((start.0, start.0 + len.0), len.1)
 
--- two offsets from the base in force
-abbrev pub offset_pair : Option ℕ → List ℕ → ℕ → Result ((ℕ × ℕ) × ℕ) Cause
+-- the base in force, and two offsets from it
+abbrev pub offset_pair : Option ℕ → List ℕ → ℕ → Result ((ℕ × (ℕ × ℕ)) × ℕ) Cause
 offset_pair base lists at = do
   start ← number_at lists at
   end ← number_at lists start.1
   from ← ok_or base causes.Base
-  Ok ((from + start.0, from + end.0), end.1)
+  Ok ((from, (start.0, end.0)), end.1)
 
--- an entry that sets the base, and one that covers what is between two bounds
+-- an entry that sets the base, and one that covers what its operands are judged to be
 abbrev pub sets_base : Result (ℕ × ℕ) Cause → Result (RangeListEntry × ℕ) Cause
 sets_base read = read >>= λ new. Ok (Base new.0, new.1)
 
-abbrev pub covers : Result ((ℕ × ℕ) × ℕ) Cause → Result (RangeListEntry × ℕ) Cause
-covers read = read >>= λ bounds. covered bounds.0 >>= λ range. Ok (Covers range, bounds.1)
+abbrev pub covers : {X : Type 0} → (X → Result (Option Range) Cause) → Result (X × ℕ) Cause → Result (RangeListEntry × ℕ) Cause
+covers judge read = read >>= λ operands. judge operands.0 >>= λ range. Ok (Covers range, operands.1)
 
 -- the entry of a kind, by the operands at a place; base is the base in force
 unfoldable pub entry_at : Sections → Bases → Option ℕ → RangeListKind → List ℕ → ℕ → Result (RangeListEntry × ℕ) Cause
 entry_at sections bases base BaseAddressx lists at = sets_base (index_at sections bases lists at)
-entry_at sections bases base StartxEndx lists at = covers (start_and_end (index_at sections bases) lists at)
-entry_at sections bases base StartxLength lists at = covers (start_and_length (index_at sections bases) lists at)
-entry_at sections bases base OffsetPair lists at = covers (offset_pair base lists at)
+entry_at sections bases base StartxEndx lists at = covers covered_from (start_and_end (index_at sections bases) lists at)
+entry_at sections bases base StartxLength lists at = covers covered_from (start_and_length (index_at sections bases) lists at)
+entry_at sections bases base OffsetPair lists at = covers (λ pair. covered_pair pair.0 pair.1) (offset_pair base lists at)
 entry_at sections bases base BaseAddress lists at = sets_base (address_at lists at)
-entry_at sections bases base StartEnd lists at = covers (start_and_end address_at lists at)
-entry_at sections bases base StartLength lists at = covers (start_and_length address_at lists at)
+entry_at sections bases base StartEnd lists at = covers covered_from (start_and_end address_at lists at)
+entry_at sections bases base StartLength lists at = covers covered_from (start_and_length address_at lists at)
 
 -- the entry at a place, behind so many in its list, of which there may be as many as there is room for
 abbrev pub listed_behind : ℕ → Sections → Bases → ℕ → Option ℕ → List ℕ → ℕ → Result (Next RangeListEntry) Cause
@@ -110,13 +123,9 @@ pub record Covering : Type 0 where
   pub ranges : List Range
   pub items : ℕ
 
--- DW_FORM_rnglistx; the other form of a list is its offset
-abbrev pub rnglistx : ℕ
-rnglistx = 0x23
-
--- where the list of an attribute stands
+-- where the list of an attribute stands: at the item of an index, or at its offset
 abbrev pub list_place : Sections → Bases → AttributeValue → Result ℕ Cause
-list_place sections bases value = if value.form == rnglistx then (do
+list_place sections bases value = if value.form == DW_FORM_RNGLISTX then (do
   offset ← item_at RngLists sections.debug_rnglists bases.rnglists value.number
   table ← ok_or bases.rnglists causes.Base
   Ok (table.base + offset)) else Ok value.number
@@ -140,7 +149,7 @@ abbrev pub pair_range : Sections → Bases → AttributeValue → AttributeValue
 pair_range sections bases low high = do
   start ← address_of sections bases.addr low
   end ← high_of sections bases start high
-  covered (start, end)
+  covered_from (start, end)
 
 -- what it covers, where there is room for one more item
 abbrev pub pair_at : ℕ → Sections → Bases → AttributeValue → AttributeValue → Result Covering Cause
@@ -158,4 +167,4 @@ covers_by room sections bases (Some low) (Some high) None = pair_at room section
 covers_by room sections bases low None None = Ok (record { ranges = []; items = 0 })
 
 unfoldable pub covers_of : ℕ → Sections → Bases → Die → Result Covering Cause
-covers_of room sections bases die = covers_by room sections bases (attribute die DW_AT_low_pc) (attribute die DW_AT_high_pc) (attribute die DW_AT_ranges)
+covers_of room sections bases die = covers_by room sections bases (attribute die DW_AT_LOW_PC) (attribute die DW_AT_HIGH_PC) (attribute die DW_AT_RANGES)

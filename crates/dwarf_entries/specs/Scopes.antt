@@ -1,5 +1,7 @@
 -- The subprograms and inlined subroutines of all units (DWARF 5, 3.3), and the faults of .debug_info.
-use Rattle.std.specs.Prelude.{ℕ, ◌+◌, ◌-◌, List, [], ◌∷◌, length, Bool, Option, Some, None, Result, Ok, ◌==◌, if◌then◌else◌, is_some, option_map, map, flat_map, count_by, sum_by, zip}
+use Rattle.std.specs.Prelude.{ℕ, ◌+◌, ◌-◌, List, [], ◌∷◌, length, Bool, Option, Some, None, Result, Ok, ◌==◌, if◌then◌else◌, is_some, option_map, option_and_then, map, flat_map, count_by, sum_by, slice_get, zip}
+use Rattle.std.specs.Option.{option_map_or}
+use Rattle.dwarf_bytes.specs.declared.constants.TheConstants.{DW_TAG_INLINED_SUBROUTINE, DW_TAG_SUBPROGRAM, DW_AT_CALL_FILE, DW_AT_CALL_LINE, DW_AT_STMT_LIST}
 use Rattle.dwarf_bytes.specs.declared.fault.Cause.{Cause}
 use Rattle.dwarf_bytes.specs.declared.fault.Section.TheVariants as names
 use Rattle.dwarf_bytes.specs.declared.fault.LoadFault.{LoadFault}
@@ -7,7 +9,7 @@ use Rattle.dwarf_bytes.specs.Bind.{◌>>=◌}
 use Rattle.dwarf_bytes.specs.Items.{told_at, each}
 use Rattle.dwarf_bytes.specs.Refusals.{in_section}
 use Rattle.dwarf_entries.specs.declared.paths.EntryNames.{EntryNames}
-use Rattle.dwarf_entries.specs.declared.scope.Text.{Text}
+use Rattle.dwarf_bytes.specs.declared.text.Text.{Text}
 use Rattle.dwarf_entries.specs.declared.scope.Range.{Range}
 use Rattle.dwarf_entries.specs.declared.scope.Root.{Root}
 use Rattle.dwarf_entries.specs.declared.scope.Scope.{Scope as Kept}
@@ -15,7 +17,6 @@ use Rattle.dwarf_entries.specs.declared.scope.ScopeKind.{ScopeKind}
 use Rattle.dwarf_entries.specs.declared.scope.ScopeKind.TheVariants.{Subprogram, Inlined}
 use Rattle.dwarf_entries.specs.Sections.{Sections}
 use Rattle.dwarf_entries.specs.Units.{units_of, tables_of}
-use Rattle.dwarf_entries.specs.Attributes.{DW_AT_stmt_list, DW_AT_call_file, DW_AT_call_line}
 use Rattle.dwarf_entries.specs.Entries.{Die, attribute, below, entries_of}
 use Rattle.dwarf_entries.specs.Bases.{CompilationUnit, unit_of}
 use Rattle.dwarf_entries.specs.Names.{Member, names_of}
@@ -49,13 +50,48 @@ scope_of s = record {
   call_line = s.call_line;
 }
 
+-- what a scope tells by itself
+pub record Own : Type 0 where
+  pub kind : ScopeKind
+  pub offset : ℕ
+  pub number : ℕ
+  pub end : ℕ
+  pub name : Option Text
+  pub linkage_name : Option Text
+
+abbrev pub own : Scope → Own
+own s = record {
+  kind = s.kind;
+  offset = s.offset;
+  number = s.number;
+  end = s.«end»;
+  name = s.name;
+  linkage_name = s.linkage_name;
+}
+
+abbrev pub own_of : Kept → Own
+own_of s = own (scope_of s)
+
+-- what is told of the scope of a number by way of the scopes that it is of
+abbrev pub ranges_at : List Scope → ℕ → List Range
+ranges_at scopes number = option_map_or (λ s. s.ranges) (slice_get scopes number) []
+
+abbrev pub stmt_list_at : List Scope → ℕ → Option ℕ
+stmt_list_at scopes number = option_and_then (λ s. s.stmt_list) (slice_get scopes number)
+
+abbrev pub call_file_at : List Scope → ℕ → Option ℕ
+call_file_at scopes number = option_and_then (λ s. s.call_file) (slice_get scopes number)
+
+abbrev pub call_line_at : List Scope → ℕ → Option ℕ
+call_line_at scopes number = option_and_then (λ s. s.call_line) (slice_get scopes number)
+
 pub record Tree : Type 0 where
   pub roots : List Root
   pub scopes : List Scope
 
--- DW_TAG_subprogram and DW_TAG_inlined_subroutine (7.5.3, table 7.3)
+-- the tags of scopes (7.5.3, table 7.3)
 abbrev pub kind_of : ℕ → Option ScopeKind
-kind_of tag = if tag == 0x2e then Some Subprogram else (if tag == 0x1d then Some Inlined else None)
+kind_of tag = if tag == DW_TAG_SUBPROGRAM then Some Subprogram else (if tag == DW_TAG_INLINED_SUBROUTINE then Some Inlined else None)
 
 abbrev pub is_scope : Die → Bool
 is_scope die = is_some (kind_of die.tag)
@@ -83,7 +119,7 @@ number_of name die = option_map (λ value. value.number) (attribute die name)
 -- the stmt_list of a unit, which is its root's
 abbrev pub stmt_list_of : List Die → Option ℕ
 stmt_list_of [] = None
-stmt_list_of (root ∷ dies) = number_of DW_AT_stmt_list root
+stmt_list_of (root ∷ dies) = number_of DW_AT_STMT_LIST root
 
 -- the range items that may be read for a module
 abbrev pub items_limit : ℕ
@@ -111,8 +147,8 @@ scope_by found sections before p = do
       name = names.name;
       linkage_name = names.linkage_name;
       stmt_list = stmt_list_of p.member.unit.dies;
-      call_file = number_of DW_AT_call_file die;
-      call_line = number_of DW_AT_call_line die;
+      call_file = number_of DW_AT_CALL_FILE die;
+      call_line = number_of DW_AT_CALL_LINE die;
     };
   })
 
@@ -123,7 +159,7 @@ scope_at sections units before p = scope_by (names_of sections units p.member) s
 abbrev pub root_of : ℕ → ℕ → List Die → List Root → List Root
 root_of first past [] roots = roots
 root_of first past (root ∷ dies) roots =
-    record { offset = root.offset; stmt_list = number_of DW_AT_stmt_list root; first = first; past = past } ∷ roots
+    record { offset = root.offset; stmt_list = number_of DW_AT_STMT_LIST root; first = first; past = past } ∷ roots
 
 -- the roots of the units, where so many scopes stand before them
 abbrev pub roots_from : ℕ → List CompilationUnit → List Root

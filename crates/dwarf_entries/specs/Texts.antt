@@ -1,28 +1,10 @@
--- Where texts end (DWARF 5, 7.5.5), for the contracts of the index by which the end of a text is found.
-use Rattle.std.specs.Prelude.{◌≡◌, ℕ, zero, suc, ◌+◌, ◌*◌, ◌≤◌, List, [], ◌∷◌, length, drop, Option, option_map, position, ◌==◌}
-use Rattle.dwarf_entries.specs.declared.text_ends.TextEnds.{TextEnds}
+-- The sections that texts stand in (DWARF 5, 7.5.5), for the contracts of names.
+use Rattle.std.specs.Prelude.{◌≡◌}
+use Rattle.dwarf_entries.specs.declared.texts.Texts.{Texts}
 use Rattle.dwarf_entries.specs.Sections.{Sections}
 
--- the first NUL from a place of a section on
-abbrev pub nul_from : List ℕ → ℕ → Option ℕ
-nul_from section at = option_map (λ n. at + n) (position (λ byte. byte == 0) (drop at section))
-
--- the bytes of a block
-abbrev pub block_len : ℕ
-block_len = 4096
-
--- the first NUL from the start of each of some blocks on
-abbrev pub nuls_from : List ℕ → ℕ → ℕ → List (Option ℕ)
-nuls_from section block zero = []
-nuls_from section block (suc count) = nul_from section (block_len * block) ∷ nuls_from section (block + 1) count
-
--- .. of all blocks of a section
-pub record AreNuls (section : List ℕ) (nuls : List (Option ℕ)) : Type 0 where
-  pub count : ℕ
-  pub nuls_are : nuls ≡ nuls_from section 0 count
-  pub all : length section ≤ block_len * count
-
-pub record AreEnds (s : Sections) (ends : TextEnds) : Type 0 where
-  pub info : AreNuls s.debug_info ends.info.items
-  pub str : AreNuls s.debug_str ends.str.items
-  pub line_str : AreNuls s.debug_line_str ends.line_str.items
+-- the sections of an object
+pub record AreTexts (s : Sections) (texts : Texts) : Type 0 where
+  pub info : texts.info ≡ s.debug_info
+  pub str : texts.str ≡ s.debug_str
+  pub line_str : texts.line_str ≡ s.debug_line_str

@@ -1,5 +1,6 @@
 -- Unit headers (DWARF 5, 7.5.1) and the abbreviation tables of the units.
 use Rattle.std.specs.Prelude.{ℕ, ◌+◌, ◌-◌, List, [], length, take, Bool, true, false, Option, Some, None, Result, Ok, nat_lt, nat_le, ◌==◌, not, if◌then◌else◌, filter, sum_by, ok_or}
+use Rattle.dwarf_bytes.specs.declared.constants.TheConstants.{DW_UT_COMPILE, DW_UT_TYPE, DW_UT_PARTIAL}
 use Rattle.dwarf_bytes.specs.declared.fault.Cause.{Cause}
 use Rattle.dwarf_bytes.specs.declared.fault.Cause.TheVariants as causes
 use Rattle.dwarf_bytes.specs.declared.format.Format.{Format}
@@ -12,10 +13,10 @@ use Rattle.dwarf_entries.specs.declared.units.UnitType.{UnitType}
 use Rattle.dwarf_entries.specs.declared.units.UnitType.TheVariants as types
 use Rattle.dwarf_entries.specs.declared.units.UnitHeader.{UnitHeader}
 
--- DW_UT_compile, DW_UT_type and DW_UT_partial (7.5.1, table 7.2); other units are refused
+-- the types of units (7.5.1, table 7.2); other units are refused
 abbrev pub unit_type_of : ℕ → Option UnitType
 unit_type_of number =
-    if number == 1 then Some types.Compile else (if number == 2 then Some types.Type else (if number == 3 then Some types.Partial else None))
+    if number == DW_UT_COMPILE then Some types.Compile else (if number == DW_UT_TYPE then Some types.Type else (if number == DW_UT_PARTIAL then Some types.Partial else None))
 
 -- whether a unit is read
 abbrev pub is_read_type : UnitType → Bool

@@ -8,37 +8,9 @@ ghost use Rattle.dwarf_entries.specs.Attributes.{is_used, accepts, is_negative_c
 ghost use Rattle.dwarf_forms.specs.Values.{value_of, value_at};
 ghost use Rattle.dwarf_entries.specs.Entries.{is_direct, form_at, reading_value, attribute_at};
 
+use dwarf_bytes::constants::*;
 use dwarf_bytes::{Cause, Content, Cursor, Form, Format};
 use dwarf_forms::{AttributeSpecification, Value, ValueFault, value};
-
-pub(crate) const DW_AT_NAME: u64 = 0x03;
-
-pub(crate) const DW_AT_STMT_LIST: u64 = 0x10;
-
-pub(crate) const DW_AT_LOW_PC: u64 = 0x11;
-
-pub(crate) const DW_AT_HIGH_PC: u64 = 0x12;
-
-pub(crate) const DW_AT_ABSTRACT_ORIGIN: u64 = 0x31;
-
-pub(crate) const DW_AT_SPECIFICATION: u64 = 0x47;
-
-pub(crate) const DW_AT_RANGES: u64 = 0x55;
-
-pub(crate) const DW_AT_CALL_FILE: u64 = 0x58;
-
-pub(crate) const DW_AT_CALL_LINE: u64 = 0x59;
-
-pub(crate) const DW_AT_LINKAGE_NAME: u64 = 0x6e;
-
-pub(crate) const DW_AT_STR_OFFSETS_BASE: u64 = 0x72;
-
-pub(crate) const DW_AT_ADDR_BASE: u64 = 0x73;
-
-pub(crate) const DW_AT_RNGLISTS_BASE: u64 = 0x74;
-
-/// DW_FORM_indirect
-const INDIRECT: u64 = 0x16;
 
 /// The value of an attribute: its form behind DW_FORM_indirect, and its number. The number of a text
 /// that stands in the entry is its offset in the section.
@@ -87,9 +59,9 @@ pub(crate) fn accepts(name: u64, form: u64) -> bool
         DW_AT_HIGH_PC => is_address(form) || is_count(form),
         DW_AT_CALL_FILE | DW_AT_CALL_LINE => is_count(form),
         DW_AT_ABSTRACT_ORIGIN | DW_AT_SPECIFICATION => is_reference(form),
-        DW_AT_RANGES => matches!(form, 0x17 | 0x23),
+        DW_AT_RANGES => matches!(form, DW_FORM_SEC_OFFSET | DW_FORM_RNGLISTX),
         DW_AT_STMT_LIST | DW_AT_STR_OFFSETS_BASE | DW_AT_ADDR_BASE | DW_AT_RNGLISTS_BASE => {
-            form == 0x17
+            form == DW_FORM_SEC_OFFSET
         }
         _ => true,
     }
@@ -98,25 +70,61 @@ pub(crate) fn accepts(name: u64, form: u64) -> bool
 fn is_string(form: u64) -> bool
     ensures { result ≡ is_among string_forms form }
 {
-    matches!(form, 0x08 | 0x0e | 0x1a | 0x1f | 0x25..=0x28)
+    matches!(
+        form,
+        DW_FORM_STRING
+            | DW_FORM_STRP
+            | DW_FORM_LINE_STRP
+            | DW_FORM_STRX
+            | DW_FORM_STRX1
+            | DW_FORM_STRX2
+            | DW_FORM_STRX3
+            | DW_FORM_STRX4
+    )
 }
 
 pub(crate) fn is_address(form: u64) -> bool
     ensures { result ≡ is_among address_forms form }
 {
-    matches!(form, 0x01 | 0x1b | 0x29..=0x2c)
+    matches!(
+        form,
+        DW_FORM_ADDR
+            | DW_FORM_ADDRX
+            | DW_FORM_ADDRX1
+            | DW_FORM_ADDRX2
+            | DW_FORM_ADDRX3
+            | DW_FORM_ADDRX4
+    )
 }
 
 fn is_count(form: u64) -> bool
     ensures { result ≡ is_among count_forms form }
 {
-    matches!(form, 0x05 | 0x06 | 0x07 | 0x0b | 0x0d | 0x0f | 0x21)
+    matches!(
+        form,
+        DW_FORM_DATA1
+            | DW_FORM_DATA2
+            | DW_FORM_DATA4
+            | DW_FORM_DATA8
+            | DW_FORM_SDATA
+            | DW_FORM_UDATA
+            | DW_FORM_IMPLICIT_CONST
+    )
 }
 
 fn is_reference(form: u64) -> bool
     ensures { result ≡ is_among reference_forms form }
 {
-    matches!(form, 0x10..=0x15 | 0x20)
+    matches!(
+        form,
+        DW_FORM_REF_ADDR
+            | DW_FORM_REF1
+            | DW_FORM_REF2
+            | DW_FORM_REF4
+            | DW_FORM_REF8
+            | DW_FORM_REF_UDATA
+            | DW_FORM_REF_SIG8
+    )
 }
 
 /// Whether the value of a used attribute is a count below 0.
@@ -124,7 +132,9 @@ pub(crate) fn is_negative_count(name: u64, content: Content<'_>) -> bool
     ensures { result ≡ is_negative_count name (content_of content.entry) }
 {
     match content {
-        Content::Signed(number) => matches!(name, 0x12 | 0x58 | 0x59) && number < 0,
+        Content::Signed(number) => {
+            matches!(name, DW_AT_HIGH_PC | DW_AT_CALL_FILE | DW_AT_CALL_LINE) && number < 0
+        }
         _ => false,
     }
 }
@@ -145,7 +155,7 @@ fn number_of(content: Content<'_>, after: usize) -> u64
 fn form(form: u64, cursor: &mut Cursor) -> Result<u64, Cause>
     ensures { ReadsField (λ form. form) result (form_at form) cursor.old cursor.new }
 {
-    if form != INDIRECT {
+    if form != DW_FORM_INDIRECT {
         return Ok(form);
     }
     let inner = cursor.uleb()?;
@@ -173,7 +183,7 @@ pub(crate) fn read_attribute(
     if !accepts(specification.name, form) {
         return Err(Cause::AttrForm);
     }
-    let value = read_value(form, specification.constant, format, cursor)?;
+    let value = read_value(form, format, specification.constant, cursor)?;
     if is_negative_count(specification.name, value.content) {
         return Err(Cause::AttrForm);
     }
@@ -187,13 +197,13 @@ pub(crate) fn read_attribute(
 /// The value at the cursor in a form.
 fn read_value<'a>(
     form: u64,
-    constant: Option<i64>,
     format: Format,
+    constant: Option<i64>,
     cursor: &mut Cursor<'a>,
 ) -> Result<Value<'a>, Cause>
-    ensures { ReadsField value_of result (λ bytes at. reading_value (value_at form constant format bytes at)) cursor.old cursor.new }
+    ensures { ReadsField value_of result (λ bytes at. reading_value (value_at form format constant bytes at)) cursor.old cursor.new }
 {
-    match value(form, constant, format, cursor) {
+    match value(form, format, constant, cursor) {
         Ok(value) => Ok(value),
         Err(ValueFault::Form) => Err(Cause::Form),
         Err(ValueFault::Read(fault)) => Err(Cause::from(fault)),

@@ -8,10 +8,8 @@ ghost use Rattle.dwarf_entries.specs.Sections.{sections_of};
 
 use crate::attributes::AttributeValue;
 use crate::sections::Sections;
+use dwarf_bytes::constants::DW_FORM_ADDR;
 use dwarf_bytes::{Cause, Cursor, Format, ReadFault, TableHead, TableKind};
-
-/// DW_FORM_addr; the other forms of an address are indexes of `.debug_addr`.
-const ADDR_FORM: u64 = 0x01;
 
 /// A table of a unit: its base, what its header says, and the unit's format.
 #[derive(Clone, Copy, Debug, PartialEq, Eq)]
@@ -81,7 +79,7 @@ pub(crate) fn address_of(
 ) -> Result<u64, Cause>
     ensures { result ≡ address_of (sections_of sections.now) addr value }
 {
-    if value.form == ADDR_FORM {
+    if value.form == DW_FORM_ADDR {
         return Ok(value.number);
     }
     item_at(TableKind::Addr, sections.debug_addr, addr, value.number)

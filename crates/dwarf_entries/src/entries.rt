@@ -12,7 +12,7 @@ use crate::kept::{Keeping, NamedEntry, RootEntry, ScopeEntry, UnitEntries, kind_
 use crate::plans::read_steps;
 use crate::tables::UnitTable;
 use crate::units::UnitHeader;
-use dwarf_bytes::{Cause, Cursor, LoadFault, Section};
+use dwarf_bytes::{Cause, Cursor, LoadFault, Section, Span};
 use std::alloc::{AllocError, Global};
 
 /// The greatest depth of an entry.
@@ -67,9 +67,7 @@ pub(crate) fn entries(
         let at = header.start as u64;
         return Err(LoadFault::told(Section::DebugInfo, Cause::TreeOpen, at));
     }
-    let Ok(insides) = insides(alloc, walk.levels) else {
-        return Err(LoadFault::told(Section::DebugInfo, Cause::Memory, 0));
-    };
+    let insides = insides(alloc, walk.levels)?;
     Ok(UnitEntries {
         header,
         root: walk.root,
@@ -157,7 +155,11 @@ fn walk_unit(
     requires { table.now.format ≡ header.format }
     ensures { Decodes (λ walk. walked_of walk) result (in_section sections.DebugInfo (walk_of keeping info.now header table.now.declarations)) }
 {
-    let unit = up_to(info, header.end);
+    let unit = Span {
+        place: 0,
+        len: header.end,
+    }
+    .of(info);
     let mut cursor = Cursor::new(unit);
     let mut walk = Walk::new(alloc);
     let mut found = Vec::new(alloc);
@@ -171,13 +173,6 @@ fn walk_unit(
         }
     }
     Ok(walk)
-}
-
-/// The bytes up to an end, or all where they are fewer.
-pub(crate) fn up_to(bytes: &[u8], end: usize) -> &[u8]
-    ensures { result.now ≡ take end bytes.now }
-{
-    bytes.get(..end).unwrap_or(bytes)
 }
 
 /// The entry at the cursor, at a depth, or none for a null. Its attributes come into `found`, where any

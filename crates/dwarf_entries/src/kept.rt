@@ -7,20 +7,10 @@ ghost use Rattle.dwarf_entries.specs.Names.{followed, next_of};
 ghost use Rattle.dwarf_entries.specs.Readers.{die_with, keeps_attributes};
 ghost use Rattle.dwarf_entries.specs.Scopes.{kind_of, number_of};
 
-use crate::attributes::{
-    Attribute, AttributeValue, DW_AT_ABSTRACT_ORIGIN, DW_AT_ADDR_BASE, DW_AT_CALL_FILE,
-    DW_AT_CALL_LINE, DW_AT_HIGH_PC, DW_AT_LINKAGE_NAME, DW_AT_LOW_PC, DW_AT_NAME, DW_AT_RANGES,
-    DW_AT_RNGLISTS_BASE, DW_AT_SPECIFICATION, DW_AT_STMT_LIST, DW_AT_STR_OFFSETS_BASE,
-};
+use crate::attributes::{Attribute, AttributeValue};
 use crate::scope::ScopeKind;
 use crate::units::UnitHeader;
-
-/// DW_FORM_ref_sig8, which is not followed.
-const REF_SIG8: u64 = 0x20;
-
-const DW_TAG_INLINED_SUBROUTINE: u64 = 0x1d;
-
-const DW_TAG_SUBPROGRAM: u64 = 0x2e;
+use dwarf_bytes::constants::*;
 
 /// Which entries a walk keeps by their names and references.
 #[derive(Clone, Copy, Debug, PartialEq, Eq)]
@@ -182,7 +172,7 @@ fn next_of(attributes: &[Attribute]) -> Option<AttributeValue>
 fn followed(value: AttributeValue) -> Option<AttributeValue>
     ensures { result ≡ followed (Some value) }
 {
-    if value.form == REF_SIG8 {
+    if value.form == DW_FORM_REF_SIG8 {
         return None;
     }
     Some(value)

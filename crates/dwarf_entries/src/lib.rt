@@ -5,7 +5,7 @@ mod attributes;
 mod bases;
 mod entries;
 mod kept;
-mod laws;
+pub mod laws;
 mod names;
 mod passes;
 mod paths;
@@ -16,14 +16,11 @@ mod scope;
 mod scopes;
 mod sections;
 mod tables;
-mod text_ends;
+mod texts;
 mod unit_scopes;
 mod units;
 
-pub use laws::{
-    base_is_of_last_base_entry, entries_stand_at_counted_depths, offsets_of_entries_rise,
-    scopes_below_are_between, scopes_stand_in_order,
-};
-pub use scope::{Range, Root, Scope, ScopeKind, Text};
+pub use dwarf_bytes::Text;
+pub use scope::{Range, Root, Scope, ScopeKind};
 pub use scopes::Scopes;
 pub use sections::Sections;

@@ -3,44 +3,30 @@
 ghost use Rattle.std.specs.Prelude.{◌≡◌};
 ghost use Rattle.dwarf_entries.specs.Names.{text_in, text_of};
 ghost use Rattle.dwarf_entries.specs.Sections.{sections_of};
-ghost use Rattle.dwarf_entries.specs.Texts.{AreNuls, AreEnds};
+ghost use Rattle.dwarf_entries.specs.Texts.{AreTexts};
 
 use crate::attributes::AttributeValue;
 use crate::bases::{Table, item_at};
-use crate::scope::Text;
 use crate::sections::Sections;
-use crate::text_ends::{TextEnds, text_len};
-use dwarf_bytes::{Cause, Section, Span, TableKind};
-
-/// DW_FORM_string, whose text stands in the entry.
-const STRING: u64 = 0x08;
-
-/// DW_FORM_strp, an offset into `.debug_str`.
-const STRP: u64 = 0x0e;
-
-/// DW_FORM_line_strp, an offset into `.debug_line_str`.
-const LINE_STRP: u64 = 0x1f;
+use crate::texts::Texts;
+use dwarf_bytes::constants::{DW_FORM_LINE_STRP, DW_FORM_STRING, DW_FORM_STRP};
+use dwarf_bytes::{Cause, Section, Span, TableKind, Text, TextIndex};
 
 /// The text that a value is, by the table of string offsets of the unit in which it stands.
 pub(crate) fn text_of(
     sections: &Sections<'_>,
-    ends: &TextEnds,
+    texts: &Texts<'_>,
     str_offsets: Option<Table>,
     value: AttributeValue,
 ) -> Result<Text, Cause>
-    requires { AreEnds (sections_of sections.now) ends.now }
+    requires { AreTexts (sections_of sections.now) texts.now }
     ensures { result ≡ text_of (sections_of sections.now) str_offsets value }
 {
     let number = value.number;
     match value.form {
-        STRING => text_in(Section::DebugInfo, sections.debug_info, &ends.info, number),
-        STRP => text_in(Section::DebugStr, sections.debug_str, &ends.str, number),
-        LINE_STRP => text_in(
-            Section::DebugLineStr,
-            sections.debug_line_str,
-            &ends.line_str,
-            number,
-        ),
+        DW_FORM_STRING => text_in(Section::DebugInfo, &texts.info, number),
+        DW_FORM_STRP => text_in(Section::DebugStr, &texts.str, number),
+        DW_FORM_LINE_STRP => text_in(Section::DebugLineStr, &texts.line_str, number),
         _ => {
             let offset = item_at(
                 TableKind::StrOffsets,
@@ -48,22 +34,16 @@ pub(crate) fn text_of(
                 str_offsets,
                 number,
             )?;
-            text_in(Section::DebugStr, sections.debug_str, &ends.str, offset)
+            text_in(Section::DebugStr, &texts.str, offset)
         }
     }
 }
 
-/// The text at an offset of a section, by where texts end in it.
-fn text_in(
-    name: Section,
-    section: &[u8],
-    nuls: &[Option<usize>],
-    offset: u64,
-) -> Result<Text, Cause>
-    requires { AreNuls section.now nuls.now }
+/// The text at an offset of a section.
+fn text_in(name: Section, section: &TextIndex<'_>, offset: u64) -> Result<Text, Cause>
     ensures { result ≡ text_in name section.now offset }
 {
-    let len = text_len(section, nuls, offset)?;
+    let len = section.text_at(offset)?.len();
     Ok(Text {
         section: name,
         span: Span {

@@ -19,7 +19,7 @@ use crate::roots::bases;
 use crate::sections::Sections;
 use crate::tables::{DECLARATIONS_LIMIT, unit_table};
 use crate::units::UnitHeader;
-use dwarf_bytes::{Cause, LoadFault, Section};
+use dwarf_bytes::{LoadFault, Section};
 use std::alloc::Global;
 
 /// The entries of all units, whose tables are good. A table is read again, and dropped before the next
@@ -40,9 +40,7 @@ pub(crate) fn all_entries(
         let section = sections.debug_abbrev;
         let table = unit_table(alloc, section, header, &mut left, last)?;
         let unit = entries(alloc, sections.debug_info, *header, &table, keeping)?;
-        if units.push(unit).is_err() {
-            return Err(LoadFault::told(Section::DebugInfo, Cause::Memory, 0));
-        }
+        units.push(unit)?;
         last = Some(table);
     }
     Ok(units)
@@ -59,9 +57,7 @@ pub(crate) fn all_bases(
 {
     let mut all = Vec::new(alloc);
     for unit in units {
-        if all.push(unit_bases(sections, unit)?).is_err() {
-            return Err(LoadFault::told(Section::DebugInfo, Cause::Memory, 0));
-        }
+        all.push(unit_bases(sections, unit)?)?;
     }
     Ok(all)
 }

@@ -4,7 +4,7 @@ ghost use Rattle.std.specs.Prelude.{◌≡◌, ◌<◌, ◌≤◌, ◌==◌, ◌
 ghost use Rattle.std.specs.Option.{option_or};
 ghost use Rattle.std.specs.List.Sorted.{IsNonDecreasingBy, IsPartitionPoint};
 ghost use Rattle.dwarf_entries.specs.Sections.{sections_of};
-ghost use Rattle.dwarf_entries.specs.Texts.{AreEnds};
+ghost use Rattle.dwarf_entries.specs.Texts.{AreTexts};
 ghost use Rattle.dwarf_entries.specs.Bases.{CompilationUnit, optional};
 ghost use Rattle.dwarf_entries.specs.Names.{Member, target_of, path_of, text_of, names_of};
 ghost use Rattle.dwarf_entries.specs.Members.{AreKept, IsMember, Finds, member_in, AreFirst, FindsFirst, str_offsets_of};
@@ -13,14 +13,10 @@ use crate::attributes::AttributeValue;
 use crate::bases::Bases;
 use crate::kept::{NamedEntry, UnitEntries};
 use crate::names::text_of;
-use crate::scope::Text;
 use crate::sections::Sections;
-use crate::text_ends::TextEnds;
-use dwarf_bytes::Cause;
-
-/// DW_FORM_ref_addr, an offset into `.debug_info`. The other forms of a reference count from the
-/// first byte of the unit.
-const REF_ADDR: u64 = 0x10;
+use crate::texts::Texts;
+use dwarf_bytes::constants::DW_FORM_REF_ADDR;
+use dwarf_bytes::{Cause, Text};
 
 /// The hops that a path may have.
 const HOPS_LIMIT: u32 = 16;
@@ -70,38 +66,38 @@ pub(crate) struct EntryNames {
 /// next one, and so on. The path is followed to its end before a name is judged.
 pub(crate) fn names(
     sections: &Sections<'_>,
-    ends: &TextEnds,
+    texts: &Texts<'_>,
     units: &[UnitEntries],
     bases: &[Bases],
     unit: usize,
     entry: &NamedEntry,
 ) -> Result<EntryNames, Cause>
-    requires { AreEnds (sections_of sections.now) ends.now }
+    requires { AreTexts (sections_of sections.now) texts.now }
     ensures { (us : List CompilationUnit) → AreKept units.now us → bases.now ≡ map (λ u. u.bases) us
         → (m : Member) → IsMember us unit entry.now m → result ≡ names_of (sections_of sections.now) us m }
 {
     let entry = *entry;
     let firsts = first_names(units, UnitEntry { unit, entry })?;
-    let name = text(sections, ends, bases, firsts.name)?;
-    let linkage_name = text(sections, ends, bases, firsts.linkage_name)?;
+    let name = text(sections, texts, bases, firsts.name)?;
+    let linkage_name = text(sections, texts, bases, firsts.linkage_name)?;
     Ok(EntryNames { name, linkage_name })
 }
 
 /// The text of an attribute, if there is one.
 fn text(
     sections: &Sections<'_>,
-    ends: &TextEnds,
+    texts: &Texts<'_>,
     bases: &[Bases],
     found: Option<UnitAttribute>,
 ) -> Result<Option<Text>, Cause>
-    requires { AreEnds (sections_of sections.now) ends.now }
+    requires { AreTexts (sections_of sections.now) texts.now }
     ensures { result ≡ optional (λ found. text_of (sections_of sections.now) (str_offsets_of bases.now found.unit) found.value) found }
 {
     let Some(found) = found else {
         return Ok(None);
     };
     let str_offsets = bases.get(found.unit).and_then(|unit| unit.str_offsets);
-    Ok(Some(text_of(sections, ends, str_offsets, found.value)?))
+    Ok(Some(text_of(sections, texts, str_offsets, found.value)?))
 }
 
 /// The first names on the path of an entry.
@@ -138,13 +134,14 @@ fn first(
     known.or(value.map(|value| UnitAttribute { unit, value }))
 }
 
-/// The entry that a reference in a unit names, if it names one.
+/// The entry that a reference in a unit names, if it names one: an offset into `.debug_info`, or one
+/// that counts from the first byte of the unit.
 fn target(units: &[UnitEntries], unit: usize, reference: AttributeValue) -> Option<UnitEntry>
     ensures { (us : List CompilationUnit) → AreKept units.now us → (u : CompilationUnit) → slice_get us unit ≡ Some u
         → Finds us result (target_of us u reference) }
 {
     let number = u128::from(reference.number);
-    if reference.form == REF_ADDR {
+    if reference.form == DW_FORM_REF_ADDR {
         return entry_in(units, ends_by(units, number), number);
     }
     let start = units.get(unit)?.header.start;

@@ -2,7 +2,7 @@
 
 ghost use Rattle.std.specs.Prelude.{◌≡◌, ◌<◌, IsSome, IfOk};
 ghost use Rattle.dwarf_bytes.specs.Refusals.{ReadsField, ReadsNext, Gives};
-ghost use Rattle.dwarf_entries.specs.Ranges.{kind_of, covered, index_at, entry_at, listed_behind, list_place, list_at, list_of, high_of, pair_range, pair_at, covers_by};
+ghost use Rattle.dwarf_entries.specs.Ranges.{kind_of, covered, covered_from, covered_pair, index_at, entry_at, listed_behind, list_place, list_at, list_of, high_of, pair_range, pair_at, covers_by};
 ghost use Rattle.dwarf_entries.specs.Steps.{covering_of};
 ghost use Rattle.dwarf_entries.specs.Sections.{sections_of};
 
@@ -10,12 +10,13 @@ use crate::attributes::{AttributeValue, is_address};
 use crate::bases::{Bases, address_of, item_at};
 use crate::scope::Range;
 use crate::sections::Sections;
+use dwarf_bytes::constants::*;
 use dwarf_bytes::{Cause, Cursor, TableKind};
 use smallvec::SmallVec;
 use std::alloc::Global;
 
-/// DW_FORM_rnglistx; the other form of a range list is its offset.
-const RNGLISTX: u64 = 0x23;
+/// The start of dropped code, which no code has.
+const DROPPED: u64 = u64::MAX;
 
 /// The kinds of range list entries, but the end of a list.
 #[derive(Clone, Copy, Debug, PartialEq, Eq)]
@@ -35,14 +36,14 @@ impl RangeListKind {
         ensures { result ≡ kind_of number }
     {
         Ok(Some(match number {
-            0 => return Ok(None),
-            1 => RangeListKind::BaseAddressx,
-            2 => RangeListKind::StartxEndx,
-            3 => RangeListKind::StartxLength,
-            4 => RangeListKind::OffsetPair,
-            5 => RangeListKind::BaseAddress,
-            6 => RangeListKind::StartEnd,
-            7 => RangeListKind::StartLength,
+            DW_RLE_END_OF_LIST => return Ok(None),
+            DW_RLE_BASE_ADDRESSX => RangeListKind::BaseAddressx,
+            DW_RLE_STARTX_ENDX => RangeListKind::StartxEndx,
+            DW_RLE_STARTX_LENGTH => RangeListKind::StartxLength,
+            DW_RLE_OFFSET_PAIR => RangeListKind::OffsetPair,
+            DW_RLE_BASE_ADDRESS => RangeListKind::BaseAddress,
+            DW_RLE_START_END => RangeListKind::StartEnd,
+            DW_RLE_START_LENGTH => RangeListKind::StartLength,
             _ => return Err(Cause::RangeKind),
         }))
     }
@@ -110,7 +111,7 @@ fn listed(
 fn list_place(sections: &Sections<'_>, bases: &Bases, value: AttributeValue) -> Result<u128, Cause>
     ensures { result ≡ list_place (sections_of sections.now) bases.now value }
 {
-    if value.form != RNGLISTX {
+    if value.form != DW_FORM_RNGLISTX {
         return Ok(u128::from(value.number));
     }
     let rnglists = bases.rnglists;
@@ -166,6 +167,27 @@ fn covered(start: u128, end: u128) -> Result<Option<Range>, Cause>
     Ok(Some(Range { from, to }))
 }
 
+/// The range from a start, which covers nothing where it is that of dropped code.
+fn covered_from(start: u128, end: u128) -> Result<Option<Range>, Cause>
+    ensures { result ≡ covered_from (start, end) }
+{
+    if start == u128::from(DROPPED) {
+        return Ok(None);
+    }
+    covered(start, end)
+}
+
+/// The range of two offsets from a base, which cover nothing where it is that of dropped code.
+fn covered_pair(base: u64, start: u64, end: u64) -> Result<Option<Range>, Cause>
+    ensures { result ≡ covered_pair base (start, end) }
+{
+    if base == DROPPED {
+        return Ok(None);
+    }
+    let base = u128::from(base);
+    covered(base + u128::from(start), base + u128::from(end))
+}
+
 /// The address of an index of `.debug_addr` at the cursor.
 fn indexed(sections: &Sections<'_>, bases: &Bases, cursor: &mut Cursor) -> Result<u64, Cause>
     ensures { ReadsField (λ address. address) result (index_at (sections_of sections.now) bases.now) cursor.old cursor.new }
@@ -202,10 +224,10 @@ fn entry(
             (start, start + u128::from(cursor.uleb()?))
         }
         RangeListKind::OffsetPair => {
-            let start = u128::from(cursor.uleb()?);
-            let end = u128::from(cursor.uleb()?);
-            let base = u128::from(base.ok_or(Cause::Base)?);
-            (base + start, base + end)
+            let start = cursor.uleb()?;
+            let end = cursor.uleb()?;
+            let base = base.ok_or(Cause::Base)?;
+            return Ok(RangeListEntry::Covers(covered_pair(base, start, end)?));
         }
         RangeListKind::StartEnd => {
             let start = u128::from(cursor.u64()?);
@@ -216,7 +238,7 @@ fn entry(
             (start, start + u128::from(cursor.uleb()?))
         }
     };
-    Ok(RangeListEntry::Covers(covered(start, end)?))
+    Ok(RangeListEntry::Covers(covered_from(start, end)?))
 }
 
 /// The next entry of a list behind `count` of them, or none at the list's end. `room` is how many
@@ -267,7 +289,7 @@ pub(crate) fn pair(
 {
     let start = address_of(sections, bases.addr, low_pc)?;
     let end = high(sections, bases, start, high_pc)?;
-    covered(u128::from(start), end)
+    covered_from(u128::from(start), end)
 }
 
 /// What a pair covers, where there is room for one more item.

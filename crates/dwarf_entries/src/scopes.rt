@@ -1,12 +1,13 @@
 //! The subprograms and inlined subroutines of an object (DWARF 5, 3.3).
 
-ghost use Rattle.std.specs.Prelude.{◌≡◌, ◌<◌, ◌^◌, map, List};
+ghost use Rattle.std.specs.Prelude.{◌≡◌, ◌<◌, ◌^◌, map, List, option_map, slice_get};
+ghost use Rattle.std.specs.Option.{option_copied};
 ghost use Rattle.dwarf_entries.specs.declared.kept.Keeping.{Keeping};
 ghost use Rattle.dwarf_bytes.specs.Refusals.{Decodes, Builds};
 ghost use Rattle.dwarf_entries.specs.Sections.{sections_of};
 ghost use Rattle.dwarf_entries.specs.Bases.{CompilationUnit};
-ghost use Rattle.dwarf_entries.specs.Scopes.{scope_of, roots_from, tree_of};
-ghost use Rattle.dwarf_entries.specs.Texts.{AreEnds};
+ghost use Rattle.dwarf_entries.specs.Scopes.{scope_of, own, own_of, roots_from, tree_of};
+ghost use Rattle.dwarf_entries.specs.Texts.{AreTexts};
 ghost use Rattle.dwarf_entries.specs.Passes.{kept_unit_of, TablesRead, tree_with};
 ghost use Rattle.dwarf_entries.specs.Kept.{kept_of, scope_count};
 
@@ -15,10 +16,10 @@ use crate::passes::{all_bases, all_entries};
 use crate::scope::{Root, Scope};
 use crate::sections::Sections;
 use crate::tables::judge_tables;
-use crate::text_ends::TextEnds;
+use crate::texts::Texts;
 use crate::unit_scopes::Units;
 use crate::units::{UnitHeader, units};
-use dwarf_bytes::{Cause, LoadFault, Section};
+use dwarf_bytes::{Cause, LoadFault};
 use std::alloc::Global;
 use std::marker::Model;
 
@@ -46,14 +47,12 @@ impl Scopes {
     {
         let headers = units(alloc, sections.debug_info)?;
         judge_tables(alloc, sections.debug_abbrev, headers.as_slice())?;
-        let Ok(ends) = TextEnds::of(alloc, sections) else {
-            return Err(LoadFault::told(Section::DebugInfo, Cause::Memory, 0));
-        };
-        match Scopes::read_with(alloc, sections, &ends, headers.as_slice(), Keeping::Scopes) {
+        let texts = Texts::of(alloc, sections)?;
+        match Scopes::read_with(alloc, sections, &texts, headers.as_slice(), Keeping::Scopes) {
             Ok(scopes) => Ok(scopes),
             Err(fault) => match fault.cause {
                 Cause::Reference => {
-                    Scopes::read_with(alloc, sections, &ends, headers.as_slice(), Keeping::Every)
+                    Scopes::read_with(alloc, sections, &texts, headers.as_slice(), Keeping::Every)
                 }
                 _ => Err(fault),
             },
@@ -65,11 +64,11 @@ impl Scopes {
     fn read_with(
         alloc: Global,
         sections: &Sections<'_>,
-        ends: &TextEnds,
+        texts: &Texts<'_>,
         headers: &[UnitHeader],
         keeping: Keeping,
     ) -> Result<Scopes, LoadFault>
-        requires ends { AreEnds (sections_of sections.now) ends.now }
+        requires texts { AreTexts (sections_of sections.now) texts.now }
         requires tables { TablesRead (sections_of sections.now) headers.now }
         ensures { (read : TablesRead (sections_of sections.now) headers.now)
             → Decodes (λ scopes. scopes) result (tree_with keeping (sections_of sections.now) headers.now read.tables) }
@@ -78,7 +77,7 @@ impl Scopes {
         let bases = all_bases(alloc, sections, kept.as_slice())?;
         let units = Units {
             sections,
-            ends,
+            texts,
             units: kept.as_slice(),
             bases: bases.as_slice(),
         };
@@ -96,9 +95,16 @@ impl Scopes {
 
     /// The subprograms and inlined subroutines of all units that are read.
     pub fn scopes(&self) -> &[Scope]
-        ensures { map scope_of result.now ≡ self.now.scopes }
+        ensures { map own_of result.now ≡ map own self.now.scopes }
     {
         self.scopes.as_slice()
+    }
+
+    /// The scope that has the number of another one.
+    pub(crate) fn get(&self, scope: &Scope) -> Option<&Scope>
+        ensures { option_map scope_of (option_copied result) ≡ slice_get self.now.scopes scope.now.number }
+    {
+        self.scopes.get(scope.number)
     }
 }
 
@@ -118,9 +124,7 @@ fn roots(alloc: Global, units: &[UnitEntries]) -> Result<Vec<Root>, LoadFault>
                 first,
                 past,
             };
-            if roots.push(root).is_err() {
-                return Err(LoadFault::told(Section::DebugInfo, Cause::Memory, 0));
-            }
+            roots.push(root)?;
         }
         first = past;
     }

@@ -1,9 +1,10 @@
 //! The abbreviation tables of the units (DWARF 5, 7.5.3).
 
-ghost use Rattle.std.specs.Prelude.{◌≡◌, ◌⊎◌, ◌+◌, ◌==◌, List, Some, None, Ok, Err, length, find, IsTrue, ◌↔◌, IfOk, IfErr, IfNone, IfSome};
+ghost use Rattle.std.specs.Prelude.{◌≡◌, ◌⊎◌, ◌+◌, ◌==◌, List, Some, None, Ok, Err, length, find, position, AllPairs, ◌≢◌, IsTrue, ◌↔◌, IfOk, IfErr, IfNone, IfSome};
 ghost use Rattle.dwarf_bytes.specs.declared.fault.Section.TheVariants as sections;
 ghost use Rattle.dwarf_bytes.specs.Refusals.{memory_fault, Decodes, in_section, Judges};
 ghost use Rattle.dwarf_forms.specs.Declarations.{Declaration};
+ghost use Rattle.dwarf_forms.specs.Index.{AreIndexed, has_code_at};
 ghost use Rattle.dwarf_forms.specs.Tables.{declarations_of};
 ghost use Rattle.dwarf_entries.specs.Units.{tables_of};
 ghost use Rattle.dwarf_entries.specs.Plans.{plan_of};
@@ -11,9 +12,10 @@ ghost use Rattle.dwarf_entries.specs.Steps.{IsJudged, IsLast};
 
 use crate::plans::{Plan, plans};
 use crate::units::UnitHeader;
-use dwarf_bytes::{Cause, Format, LoadFault, Section};
+use dwarf_bytes::{Format, LoadFault};
 use dwarf_forms::{Abbrevs, Decl};
-use std::alloc::Global;
+use std::alloc::{AllocError, Global};
+use std::collections::BTreeMap;
 use std::marker::Model;
 
 /// The declarations that may be read for all units of an object.
@@ -33,17 +35,20 @@ pub(crate) struct UnitTable {
     format: Format,
     declarations: Abbrevs,
     plans: Vec<Plan>,
+    /// The places of the declarations whose codes are not their places, counted from 1.
+    moved: BTreeMap<u64, usize>,
 }
 
 impl Model for UnitTable {
     ghost use Rattle.std.specs.Prelude.{◌≡◌, map};
+    ghost use Rattle.dwarf_forms.specs.Index.{AreIndexed};
     ghost use Rattle.dwarf_entries.specs.Plans.{Table, plan_of};
 
     ghost Value = { Table };
 
     ghost view = { λ t. record { offset = t.offset; format = t.format; declarations = t.declarations } };
 
-    ghost invariant = { λ t. t.plans.items ≡ map (λ declaration. plan_of t.format declaration.attributes) t.declarations };
+    ghost invariant = { λ t. (t.plans.items ≡ map (λ declaration. plan_of t.format declaration.attributes) t.declarations) × AreIndexed t.declarations t.moved };
 }
 
 impl UnitTable {
@@ -60,14 +65,14 @@ impl UnitTable {
         ensures place { IfOk result (λ table. (table.offset ≡ offset) × (table.format ≡ format)) }
     {
         let declarations = Abbrevs::read(alloc, section, offset, left)?;
-        let Ok(plans) = plans(alloc, format, &declarations) else {
-            return Err(LoadFault::told(Section::DebugAbbrev, Cause::Memory, 0));
-        };
+        let plans = plans(alloc, format, &declarations)?;
+        let moved = moved_places(alloc, declarations.decls())?;
         Ok(UnitTable {
             offset,
             format,
             declarations,
             plans,
+            moved,
         })
     }
 
@@ -83,8 +88,9 @@ impl UnitTable {
         ensures some { IfSome result (λ found. (find (λ declaration. declaration.code == code) self.now.declarations ≡ Some found.0.now) × (found.1.now ≡ plan_of self.now.format found.0.now.attributes)) }
         ensures none { IfNone result (find (λ declaration. declaration.code == code) self.now.declarations ≡ None) }
     {
-        let place = self.declarations.position(code)?;
-        let declaration = self.declarations.decls().get(place)?;
+        let decls = self.declarations.decls();
+        let place = place_of(decls, &self.moved, code)?;
+        let declaration = decls.get(place)?;
         let plan = self.plans.get(place)?;
         Some((declaration, plan))
     }
@@ -101,6 +107,44 @@ impl UnitTable {
     {
         self.offset == header.abbreviations && self.format == header.format
     }
+}
+
+/// The place of the declaration of a code. It is found in constant time where codes count up from 1,
+/// and by the logarithm of their number otherwise.
+fn place_of(decls: &[Decl], moved: &BTreeMap<u64, usize>, code: u64) -> Option<usize>
+    requires { AreIndexed decls.now moved.now }
+    ensures { result ≡ position (λ declaration. declaration.code == code) decls.now }
+{
+    let own = code.saturating_sub(1) as usize;
+    if has_code_at(decls, own, code) {
+        return Some(own);
+    }
+    let moved = *moved.get(&code)?;
+    if has_code_at(decls, moved, code) {
+        return Some(moved);
+    }
+    None
+}
+
+/// Whether the declaration at a place has the code.
+fn has_code_at(decls: &[Decl], place: usize, code: u64) -> bool
+    ensures { result ≡ has_code_at decls.now place code }
+{
+    decls.get(place).is_some_and(|decl| decl.code() == code)
+}
+
+/// The places of the declarations whose codes are not their places, counted from 1, by their codes.
+fn moved_places(alloc: Global, decls: &[Decl]) -> Result<BTreeMap<u64, usize>, AllocError>
+    requires { AllPairs (λ a b. a.code ≢ b.code) decls.now }
+    ensures { IfOk result (λ moved. AreIndexed decls.now moved) }
+{
+    let mut moved = BTreeMap::new(alloc);
+    for (place, decl) in decls.iter().enumerate() {
+        if decl.code() != place as u64 + 1 {
+            moved.insert(decl.code(), place)?;
+        }
+    }
+    Ok(moved)
 }
 
 /// The table at an offset, judged; its declarations are taken from those that are left. The last one

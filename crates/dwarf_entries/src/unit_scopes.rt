@@ -4,7 +4,7 @@ ghost use Rattle.std.specs.Prelude.{◌≡◌, ◌≤◌, ◌<◌, ◌+◌, ◌^
 ghost use Rattle.dwarf_bytes.specs.declared.fault.Section.TheVariants as names;
 ghost use Rattle.dwarf_bytes.specs.Refusals.{Decodes, in_section, Gives};
 ghost use Rattle.dwarf_entries.specs.Sections.{sections_of};
-ghost use Rattle.dwarf_entries.specs.Texts.{AreEnds};
+ghost use Rattle.dwarf_entries.specs.Texts.{AreTexts};
 ghost use Rattle.dwarf_entries.specs.declared.kept.Keeping.{Keeping};
 ghost use Rattle.dwarf_entries.specs.Bases.{CompilationUnit};
 ghost use Rattle.dwarf_entries.specs.Scopes.{Judged, Place, places_in, scope_of};
@@ -16,7 +16,7 @@ use crate::paths::names;
 use crate::ranges::covers;
 use crate::scope::Scope;
 use crate::sections::Sections;
-use crate::text_ends::TextEnds;
+use crate::texts::Texts;
 use dwarf_bytes::{Cause, LoadFault, Section};
 use std::alloc::Global;
 
@@ -27,7 +27,7 @@ const ITEMS_LIMIT: u64 = 4_194_304;
 #[derive(Clone, Copy)]
 pub(crate) struct Units<'a> {
     pub(crate) sections: &'a Sections<'a>,
-    pub(crate) ends: &'a TextEnds,
+    pub(crate) texts: &'a Texts<'a>,
     pub(crate) units: &'a [UnitEntries],
     pub(crate) bases: &'a [Bases],
 }
@@ -43,7 +43,7 @@ impl<'a> Units<'a> {
         number: usize,
         room: u64,
     ) -> Result<(Scope, u64), Cause>
-        requires ends { AreEnds (sections_of self.sections.now) self.ends.now }
+        requires texts { AreTexts (sections_of self.sections.now) self.texts.now }
         requires unit { (unit < length self.units.now) × (unit < length self.bases.now) }
         requires end { number + inside + 1 < 2 ^ 64 }
         ensures judged { (keeping : Keeping) (us : List CompilationUnit) (before : List Judged) (p : Place) → AreUnits keeping self.entry.units.now self.entry.bases.now us → IsPlace us unit entry.now inside number room before p
@@ -52,7 +52,7 @@ impl<'a> Units<'a> {
     {
         let names = names(
             self.sections,
-            self.ends,
+            self.texts,
             self.units,
             self.bases,
             unit,
@@ -91,7 +91,7 @@ impl<'a> Units<'a> {
         left: &mut u64,
         scopes: &mut Vec<Scope>,
     ) -> Result<(), LoadFault>
-        requires ends { AreEnds (sections_of self.sections.now) self.ends.now }
+        requires texts { AreTexts (sections_of self.sections.now) self.texts.now }
         requires unit { unit < length self.units.now }
         requires known { (keeping : Keeping) × (us : List CompilationUnit) × AreUnits keeping self.units.now self.bases.now us }
         ensures { (keeping : Keeping) (us : List CompilationUnit) (u : CompilationUnit) (before : List Judged) → AreUnits keeping self.entry.units.now self.entry.bases.now us → slice_get us unit ≡ Some u → AreJudged before scopes.old.items left.old
@@ -109,9 +109,7 @@ impl<'a> Units<'a> {
                 }
                 Ok((scope, items)) => {
                     *left -= items;
-                    if scopes.push(scope).is_err() {
-                        return Err(LoadFault::told(Section::DebugInfo, Cause::Memory, 0));
-                    }
+                    scopes.push(scope)?;
                 }
             }
         }
@@ -120,7 +118,7 @@ impl<'a> Units<'a> {
 
     /// The scopes of all units.
     pub(crate) fn scopes(self, alloc: Global) -> Result<Vec<Scope>, LoadFault>
-        requires ends { AreEnds (sections_of self.sections.now) self.ends.now }
+        requires texts { AreTexts (sections_of self.sections.now) self.texts.now }
         requires known { (keeping : Keeping) × (us : List CompilationUnit) × AreUnits keeping self.units.now self.bases.now us }
         ensures { (keeping : Keeping) (us : List CompilationUnit) → AreUnits keeping self.entry.units.now self.entry.bases.now us
             → Decodes (λ scopes. map scope_of scopes.items) result (in_section names.DebugInfo (all_scopes keeping (sections_of self.entry.sections.now) us)) }

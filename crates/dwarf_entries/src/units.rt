@@ -5,6 +5,7 @@ ghost use Rattle.dwarf_bytes.specs.declared.fault.Section.TheVariants as section
 ghost use Rattle.dwarf_bytes.specs.Refusals.{Decodes, in_section};
 ghost use Rattle.dwarf_entries.specs.Units.{unit_type_of, is_read_type, is_read, header_in, unit_at, headers_of, units_of};
 
+use dwarf_bytes::constants::{DW_UT_COMPILE, DW_UT_PARTIAL, DW_UT_TYPE};
 use dwarf_bytes::{Cause, Cursor, Format, LoadFault, Section};
 use std::alloc::Global;
 
@@ -22,9 +23,9 @@ impl UnitType {
         ensures { result ≡ unit_type_of number }
     {
         match number {
-            1 => Some(UnitType::Compile),
-            2 => Some(UnitType::Type),
-            3 => Some(UnitType::Partial),
+            DW_UT_COMPILE => Some(UnitType::Compile),
+            DW_UT_TYPE => Some(UnitType::Type),
+            DW_UT_PARTIAL => Some(UnitType::Partial),
             _ => None,
         }
     }
@@ -73,9 +74,7 @@ fn headers(alloc: Global, info: &[u8]) -> Result<Vec<UnitHeader>, LoadFault>
             Err(cause) => return Err(LoadFault::told(Section::DebugInfo, cause, at as u64)),
             Ok(header) => {
                 at = header.end;
-                if all.push(header).is_err() {
-                    return Err(LoadFault::told(Section::DebugInfo, Cause::Memory, 0));
-                }
+                all.push(header)?;
             }
         }
     }

@@ -2,6 +2,10 @@
 #![tactic(auto)]
 
 #[cfg(test)]
+mod codes;
+#[cfg(test)]
+mod dropped;
+#[cfg(test)]
 mod fixtures;
 #[cfg(test)]
 mod limits;

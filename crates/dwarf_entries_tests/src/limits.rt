@@ -56,14 +56,21 @@ fn declarations_of_an_object(rt: HostRuntime) -> Result<(), Fail> {
     Ok(())
 }
 
-/// A unit of low_pc 0x1000 with so many subprograms, the first at 21 and each of five bytes, whose
-/// ranges are the list at 0.
-fn listed_scopes(alloc: Global, count: usize) -> Result<Vec<u8>, AllocError> {
+/// A unit of this low_pc with so many subprograms, the first at 21 and each of five bytes, whose
+/// ranges are the list at 0, and with what stands behind them.
+fn listed_scopes(
+    alloc: Global,
+    low_pc: &[u8; 8],
+    count: usize,
+    behind: &[u8],
+) -> Result<Vec<u8>, AllocError> {
     let mut entries = Vec::new(alloc);
-    entries.extend_from_slice(&[1, 0, 0x10, 0, 0, 0, 0, 0, 0])?;
+    entries.push(1)?;
+    entries.extend_from_slice(low_pc)?;
     for _ in 0..count {
         entries.extend_from_slice(&[2, 0, 0, 0, 0])?;
     }
+    entries.extend_from_slice(behind)?;
     entries.push(0)?;
     unit(alloc, &entries)
 }
@@ -78,28 +85,31 @@ fn empty_pairs(alloc: Global, count: usize) -> Result<Vec<u8>, AllocError> {
     Ok(list)
 }
 
-/// A list of 65,536 entries, which is 2^16, is read for each scope: 64 scopes take all 2^22.
+/// A list of 65,536 entries, which is 2^16, is read for each scope: 64 scopes take all 2^22. Entries of
+/// dropped code count too, and so does a pair.
 #[test]
 fn range_items_of_an_object(rt: HostRuntime) -> Result<(), Fail> {
-    // low_pc as addr, and ranges as sec_offset
-    let table = declarations(rt.alloc(), (&[0x11, 0x01], &[]), (&[0x55, 0x17], &[]))?;
+    // unit: low_pc as addr; subprograms: ranges as sec_offset; and low_pc as addr, high_pc as data1
+    let table = [
+        1, 0x11, 1, 0x11, 0x01, 0, 0, 2, 0x2e, 0, 0x55, 0x17, 0, 0, 3, 0x2e, 0, 0x11, 0x01, 0x12,
+        0x0b, 0, 0, 0,
+    ];
+    let pair = [3, 0xff, 0xff, 0xff, 0xff, 0xff, 0xff, 0xff, 0xff, 1];
     let lists = empty_pairs(rt.alloc(), 65_536)?;
-    let info = listed_scopes(rt.alloc(), 64)?;
-    let all = Sections {
-        debug_rnglists: &lists,
-        ..sections(&info, &table)
-    };
-    let read = Scopes::read(rt.alloc(), &all)?;
-    assert_eq!(rt; read.scopes().len(), 64);
-    for scope in read.scopes() {
-        assert!(rt; scope.ranges.is_empty());
+    let dropped = [0xff; 8];
+    for (low_pc, count, behind, cause) in [
+        ([0; 8], 65, [].as_slice(), Some(Cause::TooMany)),
+        (dropped, 64, &[], None),
+        (dropped, 64, &pair, Some(Cause::TooMany)),
+    ] {
+        let info = listed_scopes(rt.alloc(), &low_pc, count, behind)?;
+        let all = Sections {
+            debug_rnglists: &lists,
+            ..sections(&info, &table)
+        };
+        let read = Scopes::read(rt.alloc(), &all);
+        assert_eq!(rt; read.err(), cause.map(|cause| fault(cause, 341)));
     }
-    let info = listed_scopes(rt.alloc(), 65)?;
-    let all = Sections {
-        debug_rnglists: &lists,
-        ..sections(&info, &table)
-    };
-    is_refused(&rt, &all, Cause::TooMany, 341);
     Ok(())
 }
 
@@ -130,7 +140,7 @@ fn entries_of_many_flags(rt: HostRuntime) -> Result<(), Fail> {
     assert_eq!(rt; read.roots(), [root(12, 0, 100_000)].as_slice());
     assert_eq!(rt; read.scopes().len(), 100_000);
     for (number, scope) in read.scopes().iter().enumerate() {
-        assert_eq!(rt; Some(scope.offset), number.checked_add(13));
+        assert_eq!(rt; Some(scope.offset()), number.checked_add(13));
     }
     Ok(())
 }

@@ -12,10 +12,7 @@ const LOW: [u8; 8] = [0, 0x10, 0, 0, 0, 0, 0, 0];
 /// The address 0x1010.
 const HIGH: [u8; 8] = [0x10, 0x10, 0, 0, 0, 0, 0, 0];
 
-/// The highest address.
-const TOP: [u8; 8] = [0xff; 8];
-
-/// The one below it.
+/// The highest address but one.
 const BELOW_TOP: [u8; 8] = [0xfe, 0xff, 0xff, 0xff, 0xff, 0xff, 0xff, 0xff];
 
 /// Three ranges: from the base in force, from a base of the list, and with a length.
@@ -37,7 +34,7 @@ const ADDRESSES: [u8; 24] = [
 fn covers(rt: &impl Abort, read: &Scopes, ranges: &[Range]) {
     assert_eq!(rt; read.scopes().len(), 1);
     for scope in read.scopes() {
-        assert_eq!(rt; scope.ranges.as_slice(), ranges);
+        assert_eq!(rt; scope.ranges(read), ranges);
     }
 }
 
@@ -64,7 +61,7 @@ fn a_list_of_two_scopes(rt: HostRuntime) -> Result<(), Fail> {
     ];
     assert_eq!(rt; read.scopes().len(), 2);
     for scope in read.scopes() {
-        assert_eq!(rt; scope.ranges.as_slice(), ranges.as_slice());
+        assert_eq!(rt; scope.ranges(&read), ranges.as_slice());
     }
     Ok(())
 }
@@ -143,22 +140,29 @@ fn list_entries_without_a_base(rt: HostRuntime) -> Result<(), Fail> {
 /// Offsets that pass the highest address, before their order; and that do not.
 #[test]
 fn offsets_from_a_base(rt: HostRuntime) -> Result<(), Fail> {
-    let lists: [(&[u8], Option<Cause>); 4] = [
+    let lists: [(&[u8], Option<Cause>); 5] = [
         (
             &[
-                5, 0xff, 0xff, 0xff, 0xff, 0xff, 0xff, 0xff, 0xff, 4, 1, 0, 0,
+                5, 0xfe, 0xff, 0xff, 0xff, 0xff, 0xff, 0xff, 0xff, 4, 2, 0, 0,
             ],
             Some(Cause::Overflow),
         ),
         (
             &[
-                5, 0xff, 0xff, 0xff, 0xff, 0xff, 0xff, 0xff, 0xff, 4, 0, 1, 0,
+                5, 0xfe, 0xff, 0xff, 0xff, 0xff, 0xff, 0xff, 0xff, 4, 0, 2, 0,
             ],
             Some(Cause::Overflow),
         ),
+        // a sum that is the highest address is no mark of dropped code
         (
             &[
-                5, 0xff, 0xff, 0xff, 0xff, 0xff, 0xff, 0xff, 0xff, 4, 0, 0, 0,
+                5, 0xfe, 0xff, 0xff, 0xff, 0xff, 0xff, 0xff, 0xff, 4, 1, 0, 0,
+            ],
+            Some(Cause::RangeBackwards),
+        ),
+        (
+            &[
+                5, 0xfe, 0xff, 0xff, 0xff, 0xff, 0xff, 0xff, 0xff, 4, 1, 1, 0,
             ],
             None,
         ),
@@ -188,11 +192,11 @@ fn ends_and_lengths_from_a_start(rt: HostRuntime) -> Result<(), Fail> {
         ),
         // start_length past the highest address
         (
-            &[7, 0xff, 0xff, 0xff, 0xff, 0xff, 0xff, 0xff, 0xff, 1, 0],
+            &[7, 0xfe, 0xff, 0xff, 0xff, 0xff, 0xff, 0xff, 0xff, 2, 0],
             Some(Cause::Overflow),
         ),
         (
-            &[7, 0xff, 0xff, 0xff, 0xff, 0xff, 0xff, 0xff, 0xff, 0, 0],
+            &[7, 0xfe, 0xff, 0xff, 0xff, 0xff, 0xff, 0xff, 0xff, 0, 0],
             None,
         ),
         (&[7, 0, 0, 0, 0, 0, 0, 0, 0, 0x80], Some(Cause::Short)),
@@ -330,7 +334,7 @@ fn pairs_that_cover_nothing(rt: HostRuntime) -> Result<(), Fail> {
         // equal ends
         (&[0x11, 1, 0x12, 0x0b], [&LOW, &[0]]),
         (&[0x11, 1, 0x12, 1], [&LOW, &LOW]),
-        (&[0x11, 1, 0x12, 1], [&TOP, &TOP]),
+        (&[0x11, 1, 0x12, 1], [&BELOW_TOP, &BELOW_TOP]),
         // no high_pc: an index is not looked up
         (&[], [&[], &[]]),
         (&[0x11, 1], [&LOW, &[]]),
@@ -346,7 +350,7 @@ fn pairs_that_cover_nothing(rt: HostRuntime) -> Result<(), Fail> {
 fn faults_of_pairs(rt: HostRuntime) -> Result<(), Fail> {
     let list = [0, 0, 0, 0];
     let pairs: [(&[u8], [&[u8]; 2], Cause); 9] = [
-        (&[0x11, 1, 0x12, 0x0b], [&TOP, &[1]], Cause::Overflow),
+        (&[0x11, 1, 0x12, 0x0b], [&BELOW_TOP, &[2]], Cause::Overflow),
         (
             &[0x11, 1, 0x12, 1],
             [&LOW, &[0xff, 0x0f, 0, 0, 0, 0, 0, 0]],

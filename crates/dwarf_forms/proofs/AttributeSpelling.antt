@@ -11,7 +11,8 @@ use Rattle.dwarf_bytes.proofs.Advance.{bind_ok, after_bind, after_test, reading_
 use Rattle.dwarf_bytes.proofs.Spelling.{uleb_stands, uleb_again, sleb_stands, sleb_again}
 use Rattle.dwarf_bytes.proofs.ItemLaws.{items_from-Lists}
 use Rattle.dwarf_forms.specs.declared.attribute.AttributeSpecification.{AttributeSpecification}
-use Rattle.dwarf_forms.specs.Declarations.{implicit_const, SpellsConstant, SpellsAttribute, SpellsEach, EndsAttributes}
+use Rattle.dwarf_forms.specs.Declarations.{SpellsConstant, SpellsAttribute, SpellsEach, EndsAttributes}
+use Rattle.dwarf_bytes.specs.declared.constants.TheConstants.{DW_FORM_IMPLICIT_CONST}
 use Rattle.dwarf_forms.specs.Tables.{constant_at, attribute_at, attributes_at}
 use Rattle.dwarf_forms.proofs.Stretches.{Stretch, stretch_of, stands_from, joined, first_part, second_part, respelled, nothing}
 use Rattle.dwarf_bytes.proofs.Moves.{same_ok, same_item, same_end}
@@ -39,22 +40,22 @@ differ a b h = grind arith
 
 constant_stands : (form : ℕ) (section : List ℕ) (at : ℕ) (read : Option ℤ × ℕ) → constant_at form section at ≡ Ok read → StandsAt (SpellsConstant form) section at read.0 read.1
 constant_stands form section at read h =
-    chosen (form == implicit_const) (reading (sleb_at section at) >>= λ c. Ok (Some c.0, c.1)) (Ok (None, at)) (Ok read) h (StandsAt (SpellsConstant form) section at read.0 read.1)
+    chosen (form == DW_FORM_IMPLICIT_CONST) (reading (sleb_at section at) >>= λ c. Ok (Some c.0, c.1)) (Ok (None, at)) (Ok read) h (StandsAt (SpellsConstant form) section at read.0 read.1)
     (λ test is. let found = bind_ok (reading (sleb_at section at)) (λ c. Ok (Some c.0, c.1)) read is in
     let stands = sleb_stands section at found.0.0 found.0.1 (reading_ok (sleb_at section at) found.0 found.1) in
     let there : StandsAt (SpellsConstant form) section at (Some found.0.0) found.0.1 =
-    stands_from (SpellsConstant form) section at (Some found.0.0) found.0.1 stands.front stands.rest (stretch_of IsSleb section at found.0.0 found.0.1 stands) (alike form implicit_const test, stands.spelled) in
+    stands_from (SpellsConstant form) section at (Some found.0.0) found.0.1 stands.front stands.rest (stretch_of IsSleb section at found.0.0 found.0.1 stands) (alike form DW_FORM_IMPLICIT_CONST test, stands.spelled) in
     subst (λ (r : Option ℤ × ℕ). StandsAt (SpellsConstant form) section at r.0 r.1) (same_ok (Some found.0.0, found.0.1) read found.2) there)
     (λ test is. subst (λ (r : Option ℤ × ℕ). StandsAt (SpellsConstant form) section at r.0 r.1) (same_ok (None, at) read is)
-    (stands_from (SpellsConstant form) section at None at [] (drop at section) (nothing section at) (differ form implicit_const test, refl)))
+    (stands_from (SpellsConstant form) section at None at [] (drop at section) (nothing section at) (differ form DW_FORM_IMPLICIT_CONST test, refl)))
 
 constant_reads : (form : ℕ) (section : List ℕ) (at : ℕ) (constant : Option ℤ) (next : ℕ) → StandsAt (SpellsConstant form) section at constant next → constant_at form section at ≡ Ok (constant, next)
 constant_reads form section at None next s =
     let place : at ≡ next = omega (arith, s.next_is, ap length s.spelled.1) in
-    rw (unlike form implicit_const s.spelled.0) (ap (λ (k : ℕ). Ok (None, k)) place)
+    rw (unlike form DW_FORM_IMPLICIT_CONST s.spelled.0) (ap (λ (k : ℕ). Ok (None, k)) place)
 constant_reads form section at (Some c) next s =
     let spelled : StandsAt IsSleb section at c next = stands_from IsSleb section at c next s.front s.rest (stretch_of (SpellsConstant form) section at (Some c) next s) s.spelled.1 in
-    rw (eq-eqb form implicit_const s.spelled.0, sleb_again section at c next spelled) refl
+    rw (eq-eqb form DW_FORM_IMPLICIT_CONST s.spelled.0, sleb_again section at c next spelled) refl
 
 -- ---- attributes
 

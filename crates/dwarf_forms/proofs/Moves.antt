@@ -13,14 +13,15 @@ use Rattle.dwarf_bytes.proofs.Moves.{same_ok, same_item, same_end, uleb_moves, s
 use Rattle.dwarf_bytes.specs.Forms.{form_of}
 use Rattle.dwarf_forms.specs.declared.attribute.AttributeSpecification.{AttributeSpecification}
 use Rattle.dwarf_forms.specs.declared.declaration.Head.{Head}
-use Rattle.dwarf_forms.specs.Declarations.{Declaration, implicit_const}
+use Rattle.dwarf_forms.specs.Declarations.{Declaration}
+use Rattle.dwarf_bytes.specs.declared.constants.TheConstants.{DW_FORM_IMPLICIT_CONST}
 use Rattle.dwarf_forms.specs.Tables.{constant_at, attribute_at, attributes_at, head_at, declaration_at}
 use Rattle.dwarf_bytes.proofs.Turns.{Ends, Lists-moves}
 
 -- a constant takes bytes or none
 pub constant_at-moves : (form : ℕ) (section : List ℕ) (at : ℕ) (read : Option ℤ × ℕ) → at ≤ length section → constant_at form section at ≡ Ok read → (at ≤ read.1) × (read.1 ≤ length section)
 constant_at-moves form section at read le h =
-    chosen (form == implicit_const) (reading (sleb_at section at) >>= λ c. Ok (Some c.0, c.1)) (Ok (None, at)) (Ok read) h ((at ≤ read.1) × (read.1 ≤ length section))
+    chosen (form == DW_FORM_IMPLICIT_CONST) (reading (sleb_at section at) >>= λ c. Ok (Some c.0, c.1)) (Ok (None, at)) (Ok read) h ((at ≤ read.1) × (read.1 ≤ length section))
     (λ _ is. let found = bind_ok (reading (sleb_at section at)) (λ c. Ok (Some c.0, c.1)) read is in
     let moved = sleb_moves section at found.0 found.1 in
     let place : found.0.1 ≡ read.1 = ap (λ (p : Option ℤ × ℕ). p.1) (same_ok (Some found.0.0, found.0.1) read found.2) in

@@ -54,16 +54,16 @@ direct_reads form format bytes at value next s =
     subst (λ (f : Option Shape). Direct_read f form format bytes at ≡ Ok (value, next)) (sym s.spelled.1)
     (rw content (ap (λ (f : ℕ). Ok (record { form = f; content = value.content }, next)) (sym s.spelled.3)))
 
-abbrev Spells_by : Option Shape → ℕ → Option ℤ → Format → List ℕ → Value → Type 0
-Spells_by f form constant format bytes value = elim f [
+abbrev Spells_by : Option Shape → ℕ → Format → Option ℤ → List ℕ → Value → Type 0
+Spells_by f form format constant bytes value = elim f [
   | None ↦ ⊥
   | Some (Direct layout) ↦ SpellsDirectly form format bytes value
   | Some ImplicitConst ↦ (c : ℤ) × (constant ≡ Some c) × (bytes ≡ []) × (value ≡ record { form = form; content = Signed c })
   | Some Indirect ↦ SpellsIndirectly format bytes value
 ]
 
-abbrev Value_read : Option Shape → ℕ → Option ℤ → Format → List ℕ → ℕ → Result (Value × ℕ) ValueFault
-Value_read f form constant format bytes at = elim f [
+abbrev Value_read : Option Shape → ℕ → Format → Option ℤ → List ℕ → ℕ → Result (Value × ℕ) ValueFault
+Value_read f form format constant bytes at = elim f [
   | None ↦ Err Form
   | Some (Direct layout) ↦ direct_at form format bytes at
   | Some ImplicitConst ↦ (elim constant [ None ↦ Err Form | Some c ↦ Ok (record { form = form; content = Signed c }, at) ])
@@ -73,21 +73,21 @@ Value_read f form constant format bytes at = elim f [
 form_in : (form : ℕ) (format : Format) (bytes : List ℕ) (value : Value) → SpellsDirectly form format bytes value → SpellsDirectly value.form format bytes value
 form_in form format bytes value s = subst (λ (f : ℕ). SpellsDirectly f format bytes value) (sym s.3) s
 
-pub value_stands : (form : ℕ) (constant : Option ℤ) (format : Format) (bytes : List ℕ) (at : ℕ) (value : Value) (next : ℕ) → value_at form constant format bytes at ≡ Ok (value, next) → StandsAt (Spells form constant format) bytes at value next
+pub value_stands : (form : ℕ) (format : Format) (constant : Option ℤ) (bytes : List ℕ) (at : ℕ) (value : Value) (next : ℕ) → value_at form format constant bytes at ≡ Ok (value, next) → StandsAt (Spells form format constant) bytes at value next
 unfolding value_at
-value_stands form constant format bytes at value next h = by_form (form_of form) refl h
+value_stands form format constant bytes at value next h = by_form (form_of form) refl h
   where
-    stands : (f : Option Shape) → form_of form ≡ f → (front rest : List ℕ) → Stretch bytes at front next rest → Spells_by f form constant format front value → StandsAt (Spells form constant format) bytes at value next
-    stands f is front rest s spelled = stands_from (Spells form constant format) bytes at value next front rest s (subst (λ (f : Option Shape). Spells_by f form constant format front value) (sym is) spelled)
+    stands : (f : Option Shape) → form_of form ≡ f → (front rest : List ℕ) → Stretch bytes at front next rest → Spells_by f form format constant front value → StandsAt (Spells form format constant) bytes at value next
+    stands f is front rest s spelled = stands_from (Spells form format constant) bytes at value next front rest s (subst (λ (f : Option Shape). Spells_by f form format constant front value) (sym is) spelled)
 
-    by_constant : (c : Option ℤ) → constant ≡ c → form_of form ≡ Some ImplicitConst → (elim c as (λ _. Result (Value × ℕ) ValueFault) [ None ↦ Err Form | Some c ↦ Ok (record { form = form; content = Signed c }, at) ]) ≡ Ok (value, next) → StandsAt (Spells form constant format) bytes at value next
+    by_constant : (c : Option ℤ) → constant ≡ c → form_of form ≡ Some ImplicitConst → (elim c as (λ _. Result (Value × ℕ) ValueFault) [ None ↦ Err Form | Some c ↦ Ok (record { form = form; content = Signed c }, at) ]) ≡ Ok (value, next) → StandsAt (Spells form format constant) bytes at value next
     by_constant None known is h = cc
     by_constant (Some c) known is h =
         let same = same_ok (record { form = form; content = Signed c }, at) (value, next) h in
         let place : at ≡ next = ap (λ (r : Value × ℕ). r.1) same in
         stands (Some ImplicitConst) is [] (drop at bytes) (subst (λ (k : ℕ). Stretch bytes at [] k (drop at bytes)) place (nothing bytes at)) (c, known, refl, sym (ap (λ (r : Value × ℕ). r.0) same))
 
-    by_form : (f : Option Shape) → form_of form ≡ f → Value_read f form constant format bytes at ≡ Ok (value, next) → StandsAt (Spells form constant format) bytes at value next
+    by_form : (f : Option Shape) → form_of form ≡ f → Value_read f form format constant bytes at ≡ Ok (value, next) → StandsAt (Spells form format constant) bytes at value next
     by_form None is h = cc
     by_form (Some (Direct layout)) is h =
         let s = direct_stands form format bytes at (value, next) h in
@@ -101,14 +101,14 @@ value_stands form constant format bytes at value next h = by_form (form_of form)
         stands (Some Indirect) is (inner.front ++ s.front) s.rest both
         (record { front = inner.front; rest = s.front; whole = refl; form_is = subst (λ (k : ℕ). IsUleb inner.front k) (sym s.spelled.3) inner.spelled; value_is = form_in found.0.0 format s.front value s.spelled })
 
-pub value_reads : (form : ℕ) (constant : Option ℤ) (format : Format) (bytes : List ℕ) (at : ℕ) (value : Value) (next : ℕ) → StandsAt (Spells form constant format) bytes at value next → value_at form constant format bytes at ≡ Ok (value, next)
+pub value_reads : (form : ℕ) (format : Format) (constant : Option ℤ) (bytes : List ℕ) (at : ℕ) (value : Value) (next : ℕ) → StandsAt (Spells form format constant) bytes at value next → value_at form format constant bytes at ≡ Ok (value, next)
 unfolding value_at
-value_reads form constant format bytes at value next s = by_form (form_of form) refl s.spelled
+value_reads form format constant bytes at value next s = by_form (form_of form) refl s.spelled
   where
     here : Stretch bytes at s.front next s.rest
-    here = stretch_of (Spells form constant format) bytes at value next s
+    here = stretch_of (Spells form format constant) bytes at value next s
 
-    by_form : (f : Option Shape) → form_of form ≡ f → Spells_by f form constant format s.front value → Value_read f form constant format bytes at ≡ Ok (value, next)
+    by_form : (f : Option Shape) → form_of form ≡ f → Spells_by f form format constant s.front value → Value_read f form format constant bytes at ≡ Ok (value, next)
     by_form None is spelled = absurd spelled
     by_form (Some (Direct layout)) is spelled = direct_reads form format bytes at value next (stands_from (SpellsDirectly form format) bytes at value next s.front s.rest here spelled)
     by_form (Some ImplicitConst) is spelled =
@@ -122,10 +122,10 @@ value_reads form constant format bytes at value next s = by_form (form_of form) 
         rw (inner, read) refl
 
 -- Two spellings with which the same bytes begin are one.
-pub one_value : (form : ℕ) (constant : Option ℤ) (format : Format) (a b x y : List ℕ) (v w : Value) → Spells form constant format a v → Spells form constant format b w → a ++ x ≡ b ++ y → (a ≡ b) × (v ≡ w)
-one_value form constant format a b x y v w is js e =
-    let first = value_reads form constant format (a ++ x) 0 v (length a) (record { front = a; rest = x; spelled = is; parts = refl; next_is = omega arith }) in
-    let second = value_reads form constant format (b ++ y) 0 w (length b) (record { front = b; rest = y; spelled = js; parts = refl; next_is = omega arith }) in
-    let both = same_ok (v, length a) (w, length b) (sym first ∙ (ap (λ (bytes : List ℕ). value_at form constant format bytes 0) e ∙ second)) in
+pub one_value : (form : ℕ) (format : Format) (constant : Option ℤ) (a b x y : List ℕ) (v w : Value) → Spells form format constant a v → Spells form format constant b w → a ++ x ≡ b ++ y → (a ≡ b) × (v ≡ w)
+one_value form format constant a b x y v w is js e =
+    let first = value_reads form format constant (a ++ x) 0 v (length a) (record { front = a; rest = x; spelled = is; parts = refl; next_is = omega arith }) in
+    let second = value_reads form format constant (b ++ y) 0 w (length b) (record { front = b; rest = y; spelled = js; parts = refl; next_is = omega arith }) in
+    let both = same_ok (v, length a) (w, length b) (sym first ∙ (ap (λ (bytes : List ℕ). value_at form format constant bytes 0) e ∙ second)) in
     let len : length a ≡ length b = ap (λ (r : Value × ℕ). r.1) both in
     (sym (take_at a x (length a) refl) ∙ (ap (λ (bytes : List ℕ). take (length a) bytes) e ∙ take_at b y (length a) (sym len)), ap (λ (r : Value × ℕ). r.0) both)

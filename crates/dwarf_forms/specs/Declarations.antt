@@ -1,5 +1,6 @@
 -- Abbreviation declarations (DWARF 5, 7.5.3): what a table says, and how it is spelled.
 use Rattle.std.specs.Prelude.{◌≡◌, ◌≢◌, ℕ, ℤ, List, [], ◌∷◌, ◌++◌, Bool, Option, Some, None, IsSome, if◌then◌else◌, All, AllPairs}
+use Rattle.dwarf_bytes.specs.declared.constants.TheConstants.{DW_FORM_IMPLICIT_CONST}
 use Rattle.dwarf_bytes.specs.Numbers.{IsUleb, IsSleb}
 use Rattle.dwarf_bytes.specs.Forms.{form_of}
 use Rattle.dwarf_forms.specs.declared.attribute.AttributeSpecification.{AttributeSpecification}
@@ -10,14 +11,10 @@ pub record Declaration : Type 0 where
   pub children : Bool
   pub attributes : List AttributeSpecification
 
--- DW_FORM_implicit_const
-abbrev pub implicit_const : ℕ
-implicit_const = 0x21
-
 -- A signed LEB128 constant stands behind DW_FORM_implicit_const, and nothing behind another form.
 abbrev pub SpellsConstant : ℕ → List ℕ → Option ℤ → Type 0
-SpellsConstant form bytes None = (form ≢ implicit_const) × (bytes ≡ [])
-SpellsConstant form bytes (Some c) = (form ≡ implicit_const) × IsSleb bytes c
+SpellsConstant form bytes None = (form ≢ DW_FORM_IMPLICIT_CONST) × (bytes ≡ [])
+SpellsConstant form bytes (Some c) = (form ≡ DW_FORM_IMPLICIT_CONST) × IsSleb bytes c
 
 -- The bytes spell an attribute of a declaration: name, form, and the form's constant.
 pub record SpellsAttribute (bytes : List ℕ) (attribute : AttributeSpecification) : Type 0 where

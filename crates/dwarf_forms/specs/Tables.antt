@@ -10,12 +10,13 @@ use Rattle.dwarf_bytes.specs.Numbers.{u8_at, uleb_at, sleb_at}
 use Rattle.dwarf_bytes.specs.Forms.{form_of}
 use Rattle.dwarf_forms.specs.declared.attribute.AttributeSpecification.{AttributeSpecification}
 use Rattle.dwarf_forms.specs.declared.declaration.Head.{Head}
-use Rattle.dwarf_forms.specs.Declarations.{Declaration, implicit_const}
+use Rattle.dwarf_forms.specs.Declarations.{Declaration}
+use Rattle.dwarf_bytes.specs.declared.constants.TheConstants.{DW_FORM_IMPLICIT_CONST}
 
 -- the constant that stands behind a form in a declaration
 abbrev pub constant_at : ℕ → List ℕ → ℕ → Result (Option ℤ × ℕ) Cause
 constant_at form section at =
-    if form == implicit_const then (reading (sleb_at section at) >>= λ c. Ok (Some c.0, c.1)) else Ok (None, at)
+    if form == DW_FORM_IMPLICIT_CONST then (reading (sleb_at section at) >>= λ c. Ok (Some c.0, c.1)) else Ok (None, at)
 
 -- the attribute at a place, behind those before it in its declaration
 abbrev pub attribute_at : List ℕ → List AttributeSpecification → ℕ → Result (Next AttributeSpecification) Cause

@@ -36,8 +36,8 @@ pub record SpellsIndirectly (format : Format) (bytes : List ℕ) (value : Value)
   pub value_is : SpellsDirectly value.form format rest value
 
 -- The bytes spell the value in this form, in a unit of the format; the constant is that of the declaration.
-abbrev pub Spells : ℕ → Option ℤ → Format → List ℕ → Value → Type 0
-Spells form constant format bytes value = elim (form_of form) [
+abbrev pub Spells : ℕ → Format → Option ℤ → List ℕ → Value → Type 0
+Spells form format constant bytes value = elim (form_of form) [
   | None ↦ ⊥
   | Some (Direct layout) ↦ SpellsDirectly form format bytes value
   | Some ImplicitConst ↦ (c : ℤ) × (constant ≡ Some c) × (bytes ≡ []) × (value ≡ record { form = form; content = Signed c })
@@ -59,8 +59,8 @@ direct_at form format bytes at = elim (form_of form) [
 ]
 
 -- the value at a place, and the place after it
-unfoldable pub value_at : ℕ → Option ℤ → Format → List ℕ → ℕ → Result (Value × ℕ) ValueFault
-value_at form constant format bytes at = elim (form_of form) [
+unfoldable pub value_at : ℕ → Format → Option ℤ → List ℕ → ℕ → Result (Value × ℕ) ValueFault
+value_at form format constant bytes at = elim (form_of form) [
   | None ↦ Err Form
   | Some (Direct layout) ↦ direct_at form format bytes at
   | Some ImplicitConst ↦ (elim constant [ None ↦ Err Form | Some c ↦ Ok (record { form = form; content = Signed c }, at) ])

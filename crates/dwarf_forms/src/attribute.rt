@@ -8,12 +8,10 @@ ghost use Rattle.dwarf_bytes.specs.Refusals.{ReadsField, ReadsItems, ReadsNext};
 ghost use Rattle.dwarf_forms.specs.Tables.{constant_at, attribute_at, attributes_at};
 ghost use Rattle.dwarf_forms.specs.Index.{HoldsNames};
 
+use dwarf_bytes::constants::DW_FORM_IMPLICIT_CONST;
 use dwarf_bytes::{Cause, Cursor, Form};
 use std::alloc::Global;
 use std::collections::BTreeSet;
-
-/// DW_FORM_implicit_const, whose constant stands in the declaration.
-const IMPLICIT_CONST: u64 = 0x21;
 
 /// How many names of a declaration are compared one by one; those behind them are in a set.
 pub(crate) const FEW: usize = 32;
@@ -104,7 +102,7 @@ fn has_name(attributes: &[AttributeSpecification], name: u64) -> bool
 fn constant(form: u64, cursor: &mut Cursor) -> Result<Option<i64>, Cause>
     ensures { ReadsField (λ constant. constant) result (constant_at form) cursor.old cursor.new }
 {
-    if form == IMPLICIT_CONST {
+    if form == DW_FORM_IMPLICIT_CONST {
         return Ok(Some(cursor.sleb()?));
     }
     Ok(None)

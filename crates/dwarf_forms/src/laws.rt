@@ -20,10 +20,10 @@ pub fn table_is_unique()
 
 /// A value is read exactly where the bytes at the place begin with a spelling of it.
 pub fn value_is_spelled()
-    ensures { (form : ℕ) (constant : Option ℤ) (format : Format) (bytes : List ℕ) (at : ℕ) (value : Value) (next : ℕ) → (value_at form constant format bytes at ≡ Ok (value, next)) ↔ StandsAt (Spells form constant format) bytes at value next }
+    ensures { (form : ℕ) (format : Format) (constant : Option ℤ) (bytes : List ℕ) (at : ℕ) (value : Value) (next : ℕ) → (value_at form format constant bytes at ≡ Ok (value, next)) ↔ StandsAt (Spells form format constant) bytes at value next }
 {}
 
 /// No spelling in a form begins another, and each has one value.
 pub fn value_is_unique()
-    ensures { (form : ℕ) (constant : Option ℤ) (format : Format) (a b x y : List ℕ) (v w : Value) → Spells form constant format a v → Spells form constant format b w → a ++ x ≡ b ++ y → (a ≡ b) × (v ≡ w) }
+    ensures { (form : ℕ) (format : Format) (constant : Option ℤ) (a b x y : List ℕ) (v w : Value) → Spells form format constant a v → Spells form format constant b w → a ++ x ≡ b ++ y → (a ≡ b) × (v ≡ w) }
 {}

@@ -4,7 +4,7 @@
 
 mod attribute;
 mod declaration;
-mod laws;
+pub mod laws;
 mod reading;
 mod table;
 mod values;
@@ -12,7 +12,6 @@ mod values;
 pub use attribute::AttributeSpecification;
 pub use declaration::Decl;
 pub use dwarf_bytes::Content;
-pub use laws::{table_is_spelled, table_is_unique, value_is_spelled, value_is_unique};
 pub use reading::value;
 pub use table::Abbrevs;
 pub use values::{Value, ValueFault};

@@ -26,11 +26,11 @@ fn direct<'a>(form: u64, format: Format, cursor: &mut Cursor<'a>) -> Result<Valu
 #[tactic(auto, unfolding(crate::specs::Values::value_at))]
 pub fn value<'a>(
     form: u64,
-    constant: Option<i64>,
     format: Format,
+    constant: Option<i64>,
     cursor: &mut Cursor<'a>,
 ) -> Result<Value<'a>, ValueFault>
-    ensures { ReadsValue result (value_at form constant format) cursor.old cursor.new }
+    ensures { ReadsValue result (value_at form format constant) cursor.old cursor.new }
 {
     let start = cursor.place();
     match Form::of(form) {

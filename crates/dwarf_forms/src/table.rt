@@ -67,7 +67,7 @@ impl Abbrevs {
     }
 
     /// The declaration of a code, found as its place is.
-    pub fn find(&self, code: u64) -> Option<&Decl>
+    fn find(&self, code: u64) -> Option<&Decl>
         ensures { option_copied result ≡ find (λ declaration. declaration.code == code) self.now }
     {
         self.decls.get(self.position(code)?)
@@ -75,7 +75,7 @@ impl Abbrevs {
 
     /// The place of the declaration of a code, counted from 0. It is found in constant time where codes
     /// count up from 1, and by the logarithm of their number otherwise.
-    pub fn position(&self, code: u64) -> Option<usize>
+    fn position(&self, code: u64) -> Option<usize>
         ensures { result ≡ position (λ declaration. declaration.code == code) self.now }
     {
         let own = code.saturating_sub(1) as usize;

@@ -50,7 +50,7 @@ fn declarations_of_a_unit(rt: HostRuntime) -> Result<(), Fail> {
         (0x58, 0x0b),
         (0x59, 0x0b),
     ];
-    let inlined = table.find(3).ok_or("no declaration 3")?;
+    let inlined = decls.get(2).ok_or("no declaration 3")?;
     for (attribute, (name, form)) in inlined.attributes().iter().zip(names) {
         let wanted = AttributeSpecification {
             name,
@@ -59,8 +59,6 @@ fn declarations_of_a_unit(rt: HostRuntime) -> Result<(), Fail> {
         };
         assert_eq!(rt; *attribute, wanted);
     }
-    assert!(rt; table.find(0).is_none());
-    assert!(rt; table.find(5).is_none());
     Ok(())
 }
 
@@ -80,7 +78,7 @@ fn constants_in_declarations(rt: HostRuntime) -> Result<(), Fail> {
     let section = [1, 0x11, 0, 3, 0x21, 0x7f, 0, 0, 0];
     let table = Abbrevs::read(rt.alloc(), &section, 0, &mut left)?;
     assert_eq!(rt; table.decls().len(), 1);
-    let attributes = table.find(1).ok_or("no declaration 1")?.attributes();
+    let attributes = table.decls().first().ok_or("no declaration")?.attributes();
     assert_eq!(rt;
         attributes.first().map(|attribute| attribute.constant),
         Some(Some(-1))
@@ -147,7 +145,7 @@ fn limits(rt: HostRuntime) -> Result<(), Fail> {
     Ok(())
 }
 
-/// Codes in any order, each found; and more names than are compared one by one.
+/// Codes in any order; each is that of one declaration.
 #[test]
 fn codes_out_of_order(rt: HostRuntime) -> Result<(), Fail> {
     let section = [
@@ -155,19 +153,19 @@ fn codes_out_of_order(rt: HostRuntime) -> Result<(), Fail> {
     ];
     let mut left = MOST;
     let table = Abbrevs::read(rt.alloc(), &section, 0, &mut left)?;
-    for (code, tag) in [
-        (5, Some(9)),
-        (2, Some(10)),
-        (1, Some(11)),
-        (256, Some(12)),
-        (3, None),
-        (4, None),
-    ] {
-        assert_eq!(rt; table.find(code).map(|decl| decl.tag()), tag, "{code}");
+    for (decl, code) in table.decls().iter().zip([5, 2, 1, 256]) {
+        assert_eq!(rt; decl.code(), code);
     }
-    for (code, place) in [(5, Some(0)), (1, Some(2)), (256, Some(3)), (3, None)] {
-        assert_eq!(rt; table.position(code), place, "{code}");
-    }
+    let again = [
+        5, 9, 0, 0, 0, 2, 10, 0, 0, 0, 0x80, 0x02, 11, 0, 0, 0, 0x80, 0x02, 12, 0, 0, 0, 0,
+    ];
+    is_refused(&rt, &again, Cause::AbbrevTwice, 16);
+    is_refused(
+        &rt,
+        &[2, 9, 0, 0, 0, 1, 9, 0, 0, 0, 2, 9, 0, 0, 0, 0],
+        Cause::AbbrevTwice,
+        10,
+    );
     Ok(())
 }
 
@@ -187,7 +185,8 @@ fn many_names(rt: HostRuntime) -> Result<(), Fail> {
     let table = wide(rt.alloc(), 100, 100)?;
     let mut left = 1;
     let read = Abbrevs::read(rt.alloc(), &table, 0, &mut left)?;
-    assert_eq!(rt; read.find(1).map(|decl| decl.attributes().len()), Some(100));
+    let decl = read.decls().first().ok_or("no declaration")?;
+    assert_eq!(rt; decl.attributes().len(), 100);
     for again in [1, 32, 33, 99] {
         is_refused(&rt, &wide(rt.alloc(), 100, again)?, Cause::AttrTwice, 0);
     }

@@ -8,7 +8,7 @@ use std::test::*;
 /// What is read of the bytes in a form, and how many of them.
 fn read(form: u64, bytes: &[u8]) -> (Result<Value<'_>, ValueFault>, usize) {
     let mut cursor = Cursor::new(bytes);
-    let value = value(form, None, Format::Dwarf32, &mut cursor);
+    let value = value(form, Format::Dwarf32, None, &mut cursor);
     (value, cursor.place())
 }
 
@@ -128,7 +128,7 @@ fn signed_numbers(rt: HostRuntime) {
     );
     let bytes = [];
     let mut cursor = Cursor::new(&bytes);
-    match value(0x21, Some(-1), Format::Dwarf32, &mut cursor) {
+    match value(0x21, Format::Dwarf32, Some(-1), &mut cursor) {
         Ok(
             Value {
                 form: 0x21,

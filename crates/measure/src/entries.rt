@@ -1,7 +1,7 @@
 //! The abbreviation tables of an object's units, and the values of their entries.
 
 use dwarf_bytes::{Cause, Cursor, Format, LoadFault, Object, Section};
-use dwarf_forms::{Abbrevs, value};
+use dwarf_forms::{Abbrevs, Decl, value};
 use std::alloc::Global;
 
 /// The most declarations of an object.
@@ -141,15 +141,24 @@ fn read_entry(
     if code == 0 {
         return Ok(());
     }
-    let Some(declaration) = table.find(code) else {
+    let Some(declaration) = find(table.decls(), code) else {
         return Err(Cause::AbbrevCode);
     };
     counts.entries = counts.entries.wrapping_add(1);
     for attribute in declaration.attributes() {
-        if value(attribute.form, attribute.constant, format, cursor).is_err() {
+        if value(attribute.form, format, attribute.constant, cursor).is_err() {
             return Err(Cause::Form);
         }
         counts.values = counts.values.wrapping_add(1);
     }
     Ok(())
+}
+
+/// The declaration of a code. Codes mostly count up from 1.
+fn find(decls: &[Decl], code: u64) -> Option<&Decl> {
+    let own = decls.get(code.saturating_sub(1) as usize);
+    match own.filter(|decl| decl.code() == code) {
+        Some(decl) => Some(decl),
+        None => decls.iter().find(|decl| decl.code() == code),
+    }
 }

@@ -8,29 +8,14 @@ use std::io::{self, BufWriter, Write};
 
 /// The scopes of an object.
 pub fn read(alloc: Global, bytes: &[u8]) -> Result<Scopes, LoadFault> {
-    Scopes::read(alloc, &sections(bytes)?)
-}
-
-/// The sections of an object.
-fn sections(bytes: &[u8]) -> Result<Sections<'_>, LoadFault> {
-    let layout = Object::find(bytes)?;
-    Ok(Sections {
-        debug_info: layout.debug_info.of(bytes),
-        debug_abbrev: layout.debug_abbrev.of(bytes),
-        debug_line: layout.debug_line.of(bytes),
-        debug_line_str: layout.debug_line_str.of(bytes),
-        debug_str: layout.debug_str.of(bytes),
-        debug_str_offsets: layout.debug_str_offsets.of(bytes),
-        debug_addr: layout.debug_addr.of(bytes),
-        debug_rnglists: layout.debug_rnglists.of(bytes),
-    })
+    Scopes::read(alloc, &Sections::of(bytes, &Object::find(bytes)?))
 }
 
 /// How many ranges scopes have.
-pub fn count_ranges(scopes: &[Scope]) -> u64 {
+pub fn count_ranges(scopes: &Scopes) -> u64 {
     let mut count = 0u64;
-    for scope in scopes {
-        count = count.wrapping_add(scope.ranges.len() as u64);
+    for scope in scopes.scopes() {
+        count = count.wrapping_add(scope.ranges(scopes).len() as u64);
     }
     count
 }
@@ -38,32 +23,37 @@ pub fn count_ranges(scopes: &[Scope]) -> u64 {
 /// Prints each scope as `OFFSET KIND NAME LINKAGE_NAME RANGES CALL_FILE CALL_LINE`, with tabs between
 /// them, ranges as `FROM-TO,..`, and `-` for what is absent.
 pub fn print_scopes(rt: &HostRuntime, bytes: &[u8]) -> Result<()> {
-    let sections = sections(bytes)?;
+    let sections = Sections::of(bytes, &Object::find(bytes)?);
     let scopes = Scopes::read(rt.alloc(), &sections)?;
     let mut out = BufWriter::new(rt.alloc(), io::writer(rt))?;
     for scope in scopes.scopes() {
-        print_scope(&mut out, &sections, scope)?;
+        print_scope(&mut out, &sections, &scopes, scope)?;
     }
     out.flush().context("writing")?;
     Ok(())
 }
 
 /// Prints a scope.
-fn print_scope<W: Write>(out: &mut W, sections: &Sections<'_>, scope: &Scope) -> Result<()> {
-    let kind = match scope.kind {
+fn print_scope<W: Write>(
+    out: &mut W,
+    sections: &Sections<'_>,
+    scopes: &Scopes,
+    scope: &Scope,
+) -> Result<()> {
+    let kind = match scope.kind() {
         ScopeKind::Subprogram => "subprogram",
         ScopeKind::Inlined => "inlined",
     };
-    write!(out, "{:x}\t{}\t", scope.offset, kind)?;
-    print_text(out, sections, scope.name)?;
+    write!(out, "{:x}\t{}\t", scope.offset(), kind)?;
+    print_text(out, sections, scope.name())?;
     out.write_all(b"\t")?;
-    print_text(out, sections, scope.linkage_name)?;
+    print_text(out, sections, scope.linkage_name())?;
     out.write_all(b"\t")?;
-    print_ranges(out, scope.ranges.as_slice())?;
+    print_ranges(out, scope.ranges(scopes))?;
     out.write_all(b"\t")?;
-    print_number(out, scope.call_file)?;
+    print_number(out, scope.call_file(scopes))?;
     out.write_all(b"\t")?;
-    print_number(out, scope.call_line)?;
+    print_number(out, scope.call_line(scopes))?;
     out.write_all(b"\n")?;
     Ok(())
 }

@@ -14,7 +14,7 @@ returns-in_err-unit_bases c keeping headers dies same =
 
 pub loop-unit-preserved : goal.loop-unit-preserved
 loop-unit-preserved c keeping headers dies same =
-    rw (c.push.ensures.items, c.if-is_err.ensures.negation)
+    rw (c.in_ok-push.ensures.items)
     (bases_next keeping (sections_of c.args.sections.now) c.args.units.now headers dies c.loop-unit.unit-index c.unit-item.result c.loop-unit.all.items c.in_ok-unit_bases.field-0 same c.loop-unit-test.true c.unit-item.is (c.loop-unit.invariant keeping headers dies same) c.in_ok-unit_bases.ensures)
 
 pub returns : goal.returns

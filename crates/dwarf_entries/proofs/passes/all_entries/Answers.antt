@@ -28,7 +28,7 @@ returns-in_err-unit c tables all =
 pub loop-header-preserved : goal.loop-header-preserved
 loop-header-preserved c = record {
   so_far = λ tables all.
-      rw (c.push.ensures.items, c.if-is_err.ensures.negation, map-append kept_of c.loop-header.units.items (c.in_ok-unit.unit ∷ []))
+      rw (c.in_ok-push.ensures.items, map-append kept_of c.loop-header.units.items (c.in_ok-unit.unit ∷ []))
       (entries_next c.args.keeping c.args.sections.now.debug_info.now c.args.sections.now.debug_abbrev.now c.args.headers.now tables c.loop-header.header-index c.loop-header.left c.unit_table.new.left _ _ c.in_ok-table.table.declarations (kept_of c.in_ok-unit.unit) (c.loop-header.invariant.so_far tables all) all c.loop-header-test.true c.in_ok-table.ensures.decodes c.in_ok-table.ensures.counted c.in_ok-unit.ensures);
   last = last_read c.args.sections.now.debug_abbrev.now c.loop-header.left c.in_ok-table.table _ c.in_ok-table.ensures.place.0 c.in_ok-table.ensures.decodes;
 }

@@ -2,16 +2,16 @@ use Rattle.std.proofs.Common.{◌+◌, ap, append-nil, arith}
 use Rattle.std.specs.Prelude.{Some, None}
 use Rattle.dwarf_entries.proofs.RootsPass.{count_within, roots_turn, roots_end}
 use Rattle.dwarf_entries.proofs.scopes.roots.Goals as goal
-use Rattle.dwarf_entries.proofs.scopes.roots.Goals.{in-Some+else-is_err, in_default}
+use Rattle.dwarf_entries.proofs.scopes.roots.Goals.{in-Some+in_ok-push, in_default}
 
 pub loop-unit-preserved : goal.loop-unit-preserved
 loop-unit-preserved c =
     let counted = count_within c.args.units.now c.loop-unit.unit-index c.unit-item.result c.loop-unit.first c.loop-unit.invariant.first_is c.loop-unit-test.true c.unit-item.is in
     elim c.match-unit.branch [
-      | in-Some+else-is_err w ↦ record {
+      | in-Some+in_ok-push w ↦ record {
         first_is = omega (arith, w.first-is, c.len.ensures, c.unit-item.result.scopes.ok.0, counted);
         so_far = λ keeping us same.
-            rw (w.roots-is, w.push.ensures.items, w.if-is_err.ensures.negation, w.first-is)
+            rw (w.roots-is, w.in_ok-push.ensures.items, w.first-is)
             (roots_turn keeping c.args.units.now us c.loop-unit.unit-index c.loop-unit.first (c.loop-unit.first + c.len.result) c.unit-item.result (Some w.in-Some.root) c.loop-unit.roots.items same c.loop-unit-test.true c.unit-item.is (c.loop-unit.invariant.so_far keeping us same) (ap (λ n. c.loop-unit.first + n) c.len.ensures) w.in-Some.is);
       }
       | in_default w ↦ record {

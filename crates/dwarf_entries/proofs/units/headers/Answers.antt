@@ -13,7 +13,7 @@ loop-at-smaller c =
 pub loop-at-preserved : goal.loop-at-preserved
 loop-at-preserved c =
     let moved = unit_at-moves c.args.info.now c.loop-at.at c.in-Ok.header (sym c.in-Ok.ensures) in
-    record { within = moved.1; read = rw (c.push.ensures.items, c.if-is_err.ensures.negation) (units-item c.args.info.now c.loop-at.all.items c.loop-at.at c.in-Ok.header c.loop-at.invariant.read c.loop-at-test.true c.in-Ok.ensures) }
+    record { within = moved.1; read = rw (c.in_ok-push-in-Ok.ensures.items) (units-item c.args.info.now c.loop-at.all.items c.loop-at.at c.in-Ok.header c.loop-at.invariant.read c.loop-at-test.true c.in-Ok.ensures) }
 
 pub returns : goal.returns
 returns c = units-end c.args.info.now c.loop-at.all.items c.loop-at.at c.loop-at.invariant.read c.loop-at-test.false

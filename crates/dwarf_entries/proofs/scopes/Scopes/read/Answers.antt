@@ -13,11 +13,11 @@ returns-in_err-judge_tables c =
     let p = err_from_is_err_and c.from_residual-in_err-judge_tables.result c.from_residual-in_err-judge_tables.ensures.1 in
     rw (p.1, p.2) (tables_fault (sections_of c.args.sections.now) c.in_ok-headers.headers.items c.in_err-judge_tables.field-0.0 c.in_ok-headers.ensures (rw c.as_slice.ensures.value at c.in_err-judge_tables.ensures))
 
-pub returns-in-Ok-read_with : goal.returns-in-Ok-read_with
-returns-in-Ok-read_with c =
+pub returns-in-Ok : goal.returns-in-Ok
+returns-in-Ok c =
     let s = sections_of c.args.sections.now in
     let tables = tables_read s c.in_ok-headers.headers.items c.in_ok-headers.ensures (rw c.as_slice.ensures.value at c.in_ok-judge_tables.ensures) in
-    read_among s c.in_ok-headers.headers.items tables c.in-Ok-read_with.scopes ((rw c.as_slice-2.ensures.value at c.in-Ok-read_with.ensures) tables)
+    read_among s c.in_ok-headers.headers.items tables c.in-Ok.scopes ((rw c.as_slice-2.ensures.value at c.in-Ok.ensures) tables)
 
 pub returns-in-Reference : goal.returns-in-Reference
 returns-in-Reference c =
@@ -29,4 +29,4 @@ pub returns : goal.returns
 returns c =
     let s = sections_of c.args.sections.now in
     let tables = tables_read s c.in_ok-headers.headers.items c.in_ok-headers.ensures (rw c.as_slice.ensures.value at c.in_ok-judge_tables.ensures) in
-    fault_among s c.in_ok-headers.headers.items tables c.in-Err.fault ((rw c.as_slice-2.ensures.value at c.in-Err.ensures) tables) c.in_default-cause.not-Reference
+    fault_among s c.in_ok-headers.headers.items tables c.in-Err.fault ((rw c.as_slice-2.ensures.value at c.in-Err.ensures) tables) c.in_default.not-Reference

@@ -24,13 +24,13 @@ returns-in-Err c keeping us u before are found judged =
 
 pub loop-entry-preserved : goal.loop-entry-preserved
 loop-entry-preserved c = record {
-  counted = rw (c.push.ensures.items, c.if-is_err.ensures.negation) (omega (arith, c.loop-entry.invariant.counted, length-append c.loop-entry.scopes.items (c.in-Ok.scope ∷ [])));
+  counted = rw (c.in_ok-push-in-Ok.ensures.items) (omega (arith, c.loop-entry.invariant.counted, length-append c.loop-entry.scopes.items (c.in-Ok.scope ∷ [])));
   so_far = λ keeping us u before are found judged.
       let so_far = c.loop-entry.invariant.so_far keeping us u before are found judged in
       let number_is : c.len-number.result ≡ c.len-first.result + c.loop-entry.entry-index = omega (arith, c.len-number.ensures, c.loop-entry.scopes.ok.0, c.loop-entry.invariant.counted) in
       let p = place_there keeping c.args.self.units.now c.args.self.bases.now us u c.args.unit c.loop-entry.entry-index c.len-number.result c.len-first.result _ _ _ _ _ c.index-inside.result.now are found c.as_slice-entry-items.ensures.value c.loop-entry-test.true number_is refl c.index-inside.ensures in
       let place = is_place keeping (sections_of c.args.self.sections.now) us u before c.args.unit c.loop-entry.entry-index c.loop-entry.scopes.items c.loop-entry.left c.len-number.result _ c.index-inside.result.now so_far found p (c.len-number.ensures ∙ c.loop-entry.scopes.ok.0) in
-      rw (c.push.ensures.items, c.if-is_err.ensures.negation) (judged_next keeping (sections_of c.args.self.sections.now) us u before c.loop-entry.entry-index c.loop-entry.scopes.items c.loop-entry.left _ _ c.index-inside.result.now c.in-Ok.items c.in-Ok.scope so_far p (c.in-Ok.ensures.judged keeping us so_far.judged p.place are place) (omega (arith, c.in-Ok.ensures.room)));
+      rw (c.in_ok-push-in-Ok.ensures.items) (judged_next keeping (sections_of c.args.self.sections.now) us u before c.loop-entry.entry-index c.loop-entry.scopes.items c.loop-entry.left _ _ c.index-inside.result.now c.in-Ok.items c.in-Ok.scope so_far p (c.in-Ok.ensures.judged keeping us so_far.judged p.place are place) (omega (arith, c.in-Ok.ensures.room)));
 }
 
 pub returns : goal.returns

@@ -1,0 +1,49 @@
+//! Codes of declarations, in any order.
+
+use crate::fixtures::*;
+use dwarf_bytes::Cause;
+use dwarf_entries::{ScopeKind, Scopes};
+use std::test::*;
+
+/// A table whose codes do not count up from 1.
+const CODES: [u8; 22] = [
+    5, 0x11, 1, 0, 0, // unit
+    2, 0x2e, 0, 0, 0, // subprogram, in its own place
+    1, 0x1d, 0, 0, 0, // inlined subroutine
+    0x80, 0x02, 0x2e, 0, 0, 0, // 256: subprogram
+    0,
+];
+
+#[test]
+fn codes_out_of_order(rt: HostRuntime) -> Result<(), Fail> {
+    // 12: unit, then entries at 13, 14, 15 and 17
+    let info = unit(rt.alloc(), &[5, 2, 1, 0x80, 0x02, 2, 0])?;
+    let read = Scopes::read(rt.alloc(), &sections(&info, &CODES))?;
+    assert_eq!(rt; read.roots(), [root(12, 0, 4)].as_slice());
+    let wanted = [
+        (13, ScopeKind::Subprogram),
+        (14, ScopeKind::Inlined),
+        (15, ScopeKind::Subprogram),
+        (17, ScopeKind::Subprogram),
+    ];
+    assert_eq!(rt; read.scopes().len(), 4);
+    for (scope, wanted) in read.scopes().iter().zip(wanted) {
+        assert_eq!(rt; (scope.offset(), scope.kind()), wanted);
+    }
+    Ok(())
+}
+
+#[test]
+fn codes_of_no_declaration(rt: HostRuntime) -> Result<(), Fail> {
+    let last: [u8; 10] = [0xff, 0xff, 0xff, 0xff, 0xff, 0xff, 0xff, 0xff, 0xff, 0x01];
+    let unknown: [&[u8]; 7] = [&[3], &[4], &[6], &[0xff, 1], &[0x81, 2], &[0x85, 2], &last];
+    for code in unknown {
+        let mut entries = Vec::new(rt.alloc());
+        entries.push(5)?;
+        entries.extend_from_slice(code)?;
+        entries.push(0)?;
+        let info = unit(rt.alloc(), &entries)?;
+        is_refused(&rt, &sections(&info, &CODES), Cause::AbbrevCode, 13);
+    }
+    Ok(())
+}

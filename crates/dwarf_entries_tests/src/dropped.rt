@@ -1,0 +1,190 @@
+//! Dropped code: scopes and range list entries whose start or base is 2^64-1.
+
+use crate::fixtures::*;
+use dwarf_bytes::Cause;
+use dwarf_entries::{Range, Scopes, Sections};
+use std::process::Abort;
+use std::test::*;
+
+/// A table of the addresses 0x1000 and 2^64-1, whose base is 8.
+const ADDRESSES: [u8; 24] = [
+    20, 0, 0, 0, 5, 0, 8, 0, 0, 0x10, 0, 0, 0, 0, 0, 0, 0xff, 0xff, 0xff, 0xff, 0xff, 0xff, 0xff,
+    0xff,
+];
+
+/// The low_pc of a unit, as an address, and its addr_base.
+const BELOW: [u8; 12] = [0, 0x10, 0, 0, 0, 0, 0, 0, 8, 0, 0, 0];
+
+/// The same with the low_pc 2^64-1.
+const DROPPED: [u8; 12] = [0xff, 0xff, 0xff, 0xff, 0xff, 0xff, 0xff, 0xff, 8, 0, 0, 0];
+
+/// Checks what a subprogram at 25 of these attributes covers, in a unit of these.
+fn covers(
+    rt: &(impl Abort + AllocGlobal),
+    root: &[u8],
+    scope: Attributes<'_>,
+    list: &[u8],
+    wanted: Result<&[Range], Cause>,
+) -> Result<(), Fail> {
+    // low_pc as addr, addr_base as sec_offset
+    let root: Attributes<'_> = (&[0x11, 1, 0x73, 0x17], root);
+    let table = declarations(rt.alloc(), root, scope)?;
+    let info = one_scope(rt.alloc(), root, scope)?;
+    let all = Sections {
+        debug_addr: &ADDRESSES,
+        debug_rnglists: list,
+        ..sections(&info, &table)
+    };
+    match Scopes::read(rt.alloc(), &all) {
+        Ok(read) => {
+            let scope = read.scopes().first().ok_or("no scope")?;
+            assert_eq!(rt; Some(scope.ranges(&read)), wanted.ok());
+        }
+        Err(told) => assert_eq!(rt; Some(told), wanted.err().map(|cause| fault(cause, 25))),
+    }
+    Ok(())
+}
+
+/// Checks what a list of these entries covers.
+fn lists(
+    rt: &(impl Abort + AllocGlobal),
+    root: &[u8],
+    list: &[u8],
+    wanted: Result<&[Range], Cause>,
+) -> Result<(), Fail> {
+    covers(rt, root, (&[0x55, 0x17], &[0, 0, 0, 0]), list, wanted)
+}
+
+/// Each list has an entry of dropped code, which would pass the highest address or go back, and then
+/// start_length 0x3000, 5.
+#[test]
+fn entries_of_each_kind(rt: HostRuntime) -> Result<(), Fail> {
+    let good = [range(0x3000, 0x3005)];
+    let entries: [&[u8]; 6] = [
+        // startx_endx 1 and 0, startx_length 1, 0x10
+        &[2, 1, 0],
+        &[3, 1, 0x10],
+        // start_end up to 1, start_length 1
+        &[
+            6, 0xff, 0xff, 0xff, 0xff, 0xff, 0xff, 0xff, 0xff, 1, 0, 0, 0, 0, 0, 0, 0,
+        ],
+        &[7, 0xff, 0xff, 0xff, 0xff, 0xff, 0xff, 0xff, 0xff, 1],
+        // base_address and base_addressx, and offset_pair 2 to 1
+        &[5, 0xff, 0xff, 0xff, 0xff, 0xff, 0xff, 0xff, 0xff, 4, 2, 1],
+        &[1, 1, 4, 2, 1],
+    ];
+    for entry in entries {
+        let mut list = Vec::new(rt.alloc());
+        list.extend_from_slice(entry)?;
+        list.extend_from_slice(&[7, 0, 0x30, 0, 0, 0, 0, 0, 0, 5, 0])?;
+        lists(&rt, &BELOW, &list, Ok(&good))?;
+    }
+    Ok(())
+}
+
+/// offset_pair 0 to 8 from the unit's low_pc, and from a base that the list sets behind it.
+#[test]
+fn offsets_from_a_low_pc(rt: HostRuntime) -> Result<(), Fail> {
+    let list = [4, 0, 8, 5, 0, 0x20, 0, 0, 0, 0, 0, 0, 4, 1, 3, 0];
+    let second = range(0x2001, 0x2003);
+    lists(&rt, &BELOW, &list, Ok(&[range(0x1000, 0x1008), second]))?;
+    lists(&rt, &DROPPED, &list, Ok(&[second]))
+}
+
+/// The operands behind the start of dropped code are read and looked up.
+#[test]
+fn operands_are_judged(rt: HostRuntime) -> Result<(), Fail> {
+    let entries: [(&[u8], Cause); 7] = [
+        (&[2, 1], Cause::Short),
+        (&[2, 1, 2, 0], Cause::Index),
+        (&[3, 1, 0x80], Cause::Short),
+        (
+            &[
+                6, 0xff, 0xff, 0xff, 0xff, 0xff, 0xff, 0xff, 0xff, 0, 0, 0, 0, 0, 0, 0,
+            ],
+            Cause::Short,
+        ),
+        (
+            &[7, 0xff, 0xff, 0xff, 0xff, 0xff, 0xff, 0xff, 0xff, 0x80],
+            Cause::Short,
+        ),
+        (&[1, 1, 4, 0], Cause::Short),
+        (&[1, 1, 8], Cause::RangeKind),
+    ];
+    for (list, cause) in entries {
+        lists(&rt, &BELOW, list, Err(cause))?;
+    }
+    Ok(())
+}
+
+#[test]
+fn pairs(rt: HostRuntime) -> Result<(), Fail> {
+    let top = [0xff; 8];
+    let both = [
+        0xff, 0xff, 0xff, 0xff, 0xff, 0xff, 0xff, 0xff, 0, 0x10, 0, 0, 0, 0, 0, 0,
+    ];
+    let with_list = [0xff, 0xff, 0xff, 0xff, 0xff, 0xff, 0xff, 0xff, 0, 0, 0, 0];
+    let main = [range(0x1000, 0x1010)];
+    let none: [Range; 0] = [];
+    let pairs: [(&[u8], &[u8], Result<&[Range], Cause>); 8] = [
+        // low_pc by index 0, beside one that is dropped: high_pc as a count
+        (&[0x11, 0x29, 0x12, 0x0b], &[0, 0x10], Ok(&main)),
+        (&[0x11, 0x29, 0x12, 0x0b], &[1, 0x10], Ok(&none)),
+        (&[0x11, 1, 0x12, 0x21, 0x10], &top, Ok(&none)),
+        // high_pc as an address
+        (&[0x11, 1, 0x12, 1], &both, Ok(&none)),
+        (&[0x11, 0x29, 0x12, 0x29], &[1, 0], Ok(&none)),
+        // what is judged before the start is looked at, or behind it
+        (&[0x11, 0x29, 0x12, 0x29], &[1, 2], Err(Cause::Index)),
+        (&[0x11, 0x29, 0x12, 0x29], &[2, 1], Err(Cause::Index)),
+        (&[0x11, 1, 0x55, 0x17], &with_list, Err(Cause::PcAndRanges)),
+    ];
+    for (declared, values, wanted) in pairs {
+        covers(&rt, &BELOW, (declared, values), &[0], wanted)?;
+    }
+    Ok(())
+}
+
+/// Sums that are 2^64-1, and an end that is, are no mark of dropped code.
+#[test]
+fn sums_and_ends_at_the_top(rt: HostRuntime) -> Result<(), Fail> {
+    let last = [range(u64::MAX - 1, u64::MAX)];
+    let none: [Range; 0] = [];
+    let entries: [(&[u8], Result<&[Range], Cause>); 6] = [
+        // base_address 2^64-2, and offset_pair
+        (
+            &[
+                5, 0xfe, 0xff, 0xff, 0xff, 0xff, 0xff, 0xff, 0xff, 4, 0, 1, 0,
+            ],
+            Ok(&last),
+        ),
+        (
+            &[
+                5, 0xfe, 0xff, 0xff, 0xff, 0xff, 0xff, 0xff, 0xff, 4, 1, 1, 0,
+            ],
+            Ok(&none),
+        ),
+        (
+            &[
+                5, 0xfe, 0xff, 0xff, 0xff, 0xff, 0xff, 0xff, 0xff, 4, 1, 0, 0,
+            ],
+            Err(Cause::RangeBackwards),
+        ),
+        (
+            &[
+                5, 0xfe, 0xff, 0xff, 0xff, 0xff, 0xff, 0xff, 0xff, 4, 1, 2, 0,
+            ],
+            Err(Cause::Overflow),
+        ),
+        // start_length, and startx_endx 0 and 1
+        (
+            &[7, 0xfe, 0xff, 0xff, 0xff, 0xff, 0xff, 0xff, 0xff, 1, 0],
+            Ok(&last),
+        ),
+        (&[2, 0, 1, 0], Ok(&[range(0x1000, u64::MAX)])),
+    ];
+    for (list, wanted) in entries {
+        lists(&rt, &BELOW, list, wanted)?;
+    }
+    Ok(())
+}
