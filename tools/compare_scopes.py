@@ -19,7 +19,7 @@ FIELDS = ["kind", "name", "linkage name", "ranges", "call file", "call line"]
 
 ENTRY = re.compile(r"^ <[0-9a-f]+><(?P<offset>[0-9a-f]+)>: Abbrev Number: \d+ \((?P<tag>\w+)")
 ATTRIBUTE = re.compile(r"^    <[0-9a-f]+>   (?P<name>DW_AT_\w+) *: (?P<value>.*)$")
-FORM = re.compile(r"^\((?P<form>\w+)\) ")
+FORM = re.compile(r"^\((?P<form>\w+)\)\s?")
 ELSEWHERE = re.compile(r"^\([^)]*\): ")
 REFERENCE = re.compile(r"^<(0x[0-9a-f]+)>")
 
