@@ -4,5 +4,8 @@
 #[cfg(test)]
 mod fixtures;
 #[cfg(test)]
+mod headers;
+#[cfg(test)]
+mod rows;
+#[cfg(test)]
 mod tables;
-mod tests;
