@@ -56,7 +56,8 @@ index_at form bytes place =
 -- the place after a value that is passed over
 abbrev pub after_value : Format → ℕ → List ℕ → ℕ → Result ℕ Cause
 after_value format form bytes place =
-    option_map_or (λ layout. reading (content_at layout format bytes place) >>= λ content. Ok content.1) (layout_of form) (Err causes.FileFormat)
+    option_map_or (λ layout. reading (content_at layout format bytes place) >>= λ content. Ok content.1)
+        (layout_of form) (Err causes.FileFormat)
 
 -- One field of an entry: a path or a directory index is kept, all else is passed over.
 unfoldable pub field_at : LineSections → Format → EntryTable → Field → Entry → List ℕ → ℕ → Result (Entry × ℕ) Cause
@@ -66,7 +67,8 @@ field_at s format table field entry bytes place =
     else after_value format field.form bytes place >>= λ after. Ok (entry, after)
 
 -- the fields of an entry, in the order of the format
-unfoldable pub fields_at : LineSections → Format → EntryTable → List Field → Entry → List ℕ → ℕ → Result (Entry × ℕ) Cause
+unfoldable pub fields_at : LineSections → Format → EntryTable → List Field → Entry → List ℕ → ℕ
+    → Result (Entry × ℕ) Cause
 fields_at s format table [] entry bytes place = Ok (entry, place)
 fields_at s format table (field ∷ fields) entry bytes place = do
   next ← field_at s format table field entry bytes place
@@ -89,7 +91,8 @@ entry_at s format table fields bytes place = do
   Ok entry
 
 -- so many items, one after the other
-unfoldable pub repeated_at : {X : Type 0} → (List ℕ → ℕ → Result (X × ℕ) Cause) → ℕ → List ℕ → ℕ → Result (List X × ℕ) Cause
+unfoldable pub repeated_at : {X : Type 0} → (List ℕ → ℕ → Result (X × ℕ) Cause) → ℕ → List ℕ → ℕ
+    → Result (List X × ℕ) Cause
 repeated_at item zero bytes place = Ok ([], place)
 repeated_at item (suc count) bytes place = do
   first ← item bytes place

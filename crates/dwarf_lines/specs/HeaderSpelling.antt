@@ -21,7 +21,8 @@ use Rattle.dwarf_lines.specs.Headers.{LineHeader, are_standard, signed_byte}
 -- Stretches of the bytes at the place spell the elements, one after another.
 abbrev pub SpellsEach : {X : Type 0} → (ℕ → List ℕ → X → Type 0) → ℕ → List ℕ → List X → Type 0
 SpellsEach spells place bytes [] = bytes ≡ []
-SpellsEach spells place bytes (x ∷ xs) = (front rest : List ℕ) × (bytes ≡ front ++ rest) × spells place front x × SpellsEach spells (place + length front) rest xs
+SpellsEach spells place bytes (x ∷ xs) = (front rest : List ℕ) × (bytes ≡ front ++ rest) × spells place front x
+    × SpellsEach spells (place + length front) rest xs
 
 -- A field of a format is a content and a form, wherever it stands.
 pub record SpellsField (place : ℕ) (bytes : List ℕ) (field : Field) : Type 0 where
@@ -33,9 +34,14 @@ pub record SpellsField (place : ℕ) (bytes : List ℕ) (field : Field) : Type 0
 
 -- The bytes at the place are a path in a form (7.5.5): a text, or the offset of one in its section.
 pub data SpellsPath (s : LineSections) (format : Format) (place : ℕ) : ℕ → List ℕ → PathText → Type 0 where
-  string : {bytes : List ℕ} → (text : List ℕ) → IsText bytes text → SpellsPath s format place DW_FORM_STRING bytes (text_from sections.DebugLine place text)
-  strp : {bytes : List ℕ} → (offset past : ℕ) (text : List ℕ) → IsFixed (offset_len format) bytes offset → StandsAt IsText s.str offset text past → SpellsPath s format place DW_FORM_STRP bytes (text_from sections.DebugStr offset text)
-  line_strp : {bytes : List ℕ} → (offset past : ℕ) (text : List ℕ) → IsFixed (offset_len format) bytes offset → StandsAt IsText s.line_str offset text past → SpellsPath s format place DW_FORM_LINE_STRP bytes (text_from sections.DebugLineStr offset text)
+  string : {bytes : List ℕ} → (text : List ℕ) → IsText bytes text
+      → SpellsPath s format place DW_FORM_STRING bytes (text_from sections.DebugLine place text)
+  strp : {bytes : List ℕ} → (offset past : ℕ) (text : List ℕ) → IsFixed (offset_len format) bytes offset
+      → StandsAt IsText s.str offset text past
+      → SpellsPath s format place DW_FORM_STRP bytes (text_from sections.DebugStr offset text)
+  line_strp : {bytes : List ℕ} → (offset past : ℕ) (text : List ℕ) → IsFixed (offset_len format) bytes offset
+      → StandsAt IsText s.line_str offset text past
+      → SpellsPath s format place DW_FORM_LINE_STRP bytes (text_from sections.DebugLineStr offset text)
 
 -- The bytes are a directory index in a form.
 pub data SpellsIndex : ℕ → List ℕ → ℕ → Type 0 where
@@ -45,9 +51,13 @@ pub data SpellsIndex : ℕ → List ℕ → ℕ → Type 0 where
 
 -- The bytes at the place are a field of the entry: its path, its directory, or what the entry does not keep.
 pub data SpellsPart (s : LineSections) (format : Format) (table : EntryTable) (entry : Entry) (place : ℕ) (bytes : List ℕ) (field : Field) : Type 0 where
-  path : is_path field ≡ true → SpellsPath s format place field.form bytes entry.path → SpellsPart s format table entry place bytes field
-  directory : is_index table field ≡ true → SpellsIndex field.form bytes entry.directory → SpellsPart s format table entry place bytes field
-  other : (layout : ValueLayout) (content : Content) → is_path field ≡ false → is_index table field ≡ false → layout_of field.form ≡ Some layout → SpellsContent layout format bytes content → SpellsPart s format table entry place bytes field
+  path : is_path field ≡ true → SpellsPath s format place field.form bytes entry.path
+      → SpellsPart s format table entry place bytes field
+  directory : is_index table field ≡ true → SpellsIndex field.form bytes entry.directory
+      → SpellsPart s format table entry place bytes field
+  other : (layout : ValueLayout) (content : Content) → is_path field ≡ false → is_index table field ≡ false
+      → layout_of field.form ≡ Some layout → SpellsContent layout format bytes content
+      → SpellsPart s format table entry place bytes field
 
 -- The bytes at the place are an entry: its fields, in the order of the format. Its directory is there, and is
 -- directory 0 where no field says one.

@@ -41,8 +41,10 @@ with_operand make operand = Ok (make operand.0, operand.1)
 -- Extended opcodes (6.2.5.3): an opcode and its operands, all of the bytes of the length before them.
 unfoldable pub extended_of : List ℕ → Result Instruction Cause
 extended_of body =
-    if slice_index body 0 == DW_LNE_END_SEQUENCE then (if length body == 1 then Ok EndSequence else Err causes.Extended)
-    else if slice_index body 0 == DW_LNE_SET_ADDRESS then (if length body == 9 then Ok (SetAddress (little_endian (drop 1 body))) else Err causes.Extended)
+    if slice_index body 0 == DW_LNE_END_SEQUENCE then
+      (if length body == 1 then Ok EndSequence else Err causes.Extended)
+    else if slice_index body 0 == DW_LNE_SET_ADDRESS then
+      (if length body == 9 then Ok (SetAddress (little_endian (drop 1 body))) else Err causes.Extended)
     else Ok Skipped
 
 unfoldable pub extended_at : List ℕ → ℕ → Result (Instruction × ℕ) Cause

@@ -44,7 +44,8 @@ file_count lines number = option_map_or (λ program. length program.files) (slic
 
 -- the parts of the path of a program's file
 abbrev pub path_of : Lines → ProgramNo → ℕ → Option (List Text)
-path_of lines number file = option_and_then (λ program. path_parts program.directories program.files file) (slice_get lines.programs number.0)
+path_of lines number file =
+    option_and_then (λ program. path_parts program.directories program.files file) (slice_get lines.programs number.0)
 
 -- A row covers an address from its own one on up to that of the next row of its sequence. The next row of one that
 -- does not end its sequence is in its sequence.

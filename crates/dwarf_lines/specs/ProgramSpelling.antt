@@ -17,6 +17,13 @@ pub record IsProgram (s : LineSections) (number place : ℕ) (program : Program)
   pub instructions : List Instruction
   pub header_is : StandsAt (SpellsHeader s place) s.line place header header.past
   pub instructions_are : AreSpelled header.encoding (drop header.first (take header.past s.line)) instructions
-  pub rows_are : rows_by header.encoding (record { program = record { 0 = number }; files = length header.files }) at_start instructions ≡ Ok program.rows
+  pub rows_are : rows_by header.encoding (record { program = record { 0 = number }; files = length header.files }) at_start
+      instructions ≡ Ok program.rows
   pub ended : is_open (latest_first [] instructions) ≡ false
-  pub program_is : program ≡ record { offset = place; directories = header.directories; files = header.files; rows = program.rows; past = header.past }
+  pub program_is : program ≡ record {
+    offset = place;
+    directories = header.directories;
+    files = header.files;
+    rows = program.rows;
+    past = header.past;
+  }

@@ -18,7 +18,8 @@ header_in h = record { encoding = encoding h.opcodes; directories = h.directorie
 
 -- The program of the outcome was put at the end, its rows and its files, or the fault is the outcome's, unless
 -- memory ran out.
-abbrev pub AddsProgram : Result ℕ Cause → Result Program Cause → List Row → List Row → List ProgramFiles → List ProgramFiles → Type 0
+abbrev pub AddsProgram : Result ℕ Cause → Result Program Cause → List Row → List Row → List ProgramFiles
+    → List ProgramFiles → Type 0
 AddsProgram (Ok past) outcome old_rows new_rows old new =
     (program : Program) × (outcome ≡ Ok program) × (past ≡ program.past) × (new_rows ≡ old_rows ++ program.rows)
     × (map tables_in new ≡ map tables_in old ++ tables_of program ∷ [])

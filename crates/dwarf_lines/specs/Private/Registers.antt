@@ -30,9 +30,12 @@ pub record AreRegisters (e : Encoding) (before : List Instruction) (r : Register
 
 -- The row of the registers is made at the address sum, and is then the last one; in a dead sequence it is dropped.
 abbrev pub KeepsRow : Origin → Registers → ℕ → Result (Option Row) Cause → Registers → Type 0
-KeepsRow origin old sum (Ok (Some row)) new = (old.dead ≡ false) × (line_row origin old.previous sum old.line old.file ≡ Ok row) × (new ≡ record old { previous = row.address; has_row = true })
+KeepsRow origin old sum (Ok (Some row)) new = (old.dead ≡ false)
+    × (line_row origin old.previous sum old.line old.file ≡ Ok row)
+    × (new ≡ record old { previous = row.address; has_row = true })
 KeepsRow origin old sum (Ok None) new = (old.dead ≡ true) × (new ≡ record old { has_row = true })
-KeepsRow origin old sum (Err cause) new = (old.dead ≡ false) × (line_row origin old.previous sum old.line old.file ≡ Err cause)
+KeepsRow origin old sum (Err cause) new = (old.dead ≡ false)
+    × (line_row origin old.previous sum old.line old.file ≡ Err cause)
 
 -- the row that ends a sequence, which a dead one has not
 abbrev pub last_row : Bool → Result Row Cause → Result (Option Row) Cause
@@ -42,7 +45,8 @@ last_row false (Err cause) = Err cause
 
 -- A step after these instructions gives what the instruction makes, and the registers after it.
 abbrev pub Makes : Encoding → Origin → List Instruction → Instruction → Result (Option Row) Cause → Registers → Type 0
-Makes e origin before i (Ok row) new = (made e origin before i ≡ Ok (option_to_list row)) × AreRegisters e (i ∷ before) new
+Makes e origin before i (Ok row) new = (made e origin before i ≡ Ok (option_to_list row))
+    × AreRegisters e (i ∷ before) new
 Makes e origin before i (Err cause) new = made e origin before i ≡ Err cause
 
 -- how far the operand of an instruction goes from line to line
