@@ -66,7 +66,8 @@ bounds_at-nested line place b h =
     record { starts = omega (arith, start.0, ended.0); fields = omega (arith, began.0); first = omega (arith, began.1, cut); past = omega (arith, ended.1) }))))))))))
 
 -- where a program whose header is good ends
-pub header_at-past : (s : LineSections) (place : ℕ) (h : LineHeader) → header_at s place ≡ Ok h → (place < h.past) × (h.past ≤ length s.line)
+pub header_at-past : (s : LineSections) (place : ℕ) (h : LineHeader) → header_at s place ≡ Ok h
+    → (place < h.past) × (h.past ≤ length s.line)
 unfolding header_at
 header_at-past s place h is =
     let P : Type 0 = (place < h.past) × (h.past ≤ length s.line) in

@@ -19,7 +19,8 @@ use Rattle.dwarf_lines.proofs.EncodingSpelling.{asked_for, inside}
 
 -- ---- bytes that are cut at an end
 
-pub cut : (n : ℕ) (bytes : List ℕ) (at : ℕ) (front : List ℕ) (next : ℕ) → next ≤ n → Stretch bytes at front next → Stretch (take n bytes) at front next
+pub cut : (n : ℕ) (bytes : List ℕ) (at : ℕ) (front : List ℕ) (next : ℕ) → next ≤ n → Stretch bytes at front next
+    → Stretch (take n bytes) at front next
 cut n bytes at front next le there =
     let more : ℕ = n - next in
     let size : n ≡ at + (length front + more) = omega (arith, le, there.next_is) in
@@ -27,7 +28,8 @@ cut n bytes at front next le there =
     ap (λ (k : ℕ). drop at (take k bytes)) size ∙ (drop-take at (length front + more) bytes ∙ (ap (take (length front + more)) there.parts ∙ take-append-add front (drop next bytes) more)) in
     stretch (take n bytes) at front (take more (drop next bytes)) next parts there.next_is
 
-pub uncut : (n : ℕ) (bytes : List ℕ) (at : ℕ) (front : List ℕ) (next : ℕ) → 0 < length front → Stretch (take n bytes) at front next → Stretch bytes at front next
+pub uncut : (n : ℕ) (bytes : List ℕ) (at : ℕ) (front : List ℕ) (next : ℕ) → 0 < length front → Stretch (take n bytes) at front next
+    → Stretch bytes at front next
 uncut n bytes at front next some there =
     let starts : at ≤ length (take n bytes) = omega (arith, there.next_is, inside (take n bytes) at front next some there) in
     let parts : drop at bytes ≡ front ++ (drop next (take n bytes) ++ drop n bytes) =

@@ -28,7 +28,8 @@ pub inside : (bytes : List ℕ) (at : ℕ) (front : List ℕ) (next : ℕ) → 0
 inside bytes at front next some there = omega (arith, some, there.next_is, length-drop at bytes, ap length there.parts, length-append front (drop next bytes))
 
 module _ (bytes : List ℕ) where
-  lengths_stand : (count at : ℕ) (read : List ℕ × ℕ) → lengths_at count bytes at ≡ Ok read → Stretch bytes at read.0 read.1 × (length read.0 ≡ count) × (are_standard read.0 ≡ true)
+  lengths_stand : (count at : ℕ) (read : List ℕ × ℕ) → lengths_at count bytes at ≡ Ok read
+      → Stretch bytes at read.0 read.1 × (length read.0 ≡ count) × (are_standard read.0 ≡ true)
   unfolding lengths_at
   lengths_stand count at read h =
       after_test (not (are_standard (take count (drop at bytes)))) causes.OpcodeLengths _ read h (Stretch bytes at read.0 read.1 × (length read.0 ≡ count) × (are_standard read.0 ≡ true)) (λ test h1.
@@ -36,7 +37,8 @@ module _ (bytes : List ℕ) where
       let front : take count (drop at bytes) ≡ read.0 = ap (λ (n : ℕ). take n (drop at bytes)) (sym block.1) ∙ (ap (take (length read.0)) block.0.parts ∙ take-append_seam read.0 (drop read.1 bytes)) in
       (block.0, block.1, subst (λ (lengths : List ℕ). are_standard lengths ≡ true) front (passed (are_standard (take count (drop at bytes))) test)))
 
-  lengths_again : (count at : ℕ) (lengths : List ℕ) (next : ℕ) → at ≤ length bytes → Stretch bytes at lengths next → length lengths ≡ count → are_standard lengths ≡ true → lengths_at count bytes at ≡ Ok (lengths, next)
+  lengths_again : (count at : ℕ) (lengths : List ℕ) (next : ℕ) → at ≤ length bytes → Stretch bytes at lengths next → length lengths ≡ count
+      → are_standard lengths ≡ true → lengths_at count bytes at ≡ Ok (lengths, next)
   unfolding lengths_at
   lengths_again count at lengths next within there size standard =
       let front : take count (drop at bytes) ≡ lengths = ap (λ (n : ℕ). take n (drop at bytes)) (sym size) ∙ (ap (take (length lengths)) there.parts ∙ take-append_seam lengths (drop next bytes)) in
@@ -84,7 +86,8 @@ module _ (bytes : List ℕ) where
       (stands_of SpellsEncoding bytes at it lengths.1 (minimum.0 ∷ operations.0 ∷ is_stmt.0 ∷ base.0 ∷ range.0 ∷ opcode_base.0 ∷ lengths.0) s0 spelled)))))))))))
 
   -- the byte at the front of a stretch, and what stands behind it
-  byte_first : (at byte : ℕ) (rest : List ℕ) (next : ℕ) → Stretch bytes at (byte ∷ rest) next → (u8_at bytes at ≡ Ok (byte, at + length {A = ℕ} (byte ∷ []))) × Stretch bytes (at + length {A = ℕ} (byte ∷ [])) rest next
+  byte_first : (at byte : ℕ) (rest : List ℕ) (next : ℕ) → Stretch bytes at (byte ∷ rest) next
+      → (u8_at bytes at ≡ Ok (byte, at + length {A = ℕ} (byte ∷ []))) × Stretch bytes (at + length {A = ℕ} (byte ∷ [])) rest next
   byte_first at byte rest next there = (byte_again bytes at byte (at + length {A = ℕ} (byte ∷ [])) (first_of bytes at (byte ∷ []) rest next there), rest_of bytes at (byte ∷ []) rest next there)
 
   pub encoding_again : (at : ℕ) (e : Encoding) (next : ℕ) → StandsAt SpellsEncoding bytes at e next → encoding_at bytes at ≡ Ok (e, next)

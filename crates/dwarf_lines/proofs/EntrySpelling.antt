@@ -55,21 +55,25 @@ module _ {X : Type 0} (p : X → Bool) (x : X) (xs : List X) where
   none_of_both is none = let zero_is : one_if (p x) ≡ 0 = rw is refl in omega (arith, count_more, zero_is)
 
 -- what a good format is
-format_tests : (paths indexes : ℕ) (forms : Bool) → ((paths == 1) && nat_le indexes 1 && forms) ≡ true → (paths ≡ 1) × (indexes ≤ 1) × (forms ≡ true)
+format_tests : (paths indexes : ℕ) (forms : Bool) → ((paths == 1) && nat_le indexes 1 && forms) ≡ true
+    → (paths ≡ 1) × (indexes ≤ 1) × (forms ≡ true)
 format_tests paths indexes forms h =
     let parts = and_parts ((paths == 1) && nat_le indexes 1) forms h in
     let counts = and_parts (paths == 1) (nat_le indexes 1) parts.0 in
     (grind (arith, nat_tests, counts.0), grind (arith, nat_tests, counts.1), parts.1)
 
 abbrev IsGood : EntryTable → List Field → Type 0
-IsGood table fields = (count_by is_path fields ≡ 1) × (count_by (is_index table) fields ≤ 1) × (list_all (has_good_form table) fields ≡ true)
+IsGood table fields = (count_by is_path fields ≡ 1) × (count_by (is_index table) fields ≤ 1)
+    × (list_all (has_good_form table) fields ≡ true)
 
 good_format : (table : EntryTable) (fields : List Field) → is_format table fields ≡ true → IsGood table fields
 good_format table fields h = format_tests (count_by is_path fields) (count_by (is_index table) fields) (list_all (has_good_form table) fields) h
 
 module _ (s : LineSections) (format : Format) (table : EntryTable) (bytes : List ℕ) where
   -- a field says the same of an entry that has it too
-  same_part : (a b : Entry) (at : ℕ) (front : List ℕ) (field : Field) → (is_path field ≡ true → b.path ≡ a.path) → (is_index table field ≡ true → b.directory ≡ a.directory) → SpellsPart s format table a at front field → SpellsPart s format table b at front field
+  same_part : (a b : Entry) (at : ℕ) (front : List ℕ) (field : Field) → (is_path field ≡ true → b.path ≡ a.path)
+      → (is_index table field ≡ true → b.directory ≡ a.directory) → SpellsPart s format table a at front field
+      → SpellsPart s format table b at front field
   same_part a b at front field paths indexes (path is there) = path is (rw (paths is) there)
   same_part a b at front field paths indexes (directory is there) = directory is (rw (indexes is) there)
   same_part a b at front field paths indexes (other layout content not_path not_index is there) = other layout content not_path not_index is there
@@ -79,9 +83,11 @@ module _ (s : LineSections) (format : Format) (table : EntryTable) (bytes : List
 
   -- what no field says is as before
   abbrev Unsaid : List Field → Entry → Entry → Type 0
-  Unsaid fields before entry = (count_by is_path fields ≡ 0 → entry.path ≡ before.path) × (count_by (is_index table) fields ≡ 0 → entry.directory ≡ before.directory)
+  Unsaid fields before entry = (count_by is_path fields ≡ 0 → entry.path ≡ before.path)
+      × (count_by (is_index table) fields ≡ 0 → entry.directory ≡ before.directory)
 
-  fields_stand : (fields : List Field) (before : Entry) (at : ℕ) (entry : Entry) (next : ℕ) → count_by is_path fields ≤ 1 → count_by (is_index table) fields ≤ 1 → list_all (has_good_form table) fields ≡ true
+  fields_stand : (fields : List Field) (before : Entry) (at : ℕ) (entry : Entry) (next : ℕ) → count_by is_path fields ≤ 1
+      → count_by (is_index table) fields ≤ 1 → list_all (has_good_form table) fields ≡ true
       → fields_at s format table fields before bytes at ≡ Ok (entry, next) → Parts entry at fields next × Unsaid fields before entry
   unfolding fields_at
   fields_stand [] before at entry next one_path one_index good h =
@@ -102,8 +108,11 @@ module _ (s : LineSections) (format : Format) (table : EntryTable) (bytes : List
         ),
       ))
 
-  fields_again : (entry : Entry) (fields : List Field) (before : Entry) (at : ℕ) (front : List ℕ) (next : ℕ) → Stretch bytes at front next → SpellsEach (SpellsPart s format table entry) at front fields
-      → (count_by is_path fields ≡ 0 → before.path ≡ entry.path) → (count_by (is_index table) fields ≡ 0 → before.directory ≡ entry.directory) → fields_at s format table fields before bytes at ≡ Ok (entry, next)
+  fields_again : (entry : Entry) (fields : List Field) (before : Entry) (at : ℕ) (front : List ℕ) (next : ℕ) → Stretch bytes at front next
+      → SpellsEach (SpellsPart s format table entry) at front fields
+      → (count_by is_path fields ≡ 0 → before.path ≡ entry.path)
+          → (count_by (is_index table) fields ≡ 0 → before.directory ≡ entry.directory)
+          → fields_at s format table fields before bytes at ≡ Ok (entry, next)
   unfolding fields_at
   fields_again entry [] before at front next there none paths indexes =
       let end : at ≡ next = omega (arith, there.next_is, ap length none) in
@@ -122,7 +131,8 @@ module _ (s : LineSections) (format : Format) (table : EntryTable) (bytes : List
 
   -- ---- entries
 
-  pub entry_stands : (fields : List Field) → is_format table fields ≡ true → (at : ℕ) (entry : Entry) (next : ℕ) → entry_at s format table fields bytes at ≡ Ok (entry, next) → StandsAt (SpellsEntry s format table fields at) bytes at entry next
+  pub entry_stands : (fields : List Field) → is_format table fields ≡ true → (at : ℕ) (entry : Entry) (next : ℕ)
+      → entry_at s format table fields bytes at ≡ Ok (entry, next) → StandsAt (SpellsEntry s format table fields at) bytes at entry next
   unfolding entry_at
   entry_stands fields good at entry next h =
       after_bind (fields_at s format table fields no_entry bytes at) _ (entry, next) h (StandsAt (SpellsEntry s format table fields at) bytes at entry next) (λ read read_is h1.
@@ -133,7 +143,8 @@ module _ (s : LineSections) (format : Format) (table : EntryTable) (bytes : List
       (stands_of (SpellsEntry s format table fields at) bytes at read.0 read.1 a.0.front (stretch_of (SpellsEach (SpellsPart s format table read.0) at) bytes at fields read.1 a.0)
       (record { parts = a.0.spelled; unsaid = a.1.1; known = passed (has_directory table read.0) known }))))
 
-  pub entry_again : (fields : List Field) → is_format table fields ≡ true → (at : ℕ) (entry : Entry) (next : ℕ) → StandsAt (SpellsEntry s format table fields at) bytes at entry next → entry_at s format table fields bytes at ≡ Ok (entry, next)
+  pub entry_again : (fields : List Field) → is_format table fields ≡ true → (at : ℕ) (entry : Entry) (next : ℕ)
+      → StandsAt (SpellsEntry s format table fields at) bytes at entry next → entry_at s format table fields bytes at ≡ Ok (entry, next)
   unfolding entry_at
   entry_again fields good at entry next h =
       let parts = good_format table fields good in

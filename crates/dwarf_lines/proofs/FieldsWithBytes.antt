@@ -41,7 +41,8 @@ module _ (s : LineSections) (format : Format) (table : EntryTable) where
   unfolding field_at content_at
   passes-flag content entry bytes place good = by (is_path (flag content)) refl (is_index table (flag content)) refl
     where
-      by : (p : Bool) → is_path (flag content) ≡ p → (i : Bool) → is_index table (flag content) ≡ i → field_at s format table (flag content) entry bytes place ≡ Ok (entry, place)
+      by : (p : Bool) → is_path (flag content) ≡ p → (i : Bool) → is_index table (flag content) ≡ i
+          → field_at s format table (flag content) entry bytes place ≡ Ok (entry, place)
       by true p i index =
           let bad : has_good_form table (flag content) ≡ false = rw p refl in
           cc

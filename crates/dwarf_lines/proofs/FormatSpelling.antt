@@ -72,10 +72,14 @@ field_again bytes at field next s =
     let form = uleb_again bytes mid field.form next (stands_of IsUleb bytes mid field.form next f.form (rest_of bytes at f.content f.form next all) f.form_is) in
     rw (content, form) refl
 
-pub format_stands : (count : ℕ) (bytes : List ℕ) (at : ℕ) (fields : List Field) (next : ℕ) → repeated_at format_at count bytes at ≡ Ok (fields, next) → StandsAt (SpellsEach SpellsField at) bytes at fields next × (length fields ≡ count)
+pub format_stands : (count : ℕ) (bytes : List ℕ) (at : ℕ) (fields : List Field) (next : ℕ)
+    → repeated_at format_at count bytes at ≡ Ok (fields, next)
+    → StandsAt (SpellsEach SpellsField at) bytes at fields next × (length fields ≡ count)
 format_stands count bytes at fields next h = each_stands SpellsField format_at bytes count at fields next (λ some. field_stands bytes) h
 
-pub format_again : (count : ℕ) (bytes : List ℕ) (at : ℕ) (fields : List Field) (next : ℕ) → StandsAt (SpellsEach SpellsField at) bytes at fields next × (length fields ≡ count) → repeated_at format_at count bytes at ≡ Ok (fields, next)
+pub format_again : (count : ℕ) (bytes : List ℕ) (at : ℕ) (fields : List Field) (next : ℕ)
+    → StandsAt (SpellsEach SpellsField at) bytes at fields next × (length fields ≡ count)
+    → repeated_at format_at count bytes at ≡ Ok (fields, next)
 format_again count bytes at fields next s =
     ap (λ (n : ℕ). repeated_at format_at n bytes at) (sym s.1)
     ∙ each_again SpellsField format_at bytes at s.0.front fields next (λ some. field_again bytes) (stretch_of (SpellsEach SpellsField at) bytes at fields next s.0) s.0.spelled

@@ -23,7 +23,8 @@ use Rattle.dwarf_lines.proofs.BoundsSpelling.{cut, uncut, between, AreSpelled, b
 some_encoding : (bytes : List ℕ) (e : Encoding) → SpellsEncoding bytes e → 0 < length bytes
 some_encoding bytes e is = omega (arith, ap length is.whole)
 
-some_table : (s : LineSections) (format : Format) (table : EntryTable) (place : ℕ) (bytes : List ℕ) (entries : List Entry) → SpellsTable s format table place bytes entries → 0 < length bytes
+some_table : (s : LineSections) (format : Format) (table : EntryTable) (place : ℕ) (bytes : List ℕ) (entries : List Entry)
+    → SpellsTable s format table place bytes entries → 0 < length bytes
 some_table s format table place bytes entries is = omega (arith, ap length is.whole)
 
 module _ (s : LineSections) (format : Format) (start : ℕ) (header : LineHeader) where
@@ -93,7 +94,8 @@ module _ (s : LineSections) (format : Format) (start : ℕ) (fields : List ℕ) 
 
 module _ (s : LineSections) (place : ℕ) where
   -- a program, of its bounds and its fields
-  program_stands : (b : ProgramBounds) (header : LineHeader) → header.first ≡ b.first → header.past ≡ b.past → AreSpelled s.line place b → (fields : List ℕ) → Stretch s.line b.fields fields b.first → SpellsFields s b.format b.fields fields header
+  program_stands : (b : ProgramBounds) (header : LineHeader) → header.first ≡ b.first → header.past ≡ b.past → AreSpelled s.line place b
+      → (fields : List ℕ) → Stretch s.line b.fields fields b.first → SpellsFields s b.format b.fields fields header
       → StandsAt (SpellsHeader s place) s.line place header header.past
   program_stands b header first_is past_is t fields there fields_are =
       let line = s.line in
@@ -121,7 +123,8 @@ module _ (s : LineSections) (place : ℕ) where
         past_is = past_is ∙ all.next_is;
       })
 
-  pub header_stands : (header : LineHeader) → header_at s place ≡ Ok header → StandsAt (SpellsHeader s place) s.line place header header.past
+  pub header_stands : (header : LineHeader) → header_at s place ≡ Ok header
+      → StandsAt (SpellsHeader s place) s.line place header header.past
   unfolding header_at
   header_stands header h =
       let P : Type 0 = StandsAt (SpellsHeader s place) s.line place header header.past in

@@ -85,7 +85,8 @@ row_from : Origin → ℕ → Machine → Result (List Row) Cause
 row_from o previous m = line_row o previous m.address m.line m.file >>= λ row. Ok (row ∷ [])
 
 -- what the machine appends is what the sums make
-appended-live : (e : Encoding) (o : Origin) (before : List Instruction) (i : Instruction) → appended_live e o (registers e before) i ≡ made_live e o before i
+appended-live : (e : Encoding) (o : Origin) (before : List Instruction) (i : Instruction)
+    → appended_live e o (registers e before) i ≡ made_live e o before i
 unfolding row_from
 appended-live e o before Copy = ap (row_from o (row_before e before)) (step-registers e before Copy)
 appended-live e o before (AdvancePc n) = refl
@@ -101,11 +102,13 @@ appended-live e o before Skipped = refl
 unless_dead : Bool → Result (List Row) Cause → Result (List Row) Cause
 unless_dead dead row = if dead then Ok [] else row
 
-appended-made : (e : Encoding) (o : Origin) (before : List Instruction) (i : Instruction) → appended e o (registers e before) i ≡ made e o before i
+appended-made : (e : Encoding) (o : Origin) (before : List Instruction) (i : Instruction)
+    → appended e o (registers e before) i ≡ made e o before i
 unfolding made unless_dead
 appended-made e o before i = ap (unless_dead (is_dead before)) (appended-live e o before i)
 
-rows-from-registers : (e : Encoding) (o : Origin) (before rest : List Instruction) → rows_from e o before rest ≡ rows_by e o (registers e before) rest
+rows-from-registers : (e : Encoding) (o : Origin) (before rest : List Instruction)
+    → rows_from e o before rest ≡ rows_by e o (registers e before) rest
 unfolding rows_from rows_by
 rows-from-registers e o before [] = refl
 rows-from-registers e o before (i ∷ rest) =

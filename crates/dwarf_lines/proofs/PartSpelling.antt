@@ -34,7 +34,8 @@ use Rattle.dwarf_lines.proofs.BoundsLaws.{ok_is}
 use Rattle.dwarf_lines.proofs.SpellingLaws.{eqb-eq}
 
 -- what stands at a place, in other words
-pub spelled_as : {X Y : Type 0} (S : List ℕ → X → Type 0) (T : List ℕ → Y → Type 0) (bytes : List ℕ) (at : ℕ) (x : X) (y : Y) (next : ℕ) → ((front : List ℕ) → S front x → T front y) → StandsAt S bytes at x next → StandsAt T bytes at y next
+pub spelled_as : {X Y : Type 0} (S : List ℕ → X → Type 0) (T : List ℕ → Y → Type 0) (bytes : List ℕ) (at : ℕ) (x : X) (y : Y) (next : ℕ)
+    → ((front : List ℕ) → S front x → T front y) → StandsAt S bytes at x next → StandsAt T bytes at y next
 spelled_as S T bytes at x y next as_other s = record { front = s.front; rest = s.rest; spelled = as_other s.front s.spelled; parts = s.parts; next_is = s.next_is }
 
 -- the last of three forms
@@ -45,20 +46,24 @@ third false false c h not_a not_b = h
 
 -- ---- numbers and texts
 
-pub number_again : (n : ℕ) (bytes : List ℕ) (at value next : ℕ) → 0 < n → StandsAt (IsFixed n) bytes at value next → fixed_at n bytes at ≡ Ok (value, next)
+pub number_again : (n : ℕ) (bytes : List ℕ) (at value next : ℕ) → 0 < n → StandsAt (IsFixed n) bytes at value next
+    → fixed_at n bytes at ≡ Ok (value, next)
 number_again n bytes at value next some s =
     fixed_again n bytes at value next (omega (arith, some, s.spelled.0, length-drop at bytes, ap length s.parts, length-append s.front s.rest)) s
 
-pub offset_stands : (format : Format) (bytes : List ℕ) (at value next : ℕ) → offset_at format bytes at ≡ Ok (value, next) → StandsAt (IsFixed (offset_len format)) bytes at value next
+pub offset_stands : (format : Format) (bytes : List ℕ) (at value next : ℕ) → offset_at format bytes at ≡ Ok (value, next)
+    → StandsAt (IsFixed (offset_len format)) bytes at value next
 offset_stands Dwarf32 bytes at value next h = fixed_stands 4 bytes at value next h
 offset_stands Dwarf64 bytes at value next h = fixed_stands 8 bytes at value next h
 
-pub offset_again : (format : Format) (bytes : List ℕ) (at value next : ℕ) → StandsAt (IsFixed (offset_len format)) bytes at value next → offset_at format bytes at ≡ Ok (value, next)
+pub offset_again : (format : Format) (bytes : List ℕ) (at value next : ℕ) → StandsAt (IsFixed (offset_len format)) bytes at value next
+    → offset_at format bytes at ≡ Ok (value, next)
 offset_again Dwarf32 bytes at value next s = number_again 4 bytes at value next (omega arith) s
 offset_again Dwarf64 bytes at value next s = number_again 8 bytes at value next (omega arith) s
 
 -- the text at an offset is the one that is read there
-text_found : (texts : List ℕ) (offset : ℕ) (text : List ℕ) → text_at texts offset ≡ Ok text → (past : ℕ) × StandsAt IsText texts offset text past
+text_found : (texts : List ℕ) (offset : ℕ) (text : List ℕ) → text_at texts offset ≡ Ok text
+    → (past : ℕ) × StandsAt IsText texts offset text past
 unfolding text_at cstr_at
 text_found texts offset text h = (offset + length text + 1, text_stands texts offset text (offset + length text + 1) (by (text_front (drop offset texts)) h))
   where
@@ -66,7 +71,8 @@ text_found texts offset text h = (offset + length text + 1, text_stands texts of
     by None h = cc
     by (Some t) h = ap (λ (t : List ℕ). Ok (t, offset + length t + 1)) (ok_is {E = ReadFault} t text h)
 
-text_there : (texts : List ℕ) (offset : ℕ) (text : List ℕ) (past : ℕ) → StandsAt IsText texts offset text past → text_at texts offset ≡ Ok text
+text_there : (texts : List ℕ) (offset : ℕ) (text : List ℕ) (past : ℕ) → StandsAt IsText texts offset text past
+    → text_at texts offset ≡ Ok text
 unfolding text_at cstr_at
 text_there texts offset text past s = by (text_front (drop offset texts)) (text_again texts offset text past s)
   where
@@ -89,7 +95,8 @@ module _ (s : LineSections) (format : Format) (bytes : List ℕ) (at : ℕ) wher
       subst (λ (p : PathText × ℕ). StandsAt (SpellsPath s format at form) bytes at p.0 p.1) (ok_is {E = Cause} (text_from section offset.0 found, offset.1) (text, next) h2)
       (spelled_as (IsFixed (offset_len format)) (SpellsPath s format at form) bytes at offset.0 (text_from section offset.0 found) offset.1 (λ front is. make front offset.0 there.0 found is there.1) a)))
 
-  path_stands : (form : ℕ) (text : PathText) (next : ℕ) → is_text_form form ≡ true → path_at s format form bytes at ≡ Ok (text, next) → StandsAt (SpellsPath s format at form) bytes at text next
+  path_stands : (form : ℕ) (text : PathText) (next : ℕ) → is_text_form form ≡ true → path_at s format form bytes at ≡ Ok (text, next)
+      → StandsAt (SpellsPath s format at form) bytes at text next
   path_stands form text next good h =
       let P : Type 0 = StandsAt (SpellsPath s format at form) bytes at text next in
       chosen (form == DW_FORM_STRING) _ _ (Ok (text, next)) h P
@@ -103,7 +110,8 @@ module _ (s : LineSections) (format : Format) (bytes : List ℕ) (at : ℕ) wher
       (λ not14 h2. rw (eqb-eq form DW_FORM_LINE_STRP (third (form == DW_FORM_STRING) (form == DW_FORM_STRP) (form == DW_FORM_LINE_STRP) good not8 not14))
       (by_offset_stands sections.DebugLineStr s.line_str DW_FORM_LINE_STRP text next (λ front offset past found is there. line_strp offset past found is there) h2)))
 
-  path_again : (form : ℕ) (front : List ℕ) (text : PathText) (next : ℕ) → (rest : List ℕ) → drop at bytes ≡ front ++ rest → next ≡ at + length front → SpellsPath s format at form front text → path_at s format form bytes at ≡ Ok (text, next)
+  path_again : (form : ℕ) (front : List ℕ) (text : PathText) (next : ℕ) → (rest : List ℕ) → drop at bytes ≡ front ++ rest
+      → next ≡ at + length front → SpellsPath s format at form front text → path_at s format form bytes at ≡ Ok (text, next)
   path_again form front text next rest parts next_is (string found is) =
       rw (text_again bytes at found next (record { front = front; rest = rest; spelled = is; parts = parts; next_is = next_is })) refl
   path_again form front text next rest parts next_is (strp offset past found is there) =
@@ -113,7 +121,8 @@ module _ (s : LineSections) (format : Format) (bytes : List ℕ) (at : ℕ) wher
 
   -- ---- directory indexes
 
-  index_stands : (form index next : ℕ) → is_index_form form ≡ true → index_at form bytes at ≡ Ok (index, next) → StandsAt (SpellsIndex form) bytes at index next
+  index_stands : (form index next : ℕ) → is_index_form form ≡ true → index_at form bytes at ≡ Ok (index, next)
+      → StandsAt (SpellsIndex form) bytes at index next
   index_stands form index next good h =
       let P : Type 0 = StandsAt (SpellsIndex form) bytes at index next in
       chosen (form == DW_FORM_DATA1) _ _ (Ok (index, next)) h P
@@ -125,7 +134,8 @@ module _ (s : LineSections) (format : Format) (bytes : List ℕ) (at : ℕ) wher
       (λ not5 h2. rw (eqb-eq form DW_FORM_UDATA (third (form == DW_FORM_DATA1) (form == DW_FORM_DATA2) (form == DW_FORM_UDATA) good not11 not5))
       (spelled_as IsUleb (SpellsIndex DW_FORM_UDATA) bytes at index index next (λ front there. udata there) (uleb_stands bytes at index next (reading_ok (uleb_at bytes at) (index, next) h2)))))
 
-  index_again : (form : ℕ) (front : List ℕ) (index next : ℕ) → (rest : List ℕ) → drop at bytes ≡ front ++ rest → next ≡ at + length front → SpellsIndex form front index → index_at form bytes at ≡ Ok (index, next)
+  index_again : (form : ℕ) (front : List ℕ) (index next : ℕ) → (rest : List ℕ) → drop at bytes ≡ front ++ rest → next ≡ at + length front
+      → SpellsIndex form front index → index_at form bytes at ≡ Ok (index, next)
   index_again form front index next rest parts next_is (data1 is) =
       rw (number_again 1 bytes at index next (omega arith) (record { front = front; rest = rest; spelled = is; parts = parts; next_is = next_is })) refl
   index_again form front index next rest parts next_is (data2 is) =
@@ -138,9 +148,11 @@ module _ (s : LineSections) (format : Format) (bytes : List ℕ) (at : ℕ) wher
   module _ (table : EntryTable) where
     -- what the entry has of a field and what it had before, where the field is another
     abbrev KeptBy : Field → Entry → Entry → Type 0
-    KeptBy field before after = (is_path field ≡ false → after.path ≡ before.path) × (is_index table field ≡ false → after.directory ≡ before.directory)
+    KeptBy field before after = (is_path field ≡ false → after.path ≡ before.path)
+        × (is_index table field ≡ false → after.directory ≡ before.directory)
 
-    value_stands : (field : Field) (entry : Entry) (next : ℕ) → is_path field ≡ false → is_index table field ≡ false → after_value format field.form bytes at ≡ Ok next → StandsAt (SpellsPart s format table entry at) bytes at field next
+    value_stands : (field : Field) (entry : Entry) (next : ℕ) → is_path field ≡ false → is_index table field ≡ false
+        → after_value format field.form bytes at ≡ Ok next → StandsAt (SpellsPart s format table entry at) bytes at field next
     value_stands field entry next not_path not_index h = by (layout_of field.form) refl h
       where
         by : (layout : Option ValueLayout) → layout_of field.form ≡ layout → option_map_or (λ layout. reading (content_at layout format bytes at) >>= λ content. Ok content.1) layout (Err causes.FileFormat) ≡ Ok next → StandsAt (SpellsPart s format table entry at) bytes at field next
@@ -174,7 +186,8 @@ module _ (s : LineSections) (format : Format) (bytes : List ℕ) (at : ℕ) wher
     second_form false true x y z h not_a is = h
     second_form false false x y z h not_a is = absurd cc
 
-    pub part_stands : (field : Field) (before after : Entry) (next : ℕ) → has_good_form table field ≡ true → field_at s format table field before bytes at ≡ Ok (after, next)
+    pub part_stands : (field : Field) (before after : Entry) (next : ℕ) → has_good_form table field ≡ true
+        → field_at s format table field before bytes at ≡ Ok (after, next)
         → StandsAt (SpellsPart s format table after at) bytes at field next × KeptBy field before after
     unfolding field_at
     part_stands field before after next good h =
@@ -195,14 +208,18 @@ module _ (s : LineSections) (format : Format) (bytes : List ℕ) (at : ℕ) wher
         subst (λ (p : Entry × ℕ). StandsAt (SpellsPart s format table p.0 at) bytes at field p.1 × KeptBy field before p.0) (ok_is {E = Cause} (before, last) (after, next) h3)
         (value_stands field before last not_path not_index last_is, ((λ test. refl), (λ test. refl))))))
 
-    value_again : (form : ℕ) (layout : ValueLayout) (content : Content) (next : ℕ) → layout_of form ≡ Some layout → StandsAt (SpellsContent layout format) bytes at content next → after_value format form bytes at ≡ Ok next
+    value_again : (form : ℕ) (layout : ValueLayout) (content : Content) (next : ℕ) → layout_of form ≡ Some layout
+        → StandsAt (SpellsContent layout format) bytes at content next → after_value format form bytes at ≡ Ok next
     value_again form layout content next is there =
         subst (λ (l : Option ValueLayout). option_map_or (λ layout. reading (content_at layout format bytes at) >>= λ content. Ok content.1) l (Err causes.FileFormat) ≡ Ok next) (sym is)
         (rw (content_again layout format bytes at content next there) refl)
 
     -- what is read over an entry, of which the other fields are as they will be
-    pub part_again : (entry before : Entry) (field : Field) (front rest : List ℕ) (next : ℕ) → drop at bytes ≡ front ++ rest → next ≡ at + length front → SpellsPart s format table entry at front field
-        → (after : Entry) × (field_at s format table field before bytes at ≡ Ok (after, next)) × ((is_path field ≡ false → before.path ≡ entry.path) → after.path ≡ entry.path) × ((is_index table field ≡ false → before.directory ≡ entry.directory) → after.directory ≡ entry.directory)
+    pub part_again : (entry before : Entry) (field : Field) (front rest : List ℕ) (next : ℕ) → drop at bytes ≡ front ++ rest
+        → next ≡ at + length front → SpellsPart s format table entry at front field
+        → (after : Entry) × (field_at s format table field before bytes at ≡ Ok (after, next))
+            × ((is_path field ≡ false → before.path ≡ entry.path) → after.path ≡ entry.path)
+            × ((is_index table field ≡ false → before.directory ≡ entry.directory) → after.directory ≡ entry.directory)
     unfolding field_at
     part_again entry before field front rest next parts next_is (path is there) =
         (record before { path = entry.path }, rw (is, path_again field.form front entry.path next rest parts next_is there) refl, (λ given. refl), (λ given. given (path_is_no_index field is)))

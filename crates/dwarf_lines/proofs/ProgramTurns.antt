@@ -22,26 +22,31 @@ use Rattle.dwarf_lines.specs.Lines.{FileTables, tables_of, lines_in}
 use Rattle.dwarf_lines.proofs.BoundsLaws.{ok_is, header_at-past}
 
 -- what stands behind the rows before
-pub front_ok : (front : List Row) (outcome : Result (List Row) Cause) (all : List Row) → with_front front outcome ≡ Ok all → (rows : List Row) × (outcome ≡ Ok rows) × (all ≡ front ++ rows)
+pub front_ok : (front : List Row) (outcome : Result (List Row) Cause) (all : List Row) → with_front front outcome ≡ Ok all
+    → (rows : List Row) × (outcome ≡ Ok rows) × (all ≡ front ++ rows)
 front_ok front (Ok rows) all h = (rows, refl, cc)
 front_ok front (Err cause) all h = cc
 
-is_program : (s : LineSections) (number place n files : ℕ) (header : LineHeader) (rows : List Row) → n ≡ number → files ≡ length header.files → header_at s place ≡ Ok header
+is_program : (s : LineSections) (number place n files : ℕ) (header : LineHeader) (rows : List Row) → n ≡ number
+    → files ≡ length header.files → header_at s place ≡ Ok header
     → matrix_at header.encoding (record { program = record { 0 = n }; files = files }) (take header.past s.line) header.first ≡ Ok rows
     → program_at_place s number place ≡ Ok (record { offset = place; directories = header.directories; files = header.files; rows = rows; past = header.past })
 unfolding program_at_place
 is_program s number place n files header rows n_is files_is header_is rows_is = rw (header_is, ← n_is, ← files_is, rows_is) refl
 
 -- the program of a header and its rows
-pub program_of : (s : LineSections) (number place n files : ℕ) (header : LineHeader) (old new : List Row) → n ≡ number → files ≡ length header.files → header_at s place ≡ Ok header
+pub program_of : (s : LineSections) (number place n files : ℕ) (header : LineHeader) (old new : List Row) → n ≡ number
+    → files ≡ length header.files → header_at s place ≡ Ok header
     → with_front old (matrix_at header.encoding (record { program = record { 0 = n }; files = files }) (take header.past s.line) header.first) ≡ Ok new
-    → (rows : List Row) × (program_at_place s number place ≡ Ok (record { offset = place; directories = header.directories; files = header.files; rows = rows; past = header.past })) × (new ≡ old ++ rows)
+    → (rows : List Row)
+        × (program_at_place s number place ≡ Ok (record { offset = place; directories = header.directories; files = header.files; rows = rows; past = header.past })) × (new ≡ old ++ rows)
 program_of s number place n files header old new n_is files_is header_is ran =
     let found = front_ok old (matrix_at header.encoding (record { program = record { 0 = n }; files = files }) (take header.past s.line) header.first) new ran in
     (found.0, is_program s number place n files header found.0 n_is files_is header_is found.1, found.2)
 
 -- a program has a byte, and does not reach past the section
-pub program_at_place-past : (s : LineSections) (number place : ℕ) (program : Program) → program_at_place s number place ≡ Ok program → (place < program.past) × (program.past ≤ length s.line)
+pub program_at_place-past : (s : LineSections) (number place : ℕ) (program : Program) → program_at_place s number place ≡ Ok program
+    → (place < program.past) × (program.past ≤ length s.line)
 unfolding program_at_place
 program_at_place-past s number place program h =
     let P : Type 0 = (place < program.past) × (program.past ≤ length s.line) in
@@ -102,7 +107,8 @@ module _ (s : LineSections) (before : List Program) (place : ℕ) (rows : List R
         outcome = sym (loop-item (length s.line) (next_program s) (programs-advance s) before place program program.past next) ∙ reads.outcome;
       }
 
-  pub refused : (cause : Cause) → place < length s.line → program_at_place s (length tables) place ≡ Err cause → programs_of s ≡ Err (cause, place)
+  pub refused : (cause : Cause) → place < length s.line → program_at_place s (length tables) place ≡ Err cause
+      → programs_of s ≡ Err (cause, place)
   refused cause lt found =
       let here : program_at_place s (length before) place ≡ Err cause = subst (λ (n : ℕ). program_at_place s n place ≡ Err cause) number_is found in
       let inside : nat_le (length s.line) place ≡ false = grind (arith, nat_tests) in
@@ -120,13 +126,16 @@ module _ (s : LineSections) (before : List Program) (place : ℕ) (rows : List R
   gives le = rw (is_done le, reads.rows_are, reads.tables_are) refl
 
 -- want of memory is told apart; every other cause as it is
-told-cases : (section : Section) (cause : Cause) (at : ℕ) → (told section cause at ≡ memory_fault) ⊎ (told section cause at ≡ record { section = section; cause = cause; at = at })
+told-cases : (section : Section) (cause : Cause) (at : ℕ)
+    → (told section cause at ≡ memory_fault) ⊎ (told section cause at ≡ record { section = section; cause = cause; at = at })
 told-cases section causes.Memory at = inl refl
 told-cases section cause at = inr refl
 
 -- a fault of a program is the fault of the lines, unless memory ran out
-pub refuses : (s : LineSections) (before : List Program) (place : ℕ) (rows : List Row) (tables : List FileTables) → IsReading s before place rows tables → (cause : Cause) → place < length s.line
-    → Fails cause (program_at_place s (length tables) place) → (told sections.DebugLine cause place ≡ memory_fault) ⊎ (lines_in s ≡ Err (told sections.DebugLine cause place))
+pub refuses : (s : LineSections) (before : List Program) (place : ℕ) (rows : List Row) (tables : List FileTables)
+    → IsReading s before place rows tables → (cause : Cause) → place < length s.line
+    → Fails cause (program_at_place s (length tables) place)
+        → (told sections.DebugLine cause place ≡ memory_fault) ⊎ (lines_in s ≡ Err (told sections.DebugLine cause place))
 unfolding lines_in
 refuses s before place rows tables reads cause lt (inl memory) = inl (rw memory refl)
 refuses s before place rows tables reads cause lt (inr found) = by_told (told-cases sections.DebugLine cause place)
@@ -134,7 +143,8 @@ refuses s before place rows tables reads cause lt (inr found) = by_told (told-ca
     fault_is : lines_in s ≡ Err (record { section = sections.DebugLine; cause = cause; at = place })
     fault_is = rw (refused s before place rows tables reads cause lt found) refl
 
-    by_told : (told sections.DebugLine cause place ≡ memory_fault) ⊎ (told sections.DebugLine cause place ≡ record { section = sections.DebugLine; cause = cause; at = place })
+    by_told : (told sections.DebugLine cause place ≡ memory_fault)
+        ⊎ (told sections.DebugLine cause place ≡ record { section = sections.DebugLine; cause = cause; at = place })
         → (told sections.DebugLine cause place ≡ memory_fault) ⊎ (lines_in s ≡ Err (told sections.DebugLine cause place))
     by_told (inl memory) = inl memory
     by_told (inr same) = inr (rw same fault_is)

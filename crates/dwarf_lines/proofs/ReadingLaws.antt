@@ -38,14 +38,16 @@ module _ (e : Encoding) (bytes : List ℕ) where
       let none : [] ≡ is = ap (λ (r : Reading). r.instructions) h in
       subst (λ (list : List Instruction). AreSpelled e (drop at bytes) list) none (rw (drop_all at bytes le) no_instruction)
 
-  reading_spelled : (steps at : ℕ) (is : List Instruction) → length bytes ≤ steps + at → reading_from steps e bytes at ≡ good is → AreSpelled e (drop at bytes) is
+  reading_spelled : (steps at : ℕ) (is : List Instruction) → length bytes ≤ steps + at → reading_from steps e bytes at ≡ good is
+      → AreSpelled e (drop at bytes) is
   unfolding reading_from
   reading_spelled zero at is enough h = ended at is (omega arith) h
   reading_spelled (suc steps) at is enough h =
       chosen (nat_lt at (length bytes)) (read_on (instruction_at e bytes at) (reading_from steps e bytes)) (no_more None) (good is) h (AreSpelled e (drop at bytes) is)
       (λ inside h1. by_instruction (instruction_at e bytes at) refl h1 (reading_spelled steps)) (λ outside h1. ended at is (ltb-false at (length bytes) outside) h1)
     where
-      by_instruction : (found : Result (Instruction × ℕ) Cause) → instruction_at e bytes at ≡ found → read_on found (reading_from steps e bytes) ≡ good is
+      by_instruction : (found : Result (Instruction × ℕ) Cause) → instruction_at e bytes at ≡ found
+          → read_on found (reading_from steps e bytes) ≡ good is
           → ((next : ℕ) (rest : List Instruction) → length bytes ≤ steps + next → reading_from steps e bytes next ≡ good rest → AreSpelled e (drop next bytes) rest) → AreSpelled e (drop at bytes) is
       by_instruction (Err cause) found h1 further = absurd (faulty cause (ap (λ (r : Reading). r.fault) h1))
       by_instruction (Ok read) found h1 further =
@@ -63,7 +65,8 @@ module _ (e : Encoding) (bytes : List ℕ) where
           subst (λ (list : List Instruction). AreSpelled e (drop at bytes) list) same
           (subst (λ (b : List ℕ). AreSpelled e b (i ∷ rest.instructions)) (sym there.parts) (and_then stands.front i stands.spelled others))
 
-  spelled_read : (steps at : ℕ) (stretch_bytes : List ℕ) (is : List Instruction) → 0 < e.opcode_base → AreSpelled e stretch_bytes is → drop at bytes ≡ stretch_bytes → length bytes ≤ steps + at
+  spelled_read : (steps at : ℕ) (stretch_bytes : List ℕ) (is : List Instruction) → 0 < e.opcode_base → AreSpelled e stretch_bytes is
+      → drop at bytes ≡ stretch_bytes → length bytes ≤ steps + at
       → reading_from steps e bytes at ≡ good is
   unfolding reading_from
   spelled_read zero at all is known no_instruction there enough = refl
@@ -87,8 +90,10 @@ module _ (e : Encoding) (bytes : List ℕ) where
       let here = instruction_again e bytes at i next known (stands_of (Spells e) bytes at i next front (stretch bytes at front rest next there refl) spelled) in
       rw (lt-ltb at (length bytes) inside, here, spelled_read steps next rest _ known others (sym (rest_is bytes at front rest there)) (omega (arith, some))) refl
 
-  pub reading_is_spelled : (at : ℕ) (is : List Instruction) → at ≤ length bytes → reading_of e bytes at ≡ good is → AreSpelled e (drop at bytes) is
+  pub reading_is_spelled : (at : ℕ) (is : List Instruction) → at ≤ length bytes → reading_of e bytes at ≡ good is
+      → AreSpelled e (drop at bytes) is
   reading_is_spelled at is le h = reading_spelled (length bytes - at) at is (omega arith) h
 
-  pub spelled_is_read : (at : ℕ) (is : List Instruction) → 0 < e.opcode_base → at ≤ length bytes → AreSpelled e (drop at bytes) is → reading_of e bytes at ≡ good is
+  pub spelled_is_read : (at : ℕ) (is : List Instruction) → 0 < e.opcode_base → at ≤ length bytes → AreSpelled e (drop at bytes) is
+      → reading_of e bytes at ≡ good is
   spelled_is_read at is known le h = spelled_read (length bytes - at) at (drop at bytes) is known h refl (omega arith)

@@ -14,14 +14,17 @@ regroup {X} front item (Ok x) = ap (λ (items : List X). Ok (items, x.1)) (simp 
 regroup front item (Err cause) = refl
 
 module _ {X : Type 0} (at : List ℕ → ℕ → Result (X × ℕ) Cause) (front : List X) (count i : ℕ) (bytes : List ℕ) (place : ℕ) (total : Result (List X × ℕ) Cause) where
-  pub goes_on : (item : X) (after : ℕ) → i < count → at bytes place ≡ Ok (item, after) → with_items front (repeated_at at (count - i) bytes place) ≡ total → with_items (front ++ item ∷ []) (repeated_at at (count - (i + 1)) bytes after) ≡ total
+  pub goes_on : (item : X) (after : ℕ) → i < count → at bytes place ≡ Ok (item, after)
+      → with_items front (repeated_at at (count - i) bytes place) ≡ total
+      → with_items (front ++ item ∷ []) (repeated_at at (count - (i + 1)) bytes after) ≡ total
   unfolding repeated_at
   goes_on item after lt h so_far =
       let k : count - i ≡ suc (count - (i + 1)) = omega arith in
       let one : with_items front (repeated_at at (count - i) bytes place) ≡ with_items (front ++ item ∷ []) (repeated_at at (count - (i + 1)) bytes after) = rw (k, h) (regroup front item (repeated_at at (count - (i + 1)) bytes after)) in
       sym one ∙ so_far
 
-  pub ends : (cause : Cause) → i < count → at bytes place ≡ Err cause → with_items front (repeated_at at (count - i) bytes place) ≡ total → total ≡ Err cause
+  pub ends : (cause : Cause) → i < count → at bytes place ≡ Err cause → with_items front (repeated_at at (count - i) bytes place) ≡ total
+      → total ≡ Err cause
   unfolding repeated_at
   ends cause lt h so_far =
       let k : count - i ≡ suc (count - (i + 1)) = omega arith in

@@ -21,13 +21,15 @@ from_lower : (low high : ℕ) (rows : List Row) → low ≤ high → RiseFrom hi
 from_lower low high [] le rise = tt
 from_lower low high (row ∷ rows) le rise = let first = rise.0 in (omega (arith, le, first), rise.1)
 
-chain-rises : (program : ProgramNo) (has_row : Bool) (low previous : ℕ) (rows rest : List Row) → low ≤ program.0 → IsChain program has_row previous rows → RiseFrom program.0 rest → RiseFrom low (rows ++ rest)
+chain-rises : (program : ProgramNo) (has_row : Bool) (low previous : ℕ) (rows rest : List Row) → low ≤ program.0
+    → IsChain program has_row previous rows → RiseFrom program.0 rest → RiseFrom low (rows ++ rest)
 chain-rises program has_row low previous [] rest le chain rise = from_lower low program.0 rest le rise
 chain-rises program has_row low previous (row ∷ rows) rest le chain rise =
     subst (λ (p : ProgramNo). (low ≤ p.0) × RiseFrom p.0 (rows ++ rest)) (sym chain.0)
     (le, chain-rises program (not row.«end») program.0 row.address rows rest (omega arith) chain.2 rise)
 
-listed-rise : (s : LineSections) (before : List Program) (place : ℕ) (programs : List Program) (after : ℕ) → Lists (next_program s) before place programs after → RiseFrom (length before) (rows_of programs)
+listed-rise : (s : LineSections) (before : List Program) (place : ℕ) (programs : List Program) (after : ℕ)
+    → Lists (next_program s) before place programs after → RiseFrom (length before) (rows_of programs)
 listed-rise s before place [] after h = tt
 listed-rise s before place (program ∷ programs) after h =
     let more = length-append before (program ∷ []) in

@@ -65,7 +65,8 @@ HasFile files row = row.«end» ≡ false → row.file < files
 judged_file-is : (files file found : ℕ) → judged_file files file ≡ Ok found → found < files
 judged_file-is files file found h = grind (arith, nat_tests)
 
-line_row-file : (o : Origin) (previous sum : ℕ) (line : ℤ) (file : ℕ) (row : Row) → line_row o previous sum line file ≡ Ok row → HasFile o.files row
+line_row-file : (o : Origin) (previous sum : ℕ) (line : ℤ) (file : ℕ) (row : Row) → line_row o previous sum line file ≡ Ok row
+    → HasFile o.files row
 line_row-file o previous sum line file row h =
     let P : Type 0 = HasFile o.files row in
     after_bind (judged_address previous sum) _ row h P (λ address address_is h1.
@@ -77,7 +78,8 @@ line_row-file o previous sum line file row h =
 no_rows : (files : ℕ) (rows : List Row) → (let none : Result (List Row) Cause = Ok [] in none ≡ Ok rows) → Each (HasFile files) rows
 no_rows files rows h = subst (λ (r : List Row). Each (HasFile files) r) (ok_is {E = Cause} [] rows h) tt
 
-made-files : (e : Encoding) (o : Origin) (before : List Instruction) (i : Instruction) (rows : List Row) → made e o before i ≡ Ok rows → Kind i → Each (HasFile o.files) rows
+made-files : (e : Encoding) (o : Origin) (before : List Instruction) (i : Instruction) (rows : List Row) → made e o before i ≡ Ok rows
+    → Kind i → Each (HasFile o.files) rows
 made-files e o before i rows is (quiet e_is m_is) = no_rows o.files rows (sym (made_nothing e o i before e_is m_is) ∙ is)
 made-files e o before i rows is (makes e_is m_is) = by (is_dead before) refl
   where
@@ -99,7 +101,8 @@ made-files e o before i rows is (ends i_is) = by (is_dead before) refl
         let at = end_row-is o (row_before e before) (address_after e before) found found_is in
         subst (λ (r : List Row). Each (HasFile o.files) r) (ok_is {E = Cause} (found ∷ []) rows h) ((λ open_row. absurd (false≢true (sym open_row ∙ at.end_is))), tt))
 
-rows-files : (e : Encoding) (o : Origin) (before rest : List Instruction) (rows : List Row) → rows_from e o before rest ≡ Ok rows → Each (HasFile o.files) rows
+rows-files : (e : Encoding) (o : Origin) (before rest : List Instruction) (rows : List Row) → rows_from e o before rest ≡ Ok rows
+    → Each (HasFile o.files) rows
 unfolding rows_from
 rows-files e o before [] rows is = no_rows o.files rows is
 rows-files e o before (i ∷ rest) rows is =
@@ -117,7 +120,8 @@ entries-known : (s : LineSections) (format : Format) (table : EntryTable) (field
 entries-known s format table fields place bytes [] h = tt
 entries-known s format table fields place bytes (entry ∷ entries) h = (h.3.known, entries-known s format table fields (place + length h.0) h.1 entries h.4)
 
-path-there : (directories files : List Entry) (number : ℕ) → number < length files → Each (Known (Files (length directories))) files → (parts : List Text) × (path_parts directories files number ≡ Some parts)
+path-there : (directories files : List Entry) (number : ℕ) → number < length files → Each (Known (Files (length directories))) files
+    → (parts : List Text) × (path_parts directories files number ≡ Some parts)
 path-there directories files number lt known =
     let file = got files number lt in
     let within = ltb-true file.0.directory (length directories) (each-at (Known (Files (length directories))) files known number file.0 file.1) in
@@ -130,7 +134,8 @@ path-there directories files number lt known =
 abbrev HasPath : Program → Row → Type 0
 HasPath program row = row.«end» ≡ false → (parts : List Text) × (path_parts program.directories program.files row.file ≡ Some parts)
 
-program-paths : (s : LineSections) (number place : ℕ) (program : Program) → program_at_place s number place ≡ Ok program → Each (HasPath program) program.rows
+program-paths : (s : LineSections) (number place : ℕ) (program : Program) → program_at_place s number place ≡ Ok program
+    → Each (HasPath program) program.rows
 program-paths s number place program h =
     let p = program_stands s number place program h in
     let header = p.header in
@@ -153,11 +158,13 @@ chain-programs program has_row previous [] chain = tt
 chain-programs program has_row previous (row ∷ rows) chain = (chain.0, chain-programs program _ row.address rows chain.2)
 
 -- the tables behind others
-tables_at : (before : List Program) (program : Program) (programs : List Program) → slice_get (map tables_of (before ++ program ∷ programs)) (length before) ≡ Some (tables_of program)
+tables_at : (before : List Program) (program : Program) (programs : List Program)
+    → slice_get (map tables_of (before ++ program ∷ programs)) (length before) ≡ Some (tables_of program)
 tables_at [] program programs = refl
 tables_at (first ∷ before) program programs = tables_at before program programs
 
-listed-paths : (s : LineSections) (before : List Program) (place : ℕ) (programs : List Program) (after : ℕ) → Lists (next_program s) before place programs after → Each (HasPathIn (map tables_of (before ++ programs))) (rows_of programs)
+listed-paths : (s : LineSections) (before : List Program) (place : ℕ) (programs : List Program) (after : ℕ)
+    → Lists (next_program s) before place programs after → Each (HasPathIn (map tables_of (before ++ programs))) (rows_of programs)
 listed-paths s before place [] after h = tt
 listed-paths s before place (program ∷ programs) after h =
     let tables = map tables_of (before ++ program ∷ programs) in

@@ -29,7 +29,8 @@ use Rattle.dwarf_lines.proofs.ProgramTurns.{item_or}
 -- the end of the last sequence.
 abbrev pub IsChain : ProgramNo → Bool → ℕ → List Row → Type 0
 IsChain program has_row previous [] = has_row ≡ false
-IsChain program has_row previous (row ∷ rows) = (row.program ≡ program) × (has_row ≡ true → previous ≤ row.address) × IsChain program (not row.«end») row.address rows
+IsChain program has_row previous (row ∷ rows) = (row.program ≡ program) × (has_row ≡ true → previous ≤ row.address)
+    × IsChain program (not row.«end») row.address rows
 
 judged-is : (previous sum address : ℕ) → judged_address previous sum ≡ Ok address → (address ≡ sum) × (previous ≤ sum)
 judged-is previous sum address h = (grind (arith, nat_tests), grind (arith, nat_tests))
@@ -40,7 +41,8 @@ pub record IsRowAt (o : Origin) (previous sum : ℕ) (ends : Bool) (row : Row) :
   pub rises : previous ≤ sum
   pub end_is : row.«end» ≡ ends
 
-line_row-is : (o : Origin) (previous sum : ℕ) (line : ℤ) (file : ℕ) (row : Row) → line_row o previous sum line file ≡ Ok row → IsRowAt o previous sum false row
+line_row-is : (o : Origin) (previous sum : ℕ) (line : ℤ) (file : ℕ) (row : Row) → line_row o previous sum line file ≡ Ok row
+    → IsRowAt o previous sum false row
 line_row-is o previous sum line file row h =
     let P : Type 0 = IsRowAt o previous sum false row in
     after_bind (judged_address previous sum) _ row h P (λ address address_is h1.
@@ -90,7 +92,8 @@ kind_of Skipped = quiet refl refl
 abbrev pub keeps_row : List Instruction → Bool
 keeps_row before = if is_dead before then false else is_open before
 
-after_end : (e : Encoding) (before : List Instruction) → (keeps_row (EndSequence ∷ before) ≡ false) × (row_before e (EndSequence ∷ before) ≡ 0)
+after_end : (e : Encoding) (before : List Instruction)
+    → (keeps_row (EndSequence ∷ before) ≡ false) × (row_before e (EndSequence ∷ before) ≡ 0)
 unfolding is_open is_dead row_before address_after
 after_end e before = (refl, refl)
 
@@ -108,23 +111,28 @@ shut_kept before shut = rw shut (shut_by (is_dead before))
 dead_kept : (before : List Instruction) → is_dead before ≡ true → keeps_row before ≡ false
 dead_kept before d = rw d refl
 
-kept_stays : (i : Instruction) (before : List Instruction) → ends_sequence i ≡ false → makes_line i ≡ false → keeps_row (i ∷ before) ≡ keeps_row before
+kept_stays : (i : Instruction) (before : List Instruction) → ends_sequence i ≡ false → makes_line i ≡ false
+    → keeps_row (i ∷ before) ≡ keeps_row before
 kept_stays i before h m = by (is_open before) refl
   where
     by : (b : Bool) → is_open before ≡ b → keeps_row (i ∷ before) ≡ keeps_row before
     by true o = rw (open_stays i before h m, dead_settled i before h m o) refl
     by false o = shut_kept (i ∷ before) (open_stays i before h m ∙ o) ∙ sym (shut_kept before o)
 
-kept_here : (i : Instruction) (before : List Instruction) → ends_sequence i ≡ false → makes_line i ≡ true → is_dead before ≡ false → keeps_row (i ∷ before) ≡ true
+kept_here : (i : Instruction) (before : List Instruction) → ends_sequence i ≡ false → makes_line i ≡ true → is_dead before ≡ false
+    → keeps_row (i ∷ before) ≡ true
 kept_here i before h m d = rw (dead_here i before h m, d, open_here i before h m) refl
 
-any_address : (program : ProgramNo) (has_row : Bool) (a b : ℕ) (rows : List Row) → has_row ≡ false → IsChain program has_row a rows → IsChain program has_row b rows
+any_address : (program : ProgramNo) (has_row : Bool) (a b : ℕ) (rows : List Row) → has_row ≡ false → IsChain program has_row a rows
+    → IsChain program has_row b rows
 any_address program has_row a b [] shut chain = chain
 any_address program has_row a b (row ∷ rows) shut chain = (chain.0, λ h. absurd (false≢true (sym shut ∙ h)), chain.2)
 
 -- in a dead sequence an instruction makes nothing
-none_more : (e : Encoding) (o : Origin) (before : List Instruction) (i : Instruction) (row rest : List Row) → made e o before i ≡ Ok row → is_dead before ≡ true → keeps_row (i ∷ before) ≡ false
-    → IsChain o.program (keeps_row (i ∷ before)) (row_before e (i ∷ before)) rest → IsChain o.program (keeps_row before) (row_before e before) (row ++ rest)
+none_more : (e : Encoding) (o : Origin) (before : List Instruction) (i : Instruction) (row rest : List Row) → made e o before i ≡ Ok row
+    → is_dead before ≡ true → keeps_row (i ∷ before) ≡ false
+    → IsChain o.program (keeps_row (i ∷ before)) (row_before e (i ∷ before)) rest
+        → IsChain o.program (keeps_row before) (row_before e before) (row ++ rest)
 none_more e o before i row rest is d shut chain =
     let none : [] ≡ row = ok_is {E = Cause} [] row (sym (made_dead e o before i d) ∙ is) in
     let other : IsChain o.program false (row_before e (i ∷ before)) rest = subst (λ (b : Bool). IsChain o.program b (row_before e (i ∷ before)) rest) shut chain in
@@ -133,8 +141,10 @@ none_more e o before i row rest is d shut chain =
     subst (λ (r : List Row). IsChain o.program (keeps_row before) (row_before e before) (r ++ rest)) none here
 
 -- a row of one that is not dead
-line_more : (e : Encoding) (o : Origin) (before : List Instruction) (i : Instruction) (row rest : List Row) → made e o before i ≡ Ok row → is_dead before ≡ false → ends_sequence i ≡ false → makes_line i ≡ true
-    → IsChain o.program (keeps_row (i ∷ before)) (row_before e (i ∷ before)) rest → IsChain o.program (keeps_row before) (row_before e before) (row ++ rest)
+line_more : (e : Encoding) (o : Origin) (before : List Instruction) (i : Instruction) (row rest : List Row) → made e o before i ≡ Ok row
+    → is_dead before ≡ false → ends_sequence i ≡ false → makes_line i ≡ true
+    → IsChain o.program (keeps_row (i ∷ before)) (row_before e (i ∷ before)) rest
+        → IsChain o.program (keeps_row before) (row_before e before) (row ++ rest)
 line_more e o before i row rest is d e_is m_is chain =
     let P : Type 0 = IsChain o.program (keeps_row before) (row_before e before) (row ++ rest) in
     after_bind (line_row o (row_before e before) (address_after e (i ∷ before)) (line_after e (i ∷ before)) (file_after (i ∷ before))) _ row (sym (made_row e o i before m_is d) ∙ is) P (λ found found_is h.
@@ -148,8 +158,10 @@ line_more e o before i row rest is d e_is m_is chain =
     subst (λ (r : List Row). IsChain o.program (keeps_row before) (row_before e before) (r ++ rest)) same (at.program_is, λ _. rises, behind))
 
 -- .. and the row that ends it
-end_more : (e : Encoding) (o : Origin) (before : List Instruction) (row rest : List Row) → made e o before EndSequence ≡ Ok row → is_dead before ≡ false
-    → IsChain o.program (keeps_row (EndSequence ∷ before)) (row_before e (EndSequence ∷ before)) rest → IsChain o.program (keeps_row before) (row_before e before) (row ++ rest)
+end_more : (e : Encoding) (o : Origin) (before : List Instruction) (row rest : List Row) → made e o before EndSequence ≡ Ok row
+    → is_dead before ≡ false
+    → IsChain o.program (keeps_row (EndSequence ∷ before)) (row_before e (EndSequence ∷ before)) rest
+        → IsChain o.program (keeps_row before) (row_before e before) (row ++ rest)
 end_more e o before row rest is d chain =
     let P : Type 0 = IsChain o.program (keeps_row before) (row_before e before) (row ++ rest) in
     after_bind (end_row o (row_before e before) (address_after e before)) _ row (sym (made_alive e o before EndSequence d) ∙ is) P (λ found found_is h.
@@ -161,8 +173,10 @@ end_more e o before row rest is d chain =
     subst (λ (r : List Row). IsChain o.program (keeps_row before) (row_before e before) (r ++ rest)) same (at.program_is, λ _. rises, any_address o.program (not found.«end») (row_before e (EndSequence ∷ before)) found.address rest (ap not at.end_is) opened))
 
 -- what one instruction makes stands in front of what the others make
-one_more : (e : Encoding) (o : Origin) (before : List Instruction) (i : Instruction) (row rest : List Row) → made e o before i ≡ Ok row → Kind i
-    → IsChain o.program (keeps_row (i ∷ before)) (row_before e (i ∷ before)) rest → IsChain o.program (keeps_row before) (row_before e before) (row ++ rest)
+one_more : (e : Encoding) (o : Origin) (before : List Instruction) (i : Instruction) (row rest : List Row) → made e o before i ≡ Ok row
+    → Kind i
+    → IsChain o.program (keeps_row (i ∷ before)) (row_before e (i ∷ before)) rest
+        → IsChain o.program (keeps_row before) (row_before e before) (row ++ rest)
 one_more e o before i row rest is (quiet e_is m_is) chain =
     let none : [] ≡ row = ok_is {E = Cause} [] row (sym (made_nothing e o i before e_is m_is) ∙ is) in
     let here : IsChain o.program (keeps_row before) (row_before e before) rest =
@@ -187,7 +201,8 @@ one_more e o before i row rest is (ends i_is) chain = by (is_dead before) refl
     by false d = end_more e o before row rest made_is d closed
 
 -- the rows of instructions behind these, after which no sequence is left open
-rows-chain : (e : Encoding) (o : Origin) (before rest : List Instruction) (rows : List Row) → rows_from e o before rest ≡ Ok rows → is_open (latest_first before rest) ≡ false
+rows-chain : (e : Encoding) (o : Origin) (before rest : List Instruction) (rows : List Row) → rows_from e o before rest ≡ Ok rows
+    → is_open (latest_first before rest) ≡ false
     → IsChain o.program (keeps_row before) (row_before e before) rows
 unfolding rows_from
 rows-chain e o before [] rows is shut = subst (λ (r : List Row). IsChain o.program (keeps_row before) (row_before e before) r) (ok_is {E = Cause} [] rows is) (shut_kept before shut)
@@ -203,7 +218,8 @@ ending-shut None true n h = cc
 ending-shut None false n h = refl
 
 -- the rows of a matrix
-pub matrix-chain : (e : Encoding) (o : Origin) (bytes : List ℕ) (place : ℕ) (rows : List Row) → matrix_at e o bytes place ≡ Ok rows → IsChain o.program false 0 rows
+pub matrix-chain : (e : Encoding) (o : Origin) (bytes : List ℕ) (place : ℕ) (rows : List Row) → matrix_at e o bytes place ≡ Ok rows
+    → IsChain o.program false 0 rows
 matrix-chain e o bytes place rows is =
     let P : Type 0 = IsChain o.program false 0 rows in
     after_bind (rows_from e o [] (reading_of e bytes place).instructions) _ rows is P (λ found found_is h1.
@@ -213,7 +229,8 @@ matrix-chain e o bytes place rows is =
     subst (λ (r : List Row). IsChain o.program false 0 r) (ok_is {E = Cause} found rows h2) (any_address o.program false (row_before e []) 0 found refl opened)))
 
 -- the rows of a program
-pub program-chain : (s : LineSections) (number place : ℕ) (program : Program) → program_at_place s number place ≡ Ok program → IsChain (record { 0 = number }) false 0 program.rows
+pub program-chain : (s : LineSections) (number place : ℕ) (program : Program) → program_at_place s number place ≡ Ok program
+    → IsChain (record { 0 = number }) false 0 program.rows
 unfolding program_at_place
 program-chain s number place program h =
     let P : Type 0 = IsChain (record { 0 = number }) false 0 program.rows in
@@ -241,13 +258,15 @@ not_false : (b : Bool) → not b ≡ false → b ≡ true
 not_false true h = refl
 not_false false h = cc
 
-chain-continues : (program : ProgramNo) (has_row : Bool) (previous : ℕ) (rows rest : List Row) → IsChain program has_row previous rows → AllContinue rest → AllContinue (rows ++ rest)
+chain-continues : (program : ProgramNo) (has_row : Bool) (previous : ℕ) (rows rest : List Row) → IsChain program has_row previous rows
+    → AllContinue rest → AllContinue (rows ++ rest)
 chain-continues program has_row previous [] rest chain further = further
 chain-continues program has_row previous (row ∷ []) rest chain further = (ended row rest (not_false row.«end» chain.2), further)
 chain-continues program has_row previous (row ∷ next ∷ rows) rest chain further =
     (λ e. (chain.2.0 ∙ sym chain.0, chain.2.1 (ap not e)), chain-continues program (not row.«end») row.address (next ∷ rows) rest chain.2 further)
 
-pub found_at : (s : LineSections) (before : List Program) (place : ℕ) (program : Program) (after : ℕ) → next_program s before place ≡ Ok (Item program after) → program_at_place s (length before) place ≡ Ok program
+pub found_at : (s : LineSections) (before : List Program) (place : ℕ) (program : Program) (after : ℕ)
+    → next_program s before place ≡ Ok (Item program after) → program_at_place s (length before) place ≡ Ok program
 found_at s before place x after h =
     let P : Type 0 = program_at_place s (length before) place ≡ Ok x in
     chosen (nat_le (length s.line) place) (Ok (End place)) (program_at_place s (length before) place >>= λ program. Ok (Item program program.past)) (Ok (Item x after)) h P (λ _ e. cc) (λ _ e.
@@ -255,14 +274,16 @@ found_at s before place x after h =
     let same : program ≡ x = ap (item_or x) (ok_is {E = Cause} (Item program program.past) (Item x after) e1) in
     subst (λ (p : Program). program_at_place s (length before) place ≡ Ok p) same program_is))
 
-listed-continue : (s : LineSections) (before : List Program) (place : ℕ) (programs : List Program) (after : ℕ) → Lists (next_program s) before place programs after → AllContinue (rows_of programs)
+listed-continue : (s : LineSections) (before : List Program) (place : ℕ) (programs : List Program) (after : ℕ)
+    → Lists (next_program s) before place programs after → AllContinue (rows_of programs)
 listed-continue s before place [] after h = tt
 listed-continue s before place (program ∷ programs) after h =
     chain-continues (record { 0 = length before }) false 0 program.rows (rows_of programs)
     (program-chain s (length before) place program (found_at s before place program h.0 h.1)) (listed-continue s (before ++ program ∷ []) h.0 programs after h.2)
 
 -- the programs that the lines are of
-pub lines_in-ok : (s : LineSections) (lines : Lines) → lines_in s ≡ Ok lines → (programs : List Program) × (after : ℕ) × (programs_of s ≡ Ok (programs, after)) × (lines ≡ lines_of programs)
+pub lines_in-ok : (s : LineSections) (lines : Lines) → lines_in s ≡ Ok lines
+    → (programs : List Program) × (after : ℕ) × (programs_of s ≡ Ok (programs, after)) × (lines ≡ lines_of programs)
 unfolding lines_in
 lines_in-ok s lines h = by_read (programs_of s) refl h
   where

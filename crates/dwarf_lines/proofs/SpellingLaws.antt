@@ -24,7 +24,8 @@ pub is_not : (a b : ℕ) → a ≢ b → (a == b) ≡ false
 is_not a b h = grind (arith, nat_tests)
 
 -- operands that are passed over
-ulebs_stand : (count : ℕ) (bytes : List ℕ) (at next : ℕ) → after_ulebs count bytes at ≡ Ok next → (operands : List ℕ) × AreUlebs count operands × Stretch bytes at operands next
+ulebs_stand : (count : ℕ) (bytes : List ℕ) (at next : ℕ) → after_ulebs count bytes at ≡ Ok next
+    → (operands : List ℕ) × AreUlebs count operands × Stretch bytes at operands next
 unfolding after_ulebs
 ulebs_stand zero bytes at next h = ([], none, subst (λ (n : ℕ). Stretch bytes at [] n) (ok_is {E = Cause} at next h) (none_at bytes at))
 ulebs_stand (suc count) bytes at next h =
@@ -33,7 +34,8 @@ ulebs_stand (suc count) bytes at next h =
     let others = ulebs_stand count bytes operand.1 next h1 in
     (one.front ++ others.0, more one.front operand.0 one.spelled others.1, join bytes at one.front operand.1 others.0 next (stretch_of IsUleb bytes at operand.0 operand.1 one) others.2))
 
-ulebs_again : (count : ℕ) (operands : List ℕ) (bytes : List ℕ) (at next : ℕ) → AreUlebs count operands → Stretch bytes at operands next → after_ulebs count bytes at ≡ Ok next
+ulebs_again : (count : ℕ) (operands : List ℕ) (bytes : List ℕ) (at next : ℕ) → AreUlebs count operands → Stretch bytes at operands next
+    → after_ulebs count bytes at ≡ Ok next
 unfolding after_ulebs
 ulebs_again zero [] bytes at next none h = ap (λ (n : ℕ). Ok n) (let last = h.next_is in omega arith)
 ulebs_again zero (_ ∷ _) bytes at next impossible h = elim impossible [ ]
@@ -51,13 +53,15 @@ module _ (e : Encoding) (bytes : List ℕ) (at : ℕ) where
   is_read j i after next h stands = subst (λ (p : Instruction × ℕ). Stands p.0 p.1) (ok_is {E = Cause} (j, after) (i, next) h) stands
 
   module _ (opcode place : ℕ) (first : Stretch bytes at (opcode ∷ []) place) where
-    behind : (operand : List ℕ) (next : ℕ) (i : Instruction) → Stretch bytes place operand next → Spells e (opcode ∷ operand) i → Stands i next
+    behind : (operand : List ℕ) (next : ℕ) (i : Instruction) → Stretch bytes place operand next → Spells e (opcode ∷ operand) i
+        → Stands i next
     behind operand next i there spelled = stands_of (Spells e) bytes at i next (opcode ∷ operand) (join bytes at (opcode ∷ []) place operand next first there) spelled
 
     alone : (i : Instruction) → Spells e (opcode ∷ []) i → Stands i place
     alone i spelled = stands_of (Spells e) bytes at i place (opcode ∷ []) first spelled
 
-    standard_stands : (i : Instruction) (next : ℕ) → 0 < opcode → opcode < e.opcode_base → standard_at e opcode bytes place ≡ Ok (i, next) → Stands i next
+    standard_stands : (i : Instruction) (next : ℕ) → 0 < opcode → opcode < e.opcode_base → standard_at e opcode bytes place ≡ Ok (i, next)
+        → Stands i next
     unfolding standard_at
     standard_stands i next some known h =
         chosen (opcode == 1) _ _ (Ok (i, next)) h (Stands i next)
@@ -93,7 +97,8 @@ module _ (e : Encoding) (bytes : List ℕ) (at : ℕ) where
         (passed_over opcode known (some, differs opcode 1 not1, differs opcode 2 not2, differs opcode 3 not3, differs opcode 4 not4, differs opcode 8 not8, differs opcode 9 not9) operands.1)))))))))
 
     -- the opcode and operands of an extended instruction
-    body_stands : (len : List ℕ) (mid : ℕ) (body : List ℕ) (last : ℕ) (i : Instruction) → opcode ≡ 0 → IsUleb len (length body) → Stretch bytes place len mid → Stretch bytes mid body last → 0 < length body → extended_of body ≡ Ok i → Stands i last
+    body_stands : (len : List ℕ) (mid : ℕ) (body : List ℕ) (last : ℕ) (i : Instruction) → opcode ≡ 0 → IsUleb len (length body)
+        → Stretch bytes place len mid → Stretch bytes mid body last → 0 < length body → extended_of body ≡ Ok i → Stands i last
     unfolding extended_of
     body_stands len mid [] last i zero_is len_is there body_there some h = absurd (omega arith)
     body_stands len mid (o ∷ operands) last i zero_is len_is there body_there some h =
@@ -157,7 +162,8 @@ from_on : (base opcode : ℕ) → base ≤ opcode → nat_le base opcode ≡ tru
 from_on base opcode h = grind (arith, nat_tests)
 
 module _ (e : Encoding) (bytes : List ℕ) (at : ℕ) where
-  standard_is : (opcode place : ℕ) → u8_at bytes at ≡ Ok (opcode, place) → opcode < e.opcode_base → opcode ≢ 0 → instruction_at e bytes at ≡ standard_at e opcode bytes place
+  standard_is : (opcode place : ℕ) → u8_at bytes at ≡ Ok (opcode, place) → opcode < e.opcode_base → opcode ≢ 0
+      → instruction_at e bytes at ≡ standard_at e opcode bytes place
   unfolding instruction_at
   standard_is opcode place byte known some = rw (byte, not_from e.opcode_base opcode known, is_not opcode 0 some) refl
 
@@ -165,11 +171,14 @@ module _ (e : Encoding) (bytes : List ℕ) (at : ℕ) where
   unfolding instruction_at
   extended_is place byte known = rw (byte, not_from e.opcode_base 0 known) refl
 
-  body_is : (place len mid next : ℕ) (body : List ℕ) (i : Instruction) → uleb_at bytes place ≡ Ok (len, mid) → len ≢ 0 → block_at len bytes mid ≡ Ok (body, next) → extended_of body ≡ Ok i → extended_at bytes place ≡ Ok (i, next)
+  body_is : (place len mid next : ℕ) (body : List ℕ) (i : Instruction) → uleb_at bytes place ≡ Ok (len, mid) → len ≢ 0
+      → block_at len bytes mid ≡ Ok (body, next) → extended_of body ≡ Ok i → extended_at bytes place ≡ Ok (i, next)
   unfolding extended_at
   body_is place len mid next body i len_is some block_is instruction_is = rw (len_is, is_not len 0 some, block_is, instruction_is) refl
 
-  extended_again : (next len : ℕ) (length_bytes body : List ℕ) (i : Instruction) → 0 < e.opcode_base → Stretch bytes at (0 ∷ (length_bytes ++ body)) next → IsUleb length_bytes len → len ≡ length body → 0 < length body → extended_of body ≡ Ok i
+  extended_again : (next len : ℕ) (length_bytes body : List ℕ) (i : Instruction) → 0 < e.opcode_base
+      → Stretch bytes at (0 ∷ (length_bytes ++ body)) next → IsUleb length_bytes len → len ≡ length body → 0 < length body
+      → extended_of body ≡ Ok i
       → instruction_at e bytes at ≡ Ok (i, next)
   extended_again next len length_bytes body i known there len_is same some instruction_is =
       let opcode = first_of bytes at (0 ∷ []) (length_bytes ++ body) next there in
@@ -181,12 +190,14 @@ module _ (e : Encoding) (bytes : List ℕ) (at : ℕ) where
       extended_is place (byte_again bytes at 0 place opcode) known
       ∙ body_is place len mid next body i operand (λ zero_is. omega (arith, same, zero_is, some)) (subst (λ (n : ℕ). block_at n bytes mid ≡ Ok (body, next)) (sym same) block) instruction_is
 
-  passed_is : (opcode place next : ℕ) → IsPassedOver opcode → after_ulebs (slice_index e.opcode_lengths (opcode - 1)) bytes place ≡ Ok next → standard_at e opcode bytes place ≡ Ok (Skipped, next)
+  passed_is : (opcode place next : ℕ) → IsPassedOver opcode → after_ulebs (slice_index e.opcode_lengths (opcode - 1)) bytes place ≡ Ok next
+      → standard_at e opcode bytes place ≡ Ok (Skipped, next)
   unfolding standard_at
   passed_is opcode place next h operands =
       rw (is_not opcode 1 h.1, is_not opcode 2 h.2, is_not opcode 3 h.3, is_not opcode 4 h.4, is_not opcode 8 h.5, is_not opcode 9 h.6, operands) refl
 
-  special_is : (adjusted next : ℕ) → u8_at bytes at ≡ Ok (adjusted + e.opcode_base, next) → instruction_at e bytes at ≡ Ok (Special adjusted, next)
+  special_is : (adjusted next : ℕ) → u8_at bytes at ≡ Ok (adjusted + e.opcode_base, next)
+      → instruction_at e bytes at ≡ Ok (Special adjusted, next)
   unfolding instruction_at
   special_is adjusted next byte =
       let back : (adjusted + e.opcode_base) - e.opcode_base ≡ adjusted = omega arith in
@@ -201,11 +212,13 @@ module _ (e : Encoding) (bytes : List ℕ) (at : ℕ) where
   other_is opcode operands not1 not2 = rw (is_not opcode 1 not1, is_not opcode 2 not2) refl
 
   -- the opcode of a front, and what stands behind it
-  opcode_of : (opcode : ℕ) (operand : List ℕ) (next : ℕ) → Stretch bytes at (opcode ∷ operand) next → (u8_at bytes at ≡ Ok (opcode, at + length {A = ℕ} (opcode ∷ []))) × Stretch bytes (at + length {A = ℕ} (opcode ∷ [])) operand next
+  opcode_of : (opcode : ℕ) (operand : List ℕ) (next : ℕ) → Stretch bytes at (opcode ∷ operand) next
+      → (u8_at bytes at ≡ Ok (opcode, at + length {A = ℕ} (opcode ∷ []))) × Stretch bytes (at + length {A = ℕ} (opcode ∷ [])) operand next
   opcode_of opcode operand next there =
       (byte_again bytes at opcode (at + length {A = ℕ} (opcode ∷ [])) (first_of bytes at (opcode ∷ []) operand next there), rest_of bytes at (opcode ∷ []) operand next there)
 
-  again : (next : ℕ) (front : List ℕ) (i : Instruction) → 0 < e.opcode_base → Stretch bytes at front next → Spells e front i → instruction_at e bytes at ≡ Ok (i, next)
+  again : (next : ℕ) (front : List ℕ) (i : Instruction) → 0 < e.opcode_base → Stretch bytes at front next → Spells e front i
+      → instruction_at e bytes at ≡ Ok (i, next)
   unfolding standard_at extended_of
   again next front i some there (copy known) = standard_is 1 next (byte_again bytes at 1 next there) known (λ h. omega (arith, h)) ∙ refl
   again next front i some there (advance_pc {operand = operand} n known is) =
@@ -242,5 +255,6 @@ module _ (e : Encoding) (bytes : List ℕ) (at : ℕ) where
       extended_again next (suc (length operands)) len (opcode ∷ operands) Skipped some there is (omega arith) (omega arith) (other_is opcode operands not1 not2)
 
   -- what is spelled so is read
-  pub instruction_again : (i : Instruction) (next : ℕ) → 0 < e.opcode_base → StandsAt (Spells e) bytes at i next → instruction_at e bytes at ≡ Ok (i, next)
+  pub instruction_again : (i : Instruction) (next : ℕ) → 0 < e.opcode_base → StandsAt (Spells e) bytes at i next
+      → instruction_at e bytes at ≡ Ok (i, next)
   instruction_again i next some h = again next h.front i some (stretch_of (Spells e) bytes at i next h) h.spelled

@@ -20,21 +20,25 @@ pub rest_is : (bytes : List ℕ) (at : ℕ) (front rest : List ℕ) → drop at 
 rest_is bytes at front rest h =
     sym (drop-append_seam front rest) ∙ ap (drop (length front)) (sym h) ∙ drop-drop (length front) at bytes
 
-pub stretch : (bytes : List ℕ) (at : ℕ) (front rest : List ℕ) (next : ℕ) → drop at bytes ≡ front ++ rest → next ≡ at + length front → Stretch bytes at front next
+pub stretch : (bytes : List ℕ) (at : ℕ) (front rest : List ℕ) (next : ℕ) → drop at bytes ≡ front ++ rest → next ≡ at + length front
+    → Stretch bytes at front next
 stretch bytes at front rest next h next_is =
     record { parts = h ∙ ap (λ (r : List ℕ). front ++ r) (rest_is bytes at front rest h ∙ ap (λ (n : ℕ). drop n bytes) (sym next_is)); next_is = next_is }
 
-pub stretch_of : {X : Type 0} (S : List ℕ → X → Type 0) (bytes : List ℕ) (at : ℕ) (x : X) (next : ℕ) → (h : StandsAt S bytes at x next) → Stretch bytes at h.front next
+pub stretch_of : {X : Type 0} (S : List ℕ → X → Type 0) (bytes : List ℕ) (at : ℕ) (x : X) (next : ℕ) → (h : StandsAt S bytes at x next)
+    → Stretch bytes at h.front next
 stretch_of S bytes at x next h = stretch bytes at h.front h.rest next h.parts h.next_is
 
-pub stands_of : {X : Type 0} (S : List ℕ → X → Type 0) (bytes : List ℕ) (at : ℕ) (x : X) (next : ℕ) (front : List ℕ) → Stretch bytes at front next → S front x → StandsAt S bytes at x next
+pub stands_of : {X : Type 0} (S : List ℕ → X → Type 0) (bytes : List ℕ) (at : ℕ) (x : X) (next : ℕ) (front : List ℕ)
+    → Stretch bytes at front next → S front x → StandsAt S bytes at x next
 stands_of S bytes at x next front h spelled = record { front = front; rest = drop next bytes; spelled = spelled; parts = h.parts; next_is = h.next_is }
 
 pub none_at : (bytes : List ℕ) (at : ℕ) → Stretch bytes at [] at
 none_at bytes at = record { parts = refl; next_is = omega arith }
 
 -- one stretch behind another
-pub join : (bytes : List ℕ) (at : ℕ) (a : List ℕ) (mid : ℕ) (b : List ℕ) (next : ℕ) → Stretch bytes at a mid → Stretch bytes mid b next → Stretch bytes at (a ++ b) next
+pub join : (bytes : List ℕ) (at : ℕ) (a : List ℕ) (mid : ℕ) (b : List ℕ) (next : ℕ) → Stretch bytes at a mid → Stretch bytes mid b next
+    → Stretch bytes at (a ++ b) next
 join bytes at a mid b next h k = record {
   parts = h.parts ∙ ap (λ (r : List ℕ). a ++ r) k.parts ∙ sym (append_assoc a b (drop next bytes));
   next_is = let len = length-append a b in let first = h.next_is in let last = k.next_is in omega (arith, len);
@@ -49,7 +53,8 @@ rest_of bytes at a b next h = record {
   next_is = let len = length-append a b in let last = h.next_is in omega (arith, len);
 }
 
-pub block_stands : (n : ℕ) (bytes : List ℕ) (at : ℕ) (v : List ℕ × ℕ) → block_at n bytes at ≡ Ok v → Stretch bytes at v.0 v.1 × (length v.0 ≡ n)
+pub block_stands : (n : ℕ) (bytes : List ℕ) (at : ℕ) (v : List ℕ × ℕ) → block_at n bytes at ≡ Ok v
+    → Stretch bytes at v.0 v.1 × (length v.0 ≡ n)
 unfolding block_at
 block_stands n bytes at v h =
     chosen (nat_lt (length bytes) (at + n)) (Err Short) (Ok (take n (drop at bytes), at + n)) (Ok v) h (Stretch bytes at v.0 v.1 × (length v.0 ≡ n)) (λ _ e. cc) (λ enough e.
@@ -59,7 +64,8 @@ block_stands n bytes at v h =
     let here : Stretch bytes at (take n (drop at bytes)) (at + n) = stretch bytes at (take n (drop at bytes)) (drop n (drop at bytes)) (at + n) (sym (take-append-drop n (drop at bytes))) (omega (arith, taken)) in
     subst (λ (p : List ℕ × ℕ). Stretch bytes at p.0 p.1 × (length p.0 ≡ n)) same (here, taken))
 
-pub block_again : (bytes : List ℕ) (at : ℕ) (block : List ℕ) (next : ℕ) → 0 < length block → Stretch bytes at block next → block_at (length block) bytes at ≡ Ok (block, next)
+pub block_again : (bytes : List ℕ) (at : ℕ) (block : List ℕ) (next : ℕ) → 0 < length block → Stretch bytes at block next
+    → block_at (length block) bytes at ≡ Ok (block, next)
 unfolding block_at
 block_again bytes at block next some h =
     let len = length-append block (drop next bytes) in
@@ -81,7 +87,8 @@ two_bytes (b ∷ c ∷ []) h = (b, c, refl)
 two_bytes (b ∷ c ∷ d ∷ bs) h = absurd (omega (arith, h))
 
 -- a field is the number of the bytes of its width
-pub fixed_stands : (n : ℕ) (bytes : List ℕ) (at : ℕ) (v : ℕ × ℕ) → fixed_at n bytes at ≡ Ok v → (block : List ℕ) × Stretch bytes at block v.1 × (length block ≡ n) × (v.0 ≡ little_endian block)
+pub fixed_stands : (n : ℕ) (bytes : List ℕ) (at : ℕ) (v : ℕ × ℕ) → fixed_at n bytes at ≡ Ok v
+    → (block : List ℕ) × Stretch bytes at block v.1 × (length block ≡ n) × (v.0 ≡ little_endian block)
 unfolding fixed_at
 fixed_stands n bytes at v h =
     after_bind (block_at n bytes at) _ v h ((block : List ℕ) × Stretch bytes at block v.1 × (length block ≡ n) × (v.0 ≡ little_endian block)) (λ block block_is h1.
@@ -89,7 +96,8 @@ fixed_stands n bytes at v h =
     let found = block_stands n bytes at block block_is in
     (block.0, subst (λ (next : ℕ). Stretch bytes at block.0 next) (ap (λ (p : ℕ × ℕ). p.1) same) found.0, found.1, sym (ap (λ (p : ℕ × ℕ). p.0) same)))
 
-pub fixed_again : (bytes : List ℕ) (at : ℕ) (block : List ℕ) (next : ℕ) → 0 < length block → Stretch bytes at block next → fixed_at (length block) bytes at ≡ Ok (little_endian block, next)
+pub fixed_again : (bytes : List ℕ) (at : ℕ) (block : List ℕ) (next : ℕ) → 0 < length block → Stretch bytes at block next
+    → fixed_at (length block) bytes at ≡ Ok (little_endian block, next)
 unfolding fixed_at
 fixed_again bytes at block next some h = rw (block_again bytes at block next some h) refl
 

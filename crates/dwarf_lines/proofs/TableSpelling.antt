@@ -28,12 +28,14 @@ not_refused zero good h = refl
 not_refused (suc count) good h = rw (h (omega arith), is_not (suc count) 0 (λ none. omega (arith, none))) refl
 
 module _ (s : LineSections) (format : Format) (table : EntryTable) (bytes : List ℕ) where
-  entries_stand : (fields : List Field) (count at : ℕ) (entries : List Entry) (next : ℕ) → (0 < count → is_format table fields ≡ true) → repeated_at (entry_at s format table fields) count bytes at ≡ Ok (entries, next)
+  entries_stand : (fields : List Field) (count at : ℕ) (entries : List Entry) (next : ℕ) → (0 < count → is_format table fields ≡ true)
+      → repeated_at (entry_at s format table fields) count bytes at ≡ Ok (entries, next)
       → StandsAt (SpellsEach (SpellsEntry s format table fields) at) bytes at entries next × (length entries ≡ count)
   entries_stand fields count at entries next good h =
       each_stands (SpellsEntry s format table fields) (entry_at s format table fields) bytes count at entries next (λ some. entry_stands s format table bytes fields (good some)) h
 
-  pub table_stands : (at : ℕ) (entries : List Entry) (next : ℕ) → table_at s format table bytes at ≡ Ok (entries, next) → StandsAt (SpellsTable s format table at) bytes at entries next
+  pub table_stands : (at : ℕ) (entries : List Entry) (next : ℕ) → table_at s format table bytes at ≡ Ok (entries, next)
+      → StandsAt (SpellsTable s format table at) bytes at entries next
   unfolding table_at
   table_stands at entries next h =
       let P : Type 0 = StandsAt (SpellsTable s format table at) bytes at entries next in
@@ -64,12 +66,15 @@ module _ (s : LineSections) (format : Format) (table : EntryTable) (bytes : List
         entries_are = subst (λ (n : ℕ). SpellsEach (SpellsEntry s format table fields.0) n d.0.front entries) items d.0.spelled;
       })))))
 
-  entries_again : (fields : List Field) (at : ℕ) (front : List ℕ) (entries : List Entry) (next : ℕ) → (0 < length entries → is_format table fields ≡ true) → Stretch bytes at front next → SpellsEach (SpellsEntry s format table fields) at front entries
+  entries_again : (fields : List Field) (at : ℕ) (front : List ℕ) (entries : List Entry) (next : ℕ)
+      → (0 < length entries → is_format table fields ≡ true) → Stretch bytes at front next
+      → SpellsEach (SpellsEntry s format table fields) at front entries
       → repeated_at (entry_at s format table fields) (length entries) bytes at ≡ Ok (entries, next)
   entries_again fields at front entries next good there are =
       each_again (SpellsEntry s format table fields) (entry_at s format table fields) bytes at front entries next (λ some. entry_again s format table bytes fields (good some)) there are
 
-  pub table_again : (at : ℕ) (entries : List Entry) (next : ℕ) → StandsAt (SpellsTable s format table at) bytes at entries next → table_at s format table bytes at ≡ Ok (entries, next)
+  pub table_again : (at : ℕ) (entries : List Entry) (next : ℕ) → StandsAt (SpellsTable s format table at) bytes at entries next
+      → table_at s format table bytes at ≡ Ok (entries, next)
   unfolding table_at
   table_again at entries next h =
       let t = h.spelled in

@@ -19,7 +19,8 @@ use Rattle.dwarf_lines.proofs.ReadingLaws.{reading_is_spelled, spelled_is_read}
 use Rattle.dwarf_lines.proofs.MachineLaws.{rows-by-machine}
 
 -- the instructions stand in the program, and an opcode base is there
-pub first_inside : (s : LineSections) (place : ℕ) (header : LineHeader) (bytes : List ℕ) → SpellsHeader s place bytes header → (header.first ≤ header.past) × (0 < header.encoding.opcode_base)
+pub first_inside : (s : LineSections) (place : ℕ) (header : LineHeader) (bytes : List ℕ) → SpellsHeader s place bytes header
+    → (header.first ≤ header.past) × (0 < header.encoding.opcode_base)
 first_inside s place header bytes h =
     let f = h.fields_are in
     let all : length bytes ≡ length h.unit_length + length h.unit = ap length h.whole ∙ length-append h.unit_length h.unit in
@@ -36,11 +37,14 @@ ending_good (Some cause) has_row n h = cc
 ending_good None true n h = cc
 ending_good None false n h = (refl, refl)
 
-pub matrix_good : (e : Encoding) (o : Origin) (read : Reading) (is : List Instruction) (rows : List Row) → read ≡ record { instructions = is; fault = None } → rows_from e o [] is ≡ Ok rows → is_open (latest_first [] is) ≡ false → matrix_after e o [] read ≡ Ok rows
+pub matrix_good : (e : Encoding) (o : Origin) (read : Reading) (is : List Instruction) (rows : List Row)
+    → read ≡ record { instructions = is; fault = None } → rows_from e o [] is ≡ Ok rows → is_open (latest_first [] is) ≡ false
+    → matrix_after e o [] read ≡ Ok rows
 matrix_good e o read is rows read_is rows_is closed = rw (read_is, rows_is, closed) refl
 
 matrix_is : (e : Encoding) (o : Origin) (read : Reading) (rows : List Row) → matrix_after e o [] read ≡ Ok rows
-    → (read ≡ record { instructions = read.instructions; fault = None }) × (rows_from e o [] read.instructions ≡ Ok rows) × (is_open (latest_first [] read.instructions) ≡ false)
+    → (read ≡ record { instructions = read.instructions; fault = None }) × (rows_from e o [] read.instructions ≡ Ok rows)
+        × (is_open (latest_first [] read.instructions) ≡ false)
 matrix_is e o read rows h =
     let P : Type 0 = (read ≡ record { instructions = read.instructions; fault = None }) × (rows_from e o [] read.instructions ≡ Ok rows) × (is_open (latest_first [] read.instructions) ≡ false) in
     after_bind (rows_from e o [] read.instructions) _ rows h P (λ made made_is h1.
@@ -49,7 +53,8 @@ matrix_is e o read rows h =
     let good = ending_good read.fault (is_open (latest_first [] read.instructions)) n ended in
     (ap (λ (f : Option Cause). record { instructions = read.instructions; fault = f }) good.0, made_is ∙ ap (λ (r : List Row). (let ok : Result (List Row) Cause = Ok r in ok)) same, good.1)))
 
-pub program_stands : (s : LineSections) (number place : ℕ) (program : Program) → program_at_place s number place ≡ Ok program → IsProgram s number place program
+pub program_stands : (s : LineSections) (number place : ℕ) (program : Program) → program_at_place s number place ≡ Ok program
+    → IsProgram s number place program
 unfolding program_at_place
 program_stands s number place program h =
     let P : Type 0 = IsProgram s number place program in
@@ -75,7 +80,8 @@ program_stands s number place program h =
       program_is = sym same ∙ ap (λ (r : List Row). record { offset = place; directories = header.directories; files = header.files; rows = r; past = header.past }) made;
     }))
 
-pub program_again : (s : LineSections) (number place : ℕ) (program : Program) → IsProgram s number place program → program_at_place s number place ≡ Ok program
+pub program_again : (s : LineSections) (number place : ℕ) (program : Program) → IsProgram s number place program
+    → program_at_place s number place ≡ Ok program
 unfolding program_at_place
 program_again s number place program p =
     let header = p.header in
