@@ -1,4 +1,5 @@
 pub mod Lists
+pub mod TellLaws
 pub mod EachTurns
 pub mod JoinLaws
 pub mod Constant
@@ -24,3 +25,5 @@ pub mod ExtentLaws
 pub mod PlaceLaws
 pub mod BoundLaws
 pub mod WordLaws
+pub mod WalkLaws
+pub mod FrameTurns

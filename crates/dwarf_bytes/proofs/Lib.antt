@@ -17,3 +17,4 @@ pub mod Advance
 pub mod Moves
 pub mod Turns
 pub mod EachPlaces
+pub mod FirstNuls

@@ -1,5 +1,6 @@
 -- The forms of attributes (DWARF 5, 7.5.6, table 7.6).
 use Rattle.std.specs.Prelude.{ℕ, List, [], ◌∷◌, Option, nat_eq, find, option_map}
+use Rattle.dwarf_bytes.specs.declared.constants.TheConstants.{DW_FORM_ADDR, DW_FORM_BLOCK2, DW_FORM_BLOCK4, DW_FORM_DATA2, DW_FORM_DATA4, DW_FORM_DATA8, DW_FORM_STRING, DW_FORM_BLOCK, DW_FORM_BLOCK1, DW_FORM_DATA1, DW_FORM_FLAG, DW_FORM_SDATA, DW_FORM_STRP, DW_FORM_UDATA, DW_FORM_REF_ADDR, DW_FORM_REF1, DW_FORM_REF2, DW_FORM_REF4, DW_FORM_REF8, DW_FORM_REF_UDATA, DW_FORM_INDIRECT, DW_FORM_SEC_OFFSET, DW_FORM_EXPRLOC, DW_FORM_FLAG_PRESENT, DW_FORM_STRX, DW_FORM_ADDRX, DW_FORM_DATA16, DW_FORM_LINE_STRP, DW_FORM_REF_SIG8, DW_FORM_IMPLICIT_CONST, DW_FORM_LOCLISTX, DW_FORM_RNGLISTX, DW_FORM_STRX1, DW_FORM_STRX2, DW_FORM_STRX3, DW_FORM_STRX4, DW_FORM_ADDRX1, DW_FORM_ADDRX2, DW_FORM_ADDRX3, DW_FORM_ADDRX4}
 use Rattle.dwarf_bytes.specs.declared.form.ValueLayout.TheVariants.{Fixed, Offset, Present, Signed, Unsigned, Text, Sixteen, Block, LongBlock}
 use Rattle.dwarf_bytes.specs.declared.form.Width.{Width}
 use Rattle.dwarf_bytes.specs.declared.form.Width.TheVariants.{One, Two, Three, Four, Eight}
@@ -14,27 +15,51 @@ byte_len Three = 3
 byte_len Four = 4
 byte_len Eight = 8
 
--- Each form that is read, and how its value is laid out. DW_FORM_ref_sup4, strp_sup, ref_sup8 and every other
--- number are refused.
+-- Each form that is read, and how its value is laid out. DW_FORM_ref_sup4 (0x1c), DW_FORM_strp_sup (0x1d), DW_FORM_ref_sup8 (0x24)
+-- and every other number are refused.
 abbrev pub forms : List (ℕ × Form)
 forms =
-    -- addr
-    (0x01, Direct (Fixed Eight)) ∷
-    -- block2, block4, data2, data4, data8
-    (0x03, Direct (Block Two)) ∷ (0x04, Direct (Block Four)) ∷ (0x05, Direct (Fixed Two)) ∷ (0x06, Direct (Fixed Four)) ∷ (0x07, Direct (Fixed Eight)) ∷
-    -- string, block, block1, data1, flag, sdata, strp, udata
-    (0x08, Direct Text) ∷ (0x09, Direct LongBlock) ∷ (0x0a, Direct (Block One)) ∷ (0x0b, Direct (Fixed One)) ∷ (0x0c, Direct (Fixed One)) ∷
-    (0x0d, Direct Signed) ∷ (0x0e, Direct Offset) ∷ (0x0f, Direct Unsigned) ∷
-    -- ref_addr, ref1, ref2, ref4, ref8, ref_udata
-    (0x10, Direct Offset) ∷ (0x11, Direct (Fixed One)) ∷ (0x12, Direct (Fixed Two)) ∷ (0x13, Direct (Fixed Four)) ∷ (0x14, Direct (Fixed Eight)) ∷ (0x15, Direct Unsigned) ∷
-    -- indirect, sec_offset, exprloc, flag_present
-    (0x16, Indirect) ∷ (0x17, Direct Offset) ∷ (0x18, Direct LongBlock) ∷ (0x19, Direct Present) ∷
-    -- strx, addrx, data16, line_strp, ref_sig8, implicit_const, loclistx, rnglistx
-    (0x1a, Direct Unsigned) ∷ (0x1b, Direct Unsigned) ∷ (0x1e, Direct Sixteen) ∷ (0x1f, Direct Offset) ∷ (0x20, Direct (Fixed Eight)) ∷
-    (0x21, ImplicitConst) ∷ (0x22, Direct Unsigned) ∷ (0x23, Direct Unsigned) ∷
-    -- strx1 to strx4, addrx1 to addrx4
-    (0x25, Direct (Fixed One)) ∷ (0x26, Direct (Fixed Two)) ∷ (0x27, Direct (Fixed Three)) ∷ (0x28, Direct (Fixed Four)) ∷
-    (0x29, Direct (Fixed One)) ∷ (0x2a, Direct (Fixed Two)) ∷ (0x2b, Direct (Fixed Three)) ∷ (0x2c, Direct (Fixed Four)) ∷ []
+    (DW_FORM_ADDR, Direct (Fixed Eight)) ∷
+    (DW_FORM_BLOCK2, Direct (Block Two)) ∷
+    (DW_FORM_BLOCK4, Direct (Block Four)) ∷
+    (DW_FORM_DATA2, Direct (Fixed Two)) ∷
+    (DW_FORM_DATA4, Direct (Fixed Four)) ∷
+    (DW_FORM_DATA8, Direct (Fixed Eight)) ∷
+    (DW_FORM_STRING, Direct Text) ∷
+    (DW_FORM_BLOCK, Direct LongBlock) ∷
+    (DW_FORM_BLOCK1, Direct (Block One)) ∷
+    (DW_FORM_DATA1, Direct (Fixed One)) ∷
+    (DW_FORM_FLAG, Direct (Fixed One)) ∷
+    (DW_FORM_SDATA, Direct Signed) ∷
+    (DW_FORM_STRP, Direct Offset) ∷
+    (DW_FORM_UDATA, Direct Unsigned) ∷
+    (DW_FORM_REF_ADDR, Direct Offset) ∷
+    (DW_FORM_REF1, Direct (Fixed One)) ∷
+    (DW_FORM_REF2, Direct (Fixed Two)) ∷
+    (DW_FORM_REF4, Direct (Fixed Four)) ∷
+    (DW_FORM_REF8, Direct (Fixed Eight)) ∷
+    (DW_FORM_REF_UDATA, Direct Unsigned) ∷
+    (DW_FORM_INDIRECT, Indirect) ∷
+    (DW_FORM_SEC_OFFSET, Direct Offset) ∷
+    (DW_FORM_EXPRLOC, Direct LongBlock) ∷
+    (DW_FORM_FLAG_PRESENT, Direct Present) ∷
+    (DW_FORM_STRX, Direct Unsigned) ∷
+    (DW_FORM_ADDRX, Direct Unsigned) ∷
+    (DW_FORM_DATA16, Direct Sixteen) ∷
+    (DW_FORM_LINE_STRP, Direct Offset) ∷
+    (DW_FORM_REF_SIG8, Direct (Fixed Eight)) ∷
+    (DW_FORM_IMPLICIT_CONST, ImplicitConst) ∷
+    (DW_FORM_LOCLISTX, Direct Unsigned) ∷
+    (DW_FORM_RNGLISTX, Direct Unsigned) ∷
+    (DW_FORM_STRX1, Direct (Fixed One)) ∷
+    (DW_FORM_STRX2, Direct (Fixed Two)) ∷
+    (DW_FORM_STRX3, Direct (Fixed Three)) ∷
+    (DW_FORM_STRX4, Direct (Fixed Four)) ∷
+    (DW_FORM_ADDRX1, Direct (Fixed One)) ∷
+    (DW_FORM_ADDRX2, Direct (Fixed Two)) ∷
+    (DW_FORM_ADDRX3, Direct (Fixed Three)) ∷
+    (DW_FORM_ADDRX4, Direct (Fixed Four)) ∷
+    []
 
 -- what a form says of its value
 abbrev pub form_of : ℕ → Option Form

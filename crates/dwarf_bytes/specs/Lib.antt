@@ -1,5 +1,6 @@
 pub mod Bind
 pub mod Numbers
+pub mod Private
 pub mod Groups
 pub mod Position
 pub mod Words

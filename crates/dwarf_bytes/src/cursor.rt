@@ -1,6 +1,6 @@
 //! A cursor over bytes, which reads the numbers and texts that they spell.
 
-ghost use Rattle.std.specs.Prelude.{◌≡◌, ◌≤◌, ◌<◌, ◌+◌, ◌↔◌, length, OnOk, OnErr, IsOk, IfOk};
+ghost use Rattle.std.specs.Prelude.{◌≡◌, ◌≤◌, ◌<◌, ◌+◌, ◌↔◌, length, take, OnOk, OnErr, IsOk, IfOk};
 ghost use Rattle.dwarf_bytes.specs.Position.{Position, Reads};
 ghost use Rattle.dwarf_bytes.specs.Numbers.{block_at, u8_at, u16_at, u24_at, u32_at, u64_at, uleb_at, sleb_at, cstr_at, initial_length_at, offset_at};
 
@@ -63,6 +63,22 @@ impl<'a> Cursor<'a> {
         }
         self.place = place;
         Ok(())
+    }
+
+    /// A cursor at the same place, over the bytes as far as `len` behind it.
+    pub fn part(&self, len: u64) -> Result<Cursor<'a>, ReadFault>
+        ensures part { IfOk result (λ part. part ≡ record { bytes = take (self.now.place + len) self.now.bytes; place = self.now.place }) }
+        ensures within { IsOk result ↔ (self.now.place + len ≤ length self.now.bytes) }
+        ensures short { OnErr result (result ≡ Err ReadFault.Short) }
+    {
+        if ((self.bytes.len() - self.place) as u64) < len {
+            return Err(ReadFault::Short);
+        }
+        let end = self.place + len as usize;
+        Ok(Cursor {
+            bytes: &self.bytes[..end],
+            place: self.place,
+        })
     }
 
     /// The next `len` bytes.

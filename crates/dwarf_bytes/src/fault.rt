@@ -2,6 +2,7 @@
 
 ghost use Rattle.std.specs.Prelude.{◌≡◌, Some};
 ghost use Rattle.dwarf_bytes.specs.Words.{section_name, cause_word, cause_of};
+ghost use Rattle.dwarf_bytes.specs.Refusals.{memory_fault, told};
 ghost use Rattle.dwarf_bytes.specs.declared.fault.Cause.TheVariants as causes;
 
 use std::alloc::{AllocError, AllocFailed};
@@ -219,22 +220,38 @@ pub struct LoadFault {
     pub at: u64,
 }
 
-impl LoadFault {
-    ghost use Rattle.std.specs.Prelude.{◌≡◌};
-    ghost use Rattle.dwarf_bytes.specs.Refusals.{told};
+/// Want of memory, which is no fault of the bytes.
+const MEMORY_FAULT: LoadFault = LoadFault {
+    section: Section::Elf,
+    cause: Cause::Memory,
+    at: 0,
+};
 
+impl LoadFault {
     /// The fault of an item of a section. Want of memory is no fault of an item: it is told as
     /// `elf` at 0.
     pub fn told(section: Section, cause: Cause, at: u64) -> LoadFault
         ensures { result ≡ told section cause at }
     {
         if cause == Cause::Memory {
-            return LoadFault {
-                section: Section::Elf,
-                cause,
-                at: 0,
-            };
+            return MEMORY_FAULT;
         }
         LoadFault { section, cause, at }
+    }
+}
+
+impl From<AllocError> for LoadFault {
+    ghost from_gives = { λ _ fault. fault ≡ memory_fault };
+
+    fn from(_: AllocError) -> LoadFault {
+        MEMORY_FAULT
+    }
+}
+
+impl<T: Drop> From<AllocFailed<T>> for LoadFault {
+    ghost from_gives = { λ _ fault. fault ≡ memory_fault };
+
+    fn from(_: AllocFailed<T>) -> LoadFault {
+        MEMORY_FAULT
     }
 }

@@ -3,6 +3,8 @@
 ghost use Rattle.std.specs.Prelude.{◌≡◌};
 ghost use Rattle.dwarf_bytes.specs.Forms.{form_of};
 
+use crate::constants::*;
+
 /// How many bytes a number has.
 #[derive(Clone, Copy, Debug, PartialEq, Eq)]
 pub enum Width {
@@ -53,23 +55,34 @@ impl Form {
         ensures { result ≡ form_of number }
     {
         let layout = match number {
-            0x0b | 0x0c | 0x11 | 0x25 | 0x29 => ValueLayout::Fixed(Width::One),
-            0x05 | 0x12 | 0x26 | 0x2a => ValueLayout::Fixed(Width::Two),
-            0x27 | 0x2b => ValueLayout::Fixed(Width::Three),
-            0x06 | 0x13 | 0x28 | 0x2c => ValueLayout::Fixed(Width::Four),
-            0x01 | 0x07 | 0x14 | 0x20 => ValueLayout::Fixed(Width::Eight),
-            0x0e | 0x10 | 0x17 | 0x1f => ValueLayout::Offset,
-            0x19 => ValueLayout::Present,
-            0x0d => ValueLayout::Signed,
-            0x0f | 0x15 | 0x1a | 0x1b | 0x22 | 0x23 => ValueLayout::Unsigned,
-            0x08 => ValueLayout::Text,
-            0x1e => ValueLayout::Sixteen,
-            0x0a => ValueLayout::Block(Width::One),
-            0x03 => ValueLayout::Block(Width::Two),
-            0x04 => ValueLayout::Block(Width::Four),
-            0x09 | 0x18 => ValueLayout::LongBlock,
-            0x16 => return Some(Form::Indirect),
-            0x21 => return Some(Form::ImplicitConst),
+            DW_FORM_DATA1 | DW_FORM_FLAG | DW_FORM_REF1 | DW_FORM_STRX1 | DW_FORM_ADDRX1 => {
+                ValueLayout::Fixed(Width::One)
+            }
+            DW_FORM_DATA2 | DW_FORM_REF2 | DW_FORM_STRX2 | DW_FORM_ADDRX2 => {
+                ValueLayout::Fixed(Width::Two)
+            }
+            DW_FORM_STRX3 | DW_FORM_ADDRX3 => ValueLayout::Fixed(Width::Three),
+            DW_FORM_DATA4 | DW_FORM_REF4 | DW_FORM_STRX4 | DW_FORM_ADDRX4 => {
+                ValueLayout::Fixed(Width::Four)
+            }
+            DW_FORM_ADDR | DW_FORM_DATA8 | DW_FORM_REF8 | DW_FORM_REF_SIG8 => {
+                ValueLayout::Fixed(Width::Eight)
+            }
+            DW_FORM_STRP | DW_FORM_REF_ADDR | DW_FORM_SEC_OFFSET | DW_FORM_LINE_STRP => {
+                ValueLayout::Offset
+            }
+            DW_FORM_FLAG_PRESENT => ValueLayout::Present,
+            DW_FORM_SDATA => ValueLayout::Signed,
+            DW_FORM_UDATA | DW_FORM_REF_UDATA | DW_FORM_STRX | DW_FORM_ADDRX | DW_FORM_LOCLISTX
+            | DW_FORM_RNGLISTX => ValueLayout::Unsigned,
+            DW_FORM_STRING => ValueLayout::Text,
+            DW_FORM_DATA16 => ValueLayout::Sixteen,
+            DW_FORM_BLOCK1 => ValueLayout::Block(Width::One),
+            DW_FORM_BLOCK2 => ValueLayout::Block(Width::Two),
+            DW_FORM_BLOCK4 => ValueLayout::Block(Width::Four),
+            DW_FORM_BLOCK | DW_FORM_EXPRLOC => ValueLayout::LongBlock,
+            DW_FORM_INDIRECT => return Some(Form::Indirect),
+            DW_FORM_IMPLICIT_CONST => return Some(Form::ImplicitConst),
             _ => return None,
         };
         Some(Form::Direct(layout))

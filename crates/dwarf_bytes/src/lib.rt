@@ -2,6 +2,7 @@
 //! object file format.
 #![tactic(auto)]
 
+pub mod constants;
 mod content;
 mod cursor;
 mod fault;
@@ -15,6 +16,7 @@ mod leb;
 mod object;
 mod tables;
 mod text;
+mod text_index;
 
 pub use content::Content;
 pub use cursor::Cursor;
@@ -24,4 +26,5 @@ pub use format::Format;
 pub use layout::{Layout, Span};
 pub use object::Object;
 pub use tables::{TableHead, TableKind};
-pub use text::text_at;
+pub use text::{Text, text_at};
+pub use text_index::TextIndex;

@@ -3,14 +3,23 @@
 ghost use Rattle.std.specs.Prelude.{◌≡◌, ◌<◌, Ok, Err, IfSome, option_map, MatchResult, ◌==◌, position, length};
 ghost use Rattle.dwarf_bytes.specs.Numbers.{text_front, text_at};
 
-use crate::fault::ReadFault;
+use crate::fault::{ReadFault, Section};
+use crate::layout::Span;
+use memchr::memchr;
+
+/// A text, by where it stands in one of the sections, without its NUL.
+#[derive(Clone, Copy, Debug, PartialEq, Eq)]
+pub struct Text {
+    pub section: Section,
+    pub span: Span,
+}
 
 /// The place of the first NUL.
-fn first_nul(bytes: &[u8]) -> Option<usize>
+pub(crate) fn first_nul(bytes: &[u8]) -> Option<usize>
     ensures place { result ≡ position (λ byte. byte == 0) bytes.now }
     ensures within { IfSome result (λ place. place < length bytes.now) }
 {
-    bytes.iter().position(|byte| *byte == 0)
+    memchr(0, bytes)
 }
 
 /// The text that the bytes begin with, without its NUL.

@@ -8,4 +8,6 @@ mod numbers;
 #[cfg(test)]
 mod tables;
 #[cfg(test)]
+mod texts;
+#[cfg(test)]
 mod values;

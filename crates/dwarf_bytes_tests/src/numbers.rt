@@ -32,6 +32,23 @@ fn seeks_to_the_end_and_no_further(rt: HostRuntime) {
     assert_eq!(rt; cursor.place(), 2);
 }
 
+/// A part ends so many bytes behind the cursor, and its places are those of the whole.
+#[test]
+fn parts_end_behind_the_cursor(rt: HostRuntime) -> Result<(), Fail> {
+    let mut cursor = Cursor::new(&[1, 2, 3, 4]);
+    cursor.seek(1)?;
+    let mut part = cursor.part(2)?;
+    assert_eq!(rt; part.place(), 1);
+    assert_eq!(rt; part.u16(), Ok(0x0302));
+    assert_eq!(rt; part.u8(), Err(ReadFault::Short));
+    assert_eq!(rt; cursor.place(), 1);
+    assert_eq!(rt; cursor.part(3)?.u24(), Ok(0x0004_0302));
+    assert_eq!(rt; cursor.part(0)?.u8(), Err(ReadFault::Short));
+    assert_eq!(rt; cursor.part(4).err(), Some(ReadFault::Short));
+    assert_eq!(rt; cursor.part(u64::MAX).err(), Some(ReadFault::Short));
+    Ok(())
+}
+
 #[test]
 fn reads_unsigned_leb128(rt: HostRuntime) {
     let table: [(&[u8], Result<u64, ReadFault>); 11] = [

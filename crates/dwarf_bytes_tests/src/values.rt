@@ -2,13 +2,39 @@
 
 use dwarf_bytes::{Content, Cursor, Form, Format, ReadFault, ValueLayout, Width};
 
+/// The forms of DWARF 5, table 7.6, by how their values are laid out.
 #[test]
 fn knows_the_forms(rt: HostRuntime) {
-    assert_eq!(rt;
-        Form::of(0x01),
-        Some(Form::Direct(ValueLayout::Fixed(Width::Eight)))
-    );
-    assert_eq!(rt; Form::of(0x19), Some(Form::Direct(ValueLayout::Present)));
+    let layouts: [(ValueLayout, &[u64]); 13] = [
+        (
+            ValueLayout::Fixed(Width::One),
+            &[0x0b, 0x0c, 0x11, 0x25, 0x29],
+        ),
+        (ValueLayout::Fixed(Width::Two), &[0x05, 0x12, 0x26, 0x2a]),
+        (ValueLayout::Fixed(Width::Three), &[0x27, 0x2b]),
+        (ValueLayout::Fixed(Width::Four), &[0x06, 0x13, 0x28, 0x2c]),
+        (ValueLayout::Fixed(Width::Eight), &[0x01, 0x07, 0x14, 0x20]),
+        (ValueLayout::Offset, &[0x0e, 0x10, 0x17, 0x1f]),
+        (ValueLayout::Present, &[0x19]),
+        (ValueLayout::Signed, &[0x0d]),
+        (ValueLayout::Unsigned, &[0x0f, 0x15, 0x1a, 0x1b, 0x22, 0x23]),
+        (ValueLayout::Text, &[0x08]),
+        (ValueLayout::Sixteen, &[0x1e]),
+        (ValueLayout::Block(Width::One), &[0x0a]),
+        (ValueLayout::LongBlock, &[0x09, 0x18]),
+    ];
+    for (layout, numbers) in layouts {
+        for number in numbers {
+            assert_eq!(rt; Form::of(*number), Some(Form::Direct(layout)), "{number}");
+        }
+    }
+    let blocks = [(0x03, Width::Two), (0x04, Width::Four)];
+    for (number, width) in blocks {
+        assert_eq!(rt;
+            Form::of(number),
+            Some(Form::Direct(ValueLayout::Block(width)))
+        );
+    }
     assert_eq!(rt; Form::of(0x16), Some(Form::Indirect));
     assert_eq!(rt; Form::of(0x21), Some(Form::ImplicitConst));
     for number in [0x00, 0x02, 0x1c, 0x1d, 0x24, 0x2d, 0xffff] {

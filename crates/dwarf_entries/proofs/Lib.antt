@@ -27,3 +27,4 @@ pub mod ScopesOnly
 pub mod ReadLaws
 pub mod TextLaws
 pub mod ScopeOrder
+pub mod TellLaws

@@ -1,5 +1,6 @@
 -- The subprograms and inlined subroutines of all units (DWARF 5, 3.3), and the faults of .debug_info.
-use Rattle.std.specs.Prelude.{ℕ, ◌+◌, ◌-◌, List, [], ◌∷◌, length, Bool, Option, Some, None, Result, Ok, ◌==◌, if◌then◌else◌, is_some, option_map, map, flat_map, count_by, sum_by, zip}
+use Rattle.std.specs.Prelude.{ℕ, ◌+◌, ◌-◌, List, [], ◌∷◌, length, Bool, Option, Some, None, Result, Ok, ◌==◌, if◌then◌else◌, is_some, option_map, option_and_then, map, flat_map, count_by, sum_by, slice_get, zip}
+use Rattle.std.specs.Option.{option_map_or}
 use Rattle.dwarf_bytes.specs.declared.fault.Cause.{Cause}
 use Rattle.dwarf_bytes.specs.declared.fault.Section.TheVariants as names
 use Rattle.dwarf_bytes.specs.declared.fault.LoadFault.{LoadFault}
@@ -48,6 +49,41 @@ scope_of s = record {
   call_file = s.call_file;
   call_line = s.call_line;
 }
+
+-- what a scope tells by itself
+pub record Own : Type 0 where
+  pub kind : ScopeKind
+  pub offset : ℕ
+  pub number : ℕ
+  pub end : ℕ
+  pub name : Option Text
+  pub linkage_name : Option Text
+
+abbrev pub own : Scope → Own
+own s = record {
+  kind = s.kind;
+  offset = s.offset;
+  number = s.number;
+  end = s.«end»;
+  name = s.name;
+  linkage_name = s.linkage_name;
+}
+
+abbrev pub own_of : Kept → Own
+own_of s = own (scope_of s)
+
+-- what is told of the scope of a number by way of the scopes that it is of
+abbrev pub ranges_at : List Scope → ℕ → List Range
+ranges_at scopes number = option_map_or (λ s. s.ranges) (slice_get scopes number) []
+
+abbrev pub stmt_list_at : List Scope → ℕ → Option ℕ
+stmt_list_at scopes number = option_and_then (λ s. s.stmt_list) (slice_get scopes number)
+
+abbrev pub call_file_at : List Scope → ℕ → Option ℕ
+call_file_at scopes number = option_and_then (λ s. s.call_file) (slice_get scopes number)
+
+abbrev pub call_line_at : List Scope → ℕ → Option ℕ
+call_line_at scopes number = option_and_then (λ s. s.call_line) (slice_get scopes number)
 
 pub record Tree : Type 0 where
   pub roots : List Root

@@ -11,9 +11,10 @@ ghost use Rattle.dwarf_entries.specs.declared.ranges.RangeListEntry.{RangeListEn
 ghost use Rattle.dwarf_entries.specs.declared.ranges.RangeListEntry.TheVariants.{Base, Covers};
 ghost use Rattle.dwarf_entries.specs.Entries.{Standing, Die, AreDepths, node_at, entries_of, below, IsBelow};
 ghost use Rattle.dwarf_entries.specs.Ranges.{base_after};
-ghost use Rattle.dwarf_entries.specs.Scopes.{is_scope, Tree, tree_of};
+ghost use Rattle.dwarf_entries.specs.declared.scope.Scope.{Scope as Kept};
+ghost use Rattle.dwarf_entries.specs.Scopes.{is_scope, own, own_of, Scope, Tree, tree_of};
 ghost use Rattle.dwarf_entries.specs.Sections.{Sections};
-ghost use Rattle.dwarf_entries.specs.Order.{AreInOrder};
+ghost use Rattle.dwarf_entries.specs.Order.{AreInOrder, TellsOf};
 
 /// Whatever is read of a unit stands at counted depths: behind the entries with children before it,
 /// less the nulls before it that stand at a depth above 0.
@@ -56,4 +57,12 @@ pub fn base_is_of_last_base_entry()
 /// another one that began before it.
 pub fn scopes_stand_in_order()
     ensures { (s : Sections) (tree : Tree) → tree_of s ≡ Ok tree → AreInOrder tree.scopes }
+{}
+
+/// Of scopes that stand in order, the one that the program has at a place tells all of the one that
+/// stands there.
+pub fn scopes_tell_of_their_places()
+    ensures { (scopes : List Scope) (kept : List Kept) (place : ℕ) (k : Kept)
+        → AreInOrder scopes → map own_of kept ≡ map own scopes → slice_get kept place ≡ Some k
+        → (s : Scope) × (slice_get scopes place ≡ Some s) × TellsOf scopes k s }
 {}

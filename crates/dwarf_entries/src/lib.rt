@@ -22,7 +22,7 @@ mod units;
 
 pub use laws::{
     base_is_of_last_base_entry, entries_stand_at_counted_depths, offsets_of_entries_rise,
-    scopes_below_are_between, scopes_stand_in_order,
+    scopes_below_are_between, scopes_stand_in_order, scopes_tell_of_their_places,
 };
 pub use scope::{Range, Root, Scope, ScopeKind, Text};
 pub use scopes::Scopes;

@@ -1,5 +1,9 @@
 //! What is told of subprograms and inlined subroutines (DWARF 5, 3.3).
 
+ghost use Rattle.std.specs.Prelude.{◌≡◌};
+ghost use Rattle.dwarf_entries.specs.Scopes.{own_of, ranges_at, stmt_list_at, call_file_at, call_line_at};
+
+use crate::scopes::Scopes;
 use dwarf_bytes::{Section, Span};
 use smallvec::SmallVec;
 
@@ -26,22 +30,21 @@ pub enum ScopeKind {
 
 /// A subprogram or an inlined subroutine. Its number is its place among all scopes of the object in
 /// file order; those from the next number up to `end`, which is not of them, are below it. Offsets
-/// count from the start of their section, addresses are link addresses.
+/// count from the start of their section, addresses are link addresses. What stands in lists that
+/// scopes share is told by way of the `Scopes` that it is of.
 #[derive(Debug, Drop)]
 pub struct Scope {
-    pub kind: ScopeKind,
-    /// Where its entry stands in `.debug_info`.
-    pub offset: usize,
-    pub number: usize,
-    pub end: usize,
-    /// What it covers, without the ranges that cover nothing. Most scopes have one.
-    pub ranges: SmallVec<Range, 1>,
-    pub name: Option<Text>,
-    pub linkage_name: Option<Text>,
-    /// Where the line program of its unit starts in `.debug_line`.
-    pub stmt_list: Option<u64>,
-    pub call_file: Option<u64>,
-    pub call_line: Option<u64>,
+    pub(crate) kind: ScopeKind,
+    pub(crate) offset: usize,
+    pub(crate) number: usize,
+    pub(crate) end: usize,
+    /// Most scopes have one range.
+    pub(crate) ranges: SmallVec<Range, 1>,
+    pub(crate) name: Option<Text>,
+    pub(crate) linkage_name: Option<Text>,
+    pub(crate) stmt_list: Option<u64>,
+    pub(crate) call_file: Option<u64>,
+    pub(crate) call_line: Option<u64>,
 }
 
 /// The root of a unit, by its offset in `.debug_info`. The scopes of the unit are those from the number
@@ -52,4 +55,72 @@ pub struct Root {
     pub stmt_list: Option<u64>,
     pub first: usize,
     pub past: usize,
+}
+
+impl Scope {
+    pub fn kind(&self) -> ScopeKind
+        ensures { result ≡ (own_of self.now).kind }
+    {
+        self.kind
+    }
+
+    /// Where its entry stands in `.debug_info`.
+    pub fn offset(&self) -> usize
+        ensures { result ≡ (own_of self.now).offset }
+    {
+        self.offset
+    }
+
+    pub fn number(&self) -> usize
+        ensures { result ≡ (own_of self.now).number }
+    {
+        self.number
+    }
+
+    pub fn end(&self) -> usize
+        ensures { result ≡ (own_of self.now).«end» }
+    {
+        self.end
+    }
+
+    pub fn name(&self) -> Option<Text>
+        ensures { result ≡ (own_of self.now).name }
+    {
+        self.name
+    }
+
+    pub fn linkage_name(&self) -> Option<Text>
+        ensures { result ≡ (own_of self.now).linkage_name }
+    {
+        self.linkage_name
+    }
+
+    /// What it covers, in the scopes that it is of, without the ranges that cover nothing.
+    pub fn ranges<'a>(&self, of: &'a Scopes) -> &'a [Range]
+        ensures { result.now ≡ ranges_at of.now.scopes (own_of self.now).number }
+    {
+        match of.get(self) {
+            Some(scope) => scope.ranges.as_slice(),
+            None => &[],
+        }
+    }
+
+    /// Where the line program of its unit starts in `.debug_line`.
+    pub fn stmt_list(&self, of: &Scopes) -> Option<u64>
+        ensures { result ≡ stmt_list_at of.now.scopes (own_of self.now).number }
+    {
+        of.get(self)?.stmt_list
+    }
+
+    pub fn call_file(&self, of: &Scopes) -> Option<u64>
+        ensures { result ≡ call_file_at of.now.scopes (own_of self.now).number }
+    {
+        of.get(self)?.call_file
+    }
+
+    pub fn call_line(&self, of: &Scopes) -> Option<u64>
+        ensures { result ≡ call_line_at of.now.scopes (own_of self.now).number }
+    {
+        of.get(self)?.call_line
+    }
 }

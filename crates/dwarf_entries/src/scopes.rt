@@ -1,11 +1,12 @@
 //! The subprograms and inlined subroutines of an object (DWARF 5, 3.3).
 
-ghost use Rattle.std.specs.Prelude.{◌≡◌, ◌<◌, ◌^◌, map, List};
+ghost use Rattle.std.specs.Prelude.{◌≡◌, ◌<◌, ◌^◌, map, List, option_map, slice_get};
+ghost use Rattle.std.specs.Option.{option_copied};
 ghost use Rattle.dwarf_entries.specs.declared.kept.Keeping.{Keeping};
 ghost use Rattle.dwarf_bytes.specs.Refusals.{Decodes, Builds};
 ghost use Rattle.dwarf_entries.specs.Sections.{sections_of};
 ghost use Rattle.dwarf_entries.specs.Bases.{CompilationUnit};
-ghost use Rattle.dwarf_entries.specs.Scopes.{scope_of, roots_from, tree_of};
+ghost use Rattle.dwarf_entries.specs.Scopes.{scope_of, own, own_of, roots_from, tree_of};
 ghost use Rattle.dwarf_entries.specs.Texts.{AreEnds};
 ghost use Rattle.dwarf_entries.specs.Passes.{kept_unit_of, TablesRead, tree_with};
 ghost use Rattle.dwarf_entries.specs.Kept.{kept_of, scope_count};
@@ -96,9 +97,16 @@ impl Scopes {
 
     /// The subprograms and inlined subroutines of all units that are read.
     pub fn scopes(&self) -> &[Scope]
-        ensures { map scope_of result.now ≡ self.now.scopes }
+        ensures { map own_of result.now ≡ map own self.now.scopes }
     {
         self.scopes.as_slice()
+    }
+
+    /// The scope that has the number of another one.
+    pub(crate) fn get(&self, scope: &Scope) -> Option<&Scope>
+        ensures { option_map scope_of (option_copied result) ≡ slice_get self.now.scopes scope.now.number }
+    {
+        self.scopes.get(scope.number)
     }
 }
 

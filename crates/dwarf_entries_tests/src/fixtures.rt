@@ -1,7 +1,7 @@
 //! Units for the tests, and what is expected of them.
 
 use dwarf_bytes::{Cause, LoadFault, Object, Section, Span};
-use dwarf_entries::{Range, Root, Scope, ScopeKind, Scopes, Sections, Text};
+use dwarf_entries::{Range, Root, ScopeKind, Scopes, Sections, Text};
 use std::alloc::{AllocError, Global};
 use std::process::Abort;
 use std::test::*;
@@ -137,28 +137,28 @@ pub struct Row {
 }
 
 /// Checks that the scopes are these, each of at most one range, without linkage names.
-pub fn are_scopes(rt: &impl Abort, scopes: &[Scope], stmt_list: Option<u64>, rows: &[Row]) {
-    assert_eq!(rt; scopes.len(), rows.len());
-    for (number, (scope, row)) in scopes.iter().zip(rows).enumerate() {
-        assert_eq!(rt; scope.number, number);
-        assert_eq!(rt; scope.kind, row.kind, "scope {number}");
-        assert_eq!(rt; scope.offset, row.offset, "scope {number}");
-        assert_eq!(rt; scope.end, row.end, "scope {number}");
+pub fn are_scopes(rt: &impl Abort, read: &Scopes, stmt_list: Option<u64>, rows: &[Row]) {
+    assert_eq!(rt; read.scopes().len(), rows.len());
+    for (number, (scope, row)) in read.scopes().iter().zip(rows).enumerate() {
+        assert_eq!(rt; scope.number(), number);
+        assert_eq!(rt; scope.kind(), row.kind, "scope {number}");
+        assert_eq!(rt; scope.offset(), row.offset, "scope {number}");
+        assert_eq!(rt; scope.end(), row.end, "scope {number}");
         assert_eq!(rt;
-            scope.ranges.as_slice(),
+            scope.ranges(read),
             row.range.as_slice(),
             "scope {number}"
         );
-        assert_eq!(rt; scope.name, row.name, "scope {number}");
-        assert_eq!(rt; scope.linkage_name, None, "scope {number}");
-        assert_eq!(rt; scope.stmt_list, stmt_list, "scope {number}");
+        assert_eq!(rt; scope.name(), row.name, "scope {number}");
+        assert_eq!(rt; scope.linkage_name(), None, "scope {number}");
+        assert_eq!(rt; scope.stmt_list(read), stmt_list, "scope {number}");
         assert_eq!(rt;
-            scope.call_file,
+            scope.call_file(read),
             row.call.map(|call| call.0),
             "scope {number}"
         );
         assert_eq!(rt;
-            scope.call_line,
+            scope.call_line(read),
             row.call.map(|call| call.1),
             "scope {number}"
         );

@@ -92,7 +92,7 @@ fn range_items_of_an_object(rt: HostRuntime) -> Result<(), Fail> {
     let read = Scopes::read(rt.alloc(), &all)?;
     assert_eq!(rt; read.scopes().len(), 64);
     for scope in read.scopes() {
-        assert!(rt; scope.ranges.is_empty());
+        assert!(rt; scope.ranges(&read).is_empty());
     }
     let info = listed_scopes(rt.alloc(), 65)?;
     let all = Sections {
@@ -130,7 +130,7 @@ fn entries_of_many_flags(rt: HostRuntime) -> Result<(), Fail> {
     assert_eq!(rt; read.roots(), [root(12, 0, 100_000)].as_slice());
     assert_eq!(rt; read.scopes().len(), 100_000);
     for (number, scope) in read.scopes().iter().enumerate() {
-        assert_eq!(rt; Some(scope.offset), number.checked_add(13));
+        assert_eq!(rt; Some(scope.offset()), number.checked_add(13));
     }
     Ok(())
 }

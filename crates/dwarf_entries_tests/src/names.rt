@@ -28,7 +28,7 @@ fn with_texts<'a>(info: &'a [u8], table: &'a [u8]) -> Sections<'a> {
 fn have_names(rt: &impl Abort, read: &Scopes, names: &[Option<Text>]) {
     assert_eq!(rt; read.scopes().len(), names.len());
     for (scope, name) in read.scopes().iter().zip(names) {
-        assert_eq!(rt; scope.name, *name, "scope {}", scope.number);
+        assert_eq!(rt; scope.name(), *name, "scope {}", scope.number());
     }
 }
 
@@ -189,10 +189,10 @@ fn first_names_on_a_path(rt: HostRuntime) -> Result<(), Fail> {
     assert_eq!(rt; read.scopes().len(), names.len());
     for (scope, wanted) in read.scopes().iter().zip(names) {
         assert_eq!(rt;
-            (scope.name, scope.linkage_name),
+            (scope.name(), scope.linkage_name()),
             wanted,
             "scope {}",
-            scope.number
+            scope.number()
         );
     }
     Ok(())
@@ -221,8 +221,8 @@ fn paths_out_of_the_scopes(rt: HostRuntime) -> Result<(), Fail> {
     let read = Scopes::read(rt.alloc(), &sections(&info, &table))?;
     assert_eq!(rt; read.scopes().len(), 2);
     for scope in read.scopes() {
-        assert_eq!(rt; scope.name, text(Section::DebugInfo, 22, 1));
-        assert_eq!(rt; scope.linkage_name, text(Section::DebugInfo, 15, 1));
+        assert_eq!(rt; scope.name(), text(Section::DebugInfo, 22, 1));
+        assert_eq!(rt; scope.linkage_name(), text(Section::DebugInfo, 15, 1));
     }
     entries[8] = 14; // 19: specification 14, where no entry stands
     let info = unit(rt.alloc(), &entries)?;
@@ -256,7 +256,7 @@ fn linked_subprograms(rt: HostRuntime) -> Result<(), Fail> {
     let read = Scopes::read(rt.alloc(), &sections(&info, &table))?;
     assert_eq!(rt; read.scopes().len(), 17);
     for scope in read.scopes() {
-        assert_eq!(rt; scope.name, text(Section::DebugInfo, 94, 1));
+        assert_eq!(rt; scope.name(), text(Section::DebugInfo, 94, 1));
     }
     let info = linked(rt.alloc(), 17)?;
     is_refused(&rt, &sections(&info, &table), Cause::OriginDepth, 13);

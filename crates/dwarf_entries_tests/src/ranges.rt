@@ -37,7 +37,7 @@ const ADDRESSES: [u8; 24] = [
 fn covers(rt: &impl Abort, read: &Scopes, ranges: &[Range]) {
     assert_eq!(rt; read.scopes().len(), 1);
     for scope in read.scopes() {
-        assert_eq!(rt; scope.ranges.as_slice(), ranges);
+        assert_eq!(rt; scope.ranges(read), ranges);
     }
 }
 
@@ -64,7 +64,7 @@ fn a_list_of_two_scopes(rt: HostRuntime) -> Result<(), Fail> {
     ];
     assert_eq!(rt; read.scopes().len(), 2);
     for scope in read.scopes() {
-        assert_eq!(rt; scope.ranges.as_slice(), ranges.as_slice());
+        assert_eq!(rt; scope.ranges(&read), ranges.as_slice());
     }
     Ok(())
 }

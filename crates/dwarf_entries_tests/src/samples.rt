@@ -63,13 +63,32 @@ fn has(rt: &(impl Abort + AllocGlobal), object: &[u8], rows: &[Row]) -> Result<(
         past: 5,
     };
     assert_eq!(rt; read.roots(), [root].as_slice());
-    are_scopes(rt, read.scopes(), Some(0), rows);
+    are_scopes(rt, &read, Some(0), rows);
     Ok(())
 }
 
 #[test]
 fn scopes_of_a_sample(rt: HostRuntime) -> Result<(), Fail> {
     has(&rt, &INLINED, &rows())
+}
+
+/// What scopes share is told of the number that a scope has, by whatever scopes are asked.
+#[test]
+fn scopes_of_another_object(rt: HostRuntime) -> Result<(), Fail> {
+    let bare = leaf_without_code();
+    let read = Scopes::read(rt.alloc(), &sections_of(&INLINED)?)?;
+    let other = Scopes::read(rt.alloc(), &sections_of(&bare)?)?;
+    let none = Scopes::read(rt.alloc(), &sections(&[], &[]))?;
+    let leaf = read.scopes().last().ok_or("no scope")?;
+    assert_eq!(rt; leaf.ranges(&read), [range(0x1004, 0x1008)].as_slice());
+    assert!(rt; leaf.ranges(&other).is_empty());
+    assert_eq!(rt; leaf.stmt_list(&other), Some(0));
+    assert_eq!(rt; leaf.call_line(&other), Some(5));
+    assert!(rt; leaf.ranges(&none).is_empty());
+    assert_eq!(rt; leaf.stmt_list(&none), None);
+    assert_eq!(rt; leaf.call_file(&none), None);
+    assert_eq!(rt; leaf.call_line(&none), None);
+    Ok(())
 }
 
 #[test]

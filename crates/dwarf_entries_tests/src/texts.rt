@@ -39,7 +39,7 @@ fn long_texts(rt: HostRuntime) -> Result<(), Fail> {
         match len {
             Some(len) => {
                 let read = Scopes::read(rt.alloc(), &sections)?;
-                let name = read.scopes().first().and_then(|scope| scope.name);
+                let name = read.scopes().first().and_then(|scope| scope.name());
                 assert_eq!(rt; name, text(Section::DebugStr, place as usize, len));
             }
             None => is_refused(&rt, &sections, Cause::Text, 13),

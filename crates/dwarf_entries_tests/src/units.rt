@@ -87,7 +87,7 @@ fn scopes_of_three_trees(rt: HostRuntime) -> Result<(), Fail> {
         bare(39, 6),
         bare(78, 7),
     ];
-    are_scopes(&rt, read.scopes(), None, &rows);
+    are_scopes(&rt, &read, None, &rows);
     Ok(())
 }
 
@@ -110,8 +110,8 @@ fn entries_at_the_greatest_depth(rt: HostRuntime) -> Result<(), Fail> {
     assert_eq!(rt; read.roots(), [root(12, 0, 257)].as_slice());
     assert_eq!(rt; read.scopes().len(), 257);
     for (number, scope) in read.scopes().iter().enumerate() {
-        assert_eq!(rt; (scope.number, scope.end), (number, 257));
-        assert_eq!(rt; Some(scope.offset), number.checked_add(12));
+        assert_eq!(rt; (scope.number(), scope.end()), (number, 257));
+        assert_eq!(rt; Some(scope.offset()), number.checked_add(12));
     }
     let info = nested(rt.alloc(), 257)?;
     is_refused(&rt, &sections(&info, &TREES), Cause::TooDeep, 269);
@@ -171,7 +171,7 @@ fn types_of_units(rt: HostRuntime) -> Result<(), Fail> {
     add_unit(&mut info, 3, 0, &[2])?;
     let read = Scopes::read(rt.alloc(), &sections(&info, &TREES))?;
     assert_eq!(rt; read.roots(), [root(33, 0, 1)].as_slice());
-    are_scopes(&rt, read.scopes(), None, &[bare(33, 1)]);
+    are_scopes(&rt, &read, None, &[bare(33, 1)]);
     for unit_type in [0, 4, 5, 6, 0x80, 0xff] {
         let mut info = unit(rt.alloc(), &[2])?;
         add_unit(&mut info, unit_type, 0, &[2])?;
@@ -277,7 +277,7 @@ fn forms_of_counts(rt: HostRuntime) -> Result<(), Fail> {
         let info = one_scope(rt.alloc(), (&[], &[]), attributes)?;
         let read = Scopes::read(rt.alloc(), &sections(&info, &table))?;
         let scope = read.scopes().first().ok_or("no scope")?;
-        assert_eq!(rt; (scope.call_file, scope.call_line), (Some(7), None));
+        assert_eq!(rt; (scope.call_file(&read), scope.call_line(&read)), (Some(7), None));
     }
     Ok(())
 }

@@ -87,7 +87,7 @@ fn measure_scopes(rt: &HostRuntime, bytes: &[u8]) -> Result<()> {
         "{} roots, {} scopes, {} ranges, {} ms",
         scopes.roots().len(),
         scopes.scopes().len(),
-        scopes::count_ranges(scopes.scopes()),
+        scopes::count_ranges(&scopes),
         time.as_millis()
     )?;
     Ok(())

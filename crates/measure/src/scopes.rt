@@ -27,10 +27,10 @@ fn sections(bytes: &[u8]) -> Result<Sections<'_>, LoadFault> {
 }
 
 /// How many ranges scopes have.
-pub fn count_ranges(scopes: &[Scope]) -> u64 {
+pub fn count_ranges(scopes: &Scopes) -> u64 {
     let mut count = 0u64;
-    for scope in scopes {
-        count = count.wrapping_add(scope.ranges.len() as u64);
+    for scope in scopes.scopes() {
+        count = count.wrapping_add(scope.ranges(scopes).len() as u64);
     }
     count
 }
@@ -42,28 +42,33 @@ pub fn print_scopes(rt: &HostRuntime, bytes: &[u8]) -> Result<()> {
     let scopes = Scopes::read(rt.alloc(), &sections)?;
     let mut out = BufWriter::new(rt.alloc(), io::writer(rt))?;
     for scope in scopes.scopes() {
-        print_scope(&mut out, &sections, scope)?;
+        print_scope(&mut out, &sections, &scopes, scope)?;
     }
     out.flush().context("writing")?;
     Ok(())
 }
 
 /// Prints a scope.
-fn print_scope<W: Write>(out: &mut W, sections: &Sections<'_>, scope: &Scope) -> Result<()> {
-    let kind = match scope.kind {
+fn print_scope<W: Write>(
+    out: &mut W,
+    sections: &Sections<'_>,
+    scopes: &Scopes,
+    scope: &Scope,
+) -> Result<()> {
+    let kind = match scope.kind() {
         ScopeKind::Subprogram => "subprogram",
         ScopeKind::Inlined => "inlined",
     };
-    write!(out, "{:x}\t{}\t", scope.offset, kind)?;
-    print_text(out, sections, scope.name)?;
+    write!(out, "{:x}\t{}\t", scope.offset(), kind)?;
+    print_text(out, sections, scope.name())?;
     out.write_all(b"\t")?;
-    print_text(out, sections, scope.linkage_name)?;
+    print_text(out, sections, scope.linkage_name())?;
     out.write_all(b"\t")?;
-    print_ranges(out, scope.ranges.as_slice())?;
+    print_ranges(out, scope.ranges(scopes))?;
     out.write_all(b"\t")?;
-    print_number(out, scope.call_file)?;
+    print_number(out, scope.call_file(scopes))?;
     out.write_all(b"\t")?;
-    print_number(out, scope.call_line)?;
+    print_number(out, scope.call_line(scopes))?;
     out.write_all(b"\n")?;
     Ok(())
 }

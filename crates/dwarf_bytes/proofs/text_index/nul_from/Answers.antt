@@ -1,0 +1,9 @@
+use Rattle.std.proofs.Common.{◌∙◌}
+use Rattle.dwarf_bytes.proofs.FirstNuls.{nul-near, nul-told}
+use Rattle.dwarf_bytes.proofs.text_index.nul_from.Goals as goal
+
+pub returns-in-Some : goal.returns-in-Some
+returns-in-Some c = nul-near c.args.section.now c.args.at c.in-Some.nul c.in-Some.ensures
+
+pub returns-in-None : goal.returns-in-None
+returns-in-None c = c.nul_of.ensures ∙ nul-told c.args.section.now c.args.nuls.now c.args.at c.requires c.in-None.ensures

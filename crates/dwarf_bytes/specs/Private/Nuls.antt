@@ -1,0 +1,21 @@
+-- Where texts end (DWARF 5, 7.5.5), for the contracts of the index by which the end of a text is found.
+use Rattle.std.specs.Prelude.{◌≡◌, ℕ, zero, suc, ◌+◌, ◌*◌, ◌≤◌, List, [], ◌∷◌, length, drop, Option, option_map, position, ◌==◌}
+
+-- the first NUL from a place of a section on
+abbrev pub nul_from : List ℕ → ℕ → Option ℕ
+nul_from section at = option_map (λ n. at + n) (position (λ byte. byte == 0) (drop at section))
+
+-- the bytes of a block
+abbrev pub block_len : ℕ
+block_len = 4096
+
+-- the first NUL from the start of each of some blocks on
+abbrev pub nuls_from : List ℕ → ℕ → ℕ → List (Option ℕ)
+nuls_from section block zero = []
+nuls_from section block (suc count) = nul_from section (block_len * block) ∷ nuls_from section (block + 1) count
+
+-- .. of all blocks of a section
+pub record AreNuls (section : List ℕ) (nuls : List (Option ℕ)) : Type 0 where
+  pub count : ℕ
+  pub nuls_are : nuls ≡ nuls_from section 0 count
+  pub all : length section ≤ block_len * count
