@@ -20,7 +20,7 @@ pub mod ModuleLaws
 pub mod DecodeLaws
 pub mod ParentLaws
 pub mod ScanLaws
-pub mod Digits
+pub mod StepLaws
 pub mod ExtentLaws
 pub mod PlaceLaws
 pub mod BoundLaws

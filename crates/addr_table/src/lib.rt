@@ -7,7 +7,7 @@ mod decode;
 mod ends;
 mod frames;
 mod joins;
-mod laws;
+pub mod laws;
 mod module;
 mod outwards;
 mod parents;
@@ -22,10 +22,6 @@ mod sweep;
 mod table;
 mod texts;
 
-pub use laws::{
-    chains_are_first_of_each, chains_are_of_enclosing_scopes, constant_between_ends, cuts_are_few,
-    cuts_tell_places, frames_are_of_places, rows_are_first,
-};
 pub use frames::{Frame, Frames};
 pub use module::{Module, Scan};
 pub use path::Path;
