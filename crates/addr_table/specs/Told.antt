@@ -1,0 +1,42 @@
+-- What the program's frames and paths tell.
+use Rattle.std.specs.Prelude.{ℕ, List, [], ◌∷◌, ◌++◌, map, drop, reverse, Bool, true, false, Option, None, option_map, unwrap_or, slice_get}
+use Rattle.std.specs.Option.{option_and_then}
+use Rattle.dwarf_bytes.specs.declared.text.Text.{Text}
+use Rattle.dwarf_lines.specs.Sections.{LineSections}
+use Rattle.dwarf_lines.specs.Lines.{Lines}
+use Rattle.dwarf_lines.specs.Paths.{part_bytes}
+use Rattle.dwarf_entries.specs.Scopes.{Scope}
+use Rattle.addr_table.specs.declared.texts.FrameSite.{FrameSite}
+use Rattle.addr_table.specs.declared.texts.FrameSite.TheVariants.{Row, Call}
+use Rattle.addr_table.specs.Frames.{Frame, Site, nowhere, frame_at, row_site, call_site, frames_from}
+use Rattle.addr_table.specs.Walks.{chain_around}
+
+-- the parts of a path that are left
+abbrev pub parts_left : LineSections → List Text → ℕ → List (List ℕ)
+parts_left s parts next = drop next (map (part_bytes s) parts)
+
+-- where a frame stands: at a row, or where the scope of a number was called
+abbrev pub site_told : List ℕ → Lines → List Scope → FrameSite → Site
+site_told bytes lines scopes (Row number) = row_site bytes lines number
+site_told bytes lines scopes (Call number) = unwrap_or (option_map (call_site bytes lines) (slice_get scopes number)) nowhere
+
+-- a frame, of the scope of a number or of a row alone
+abbrev pub frame_told : List ℕ → Lines → List Scope → Option ℕ → FrameSite → Frame
+frame_told bytes lines scopes number site =
+    let scope = option_and_then (slice_get scopes) number in
+    frame_at bytes (option_and_then (λ s. s.name) scope) (option_and_then (λ s. s.linkage_name) scope) (site_told bytes lines scopes site)
+
+-- the frame of a row alone
+abbrev pub row_frame : Bool → List ℕ → Site → List Frame
+row_frame true bytes site = frame_at bytes None None site ∷ []
+row_frame false bytes site = []
+
+-- the frames that are left of a walk over a chain, of which the scopes around a number are left
+abbrev pub walk_left : List ℕ → Lines → List Scope → ℕ → ℕ → FrameSite → Bool → List Frame
+walk_left bytes lines scopes link near site alone =
+    let here = site_told bytes lines scopes site in
+    row_frame alone bytes here ++ frames_from bytes lines (reverse (chain_around link scopes near)) here
+
+-- what is left of a walk, if there is one
+abbrev pub frames_left : Option (List Frame) → List Frame
+frames_left walk = unwrap_or walk []

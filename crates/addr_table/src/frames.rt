@@ -1,0 +1,206 @@
+//! Frames: functions, and the places in their code that are told of.
+
+ghost use Rattle.std.specs.Prelude.{◌≡◌, [], ◌∷◌, option_map, MatchOption};
+ghost use Rattle.std.specs.List.{join_with_byte};
+ghost use Rattle.addr_table.specs.Frames.{frames_of, place_chain};
+ghost use Rattle.addr_table.specs.Walks.{HaveParents};
+
+use crate::outwards::{begin, next_told, outer, top};
+use crate::path::Path;
+use crate::place::Place;
+use crate::scopes::count;
+use crate::texts::{FrameSite, Texts};
+use std::marker::Model;
+
+/// A function, and a place in its code. Its texts are bytes of the object.
+#[derive(Drop)]
+pub struct Frame<'a> {
+    texts: Texts<'a>,
+    /// The number of its scope; none where a row alone is known.
+    scope: Option<usize>,
+    site: FrameSite,
+}
+
+impl<'a> Model for Frame<'a> {
+    ghost use Rattle.addr_table.specs.Frames.{Frame as FrameSeen};
+    ghost use Rattle.dwarf_entries.specs.Order.{AreInOrder};
+    ghost use Rattle.addr_table.specs.Told.{frame_told};
+
+    ghost Value = { FrameSeen };
+
+    ghost view = { λ f. frame_told f.texts.bytes.now f.texts.lines.now f.texts.scopes.now.scopes f.scope f.site };
+
+    ghost invariant = { λ f. AreInOrder f.texts.scopes.now.scopes };
+}
+
+impl<'a> Frame<'a> {
+    /// The name of the function, where it has one.
+    pub fn name(&self) -> Option<&'a [u8]>
+        ensures { option_map (λ text. text.now) result ≡ self.now.name }
+    {
+        self.texts.name(self.scope?)
+    }
+
+    /// Its linkage name, where it has one.
+    pub fn linkage(&self) -> Option<&'a [u8]>
+        ensures { option_map (λ text. text.now) result ≡ self.now.linkage }
+    {
+        self.texts.linkage(self.scope?)
+    }
+
+    /// The path of the source file, where it is known.
+    pub fn path(&self) -> Option<Path<'a>>
+        ensures { option_map (join_with_byte 47) result ≡ self.now.path }
+    {
+        self.texts.path(self.site)
+    }
+
+    /// The line; 0 where it is unknown.
+    pub fn line(&self) -> u64
+        ensures { result ≡ self.now.line }
+    {
+        self.texts.line(self.site)
+    }
+}
+
+/// A walk over the scopes of a chain, from the innermost outwards.
+#[derive(Drop)]
+pub struct Walk<'a> {
+    texts: Texts<'a>,
+    parents: &'a [usize],
+    link: u64,
+    /// The number behind that of the scope to go outwards from; 0 where none is left.
+    near: usize,
+    /// The number of the outermost scope of the chain.
+    top: usize,
+    /// Where the next frame stands.
+    site: FrameSite,
+    /// Whether a row alone is known, and not told yet.
+    alone: bool,
+}
+
+impl<'a> Model for Walk<'a> {
+    ghost use Rattle.std.specs.Prelude.{List};
+    ghost use Rattle.addr_table.specs.Frames.{Frame as FrameSeen};
+    ghost use Rattle.addr_table.specs.Told.{walk_left};
+    ghost use Rattle.addr_table.specs.Walks.{IsWalk};
+
+    ghost Value = { List FrameSeen };
+
+    ghost view = { λ w. walk_left w.texts.bytes.now w.texts.lines.now w.texts.scopes.now.scopes w.link w.near w.site w.alone };
+
+    ghost invariant = { λ w. IsWalk w.texts.scopes.now.scopes w.parents.now w.link w.near w.top };
+}
+
+impl<'a> Walk<'a> {
+    /// From the scope of a place on.
+    fn of(texts: Texts<'a>, parents: &'a [usize], place: Place) -> Walk<'a>
+        requires { HaveParents texts.scopes.now.scopes parents.now }
+        ensures { result ≡ frames_of texts.entry.bytes.now texts.entry.lines.now (place_chain place.link place.scope texts.entry.scopes.now.scopes) place.row }
+    {
+        let link = place.link;
+        let begun = begin(count(texts.scopes), place.scope);
+        let site = FrameSite::Row(place.row);
+        match top(texts.scopes, parents, link, begun) {
+            Some(top) => Walk {
+                texts,
+                parents,
+                link,
+                near: begun,
+                top,
+                site,
+                alone: false,
+            },
+            None => Walk {
+                texts,
+                parents,
+                link,
+                near: 0,
+                top: 0,
+                site,
+                alone: place.row.is_some(),
+            },
+        }
+    }
+
+    /// The next frame outwards.
+    fn next(&mut self) -> Option<Frame<'a>>
+        ensures { MatchOption result ((self.old ≡ []) × (self.new ≡ [])) (λ frame. self.old ≡ frame ∷ self.new) }
+    {
+        let texts = self.texts;
+        let site = self.site;
+        if self.alone {
+            self.alone = false;
+            return Some(Frame {
+                texts,
+                scope: None,
+                site,
+            });
+        }
+        let near = next_told(texts.scopes, self.parents, self.link, self.top, self.near);
+        if near == 0 {
+            self.near = 0;
+            return None;
+        }
+        let number = near - 1;
+        self.near = outer(self.parents, self.top, number);
+        self.site = FrameSite::Call(number);
+        Some(Frame {
+            texts,
+            scope: Some(number),
+            site,
+        })
+    }
+}
+
+/// What is left of the frames of an address, the innermost first.
+#[derive(Drop)]
+pub struct Frames<'a> {
+    walk: Option<Walk<'a>>,
+}
+
+impl<'a> Model for Frames<'a> {
+    ghost use Rattle.std.specs.Prelude.{List};
+    ghost use Rattle.addr_table.specs.Frames.{Frame as FrameSeen};
+    ghost use Rattle.addr_table.specs.Told.{frames_left};
+
+    ghost Value = { List FrameSeen };
+
+    ghost view = { λ f. frames_left f.walk };
+}
+
+impl<'a> Frames<'a> {
+    /// No frame.
+    pub fn none() -> Frames<'a>
+        ensures { result ≡ [] }
+    {
+        Frames { walk: None }
+    }
+
+    /// The frames of a place.
+    pub(crate) fn of(texts: Texts<'a>, parents: &'a [usize], place: Place) -> Frames<'a>
+        requires { HaveParents texts.scopes.now.scopes parents.now }
+        ensures { result ≡ frames_of texts.entry.bytes.now texts.entry.lines.now (place_chain place.link place.scope texts.entry.scopes.now.scopes) place.row }
+    {
+        Frames {
+            walk: Some(Walk::of(texts, parents, place)),
+        }
+    }
+}
+
+impl<'a> Iterator for Frames<'a> {
+    ghost use Rattle.std.specs.Iterator.{YieldsFirstBy, item_count};
+
+    type Item = Frame<'a>;
+
+    ghost next_gives = { YieldsFirstBy (λ frame. frame) (λ frames. frames) };
+
+    ghost remaining = { item_count (λ frames. frames) };
+
+    fn next(&mut self) -> Option<Frame<'a>> {
+        let Some(walk) = &mut self.walk else {
+            return None;
+        };
+        walk.next()
+    }
+}

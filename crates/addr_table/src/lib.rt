@@ -1,0 +1,32 @@
+//! The addresses of one object: the row, the scopes and the frames of each.
+#![tactic(auto)]
+
+mod active;
+mod bits;
+mod decode;
+mod ends;
+mod frames;
+mod joins;
+pub mod laws;
+mod module;
+mod outwards;
+mod parents;
+mod path;
+mod place;
+mod scan;
+mod scopes;
+mod segment;
+mod segments;
+mod steps;
+mod sweep;
+mod table;
+mod texts;
+
+pub use frames::{Frame, Frames};
+pub use module::{Module, Scan};
+pub use path::Path;
+pub use place::Place;
+pub use segment::Segment;
+pub use segments::Segments;
+pub use steps::Steps;
+pub use table::AddressTable;

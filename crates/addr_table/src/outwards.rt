@@ -1,0 +1,84 @@
+//! The scopes of a chain, the innermost first.
+
+ghost use Rattle.std.specs.Prelude.{◌≡◌, ◌≤◌, ◌<◌, ◌^◌, length, get_or};
+ghost use Rattle.dwarf_entries.specs.Scopes.{Scope as ScopeSeen};
+ghost use Rattle.addr_table.specs.Chains.{is_at};
+ghost use Rattle.dwarf_entries.specs.Order.{AreInOrder};
+ghost use Rattle.addr_table.specs.Walks.{HaveParents, chain_around, top_around, EndsAt, IsTold, outer_of, begin_of};
+
+use crate::scan::is_at;
+use crate::scopes::scope_at;
+use crate::steps::Steps;
+use dwarf_entries::{ScopeKind, Scopes};
+
+/// Whether a scope is of a kind and holds a link address.
+fn is_held(kind: ScopeKind, scopes: &Scopes, number: usize, link: u64) -> bool
+    requires order { AreInOrder scopes.now.scopes }
+    requires within { number < length scopes.now.scopes }
+    ensures { (d : ScopeSeen) → result ≡ is_at kind link (get_or scopes.now.scopes number d) }
+{
+    let scope = scope_at(scopes, number);
+    is_at(kind, scopes, scope, link, &mut Steps::default())
+}
+
+/// The outermost scope of the chain among those that enclose the one before a number.
+pub(crate) fn top(scopes: &Scopes, parents: &[usize], link: u64, near: usize) -> Option<usize>
+    requires have { HaveParents scopes.now.scopes parents.now }
+    requires within { near ≤ length scopes.now.scopes }
+    ensures { result ≡ top_around link scopes.now.scopes near }
+{
+    let mut found = None;
+    let mut near = near;
+    while near > 0 {
+        let number = near - 1;
+        if is_held(ScopeKind::Subprogram, scopes, number, link) {
+            found = Some(number);
+        }
+        near = parents[number];
+    }
+    found
+}
+
+/// The number behind that of the first scope of the chain, from the one before a number outwards; 0
+/// where none is left.
+pub(crate) fn next_told(scopes: &Scopes, parents: &[usize], link: u64, top: usize, near: usize) -> usize
+    requires have { HaveParents scopes.now.scopes parents.now }
+    requires within { near ≤ length scopes.now.scopes }
+    requires ends { EndsAt link scopes.now.scopes near top }
+    ensures within { result ≤ length scopes.now.scopes }
+    ensures chain { chain_around link scopes.now.scopes result ≡ chain_around link scopes.now.scopes near }
+    ensures ends { EndsAt link scopes.now.scopes result top }
+    ensures told { IsTold link scopes.now.scopes result top }
+{
+    let mut near = near;
+    while near > 0 {
+        let number = near - 1;
+        if number == top {
+            return near;
+        }
+        if is_held(ScopeKind::Inlined, scopes, number, link) {
+            return near;
+        }
+        near = parents[number];
+    }
+    0
+}
+
+/// The number behind that of the scope around one that was told.
+pub(crate) fn outer(parents: &[usize], top: usize, number: usize) -> usize
+    requires { number < length parents.now }
+    ensures { result ≡ outer_of parents.now top number }
+{
+    if number == top { 0 } else { parents[number] }
+}
+
+/// The number behind that of a scope, if it is one of so many.
+pub(crate) fn begin(count: usize, scope: Option<usize>) -> usize
+    requires { count < 2 ^ 63 }
+    ensures { result ≡ begin_of count scope }
+{
+    match scope {
+        Some(number) => if number < count { number + 1 } else { 0 },
+        None => 0,
+    }
+}

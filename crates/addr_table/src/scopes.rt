@@ -1,0 +1,32 @@
+//! The scopes of an object by their numbers.
+
+ghost use Rattle.std.specs.Prelude.{◌≡◌, ◌<◌, ◌^◌, length, get_or};
+ghost use Rattle.dwarf_entries.specs.Scopes.{Scope as ScopeSeen};
+ghost use Rattle.dwarf_entries.specs.Order.{AreInOrder, TellsOf};
+
+use dwarf_entries::{Scope, Scopes};
+
+/// How many there are.
+pub(crate) fn count(scopes: &Scopes) -> usize
+    ensures count { result ≡ length scopes.now.scopes }
+    ensures few { result < 2 ^ 60 }
+{
+    scopes.scopes().len()
+}
+
+/// The scope of a number.
+pub(crate) fn scope_at(scopes: &Scopes, number: usize) -> &Scope
+    requires order { AreInOrder scopes.now.scopes }
+    requires within { number < length scopes.now.scopes }
+    ensures { (d : ScopeSeen) → TellsOf scopes.now.scopes result.now (get_or scopes.now.scopes number d) }
+{
+    &scopes.scopes()[number]
+}
+
+/// The number of the first later scope that is not below the one of a number.
+pub(crate) fn end_at(scopes: &Scopes, number: usize) -> usize
+    requires { number < length scopes.now.scopes }
+    ensures { (d : ScopeSeen) → result ≡ (get_or scopes.now.scopes number d).«end» }
+{
+    scopes.scopes()[number].end()
+}
