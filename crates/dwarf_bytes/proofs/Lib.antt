@@ -9,7 +9,7 @@ pub mod ContentLaws
 pub mod LengthLaws
 pub mod Extent
 pub mod Sections
-pub mod Whole
+pub mod ObjectLaws
 pub mod GoodObject
 pub mod ItemLaws
 pub mod EachLaws

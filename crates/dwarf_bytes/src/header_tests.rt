@@ -18,9 +18,13 @@ const MAGIC: [u8; 4] = [0x7f, b'E', b'L', b'F'];
 
 /// The header of a file, where it and the places of its tables are good.
 pub(crate) fn checked_header(bytes: &[u8]) -> Result<FileHeader, Cause>
-    ensures header { MatchResult result (λ header. (first_failure (header_tests bytes.now) ≡ None) × (header ≡ file_header bytes.now)) (λ cause. first_failure (header_tests bytes.now) ≡ Some cause) }
+    ensures header { MatchResult result
+        (λ header. (first_failure (header_tests bytes.now) ≡ None)
+        × (header ≡ file_header bytes.now))
+        (λ cause. first_failure (header_tests bytes.now) ≡ Some cause) }
     ensures sections { IfOk result (λ header. is_bad_section_table bytes.now header ≡ false) }
-    ensures segments { IfOk result (λ header. 0 < header.phnum → header.phoff + 56 * header.phnum ≤ length bytes.now) }
+    ensures segments { IfOk result (λ header. 0 < header.phnum →
+        header.phoff + 56 * header.phnum ≤ length bytes.now) }
 {
     if bytes.len() > MAX_BYTES {
         return Err(Cause::TooMany);

@@ -38,7 +38,8 @@ fn leb_prefix(bytes: &[u8]) -> Result<LebPrefix, ReadFault>
 
 /// The tenth byte, which is the last that a number may have.
 fn tenth(bytes: &[u8]) -> Result<u8, ReadFault>
-    ensures { MatchResult result (λ byte. (9 < length bytes.now) × (byte ≡ slice_index bytes.now 9)) (λ fault. (fault ≡ Short) × (length bytes.now ≤ 9)) }
+    ensures { MatchResult result (λ byte. (9 < length bytes.now) × (byte ≡ slice_index bytes.now 9))
+        (λ fault. (fault ≡ Short) × (length bytes.now ≤ 9)) }
 {
     if bytes.len() <= LOW_BYTES {
         return Err(ReadFault::Short);
@@ -49,7 +50,8 @@ fn tenth(bytes: &[u8]) -> Result<u8, ReadFault>
 /// The unsigned number at the front of the bytes, and how many bytes spell it.
 #[inline]
 pub(crate) fn uleb_front(bytes: &[u8]) -> Result<(u64, usize), ReadFault>
-    ensures value { MatchResult result (λ read. uleb_front bytes.now ≡ Ok read) (λ fault. uleb_front bytes.now ≡ Err fault) }
+    ensures value { MatchResult result (λ read. uleb_front bytes.now ≡ Ok read)
+        (λ fault. uleb_front bytes.now ≡ Err fault) }
     ensures within { IfOk result (λ read. read.1 ≤ length bytes.now) }
     ensures some { IfOk result (λ read. 0 < read.1) }
 {
@@ -61,7 +63,8 @@ pub(crate) fn uleb_front(bytes: &[u8]) -> Result<(u64, usize), ReadFault>
 
 /// The same for a number of any length.
 fn long_uleb(bytes: &[u8]) -> Result<(u64, usize), ReadFault>
-    ensures value { MatchResult result (λ read. uleb_front bytes.now ≡ Ok read) (λ fault. uleb_front bytes.now ≡ Err fault) }
+    ensures value { MatchResult result (λ read. uleb_front bytes.now ≡ Ok read)
+        (λ fault. uleb_front bytes.now ≡ Err fault) }
     ensures within { IfOk result (λ read. read.1 ≤ length bytes.now) }
     ensures some { IfOk result (λ read. 0 < read.1) }
 {
@@ -80,7 +83,8 @@ fn long_uleb(bytes: &[u8]) -> Result<(u64, usize), ReadFault>
 /// The signed number at the front of the bytes, and how many bytes spell it.
 #[inline]
 pub(crate) fn sleb_front(bytes: &[u8]) -> Result<(i64, usize), ReadFault>
-    ensures value { MatchResult result (λ read. sleb_front bytes.now ≡ Ok read) (λ fault. sleb_front bytes.now ≡ Err fault) }
+    ensures value { MatchResult result (λ read. sleb_front bytes.now ≡ Ok read)
+        (λ fault. sleb_front bytes.now ≡ Err fault) }
     ensures within { IfOk result (λ read. read.1 ≤ length bytes.now) }
     ensures some { IfOk result (λ read. 0 < read.1) }
 {
@@ -104,7 +108,8 @@ fn signed_group(byte: u8) -> i64
 
 /// The same for a number of any length.
 fn long_sleb(bytes: &[u8]) -> Result<(i64, usize), ReadFault>
-    ensures value { MatchResult result (λ read. sleb_front bytes.now ≡ Ok read) (λ fault. sleb_front bytes.now ≡ Err fault) }
+    ensures value { MatchResult result (λ read. sleb_front bytes.now ≡ Ok read)
+        (λ fault. sleb_front bytes.now ≡ Err fault) }
     ensures within { IfOk result (λ read. read.1 ≤ length bytes.now) }
     ensures some { IfOk result (λ read. 0 < read.1) }
 {

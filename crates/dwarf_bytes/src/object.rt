@@ -25,7 +25,9 @@ pub struct Object;
 impl Object {
     /// Where the sections of an object stand, or its first fault.
     pub fn find(bytes: &[u8]) -> Result<Layout, LoadFault>
-        ensures { MatchResult result (λ found. (elf_fault bytes.now ≡ None) × (found ≡ layout bytes.now) × AreInside bytes.now found) (λ fault. elf_fault bytes.now ≡ Some fault) }
+        ensures { MatchResult result (λ found. (elf_fault bytes.now ≡ None)
+            × (found ≡ layout bytes.now) × AreInside bytes.now found)
+            (λ fault. elf_fault bytes.now ≡ Some fault) }
     {
         let header = match checked_header(bytes) {
             Ok(header) => header,
@@ -80,7 +82,8 @@ fn extended(
     extent: Option<(u64, u64)>,
     entry: &ProgramHeader,
 ) -> Result<Option<(u64, u64)>, LoadFault>
-    ensures { MatchResult result (λ after. extended extent entry.now ≡ Ok after) (λ fault. extended extent entry.now ≡ Err fault) }
+    ensures { MatchResult result (λ after. extended extent entry.now ≡ Ok after)
+        (λ fault. extended extent entry.now ≡ Err fault) }
 {
     if !entry.is_load() {
         return Ok(extent);
@@ -97,8 +100,11 @@ fn extended(
 /// The addresses that the load segments take.
 fn extent(bytes: &[u8], header: &FileHeader) -> Result<(u64, u64), LoadFault>
     requires header { header.now ≡ file_header bytes.now }
-    requires segments { 0 < header.now.phnum → header.now.phoff + 56 * header.now.phnum ≤ length bytes.now }
-    ensures { MatchResult result (λ extent. (first_fault sections.Elf (load_items bytes.now) ≡ None) × (extent.0 ≡ low bytes.now) × (extent.1 ≡ high bytes.now)) (λ fault. first_fault sections.Elf (load_items bytes.now) ≡ Some fault) }
+    requires segments { 0 < header.now.phnum →
+        header.now.phoff + 56 * header.now.phnum ≤ length bytes.now }
+    ensures { MatchResult result (λ extent. (first_fault sections.Elf (load_items bytes.now) ≡ None)
+        × (extent.0 ≡ low bytes.now) × (extent.1 ≡ high bytes.now))
+        (λ fault. first_fault sections.Elf (load_items bytes.now) ≡ Some fault) }
 {
     let mut extent = None;
     for k in 0..usize::from(header.phnum) {
@@ -125,7 +131,9 @@ fn name_section<'a>(bytes: &'a [u8], header: &FileHeader) -> Result<&'a [u8], Lo
     requires header { header.now ≡ file_header bytes.now }
     requires within { header.now.shstrndx < header.now.shnum }
     requires sections { header.now.shoff + 64 * header.now.shnum ≤ length bytes.now }
-    ensures { MatchResult result (λ found. (item_fault sections.Elf (names_item bytes.now) ≡ None) × (found.now ≡ names bytes.now)) (λ fault. item_fault sections.Elf (names_item bytes.now) ≡ Some fault) }
+    ensures { MatchResult result (λ found. (item_fault sections.Elf (names_item bytes.now) ≡ None)
+        × (found.now ≡ names bytes.now))
+        (λ fault. item_fault sections.Elf (names_item bytes.now) ≡ Some fault) }
 {
     let entry = nth_section(bytes, header, header.shstrndx);
     if entry.is_nobits() || entry.is_compressed() || is_outside(bytes, entry.offset, entry.size) {
@@ -167,7 +175,10 @@ fn with_section(
     requires sections { header.now.shoff + 64 * header.now.shnum ≤ length bytes.now }
     requires names { section_names.now ≡ names bytes.now }
     requires found { found ≡ spans_before bytes.now k }
-    ensures { MatchResult result (λ after. (item_fault sections.Elf (section_item bytes.now k) ≡ None) × (after ≡ spans_before bytes.now (k + 1))) (λ fault. item_fault sections.Elf (section_item bytes.now k) ≡ Some fault) }
+    ensures { MatchResult result (λ after.
+        (item_fault sections.Elf (section_item bytes.now k) ≡ None)
+        × (after ≡ spans_before bytes.now (k + 1)))
+        (λ fault. item_fault sections.Elf (section_item bytes.now k) ≡ Some fault) }
 {
     let entry = nth_section(bytes, header, k);
     let Ok(number) = section_names.wanted(u64::from(entry.name)) else {
@@ -190,7 +201,10 @@ fn with_section(
 fn sections(bytes: &[u8], header: &FileHeader) -> Result<[Option<Span>; 8], LoadFault>
     requires header { header.now ≡ file_header bytes.now }
     requires sound { is_bad_section_table bytes.now header.now ≡ false }
-    ensures { MatchResult result (λ found. (first_fault sections.Elf (section_items bytes.now) ≡ None) × (found ≡ spans_before bytes.now header.now.shnum)) (λ fault. first_fault sections.Elf (section_items bytes.now) ≡ Some fault) }
+    ensures { MatchResult result (λ found.
+        (first_fault sections.Elf (section_items bytes.now) ≡ None)
+        × (found ≡ spans_before bytes.now header.now.shnum))
+        (λ fault. first_fault sections.Elf (section_items bytes.now) ≡ Some fault) }
 {
     let mut found = [None; 8];
     if header.shnum == 0 {

@@ -1,5 +1,5 @@
-//! The names of sections. A name may be as long as the section of the names, and every header may name
-//! it: so none is walked to its end.
+//! The names of sections. A name may be as long as the section of the names, and every header may
+//! name it: so none is walked to its end.
 
 ghost use Rattle.std.specs.Prelude.{◌≡◌, ◌<◌, Ok, Err, MatchResult, IfOk, IfSome, position};
 ghost use Rattle.dwarf_bytes.specs.Numbers.{text_at};
@@ -53,7 +53,8 @@ impl<'a> SectionNames<'a> {
 
     /// Which of the wanted sections has the name at an offset; a name without a NUL is refused.
     pub(crate) fn wanted(&self, offset: u64) -> Result<Option<usize>, ReadFault>
-        ensures number { MatchResult result (λ number. IsNumberAt self.now offset number) (λ fault. text_at self.now offset ≡ Err fault) }
+        ensures number { MatchResult result (λ number. IsNumberAt self.now offset number)
+            (λ fault. text_at self.now offset ≡ Err fault) }
         ensures within { IfOk result (λ number. IfSome number (λ n. n < 8)) }
     {
         if offset >= self.end as u64 {

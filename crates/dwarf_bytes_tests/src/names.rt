@@ -50,8 +50,8 @@ fn section(name: u32, place: usize, len: usize) -> [u8; 64] {
     header
 }
 
-/// All headers but the last two name one long text at its front, or at the offset; the one before the
-/// last names `.debug_str` behind it.
+/// All headers but the last two name one long text, at an offset into it; the one before the last
+/// names `.debug_str` behind it.
 fn long_names(alloc: Global, offset: u32) -> Result<Vec<u8>, LoadFault> {
     let mut object = Vec::new(alloc);
     object.extend_from_slice(&file_header())?;

@@ -16,7 +16,9 @@ joined (Some e) header = Some (min e.0 header.vaddr, max e.1 (load_end header))
 abbrev pub extended : Option (ℕ × ℕ) → ProgramHeader → Result (Option (ℕ × ℕ)) LoadFault
 extended extent header =
     cond (is_load header)
-    (cond (nat_le (2 ^ 64) (load_end header)) (Err (record { section = sections.Elf; cause = causes.Range; at = header.at })) (Ok (joined extent header)))
+    (cond (nat_le (2 ^ 64) (load_end header))
+    (Err (record { section = sections.Elf; cause = causes.Range; at = header.at }))
+    (Ok (joined extent header)))
     (Ok extent)
 
 -- the program headers from the k-th on

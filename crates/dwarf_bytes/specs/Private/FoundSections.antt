@@ -39,4 +39,15 @@ wanted_tests bytes header seen =
 abbrev pub layout_of : List (Option Span) → ℕ → ℕ → Layout
 layout_of found low high =
     let span = λ (i : ℕ). unwrap_or (get_or found i None) no_span in
-    record { debug_info = span 0; debug_abbrev = span 1; debug_line = span 2; debug_line_str = span 3; debug_str = span 4; debug_str_offsets = span 5; debug_addr = span 6; debug_rnglists = span 7; low = low; high = high }
+    record {
+      debug_info = span 0;
+      debug_abbrev = span 1;
+      debug_line = span 2;
+      debug_line_str = span 3;
+      debug_str = span 4;
+      debug_str_offsets = span 5;
+      debug_addr = span 6;
+      debug_rnglists = span 7;
+      low = low;
+      high = high;
+    }

@@ -14,8 +14,11 @@ pub record EndsTexts (bytes : List ℕ) (end : ℕ) : Type 0 where
 
 -- whether the bytes begin with a text and its NUL
 abbrev pub begins_with : List ℕ → List ℕ → Bool
-begins_with bytes text = nat_lt (length text) (length bytes) && (starts_with nat_eq bytes text && (get_or bytes (length text) 0 == 0))
+begins_with bytes text =
+    nat_lt (length text) (length bytes) && (starts_with nat_eq bytes text && (get_or bytes (length text) 0 == 0))
 
 -- a name stands at the offset, and this is its number among the wanted ones
 abbrev pub IsNumberAt : List ℕ → ℕ → Option ℕ → Type 0
-IsNumberAt names offset number = (name : List ℕ) × (text_at names offset ≡ Ok name) × (number ≡ position (λ s. bytes_eq name (section_name s)) wanted)
+IsNumberAt names offset number =
+    (name : List ℕ) × (text_at names offset ≡ Ok name)
+    × (number ≡ position (λ s. bytes_eq name (section_name s)) wanted)

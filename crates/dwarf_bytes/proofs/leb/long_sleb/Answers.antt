@@ -22,21 +22,24 @@ returns-in_err-tenth-in-Continued-clause-value c =
 pub returns-in-Whole-clause-value : goal.returns-in-Whole-clause-value
 returns-in-Whole-clause-value c =
     let fits : FitsSigned w64 c.signed.result = search rules in
-    rw (to_z-of_z w64 c.signed.result fits) (sleb_whole _ _ _ _ _ (rw c.in-Whole.is at c.in_ok-value.ensures) refl c.signed.ensures fits)
+    rw (to_z-of_z w64 c.signed.result fits) (sleb_whole _ _ _ _ _
+    (rw c.in-Whole.is at c.in_ok-value.ensures) refl c.signed.ensures fits)
 
 pub returns-in-0-clause-value : goal.returns-in-0-clause-value
 returns-in-0-clause-value c =
     let nine = rw c.in-Continued.is at c.in_ok-value.ensures in
     let top = c.in_ok-tenth-in-Continued.ensures in
     let fits : FitsSigned w64 c.signed-in-0.result = search rules in
-    rw (to_z-of_z w64 c.signed-in-0.result fits) (sleb_zero _ _ _ _ nine top.0 top.1 c.in-0.is c.signed-in-0.ensures fits)
+    rw (to_z-of_z w64 c.signed-in-0.result fits)
+    (sleb_zero _ _ _ _ nine top.0 top.1 c.in-0.is c.signed-in-0.ensures fits)
 
 pub returns-in-127-clause-value : goal.returns-in-127-clause-value
 returns-in-127-clause-value c =
     let nine = rw c.in-Continued.is at c.in_ok-value.ensures in
     let top = c.in_ok-tenth-in-Continued.ensures in
     let fits : FitsSigned w64 c.signed-in-127.result = search rules in
-    rw (to_z-of_z w64 c.signed-in-127.result fits) (sleb_minus _ _ _ _ nine top.0 top.1 c.in-127.is c.signed-in-127.ensures fits)
+    rw (to_z-of_z w64 c.signed-in-127.result fits)
+    (sleb_minus _ _ _ _ nine top.0 top.1 c.in-127.is c.signed-in-127.ensures fits)
 
 pub returns-in_default-clause-value : goal.returns-in_default-clause-value
 returns-in_default-clause-value c =

@@ -8,4 +8,5 @@ use Rattle.dwarf_bytes.proofs.leb.sleb_front.Goals as goal
 pub returns-in-len1-up-clause-value : goal.returns-in-len1-up-clause-value
 returns-in-len1-up-clause-value c =
     let fits : FitsSigned w64 c.signed_group.result = search rules in
-    rw (to_z-of_z w64 c.signed_group.result fits) (sleb_byte _ _ c.in-len1-up.len_at_least (omega arith) c.signed_group.ensures fits)
+    rw (to_z-of_z w64 c.signed_group.result fits) (sleb_byte _ _ c.in-len1-up.len_at_least
+    (omega arith) c.signed_group.ensures fits)
