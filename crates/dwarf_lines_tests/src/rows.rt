@@ -32,6 +32,24 @@ fn standard_opcodes_move_the_address(rt: HostRuntime) -> Result<(), Fail> {
 }
 
 #[test]
+fn a_file_is_set_and_a_line_is_advanced(rt: HostRuntime) -> Result<(), Fail> {
+    // set_address 0x1000, set_file 0, copy, advance_line 5, copy, advance_pc 1, end
+    let line = with_instructions(
+        rt.alloc(),
+        &[
+            0, 9, 2, 0, 0x10, 0, 0, 0, 0, 0, 0, 4, 0, 1, 3, 5, 1, 2, 1, 0, 1, 1,
+        ],
+    )?;
+    let tables = LineTables::read(rt.alloc(), line.as_slice(), &[], &[])?;
+    let mut first = row(0, 0x1000, 1);
+    first.file = 0;
+    let mut second = row(0, 0x1000, 6);
+    second.file = 0;
+    assert_eq!(rt; tables.rows(), [first, second, end(0, 0x1001)].as_slice());
+    Ok(())
+}
+
+#[test]
 fn rows_of_one_and_two_sequences(rt: HostRuntime) -> Result<(), Fail> {
     let tables = LineTables::read(rt.alloc(), &one_sequence(), &[], &[])?;
     assert_eq!(rt;

@@ -1,6 +1,6 @@
 //! The tables of headers, where they could cost more than their bytes.
 
-use crate::fixtures::fault;
+use crate::fixtures::{fault, path};
 use dwarf_bytes::{Cause, Section, Span};
 use dwarf_lines::{LineTables, ProgramNo, Text};
 use dwarf_samples::INLINED;
@@ -49,6 +49,16 @@ fn with_flags(alloc: Global) -> Result<Vec<u8>, AllocError> {
     with_tables(alloc, tables.as_slice())
 }
 
+/// Tables of the directories `d` and `e`, and one file `c`, whose directory index has this form and
+/// these bytes.
+fn with_index(alloc: Global, form: u8, index: &[u8]) -> Result<Vec<u8>, AllocError> {
+    let mut tables = Vec::new(alloc);
+    tables.extend_from_slice(&[1, 1, 8, 2, b'd', 0, b'e', 0])?;
+    tables.extend_from_slice(&[2, 1, 8, 2, form, 1, b'c', 0])?;
+    tables.extend_from_slice(index)?;
+    with_tables(alloc, tables.as_slice())
+}
+
 /// A text of so many bytes, without its NUL.
 fn long_text(alloc: Global, len: u32) -> Result<Vec<u8>, AllocError> {
     let mut text = Vec::new(alloc);
@@ -56,6 +66,22 @@ fn long_text(alloc: Global, len: u32) -> Result<Vec<u8>, AllocError> {
         text.push(b'd')?;
     }
     Ok(text)
+}
+
+#[test]
+fn a_directory_index_has_three_forms(rt: HostRuntime) -> Result<(), Fail> {
+    let forms: [(u8, &[u8]); 3] = [(0x0b, &[1]), (0x05, &[1, 0]), (0x0f, &[0x81, 0])];
+    for (form, index) in forms {
+        let line = with_index(rt.alloc(), form, index)?;
+        let tables = LineTables::read(rt.alloc(), line.as_slice(), &[], &[])?;
+        let path = path(rt.alloc(), &tables, [line.as_slice(), &[], &[]], 0, 0)?;
+        assert_eq!(rt;
+            path.ok_or("no path")?.as_slice(),
+            b"d/e/c".as_slice(),
+            "form {form}"
+        );
+    }
+    Ok(())
 }
 
 #[test]
