@@ -15,8 +15,8 @@ use Rattle.dwarf_entries.specs.declared.kept.UnitEntries.{UnitEntries}
 use Rattle.dwarf_entries.specs.Sections.{Sections}
 use Rattle.dwarf_entries.specs.Entries.{Die}
 use Rattle.dwarf_entries.specs.Bases.{CompilationUnit, unit_of}
-use Rattle.dwarf_entries.specs.Kept.{KeptUnit, root_in, kept_unit, kept_of}
-use Rattle.dwarf_entries.specs.Passes.{kept_units, bases_in, all_units, bases_of, all_bases}
+use Rattle.dwarf_entries.specs.Private.Kept.{KeptUnit, root_in, kept_unit, kept_of}
+use Rattle.dwarf_entries.specs.Private.Passes.{kept_units, bases_in, all_units, bases_of, all_bases}
 use Rattle.dwarf_entries.proofs.TableLaws.{in_section_ok}
 
 abbrev pub unit_for : Sections → List CompilationUnit → UnitHeader × List Die → Result CompilationUnit At

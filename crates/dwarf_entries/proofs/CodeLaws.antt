@@ -10,7 +10,7 @@ use Rattle.std.proofs.lemmas.Option.{slice_get-get_or, same_Some}
 use Rattle.dwarf_bytes.specs.Bind.{◌>>=◌}
 use Rattle.dwarf_bytes.specs.Items.{At}
 use Rattle.dwarf_forms.specs.Declarations.{Declaration}
-use Rattle.dwarf_forms.specs.Index.{AreIndexed}
+use Rattle.dwarf_forms.specs.Private.Index.{AreIndexed}
 use Rattle.dwarf_forms.specs.Tables.{table_at, declarations_of}
 use Rattle.dwarf_forms.proofs.Codes.{PutsPlace, indexed_pushed, indexed_own}
 use Rattle.dwarf_forms.proofs.TableSpelling.{table_spelled}

@@ -16,8 +16,8 @@ use Rattle.dwarf_entries.specs.declared.kept.Keeping.{Keeping}
 use Rattle.dwarf_entries.specs.declared.units.UnitHeader.{UnitHeader}
 use Rattle.dwarf_entries.specs.Units.{declarations_limit, tables_of}
 use Rattle.dwarf_entries.specs.Entries.{Die, entries_of}
-use Rattle.dwarf_entries.specs.Kept.{KeptUnit, kept_unit, kept_entries}
-use Rattle.dwarf_entries.specs.Passes.{all_entries, kept_units, all_kept}
+use Rattle.dwarf_entries.specs.Private.Kept.{KeptUnit, kept_unit, kept_entries}
+use Rattle.dwarf_entries.specs.Private.Passes.{all_entries, kept_units, all_kept}
 use Rattle.dwarf_bytes.proofs.EachPlaces.{each-length, each-place}
 use Rattle.dwarf_entries.proofs.TableLaws.{table_for, in_section_ok}
 

@@ -12,7 +12,7 @@ use Rattle.dwarf_forms.specs.Declarations.{Declaration}
 use Rattle.dwarf_bytes.proofs.Moves.{same_ok}
 use Rattle.dwarf_entries.specs.declared.units.UnitHeader.{UnitHeader}
 use Rattle.dwarf_entries.specs.Entries.{Node, Entry, Null, Standing, Die, AreDepths, depth_after, node_at, die_of, entries_of}
-use Rattle.dwarf_entries.specs.Kept.{RiseWithin}
+use Rattle.dwarf_entries.specs.Private.Kept.{RiseWithin}
 use Rattle.dwarf_entries.proofs.NodeLaws.{node_at-facts}
 
 -- ---- the entries of a unit

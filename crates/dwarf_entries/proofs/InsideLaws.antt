@@ -9,9 +9,9 @@ use Rattle.dwarf_entries.specs.declared.entries.Level.{Level}
 use Rattle.dwarf_entries.specs.declared.entries.Boundary.{Boundary}
 use Rattle.dwarf_entries.specs.declared.scope.ScopeKind.{ScopeKind}
 use Rattle.dwarf_entries.specs.Entries.{Die}
-use Rattle.dwarf_entries.specs.Kept.{inside_of, insides_in}
+use Rattle.dwarf_entries.specs.Private.Kept.{inside_of, insides_in}
 use Rattle.dwarf_entries.specs.Scopes.{kind_of, is_scope}
-use Rattle.dwarf_entries.specs.Readers.{level_of, insides_of, above, scopes_from}
+use Rattle.dwarf_entries.specs.Private.Readers.{level_of, insides_of, above, scopes_from}
 
 -- the levels below one, and how many scopes there are
 abbrev pub deeper : ℕ → List Level → List Level

@@ -20,11 +20,11 @@ use Rattle.dwarf_entries.specs.declared.kept.ScopeEntry.{ScopeEntry}
 use Rattle.dwarf_entries.specs.declared.scope.ScopeKind.{ScopeKind}
 use Rattle.dwarf_entries.specs.Attributes.{is_used}
 use Rattle.dwarf_entries.specs.Entries.{Entry, Die, value_of, attributes_at, declaration_of, depth_limit, node_behind}
-use Rattle.dwarf_entries.specs.Kept.{keeps, named_entry, scope_entry, root_entry}
+use Rattle.dwarf_entries.specs.Private.Kept.{keeps, named_entry, scope_entry, root_entry}
 use Rattle.dwarf_entries.specs.Names.{or_else}
 use Rattle.dwarf_entries.specs.Scopes.{kind_of}
-use Rattle.dwarf_entries.specs.Readers.{keeps_attributes, HoldsKept, node_of, Walked, depth_behind, after_die, walked_at}
-use Rattle.dwarf_entries.specs.Plans.{kept_attributes, kept_attributes_at}
+use Rattle.dwarf_entries.specs.Private.Readers.{keeps_attributes, HoldsKept, node_of, Walked, depth_behind, after_die, walked_at}
+use Rattle.dwarf_entries.specs.Private.Plans.{kept_attributes, kept_attributes_at}
 
 -- what is kept of attributes that are read
 pub kept_of_all : (keep : Bool) (format : Format) (declared : List AttributeSpecification) (bytes : List ℕ) (at : ℕ) (found : List Attribute) (after : ℕ) → kept_attributes_at keep format declared bytes at ≡ Ok (found, after) →

@@ -6,7 +6,7 @@ pub mod PassLaws
 pub mod EntriesPass
 pub mod BasesPass
 pub mod ScopeLaws
-pub mod PlaceLaws
+pub mod SiteLaws
 pub mod ScopesPass
 pub mod ReferenceLaws
 pub mod PathLaws

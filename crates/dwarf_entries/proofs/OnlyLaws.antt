@@ -11,9 +11,9 @@ use Rattle.dwarf_entries.specs.Entries.{Die}
 use Rattle.dwarf_entries.specs.Bases.{CompilationUnit}
 use Rattle.dwarf_entries.specs.Names.{Member}
 use Rattle.dwarf_entries.specs.Scopes.{is_scope}
-use Rattle.dwarf_entries.specs.Kept.{KeptUnit, named_entry, kept_of, RiseWithin, AreInOrder}
-use Rattle.dwarf_entries.specs.Members.{NamedUnit, named_unit, AreKept, IsMember}
-use Rattle.dwarf_entries.specs.Passes.{bases_of, kept_unit_of, AreUnits, scopes_only, only_units, only_member}
+use Rattle.dwarf_entries.specs.Private.Kept.{KeptUnit, named_entry, kept_of, RiseWithin, AreInOrder}
+use Rattle.dwarf_entries.specs.Private.Members.{NamedUnit, named_unit, AreKept, IsMember}
+use Rattle.dwarf_entries.specs.Private.Passes.{bases_of, kept_unit_of, AreUnits, scopes_only, only_units, only_member}
 use Rattle.dwarf_entries.proofs.ReferenceLaws.{map-twice}
 
 -- ---- some entries stand in order where all do

@@ -21,8 +21,8 @@ use Rattle.dwarf_entries.specs.Sections.{Sections}
 use Rattle.dwarf_entries.specs.Units.{unit_type_of, is_read_type, is_read, header_in, unit_at, header_at, headers_of, units_of}
 use Rattle.dwarf_entries.specs.Entries.{Die, entries_of}
 use Rattle.dwarf_entries.specs.Bases.{CompilationUnit, no_bases, bases_at, unit_of}
-use Rattle.dwarf_entries.specs.Kept.{KeptUnit, kept_unit, RiseWithin, AreInOrder}
-use Rattle.dwarf_entries.specs.Passes.{kept_units, kept_unit_of, all_entries, all_units}
+use Rattle.dwarf_entries.specs.Private.Kept.{KeptUnit, kept_unit, RiseWithin, AreInOrder}
+use Rattle.dwarf_entries.specs.Private.Passes.{kept_units, kept_unit_of, all_entries, all_units}
 use Rattle.dwarf_entries.proofs.EntryMoves.{fixed-stays, offset-stays}
 pub use Rattle.dwarf_entries.proofs.EntryOrder.{entries-rise}
 use Rattle.dwarf_entries.proofs.EntriesPass.{entries_for}

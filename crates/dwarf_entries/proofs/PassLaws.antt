@@ -10,7 +10,7 @@ use Rattle.dwarf_bytes.specs.Refusals.{memory_fault, told, in_section}
 use Rattle.dwarf_entries.specs.declared.kept.RootEntry.{RootEntry}
 use Rattle.dwarf_entries.specs.Sections.{Sections}
 use Rattle.dwarf_entries.specs.Bases.{bases_by}
-use Rattle.dwarf_entries.specs.Passes.{bases_in}
+use Rattle.dwarf_entries.specs.Private.Passes.{bases_in}
 
 -- a cause that is told at an item is the item's, unless memory ran out
 pub told_cases : (cause : Cause) (at : ℕ) → (told names.DebugInfo cause at ≡ memory_fault) ⊎ (told names.DebugInfo cause at ≡ record { section = names.DebugInfo; cause = cause; at = at })

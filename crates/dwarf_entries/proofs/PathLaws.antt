@@ -20,7 +20,7 @@ use Rattle.dwarf_entries.specs.Sections.{Sections}
 use Rattle.dwarf_entries.specs.Entries.{attribute}
 use Rattle.dwarf_entries.specs.Bases.{CompilationUnit, optional}
 use Rattle.dwarf_entries.specs.Names.{Member, or_else, next_of, target_of, path_within, path_of, of_member, first_on, text_of, name_on, names_of, hops_limit}
-use Rattle.dwarf_entries.specs.Members.{IsMember, Finds, IsFirst, AreFirst, FindsFirst, str_offsets_of}
+use Rattle.dwarf_entries.specs.Private.Members.{IsMember, Finds, IsFirst, AreFirst, FindsFirst, str_offsets_of}
 
 -- ---- the first attribute of a name
 

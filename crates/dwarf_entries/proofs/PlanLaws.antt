@@ -27,11 +27,11 @@ use Rattle.dwarf_forms.specs.declared.values.ValueFault.TheVariants as values
 use Rattle.dwarf_forms.specs.declared.attribute.AttributeSpecification.{AttributeSpecification}
 use Rattle.dwarf_forms.specs.Values.{Value, reading_value as of_value, direct_at, value_at}
 use Rattle.dwarf_entries.specs.declared.attributes.Attribute.{Attribute}
-use Rattle.dwarf_entries.specs.declared.plans.Step.{Step}
-use Rattle.dwarf_entries.specs.declared.plans.Step.TheVariants.{Skip, Pass, Keep}
+use Rattle.dwarf_entries.specs.declared.plans.AttributeStep.{AttributeStep}
+use Rattle.dwarf_entries.specs.declared.plans.AttributeStep.TheVariants.{Skip, Pass, Keep}
 use Rattle.dwarf_entries.specs.Attributes.{is_used, accepts, is_negative, is_negative_count, number_of, forms_of, is_among}
 use Rattle.dwarf_entries.specs.Entries.{reading_value, is_direct, form_at, attribute_at, attributes_at}
-use Rattle.dwarf_entries.specs.Plans.{kept_attributes, kept_attributes_at, layout_len, constant_len, fixed_len, pass_of, step_of, step_before, steps_of, step_at, skip_limit, in_front}
+use Rattle.dwarf_entries.specs.Private.Plans.{kept_attributes, kept_attributes_at, layout_len, constant_len, fixed_len, pass_of, step_of, step_before, steps_of, step_at, skip_limit, in_front}
 use Rattle.dwarf_entries.proofs.EntryMoves.{attribute-stays}
 
 -- ---- reads of a known length
@@ -245,7 +245,7 @@ step-is keep format s bytes at le = by_test (keep && is_used s.name)
 
 -- ---- the steps of a declaration, one after another
 
-unfoldable pub steps_at : Format → List Step → List ℕ → ℕ → Result (List Attribute × ℕ) Cause
+unfoldable pub steps_at : Format → List AttributeStep → List ℕ → ℕ → Result (List Attribute × ℕ) Cause
 steps_at format [] bytes at = Ok ([], at)
 steps_at format (step ∷ steps) bytes at = step_at format step bytes at >>= λ first. in_front first.0 (steps_at format steps bytes first.1)
 
@@ -273,7 +273,7 @@ skip-past format n bytes at lt = by_read (reading (block_at n bytes at)) (skip-f
     by_read (Err e) h = ap (λ (c : Cause). Err c) h.0
 
 -- one step over bytes is as two
-joined-is : (format : Format) (n m : ℕ) (steps : List Step) (bytes : List ℕ) (at : ℕ) → steps_at format (Skip (n + m) ∷ steps) bytes at ≡ (step_at format (Skip n) bytes at >>= λ first. in_front first.0 (steps_at format (Skip m ∷ steps) bytes first.1))
+joined-is : (format : Format) (n m : ℕ) (steps : List AttributeStep) (bytes : List ℕ) (at : ℕ) → steps_at format (Skip (n + m) ∷ steps) bytes at ≡ (step_at format (Skip n) bytes at >>= λ first. in_front first.0 (steps_at format (Skip m ∷ steps) bytes first.1))
 unfolding steps_at
 joined-is format n m steps bytes at = by_both (cases_lt (length bytes) (at + (n + m))) (cases_lt (length bytes) (at + n))
   where
@@ -286,7 +286,7 @@ joined-is format n m steps bytes at = by_both (cases_lt (length bytes) (at + (n 
         rw (skip-within format (n + m) bytes at le, skip-within format n bytes at (omega (arith, le)), skip-within format m bytes (at + n) (omega (arith, le)), place)
         (sym (in_front-none (in_front [] (steps_at format steps bytes (at + n + m)))))
 
-before-is : (format : Format) (step : Step) (steps : List Step) (bytes : List ℕ) (at : ℕ) → steps_at format (step_before step steps) bytes at ≡ (step_at format step bytes at >>= λ first. in_front first.0 (steps_at format steps bytes first.1))
+before-is : (format : Format) (step : AttributeStep) (steps : List AttributeStep) (bytes : List ℕ) (at : ℕ) → steps_at format (step_before step steps) bytes at ≡ (step_at format step bytes at >>= λ first. in_front first.0 (steps_at format steps bytes first.1))
 unfolding steps_at
 before-is format step [] bytes at = refl
 before-is format (Skip n) (Skip m ∷ steps) bytes at = by_test (nat_le (n + m) skip_limit)

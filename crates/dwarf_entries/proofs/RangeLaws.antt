@@ -19,10 +19,10 @@ use Rattle.dwarf_bytes.proofs.Moves.{same_ok, same_item, uleb_moves, u8_moves, f
 use Rattle.dwarf_bytes.proofs.Turns.{SoFar, so_far-none, so_far-item, so_far-end, so_far-fault}
 use Rattle.dwarf_entries.specs.declared.scope.Range.{Range}
 use Rattle.dwarf_entries.specs.declared.bases.Bases.{Bases}
-use Rattle.dwarf_entries.specs.declared.ranges.RangeListKind.{RangeListKind}
-use Rattle.dwarf_entries.specs.declared.ranges.RangeListKind.TheVariants.{BaseAddressx, StartxEndx, StartxLength, OffsetPair, BaseAddress, StartEnd, StartLength}
-use Rattle.dwarf_entries.specs.declared.ranges.RangeListEntry.{RangeListEntry}
-use Rattle.dwarf_entries.specs.declared.ranges.RangeListEntry.TheVariants.{Base, Covers}
+use Rattle.dwarf_entries.specs.declared.range_entries.RangeListKind.{RangeListKind}
+use Rattle.dwarf_entries.specs.declared.range_entries.RangeListKind.TheVariants.{BaseAddressx, StartxEndx, StartxLength, OffsetPair, BaseAddress, StartEnd, StartLength}
+use Rattle.dwarf_entries.specs.declared.range_entries.RangeListEntry.{RangeListEntry}
+use Rattle.dwarf_entries.specs.declared.range_entries.RangeListEntry.TheVariants.{Base, Covers}
 use Rattle.dwarf_entries.specs.Sections.{Sections}
 use Rattle.dwarf_entries.specs.Bases.{item_at}
 use Rattle.dwarf_entries.specs.Ranges.{base_after, ranges_in, covered_from, covered_pair, index_at, address_at, number_at, start_and_end, start_and_length, offset_pair, sets_base, covers, entry_at, kind_of, listed_behind, listed_at, list_at, Covering}

@@ -22,12 +22,12 @@ use Rattle.dwarf_entries.specs.Sections.{Sections}
 use Rattle.dwarf_entries.specs.Units.{units_of, tables_of}
 use Rattle.dwarf_entries.specs.Entries.{Die}
 use Rattle.dwarf_entries.specs.Bases.{CompilationUnit}
-use Rattle.dwarf_entries.specs.Scopes.{Tree, Scope, Judged, places_in, roots_from, scope_of, tree_of}
-use Rattle.dwarf_entries.specs.Kept.{KeptUnit, kept_of, scope_count}
-use Rattle.dwarf_entries.specs.Passes.{all_entries, kept_units, all_kept, all_units, bases_of, all_bases, kept_unit_of, AreUnits, judge, all_places, all_scopes, TablesRead, tree_of_units, tree_of_dies, tree_with}
+use Rattle.dwarf_entries.specs.Scopes.{Tree, Scope, Judged, sites_in, roots_from, scope_of, tree_of}
+use Rattle.dwarf_entries.specs.Private.Kept.{KeptUnit, kept_of, scope_count}
+use Rattle.dwarf_entries.specs.Private.Passes.{all_entries, kept_units, all_kept, all_units, bases_of, all_bases, kept_unit_of, AreUnits, judge, all_sites, all_scopes, TablesRead, tree_of_units, tree_of_dies, tree_with}
 use Rattle.dwarf_bytes.proofs.EachPlaces.{each-length}
 use Rattle.dwarf_entries.proofs.TableLaws.{in_section_ok}
-use Rattle.dwarf_entries.proofs.PlaceLaws.{entries_are, entry_in}
+use Rattle.dwarf_entries.proofs.SiteLaws.{entries_are, entry_in}
 use Rattle.dwarf_entries.proofs.OrderLaws.{units-in-order}
 use Rattle.dwarf_entries.proofs.ScopesOnly.{TreeAlike, tree-alike}
 
@@ -134,7 +134,7 @@ pub scopes_pass_fault : (keeping : Keeping) (s : Sections) (headers : List UnitH
     (fault ≡ memory_fault) ⊎ (in_section names.DebugInfo (all_scopes keeping s before.us) ≡ Err fault) → (fault ≡ memory_fault) ⊎ (tree_with keeping s headers read.tables ≡ Err fault)
 scopes_pass_fault keeping s headers read units bases fault before (inl memory) = inl memory
 scopes_pass_fault keeping s headers read units bases fault before (inr bad) =
-    let judged : Result (List Judged) At = each (judge keeping s before.us) (all_places before.us) in
+    let judged : Result (List Judged) At = each (judge keeping s before.us) (all_sites before.us) in
     inr
     (after_units keeping s headers read units bases before
     ∙ told (λ judged. Ok (record { roots = roots_from 0 before.us; scopes = map (λ j. j.scope) judged })) (in_section names.DebugInfo judged) fault (first_fault (λ judged. map (λ j. j.scope) judged) judged fault bad))
@@ -144,7 +144,7 @@ scopes_pass_fault keeping s headers read units bases fault before (inr bad) =
 pub tree_read : (keeping : Keeping) (s : Sections) (headers : List UnitHeader) (read : TablesRead s headers) (units : List UnitEntries) (bases : List Bases) (scopes : List Kept) (roots : List Root) (before : UnitsRead keeping s headers read units bases) →
     in_section names.DebugInfo (all_scopes keeping s before.us) ≡ Ok (map scope_of scopes) → roots ≡ roots_from 0 before.us → tree_with keeping s headers read.tables ≡ Ok (record { roots = roots; scopes = map scope_of scopes })
 tree_read keeping s headers read units bases scopes roots before judged_are roots_are =
-    let parts = bound (λ judged. map (λ j. j.scope) judged) (each (judge keeping s before.us) (all_places before.us)) (map scope_of scopes) judged_are in
+    let parts = bound (λ judged. map (λ j. j.scope) judged) (each (judge keeping s before.us) (all_sites before.us)) (map scope_of scopes) judged_are in
     after_units keeping s headers read units bases before
     ∙ (ap (λ (r : Result (List Judged) At). in_section names.DebugInfo r >>= λ judged. (let g : Tree → Result Tree LoadFault = λ t. Ok t in g (record { roots = roots_from 0 before.us; scopes = map (λ j. j.scope) judged }))) parts.1
     ∙ ap (λ (t : Tree). Ok t) (tree roots_are parts.2))
@@ -177,22 +177,22 @@ fault_among s headers before fault (inr bad) other = inr (after_tables s headers
     by_alike (inr same) = sym same ∙ bad
 
 -- as many scopes are kept of the units as are told
-places-counted : (keeping : Keeping) (units : List UnitEntries) (us : List CompilationUnit) → map kept_of units ≡ map (kept_unit_of keeping) us → scope_count units ≡ length (all_places us)
-places-counted keeping [] [] same = refl
-places-counted keeping [] (u ∷ us) same = cc
-places-counted keeping (unit ∷ units) [] same = cc
-places-counted keeping (unit ∷ units) (u ∷ us) same =
+sites-counted : (keeping : Keeping) (units : List UnitEntries) (us : List CompilationUnit) → map kept_of units ≡ map (kept_unit_of keeping) us → scope_count units ≡ length (all_sites us)
+sites-counted keeping [] [] same = refl
+sites-counted keeping [] (u ∷ us) same = cc
+sites-counted keeping (unit ∷ units) [] same = cc
+sites-counted keeping (unit ∷ units) (u ∷ us) same =
     let here : kept_of unit ≡ kept_unit_of keeping u = cc in
     let rest : map kept_of units ≡ map (kept_unit_of keeping) us = cc in
-    let count : length unit.scopes.items ≡ length (places_in u u.dies) =
-    ap (λ (k : KeptUnit). length k.scopes) here ∙ (ap (λ (es : List ScopeEntry). length es) (entries_are u u.dies) ∙ length-map (places_in u u.dies) entry_in) in
+    let count : length unit.scopes.items ≡ length (sites_in u u.dies) =
+    ap (λ (k : KeptUnit). length k.scopes) here ∙ (ap (λ (es : List ScopeEntry). length es) (entries_are u u.dies) ∙ length-map (sites_in u u.dies) entry_in) in
     let sum : scope_count (unit ∷ units) ≡ length unit.scopes.items + scope_count units = sum_by-cons (λ unit. length unit.scopes.items) unit units in
-    omega (arith, count, sum, places-counted keeping units us rest, length-append (places_in u u.dies) (all_places us))
+    omega (arith, count, sum, sites-counted keeping units us rest, length-append (sites_in u u.dies) (all_sites us))
 
 pub scopes_counted : (keeping : Keeping) (s : Sections) (headers : List UnitHeader) (read : TablesRead s headers) (units : List UnitEntries) (bases : List Bases) (scopes : List Kept) (before : UnitsRead keeping s headers read units bases) →
     in_section names.DebugInfo (all_scopes keeping s before.us) ≡ Ok (map scope_of scopes) → scope_count units ≡ length scopes
 scopes_counted keeping s headers read units bases scopes before judged_are =
-    let parts = bound (λ judged. map (λ j. j.scope) judged) (each (judge keeping s before.us) (all_places before.us)) (map scope_of scopes) judged_are in
-    let made = each-length (judge keeping s before.us) [] (all_places before.us) parts.0 parts.1 in
+    let parts = bound (λ judged. map (λ j. j.scope) judged) (each (judge keeping s before.us) (all_sites before.us)) (map scope_of scopes) judged_are in
+    let made = each-length (judge keeping s before.us) [] (all_sites before.us) parts.0 parts.1 in
     let told : length scopes ≡ length parts.0 = sym (length-map scopes scope_of) ∙ (ap (λ (ss : List Scope). length ss) parts.2 ∙ length-map parts.0 (λ j. j.scope)) in
-    omega (arith, places-counted keeping units before.us before.are.same, made, told)
+    omega (arith, sites-counted keeping units before.us before.are.same, made, told)

@@ -19,8 +19,8 @@ use Rattle.dwarf_entries.specs.declared.paths.UnitEntry.{UnitEntry}
 use Rattle.dwarf_entries.specs.Entries.{Die}
 use Rattle.dwarf_entries.specs.Bases.{CompilationUnit}
 use Rattle.dwarf_entries.specs.Names.{Member, members_of, member_at, target_of}
-use Rattle.dwarf_entries.specs.Kept.{named_entry, RiseWithin, AreInOrder}
-use Rattle.dwarf_entries.specs.Members.{NamedUnit, named_unit, named_of, AreKept, Finds, member_in}
+use Rattle.dwarf_entries.specs.Private.Kept.{named_entry, RiseWithin, AreInOrder}
+use Rattle.dwarf_entries.specs.Private.Members.{NamedUnit, named_unit, named_of, AreKept, Finds, member_in}
 
 -- ---- lists of numbers that do not fall
 

@@ -12,8 +12,8 @@ use Rattle.dwarf_entries.specs.declared.kept.UnitEntries.{UnitEntries}
 use Rattle.dwarf_entries.specs.Entries.{Die}
 use Rattle.dwarf_entries.specs.Bases.{CompilationUnit}
 use Rattle.dwarf_entries.specs.Scopes.{kind_of, is_scope, root_of, roots_from}
-use Rattle.dwarf_entries.specs.Kept.{KeptUnit, scope_entry_of, root_in, kept_of, scope_count}
-use Rattle.dwarf_entries.specs.Passes.{kept_unit_of}
+use Rattle.dwarf_entries.specs.Private.Kept.{KeptUnit, scope_entry_of, root_in, kept_of, scope_count}
+use Rattle.dwarf_entries.specs.Private.Passes.{kept_unit_of}
 
 -- the roots of the units before the index, in front of those of the rest, are all
 abbrev pub RootsSoFar : List CompilationUnit → ℕ → ℕ → List Root → Type 0

@@ -11,8 +11,8 @@ use Rattle.dwarf_bytes.specs.Items.{At, Next, Item, End, Lists, reading, refuse_
 use Rattle.dwarf_bytes.specs.Numbers.{u8_at}
 use Rattle.dwarf_bytes.proofs.Advance.{after_bind, after_test}
 use Rattle.dwarf_bytes.proofs.ItemLaws.{Lists-within}
-use Rattle.dwarf_entries.specs.declared.ranges.RangeListKind.{RangeListKind}
-use Rattle.dwarf_entries.specs.declared.ranges.RangeListEntry.{RangeListEntry}
+use Rattle.dwarf_entries.specs.declared.range_entries.RangeListKind.{RangeListKind}
+use Rattle.dwarf_entries.specs.declared.range_entries.RangeListEntry.{RangeListEntry}
 use Rattle.dwarf_entries.specs.declared.attributes.AttributeValue.{AttributeValue}
 use Rattle.dwarf_bytes.specs.Bind.{◌>>=◌}
 use Rattle.dwarf_bytes.specs.Refusals.{Fails}
@@ -26,17 +26,17 @@ use Rattle.dwarf_entries.specs.Entries.{Die}
 use Rattle.dwarf_entries.specs.Bases.{CompilationUnit}
 use Rattle.dwarf_entries.specs.Names.{names_of}
 use Rattle.dwarf_entries.specs.Ranges.{Covering, kind_of, base_after, ranges_in, entry_at, listed_at, list_place, list_at, pair_range, covers_by, covers_of}
-use Rattle.dwarf_entries.specs.Scopes.{Judged, Place, items_limit, stmt_list_of, number_of}
-use Rattle.dwarf_entries.specs.Kept.{KeptUnit, named_entry, root_in, kept_unit, kept_of}
-use Rattle.dwarf_entries.specs.Members.{IsMember}
-use Rattle.dwarf_entries.specs.Passes.{AreUnits, stmt_list_in, IsPlace, only_units, only_member, scope_with}
+use Rattle.dwarf_entries.specs.Scopes.{Judged, ScopeSite, items_limit, stmt_list_of, number_of}
+use Rattle.dwarf_entries.specs.Private.Kept.{KeptUnit, named_entry, root_in, kept_unit, kept_of}
+use Rattle.dwarf_entries.specs.Private.Members.{IsMember}
+use Rattle.dwarf_entries.specs.Private.Passes.{AreUnits, stmt_list_in, IsScopeSite, only_units, only_member, scope_with}
 use Rattle.dwarf_entries.proofs.OnlyLaws.{is_member}
 
 abbrev pub kept_in : Keeping → CompilationUnit → KeptUnit
 kept_in keeping u = kept_unit keeping u.header u.dies
 
 -- the scope at a place, of its names and of what it covers
-abbrev pub scope_of_place : List Judged → Place → EntryNames → Covering → Judged
+abbrev pub scope_of_place : List Judged → ScopeSite → EntryNames → Covering → Judged
 scope_of_place before p names covering =
     let die = p.member.die in
     record {
@@ -56,12 +56,12 @@ scope_of_place before p names covering =
     }
 
 -- the names first, then the ranges
-by_names : (keeping : Keeping) (s : Sections) (us : List CompilationUnit) (before : List Judged) (p : Place) →
+by_names : (keeping : Keeping) (s : Sections) (us : List CompilationUnit) (before : List Judged) (p : ScopeSite) →
     scope_with keeping s us before p ≡ (names_of s (only_units keeping us) (only_member keeping p.member) >>= λ names. covers_of (items_limit - sum_by (λ s. s.items) before) s p.member.unit.bases p.member.die >>= λ covering. Ok (scope_of_place before p names covering))
 by_names keeping s us before p = refl
 
 -- a name that is not read, or a path that does not end
-pub names_fault : (keeping : Keeping) (s : Sections) (units : List UnitEntries) (bases : List Bases) (us : List CompilationUnit) (before : List Judged) (p : Place) (unit inside number room : ℕ) (entry : ScopeEntry) (cause : Cause) → IsPlace us unit entry inside number room before p →
+pub names_fault : (keeping : Keeping) (s : Sections) (units : List UnitEntries) (bases : List Bases) (us : List CompilationUnit) (before : List Judged) (p : ScopeSite) (unit inside number room : ℕ) (entry : ScopeEntry) (cause : Cause) → IsScopeSite us unit entry inside number room before p →
     (IsMember (only_units keeping us) unit entry.entry (only_member keeping p.member) → Err cause ≡ names_of s (only_units keeping us) (only_member keeping p.member)) → Fails cause (scope_with keeping s us before p)
 names_fault keeping s units bases us before p unit inside number room entry cause place read =
     let named : entry.entry ≡ named_entry p.member.die = ap (λ (e : ScopeEntry). e.entry) place.entry_is in
@@ -97,10 +97,10 @@ stmt_list_is [] = refl
 stmt_list_is (root ∷ dies) = refl
 
 -- what the entry of the place covers, by what is kept of it
-abbrev covers_there : Sections → List Judged → Place → Result Covering Cause
+abbrev covers_there : Sections → List Judged → ScopeSite → Result Covering Cause
 covers_there s before p = covers_of (items_limit - sum_by (λ s. s.items) before) s p.member.unit.bases p.member.die
 
-covers_is : (keeping : Keeping) (s : Sections) (units : List UnitEntries) (bases : List Bases) (us : List CompilationUnit) (before : List Judged) (p : Place) (unit inside number room : ℕ) (entry : ScopeEntry) (d : Bases) → AreUnits keeping units bases us → IsPlace us unit entry inside number room before p →
+covers_is : (keeping : Keeping) (s : Sections) (units : List UnitEntries) (bases : List Bases) (us : List CompilationUnit) (before : List Judged) (p : ScopeSite) (unit inside number room : ℕ) (entry : ScopeEntry) (d : Bases) → AreUnits keeping units bases us → IsScopeSite us unit entry inside number room before p →
     covers_there s before p ≡ covers_by room s (get_or bases unit d) entry.low_pc entry.high_pc entry.ranges
 unfolding covers_of
 covers_is keeping s units bases us before p unit inside number room entry d kept place =
@@ -108,14 +108,14 @@ covers_is keeping s units bases us before p unit inside number room entry d kept
     rw (here, place.entry_is, place.room_is) refl
 
 -- the scope behind its names
-after_names : (keeping : Keeping) (s : Sections) (us : List CompilationUnit) (before : List Judged) (p : Place) (names : EntryNames) → Ok names ≡ names_of s (only_units keeping us) (only_member keeping p.member) →
+after_names : (keeping : Keeping) (s : Sections) (us : List CompilationUnit) (before : List Judged) (p : ScopeSite) (names : EntryNames) → Ok names ≡ names_of s (only_units keeping us) (only_member keeping p.member) →
     scope_with keeping s us before p ≡ (covers_there s before p >>= λ covering. Ok (scope_of_place before p names covering))
 after_names keeping s us before p names read =
     by_names keeping s us before p ∙ ap (λ (r : Result EntryNames Cause). r >>= λ names. covers_there s before p >>= λ covering. Ok (scope_of_place before p names covering)) (sym read)
 
 -- ranges that are not read
-pub covers_fault : (keeping : Keeping) (s : Sections) (units : List UnitEntries) (bases : List Bases) (us : List CompilationUnit) (before : List Judged) (p : Place) (unit inside number room : ℕ) (entry : ScopeEntry) (names : EntryNames) (cause : Cause) (d : Bases) →
-    AreUnits keeping units bases us → IsPlace us unit entry inside number room before p → (IsMember (only_units keeping us) unit entry.entry (only_member keeping p.member) → Ok names ≡ names_of s (only_units keeping us) (only_member keeping p.member)) →
+pub covers_fault : (keeping : Keeping) (s : Sections) (units : List UnitEntries) (bases : List Bases) (us : List CompilationUnit) (before : List Judged) (p : ScopeSite) (unit inside number room : ℕ) (entry : ScopeEntry) (names : EntryNames) (cause : Cause) (d : Bases) →
+    AreUnits keeping units bases us → IsScopeSite us unit entry inside number room before p → (IsMember (only_units keeping us) unit entry.entry (only_member keeping p.member) → Ok names ≡ names_of s (only_units keeping us) (only_member keeping p.member)) →
     Fails cause (covers_by room s (get_or bases unit d) entry.low_pc entry.high_pc entry.ranges) → Fails cause (scope_with keeping s us before p)
 covers_fault keeping s units bases us before p unit inside number room entry names cause d kept place read (inl memory) = inl memory
 covers_fault keeping s units bases us before p unit inside number room entry names cause d kept place read (inr bad) =
@@ -125,8 +125,8 @@ covers_fault keeping s units bases us before p unit inside number room entry nam
     ∙ ap (λ (r : Result Covering Cause). r >>= λ covering. Ok (scope_of_place before p names covering)) (covers_is keeping s units bases us before p unit inside number room entry d kept place ∙ bad))
 
 -- the scope of the program
-pub scope_is : (keeping : Keeping) (s : Sections) (units : List UnitEntries) (bases : List Bases) (us : List CompilationUnit) (before : List Judged) (p : Place) (unit inside number room : ℕ) (entry : ScopeEntry) (names : EntryNames) (covering : Covering) (stmt_list : Option ℕ) (d : Bases) (e : UnitEntries) →
-    AreUnits keeping units bases us → IsPlace us unit entry inside number room before p → (IsMember (only_units keeping us) unit entry.entry (only_member keeping p.member) → Ok names ≡ names_of s (only_units keeping us) (only_member keeping p.member)) →
+pub scope_is : (keeping : Keeping) (s : Sections) (units : List UnitEntries) (bases : List Bases) (us : List CompilationUnit) (before : List Judged) (p : ScopeSite) (unit inside number room : ℕ) (entry : ScopeEntry) (names : EntryNames) (covering : Covering) (stmt_list : Option ℕ) (d : Bases) (e : UnitEntries) →
+    AreUnits keeping units bases us → IsScopeSite us unit entry inside number room before p → (IsMember (only_units keeping us) unit entry.entry (only_member keeping p.member) → Ok names ≡ names_of s (only_units keeping us) (only_member keeping p.member)) →
     covers_by room s (get_or bases unit d) entry.low_pc entry.high_pc entry.ranges ≡ Ok covering → stmt_list ≡ stmt_list_in (get_or units unit e).root →
     scope_with keeping s us before p ≡ Ok (record {
       items = covering.items;

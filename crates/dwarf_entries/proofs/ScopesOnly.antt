@@ -24,9 +24,9 @@ use Rattle.dwarf_entries.specs.Sections.{Sections}
 use Rattle.dwarf_entries.specs.Entries.{Die, attribute}
 use Rattle.dwarf_entries.specs.Bases.{CompilationUnit, optional}
 use Rattle.dwarf_entries.specs.Names.{Member, members_of, member_at, or_else, next_of, target_of, hops_limit, path_within, path_of, first_on, text_of, name_on, names_of}
-use Rattle.dwarf_entries.specs.Scopes.{Tree, Judged, Place, kind_of, is_scope, place_of, places_in, roots_from, scope_by}
-use Rattle.dwarf_entries.specs.Kept.{RiseWithin, AreInOrder}
-use Rattle.dwarf_entries.specs.Passes.{all_entries, all_units, scopes_only, only_member, judge, all_places, TablesRead, tree_of_units, tree_of_dies, tree_with}
+use Rattle.dwarf_entries.specs.Scopes.{Tree, Judged, ScopeSite, kind_of, is_scope, site_of, sites_in, roots_from, scope_by}
+use Rattle.dwarf_entries.specs.Private.Kept.{RiseWithin, AreInOrder}
+use Rattle.dwarf_entries.specs.Private.Passes.{all_entries, all_units, scopes_only, only_member, judge, all_sites, TablesRead, tree_of_units, tree_of_dies, tree_with}
 use Rattle.dwarf_entries.proofs.ReferenceLaws.{stands_at, member_of, is_not_above, none-outside, none-before, find-map}
 use Rattle.dwarf_entries.proofs.PathLaws.{in_front, stepped, ended, stopped, both_names}
 use Rattle.dwarf_entries.proofs.OrderLaws.{units-in-order}
@@ -238,48 +238,48 @@ names-alike s us m h rises = elim (path-alike hops_limit us m h rises) [
 abbrev ScopesAlike : {X : Type 0} → Result X At → Result X At → Type 0
 ScopesAlike among all = ((at : ℕ) × (among ≡ Err (causes.Reference, at))) ⊎ (among ≡ all)
 
-judge-alike : (s : Sections) (us : List CompilationUnit) (before : List Judged) (p : Place) → AreInOrder 0 us → Rises p.member.unit → ScopesAlike (judge keepings.Scopes s us before p) (judge keepings.Every s us before p)
+judge-alike : (s : Sections) (us : List CompilationUnit) (before : List Judged) (p : ScopeSite) → AreInOrder 0 us → Rises p.member.unit → ScopesAlike (judge keepings.Scopes s us before p) (judge keepings.Every s us before p)
 judge-alike s us before p h rises = elim (names-alike s us p.member h rises) [
   | inl lost ↦ inl (p.member.die.offset, ap (λ (n : Result EntryNames Cause). told_at p.member.die.offset (scope_by n s before p)) lost)
   | inr same ↦ inr (ap (λ (n : Result EntryNames Cause). told_at p.member.die.offset (scope_by n s before p)) same)
 ]
 
-abbrev AllRise : List Place → Type 0
+abbrev AllRise : List ScopeSite → Type 0
 AllRise [] = Unit {0}
 AllRise (p ∷ ps) = Rises p.member.unit × AllRise ps
 
-rise-append : (ps qs : List Place) → AllRise ps → AllRise qs → AllRise (ps ++ qs)
+rise-append : (ps qs : List ScopeSite) → AllRise ps → AllRise qs → AllRise (ps ++ qs)
 rise-append [] qs first rest = rest
 rise-append (p ∷ ps) qs first rest = (first.0, rise-append ps qs first.1 rest)
 
-places-rise : (u : CompilationUnit) (dies : List Die) → Rises u → AllRise (places_in u dies)
-places-rise u [] rises = tt
-places-rise u (die ∷ dies) rises = by_kind (kind_of die.tag) (places-rise u dies rises)
+sites-rise : (u : CompilationUnit) (dies : List Die) → Rises u → AllRise (sites_in u dies)
+sites-rise u [] rises = tt
+sites-rise u (die ∷ dies) rises = by_kind (kind_of die.tag) (sites-rise u dies rises)
   where
-    by_kind : (kind : Option ScopeKind) → AllRise (places_in u dies) → AllRise (place_of u die dies kind (places_in u dies))
+    by_kind : (kind : Option ScopeKind) → AllRise (sites_in u dies) → AllRise (site_of u die dies kind (sites_in u dies))
     by_kind None rest = rest
     by_kind (Some kind) rest = (rises, rest)
 
-all-rise : (from : ℕ) (us : List CompilationUnit) → AreInOrder from us → AllRise (all_places us)
+all-rise : (from : ℕ) (us : List CompilationUnit) → AreInOrder from us → AllRise (all_sites us)
 all-rise from [] h = tt
-all-rise from (u ∷ us) h = rise-append (places_in u u.dies) (all_places us) (places-rise u u.dies h.1) (all-rise u.header.end us h.2)
+all-rise from (u ∷ us) h = rise-append (sites_in u u.dies) (all_sites us) (sites-rise u u.dies h.1) (all-rise u.header.end us h.2)
 
-abbrev each_with : (List Judged → Place → Result Judged At) → List Judged → List Place → Result Judged At → Result (List Judged) At
+abbrev each_with : (List Judged → ScopeSite → Result Judged At) → List Judged → List ScopeSite → Result Judged At → Result (List Judged) At
 each_with make before ps first = first >>= λ y. each_from make (before ++ y ∷ []) ps >>= λ ys. Ok (y ∷ ys)
 
-each-first : (make : List Judged → Place → Result Judged At) (before : List Judged) (p : Place) (ps : List Place) → each_from make before (p ∷ ps) ≡ each_with make before ps (make before p)
+each-first : (make : List Judged → ScopeSite → Result Judged At) (before : List Judged) (p : ScopeSite) (ps : List ScopeSite) → each_from make before (p ∷ ps) ≡ each_with make before ps (make before p)
 unfolding each_from
 each-first make before p ps = refl
 
-each-alike : (s : Sections) (us : List CompilationUnit) (before : List Judged) (ps : List Place) → AreInOrder 0 us → AllRise ps → ScopesAlike (each_from (judge keepings.Scopes s us) before ps) (each_from (judge keepings.Every s us) before ps)
+each-alike : (s : Sections) (us : List CompilationUnit) (before : List Judged) (ps : List ScopeSite) → AreInOrder 0 us → AllRise ps → ScopesAlike (each_from (judge keepings.Scopes s us) before ps) (each_from (judge keepings.Every s us) before ps)
 unfolding each_from
 each-alike s us before [] h rise = inr refl
 each-alike s us before (p ∷ ps) h rise = by_first (judge-alike s us before p h rise.0) (λ y. each-alike s us (before ++ y ∷ []) ps h rise.1)
   where
-    f : List Judged → Place → Result Judged At
+    f : List Judged → ScopeSite → Result Judged At
     f = judge keepings.Scopes s us
 
-    g : List Judged → Place → Result Judged At
+    g : List Judged → ScopeSite → Result Judged At
     g = judge keepings.Every s us
 
     by_made : (made : Result Judged At) → f before p ≡ made → g before p ≡ made → ((y : Judged) → ScopesAlike (each_from f (before ++ y ∷ []) ps) (each_from g (before ++ y ∷ []) ps)) → ScopesAlike (each_from f before (p ∷ ps)) (each_from g before (p ∷ ps))
@@ -303,7 +303,7 @@ abbrev pub TreeAlike : Result Tree LoadFault → Result Tree LoadFault → Type 
 TreeAlike among all = ((fault : LoadFault) × (among ≡ Err fault) × (fault.cause ≡ causes.Reference)) ⊎ (among ≡ all)
 
 units-alike : (s : Sections) (us : List CompilationUnit) → AreInOrder 0 us → TreeAlike (tree_of_units keepings.Scopes s us) (tree_of_units keepings.Every s us)
-units-alike s us h = elim (each-alike s us [] (all_places us) h (all-rise 0 us h)) [
+units-alike s us h = elim (each-alike s us [] (all_sites us) h (all-rise 0 us h)) [
   | inl (at, lost) ↦ inl (record { section = names.DebugInfo; cause = causes.Reference; at = at }, ap tree lost, refl)
   | inr same ↦ inr (ap tree same)
 ]

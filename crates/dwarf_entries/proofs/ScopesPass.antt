@@ -19,13 +19,13 @@ use Rattle.dwarf_entries.specs.declared.kept.ScopeEntry.{ScopeEntry}
 use Rattle.dwarf_entries.specs.declared.scope.Scope.{Scope as Kept}
 use Rattle.dwarf_entries.specs.Sections.{Sections}
 use Rattle.dwarf_entries.specs.Bases.{CompilationUnit}
-use Rattle.dwarf_entries.specs.Scopes.{Judged, Place, Scope, items_limit, places_in, scope_of}
-use Rattle.dwarf_entries.specs.Passes.{AreUnits, judged_of, IsPlace, judge, AreJudged, AddsScopes, all_places, scope_with, all_scopes}
+use Rattle.dwarf_entries.specs.Scopes.{Judged, ScopeSite, Scope, items_limit, sites_in, scope_of}
+use Rattle.dwarf_entries.specs.Private.Passes.{AreUnits, judged_of, IsScopeSite, judge, AreJudged, AddsScopes, all_sites, scope_with, all_scopes}
 use Rattle.dwarf_bytes.proofs.EachPlaces.{each-append}
 use Rattle.dwarf_entries.proofs.PassLaws.{told_cases}
-use Rattle.dwarf_entries.specs.Kept.{KeptUnit, scope_entry_of, insides_in, kept_of}
+use Rattle.dwarf_entries.specs.Private.Kept.{KeptUnit, scope_entry_of, insides_in, kept_of}
 use Rattle.dwarf_entries.proofs.ScopeLaws.{kept_in, unit_at}
-use Rattle.dwarf_entries.proofs.PlaceLaws.{PlaceAt, place_at, as_many, few_there, entries_are, entry_in}
+use Rattle.dwarf_entries.proofs.SiteLaws.{SiteAt, site_at, as_many, few_there, entries_are, entry_in}
 
 -- a unit of the program is one of the definitions
 pub known_unit : (keeping : Keeping) (units : List UnitEntries) (bases : List Bases) (us : List CompilationUnit) (unit : ℕ) → AreUnits keeping units bases us → unit < length units → (u : CompilationUnit) × (slice_get us unit ≡ Some u)
@@ -57,14 +57,14 @@ kept_there keeping units bases us unit u d are found =
 pub record JudgedSoFar (keeping : Keeping) (s : Sections) (us : List CompilationUnit) (u : CompilationUnit) (before : List Judged) (index : ℕ) (scopes : List Kept) (left : ℕ) : Type 0 where
   pub judged : List Judged
   pub are_judged : AreJudged judged scopes left
-  pub read : made_front judged (each_from (judge keeping s us) judged (drop index (places_in u u.dies))) ≡ made_front before (each_from (judge keeping s us) before (places_in u u.dies))
+  pub read : made_front judged (each_from (judge keeping s us) judged (drop index (sites_in u u.dies))) ≡ made_front before (each_from (judge keeping s us) before (sites_in u u.dies))
 
 pub judged_none : (keeping : Keeping) (s : Sections) (us : List CompilationUnit) (u : CompilationUnit) (before : List Judged) (scopes : List Kept) (left : ℕ) → AreJudged before scopes left → JudgedSoFar keeping s us u before 0 scopes left
 judged_none keeping s us u before scopes left are = record { judged = before; are_judged = are; read = refl }
 
 -- the place of a scope, behind those before it
 pub is_place : (keeping : Keeping) (s : Sections) (us : List CompilationUnit) (u : CompilationUnit) (before : List Judged) (unit index : ℕ) (scopes : List Kept) (left number : ℕ) (entry : ScopeEntry) (inside : ℕ) → (so_far : JudgedSoFar keeping s us u before index scopes left) →
-    slice_get us unit ≡ Some u → (p : PlaceAt u index entry inside) → number ≡ length scopes → IsPlace us unit entry inside number left so_far.judged p.place
+    slice_get us unit ≡ Some u → (p : SiteAt u index entry inside) → number ≡ length scopes → IsScopeSite us unit entry inside number left so_far.judged p.place
 is_place keeping s us u before unit index scopes left number entry inside so_far found p number_is =
     let judged = so_far.judged in
     let sizes : length scopes ≡ length judged = sym (length-map scopes scope_of) ∙ (ap (λ (ss : List _). length ss) so_far.are_judged.0 ∙ length-map judged (λ j. j.scope)) in
@@ -77,18 +77,18 @@ is_place keeping s us u before unit index scopes left number entry inside so_far
     }
 
 pub judged_next : (keeping : Keeping) (s : Sections) (us : List CompilationUnit) (u : CompilationUnit) (before : List Judged) (index : ℕ) (scopes : List Kept) (left after : ℕ) (entry : ScopeEntry) (inside items : ℕ) (scope : Kept) →
-    (so_far : JudgedSoFar keeping s us u before index scopes left) (p : PlaceAt u index entry inside) → scope_with keeping s us so_far.judged p.place ≡ Ok (judged_of (scope, items)) → after + items ≡ left →
+    (so_far : JudgedSoFar keeping s us u before index scopes left) (p : SiteAt u index entry inside) → scope_with keeping s us so_far.judged p.place ≡ Ok (judged_of (scope, items)) → after + items ≡ left →
     JudgedSoFar keeping s us u before (index + 1) (scopes ++ scope ∷ []) after
 judged_next keeping s us u before index scopes left after entry inside items scope so_far p read counted =
     let judged = so_far.judged in
-    let places = places_in u u.dies in
+    let places = sites_in u u.dies in
     let one : Judged = judged_of (scope, items) in
     let here : judge keeping s us judged p.place ≡ Ok one = ap (λ (r : Result Judged Cause). told_at p.place.member.die.offset r) read in
     let sum : sum_by (λ j. j.items) (judged ++ one ∷ []) ≡ sum_by (λ j. j.items) judged + items = sum_by-append (λ j. j.items) judged (one ∷ []) ∙ omega arith in
     record {
       judged = judged ++ one ∷ [];
       are_judged = (map-append scope_of scopes (scope ∷ []) ∙ (ap (λ (ss : List _). ss ++ scope_of scope ∷ []) so_far.are_judged.0 ∙ sym (map-append (λ j. j.scope) judged (one ∷ []))), omega (arith, so_far.are_judged.1, counted, sum));
-      read = sym (each-next (judge keeping s us) judged p.place (drop (index + 1) places) one here) ∙ (ap (λ (ps : List Place). made_front judged (each_from (judge keeping s us) judged ps)) (sym p.rest) ∙ so_far.read);
+      read = sym (each-next (judge keeping s us) judged p.place (drop (index + 1) places) one here) ∙ (ap (λ (ps : List ScopeSite). made_front judged (each_from (judge keeping s us) judged ps)) (sym p.rest) ∙ so_far.read);
     }
 
 -- what was made in front is what was made behind
@@ -106,32 +106,32 @@ front-err before (Err d) e h = h2 h
     h2 : (let f : At → Result (List Judged) At = λ z. Err z in f d ≡ f e) → (let f : At → Result (List Judged) At = λ z. Err z in f d ≡ f e)
     h2 h = h
 
-pub judged_end : (keeping : Keeping) (s : Sections) (us : List CompilationUnit) (u : CompilationUnit) (before : List Judged) (index : ℕ) (scopes : List Kept) (left : ℕ) → JudgedSoFar keeping s us u before index scopes left → length (places_in u u.dies) ≤ index →
-    AddsScopes keeping (Ok tt) s us (places_in u u.dies) before scopes left
+pub judged_end : (keeping : Keeping) (s : Sections) (us : List CompilationUnit) (u : CompilationUnit) (before : List Judged) (index : ℕ) (scopes : List Kept) (left : ℕ) → JudgedSoFar keeping s us u before index scopes left → length (sites_in u u.dies) ≤ index →
+    AddsScopes keeping (Ok tt) s us (sites_in u u.dies) before scopes left
 judged_end keeping s us u before index scopes left so_far past =
     let judged = so_far.judged in
-    let none : drop index (places_in u u.dies) ≡ [] = drop_all index (places_in u u.dies) past in
-    let all : made_front before (each_from (judge keeping s us) before (places_in u u.dies)) ≡ Ok judged =
-    sym so_far.read ∙ (ap (λ (ps : List Place). made_front judged (each_from (judge keeping s us) judged ps)) none ∙ each-end (judge keeping s us) judged) in
-    let parts = front-ok before judged (each_from (judge keeping s us) before (places_in u u.dies)) all in
+    let none : drop index (sites_in u u.dies) ≡ [] = drop_all index (sites_in u u.dies) past in
+    let all : made_front before (each_from (judge keeping s us) before (sites_in u u.dies)) ≡ Ok judged =
+    sym so_far.read ∙ (ap (λ (ps : List ScopeSite). made_front judged (each_from (judge keeping s us) judged ps)) none ∙ each-end (judge keeping s us) judged) in
+    let parts = front-ok before judged (each_from (judge keeping s us) before (sites_in u u.dies)) all in
     (parts.0, parts.1, subst (λ (js : List Judged). AreJudged js scopes left) (sym parts.2) so_far.are_judged)
 
 pub judged_fault : (keeping : Keeping) (s : Sections) (us : List CompilationUnit) (u : CompilationUnit) (before : List Judged) (index : ℕ) (scopes final : List Kept) (left last : ℕ) (entry : ScopeEntry) (inside : ℕ) (cause : Cause) (fault : LoadFault) →
-    (so_far : JudgedSoFar keeping s us u before index scopes left) (p : PlaceAt u index entry inside) → Fails cause (scope_with keeping s us so_far.judged p.place) → fault ≡ told names.DebugInfo cause entry.entry.offset →
-    AddsScopes keeping (Err fault) s us (places_in u u.dies) before final last
+    (so_far : JudgedSoFar keeping s us u before index scopes left) (p : SiteAt u index entry inside) → Fails cause (scope_with keeping s us so_far.judged p.place) → fault ≡ told names.DebugInfo cause entry.entry.offset →
+    AddsScopes keeping (Err fault) s us (sites_in u u.dies) before final last
 judged_fault keeping s us u before index scopes final left last entry inside cause fault so_far p (inl memory) told_is = inl (told_is ∙ ap (λ (c : Cause). told names.DebugInfo c entry.entry.offset) memory)
 judged_fault keeping s us u before index scopes final left last entry inside cause fault so_far p (inr bad) told_is = by_cause (told_cases cause entry.entry.offset)
   where
     by_cause : (told names.DebugInfo cause entry.entry.offset ≡ memory_fault) ⊎ (told names.DebugInfo cause entry.entry.offset ≡ record { section = names.DebugInfo; cause = cause; at = entry.entry.offset }) →
-        (fault ≡ memory_fault) ⊎ (in_section names.DebugInfo (each_from (judge keeping s us) before (places_in u u.dies)) ≡ Err fault)
+        (fault ≡ memory_fault) ⊎ (in_section names.DebugInfo (each_from (judge keeping s us) before (sites_in u u.dies)) ≡ Err fault)
     by_cause (inl memory) = inl (told_is ∙ memory)
     by_cause (inr itself) =
         let judged = so_far.judged in
         let offset : entry.entry.offset ≡ p.place.member.die.offset = ap (λ (e : ScopeEntry). e.entry.offset) p.entry_is in
         let here : judge keeping s us judged p.place ≡ Err (cause, p.place.member.die.offset) = ap (λ (r : Result Judged Cause). told_at p.place.member.die.offset r) bad in
-        let all : made_front before (each_from (judge keeping s us) before (places_in u u.dies)) ≡ Err (cause, p.place.member.die.offset) =
-        sym so_far.read ∙ (ap (λ (ps : List Place). made_front judged (each_from (judge keeping s us) judged ps)) p.rest ∙ each-fault (judge keeping s us) judged p.place (drop (index + 1) (places_in u u.dies)) (cause, p.place.member.die.offset) here) in
-        inr (rw (front-err before (each_from (judge keeping s us) before (places_in u u.dies)) (cause, p.place.member.die.offset) all, told_is, itself, offset) refl)
+        let all : made_front before (each_from (judge keeping s us) before (sites_in u u.dies)) ≡ Err (cause, p.place.member.die.offset) =
+        sym so_far.read ∙ (ap (λ (ps : List ScopeSite). made_front judged (each_from (judge keeping s us) judged ps)) p.rest ∙ each-fault (judge keeping s us) judged p.place (drop (index + 1) (sites_in u u.dies)) (cause, p.place.member.die.offset) here) in
+        inr (rw (front-err before (each_from (judge keeping s us) before (sites_in u u.dies)) (cause, p.place.member.die.offset) all, told_is, itself, offset) refl)
 
 -- ---- what a turn asks
 
@@ -147,12 +147,12 @@ inside_there keeping units bases us unit index number first d list are within li
     omega (arith, number_is, inside, many, sizes, kept.insides.ok.0)
 
 pub place_there : (keeping : Keeping) (units : List UnitEntries) (bases : List Bases) (us : List CompilationUnit) (u : CompilationUnit) (unit index number first e : ℕ) (d : UnitEntries) (list : List ScopeEntry) (x entry : ScopeEntry) (inside : ℕ) → AreUnits keeping units bases us → slice_get us unit ≡ Some u →
-    list ≡ (get_or units unit d).scopes.items → index < length list → number ≡ first + index → entry ≡ get_or list index x → inside ≡ get_or (get_or units unit d).insides.items (number - first) e → PlaceAt u index entry inside
+    list ≡ (get_or units unit d).scopes.items → index < length list → number ≡ first + index → entry ≡ get_or list index x → inside ≡ get_or (get_or units unit d).insides.items (number - first) e → SiteAt u index entry inside
 place_there keeping units bases us u unit index number first e d list x entry inside are found list_is within number_is entry_is inside_is =
     let kept : UnitEntries = get_or units unit d in
     let there = kept_there keeping units bases us unit u d are found in
     let index_is : number - first ≡ index = omega (arith, number_is) in
-    place_at u list kept.insides.items index e x entry inside (list_is ∙ there.scopes_are) there.insides_are within entry_is (inside_is ∙ ap (λ (k : ℕ). get_or kept.insides.items k e) index_is)
+    site_at u list kept.insides.items index e x entry inside (list_is ∙ there.scopes_are) there.insides_are within entry_is (inside_is ∙ ap (λ (k : ℕ). get_or kept.insides.items k e) index_is)
 
 -- the end of a scope is a number of the machine
 pub end_fits : (keeping : Keeping) (units : List UnitEntries) (bases : List Bases) (us : List CompilationUnit) (unit index number first e : ℕ) (d : UnitEntries) (list : List ScopeEntry) (inside : ℕ) → AreUnits keeping units bases us → unit < length units →
@@ -167,10 +167,10 @@ end_fits keeping units bases us unit index number first e d list inside are with
 
 -- all scopes of a unit were looked at
 pub all_there : (keeping : Keeping) (units : List UnitEntries) (bases : List Bases) (us : List CompilationUnit) (u : CompilationUnit) (unit index : ℕ) (d : UnitEntries) (list : List ScopeEntry) → AreUnits keeping units bases us → slice_get us unit ≡ Some u →
-    list ≡ (get_or units unit d).scopes.items → length list ≤ index → length (places_in u u.dies) ≤ index
+    list ≡ (get_or units unit d).scopes.items → length list ≤ index → length (sites_in u u.dies) ≤ index
 all_there keeping units bases us u unit index d list are found list_is past =
     let there = kept_there keeping units bases us unit u d are found in
-    let sizes : length list ≡ length (places_in u u.dies) = ap (λ (es : List ScopeEntry). length es) (list_is ∙ (there.scopes_are ∙ entries_are u u.dies)) ∙ length-map (places_in u u.dies) entry_in in
+    let sizes : length list ≡ length (sites_in u u.dies) = ap (λ (es : List ScopeEntry). length es) (list_is ∙ (there.scopes_are ∙ entries_are u u.dies)) ∙ length-map (sites_in u u.dies) entry_in in
     omega (arith, sizes, past)
 
 -- ---- the loop over the units
@@ -179,22 +179,22 @@ all_there keeping units bases us u unit index d list are found list_is past =
 pub record ScopesSoFar (keeping : Keeping) (s : Sections) (us : List CompilationUnit) (index : ℕ) (scopes : List Kept) (left : ℕ) : Type 0 where
   pub judged : List Judged
   pub are_judged : AreJudged judged scopes left
-  pub read : made_front judged (each_from (judge keeping s us) judged (all_places (drop index us))) ≡ each (judge keeping s us) (all_places us)
+  pub read : made_front judged (each_from (judge keeping s us) judged (all_sites (drop index us))) ≡ each (judge keeping s us) (all_sites us)
 
 pub scopes_none : (keeping : Keeping) (s : Sections) (us : List CompilationUnit) → ScopesSoFar keeping s us 0 [] items_limit
-scopes_none keeping s us = record { judged = []; are_judged = (refl, refl); read = no_front (each (judge keeping s us) (all_places us)) }
+scopes_none keeping s us = record { judged = []; are_judged = (refl, refl); read = no_front (each (judge keeping s us) (all_sites us)) }
   where
     no_front : (r : Result (List Judged) At) → made_front [] r ≡ r
     no_front (Ok x) = refl
     no_front (Err e) = refl
 
 -- the places from a unit on are its own, and those of the units behind it
-places_from : (us : List CompilationUnit) (u : CompilationUnit) (index : ℕ) → slice_get us index ≡ Some u → all_places (drop index us) ≡ places_in u u.dies ++ all_places (drop (index + 1) us)
+places_from : (us : List CompilationUnit) (u : CompilationUnit) (index : ℕ) → slice_get us index ≡ Some u → all_sites (drop index us) ≡ sites_in u u.dies ++ all_sites (drop (index + 1) us)
 places_from us u index found =
     let within : index < length us = inside ((slice_get_cases us index).1) in
     let here : get_or us index u ≡ u = get_or_from_slice_get us index u u found in
     let rest : drop index us ≡ u ∷ drop (index + 1) us = rw (add-one, drop-cons us index u within, here) refl in
-    ap (λ (vs : List CompilationUnit). all_places vs) rest
+    ap (λ (vs : List CompilationUnit). all_sites vs) rest
   where
     inside : ((x : CompilationUnit) × (index < length us) × (slice_get us index ≡ Some x) × (get_or us index x ≡ x)) ⊎ ((length us ≤ index) × (slice_get us index ≡ None)) → index < length us
     inside (inl there) = there.1
@@ -204,7 +204,7 @@ places_from us u index found =
         never h = cc
 
 -- what is made of two lists, from what is made of the first
-stretch : (keeping : Keeping) (s : Sections) (us : List CompilationUnit) (judged after : List Judged) (places more : List Place) → each_from (judge keeping s us) judged places ≡ Ok after →
+stretch : (keeping : Keeping) (s : Sections) (us : List CompilationUnit) (judged after : List Judged) (places more : List ScopeSite) → each_from (judge keeping s us) judged places ≡ Ok after →
     made_front judged (each_from (judge keeping s us) judged (places ++ more)) ≡ made_front (judged ++ after) (each_from (judge keeping s us) (judged ++ after) more)
 stretch keeping s us judged after places more is =
     ap (λ (r : Result (List Judged) At). made_front judged r) (each-append (judge keeping s us) judged places more ∙ ap (λ (r : Result (List Judged) At). r >>= λ ys. each_from (judge keeping s us) (judged ++ ys) more >>= λ zs. Ok (ys ++ zs)) is)
@@ -215,7 +215,7 @@ stretch keeping s us judged after places more is =
     behind (Err e) = refl
 
 pub scopes_next : (keeping : Keeping) (s : Sections) (units : List UnitEntries) (bases : List Bases) (us : List CompilationUnit) (index : ℕ) (old scopes : List Kept) (left after : ℕ) → AreUnits keeping units bases us → index < length units → (so_far : ScopesSoFar keeping s us index old left) →
-    ((u : CompilationUnit) (before : List Judged) → slice_get us index ≡ Some u → AreJudged before old left → AddsScopes keeping (Ok tt) s us (places_in u u.dies) before scopes after) → ScopesSoFar keeping s us (index + 1) scopes after
+    ((u : CompilationUnit) (before : List Judged) → slice_get us index ≡ Some u → AreJudged before old left → AddsScopes keeping (Ok tt) s us (sites_in u u.dies) before scopes after) → ScopesSoFar keeping s us (index + 1) scopes after
 scopes_next keeping s units bases us index old scopes left after are within so_far adds =
     let u = known_unit keeping units bases us index are within in
     let judged = so_far.judged in
@@ -223,12 +223,12 @@ scopes_next keeping s units bases us index old scopes left after are within so_f
     record {
       judged = judged ++ added.0;
       are_judged = added.2;
-      read = sym (stretch keeping s us judged added.0 (places_in u.0 u.0.dies) (all_places (drop (index + 1) us)) added.1)
-          ∙ (ap (λ (ps : List Place). made_front judged (each_from (judge keeping s us) judged ps)) (sym (places_from us u.0 index u.1)) ∙ so_far.read);
+      read = sym (stretch keeping s us judged added.0 (sites_in u.0 u.0.dies) (all_sites (drop (index + 1) us)) added.1)
+          ∙ (ap (λ (ps : List ScopeSite). made_front judged (each_from (judge keeping s us) judged ps)) (sym (places_from us u.0 index u.1)) ∙ so_far.read);
     }
 
 pub scopes_fault : (keeping : Keeping) (s : Sections) (units : List UnitEntries) (bases : List Bases) (us : List CompilationUnit) (index : ℕ) (old scopes : List Kept) (left after : ℕ) (fault : LoadFault) → AreUnits keeping units bases us → index < length units → (so_far : ScopesSoFar keeping s us index old left) →
-    ((u : CompilationUnit) (before : List Judged) → slice_get us index ≡ Some u → AreJudged before old left → AddsScopes keeping (Err fault) s us (places_in u u.dies) before scopes after) →
+    ((u : CompilationUnit) (before : List Judged) → slice_get us index ≡ Some u → AreJudged before old left → AddsScopes keeping (Err fault) s us (sites_in u u.dies) before scopes after) →
     (fault ≡ memory_fault) ⊎ (in_section names.DebugInfo (all_scopes keeping s us) ≡ Err fault)
 scopes_fault keeping s units bases us index old scopes left after fault are within so_far adds =
     let u = known_unit keeping units bases us index are within in
@@ -237,21 +237,21 @@ scopes_fault keeping s units bases us index old scopes left after fault are with
     judged : List Judged
     judged = so_far.judged
 
-    by_read : (u : CompilationUnit) → slice_get us index ≡ Some u → (r : Result (List Judged) At) → each_from (judge keeping s us) judged (places_in u u.dies) ≡ r → in_section names.DebugInfo r ≡ Err fault → in_section names.DebugInfo (all_scopes keeping s us) ≡ Err fault
+    by_read : (u : CompilationUnit) → slice_get us index ≡ Some u → (r : Result (List Judged) At) → each_from (judge keeping s us) judged (sites_in u u.dies) ≡ r → in_section names.DebugInfo r ≡ Err fault → in_section names.DebugInfo (all_scopes keeping s us) ≡ Err fault
     by_read u found (Ok x) is h = cc
     by_read u found (Err e) is h =
-        let here : each_from (judge keeping s us) judged (places_in u u.dies ++ all_places (drop (index + 1) us)) ≡ Err e =
-        each-append (judge keeping s us) judged (places_in u u.dies) (all_places (drop (index + 1) us)) ∙ ap (λ (r : Result (List Judged) At). r >>= λ ys. each_from (judge keeping s us) (judged ++ ys) (all_places (drop (index + 1) us)) >>= λ zs. Ok (ys ++ zs)) is in
-        let all : each (judge keeping s us) (all_places us) ≡ Err e =
-        sym so_far.read ∙ ap (λ (r : Result (List Judged) At). made_front judged r) (ap (λ (ps : List Place). each_from (judge keeping s us) judged ps) (places_from us u index found) ∙ here) in
+        let here : each_from (judge keeping s us) judged (sites_in u u.dies ++ all_sites (drop (index + 1) us)) ≡ Err e =
+        each-append (judge keeping s us) judged (sites_in u u.dies) (all_sites (drop (index + 1) us)) ∙ ap (λ (r : Result (List Judged) At). r >>= λ ys. each_from (judge keeping s us) (judged ++ ys) (all_sites (drop (index + 1) us)) >>= λ zs. Ok (ys ++ zs)) is in
+        let all : each (judge keeping s us) (all_sites us) ≡ Err e =
+        sym so_far.read ∙ ap (λ (r : Result (List Judged) At). made_front judged r) (ap (λ (ps : List ScopeSite). each_from (judge keeping s us) judged ps) (places_from us u index found) ∙ here) in
         rw all (ap (λ (f : LoadFault). Err f) (same_fault h))
       where
         same_fault : {x y : LoadFault} → (let f : LoadFault → Result (List Judged) LoadFault = λ z. Err z in f x ≡ f y) → x ≡ y
         same_fault h = cc
 
-    by_fault : (u : CompilationUnit) → slice_get us index ≡ Some u → (fault ≡ memory_fault) ⊎ (in_section names.DebugInfo (each_from (judge keeping s us) judged (places_in u u.dies)) ≡ Err fault) → (fault ≡ memory_fault) ⊎ (in_section names.DebugInfo (all_scopes keeping s us) ≡ Err fault)
+    by_fault : (u : CompilationUnit) → slice_get us index ≡ Some u → (fault ≡ memory_fault) ⊎ (in_section names.DebugInfo (each_from (judge keeping s us) judged (sites_in u u.dies)) ≡ Err fault) → (fault ≡ memory_fault) ⊎ (in_section names.DebugInfo (all_scopes keeping s us) ≡ Err fault)
     by_fault u found (inl memory) = inl memory
-    by_fault u found (inr bad) = inr (by_read u found (each_from (judge keeping s us) judged (places_in u u.dies)) refl bad)
+    by_fault u found (inr bad) = inr (by_read u found (each_from (judge keeping s us) judged (sites_in u u.dies)) refl bad)
 
 pub scopes_end : (keeping : Keeping) (s : Sections) (units : List UnitEntries) (bases : List Bases) (us : List CompilationUnit) (index : ℕ) (scopes : List Kept) (left : ℕ) → AreUnits keeping units bases us → length units ≤ index → ScopesSoFar keeping s us index scopes left →
     in_section names.DebugInfo (all_scopes keeping s us) ≡ Ok (map scope_of scopes)
@@ -259,6 +259,6 @@ scopes_end keeping s units bases us index scopes left are past so_far =
     let judged = so_far.judged in
     let sizes : length units ≡ length us = sym (length-map units kept_of) ∙ (ap (λ (ks : List KeptUnit). length ks) are.same ∙ length-map us (kept_in keeping)) in
     let none : drop index us ≡ [] = drop_all index us (omega (arith, sizes, past)) in
-    let all : each (judge keeping s us) (all_places us) ≡ Ok judged =
-    sym so_far.read ∙ (ap (λ (vs : List CompilationUnit). made_front judged (each_from (judge keeping s us) judged (all_places vs))) none ∙ each-end (judge keeping s us) judged) in
+    let all : each (judge keeping s us) (all_sites us) ≡ Ok judged =
+    sym so_far.read ∙ (ap (λ (vs : List CompilationUnit). made_front judged (each_from (judge keeping s us) judged (all_sites vs))) none ∙ each-end (judge keeping s us) judged) in
     rw all (ap (λ (ss : List Scope). Ok ss) (sym so_far.are_judged.0))

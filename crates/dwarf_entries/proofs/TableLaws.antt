@@ -18,8 +18,8 @@ use Rattle.dwarf_forms.specs.Tables.{table_at, declarations_of}
 use Rattle.dwarf_forms.proofs.TableSpelling.{table_spelled, table_read}
 use Rattle.dwarf_entries.specs.declared.units.UnitHeader.{UnitHeader}
 use Rattle.dwarf_entries.specs.declared.tables.JudgedTable.{JudgedTable}
-use Rattle.dwarf_entries.specs.Plans.{Planned, plan_of, Table}
-use Rattle.dwarf_entries.specs.Steps.{IsJudged, IsLast}
+use Rattle.dwarf_entries.specs.Private.Plans.{Planned, plan_of, Table}
+use Rattle.dwarf_entries.specs.Private.Tables.{IsJudged, IsLast}
 use Rattle.dwarf_entries.specs.Units.{declarations_limit, tables_of}
 
 abbrev pub table_for : List ℕ → List (List Declaration) → UnitHeader → Result (List Declaration) At

@@ -29,9 +29,9 @@ use Rattle.dwarf_entries.specs.declared.kept.ScopeEntry.{ScopeEntry}
 use Rattle.dwarf_entries.specs.declared.kept.RootEntry.{RootEntry}
 use Rattle.dwarf_entries.specs.declared.units.UnitHeader.{UnitHeader}
 use Rattle.dwarf_entries.specs.Entries.{Node, Entry, Null, Standing, Die, die_of, opens, closes, is_root, depth_after, node_behind, node_at, entries_of}
-use Rattle.dwarf_entries.specs.Kept.{keeps, named_entry, scope_entry_of, root_entry, root_in, insides_in, KeptUnit, kept_unit, kept_entries}
+use Rattle.dwarf_entries.specs.Private.Kept.{keeps, named_entry, scope_entry_of, root_entry, root_in, insides_in, KeptUnit, kept_unit, kept_entries}
 use Rattle.dwarf_entries.specs.Names.{or_else}
-use Rattle.dwarf_entries.specs.Readers.{Fills, Walked, level_of, walked_by, walked, after_die, depth_behind, after_node, walked_at, walk_of, insides_of}
+use Rattle.dwarf_entries.specs.Private.Readers.{Fills, Walked, level_of, walked_by, walked, after_die, depth_behind, after_node, walked_at, walk_of, insides_of}
 use Rattle.dwarf_entries.proofs.InsideLaws.{insides-are}
 use Rattle.dwarf_entries.proofs.EntryMoves.{node_behind-moves, node_at-advances}
 

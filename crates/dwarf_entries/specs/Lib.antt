@@ -2,15 +2,9 @@ pub mod Sections
 pub mod Attributes
 pub mod Units
 pub mod Entries
-pub mod Plans
 pub mod Bases
 pub mod Names
 pub mod Ranges
 pub mod Scopes
-pub mod Steps
-pub mod Kept
-pub mod Passes
-pub mod Members
-pub mod Readers
-pub mod Texts
 pub mod Order
+pub mod Private

@@ -9,10 +9,10 @@ use Rattle.dwarf_bytes.specs.Items.{Next, Item, End, reading, refuse_if, untold,
 use Rattle.dwarf_bytes.specs.Numbers.{u8_at, u64_at, uleb_at}
 use Rattle.dwarf_entries.specs.declared.scope.Range.{Range}
 use Rattle.dwarf_entries.specs.declared.bases.Bases.{Bases}
-use Rattle.dwarf_entries.specs.declared.ranges.RangeListKind.{RangeListKind}
-use Rattle.dwarf_entries.specs.declared.ranges.RangeListKind.TheVariants.{BaseAddressx, StartxEndx, StartxLength, OffsetPair, BaseAddress, StartEnd, StartLength}
-use Rattle.dwarf_entries.specs.declared.ranges.RangeListEntry.{RangeListEntry}
-use Rattle.dwarf_entries.specs.declared.ranges.RangeListEntry.TheVariants.{Base, Covers}
+use Rattle.dwarf_entries.specs.declared.range_entries.RangeListKind.{RangeListKind}
+use Rattle.dwarf_entries.specs.declared.range_entries.RangeListKind.TheVariants.{BaseAddressx, StartxEndx, StartxLength, OffsetPair, BaseAddress, StartEnd, StartLength}
+use Rattle.dwarf_entries.specs.declared.range_entries.RangeListEntry.{RangeListEntry}
+use Rattle.dwarf_entries.specs.declared.range_entries.RangeListEntry.TheVariants.{Base, Covers}
 use Rattle.dwarf_entries.specs.Sections.{Sections}
 use Rattle.dwarf_entries.specs.Attributes.{is_among, address_forms}
 use Rattle.dwarf_entries.specs.declared.attributes.AttributeValue.{AttributeValue}

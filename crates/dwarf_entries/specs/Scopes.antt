@@ -97,21 +97,21 @@ abbrev pub is_scope : Die → Bool
 is_scope die = is_some (kind_of die.tag)
 
 -- a scope before its names and ranges: its entry, its kind, and how many scopes are below it
-pub record Place : Type 0 where
+pub record ScopeSite : Type 0 where
   pub member : Member
   pub kind : ScopeKind
   pub inside : ℕ
 
 -- an entry in front of the places behind it, if it is a scope
-abbrev pub place_of : CompilationUnit → Die → List Die → Option ScopeKind → List Place → List Place
-place_of unit die rest None places = places
-place_of unit die rest (Some kind) places =
+abbrev pub site_of : CompilationUnit → Die → List Die → Option ScopeKind → List ScopeSite → List ScopeSite
+site_of unit die rest None places = places
+site_of unit die rest (Some kind) places =
     record { member = record { unit = unit; die = die }; kind = kind; inside = count_by is_scope (below die rest) } ∷ places
 
 -- the scopes among the entries of a unit
-abbrev pub places_in : CompilationUnit → List Die → List Place
-places_in unit [] = []
-places_in unit (die ∷ rest) = place_of unit die rest (kind_of die.tag) (places_in unit rest)
+abbrev pub sites_in : CompilationUnit → List Die → List ScopeSite
+sites_in unit [] = []
+sites_in unit (die ∷ rest) = site_of unit die rest (kind_of die.tag) (sites_in unit rest)
 
 abbrev pub number_of : ℕ → Die → Option ℕ
 number_of name die = option_map (λ value. value.number) (attribute die name)
@@ -131,7 +131,7 @@ pub record Judged : Type 0 where
   pub items : ℕ
 
 -- the scope at a place, behind the scopes before it: its names, then its ranges
-abbrev pub scope_by : Result EntryNames Cause → Sections → List Judged → Place → Result Judged Cause
+abbrev pub scope_by : Result EntryNames Cause → Sections → List Judged → ScopeSite → Result Judged Cause
 scope_by found sections before p = do
   names ← found
   let die = p.member.die
@@ -152,7 +152,7 @@ scope_by found sections before p = do
     };
   })
 
-abbrev pub scope_at : Sections → List CompilationUnit → List Judged → Place → Result Judged Cause
+abbrev pub scope_at : Sections → List CompilationUnit → List Judged → ScopeSite → Result Judged Cause
 scope_at sections units before p = scope_by (names_of sections units p.member) sections before p
 
 -- the root of a unit in front of the roots behind it, if the unit has one
@@ -174,5 +174,5 @@ tree_of s = do
   tables ← in_section names.DebugAbbrev (tables_of s.debug_abbrev headers)
   dies ← in_section names.DebugInfo (each (λ _ p. entries_of s.debug_info p.0 p.1) (zip headers tables))
   units ← in_section names.DebugInfo (each (λ _ p. unit_of s p.0 p.1) (zip headers dies))
-  judged ← in_section names.DebugInfo (each (λ before p. told_at p.member.die.offset (scope_at s units before p)) (flat_map (λ unit. places_in unit unit.dies) units))
+  judged ← in_section names.DebugInfo (each (λ before p. told_at p.member.die.offset (scope_at s units before p)) (flat_map (λ unit. sites_in unit unit.dies) units))
   Ok (record { roots = roots_from 0 units; scopes = map (λ j. j.scope) judged })

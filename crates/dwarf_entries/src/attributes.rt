@@ -14,14 +14,14 @@ use dwarf_forms::{AttributeSpecification, Value, ValueFault, value};
 
 /// The value of an attribute: its form behind DW_FORM_indirect, and its number. The number of a text
 /// that stands in the entry is its offset in the section.
-#[derive(Clone, Copy, Debug, PartialEq, Eq)]
+#[derive(Clone, Copy)]
 pub(crate) struct AttributeValue {
     pub(crate) form: u64,
     pub(crate) number: u64,
 }
 
 /// An attribute of an entry.
-#[derive(Clone, Copy, Debug, PartialEq, Eq)]
+#[derive(Clone, Copy)]
 pub(crate) struct Attribute {
     pub(crate) name: u64,
     pub(crate) value: AttributeValue,

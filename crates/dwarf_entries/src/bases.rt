@@ -12,7 +12,7 @@ use dwarf_bytes::constants::DW_FORM_ADDR;
 use dwarf_bytes::{Cause, Cursor, Format, ReadFault, TableHead, TableKind};
 
 /// A table of a unit: its base, what its header says, and the unit's format.
-#[derive(Clone, Copy, Debug, PartialEq, Eq)]
+#[derive(Clone, Copy)]
 pub(crate) struct Table {
     pub(crate) base: u64,
     pub(crate) head: TableHead,
@@ -20,7 +20,7 @@ pub(crate) struct Table {
 }
 
 /// The tables of a unit and its low_pc, each where its root has it.
-#[derive(Clone, Copy, Debug, PartialEq, Eq)]
+#[derive(Clone, Copy)]
 pub(crate) struct Bases {
     pub(crate) str_offsets: Option<Table>,
     pub(crate) addr: Option<Table>,

@@ -4,8 +4,8 @@ ghost use Rattle.std.specs.Prelude.{◌≡◌, ◌≤◌, [], None, IsSome, IfOk
 ghost use Rattle.dwarf_bytes.specs.declared.fault.Section.TheVariants as sections;
 ghost use Rattle.dwarf_bytes.specs.Refusals.{Decodes, in_section};
 ghost use Rattle.dwarf_entries.specs.Entries.{node_behind};
-ghost use Rattle.dwarf_entries.specs.Kept.{kept_of, kept_entries};
-ghost use Rattle.dwarf_entries.specs.Readers.{Fills, keeps_attributes, ReadsNode, walked_of, after_die, walked_at, walk_of, insides_of, above, scopes_from};
+ghost use Rattle.dwarf_entries.specs.Private.Kept.{kept_of, kept_entries};
+ghost use Rattle.dwarf_entries.specs.Private.Readers.{Fills, keeps_attributes, ReadsNode, walked_of, after_die, walked_at, walk_of, insides_of, above, scopes_from};
 
 use crate::attributes::Attribute;
 use crate::kept::{Keeping, NamedEntry, RootEntry, ScopeEntry, UnitEntries, kind_of};
@@ -19,14 +19,14 @@ use std::alloc::{AllocError, Global};
 const DEPTH_LIMIT: u16 = 256;
 
 /// What the declaration of an entry tells of it, but its attributes.
-#[derive(Clone, Copy, Debug, PartialEq, Eq)]
+#[derive(Clone, Copy)]
 pub(crate) struct EntryHead {
     pub(crate) tag: u64,
     pub(crate) children: bool,
 }
 
 /// How deep an entry stands, and whether it is a scope.
-#[derive(Clone, Copy, Debug, PartialEq, Eq)]
+#[derive(Clone, Copy)]
 pub(crate) struct Level {
     pub(crate) depth: u16,
     pub(crate) is_scope: bool,
@@ -34,14 +34,14 @@ pub(crate) struct Level {
 
 /// An entry that ends the lists of all deeper ones before it: how deep it stands, and how many scopes
 /// there are from it on.
-#[derive(Clone, Copy, Debug, PartialEq, Eq)]
+#[derive(Clone, Copy)]
 pub(crate) struct Boundary {
     pub(crate) depth: u16,
     pub(crate) scopes: usize,
 }
 
 /// What is kept of the entries so far, and the depth behind them.
-#[derive(Debug, Drop)]
+#[derive(Drop)]
 pub(crate) struct Walk {
     pub(crate) depth: u16,
     pub(crate) root: Option<RootEntry>,

@@ -2,9 +2,9 @@
 
 ghost use Rattle.std.specs.Prelude.{◌≡◌};
 ghost use Rattle.dwarf_entries.specs.Entries.{value_of};
-ghost use Rattle.dwarf_entries.specs.Kept.{keeps, named_entry, scope_entry, root_entry};
+ghost use Rattle.dwarf_entries.specs.Private.Kept.{keeps, named_entry, scope_entry, root_entry};
 ghost use Rattle.dwarf_entries.specs.Names.{followed, next_of};
-ghost use Rattle.dwarf_entries.specs.Readers.{die_with, keeps_attributes};
+ghost use Rattle.dwarf_entries.specs.Private.Readers.{die_with, keeps_attributes};
 ghost use Rattle.dwarf_entries.specs.Scopes.{kind_of, number_of};
 
 use crate::attributes::{Attribute, AttributeValue};
@@ -13,7 +13,7 @@ use crate::units::UnitHeader;
 use dwarf_bytes::constants::*;
 
 /// Which entries a walk keeps by their names and references.
-#[derive(Clone, Copy, Debug, PartialEq, Eq)]
+#[derive(Clone, Copy)]
 pub(crate) enum Keeping {
     Scopes,
     Every,
@@ -21,7 +21,7 @@ pub(crate) enum Keeping {
 
 /// An entry, as far as names go: its offset in the section, the reference to its next entry, and its
 /// names.
-#[derive(Clone, Copy, Debug, PartialEq, Eq)]
+#[derive(Clone, Copy)]
 pub(crate) struct NamedEntry {
     pub(crate) offset: usize,
     pub(crate) next: Option<AttributeValue>,
@@ -30,7 +30,7 @@ pub(crate) struct NamedEntry {
 }
 
 /// An entry that is a scope.
-#[derive(Clone, Copy, Debug, PartialEq, Eq)]
+#[derive(Clone, Copy)]
 pub(crate) struct ScopeEntry {
     pub(crate) entry: NamedEntry,
     pub(crate) kind: ScopeKind,
@@ -42,7 +42,7 @@ pub(crate) struct ScopeEntry {
 }
 
 /// The root of a unit: its offset in the section, and the attributes that tell of the unit.
-#[derive(Clone, Copy, Debug, PartialEq, Eq)]
+#[derive(Clone, Copy)]
 pub(crate) struct RootEntry {
     pub(crate) offset: usize,
     pub(crate) stmt_list: Option<u64>,
@@ -54,7 +54,7 @@ pub(crate) struct RootEntry {
 
 /// What is kept of a unit: its root, the entries to which a reference may lead, its scopes, and how
 /// many scopes are below each of these.
-#[derive(Debug, Drop)]
+#[derive(Drop)]
 pub(crate) struct UnitEntries {
     pub(crate) header: UnitHeader,
     pub(crate) root: Option<RootEntry>,

@@ -10,6 +10,7 @@ mod names;
 mod passes;
 mod paths;
 mod plans;
+mod range_entries;
 mod ranges;
 mod roots;
 mod scope;

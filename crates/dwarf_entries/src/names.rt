@@ -3,7 +3,7 @@
 ghost use Rattle.std.specs.Prelude.{◌≡◌};
 ghost use Rattle.dwarf_entries.specs.Names.{text_in, text_of};
 ghost use Rattle.dwarf_entries.specs.Sections.{sections_of};
-ghost use Rattle.dwarf_entries.specs.Texts.{AreTexts};
+ghost use Rattle.dwarf_entries.specs.Private.Texts.{AreTexts};
 
 use crate::attributes::AttributeValue;
 use crate::bases::{Table, item_at};

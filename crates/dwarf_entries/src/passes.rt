@@ -9,8 +9,8 @@ ghost use Rattle.dwarf_entries.specs.declared.units.UnitHeader.{UnitHeader};
 ghost use Rattle.dwarf_entries.specs.Entries.{Die};
 ghost use Rattle.dwarf_entries.specs.Sections.{sections_of};
 ghost use Rattle.dwarf_entries.specs.Units.{tables_of};
-ghost use Rattle.dwarf_entries.specs.Kept.{kept_of};
-ghost use Rattle.dwarf_entries.specs.Passes.{all_kept, kept_units, bases_in, all_bases};
+ghost use Rattle.dwarf_entries.specs.Private.Kept.{kept_of};
+ghost use Rattle.dwarf_entries.specs.Private.Passes.{all_kept, kept_units, bases_in, all_bases};
 
 use crate::bases::Bases;
 use crate::entries::entries;

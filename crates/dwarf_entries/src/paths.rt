@@ -4,10 +4,10 @@ ghost use Rattle.std.specs.Prelude.{◌≡◌, ◌<◌, ◌≤◌, ◌==◌, ◌
 ghost use Rattle.std.specs.Option.{option_or};
 ghost use Rattle.std.specs.List.Sorted.{IsNonDecreasingBy, IsPartitionPoint};
 ghost use Rattle.dwarf_entries.specs.Sections.{sections_of};
-ghost use Rattle.dwarf_entries.specs.Texts.{AreTexts};
+ghost use Rattle.dwarf_entries.specs.Private.Texts.{AreTexts};
 ghost use Rattle.dwarf_entries.specs.Bases.{CompilationUnit, optional};
 ghost use Rattle.dwarf_entries.specs.Names.{Member, target_of, path_of, text_of, names_of};
-ghost use Rattle.dwarf_entries.specs.Members.{AreKept, IsMember, Finds, member_in, AreFirst, FindsFirst, str_offsets_of};
+ghost use Rattle.dwarf_entries.specs.Private.Members.{AreKept, IsMember, Finds, member_in, AreFirst, FindsFirst, str_offsets_of};
 
 use crate::attributes::AttributeValue;
 use crate::bases::Bases;
@@ -22,21 +22,21 @@ use dwarf_bytes::{Cause, Text};
 const HOPS_LIMIT: u32 = 16;
 
 /// An entry, with the number of its unit.
-#[derive(Clone, Copy, Debug, PartialEq, Eq)]
+#[derive(Clone, Copy)]
 pub(crate) struct UnitEntry {
     pub(crate) unit: usize,
     pub(crate) entry: NamedEntry,
 }
 
 /// The value of an attribute, with the number of the unit in which it stands.
-#[derive(Clone, Copy, Debug, PartialEq, Eq)]
+#[derive(Clone, Copy)]
 pub(crate) struct UnitAttribute {
     pub(crate) unit: usize,
     pub(crate) value: AttributeValue,
 }
 
 /// The first name and the first linkage_name on a path.
-#[derive(Clone, Copy, Debug, PartialEq, Eq)]
+#[derive(Clone, Copy)]
 pub(crate) struct FirstNames {
     pub(crate) name: Option<UnitAttribute>,
     pub(crate) linkage_name: Option<UnitAttribute>,
@@ -56,7 +56,7 @@ impl FirstNames {
 }
 
 /// The names of an entry.
-#[derive(Clone, Copy, Debug, PartialEq, Eq)]
+#[derive(Clone, Copy)]
 pub(crate) struct EntryNames {
     pub(crate) name: Option<Text>,
     pub(crate) linkage_name: Option<Text>,

@@ -3,8 +3,8 @@
 ghost use Rattle.std.specs.Prelude.{◌≡◌, List, Bool, IfOk, OnOk, map, reverse};
 ghost use Rattle.dwarf_bytes.specs.Forms.{byte_len};
 ghost use Rattle.dwarf_forms.specs.declared.attribute.AttributeSpecification.{AttributeSpecification as Specification};
-ghost use Rattle.dwarf_entries.specs.Plans.{kept_attributes_at, layout_len, constant_len, fixed_len, step_of, joined, step_before, steps_of, step_at, in_front, plan_of};
-ghost use Rattle.dwarf_entries.specs.Readers.{Fills};
+ghost use Rattle.dwarf_entries.specs.Private.Plans.{kept_attributes_at, layout_len, constant_len, fixed_len, step_of, joined, step_before, steps_of, step_at, in_front, plan_of};
+ghost use Rattle.dwarf_entries.specs.Private.Readers.{Fills};
 
 use crate::attributes::{Attribute, accepts, is_negative_count, is_used, read_attribute};
 use dwarf_bytes::{Cause, Content, Cursor, Form, Format, ValueLayout, Width};
@@ -13,8 +13,8 @@ use std::alloc::{AllocError, Global};
 use std::marker::Model;
 
 /// A step of reading the attributes of an entry.
-#[derive(Clone, Copy, Debug, PartialEq, Eq)]
-pub(crate) enum Step {
+#[derive(Clone, Copy)]
+pub(crate) enum AttributeStep {
     /// So many bytes are passed over.
     Skip(u16),
     /// An attribute is read and judged, and not kept.
@@ -24,14 +24,14 @@ pub(crate) enum Step {
 }
 
 /// The steps of a declaration, where the used attributes of its entry are kept, and where none are.
-#[derive(Debug, Drop)]
+#[derive(Drop)]
 pub(crate) struct Plan {
-    kept: Vec<Step>,
-    passed: Vec<Step>,
+    kept: Vec<AttributeStep>,
+    passed: Vec<AttributeStep>,
 }
 
 impl Model for Plan {
-    ghost use Rattle.dwarf_entries.specs.Plans.{Planned};
+    ghost use Rattle.dwarf_entries.specs.Private.Plans.{Planned};
 
     ghost Value = { Planned };
 
@@ -53,7 +53,7 @@ impl Plan {
     }
 
     /// The steps, by whether the used attributes are kept.
-    pub(crate) fn steps(&self, keep: bool) -> &[Step]
+    pub(crate) fn steps(&self, keep: bool) -> &[AttributeStep]
         ensures { (format : Format) (declared : List Specification) → self.now ≡ plan_of format declared → result.now ≡ steps_of keep format declared }
     {
         if keep { &self.kept } else { &self.passed }
@@ -75,7 +75,7 @@ pub(crate) fn plans(alloc: Global, format: Format, table: &Abbrevs) -> Result<Ve
 /// in place of what is there.
 pub(crate) fn read_steps(
     format: Format,
-    steps: &[Step],
+    steps: &[AttributeStep],
     cursor: &mut Cursor,
     found: &mut Vec<Attribute>,
 ) -> Result<(), Cause>
@@ -92,20 +92,20 @@ pub(crate) fn read_steps(
 /// Takes a step. What it keeps is added to `found`.
 fn read_step(
     format: Format,
-    step: &Step,
+    step: &AttributeStep,
     cursor: &mut Cursor,
     found: &mut Vec<Attribute>,
 ) -> Result<(), Cause>
     ensures { Fills result found.new.items (λ bytes at. in_front found.old.items (step_at format step.now bytes at)) cursor.old cursor.new }
 {
     match step {
-        Step::Skip(len) => {
+        AttributeStep::Skip(len) => {
             cursor.block(u64::from(*len))?;
         }
-        Step::Pass(specification) => {
+        AttributeStep::Pass(specification) => {
             read_attribute(format, specification, cursor)?;
         }
-        Step::Keep(specification) => {
+        AttributeStep::Keep(specification) => {
             found.push(read_attribute(format, specification, cursor)?)?;
         }
     }
@@ -118,7 +118,7 @@ fn steps(
     keep: bool,
     format: Format,
     declared: &[AttributeSpecification],
-) -> Result<Vec<Step>, AllocError>
+) -> Result<Vec<AttributeStep>, AllocError>
     ensures { IfOk result (λ steps. steps.items ≡ steps_of keep format declared.now) }
 {
     let mut steps = Vec::new(alloc);
@@ -132,7 +132,7 @@ fn steps(
 }
 
 /// Adds the step before the last one of a list in reverse, or joins the two.
-fn push_before(steps: &mut Vec<Step>, step: Step) -> Result<(), AllocError>
+fn push_before(steps: &mut Vec<AttributeStep>, step: AttributeStep) -> Result<(), AllocError>
     ensures { OnOk result (reverse steps.new.items ≡ step_before step (reverse steps.old.items)) }
 {
     let next = steps.last().copied();
@@ -147,30 +147,33 @@ fn push_before(steps: &mut Vec<Step>, step: Step) -> Result<(), AllocError>
 }
 
 /// One step in place of two, where both pass over bytes.
-fn joined(step: Step, next: Step) -> Option<Step>
+fn joined(step: AttributeStep, next: AttributeStep) -> Option<AttributeStep>
     ensures { result ≡ joined step next }
 {
     match (step, next) {
-        (Step::Skip(len), Step::Skip(behind)) => Some(Step::Skip(len.checked_add(behind)?)),
+        (AttributeStep::Skip(len), AttributeStep::Skip(behind)) => {
+            let both = len.checked_add(behind)?;
+            Some(AttributeStep::Skip(both))
+        }
         _ => None,
     }
 }
 
 /// The step of an attribute.
-fn step_of(keep: bool, format: Format, specification: &AttributeSpecification) -> Step
+fn step_of(keep: bool, format: Format, specification: &AttributeSpecification) -> AttributeStep
     ensures { result ≡ step_of keep format specification.now }
 {
     if keep && is_used(specification.name) {
-        return Step::Keep(*specification);
+        return AttributeStep::Keep(*specification);
     }
     match fixed_len(format, specification) {
-        Some(len) => Step::Skip(len),
-        None => Step::Pass(*specification),
+        Some(len) => AttributeStep::Skip(len),
+        None => AttributeStep::Pass(*specification),
     }
 }
 
 /// The bytes that the value of an attribute takes always, where nothing but a lack of bytes refuses it.
-#[tactic(auto, unfolding(crate::specs::Plans::fixed_len))]
+#[tactic(auto, unfolding(crate::specs::Private::Plans::fixed_len))]
 fn fixed_len(format: Format, specification: &AttributeSpecification) -> Option<u16>
     ensures { result ≡ fixed_len format specification.now }
 {

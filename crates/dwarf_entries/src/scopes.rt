@@ -7,9 +7,9 @@ ghost use Rattle.dwarf_bytes.specs.Refusals.{Decodes, Builds};
 ghost use Rattle.dwarf_entries.specs.Sections.{sections_of};
 ghost use Rattle.dwarf_entries.specs.Bases.{CompilationUnit};
 ghost use Rattle.dwarf_entries.specs.Scopes.{scope_of, own, own_of, roots_from, tree_of};
-ghost use Rattle.dwarf_entries.specs.Texts.{AreTexts};
-ghost use Rattle.dwarf_entries.specs.Passes.{kept_unit_of, TablesRead, tree_with};
-ghost use Rattle.dwarf_entries.specs.Kept.{kept_of, scope_count};
+ghost use Rattle.dwarf_entries.specs.Private.Texts.{AreTexts};
+ghost use Rattle.dwarf_entries.specs.Private.Passes.{kept_unit_of, TablesRead, tree_with};
+ghost use Rattle.dwarf_entries.specs.Private.Kept.{kept_of, scope_count};
 
 use crate::kept::{Keeping, UnitEntries};
 use crate::passes::{all_bases, all_entries};

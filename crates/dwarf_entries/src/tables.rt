@@ -4,11 +4,11 @@ ghost use Rattle.std.specs.Prelude.{◌≡◌, ◌⊎◌, ◌+◌, ◌==◌, Lis
 ghost use Rattle.dwarf_bytes.specs.declared.fault.Section.TheVariants as sections;
 ghost use Rattle.dwarf_bytes.specs.Refusals.{memory_fault, Decodes, in_section, Judges};
 ghost use Rattle.dwarf_forms.specs.Declarations.{Declaration};
-ghost use Rattle.dwarf_forms.specs.Index.{AreIndexed, has_code_at};
+ghost use Rattle.dwarf_forms.specs.Private.Index.{AreIndexed, has_code_at};
 ghost use Rattle.dwarf_forms.specs.Tables.{declarations_of};
 ghost use Rattle.dwarf_entries.specs.Units.{tables_of};
-ghost use Rattle.dwarf_entries.specs.Plans.{plan_of};
-ghost use Rattle.dwarf_entries.specs.Steps.{IsJudged, IsLast};
+ghost use Rattle.dwarf_entries.specs.Private.Plans.{plan_of};
+ghost use Rattle.dwarf_entries.specs.Private.Tables.{IsJudged, IsLast};
 
 use crate::plans::{Plan, plans};
 use crate::units::UnitHeader;
@@ -22,14 +22,14 @@ use std::marker::Model;
 pub(crate) const DECLARATIONS_LIMIT: u64 = 4_194_304;
 
 /// Where a table of `.debug_abbrev` stands, and how many declarations it has.
-#[derive(Clone, Copy, Debug, PartialEq, Eq)]
+#[derive(Clone, Copy)]
 pub(crate) struct JudgedTable {
     pub(crate) offset: u64,
     pub(crate) len: u64,
 }
 
 /// A table of `.debug_abbrev`, where it stands, and how attributes are read by it in units of a format.
-#[derive(Debug, Drop)]
+#[derive(Drop)]
 pub(crate) struct UnitTable {
     offset: u64,
     format: Format,
@@ -41,8 +41,8 @@ pub(crate) struct UnitTable {
 
 impl Model for UnitTable {
     ghost use Rattle.std.specs.Prelude.{◌≡◌, map};
-    ghost use Rattle.dwarf_forms.specs.Index.{AreIndexed};
-    ghost use Rattle.dwarf_entries.specs.Plans.{Table, plan_of};
+    ghost use Rattle.dwarf_forms.specs.Private.Index.{AreIndexed};
+    ghost use Rattle.dwarf_entries.specs.Private.Plans.{Table, plan_of};
 
     ghost Value = { Table };
 

@@ -2,7 +2,7 @@
 
 ghost use Rattle.std.specs.Prelude.{IfOk};
 ghost use Rattle.dwarf_entries.specs.Sections.{sections_of};
-ghost use Rattle.dwarf_entries.specs.Texts.{AreTexts};
+ghost use Rattle.dwarf_entries.specs.Private.Texts.{AreTexts};
 
 use crate::sections::Sections;
 use dwarf_bytes::TextIndex;

@@ -4,11 +4,11 @@ ghost use Rattle.std.specs.Prelude.{◌≡◌, ◌≤◌, ◌<◌, ◌+◌, ◌^
 ghost use Rattle.dwarf_bytes.specs.declared.fault.Section.TheVariants as names;
 ghost use Rattle.dwarf_bytes.specs.Refusals.{Decodes, in_section, Gives};
 ghost use Rattle.dwarf_entries.specs.Sections.{sections_of};
-ghost use Rattle.dwarf_entries.specs.Texts.{AreTexts};
+ghost use Rattle.dwarf_entries.specs.Private.Texts.{AreTexts};
 ghost use Rattle.dwarf_entries.specs.declared.kept.Keeping.{Keeping};
 ghost use Rattle.dwarf_entries.specs.Bases.{CompilationUnit};
-ghost use Rattle.dwarf_entries.specs.Scopes.{Judged, Place, places_in, scope_of};
-ghost use Rattle.dwarf_entries.specs.Passes.{AreUnits, stmt_list_in, judged_of, IsPlace, AreJudged, AddsScopes, scope_with, all_scopes};
+ghost use Rattle.dwarf_entries.specs.Scopes.{Judged, ScopeSite, sites_in, scope_of};
+ghost use Rattle.dwarf_entries.specs.Private.Passes.{AreUnits, stmt_list_in, judged_of, IsScopeSite, AreJudged, AddsScopes, scope_with, all_scopes};
 
 use crate::bases::Bases;
 use crate::kept::{ScopeEntry, UnitEntries};
@@ -46,7 +46,7 @@ impl<'a> Units<'a> {
         requires texts { AreTexts (sections_of self.sections.now) self.texts.now }
         requires unit { (unit < length self.units.now) × (unit < length self.bases.now) }
         requires end { number + inside + 1 < 2 ^ 64 }
-        ensures judged { (keeping : Keeping) (us : List CompilationUnit) (before : List Judged) (p : Place) → AreUnits keeping self.entry.units.now self.entry.bases.now us → IsPlace us unit entry.now inside number room before p
+        ensures judged { (keeping : Keeping) (us : List CompilationUnit) (before : List Judged) (p : ScopeSite) → AreUnits keeping self.entry.units.now self.entry.bases.now us → IsScopeSite us unit entry.now inside number room before p
             → Gives (λ found. judged_of found) result (scope_with keeping (sections_of self.entry.sections.now) us before p) }
         ensures room { IfOk result (λ found. found.1 ≤ room) }
     {
@@ -95,7 +95,7 @@ impl<'a> Units<'a> {
         requires unit { unit < length self.units.now }
         requires known { (keeping : Keeping) × (us : List CompilationUnit) × AreUnits keeping self.units.now self.bases.now us }
         ensures { (keeping : Keeping) (us : List CompilationUnit) (u : CompilationUnit) (before : List Judged) → AreUnits keeping self.entry.units.now self.entry.bases.now us → slice_get us unit ≡ Some u → AreJudged before scopes.old.items left.old
-            → AddsScopes keeping result (sections_of self.entry.sections.now) us (places_in u u.dies) before scopes.new.items left.new }
+            → AddsScopes keeping result (sections_of self.entry.sections.now) us (sites_in u u.dies) before scopes.new.items left.new }
     {
         let kept = &self.units[unit];
         let first = scopes.len();

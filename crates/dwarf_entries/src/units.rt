@@ -10,7 +10,7 @@ use dwarf_bytes::{Cause, Cursor, Format, LoadFault, Section};
 use std::alloc::Global;
 
 /// The type of a unit.
-#[derive(Clone, Copy, Debug, PartialEq, Eq)]
+#[derive(Clone, Copy)]
 pub(crate) enum UnitType {
     Compile,
     Type,
@@ -43,7 +43,7 @@ impl UnitType {
 
 /// A unit: its first header byte, its format and type, the offset of its abbreviations, its first
 /// entry, and its end. Of a type unit nothing behind its type is read.
-#[derive(Clone, Copy, Debug, PartialEq, Eq)]
+#[derive(Clone, Copy)]
 pub(crate) struct UnitHeader {
     pub(crate) start: usize,
     pub(crate) format: Format,

@@ -8,6 +8,8 @@ mod dropped;
 #[cfg(test)]
 mod fixtures;
 #[cfg(test)]
+mod formats;
+#[cfg(test)]
 mod limits;
 #[cfg(test)]
 mod names;

@@ -13,7 +13,7 @@ use Rattle.std.proofs.lemmas.List.Folds.{list_any_at, find_at}
 use Rattle.std.proofs.lemmas.List.Sums.{position_or_len_is}
 use Rattle.std.proofs.lemmas.Bool.{false≢true, ltb-true, ltb-false, lt-ltb, eqb-true, eqb-false}
 use Rattle.dwarf_forms.specs.Declarations.{Declaration}
-use Rattle.dwarf_forms.specs.Index.{AreIndexed, has_code_at}
+use Rattle.dwarf_forms.specs.Private.Index.{AreIndexed, has_code_at}
 
 has : ℕ → Declaration → Bool
 has code d = d.code == code

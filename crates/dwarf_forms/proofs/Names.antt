@@ -11,7 +11,7 @@ use Rattle.std.proofs.lemmas.List.{drop_all, length-append, drop-append-le}
 use Rattle.std.proofs.lemmas.List.Folds.{list_any-append}
 use Rattle.std.proofs.lemmas.List.{take_all}
 use Rattle.dwarf_forms.specs.declared.attribute.AttributeSpecification.{AttributeSpecification}
-use Rattle.dwarf_forms.specs.Index.{HoldsNames}
+use Rattle.dwarf_forms.specs.Private.Index.{HoldsNames}
 
 abbrev named : ℕ → AttributeSpecification → Bool
 named name attribute = attribute.name == name

@@ -19,7 +19,7 @@ use Rattle.dwarf_bytes.proofs.Advance.{after_bind, after_test, chosen}
 use Rattle.dwarf_forms.specs.declared.declaration.Head.{Head}
 use Rattle.dwarf_forms.specs.Declarations.{Declaration}
 use Rattle.dwarf_forms.specs.Tables.{attributes_at, head_at, declaration_at, table_at, declarations_of}
-use Rattle.dwarf_forms.specs.Steps.{ExtendsTable}
+use Rattle.dwarf_forms.specs.Private.TableSteps.{ExtendsTable}
 use Rattle.dwarf_forms.proofs.Moves.{declaration_at-advances}
 use Rattle.dwarf_bytes.proofs.Turns.{SoFar, so_far-none, so_far-item, so_far-end, so_far-fault}
 

@@ -1,5 +1,4 @@
 pub mod Values
 pub mod Declarations
 pub mod Tables
-pub mod Index
-pub mod Steps
+pub mod Private

@@ -6,7 +6,7 @@ ghost use Rattle.dwarf_bytes.specs.Forms.{form_of};
 ghost use Rattle.dwarf_bytes.specs.Items.{items_from, untold};
 ghost use Rattle.dwarf_bytes.specs.Refusals.{ReadsField, ReadsItems, ReadsNext};
 ghost use Rattle.dwarf_forms.specs.Tables.{constant_at, attribute_at, attributes_at};
-ghost use Rattle.dwarf_forms.specs.Index.{HoldsNames};
+ghost use Rattle.dwarf_forms.specs.Private.Index.{HoldsNames};
 
 use dwarf_bytes::constants::DW_FORM_IMPLICIT_CONST;
 use dwarf_bytes::{Cause, Cursor, Form};

@@ -5,9 +5,9 @@ ghost use Rattle.std.specs.List.{list_any};
 ghost use Rattle.std.specs.Option.{option_copied};
 ghost use Rattle.dwarf_bytes.specs.declared.fault.Section.TheVariants as sections;
 ghost use Rattle.dwarf_bytes.specs.Refusals.{Decodes, in_section, ReadsNext};
-ghost use Rattle.dwarf_forms.specs.Index.{has_code_at};
+ghost use Rattle.dwarf_forms.specs.Private.Index.{has_code_at};
 ghost use Rattle.dwarf_forms.specs.Tables.{head_at, declaration_at, declarations_of};
-ghost use Rattle.dwarf_forms.specs.Steps.{ExtendsTable};
+ghost use Rattle.dwarf_forms.specs.Private.TableSteps.{ExtendsTable};
 
 use crate::attribute::attributes;
 use crate::declaration::{Decl, Head};
@@ -27,7 +27,7 @@ pub struct Abbrevs {
 impl Model for Abbrevs {
     ghost use Rattle.std.specs.Prelude.{List};
     ghost use Rattle.dwarf_forms.specs.Declarations.{Declaration};
-    ghost use Rattle.dwarf_forms.specs.Index.{AreIndexed};
+    ghost use Rattle.dwarf_forms.specs.Private.Index.{AreIndexed};
 
     ghost Value = { List Declaration };
 

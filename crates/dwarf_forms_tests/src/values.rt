@@ -126,16 +126,77 @@ fn signed_numbers(rt: HostRuntime) {
         read(0x0d, &[0xff]).0.err(),
         Some(ValueFault::Read(ReadFault::Short))
     );
-    let bytes = [];
-    let mut cursor = Cursor::new(&bytes);
-    match value(0x21, Format::Dwarf32, Some(-1), &mut cursor) {
-        Ok(
-            Value {
-                form: 0x21,
-                content: Content::Signed(n),
-            },
-        ) => assert_eq!(rt; n, -1),
-        _ => assert!(rt; false),
+}
+
+/// The value of DW_FORM_implicit_const stands in the declaration, and no byte is read.
+#[test]
+fn constants_of_declarations(rt: HostRuntime) {
+    let nothing: [u8; 0] = [];
+    for bytes in [nothing.as_slice(), &[1, 2, 3]] {
+        for format in [Format::Dwarf32, Format::Dwarf64] {
+            let mut cursor = Cursor::new(bytes);
+            match value(0x21, format, Some(-1), &mut cursor) {
+                Ok(
+                    Value {
+                        form: 0x21,
+                        content: Content::Signed(n),
+                    },
+                ) => assert_eq!(rt; n, -1),
+                _ => assert!(rt; false),
+            }
+            assert_eq!(rt; cursor.place(), 0);
+        }
+    }
+}
+
+/// Offsets have eight bytes in the 64-bit format, also behind DW_FORM_indirect; other forms keep their
+/// widths.
+#[test]
+fn values_of_the_64_bit_format(rt: HostRuntime) {
+    let bytes = [1, 2, 3, 4, 5, 6, 7, 8, 9];
+    for (form, number, len) in [
+        (0x0e, 578_437_695_752_307_201, 8),
+        (0x1f, 578_437_695_752_307_201, 8),
+        (0x17, 578_437_695_752_307_201, 8),
+        (0x10, 578_437_695_752_307_201, 8),
+        (0x06, 67_305_985, 4),
+        (0x13, 67_305_985, 4),
+        (0x28, 67_305_985, 4),
+        (0x01, 578_437_695_752_307_201, 8),
+    ] {
+        let mut cursor = Cursor::new(&bytes);
+        match value(form, Format::Dwarf64, None, &mut cursor) {
+            Ok(
+                Value {
+                    content: Content::Number(n),
+                    ..
+                },
+            ) => assert_eq!(rt; n, number, "{form:x}"),
+            _ => assert!(rt; false, "{form:x}"),
+        }
+        assert_eq!(rt; cursor.place(), len, "{form:x}");
+    }
+    for (form, bytes) in [
+        (0x0e, [1, 2, 3, 4, 5, 6, 7].as_slice()),
+        (0x16, &[0x0e, 1, 2, 3, 4, 5, 6, 7]),
+    ] {
+        let mut cursor = Cursor::new(bytes);
+        let value = value(form, Format::Dwarf64, None, &mut cursor);
+        assert_eq!(rt; value.err(), Some(ValueFault::Read(ReadFault::Short)));
+        assert_eq!(rt; cursor.place(), 0);
+    }
+}
+
+/// Values that are cut, as they stand.
+#[test]
+fn cut_values(rt: HostRuntime) {
+    for (form, bytes, fault) in [
+        (0x06, [1, 2].as_slice(), ReadFault::Short),
+        (0x08, &[0x61], ReadFault::Unterminated),
+    ] {
+        let (value, place) = read(form, bytes);
+        assert_eq!(rt; value.err(), Some(ValueFault::Read(fault)), "{form:x}");
+        assert_eq!(rt; place, 0, "{form:x}");
     }
 }
 

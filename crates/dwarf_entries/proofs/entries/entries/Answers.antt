@@ -1,6 +1,6 @@
 use Rattle.std.proofs.Common.{arith, inr}
 use Rattle.std.proofs.lemmas.Result.{err_from_is_err_and}
-use Rattle.dwarf_entries.specs.Readers.{walked_of}
+use Rattle.dwarf_entries.specs.Private.Readers.{walked_of}
 use Rattle.dwarf_entries.proofs.WalkLaws.{entries_end, entries_open, entries_fault}
 use Rattle.dwarf_entries.proofs.entries.entries.Goals as goal
 

@@ -1,6 +1,6 @@
 use Rattle.std.proofs.Common.{◌≡◌, ℕ, ◌+◌, List, ap, ◌∙◌, arith, reverse}
 use Rattle.dwarf_entries.specs.declared.entries.Boundary.{Boundary}
-use Rattle.dwarf_entries.specs.Readers.{above, scopes_from}
+use Rattle.dwarf_entries.specs.Private.Readers.{above, scopes_from}
 use Rattle.dwarf_entries.proofs.InsideLaws.{inside_here, insides_scope, insides_other}
 use Rattle.dwarf_entries.proofs.entries.insides.Goals as goal
 use Rattle.dwarf_entries.proofs.entries.insides.Goals.{then-level+in_ok-push, else-level}

@@ -5,8 +5,8 @@ use Rattle.dwarf_bytes.specs.declared.format.Format.{Format}
 use Rattle.dwarf_bytes.specs.Items.{reading}
 use Rattle.dwarf_bytes.specs.Numbers.{uleb_at}
 use Rattle.dwarf_entries.specs.Entries.{depth_limit}
-use Rattle.dwarf_entries.specs.Plans.{steps_of, kept_attributes, kept_attributes_at}
-use Rattle.dwarf_entries.specs.Readers.{keeps_attributes}
+use Rattle.dwarf_entries.specs.Private.Plans.{steps_of, kept_attributes, kept_attributes_at}
+use Rattle.dwarf_entries.specs.Private.Readers.{keeps_attributes}
 use Rattle.dwarf_entries.proofs.KeptNodes.{node_read, not_second_root, told_some}
 use Rattle.dwarf_entries.proofs.entries.node.Goals as goal
 

@@ -1,5 +1,5 @@
 use Rattle.std.proofs.Common.{◌≡◌, length, reverse}
-use Rattle.dwarf_entries.specs.Readers.{above}
+use Rattle.dwarf_entries.specs.Private.Readers.{above}
 use Rattle.dwarf_entries.proofs.entries.pop_from.Given as goal
 
 abbrev pub invariant-loop-last : goal.invariant-loop-last

@@ -1,5 +1,5 @@
 use Rattle.std.proofs.Common.{◌≡◌, ◌-◌, take, length}
-use Rattle.dwarf_entries.specs.Readers.{walked_of}
+use Rattle.dwarf_entries.specs.Private.Readers.{walked_of}
 use Rattle.dwarf_entries.proofs.WalkLaws.{WalkedSoFar}
 use Rattle.dwarf_entries.proofs.entries.walk_unit.Given as goal
 

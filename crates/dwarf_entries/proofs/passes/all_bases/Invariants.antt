@@ -3,8 +3,8 @@ use Rattle.dwarf_entries.specs.declared.kept.Keeping.{Keeping}
 use Rattle.dwarf_entries.specs.declared.units.UnitHeader.{UnitHeader}
 use Rattle.dwarf_entries.specs.Entries.{Die}
 use Rattle.dwarf_entries.specs.Sections.{sections_of}
-use Rattle.dwarf_entries.specs.Kept.{kept_of}
-use Rattle.dwarf_entries.specs.Passes.{kept_units}
+use Rattle.dwarf_entries.specs.Private.Kept.{kept_of}
+use Rattle.dwarf_entries.specs.Private.Passes.{kept_units}
 use Rattle.dwarf_entries.proofs.BasesPass.{BasesSoFar}
 use Rattle.dwarf_entries.proofs.passes.all_bases.Given as goal
 

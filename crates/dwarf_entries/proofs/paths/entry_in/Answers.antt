@@ -1,7 +1,7 @@
 use Rattle.std.proofs.Common.{subst, sym}
 use Rattle.std.specs.Prelude.{Option, Some, None}
 use Rattle.dwarf_entries.specs.declared.paths.UnitEntry.{UnitEntry}
-use Rattle.dwarf_entries.specs.Members.{Finds, member_in}
+use Rattle.dwarf_entries.specs.Private.Members.{Finds, member_in}
 use Rattle.dwarf_entries.proofs.ReferenceLaws.{finds-in}
 use Rattle.dwarf_entries.proofs.paths.entry_in.Goals as goal
 

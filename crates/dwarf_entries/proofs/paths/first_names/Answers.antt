@@ -4,7 +4,7 @@ use Rattle.std.proofs.lemmas.Result.{err_from_is_err_and}
 use Rattle.dwarf_bytes.proofs.Turns.{None-from_no_Some}
 use Rattle.dwarf_entries.specs.declared.paths.UnitEntry.{UnitEntry}
 use Rattle.dwarf_entries.specs.Names.{target_of}
-use Rattle.dwarf_entries.specs.Members.{Finds}
+use Rattle.dwarf_entries.specs.Private.Members.{Finds}
 use Rattle.dwarf_entries.proofs.PathLaws.{followed-none, followed-next, followed-end, followed-deep, followed-lost}
 use Rattle.dwarf_entries.proofs.paths.first_names.Goals as goal
 

@@ -1,7 +1,7 @@
 use Rattle.std.proofs.Common.{List}
 use Rattle.dwarf_entries.specs.Bases.{CompilationUnit}
 use Rattle.dwarf_entries.specs.Names.{Member}
-use Rattle.dwarf_entries.specs.Members.{AreKept, IsMember}
+use Rattle.dwarf_entries.specs.Private.Members.{AreKept, IsMember}
 use Rattle.dwarf_entries.proofs.PathLaws.{Followed}
 use Rattle.dwarf_entries.proofs.paths.first_names.Given as goal
 

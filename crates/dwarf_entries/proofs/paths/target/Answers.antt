@@ -3,7 +3,7 @@ use Rattle.std.specs.Prelude.{Result}
 use Rattle.std.proofs.lemmas.Option.{slice_get_within}
 use Rattle.dwarf_bytes.specs.declared.fault.Cause.{Cause}
 use Rattle.dwarf_entries.specs.Names.{Member}
-use Rattle.dwarf_entries.specs.Members.{Finds}
+use Rattle.dwarf_entries.specs.Private.Members.{Finds}
 use Rattle.dwarf_entries.proofs.ReferenceLaws.{kept-length, start-kept, anywhere, within_unit}
 use Rattle.dwarf_entries.proofs.paths.target.Goals as goal
 

@@ -1,5 +1,5 @@
 use Rattle.std.proofs.Common.{◌≡◌, map, take}
-use Rattle.dwarf_entries.specs.Plans.{plan_of}
+use Rattle.dwarf_entries.specs.Private.Plans.{plan_of}
 use Rattle.dwarf_entries.proofs.plans.plans.Given as goal
 
 abbrev pub invariant-loop-declaration : goal.invariant-loop-declaration

@@ -1,5 +1,5 @@
 use Rattle.std.proofs.Common.{◌≡◌, length, take, drop, reverse}
-use Rattle.dwarf_entries.specs.Plans.{steps_of}
+use Rattle.dwarf_entries.specs.Private.Plans.{steps_of}
 use Rattle.dwarf_entries.proofs.plans.steps.Given as goal
 
 abbrev pub invariant-loop-specification : goal.invariant-loop-specification

@@ -3,8 +3,8 @@ use Rattle.std.specs.Prelude.{Option, Some, None}
 use Rattle.std.proofs.lemmas.Result.{err_from_is_err_and}
 use Rattle.dwarf_bytes.specs.Position.{Position}
 use Rattle.dwarf_entries.specs.declared.scope.Range.{Range}
-use Rattle.dwarf_entries.specs.declared.ranges.RangeListEntry.{RangeListEntry}
-use Rattle.dwarf_entries.specs.declared.ranges.RangeListEntry.TheVariants.{Base, Covers}
+use Rattle.dwarf_entries.specs.declared.range_entries.RangeListEntry.{RangeListEntry}
+use Rattle.dwarf_entries.specs.declared.range_entries.RangeListEntry.TheVariants.{Base, Covers}
 use Rattle.dwarf_entries.specs.Sections.{sections_of}
 use Rattle.dwarf_entries.proofs.RangeLaws.{ListedSoFar, list_item, list_end, list_fault, list_unsought}
 use Rattle.dwarf_bytes.proofs.Turns.{None-from_no_Some}

@@ -1,4 +1,4 @@
-use Rattle.dwarf_entries.specs.Steps.{IsJudged}
+use Rattle.dwarf_entries.specs.Private.Tables.{IsJudged}
 use Rattle.dwarf_entries.proofs.TableLaws.{Judged}
 use Rattle.dwarf_entries.proofs.tables.judge_tables.Given as goal
 

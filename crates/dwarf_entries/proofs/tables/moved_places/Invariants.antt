@@ -1,5 +1,5 @@
 use Rattle.std.proofs.Common.{take}
-use Rattle.dwarf_forms.specs.Index.{AreIndexed}
+use Rattle.dwarf_forms.specs.Private.Index.{AreIndexed}
 use Rattle.dwarf_entries.proofs.tables.moved_places.Given as goal
 
 abbrev pub invariant-loop-place : goal.invariant-loop-place

@@ -1,7 +1,7 @@
 use Rattle.std.proofs.Common.{arith, inr, sym, List, length, drop, subst}
 use Rattle.std.proofs.lemmas.Result.{err_from_is_err_and}
 use Rattle.dwarf_forms.specs.Tables.{attribute_at}
-use Rattle.dwarf_forms.specs.Index.{HoldsNames}
+use Rattle.dwarf_forms.specs.Private.Index.{HoldsNames}
 use Rattle.dwarf_forms.specs.declared.attribute.AttributeSpecification.{AttributeSpecification}
 use Rattle.dwarf_forms.proofs.Names.{held_few, held_more}
 use Rattle.dwarf_forms.proofs.Moves.{attribute_at-advances, attributes_ok, attributes_err}

@@ -1,6 +1,6 @@
 use Rattle.std.proofs.Common.{◌≡◌, ◌-◌, length, drop}
 use Rattle.dwarf_forms.specs.Tables.{attribute_at}
-use Rattle.dwarf_forms.specs.Index.{HoldsNames}
+use Rattle.dwarf_forms.specs.Private.Index.{HoldsNames}
 use Rattle.dwarf_bytes.proofs.Turns.{SoFar}
 use Rattle.dwarf_forms.proofs.attribute.attributes.Given as goal
 

@@ -1,6 +1,6 @@
 use Rattle.std.proofs.Common.{ℕ, refl, ap, sym}
 use Rattle.std.specs.Prelude.{Ok}
-use Rattle.dwarf_entries.specs.Readers.{Walked, walked_of}
+use Rattle.dwarf_entries.specs.Private.Readers.{Walked, walked_of}
 use Rattle.dwarf_entries.proofs.KeptNodes.{step-kept}
 use Rattle.dwarf_entries.proofs.entries.Walk.step.Goals as goal
 

@@ -2,7 +2,7 @@ use Rattle.std.proofs.Common.{◌≡◌, List, ap, sym, ◌∙◌}
 use Rattle.std.specs.Prelude.{Some, None, position, map, slice_get, option_copied, ◌==◌}
 use Rattle.dwarf_forms.specs.Declarations.{Declaration}
 use Rattle.dwarf_forms.proofs.Codes.{find-place, got}
-use Rattle.dwarf_entries.specs.Plans.{plan_of, Table}
+use Rattle.dwarf_entries.specs.Private.Plans.{plan_of, Table}
 use Rattle.dwarf_entries.proofs.TableLaws.{planned_at}
 use Rattle.dwarf_entries.proofs.tables.UnitTable.find.Goals as goal
 

@@ -1,6 +1,6 @@
 use Rattle.std.proofs.lemmas.Result.{err_from_is_err_and}
 use Rattle.dwarf_entries.specs.Sections.{sections_of}
-use Rattle.dwarf_entries.specs.Passes.{only_units, only_member}
+use Rattle.dwarf_entries.specs.Private.Passes.{only_units, only_member}
 use Rattle.dwarf_entries.proofs.OnlyLaws.{are_kept, only_bases}
 use Rattle.dwarf_entries.proofs.ScopeLaws.{names_fault, covers_fault, scope_is, covers-room}
 use Rattle.dwarf_entries.proofs.unit_scopes.Units.scope.Goals as goal

@@ -2,7 +2,7 @@ use Rattle.std.proofs.Common.{List}
 use Rattle.dwarf_entries.specs.Sections.{sections_of}
 use Rattle.dwarf_entries.specs.declared.kept.Keeping.{Keeping}
 use Rattle.dwarf_entries.specs.Bases.{CompilationUnit}
-use Rattle.dwarf_entries.specs.Passes.{AreUnits}
+use Rattle.dwarf_entries.specs.Private.Passes.{AreUnits}
 use Rattle.dwarf_entries.proofs.ScopesPass.{ScopesSoFar}
 use Rattle.dwarf_entries.proofs.unit_scopes.Units.scopes.Given as goal
 

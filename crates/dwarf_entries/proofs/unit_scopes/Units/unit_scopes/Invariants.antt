@@ -4,7 +4,7 @@ use Rattle.dwarf_entries.specs.Sections.{sections_of}
 use Rattle.dwarf_entries.specs.declared.kept.Keeping.{Keeping}
 use Rattle.dwarf_entries.specs.Bases.{CompilationUnit}
 use Rattle.dwarf_entries.specs.Scopes.{Judged}
-use Rattle.dwarf_entries.specs.Passes.{AreUnits, AreJudged}
+use Rattle.dwarf_entries.specs.Private.Passes.{AreUnits, AreJudged}
 use Rattle.dwarf_entries.proofs.ScopesPass.{JudgedSoFar}
 use Rattle.dwarf_entries.proofs.unit_scopes.Units.unit_scopes.Given as goal
 

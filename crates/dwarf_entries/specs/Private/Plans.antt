@@ -14,8 +14,8 @@ use Rattle.dwarf_bytes.specs.Numbers.{block_at, offset_len}
 use Rattle.dwarf_forms.specs.declared.attribute.AttributeSpecification.{AttributeSpecification}
 use Rattle.dwarf_forms.specs.Declarations.{Declaration}
 use Rattle.dwarf_entries.specs.declared.attributes.Attribute.{Attribute}
-use Rattle.dwarf_entries.specs.declared.plans.Step.{Step}
-use Rattle.dwarf_entries.specs.declared.plans.Step.TheVariants.{Skip, Pass, Keep}
+use Rattle.dwarf_entries.specs.declared.plans.AttributeStep.{AttributeStep}
+use Rattle.dwarf_entries.specs.declared.plans.AttributeStep.TheVariants.{Skip, Pass, Keep}
 use Rattle.dwarf_entries.specs.Attributes.{is_used, accepts, is_negative_count}
 use Rattle.dwarf_entries.specs.Entries.{attribute_at, attributes_at}
 
@@ -56,10 +56,10 @@ fixed_len format s = if accepts s.name s.form then (elim (form_of s.form) [
 ]) else None
 
 -- an attribute that is not kept
-abbrev pub pass_of : Format → AttributeSpecification → Step
+abbrev pub pass_of : Format → AttributeSpecification → AttributeStep
 pass_of format s = option_map_or (λ n. Skip n) (fixed_len format s) (Pass s)
 
-abbrev pub step_of : Bool → Format → AttributeSpecification → Step
+abbrev pub step_of : Bool → Format → AttributeSpecification → AttributeStep
 step_of keep format s = if keep && is_used s.name then Keep s else pass_of format s
 
 -- the most bytes of one step
@@ -67,7 +67,7 @@ abbrev pub skip_limit : ℕ
 skip_limit = 65535
 
 -- one step in place of two, where both pass over bytes
-abbrev pub joined : Step → Step → Option Step
+abbrev pub joined : AttributeStep → AttributeStep → Option AttributeStep
 joined (Skip n) (Skip m) = if nat_le (n + m) skip_limit then Some (Skip (n + m)) else None
 joined (Skip n) (Pass t) = None
 joined (Skip n) (Keep t) = None
@@ -75,17 +75,17 @@ joined (Pass s) next = None
 joined (Keep s) next = None
 
 -- a step in front of others
-abbrev pub step_before : Step → List Step → List Step
+abbrev pub step_before : AttributeStep → List AttributeStep → List AttributeStep
 step_before step [] = step ∷ []
 step_before step (next ∷ rest) = option_map_or (λ both. both ∷ rest) (joined step next) (step ∷ next ∷ rest)
 
 -- the steps of a declaration
-unfoldable pub steps_of : Bool → Format → List AttributeSpecification → List Step
+unfoldable pub steps_of : Bool → Format → List AttributeSpecification → List AttributeStep
 steps_of keep format [] = []
 steps_of keep format (s ∷ ss) = step_before (step_of keep format s) (steps_of keep format ss)
 
 -- what a step keeps, and the place after it
-abbrev pub step_at : Format → Step → List ℕ → ℕ → Result (List Attribute × ℕ) Cause
+abbrev pub step_at : Format → AttributeStep → List ℕ → ℕ → Result (List Attribute × ℕ) Cause
 step_at format (Skip n) bytes at = reading (block_at n bytes at) >>= λ block. Ok ([], block.1)
 step_at format (Pass s) bytes at = attribute_at format s bytes at >>= λ a. Ok ([], a.1)
 step_at format (Keep s) bytes at = attribute_at format s bytes at >>= λ a. Ok (a.0 ∷ [], a.1)
@@ -97,8 +97,8 @@ in_front front (Err cause) = Err cause
 
 -- the steps of a declaration, where its attributes are kept and where they are not
 pub record Planned : Type 0 where
-  pub kept : List Step
-  pub passed : List Step
+  pub kept : List AttributeStep
+  pub passed : List AttributeStep
 
 abbrev pub plan_of : Format → List AttributeSpecification → Planned
 plan_of format declared = record { kept = steps_of true format declared; passed = steps_of false format declared }

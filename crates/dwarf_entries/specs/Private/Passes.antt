@@ -19,10 +19,10 @@ use Rattle.dwarf_entries.specs.Sections.{Sections}
 use Rattle.dwarf_entries.specs.Entries.{Die, entries_of}
 use Rattle.dwarf_entries.specs.Bases.{CompilationUnit, no_bases, bases_by, unit_of}
 use Rattle.dwarf_entries.specs.Names.{Member, names_of}
-use Rattle.dwarf_entries.specs.Scopes.{Tree, Judged, Place, Scope, items_limit, is_scope, places_in, roots_from, scope_of, scope_by}
+use Rattle.dwarf_entries.specs.Scopes.{Tree, Judged, ScopeSite, Scope, items_limit, is_scope, sites_in, roots_from, scope_of, scope_by}
 use Rattle.dwarf_entries.specs.declared.kept.ScopeEntry.{ScopeEntry}
 use Rattle.dwarf_entries.specs.Units.{units_of, tables_of}
-use Rattle.dwarf_entries.specs.Kept.{KeptUnit, scope_entry, kept_unit, kept_of, AreInOrder}
+use Rattle.dwarf_entries.specs.Private.Kept.{KeptUnit, scope_entry, kept_unit, kept_of, AreInOrder}
 
 -- the entries of each unit
 abbrev pub all_entries : List ℕ → List UnitHeader → List (List Declaration) → Result (List (List Die)) At
@@ -72,7 +72,7 @@ abbrev pub judged_of : Kept × ℕ → Judged
 judged_of r = record { scope = scope_of r.0; items = r.1 }
 
 -- a place is that of a scope of a unit of the program, behind so many scopes with so many range items to come
-pub record IsPlace (us : List CompilationUnit) (unit : ℕ) (entry : ScopeEntry) (inside number room : ℕ) (before : List Judged) (p : Place) : Type 0 where
+pub record IsScopeSite (us : List CompilationUnit) (unit : ℕ) (entry : ScopeEntry) (inside number room : ℕ) (before : List Judged) (p : ScopeSite) : Type 0 where
   pub unit_is : slice_get us unit ≡ Some p.member.unit
   pub entry_is : entry ≡ scope_entry p.member.die p.kind
   pub inside_is : inside ≡ p.inside
@@ -80,8 +80,8 @@ pub record IsPlace (us : List CompilationUnit) (unit : ℕ) (entry : ScopeEntry)
   pub room_is : room ≡ items_limit - sum_by (λ s. s.items) before
 
 -- the places of the scopes of all units
-abbrev pub all_places : List CompilationUnit → List Place
-all_places us = flat_map (λ u. places_in u u.dies) us
+abbrev pub all_sites : List CompilationUnit → List ScopeSite
+all_sites us = flat_map (λ u. sites_in u u.dies) us
 
 -- a unit with its scopes as its only entries
 abbrev pub scopes_only : CompilationUnit → CompilationUnit
@@ -97,11 +97,11 @@ only_member keepings.Scopes m = record { unit = scopes_only m.unit; die = m.die 
 only_member keepings.Every m = m
 
 -- the scope at a place, by references among the entries that are kept
-abbrev pub scope_with : Keeping → Sections → List CompilationUnit → List Judged → Place → Result Judged Cause
+abbrev pub scope_with : Keeping → Sections → List CompilationUnit → List Judged → ScopeSite → Result Judged Cause
 scope_with keeping s us before p = scope_by (names_of s (only_units keeping us) (only_member keeping p.member)) s before p
 
 -- .. behind those before it, its fault at its entry
-abbrev pub judge : Keeping → Sections → List CompilationUnit → List Judged → Place → Result Judged At
+abbrev pub judge : Keeping → Sections → List CompilationUnit → List Judged → ScopeSite → Result Judged At
 judge keeping s units before p = told_at p.member.die.offset (scope_with keeping s units before p)
 
 -- the scopes of the program, and how many range items may still be read, behind the scopes before
@@ -109,13 +109,13 @@ abbrev pub AreJudged : List Judged → List Kept → ℕ → Type 0
 AreJudged before scopes left = (map scope_of scopes ≡ map (λ j. j.scope) before) × (left + sum_by (λ s. s.items) before ≡ items_limit)
 
 -- The scopes at some places were put behind those before; or the fault is theirs, unless memory ran out.
-abbrev pub AddsScopes : Keeping → Result (Unit {0}) LoadFault → Sections → List CompilationUnit → List Place → List Judged → List Kept → ℕ → Type 0
+abbrev pub AddsScopes : Keeping → Result (Unit {0}) LoadFault → Sections → List CompilationUnit → List ScopeSite → List Judged → List Kept → ℕ → Type 0
 AddsScopes keeping (Ok _) s units places before scopes left = (after : List Judged) × (each_from (judge keeping s units) before places ≡ Ok after) × AreJudged (before ++ after) scopes left
 AddsScopes keeping (Err fault) s units places before scopes left = (fault ≡ memory_fault) ⊎ (in_section names.DebugInfo (each_from (judge keeping s units) before places) ≡ Err fault)
 
 -- the scopes of all units
 abbrev pub all_scopes : Keeping → Sections → List CompilationUnit → Result (List Scope) At
-all_scopes keeping s us = each (judge keeping s us) (all_places us) >>= λ judged. Ok (map (λ j. j.scope) judged)
+all_scopes keeping s us = each (judge keeping s us) (all_sites us) >>= λ judged. Ok (map (λ j. j.scope) judged)
 
 -- the tables of the units are good
 pub record TablesRead (s : Sections) (headers : List UnitHeader) : Type 0 where
@@ -125,7 +125,7 @@ pub record TablesRead (s : Sections) (headers : List UnitHeader) : Type 0 where
 
 -- the roots and the scopes of the units, from the pass over their entries on
 abbrev pub tree_of_units : Keeping → Sections → List CompilationUnit → Result Tree LoadFault
-tree_of_units keeping s us = in_section names.DebugInfo (each (judge keeping s us) (all_places us)) >>= λ judged. Ok (record { roots = roots_from 0 us; scopes = map (λ j. j.scope) judged })
+tree_of_units keeping s us = in_section names.DebugInfo (each (judge keeping s us) (all_sites us)) >>= λ judged. Ok (record { roots = roots_from 0 us; scopes = map (λ j. j.scope) judged })
 
 abbrev pub tree_of_dies : Keeping → Sections → List UnitHeader → List (List Die) → Result Tree LoadFault
 tree_of_dies keeping s headers dies = in_section names.DebugInfo (all_units s headers dies) >>= tree_of_units keeping s

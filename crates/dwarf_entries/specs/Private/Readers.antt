@@ -19,8 +19,8 @@ use Rattle.dwarf_entries.specs.declared.kept.ScopeEntry.{ScopeEntry}
 use Rattle.dwarf_entries.specs.declared.kept.RootEntry.{RootEntry}
 use Rattle.dwarf_entries.specs.declared.units.UnitHeader.{UnitHeader}
 use Rattle.dwarf_entries.specs.Entries.{Node, Entry, Null, Standing, Die, die_of, depth_after, node_behind, node_at}
-use Rattle.dwarf_entries.specs.Kept.{keeps, named_entry, scope_entry_of, root_entry, root_in}
-use Rattle.dwarf_entries.specs.Plans.{kept_attributes}
+use Rattle.dwarf_entries.specs.Private.Kept.{keeps, named_entry, scope_entry_of, root_entry, root_in}
+use Rattle.dwarf_entries.specs.Private.Plans.{kept_attributes}
 use Rattle.dwarf_entries.specs.Names.{or_else}
 use Rattle.dwarf_entries.specs.Scopes.{is_scope}
 

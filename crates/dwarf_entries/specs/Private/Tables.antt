@@ -1,15 +1,9 @@
--- What the steps of a pass leave, for the contracts of its parts.
+-- The table that was read or judged last, for the contracts of the passes over tables.
 use Rattle.std.specs.Prelude.{◌≡◌, ℕ, List, length, Option, Some, None, Ok}
 use Rattle.dwarf_forms.specs.Tables.{declarations_of}
 use Rattle.dwarf_forms.specs.Declarations.{Declaration}
 use Rattle.dwarf_entries.specs.declared.tables.JudgedTable.{JudgedTable}
-use Rattle.dwarf_entries.specs.Plans.{Table}
-use Rattle.dwarf_entries.specs.declared.ranges.Covering.{Covering as Kept}
-use Rattle.dwarf_entries.specs.Ranges.{Covering}
-
--- the ranges of the program, as a list
-abbrev pub covering_of : Kept → Covering
-covering_of c = record { ranges = c.ranges.items; items = c.items }
+use Rattle.dwarf_entries.specs.Private.Plans.{Table}
 
 -- The table that was read last, if there is one, stands at its offset, where there was room for it.
 abbrev pub IsLast : List ℕ → Option Table → Type 0

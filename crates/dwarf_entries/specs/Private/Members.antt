@@ -15,7 +15,7 @@ use Rattle.dwarf_entries.specs.declared.bases.Table.{Table}
 use Rattle.dwarf_entries.specs.declared.bases.Bases.{Bases}
 use Rattle.dwarf_entries.specs.Bases.{CompilationUnit}
 use Rattle.dwarf_entries.specs.Names.{Member, members_of, member_at, first_on}
-use Rattle.dwarf_entries.specs.Kept.{named_entry, AreInOrder}
+use Rattle.dwarf_entries.specs.Private.Kept.{named_entry, AreInOrder}
 
 -- the entries of a unit, as far as names go
 pub record NamedUnit : Type 0 where

@@ -1,0 +1,165 @@
+//! The entries of range lists (DWARF 5, 2.17.3 and 7.25).
+
+ghost use Rattle.std.specs.Prelude.{◌≡◌, ◌<◌, IsSome, IfOk};
+ghost use Rattle.dwarf_bytes.specs.Refusals.{ReadsField, ReadsNext};
+ghost use Rattle.dwarf_entries.specs.Ranges.{kind_of, covered, covered_from, covered_pair, index_at, entry_at, listed_behind};
+ghost use Rattle.dwarf_entries.specs.Sections.{sections_of};
+
+use crate::bases::{Bases, item_at};
+use crate::scope::Range;
+use crate::sections::Sections;
+use dwarf_bytes::constants::*;
+use dwarf_bytes::{Cause, Cursor, TableKind};
+
+/// The start of dropped code, which no code has.
+const DROPPED: u64 = u64::MAX;
+
+/// The kinds of range list entries, but the end of a list.
+#[derive(Clone, Copy)]
+pub(crate) enum RangeListKind {
+    BaseAddressx,
+    StartxEndx,
+    StartxLength,
+    OffsetPair,
+    BaseAddress,
+    StartEnd,
+    StartLength,
+}
+
+impl RangeListKind {
+    /// The kind of a number; none for the end of a list.
+    fn of(number: u8) -> Result<Option<RangeListKind>, Cause>
+        ensures { result ≡ kind_of number }
+    {
+        Ok(Some(match number {
+            DW_RLE_END_OF_LIST => return Ok(None),
+            DW_RLE_BASE_ADDRESSX => RangeListKind::BaseAddressx,
+            DW_RLE_STARTX_ENDX => RangeListKind::StartxEndx,
+            DW_RLE_STARTX_LENGTH => RangeListKind::StartxLength,
+            DW_RLE_OFFSET_PAIR => RangeListKind::OffsetPair,
+            DW_RLE_BASE_ADDRESS => RangeListKind::BaseAddress,
+            DW_RLE_START_END => RangeListKind::StartEnd,
+            DW_RLE_START_LENGTH => RangeListKind::StartLength,
+            _ => return Err(Cause::RangeKind),
+        }))
+    }
+}
+
+/// An entry of a range list: the base that it sets, or the addresses that it covers, if any.
+#[derive(Clone, Copy)]
+pub(crate) enum RangeListEntry {
+    Base(u64),
+    Covers(Option<Range>),
+}
+
+/// The range from a start up to an end; one with equal ends covers nothing.
+fn covered(start: u128, end: u128) -> Result<Option<Range>, Cause>
+    ensures { result ≡ covered (start, end) }
+{
+    let (Ok(from), Ok(to)) = (u64::try_from(start), u64::try_from(end)) else {
+        return Err(Cause::Overflow);
+    };
+    if to < from {
+        return Err(Cause::RangeBackwards);
+    }
+    if from == to {
+        return Ok(None);
+    }
+    Ok(Some(Range { from, to }))
+}
+
+/// The range from a start, which covers nothing where it is that of dropped code.
+pub(crate) fn covered_from(start: u128, end: u128) -> Result<Option<Range>, Cause>
+    ensures { result ≡ covered_from (start, end) }
+{
+    if start == u128::from(DROPPED) {
+        return Ok(None);
+    }
+    covered(start, end)
+}
+
+/// The range of two offsets from a base, which cover nothing where it is that of dropped code.
+fn covered_pair(base: u64, start: u64, end: u64) -> Result<Option<Range>, Cause>
+    ensures { result ≡ covered_pair base (start, end) }
+{
+    if base == DROPPED {
+        return Ok(None);
+    }
+    let base = u128::from(base);
+    covered(base + u128::from(start), base + u128::from(end))
+}
+
+/// The address of an index of `.debug_addr` at the cursor.
+fn indexed(sections: &Sections<'_>, bases: &Bases, cursor: &mut Cursor) -> Result<u64, Cause>
+    ensures { ReadsField (λ address. address) result (index_at (sections_of sections.now) bases.now) cursor.old cursor.new }
+{
+    let index = cursor.uleb()?;
+    item_at(TableKind::Addr, sections.debug_addr, bases.addr, index)
+}
+
+/// The entry of a kind, by the operands at the cursor. `base` is the base in force.
+#[tactic(auto, unfolding(crate::specs::Ranges::entry_at))]
+fn entry(
+    kind: RangeListKind,
+    base: Option<u64>,
+    sections: &Sections<'_>,
+    bases: &Bases,
+    cursor: &mut Cursor,
+) -> Result<RangeListEntry, Cause>
+    ensures { ReadsField (λ entry. entry) result (entry_at (sections_of sections.now) bases.now base kind) cursor.old cursor.new }
+{
+    let (start, end) = match kind {
+        RangeListKind::BaseAddressx => {
+            return Ok(RangeListEntry::Base(indexed(sections, bases, cursor)?));
+        }
+        RangeListKind::BaseAddress => return Ok(RangeListEntry::Base(cursor.u64()?)),
+        RangeListKind::StartxEndx => {
+            let start = indexed(sections, bases, cursor)?;
+            (
+                u128::from(start),
+                u128::from(indexed(sections, bases, cursor)?),
+            )
+        }
+        RangeListKind::StartxLength => {
+            let start = u128::from(indexed(sections, bases, cursor)?);
+            (start, start + u128::from(cursor.uleb()?))
+        }
+        RangeListKind::OffsetPair => {
+            let start = cursor.uleb()?;
+            let end = cursor.uleb()?;
+            let base = base.ok_or(Cause::Base)?;
+            return Ok(RangeListEntry::Covers(covered_pair(base, start, end)?));
+        }
+        RangeListKind::StartEnd => {
+            let start = u128::from(cursor.u64()?);
+            (start, u128::from(cursor.u64()?))
+        }
+        RangeListKind::StartLength => {
+            let start = u128::from(cursor.u64()?);
+            (start, start + u128::from(cursor.uleb()?))
+        }
+    };
+    Ok(RangeListEntry::Covers(covered_from(start, end)?))
+}
+
+/// The next entry of a list behind `count` of them, or none at the list's end. `room` is how many
+/// entries may be counted, and `base` the base in force.
+pub(crate) fn next_entry(
+    room: u64,
+    count: u64,
+    base: Option<u64>,
+    sections: &Sections<'_>,
+    bases: &Bases,
+    cursor: &mut Cursor,
+) -> Result<Option<RangeListEntry>, Cause>
+    ensures reads { ReadsNext result (listed_behind room (sections_of sections.now) bases.now count base) cursor.old cursor.new }
+    ensures room { IfOk result (λ next. IsSome next → count < room) }
+{
+    let Some(kind) = RangeListKind::of(cursor.u8()?)? else {
+        return Ok(None);
+    };
+    if count >= room {
+        return Err(Cause::TooMany);
+    }
+    Ok(Some(entry(kind, base, sections, bases, cursor)?))
+}

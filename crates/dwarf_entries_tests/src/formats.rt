@@ -1,0 +1,273 @@
+//! Units of the 64-bit format, alone and beside those of the 32-bit one.
+
+use crate::fixtures::*;
+use dwarf_bytes::{Cause, Section};
+use dwarf_entries::{Root, ScopeKind, Scopes, Sections};
+use dwarf_samples::INLINED;
+use std::alloc::{AllocError, Global};
+use std::process::Abort;
+use std::test::*;
+
+/// The unit of the first object in the 64-bit format.
+const WIDE: [u8; 112] = [
+    0xff, 0xff, 0xff, 0xff, 0x64, 0, 0, 0, 0, 0, 0, 0, // unit_length
+    5, 0, 1, 8, 0, 0, 0, 0, 0, 0, 0, 0, // version to debug_abbrev_offset
+    1, 0, 0, 0, 0, 0, 0, 0, 0, 0, 0x10, 0, 0, 0, 0, 0, 0, // 24: unit: stmt_list, low_pc
+    4, 0x6d, 0x69, 0x64, 0, // 41: mid
+    4, 0x6c, 0x65, 0x61, 0x66, 0, // 46: leaf
+    2, 0x6d, 0x61, 0x69, 0x6e, 0, 0, 0x10, 0, 0, 0, 0, 0, 0, 0x10, 0, 0, 0, // 52: main
+    3, 0x29, 0, 0, 0, 4, 0x10, 0, 0, 0, 0, 0, 0, 8, 0, 0, 0, 1, 0x14, // 70: mid in main
+    3, 0x2e, 0, 0, 0, 4, 0x10, 0, 0, 0, 0, 0, 0, 4, 0, 0, 0, 1, 5, // 89: leaf in mid
+    0, 0, 0, 0,
+];
+
+/// The scopes of the first object, where their unit starts at a place, so many scopes stand before it,
+/// its first subprogram stands so many bytes behind its start, and its second inlined one so many.
+fn rows(start: usize, before: usize, first: usize, last: usize) -> [Row; 5] {
+    let at = |offset: usize| start.saturating_add(offset);
+    let end = |number: usize| before.saturating_add(number);
+    let mid = text(Section::DebugInfo, at(first.saturating_add(1)), 3);
+    let leaf = text(Section::DebugInfo, at(first.saturating_add(6)), 4);
+    let main = text(Section::DebugInfo, at(first.saturating_add(12)), 4);
+    let inlined = Row {
+        kind: ScopeKind::Inlined,
+        offset: at(last),
+        end: end(5),
+        range: Some(range(0x1004, 0x1008)),
+        name: leaf,
+        call: Some((1, 5)),
+    };
+    let subprogram = Row {
+        kind: ScopeKind::Subprogram,
+        offset: at(first),
+        end: end(1),
+        range: None,
+        name: mid,
+        call: None,
+    };
+    [
+        subprogram,
+        Row {
+            offset: at(first.saturating_add(5)),
+            end: end(2),
+            name: leaf,
+            ..subprogram
+        },
+        Row {
+            offset: at(first.saturating_add(11)),
+            end: end(5),
+            range: Some(range(0x1000, 0x1010)),
+            name: main,
+            ..subprogram
+        },
+        Row {
+            offset: at(last.saturating_sub(19)),
+            range: Some(range(0x1004, 0x100c)),
+            name: mid,
+            call: Some((1, 20)),
+            ..inlined
+        },
+        inlined,
+    ]
+}
+
+fn root_of(offset: usize, first: usize, past: usize) -> Root {
+    Root {
+        stmt_list: Some(0),
+        ..root(offset, first, past)
+    }
+}
+
+#[test]
+fn a_unit_of_64_bits(rt: HostRuntime) -> Result<(), Fail> {
+    let table = sections_of(&INLINED)?.debug_abbrev;
+    let read = Scopes::read(rt.alloc(), &sections(&WIDE, table))?;
+    assert_eq!(rt; read.roots(), [root_of(24, 0, 5)].as_slice());
+    are_scopes(&rt, &read, Some(0), &rows(0, 0, 41, 89));
+    Ok(())
+}
+
+/// Both units name one table, and references count from the first byte of their own unit.
+#[test]
+fn units_of_both_formats(rt: HostRuntime) -> Result<(), Fail> {
+    let object = sections_of(&INLINED)?;
+    let mut info = Vec::new(rt.alloc());
+    info.extend_from_slice(object.debug_info)?;
+    info.extend_from_slice(&WIDE)?;
+    info.extend_from_slice(object.debug_info)?;
+    let read = Scopes::read(rt.alloc(), &sections(&info, object.debug_abbrev))?;
+    let roots = [root_of(12, 0, 5), root_of(120, 5, 10), root_of(220, 10, 15)];
+    assert_eq!(rt; read.roots(), roots.as_slice());
+    let mut wanted = Vec::new(rt.alloc());
+    wanted.extend_from_slice(&rows(0, 0, 25, 73))?;
+    wanted.extend_from_slice(&rows(96, 5, 41, 89))?;
+    wanted.extend_from_slice(&rows(208, 10, 25, 73))?;
+    are_scopes(&rt, &read, Some(0), &wanted);
+    Ok(())
+}
+
+#[test]
+fn refused_lengths(rt: HostRuntime) -> Result<(), Fail> {
+    let table = sections_of(&INLINED)?.debug_abbrev;
+    for (place, byte, cause) in [
+        // reserved, a byte too long, and past all sections
+        (0, 0xf0, Cause::Length),
+        (4, 0x65, Cause::Short),
+        (11, 0x80, Cause::Short),
+        (12, 4, Cause::Version),
+        (14, 4, Cause::UnitType),
+        (15, 4, Cause::AddressSize),
+    ] {
+        let mut info = WIDE;
+        info[place] = byte;
+        is_refused(&rt, &sections(&info, table), cause, 0);
+    }
+    // without the last null
+    let mut info = WIDE;
+    info[4] = 0x63;
+    is_refused(&rt, &sections(&info[..111], table), Cause::TreeOpen, 0);
+    // the mark of the format with fewer than eight bytes behind it, and a unit that is cut
+    for size in 1..24 {
+        is_refused(&rt, &sections(&WIDE[..size], table), Cause::Short, 0);
+    }
+    Ok(())
+}
+
+/// A unit of the 64-bit format of these entries, the first of which stands at 24.
+fn wide_unit(alloc: Global, entries: &[u8]) -> Result<Vec<u8>, AllocError> {
+    let unit_length = u64::try_from(entries.len()).unwrap_or(0).saturating_add(12);
+    let mut info = Vec::new(alloc);
+    info.extend_from_slice(&[0xff; 4])?;
+    info.extend_from_slice(&unit_length.to_le_bytes())?;
+    info.extend_from_slice(&[5, 0, 1, 8, 0, 0, 0, 0, 0, 0, 0, 0])?;
+    info.extend_from_slice(entries)?;
+    Ok(info)
+}
+
+/// `ab` at 0, `c` at 3.
+const TEXTS: [u8; 5] = [0x61, 0x62, 0, 0x63, 0];
+
+/// A table of the string offsets 3 and 0 in the 64-bit format, whose base is 16.
+const WIDE_OFFSETS: [u8; 32] = [
+    0xff, 0xff, 0xff, 0xff, 0x14, 0, 0, 0, 0, 0, 0, 0, 5, 0, 0, 0, 3, 0, 0, 0, 0, 0, 0, 0, 0, 0, 0,
+    0, 0, 0, 0, 0,
+];
+
+/// A subprogram whose name is an index, in a unit of either format with this base.
+#[test]
+fn names_by_index(rt: HostRuntime) -> Result<(), Fail> {
+    // str_offsets_base as sec_offset, and name as strx1
+    let table = declarations(rt.alloc(), (&[0x72, 0x17], &[]), (&[0x03, 0x25], &[]))?;
+    // a table in the 32-bit format at 8, behind eight bytes
+    let offsets = [
+        0, 0, 0, 0, 0, 0, 0, 0, 12, 0, 0, 0, 5, 0, 0, 0, 3, 0, 0, 0, 0, 0, 0, 0,
+    ];
+    for (base, index, debug_str_offsets, wanted) in [
+        (16, 0, WIDE_OFFSETS.as_slice(), Ok((3, 1))),
+        (16, 1, &WIDE_OFFSETS, Ok((0, 2))),
+        (16, 2, &WIDE_OFFSETS, Err(fault(Cause::Index, 33))),
+        (8, 0, &WIDE_OFFSETS, Err(fault(Cause::Base, 24))),
+        (33, 0, &WIDE_OFFSETS, Err(fault(Cause::Base, 24))),
+        // of the other format
+        (24, 0, &offsets, Err(fault(Cause::Length, 24))),
+    ] {
+        let info = wide_unit(rt.alloc(), &[1, base, 0, 0, 0, 0, 0, 0, 0, 2, index, 0])?;
+        let all = Sections {
+            debug_str: &TEXTS,
+            debug_str_offsets,
+            ..sections(&info, &table)
+        };
+        match Scopes::read(rt.alloc(), &all) {
+            Ok(read) => {
+                let (place, len) = wanted?;
+                let scope = read.scopes().first().ok_or("no scope")?;
+                assert_eq!(rt; scope.name(), text(Section::DebugStr, place, len));
+            }
+            Err(told) => assert_eq!(rt; Some(told), wanted.err()),
+        }
+    }
+    Ok(())
+}
+
+/// A table of the 64-bit format that a unit of the 32-bit one names.
+#[test]
+fn tables_of_the_other_format(rt: HostRuntime) -> Result<(), Fail> {
+    let table = declarations(rt.alloc(), (&[0x72, 0x17], &[]), (&[], &[]))?;
+    let info = unit(rt.alloc(), &[1, 8, 0, 0, 0, 2, 0])?;
+    for (size, cause) in [(32, Cause::Length), (12, Cause::Length), (11, Cause::Short)] {
+        let all = Sections {
+            debug_str_offsets: &WIDE_OFFSETS[..size],
+            ..sections(&info, &table)
+        };
+        is_refused(&rt, &all, cause, 12);
+    }
+    Ok(())
+}
+
+/// Checks what the only scope covers.
+fn covers(rt: &impl Abort, read: &Scopes, from: u64, to: u64) -> Result<(), Fail> {
+    let scope = read.scopes().first().ok_or("no scope")?;
+    assert_eq!(rt; scope.ranges(read), [range(from, to)].as_slice());
+    Ok(())
+}
+
+/// Addresses and a range list by index, of tables in the 64-bit format.
+#[test]
+fn addresses_and_lists_by_index(rt: HostRuntime) -> Result<(), Fail> {
+    // a table of the addresses 0x1000 and 0x2000, whose base is 16
+    let addresses = [
+        0xff, 0xff, 0xff, 0xff, 20, 0, 0, 0, 0, 0, 0, 0, 5, 0, 8, 0, 0, 0x10, 0, 0, 0, 0, 0, 0, 0,
+        0x20, 0, 0, 0, 0, 0, 0,
+    ];
+    // a table of one list, whose base is 20, and the list behind its offset: startx_endx 0 and 1
+    let lists = [
+        0xff, 0xff, 0xff, 0xff, 20, 0, 0, 0, 0, 0, 0, 0, 5, 0, 8, 0, 1, 0, 0, 0, 8, 0, 0, 0, 0, 0,
+        0, 0, 2, 0, 1, 0,
+    ];
+    // addr_base and rnglists_base as sec_offset, and ranges as rnglistx
+    let root: Attributes<'_> = (&[0x73, 0x17, 0x74, 0x17], &[]);
+    let table = declarations(rt.alloc(), root, (&[0x55, 0x23], &[]))?;
+    for (addr_base, rnglists_base, index, wanted) in [
+        (16, 20, 0, None),
+        (16, 20, 1, Some(fault(Cause::Index, 41))),
+        (8, 20, 0, Some(fault(Cause::Base, 24))),
+        (16, 16, 0, Some(fault(Cause::Base, 24))),
+    ] {
+        let entries = [
+            1,
+            addr_base,
+            0,
+            0,
+            0,
+            0,
+            0,
+            0,
+            0,
+            rnglists_base,
+            0,
+            0,
+            0,
+            0,
+            0,
+            0,
+            0,
+            2,
+            index,
+            0,
+        ];
+        let info = wide_unit(rt.alloc(), &entries)?;
+        let all = Sections {
+            debug_addr: &addresses,
+            debug_rnglists: &lists,
+            ..sections(&info, &table)
+        };
+        match Scopes::read(rt.alloc(), &all) {
+            Ok(read) => {
+                assert_eq!(rt; wanted, None);
+                covers(&rt, &read, 0x1000, 0x2000)?;
+            }
+            Err(told) => assert_eq!(rt; Some(told), wanted),
+        }
+    }
+    Ok(())
+}
