@@ -5,7 +5,8 @@
 //! `measure declarations OBJECT` reads its abbreviation tables 1,000 times,
 //! `measure values OBJECT` reads the abbreviation tables and the values of all entries,
 //! `measure scopes OBJECT` reads its subprograms and inlined subroutines,
-//! `measure scope-table OBJECT` prints them, and
+//! `measure scope-table OBJECT` prints them,
+//! `measure module OBJECT` decodes it whole, from its tables to the index of its addresses, and
 //! `measure dump OBJECT` prints its rows, and then these.
 #![tactic(auto)]
 
@@ -14,6 +15,7 @@ mod leb;
 mod lines;
 mod scopes;
 
+use addr_table::Module;
 use anyhow::{Context, Result};
 use std::time::Instant;
 use std::{env, fs};
@@ -32,6 +34,7 @@ fn main(rt: HostRuntime) -> Result<()> {
         "scopes" => measure_scopes(&rt, &bytes),
         "rows" => lines::print_rows(&rt, &bytes),
         "scope-table" => scopes::print_scopes(&rt, &bytes),
+        "module" => measure_module(&rt, bytes),
         "dump" => {
             lines::print_rows(&rt, &bytes)?;
             scopes::print_scopes(&rt, &bytes)
@@ -42,7 +45,7 @@ fn main(rt: HostRuntime) -> Result<()> {
 
 fn print_usage(rt: &HostRuntime) -> Result<()> {
     println!(rt; "usage: measure COMMAND FILE, where COMMAND is")?;
-    println!(rt; "leb, lines, rows, declarations, values, scopes, scope-table or dump")?;
+    println!(rt; "leb, lines, rows, declarations, values, scopes, scope-table, module or dump")?;
     Ok(())
 }
 
@@ -99,6 +102,22 @@ fn measure_scopes(rt: &HostRuntime, bytes: &[u8]) -> Result<()> {
         scopes.roots().len(),
         scopes.scopes().len(),
         scopes::count_ranges(&scopes),
+        time.as_millis()
+    )?;
+    Ok(())
+}
+
+fn measure_module(rt: &HostRuntime, bytes: Vec<u8>) -> Result<()> {
+    let start = Instant::now(rt)?;
+    let module = match Module::decode(rt.alloc(), bytes) {
+        Ok(module) => module,
+        Err((_, fault)) => return Err(fault.into()),
+    };
+    let time = start.elapsed(rt)?;
+    println!(rt;
+        "{} segments, {} calls, {} ms",
+        module.segments().list().len(),
+        module.sweep_calls(),
         time.as_millis()
     )?;
     Ok(())
