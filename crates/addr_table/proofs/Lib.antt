@@ -25,5 +25,6 @@ pub mod ExtentLaws
 pub mod PlaceLaws
 pub mod BoundLaws
 pub mod WordLaws
+pub mod OutwardLaws
 pub mod WalkLaws
 pub mod FrameTurns

@@ -28,7 +28,8 @@ impl<'a> Model for Frame<'a> {
 
     ghost Value = { FrameSeen };
 
-    ghost view = { λ f. frame_told f.texts.bytes.now f.texts.lines.now f.texts.scopes.now.scopes f.scope f.site };
+    ghost view = { λ f. frame_told f.texts.bytes.now f.texts.lines.now f.texts.scopes.now.scopes
+        f.scope f.site };
 
     ghost invariant = { λ f. AreInOrder f.texts.scopes.now.scopes };
 }
@@ -87,7 +88,8 @@ impl<'a> Model for Walk<'a> {
 
     ghost Value = { List FrameSeen };
 
-    ghost view = { λ w. walk_left w.texts.bytes.now w.texts.lines.now w.texts.scopes.now.scopes w.link w.near w.site w.alone };
+    ghost view = { λ w. walk_left w.texts.bytes.now w.texts.lines.now w.texts.scopes.now.scopes
+        w.link w.near w.site w.alone };
 
     ghost invariant = { λ w. IsWalk w.texts.scopes.now.scopes w.parents.now w.link w.near w.top };
 }
@@ -96,7 +98,8 @@ impl<'a> Walk<'a> {
     /// From the scope of a place on.
     fn of(texts: Texts<'a>, parents: &'a [usize], place: Place) -> Walk<'a>
         requires { HaveParents texts.scopes.now.scopes parents.now }
-        ensures { result ≡ frames_of texts.entry.bytes.now texts.entry.lines.now (place_chain place.link place.scope texts.entry.scopes.now.scopes) place.row }
+        ensures { result ≡ frames_of texts.entry.bytes.now texts.entry.lines.now
+            (place_chain place.link place.scope texts.entry.scopes.now.scopes) place.row }
     {
         let link = place.link;
         let begun = begin(count(texts.scopes), place.scope);
@@ -125,7 +128,8 @@ impl<'a> Walk<'a> {
 
     /// The next frame outwards.
     fn next(&mut self) -> Option<Frame<'a>>
-        ensures { MatchOption result ((self.old ≡ []) × (self.new ≡ [])) (λ frame. self.old ≡ frame ∷ self.new) }
+        ensures { MatchOption result ((self.old ≡ []) × (self.new ≡ []))
+            (λ frame. self.old ≡ frame ∷ self.new) }
     {
         let texts = self.texts;
         let site = self.site;
@@ -180,7 +184,8 @@ impl<'a> Frames<'a> {
     /// The frames of a place.
     pub(crate) fn of(texts: Texts<'a>, parents: &'a [usize], place: Place) -> Frames<'a>
         requires { HaveParents texts.scopes.now.scopes parents.now }
-        ensures { result ≡ frames_of texts.entry.bytes.now texts.entry.lines.now (place_chain place.link place.scope texts.entry.scopes.now.scopes) place.row }
+        ensures { result ≡ frames_of texts.entry.bytes.now texts.entry.lines.now
+            (place_chain place.link place.scope texts.entry.scopes.now.scopes) place.row }
     {
         Frames {
             walk: Some(Walk::of(texts, parents, place)),

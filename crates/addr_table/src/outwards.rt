@@ -4,7 +4,8 @@ ghost use Rattle.std.specs.Prelude.{◌≡◌, ◌≤◌, ◌<◌, ◌^◌, leng
 ghost use Rattle.dwarf_entries.specs.Scopes.{Scope as ScopeSeen};
 ghost use Rattle.addr_table.specs.Chains.{is_at};
 ghost use Rattle.dwarf_entries.specs.Order.{AreInOrder};
-ghost use Rattle.addr_table.specs.Walks.{HaveParents, chain_around, top_around, EndsAt, IsTold, outer_of, begin_of};
+ghost use Rattle.addr_table.specs.Walks.{HaveParents, chain_around, top_around, EndsAt, IsTold};
+ghost use Rattle.addr_table.specs.Walks.{outer_of, begin_of};
 
 use crate::scan::is_at;
 use crate::scopes::scope_at;
@@ -41,12 +42,19 @@ pub(crate) fn top(scopes: &Scopes, parents: &[usize], link: u64, near: usize) ->
 
 /// The number behind that of the first scope of the chain, from the one before a number outwards; 0
 /// where none is left.
-pub(crate) fn next_told(scopes: &Scopes, parents: &[usize], link: u64, top: usize, near: usize) -> usize
+pub(crate) fn next_told(
+    scopes: &Scopes,
+    parents: &[usize],
+    link: u64,
+    top: usize,
+    near: usize,
+) -> usize
     requires have { HaveParents scopes.now.scopes parents.now }
     requires within { near ≤ length scopes.now.scopes }
     requires ends { EndsAt link scopes.now.scopes near top }
     ensures within { result ≤ length scopes.now.scopes }
-    ensures chain { chain_around link scopes.now.scopes result ≡ chain_around link scopes.now.scopes near }
+    ensures chain { chain_around link scopes.now.scopes result
+        ≡ chain_around link scopes.now.scopes near }
     ensures ends { EndsAt link scopes.now.scopes result top }
     ensures told { IsTold link scopes.now.scopes result top }
 {

@@ -24,7 +24,8 @@ impl<'a> Model for Path<'a> {
 
     ghost Value = { List (List ℕ) };
 
-    ghost view = { λ p. parts_left (record { line = p.line.now; line_str = p.line_str.now; str = p.str.now }) p.parts p.next };
+    ghost view = { λ p. parts_left
+        (record { line = p.line.now; line_str = p.line_str.now; str = p.str.now }) p.parts p.next };
 }
 
 impl<'a> Path<'a> {
@@ -35,7 +36,9 @@ impl<'a> Path<'a> {
         str: &'a [u8],
         parts: PathParts,
     ) -> Path<'a>
-        ensures { (s : LineSections) → s ≡ record { line = line.entry.now; line_str = line_str.entry.now; str = str.entry.now } → result ≡ map (part_bytes s) parts }
+        ensures { (s : LineSections) →
+            s ≡ record { line = line.entry.now; line_str = line_str.entry.now; str = str.entry.now }
+            → result ≡ map (part_bytes s) parts }
     {
         Path {
             line,
@@ -49,7 +52,9 @@ impl<'a> Path<'a> {
 
 /// The bytes of a part, which stands in one of these sections.
 fn part_in<'a>(line: &'a [u8], line_str: &'a [u8], str: &'a [u8], part: Text) -> &'a [u8]
-    ensures { result.now ≡ part_bytes (record { line = line.entry.now; line_str = line_str.entry.now; str = str.entry.now }) part }
+    ensures { result.now ≡ part_bytes
+        (record { line = line.entry.now; line_str = line_str.entry.now; str = str.entry.now })
+        part }
 {
     let bytes = match part.section {
         Section::DebugStr => str,

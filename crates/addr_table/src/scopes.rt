@@ -18,7 +18,8 @@ pub(crate) fn count(scopes: &Scopes) -> usize
 pub(crate) fn scope_at(scopes: &Scopes, number: usize) -> &Scope
     requires order { AreInOrder scopes.now.scopes }
     requires within { number < length scopes.now.scopes }
-    ensures { (d : ScopeSeen) → TellsOf scopes.now.scopes result.now (get_or scopes.now.scopes number d) }
+    ensures { (d : ScopeSeen) → TellsOf scopes.now.scopes result.now
+        (get_or scopes.now.scopes number d) }
 {
     &scopes.scopes()[number]
 }

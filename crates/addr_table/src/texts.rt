@@ -53,7 +53,9 @@ impl<'a> Texts<'a> {
     /// The name of the scope of a number.
     pub fn name(self, number: usize) -> Option<&'a [u8]>
         requires { AreInOrder self.scopes.now.scopes }
-        ensures { option_map (λ text. text.now) result ≡ option_map (text_bytes self.entry.bytes.now) (option_and_then (λ s. s.name) (slice_get self.entry.scopes.now.scopes number)) }
+        ensures { option_map (λ text. text.now) result
+            ≡ option_map (text_bytes self.entry.bytes.now)
+            (option_and_then (λ s. s.name) (slice_get self.entry.scopes.now.scopes number)) }
     {
         if number >= count(self.scopes) {
             return None;
@@ -65,7 +67,10 @@ impl<'a> Texts<'a> {
     /// Its linkage name.
     pub fn linkage(self, number: usize) -> Option<&'a [u8]>
         requires { AreInOrder self.scopes.now.scopes }
-        ensures { option_map (λ text. text.now) result ≡ option_map (text_bytes self.entry.bytes.now) (option_and_then (λ s. s.linkage_name) (slice_get self.entry.scopes.now.scopes number)) }
+        ensures { option_map (λ text. text.now) result
+            ≡ option_map (text_bytes self.entry.bytes.now)
+            (option_and_then (λ s. s.linkage_name)
+            (slice_get self.entry.scopes.now.scopes number)) }
     {
         if number >= count(self.scopes) {
             return None;
@@ -76,7 +81,8 @@ impl<'a> Texts<'a> {
 
     /// The path of a program's file.
     fn file(self, program: ProgramNo, file: u64) -> Option<Path<'a>>
-        ensures { option_map (join_with_byte 47) result ≡ file_path self.entry.bytes.now self.entry.lines.now program file }
+        ensures { option_map (join_with_byte 47) result ≡ file_path self.entry.bytes.now
+            self.entry.lines.now program file }
     {
         let parts = self.lines.path(program, file)?;
         let line = self.sections.debug_line.of(self.bytes);
@@ -86,7 +92,8 @@ impl<'a> Texts<'a> {
     }
 
     fn row_path(self, number: Option<usize>) -> Option<Path<'a>>
-        ensures { option_map (join_with_byte 47) result ≡ (row_site self.entry.bytes.now self.entry.lines.now number).path }
+        ensures { option_map (join_with_byte 47) result
+            ≡ (row_site self.entry.bytes.now self.entry.lines.now number).path }
     {
         let row = *self.lines.rows().get(number?)?;
         self.file(row.program, row.file)
@@ -106,7 +113,9 @@ impl<'a> Texts<'a> {
 
     fn call_path(self, number: usize) -> Option<Path<'a>>
         requires { AreInOrder self.scopes.now.scopes }
-        ensures { option_map (join_with_byte 47) result ≡ (site_told self.entry.bytes.now self.entry.lines.now self.entry.scopes.now.scopes (Call number)).path }
+        ensures { option_map (join_with_byte 47) result
+            ≡ (site_told self.entry.bytes.now self.entry.lines.now self.entry.scopes.now.scopes
+            (Call number)).path }
     {
         if number >= count(self.scopes) {
             return None;
@@ -120,18 +129,23 @@ impl<'a> Texts<'a> {
 
     fn call_line(self, number: usize) -> u64
         requires { AreInOrder self.scopes.now.scopes }
-        ensures { result ≡ (site_told self.entry.bytes.now self.entry.lines.now self.entry.scopes.now.scopes (Call number)).line }
+        ensures { result ≡ (site_told self.entry.bytes.now self.entry.lines.now
+            self.entry.scopes.now.scopes (Call number)).line }
     {
         if number >= count(self.scopes) {
             return 0;
         }
-        scope_at(self.scopes, number).call_line(self.scopes).unwrap_or(0)
+        scope_at(self.scopes, number)
+            .call_line(self.scopes)
+            .unwrap_or(0)
     }
 
     /// The path of the file in which a frame stands.
     pub fn path(self, site: FrameSite) -> Option<Path<'a>>
         requires { AreInOrder self.scopes.now.scopes }
-        ensures { option_map (join_with_byte 47) result ≡ (site_told self.entry.bytes.now self.entry.lines.now self.entry.scopes.now.scopes site).path }
+        ensures { option_map (join_with_byte 47) result
+            ≡ (site_told self.entry.bytes.now self.entry.lines.now self.entry.scopes.now.scopes
+            site).path }
     {
         match site {
             FrameSite::Row(number) => self.row_path(number),
@@ -142,7 +156,8 @@ impl<'a> Texts<'a> {
     /// The line at which a frame stands; 0 where it is unknown.
     pub fn line(self, site: FrameSite) -> u64
         requires { AreInOrder self.scopes.now.scopes }
-        ensures { result ≡ (site_told self.entry.bytes.now self.entry.lines.now self.entry.scopes.now.scopes site).line }
+        ensures { result ≡ (site_told self.entry.bytes.now self.entry.lines.now
+            self.entry.scopes.now.scopes site).line }
     {
         match site {
             FrameSite::Row(number) => self.row_line(number),
