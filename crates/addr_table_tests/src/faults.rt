@@ -1,0 +1,108 @@
+//! Objects that are refused.
+
+use crate::fixtures::*;
+use addr_table::Module;
+use dwarf_bytes::{Cause, LoadFault, Section};
+use dwarf_samples::*;
+use std::process::Abort;
+use std::test::*;
+
+/// Checks that an object is refused, and its bytes come back.
+fn is_refused(
+    rt: &(impl Abort + AllocGlobal),
+    object: &[u8],
+    section: Section,
+    cause: Cause,
+    at: u64,
+) -> Result<(), Fail> {
+    let mut bytes = Vec::new(rt.alloc());
+    bytes.extend_from_slice(object)?;
+    let Err((back, fault)) = Module::decode(rt.alloc(), bytes) else {
+        return Err("no fault".into());
+    };
+    assert_eq!(rt; fault, LoadFault { section, cause, at });
+    assert_eq!(rt; back.as_slice(), object);
+    Ok(())
+}
+
+#[test]
+fn samples_with_a_fault(rt: HostRuntime) -> Result<(), Fail> {
+    let info = Section::DebugInfo;
+    is_refused(
+        &rt,
+        &cut_abbreviations(),
+        Section::DebugAbbrev,
+        Cause::Short,
+        0,
+    )?;
+    is_refused(&rt, &circular_origins(), info, Cause::OriginDepth, 54)?;
+    let line = many_directories_without_a_format();
+    is_refused(&rt, &line, Section::DebugLine, Cause::FileFormat, 0)?;
+    is_refused(&rt, &version_four(), info, Cause::Version, 0)?;
+    is_refused(&rt, &call_file_outside(), info, Cause::CallFile, 54)?;
+    is_refused(
+        &rt,
+        &cut_line_program(),
+        Section::DebugLine,
+        Cause::Short,
+        0,
+    )?;
+    is_refused(&rt, &origin_of_no_entry(), info, Cause::Reference, 54)?;
+    is_refused(&rt, &[], Section::Elf, Cause::NotElf, 0)?;
+    is_refused(&rt, &INLINED[..63], Section::Elf, Cause::NotElf, 0)?;
+    Ok(())
+}
+
+#[test]
+fn a_root_of_no_program(rt: HostRuntime) -> Result<(), Fail> {
+    // the root's line program at 1; and also the call file outside: the root is judged first
+    let mut object = INLINED;
+    object[176] = 1;
+    is_refused(&rt, &object, Section::DebugInfo, Cause::StmtList, 12)?;
+    let mut both = call_file_outside();
+    both[176] = 1;
+    is_refused(&rt, &both, Section::DebugInfo, Cause::StmtList, 12)?;
+    Ok(())
+}
+
+/// A compilation unit with stmt_list, a subprogram, and an inlined subroutine with a call file.
+const ABBREV: [u8; 29] = [
+    1, 0x11, 1, 0x10, 0x17, 0, 0, // unit: stmt_list
+    2, 0x2e, 1, 0x03, 0x08, 0, 0, // subprogram: name
+    3, 0x1d, 0, 0x58, 0x0b, 0, 0, // inlined subroutine: call_file
+    4, 0x2e, 0, 0x58, 0x0b, 0, 0, // subprogram: call_file
+    0,
+];
+
+#[test]
+fn units_are_judged_one_after_the_other(rt: HostRuntime) -> Result<(), Fail> {
+    // a unit with a call file outside, and behind it one of no line program
+    let mut info = Vec::new(rt.alloc());
+    add_unit(&mut info, &[1, 0, 0, 0, 0, 2, b'f', 0, 3, 9, 0, 0])?;
+    add_unit(&mut info, &[1, 9, 0, 0, 0, 0])?;
+    let parts = Parts {
+        abbrev: &ABBREV,
+        info: &info,
+        line: &INLINED[259..334],
+        rnglists: &[],
+    };
+    let bytes = object(rt.alloc(), parts)?;
+    // 12 bytes of the header, 5 of the root and 3 of the subprogram
+    is_refused(&rt, &bytes, Section::DebugInfo, Cause::CallFile, 20)?;
+    Ok(())
+}
+
+#[test]
+fn a_call_file_of_a_subprogram_is_not_judged(rt: HostRuntime) -> Result<(), Fail> {
+    let mut info = Vec::new(rt.alloc());
+    add_unit(&mut info, &[1, 0, 0, 0, 0, 4, 9, 0])?;
+    let parts = Parts {
+        abbrev: &ABBREV,
+        info: &info,
+        line: &INLINED[259..334],
+        rnglists: &[],
+    };
+    let bytes = object(rt.alloc(), parts)?;
+    assert!(rt; module(rt.alloc(), bytes).is_ok());
+    Ok(())
+}

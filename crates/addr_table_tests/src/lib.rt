@@ -1,0 +1,15 @@
+//! Tests of `addr_table` on small objects, with answers worked out by hand.
+#![tactic(auto)]
+
+#[cfg(test)]
+mod faults;
+#[cfg(test)]
+mod fixtures;
+#[cfg(test)]
+mod frames;
+#[cfg(test)]
+mod places;
+#[cfg(test)]
+mod samples;
+#[cfg(test)]
+mod segments;

@@ -1,0 +1,59 @@
+//! Places of other modules, and the laws.
+
+use crate::fixtures::*;
+use addr_table::{Place, laws};
+use dwarf_samples::{INLINED, TWO_SEQUENCES};
+use std::process::Abort;
+use std::test::*;
+
+/// The place of 0x1004 in the first sample: row 1 and scope 4.
+fn place(rt: &(impl Abort + AllocGlobal)) -> Result<Place, Fail> {
+    let module = sample(rt.alloc(), &INLINED)?;
+    Ok(find(&module, 0x1004).ok_or("no place")?)
+}
+
+#[test]
+fn a_place_of_a_module_with_scopes(rt: HostRuntime) -> Result<(), Fail> {
+    let place = place(&rt)?;
+    let mut bare = INLINED;
+    bare[543] = 0;
+    let module = sample(rt.alloc(), &bare)?;
+    are_frames(&rt, module.frames(place), &[(None, Some(b"/src/a.c"), 11)])?;
+    Ok(())
+}
+
+#[test]
+fn a_place_of_a_module_with_rows(rt: HostRuntime) -> Result<(), Fail> {
+    let place = place(&rt)?;
+    let parts = Parts {
+        abbrev: &[],
+        info: &[],
+        line: &[],
+        rnglists: &[],
+    };
+    let module = module(rt.alloc(), object(rt.alloc(), parts)?)?;
+    assert_eq!(rt; find(&module, 0x1004), None);
+    are_frames(&rt, module.frames(place), &[(None, None, 0)])?;
+    Ok(())
+}
+
+#[test]
+fn a_place_of_a_module_with_other_rows(rt: HostRuntime) -> Result<(), Fail> {
+    let place = place(&rt)?;
+    // the same scopes
+    let module = sample(rt.alloc(), &TWO_SEQUENCES)?;
+    let frame = module.frames(place).next().ok_or("no frame")?;
+    assert_eq!(rt; frame.name(), Some(b"leaf".as_slice()));
+    Ok(())
+}
+
+#[test]
+fn laws_may_be_cited(_rt: HostRuntime) {
+    laws::constant_between_ends();
+    laws::rows_are_first();
+    laws::chains_are_first_of_each();
+    laws::cuts_are_few();
+    laws::cuts_tell_places();
+    laws::chains_are_of_enclosing_scopes();
+    laws::frames_are_of_places();
+}
