@@ -1,6 +1,6 @@
 pub mod Fixed
 pub mod Texts
-pub mod Groups
+pub mod LebPrefixes
 pub mod Spelling
 pub mod Standing
 pub mod TextLaws
@@ -9,7 +9,7 @@ pub mod ContentLaws
 pub mod LengthLaws
 pub mod Extent
 pub mod Sections
-pub mod Whole
+pub mod ObjectLaws
 pub mod GoodObject
 pub mod ItemLaws
 pub mod EachLaws
@@ -18,3 +18,4 @@ pub mod Moves
 pub mod Turns
 pub mod EachPlaces
 pub mod FirstNuls
+pub mod SectionNames

@@ -16,7 +16,9 @@ IsBlock n bytes block = (length bytes ≡ n) × (block ≡ bytes)
 same_block : (x y : List ℕ × ℕ) → (let f : List ℕ × ℕ → Result (List ℕ × ℕ) ReadFault = λ z. Ok z in f x ≡ f y) → x ≡ y
 same_block x y h = cc
 
-block_by : (b : Bool) (n : ℕ) (bytes : List ℕ) (at : ℕ) (block : List ℕ) (next : ℕ) → ltb (length bytes) (at + n) ≡ b → cond {A = Result (List ℕ × ℕ) ReadFault} b (Err Short) (Ok (take n (drop at bytes), at + n)) ≡ Ok (block, next) → StandsAt (IsBlock n) bytes at block next
+block_by : (b : Bool) (n : ℕ) (bytes : List ℕ) (at : ℕ) (block : List ℕ) (next : ℕ) → ltb (length bytes) (at + n) ≡ b →
+    cond {A = Result (List ℕ × ℕ) ReadFault} b (Err Short) (Ok (take n (drop at bytes), at + n)) ≡ Ok (block, next) →
+    StandsAt (IsBlock n) bytes at block next
 block_by true n bytes at block next test e = absurd cc
 block_by false n bytes at block next test e =
     let within = ltb-false _ _ test in
@@ -31,12 +33,14 @@ block_by false n bytes at block next test e =
       next_is = ap (λ (p : List ℕ × ℕ). p.1) (sym pairs) ∙ ap (λ (m : ℕ). at + m) (sym size);
     }
 
-pub block_stands : (n : ℕ) (bytes : List ℕ) (at : ℕ) (block : List ℕ) (next : ℕ) → block_at n bytes at ≡ Ok (block, next) → StandsAt (IsBlock n) bytes at block next
+pub block_stands : (n : ℕ) (bytes : List ℕ) (at : ℕ) (block : List ℕ) (next : ℕ) →
+    block_at n bytes at ≡ Ok (block, next) → StandsAt (IsBlock n) bytes at block next
 unfolding block_at
 block_stands n bytes at block next e = block_by (ltb (length bytes) (at + n)) n bytes at block next refl e
 
 -- bytes that stand at a place are read as a block
-pub block_of : (bytes : List ℕ) (at : ℕ) (front rest : List ℕ) → at ≤ length bytes → drop at bytes ≡ front ++ rest → block_at (length front) bytes at ≡ Ok (front, at + length front)
+pub block_of : (bytes : List ℕ) (at : ℕ) (front rest : List ℕ) → at ≤ length bytes → drop at bytes ≡ front ++ rest →
+    block_at (length front) bytes at ≡ Ok (front, at + length front)
 unfolding block_at
 block_of bytes at front rest within parts =
     let left = length-drop at bytes in
@@ -44,7 +48,8 @@ block_of bytes at front rest within parts =
     let there : ltb (length bytes) (at + length front) ≡ false = le-ltb _ _ (omega (arith, left, all)) in
     rw (there, parts, take_at front rest (length front) refl) refl
 
-pub fixed_stands : (n : ℕ) (bytes : List ℕ) (at value next : ℕ) → fixed_at n bytes at ≡ Ok (value, next) → StandsAt (IsFixed n) bytes at value next
+pub fixed_stands : (n : ℕ) (bytes : List ℕ) (at value next : ℕ) → fixed_at n bytes at ≡ Ok (value, next) →
+    StandsAt (IsFixed n) bytes at value next
 unfolding fixed_at
 fixed_stands n bytes at value next e =
     let b = bind_ok (block_at n bytes at) (λ block. Ok (little_endian block.0, block.1)) (value, next) e in
@@ -62,11 +67,13 @@ fixed_stands n bytes at value next e =
     same_number x y h = cc
 
 -- a number that stands at a place is read there
-pub fixed_of : (bytes : List ℕ) (at : ℕ) (front rest : List ℕ) → at ≤ length bytes → drop at bytes ≡ front ++ rest → fixed_at (length front) bytes at ≡ Ok (little_endian front, at + length front)
+pub fixed_of : (bytes : List ℕ) (at : ℕ) (front rest : List ℕ) → at ≤ length bytes → drop at bytes ≡ front ++ rest →
+    fixed_at (length front) bytes at ≡ Ok (little_endian front, at + length front)
 unfolding fixed_at
 fixed_of bytes at front rest within parts = rw (block_of bytes at front rest within parts) refl
 
-pub fixed_again : (n : ℕ) (bytes : List ℕ) (at value next : ℕ) → at ≤ length bytes → StandsAt (IsFixed n) bytes at value next → fixed_at n bytes at ≡ Ok (value, next)
+pub fixed_again : (n : ℕ) (bytes : List ℕ) (at value next : ℕ) → at ≤ length bytes →
+    StandsAt (IsFixed n) bytes at value next → fixed_at n bytes at ≡ Ok (value, next)
 fixed_again n bytes at value next within s =
     ap (λ (m : ℕ). fixed_at m bytes at) (sym s.spelled.0) ∙ fixed_of bytes at s.front s.rest within s.parts
     ∙ ap (λ (v : ℕ). Ok (v, at + length s.front)) (sym s.spelled.1) ∙ ap (λ (m : ℕ). Ok (value, m)) (sym s.next_is)

@@ -36,8 +36,10 @@ SpellsContent layouts.Signed format bytes (Signed v) = IsSleb bytes v
 SpellsContent layouts.Unsigned format bytes (Number v) = IsUleb bytes v
 SpellsContent layouts.Text format bytes (Bytes text) = IsText bytes text
 SpellsContent layouts.Sixteen format bytes (Bytes block) = (length bytes ≡ 16) × (block ≡ bytes)
-SpellsContent (layouts.Block width) format bytes (Bytes block) = (len : List ℕ) × (bytes ≡ len ++ block) × IsFixed (byte_len width) len (length block)
-SpellsContent layouts.LongBlock format bytes (Bytes block) = (len : List ℕ) × (bytes ≡ len ++ block) × IsUleb len (length block)
+SpellsContent (layouts.Block width) format bytes (Bytes block) =
+    (len : List ℕ) × (bytes ≡ len ++ block) × IsFixed (byte_len width) len (length block)
+SpellsContent layouts.LongBlock format bytes (Bytes block) =
+    (len : List ℕ) × (bytes ≡ len ++ block) × IsUleb len (length block)
 SpellsContent layout format bytes content = ⊥
 
 -- what is read, as a content
@@ -53,5 +55,6 @@ content_at layouts.Signed format bytes at = read_as Signed (sleb_at bytes at)
 content_at layouts.Unsigned format bytes at = read_as Number (uleb_at bytes at)
 content_at layouts.Text format bytes at = read_as Bytes (cstr_at bytes at)
 content_at layouts.Sixteen format bytes at = read_as Bytes (block_at 16 bytes at)
-content_at (layouts.Block width) format bytes at = fixed_at (byte_len width) bytes at >>= λ len. read_as Bytes (block_at len.0 bytes len.1)
+content_at (layouts.Block width) format bytes at =
+    fixed_at (byte_len width) bytes at >>= λ len. read_as Bytes (block_at len.0 bytes len.1)
 content_at layouts.LongBlock format bytes at = uleb_at bytes at >>= λ len. read_as Bytes (block_at len.0 bytes len.1)

@@ -37,10 +37,14 @@ untold (Ok x) = Ok x
 untold (Err e) = Err e.0
 
 -- the items from a place on, and the place after them; n is a number of steps that is not reached
-unfoldable pub items_within : {X : Type 0} → ℕ → (List X → ℕ → Result (Next X) Cause) → List X → ℕ → Result (List X × ℕ) At
+unfoldable pub items_within : {X : Type 0} → ℕ → (List X → ℕ → Result (Next X) Cause) → List X → ℕ →
+    Result (List X × ℕ) At
 items_within zero step before at = Err (causes.Short, at)
 items_within (suc n) step before at = told_at at (step before at) >>= λ next.
-    elim next [ End after ↦ Ok ([], after) | Item x after ↦ items_within n step (before ++ x ∷ []) after >>= λ rest. Ok (x ∷ rest.0, rest.1) ]
+    elim next [
+      | End after ↦ Ok ([], after)
+      | Item x after ↦ items_within n step (before ++ x ∷ []) after >>= λ rest. Ok (x ∷ rest.0, rest.1)
+    ]
 
 -- the same, where each item takes a byte or more of the bytes up to the end
 abbrev pub items_from : {X : Type 0} → ℕ → (List X → ℕ → Result (Next X) Cause) → List X → ℕ → Result (List X × ℕ) At
@@ -48,7 +52,8 @@ items_from end step before at = items_within (suc (end - at)) step before at
 
 -- each item takes a byte or more, and none reaches past the end
 abbrev pub Advances : {X : Type 0} → ℕ → (List X → ℕ → Result (Next X) Cause) → Type 0
-Advances {X} end step = (before : List X) (at : ℕ) (x : X) (after : ℕ) → step before at ≡ Ok (Item x after) → (at < after) × (after ≤ end)
+Advances {X} end step =
+    (before : List X) (at : ℕ) (x : X) (after : ℕ) → step before at ≡ Ok (Item x after) → (at < after) × (after ≤ end)
 
 -- What is made of each element of a list, in order; what is made of one may depend on what was made of those before it.
 unfoldable pub each_from : {X Y : Type 0} → (List Y → X → Result Y At) → List Y → List X → Result (List Y) At
@@ -66,4 +71,5 @@ each make xs = each_from make [] xs
 -- step gives the end behind all of them.
 abbrev pub Lists : {X : Type 0} → (List X → ℕ → Result (Next X) Cause) → List X → ℕ → List X → ℕ → Type 0
 Lists step before at [] after = step before at ≡ Ok (End after)
-Lists step before at (x ∷ xs) after = (mid : ℕ) × (step before at ≡ Ok (Item x mid)) × Lists step (before ++ x ∷ []) mid xs after
+Lists step before at (x ∷ xs) after =
+    (mid : ℕ) × (step before at ≡ Ok (Item x mid)) × Lists step (before ++ x ∷ []) mid xs after

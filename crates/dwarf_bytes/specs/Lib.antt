@@ -1,7 +1,6 @@
 pub mod Bind
 pub mod Numbers
 pub mod Private
-pub mod Groups
 pub mod Position
 pub mod Words
 pub mod Faults
@@ -10,7 +9,6 @@ pub mod Refusals
 pub mod Headers
 pub mod Elf
 pub mod ElfLaws
-pub mod Walks
 pub mod Tables
 pub mod Forms
 pub mod Contents

@@ -103,7 +103,8 @@ abbrev pub IsOverSleb : List ℕ → Type 0
 IsOverSleb front = ¬ (FitsSigned w64 (sleb_value front))
 
 -- the bytes at the place begin with what spells the value, and next is the place after it
-pub record StandsAt {X : Type 0} (Spells : List ℕ → X → Type 0) (bytes : List ℕ) (at : ℕ) (value : X) (next : ℕ) : Type 0 where
+pub record StandsAt {X : Type 0} (Spells : List ℕ → X → Type 0) (bytes : List ℕ) (at : ℕ) (value : X)
+    (next : ℕ) : Type 0 where
   pub front : List ℕ
   pub rest : List ℕ
   pub spelled : Spells front value
@@ -113,7 +114,8 @@ pub record StandsAt {X : Type 0} (Spells : List ℕ → X → Type 0) (bytes : L
 -- the spelling at the front of the bytes: up to the first byte below 128, which is one of the first ten
 unfoldable pub leb_front : List ℕ → Result (List ℕ) ReadFault
 leb_front bytes =
-    option_map_or (λ last. Ok (take (last + 1) bytes)) (position (λ b. nat_lt b 128) (take 10 bytes)) (Err (if nat_lt (length bytes) 10 then Short else Leb))
+    option_map_or (λ last. Ok (take (last + 1) bytes)) (position (λ b. nat_lt b 128) (take 10 bytes))
+    (Err (if nat_lt (length bytes) 10 then Short else Leb))
 
 unfoldable pub uleb_at : List ℕ → ℕ → Result (ℕ × ℕ) ReadFault
 uleb_at bytes at = do
@@ -138,7 +140,8 @@ unfoldable pub text_front : List ℕ → Option (List ℕ)
 text_front bytes = option_map (λ n. take n bytes) (position (λ b. b == 0) bytes)
 
 unfoldable pub cstr_at : List ℕ → ℕ → Result (List ℕ × ℕ) ReadFault
-cstr_at bytes at = option_map_or (λ text. Ok (text, at + length text + 1)) (text_front (drop at bytes)) (Err Unterminated)
+cstr_at bytes at =
+    option_map_or (λ text. Ok (text, at + length text + 1)) (text_front (drop at bytes)) (Err Unterminated)
 
 -- the text of a section at an offset into it
 unfoldable pub text_at : List ℕ → ℕ → Result (List ℕ) ReadFault

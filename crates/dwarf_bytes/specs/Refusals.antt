@@ -34,7 +34,8 @@ Decodes view (Err fault) outcome = (fault ≡ memory_fault) ⊎ (outcome ≡ Err
 
 -- What a step on a cursor gives is what is read at the place, and the cursor stands after it. After a fault nothing is said of
 -- the cursor.
-abbrev pub ReadsField : {X Y : Type 0} → (X → Y) → Result X Cause → (List ℕ → ℕ → Result (Y × ℕ) Cause) → Position → Position → Type 0
+abbrev pub ReadsField : {X Y : Type 0} → (X → Y) → Result X Cause → (List ℕ → ℕ → Result (Y × ℕ) Cause) → Position →
+    Position → Type 0
 ReadsField view (Ok x) read old new = (read old.bytes old.place ≡ Ok (view x, new.place)) × (new.bytes ≡ old.bytes)
 ReadsField view (Err cause) read old new = read old.bytes old.place ≡ Err cause
 
@@ -44,13 +45,15 @@ ReadsPlace (Ok _) read old new = (read old.bytes old.place ≡ Ok new.place) × 
 ReadsPlace (Err cause) read old new = read old.bytes old.place ≡ Err cause
 
 -- The items of a list in memory are those that are read, and the cursor stands after them, unless memory ran out.
-abbrev pub ReadsItems : {X : Type 0} → Result (Vec X Global) Cause → (List ℕ → ℕ → Result (List X × ℕ) Cause) → Position → Position → Type 0
+abbrev pub ReadsItems : {X : Type 0} → Result (Vec X Global) Cause → (List ℕ → ℕ → Result (List X × ℕ) Cause) →
+    Position → Position → Type 0
 ReadsItems (Ok v) read old new = (read old.bytes old.place ≡ Ok (v.items, new.place)) × (new.bytes ≡ old.bytes)
 ReadsItems (Err cause) read old new = Fails cause (read old.bytes old.place)
 
 -- What a step on a cursor finds is the next item, or the end of the items, and the cursor stands after it. After a fault
 -- nothing is said of the cursor.
-abbrev pub ReadsNext : {X : Type 0} → Result (Option X) Cause → (List ℕ → ℕ → Result (Next X) Cause) → Position → Position → Type 0
+abbrev pub ReadsNext : {X : Type 0} → Result (Option X) Cause → (List ℕ → ℕ → Result (Next X) Cause) → Position →
+    Position → Type 0
 ReadsNext (Ok (Some x)) step old new = (step old.bytes old.place ≡ Ok (Item x new.place)) × (new.bytes ≡ old.bytes)
 ReadsNext (Ok None) step old new = (step old.bytes old.place ≡ Ok (End new.place)) × (new.bytes ≡ old.bytes)
 ReadsNext (Err cause) step old new = step old.bytes old.place ≡ Err cause

@@ -45,7 +45,8 @@ abbrev pub version_place : TableKind → Format → ℕ → ℕ
 version_place kind format base = head_start kind format base + length_len format
 
 abbrev pub table_end : TableKind → Format → List ℕ → ℕ → ℕ
-table_end kind format section base = version_place kind format base + unit_length format section (head_start kind format base)
+table_end kind format section base =
+    version_place kind format base + unit_length format section (head_start kind format base)
 
 -- how many offsets of lists follow the base (offset_entry_count)
 abbrev pub offset_count : TableKind → Format → List ℕ → ℕ → ℕ
@@ -76,4 +77,5 @@ head_tests kind format section base =
 -- the end and the items of the table whose header stands before the base, or what is wrong with it
 unfoldable pub table_before : TableKind → Format → List ℕ → ℕ → Result TableHead Cause
 table_before kind format section base =
-    option_map_or (λ cause. Err cause) (first_failure (head_tests kind format section base)) (Ok (record { end = table_end kind format section base; items = item_count kind format section base }))
+    option_map_or (λ cause. Err cause) (first_failure (head_tests kind format section base))
+    (Ok (record { end = table_end kind format section base; items = item_count kind format section base }))

@@ -1,5 +1,5 @@
-//! The numbers of DWARF 5, under the names of its tables (chapter 7). The definitions of specs/ name
-//! the same ones.
+//! The numbers of DWARF 5, under the names of its tables (chapter 7). The definitions of specs/
+//! name the same ones.
 
 // Unit types (7.5.1, table 7.2).
 pub const DW_UT_COMPILE: u8 = 0x01;

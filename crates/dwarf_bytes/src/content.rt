@@ -28,7 +28,8 @@ impl<'a> Content<'a> {
         format: Format,
         cursor: &mut Cursor<'a>,
     ) -> Result<Content<'a>, ReadFault>
-        ensures { Reads (λ c. content_of c) result (content_at layout format) cursor.old cursor.new }
+        ensures { Reads (λ c. content_of c) result (content_at layout format)
+            cursor.old cursor.new }
     {
         let start = cursor.place();
         match layout {
@@ -67,8 +68,13 @@ fn number(width: Width, cursor: &mut Cursor) -> Result<u64, ReadFault>
 /// So many bytes; the cursor goes back to `start` where they are not there.
 fn block<'a>(len: u64, start: usize, cursor: &mut Cursor<'a>) -> Result<Content<'a>, ReadFault>
     requires { start ≤ length cursor.old.bytes }
-    ensures block { IfOk result (λ c. (block_at len cursor.old.bytes cursor.old.place ≡ Ok (block_in (content_of c), cursor.new.place)) × (content_of c ≡ Bytes (block_in (content_of c))) × (cursor.new.bytes ≡ cursor.old.bytes)) }
-    ensures fault { IfErr result (λ e. (block_at len cursor.old.bytes cursor.old.place ≡ Err e) × (cursor.new ≡ record cursor.old { place = start })) }
+    ensures block { IfOk result (λ c.
+        (block_at len cursor.old.bytes cursor.old.place
+        ≡ Ok (block_in (content_of c), cursor.new.place))
+        × (content_of c ≡ Bytes (block_in (content_of c)))
+        × (cursor.new.bytes ≡ cursor.old.bytes)) }
+    ensures fault { IfErr result (λ e. (block_at len cursor.old.bytes cursor.old.place ≡ Err e)
+        × (cursor.new ≡ record cursor.old { place = start })) }
 {
     match cursor.block(len) {
         Ok(block) => Ok(Content::Bytes(block)),

@@ -67,7 +67,8 @@ impl<'a> Cursor<'a> {
 
     /// A cursor at the same place, over the bytes as far as `len` behind it.
     pub fn part(&self, len: u64) -> Result<Cursor<'a>, ReadFault>
-        ensures part { IfOk result (λ part. part ≡ record { bytes = take (self.now.place + len) self.now.bytes; place = self.now.place }) }
+        ensures part { IfOk result (λ part. part ≡
+            record { bytes = take (self.now.place + len) self.now.bytes; place = self.now.place }) }
         ensures within { IsOk result ↔ (self.now.place + len ≤ length self.now.bytes) }
         ensures short { OnErr result (result ≡ Err ReadFault.Short) }
     {

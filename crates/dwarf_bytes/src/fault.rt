@@ -1,11 +1,9 @@
 //! Why bytes could not be read, and why an object is refused.
 
 ghost use Rattle.std.specs.Prelude.{◌≡◌, Some};
-ghost use Rattle.dwarf_bytes.specs.Words.{section_name, cause_word, cause_of};
-ghost use Rattle.dwarf_bytes.specs.Refusals.{memory_fault, told};
-ghost use Rattle.dwarf_bytes.specs.declared.fault.Cause.TheVariants as causes;
+ghost use Rattle.dwarf_bytes.specs.Words.{section_name, cause_word};
+ghost use Rattle.dwarf_bytes.specs.Refusals.{told};
 
-use std::alloc::{AllocError, AllocFailed};
 use std::fmt;
 use thiserror::Error;
 
@@ -68,7 +66,7 @@ impl fmt::Display for Section {
 }
 
 /// What is wrong with an object. `as u8` gives the cause's number.
-#[derive(Clone, Copy, Debug, PartialEq, Eq)]
+#[derive(Clone, Copy, Debug, PartialEq, Eq, Error)]
 pub enum Cause {
     NotElf = 1,
     Class = 2,
@@ -174,40 +172,11 @@ impl Cause {
     }
 }
 
-impl From<AllocError> for Cause {
-    ghost from_gives = { λ _ cause. cause ≡ causes.Memory };
-
-    fn from(_: AllocError) -> Cause {
-        Cause::Memory
-    }
-}
-
-impl<T: Drop> From<AllocFailed<T>> for Cause {
-    ghost from_gives = { λ _ cause. cause ≡ causes.Memory };
-
-    fn from(_: AllocFailed<T>) -> Cause {
-        Cause::Memory
-    }
-}
-
 impl fmt::Display for Cause {
     ghost output = { λ cause. Some (cause_word cause) };
 
     fn fmt<W: fmt::Write>(&self, f: &mut fmt::Formatter<W>) -> fmt::Result {
         f.write_str(self.word())
-    }
-}
-
-impl From<ReadFault> for Cause {
-    ghost from_gives = { λ fault cause. cause ≡ cause_of fault };
-
-    fn from(fault: ReadFault) -> Cause {
-        match fault {
-            ReadFault::Short => Cause::Short,
-            ReadFault::Leb => Cause::Leb,
-            ReadFault::Unterminated => Cause::Text,
-            ReadFault::Length => Cause::Length,
-        }
     }
 }
 
@@ -221,7 +190,7 @@ pub struct LoadFault {
 }
 
 /// Want of memory, which is no fault of the bytes.
-const MEMORY_FAULT: LoadFault = LoadFault {
+pub(crate) const MEMORY_FAULT: LoadFault = LoadFault {
     section: Section::Elf,
     cause: Cause::Memory,
     at: 0,
@@ -237,21 +206,5 @@ impl LoadFault {
             return MEMORY_FAULT;
         }
         LoadFault { section, cause, at }
-    }
-}
-
-impl From<AllocError> for LoadFault {
-    ghost from_gives = { λ _ fault. fault ≡ memory_fault };
-
-    fn from(_: AllocError) -> LoadFault {
-        MEMORY_FAULT
-    }
-}
-
-impl<T: Drop> From<AllocFailed<T>> for LoadFault {
-    ghost from_gives = { λ _ fault. fault ≡ memory_fault };
-
-    fn from(_: AllocFailed<T>) -> LoadFault {
-        MEMORY_FAULT
     }
 }

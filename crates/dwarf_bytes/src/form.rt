@@ -73,7 +73,11 @@ impl Form {
             }
             DW_FORM_FLAG_PRESENT => ValueLayout::Present,
             DW_FORM_SDATA => ValueLayout::Signed,
-            DW_FORM_UDATA | DW_FORM_REF_UDATA | DW_FORM_STRX | DW_FORM_ADDRX | DW_FORM_LOCLISTX
+            DW_FORM_UDATA
+            | DW_FORM_REF_UDATA
+            | DW_FORM_STRX
+            | DW_FORM_ADDRX
+            | DW_FORM_LOCLISTX
             | DW_FORM_RNGLISTX => ValueLayout::Unsigned,
             DW_FORM_STRING => ValueLayout::Text,
             DW_FORM_DATA16 => ValueLayout::Sixteen,

@@ -4,16 +4,19 @@
 
 pub mod constants;
 mod content;
+mod conversions;
 mod cursor;
 mod fault;
 mod fields;
 mod form;
 mod format;
+mod header_tests;
 mod headers;
 pub mod laws;
 mod layout;
 mod leb;
 mod object;
+mod section_names;
 mod tables;
 mod text;
 mod text_index;

@@ -1,43 +1,23 @@
 //! The tables of an ELF file.
 
-ghost use Rattle.std.specs.Prelude.{◌≡◌, ◌≤◌, ◌<◌, ◌+◌, ◌*◌, ◌↔◌, List, [], ◌∷◌, ◌++◌, length, take, MatchResult, Some, None, IfOk, IsTrue, IfSome, position, false, Ok, Err, ◌⊎◌};
-ghost use Rattle.std.specs.Str.{bytes_eq};
-ghost use Rattle.dwarf_bytes.specs.Words.{section_name};
-ghost use Rattle.dwarf_bytes.specs.Bind.{unless};
+ghost use Rattle.std.specs.Prelude.{◌≡◌, ◌≤◌, ◌<◌, ◌+◌, ◌*◌, length, MatchResult, Some, None, false, Ok, Err};
 ghost use Rattle.dwarf_bytes.specs.Faults.{first_failure, item_fault, first_fault};
 ghost use Rattle.dwarf_bytes.specs.Headers.{file_header};
-ghost use Rattle.dwarf_bytes.specs.Elf.{is_not_elf, is_other_class, is_other_type, is_bad_segment_table, is_bad_section_table, has_sections, header_tests, section_header, names, names_item, section_item, load_items, section_items, elf_fault, layout, low, high, AreInside};
+ghost use Rattle.dwarf_bytes.specs.Elf.{is_bad_section_table, section_header, names, names_item, section_item, load_items, section_items, elf_fault, layout, low, high, AreInside};
 ghost use Rattle.dwarf_bytes.specs.declared.fault.Section.TheVariants as sections;
-ghost use Rattle.dwarf_bytes.specs.Walks.{extended, layout_of, spans_before};
+ghost use Rattle.dwarf_bytes.specs.Private.Extents.{extended};
+ghost use Rattle.dwarf_bytes.specs.Private.FoundSections.{layout_of, spans_before, wanted_tests};
 
 use crate::fault::{Cause, LoadFault, Section};
-use crate::fields::byte_at;
+use crate::header_tests::checked_header;
 use crate::headers::{
-    FileHeader, ProgramHeader, SectionHeader, file_header, is_outside, program_header,
-    section_header_at,
+    FileHeader, ProgramHeader, SectionHeader, is_outside, program_header, section_header_at,
 };
 use crate::layout::{Layout, Span};
-use crate::text::text_at;
-
-/// The most bytes of an object.
-const MAX_BYTES: usize = 1 << 30;
-
-/// The sections that are wanted.
-const WANTED: [Section; 8] = [
-    Section::DebugInfo,
-    Section::DebugAbbrev,
-    Section::DebugLine,
-    Section::DebugLineStr,
-    Section::DebugStr,
-    Section::DebugStrOffsets,
-    Section::DebugAddr,
-    Section::DebugRnglists,
-];
+use crate::section_names::SectionNames;
 
 /// Where an absent section stands.
 const NOWHERE: Span = Span { place: 0, len: 0 };
-
-const MAGIC: [u8; 4] = [0x7f, b'E', b'L', b'F'];
 
 /// A file that is to be an object.
 pub struct Object;
@@ -45,7 +25,9 @@ pub struct Object;
 impl Object {
     /// Where the sections of an object stand, or its first fault.
     pub fn find(bytes: &[u8]) -> Result<Layout, LoadFault>
-        ensures { MatchResult result (λ found. (elf_fault bytes.now ≡ None) × (found ≡ layout bytes.now) × AreInside bytes.now found) (λ fault. elf_fault bytes.now ≡ Some fault) }
+        ensures { MatchResult result (λ found. (elf_fault bytes.now ≡ None)
+            × (found ≡ layout bytes.now) × AreInside bytes.now found)
+            (λ fault. elf_fault bytes.now ≡ Some fault) }
     {
         let header = match checked_header(bytes) {
             Ok(header) => header,
@@ -57,7 +39,7 @@ impl Object {
     }
 }
 
-/// The layout of the sections found, in the order of `WANTED`.
+/// The layout of the sections found, in the order in which they are wanted.
 fn layout(found: [Option<Span>; 8], low: u64, high: u64) -> Layout
     ensures { result ≡ layout_of found low high }
 {
@@ -95,80 +77,13 @@ fn elf(cause: Cause, at: u64) -> LoadFault
     }
 }
 
-/// The header of a file, where it and the places of its tables are good.
-fn checked_header(bytes: &[u8]) -> Result<FileHeader, Cause>
-    ensures header { MatchResult result (λ header. (first_failure (header_tests bytes.now) ≡ None) × (header ≡ file_header bytes.now)) (λ cause. first_failure (header_tests bytes.now) ≡ Some cause) }
-    ensures sections { IfOk result (λ header. is_bad_section_table bytes.now header ≡ false) }
-    ensures segments { IfOk result (λ header. 0 < header.phnum → header.phoff + 56 * header.phnum ≤ length bytes.now) }
-{
-    if bytes.len() > MAX_BYTES {
-        return Err(Cause::TooMany);
-    }
-    if is_not_elf(bytes) {
-        return Err(Cause::NotElf);
-    }
-    if is_other_class(bytes) {
-        return Err(Cause::Class);
-    }
-    let header = file_header(bytes);
-    if is_other_type(&header) {
-        return Err(Cause::FileType);
-    }
-    if is_bad_segment_table(bytes, &header) {
-        return Err(Cause::Table);
-    }
-    if is_bad_section_table(bytes, &header) {
-        return Err(Cause::Table);
-    }
-    Ok(header)
-}
-
-fn is_not_elf(bytes: &[u8]) -> bool
-    ensures value { result ≡ is_not_elf bytes.now }
-    ensures long { 64 ≤ length bytes.now ⊎ IsTrue result }
-{
-    bytes.len() < 64 || &bytes[..4] != MAGIC.as_slice()
-}
-
-fn is_other_class(bytes: &[u8]) -> bool
-    requires { 64 ≤ length bytes.now }
-    ensures { result ≡ is_other_class bytes.now }
-{
-    byte_at(bytes, 4) != 2 || byte_at(bytes, 5) != 1 || byte_at(bytes, 6) != 1
-}
-
-fn is_other_type(header: &FileHeader) -> bool
-    ensures { result ≡ is_other_type header.now }
-{
-    header.kind != 2 && header.kind != 3
-}
-
-fn is_bad_segment_table(bytes: &[u8], header: &FileHeader) -> bool
-    ensures { result ≡ is_bad_segment_table bytes.now header.now }
-{
-    let size = 56 * u64::from(header.phnum);
-    header.phnum == 0xffff
-        || (header.phnum > 0 && (header.phentsize != 56 || is_outside(bytes, header.phoff, size)))
-}
-
-fn is_bad_section_table(bytes: &[u8], header: &FileHeader) -> bool
-    ensures { result ≡ is_bad_section_table bytes.now header.now }
-{
-    let size = 64 * u64::from(header.shnum);
-    (header.shnum != 0 || header.shoff != 0)
-        && (header.shnum == 0
-            || header.shnum >= 0xff00
-            || header.shentsize != 64
-            || header.shstrndx >= header.shnum
-            || is_outside(bytes, header.shoff, size))
-}
-
 /// The lowest address and the first past the highest, after one more header is judged.
 fn extended(
     extent: Option<(u64, u64)>,
     entry: &ProgramHeader,
 ) -> Result<Option<(u64, u64)>, LoadFault>
-    ensures { MatchResult result (λ after. extended extent entry.now ≡ Ok after) (λ fault. extended extent entry.now ≡ Err fault) }
+    ensures { MatchResult result (λ after. extended extent entry.now ≡ Ok after)
+        (λ fault. extended extent entry.now ≡ Err fault) }
 {
     if !entry.is_load() {
         return Ok(extent);
@@ -185,8 +100,11 @@ fn extended(
 /// The addresses that the load segments take.
 fn extent(bytes: &[u8], header: &FileHeader) -> Result<(u64, u64), LoadFault>
     requires header { header.now ≡ file_header bytes.now }
-    requires segments { 0 < header.now.phnum → header.now.phoff + 56 * header.now.phnum ≤ length bytes.now }
-    ensures { MatchResult result (λ extent. (first_fault sections.Elf (load_items bytes.now) ≡ None) × (extent.0 ≡ low bytes.now) × (extent.1 ≡ high bytes.now)) (λ fault. first_fault sections.Elf (load_items bytes.now) ≡ Some fault) }
+    requires segments { 0 < header.now.phnum →
+        header.now.phoff + 56 * header.now.phnum ≤ length bytes.now }
+    ensures { MatchResult result (λ extent. (first_fault sections.Elf (load_items bytes.now) ≡ None)
+        × (extent.0 ≡ low bytes.now) × (extent.1 ≡ high bytes.now))
+        (λ fault. first_fault sections.Elf (load_items bytes.now) ≡ Some fault) }
 {
     let mut extent = None;
     for k in 0..usize::from(header.phnum) {
@@ -213,7 +131,9 @@ fn name_section<'a>(bytes: &'a [u8], header: &FileHeader) -> Result<&'a [u8], Lo
     requires header { header.now ≡ file_header bytes.now }
     requires within { header.now.shstrndx < header.now.shnum }
     requires sections { header.now.shoff + 64 * header.now.shnum ≤ length bytes.now }
-    ensures { MatchResult result (λ found. (item_fault sections.Elf (names_item bytes.now) ≡ None) × (found.now ≡ names bytes.now)) (λ fault. item_fault sections.Elf (names_item bytes.now) ≡ Some fault) }
+    ensures { MatchResult result (λ found. (item_fault sections.Elf (names_item bytes.now) ≡ None)
+        × (found.now ≡ names bytes.now))
+        (λ fault. item_fault sections.Elf (names_item bytes.now) ≡ Some fault) }
 {
     let entry = nth_section(bytes, header, header.shstrndx);
     if entry.is_nobits() || entry.is_compressed() || is_outside(bytes, entry.offset, entry.size) {
@@ -223,49 +143,52 @@ fn name_section<'a>(bytes: &'a [u8], header: &FileHeader) -> Result<&'a [u8], Lo
     Ok(&bytes[start..start + entry.size as usize])
 }
 
-/// Which of the wanted sections has a name.
-fn wanted(name: &[u8]) -> Option<usize>
-    ensures number { result ≡ position (λ s. bytes_eq name.now (section_name s)) WANTED }
-    ensures within { IfSome result (λ number. number < 8) }
+/// What is wrong with the header of a wanted section, where one before it may have its name.
+fn wanted_fault(bytes: &[u8], entry: &SectionHeader, is_seen: bool) -> Option<Cause>
+    ensures { result ≡ first_failure (wanted_tests bytes.now entry.now is_seen) }
 {
-    WANTED
-        .iter()
-        .position(|section| name == section.name().as_bytes())
+    if is_seen {
+        return Some(Cause::SectionTwice);
+    }
+    if entry.is_nobits() {
+        return Some(Cause::Table);
+    }
+    if entry.is_compressed() {
+        return Some(Cause::Compressed);
+    }
+    if is_outside(bytes, entry.offset, entry.size) {
+        return Some(Cause::Table);
+    }
+    None
 }
 
 /// Where the wanted sections stand, after the k-th header is judged.
 fn with_section(
     bytes: &[u8],
     header: &FileHeader,
-    name_table: &[u8],
+    section_names: &SectionNames<'_>,
     mut found: [Option<Span>; 8],
     k: u16,
 ) -> Result<[Option<Span>; 8], LoadFault>
     requires header { header.now ≡ file_header bytes.now }
     requires within { k < header.now.shnum }
     requires sections { header.now.shoff + 64 * header.now.shnum ≤ length bytes.now }
-    requires names { name_table.now ≡ names bytes.now }
+    requires names { section_names.now ≡ names bytes.now }
     requires found { found ≡ spans_before bytes.now k }
-    ensures { MatchResult result (λ after. (item_fault sections.Elf (section_item bytes.now k) ≡ None) × (after ≡ spans_before bytes.now (k + 1))) (λ fault. item_fault sections.Elf (section_item bytes.now k) ≡ Some fault) }
+    ensures { MatchResult result (λ after.
+        (item_fault sections.Elf (section_item bytes.now k) ≡ None)
+        × (after ≡ spans_before bytes.now (k + 1)))
+        (λ fault. item_fault sections.Elf (section_item bytes.now k) ≡ Some fault) }
 {
     let entry = nth_section(bytes, header, k);
-    let Ok(name) = text_at(name_table, u64::from(entry.name)) else {
+    let Ok(number) = section_names.wanted(u64::from(entry.name)) else {
         return Err(elf(Cause::Table, entry.at));
     };
-    let Some(number) = wanted(name) else {
+    let Some(number) = number else {
         return Ok(found);
     };
-    if found[number].is_some() {
-        return Err(elf(Cause::SectionTwice, entry.at));
-    }
-    if entry.is_nobits() {
-        return Err(elf(Cause::Table, entry.at));
-    }
-    if entry.is_compressed() {
-        return Err(elf(Cause::Compressed, entry.at));
-    }
-    if is_outside(bytes, entry.offset, entry.size) {
-        return Err(elf(Cause::Table, entry.at));
+    if let Some(cause) = wanted_fault(bytes, &entry, found[number].is_some()) {
+        return Err(elf(cause, entry.at));
     }
     found[number] = Some(Span {
         place: entry.offset as usize,
@@ -278,15 +201,18 @@ fn with_section(
 fn sections(bytes: &[u8], header: &FileHeader) -> Result<[Option<Span>; 8], LoadFault>
     requires header { header.now ≡ file_header bytes.now }
     requires sound { is_bad_section_table bytes.now header.now ≡ false }
-    ensures { MatchResult result (λ found. (first_fault sections.Elf (section_items bytes.now) ≡ None) × (found ≡ spans_before bytes.now header.now.shnum)) (λ fault. first_fault sections.Elf (section_items bytes.now) ≡ Some fault) }
+    ensures { MatchResult result (λ found.
+        (first_fault sections.Elf (section_items bytes.now) ≡ None)
+        × (found ≡ spans_before bytes.now header.now.shnum))
+        (λ fault. first_fault sections.Elf (section_items bytes.now) ≡ Some fault) }
 {
     let mut found = [None; 8];
     if header.shnum == 0 {
         return Ok(found);
     }
-    let name_table = name_section(bytes, header)?;
+    let section_names = SectionNames::of(name_section(bytes, header)?);
     for k in 0..header.shnum {
-        found = with_section(bytes, header, name_table, found, k)?;
+        found = with_section(bytes, header, &section_names, found, k)?;
     }
     Ok(found)
 }

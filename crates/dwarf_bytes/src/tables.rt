@@ -46,7 +46,8 @@ impl TableHead {
         kind: TableKind,
         format: Format,
     ) -> Result<TableHead, Cause>
-        ensures { MatchResult result (λ head. table_before kind format section.now base ≡ Ok head) (λ cause. table_before kind format section.now base ≡ Err cause) }
+        ensures { MatchResult result (λ head. table_before kind format section.now base ≡ Ok head)
+            (λ cause. table_before kind format section.now base ≡ Err cause) }
     {
         if base < kind.head_len(format) || base > section.len() as u64 {
             return Err(Cause::Base);

@@ -44,7 +44,8 @@ impl<'a> TextIndex<'a> {
 
     /// The text at an offset of the section, without its NUL.
     pub fn text_at(&self, offset: u64) -> Result<&'a [u8], ReadFault>
-        ensures { MatchResult result (λ text. text_at self.now offset ≡ Ok text.now) (λ fault. text_at self.now offset ≡ Err fault) }
+        ensures { MatchResult result (λ text. text_at self.now offset ≡ Ok text.now)
+            (λ fault. text_at self.now offset ≡ Err fault) }
     {
         let start = offset as usize;
         let nul = nul_from(self.section, &self.nuls, start).ok_or(ReadFault::Unterminated)?;
@@ -70,7 +71,8 @@ fn first_nuls(alloc: Global, section: &[u8]) -> Result<Vec<Option<usize>>, Alloc
 
 /// The first NUL among so many bytes from a place on as a block has.
 fn nul_near(section: &[u8], at: usize) -> Option<usize>
-    ensures { result ≡ option_map (λ n. at + n) (position (λ byte. byte == 0) (take BLOCK_LEN (drop at section.now))) }
+    ensures { result ≡ option_map (λ n. at + n)
+        (position (λ byte. byte == 0) (take BLOCK_LEN (drop at section.now))) }
 {
     let near = Span {
         place: at,

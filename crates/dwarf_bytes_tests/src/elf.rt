@@ -42,7 +42,7 @@ fn finds_the_sections(rt: HostRuntime) -> Result<(), Fail> {
 
 #[test]
 fn refuses_each_changed_header(rt: HostRuntime) {
-    let table: [(&[(usize, u8)], Cause, u64); 14] = [
+    let table: [(&[(usize, u8)], Cause, u64); 17] = [
         (&[(4, 1)], Cause::Class, 0),
         (&[(6, 0)], Cause::Class, 0),
         (&[(16, 1)], Cause::FileType, 0),
@@ -70,6 +70,11 @@ fn refuses_each_changed_header(rt: HostRuntime) {
         (&[(520, 8)], Cause::Compressed, 511),
         (&[(481, 1)], Cause::Table, 447),
         (&[(0, 0x7e)], Cause::NotElf, 0),
+        // the name section without bytes, and compressed
+        (&[(643, 8)], Cause::Table, 639),
+        (&[(648, 8)], Cause::Table, 639),
+        // a second .debug_info, without bytes
+        (&[(575, 0x0f), (579, 8)], Cause::SectionTwice, 575),
     ];
     for (edits, cause, at) in table {
         assert_eq!(rt;
@@ -95,10 +100,43 @@ fn reads_a_file_without_section_headers(rt: HostRuntime) -> Result<(), Fail> {
         (61, 0),
     ];
     let layout = Object::find(&changed(&edits))?;
-    assert_eq!(rt; layout.debug_info.len, 0);
-    assert_eq!(rt; layout.debug_line.len, 0);
-    assert_eq!(rt; layout.debug_abbrev.len, 0);
+    let sections = [
+        layout.debug_info,
+        layout.debug_abbrev,
+        layout.debug_line,
+        layout.debug_line_str,
+        layout.debug_str,
+        layout.debug_str_offsets,
+        layout.debug_addr,
+        layout.debug_rnglists,
+    ];
+    for section in sections {
+        assert_eq!(rt; section, Span { place: 0, len: 0 });
+    }
+    assert_eq!(rt; (layout.low, layout.high), (0x1000, 0x2000));
     Ok(())
+}
+
+/// A name section that ends before the names do: the first header whose name it cuts is refused.
+#[test]
+fn refuses_a_cut_name_section(rt: HostRuntime) {
+    let headers = [
+        (0..1, 383),
+        (1..15, 447),
+        (15..27, 511),
+        (27..39, 575),
+        (39..49, 639),
+    ];
+    for (sizes, at) in headers {
+        for size in sizes {
+            assert_eq!(rt;
+                Object::find(&changed(&[(671, size)])).err(),
+                elf(Cause::Table, at),
+                "a name section of {size} bytes"
+            );
+        }
+    }
+    assert!(rt; Object::find(&changed(&[(671, 49)])).is_ok());
 }
 
 #[test]

@@ -4,6 +4,8 @@
 #[cfg(test)]
 mod elf;
 #[cfg(test)]
+mod names;
+#[cfg(test)]
 mod numbers;
 #[cfg(test)]
 mod tables;

@@ -29,8 +29,8 @@ fn has_texts(
     Ok(())
 }
 
-/// Texts of 4,095 and 4,096 bytes, whose NULs are the last byte of a block and the first of one, a text
-/// of one byte, and one without a NUL.
+/// Texts of 4,095 and 4,096 bytes, whose NULs are the last byte of a block and the first of one, a
+/// text of one byte, and one without a NUL.
 #[test]
 fn ends_texts_at_the_ends_of_blocks(rt: HostRuntime) -> Result<(), Fail> {
     let mut section = run(rt.alloc(), 4_095)?;

@@ -1,5 +1,5 @@
 use Rattle.std.proofs.Common.{arith}
-use Rattle.dwarf_bytes.proofs.Groups.{uleb_byte}
+use Rattle.dwarf_bytes.proofs.LebPrefixes.{uleb_byte}
 use Rattle.dwarf_bytes.proofs.leb.uleb_front.Goals as goal
 
 pub returns-in-len1-up-clause-value : goal.returns-in-len1-up-clause-value

@@ -6,4 +6,5 @@ pub returns-in-Some : goal.returns-in-Some
 returns-in-Some c = nul-near c.args.section.now c.args.at c.in-Some.nul c.in-Some.ensures
 
 pub returns-in-None : goal.returns-in-None
-returns-in-None c = c.nul_of.ensures ∙ nul-told c.args.section.now c.args.nuls.now c.args.at c.requires c.in-None.ensures
+returns-in-None c = c.nul_of.ensures
+    ∙ nul-told c.args.section.now c.args.nuls.now c.args.at c.requires c.in-None.ensures

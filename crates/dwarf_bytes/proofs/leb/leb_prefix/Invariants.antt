@@ -1,7 +1,7 @@
 use Rattle.std.proofs.Common.{◌≡◌, ◌<◌, ◌≤◌, ◌*◌, ◌^◌, take}
 use Rattle.std.specs.Prelude.{All}
 use Rattle.dwarf_bytes.specs.Numbers.{uleb_value}
-use Rattle.dwarf_bytes.proofs.leb.low_groups.Given as goal
+use Rattle.dwarf_bytes.proofs.leb.leb_prefix.Given as goal
 
 -- the bytes so far go on, and this is what they spell
 abbrev pub invariant-loop-i : goal.invariant-loop-i

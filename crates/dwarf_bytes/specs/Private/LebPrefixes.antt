@@ -1,9 +1,9 @@
--- The groups of a LEB128 number, for the contracts of the steps that read one.
+-- The first bytes of a LEB128 number (DWARF 5, 7.6), for the contracts of the steps that read one.
 use Rattle.std.specs.Prelude.{◌≡◌, ℕ, ◌*◌, ◌<◌, ◌≤◌, ◌^◌, ℤ, List, length, take, All, Result, Ok, Err, nat_lt, if◌then◌else◌}
 use Rattle.dwarf_bytes.specs.declared.fault.ReadFault.{ReadFault}
 use Rattle.dwarf_bytes.specs.declared.fault.ReadFault.TheVariants.{Short, Leb}
-use Rattle.dwarf_bytes.specs.declared.leb.Groups.{Groups}
-use Rattle.dwarf_bytes.specs.declared.leb.Groups.TheVariants.{Whole, Low}
+use Rattle.dwarf_bytes.specs.declared.leb.LebPrefix.{LebPrefix}
+use Rattle.dwarf_bytes.specs.declared.leb.LebPrefix.TheVariants.{Whole, Continued}
 use Rattle.dwarf_bytes.specs.Bind.{◌>>=◌}
 use Rattle.dwarf_bytes.specs.Numbers.{IsLeb, leb_front, uleb_value, sleb_value, fits_i64}
 
@@ -17,17 +17,17 @@ pub record IsWhole (bytes : List ℕ) (value len : ℕ) : Type 0 where
   pub within : len ≤ length bytes
 
 -- nine bytes, none of which is the last of its number
-pub record IsLow (bytes : List ℕ) (value : ℕ) : Type 0 where
+pub record IsContinued (bytes : List ℕ) (value : ℕ) : Type 0 where
   pub go_on : All (λ byte. 128 ≤ byte) (take 9 bytes)
   pub value_is : value ≡ uleb_value (take 9 bytes)
   pub small : value < 2 ^ 63
   pub within : 9 ≤ length bytes
 
 -- what the first nine bytes spell; they are short where all go on and there are fewer than nine
-abbrev pub AreGroups : List ℕ → Result Groups ReadFault → Type 0
-AreGroups bytes (Ok (Whole value len)) = IsWhole bytes value len
-AreGroups bytes (Ok (Low value)) = IsLow bytes value
-AreGroups bytes (Err fault) = (fault ≡ Short) × (length bytes < 9) × All (λ byte. 128 ≤ byte) bytes
+abbrev pub IsLebPrefix : List ℕ → Result LebPrefix ReadFault → Type 0
+IsLebPrefix bytes (Ok (Whole value len)) = IsWhole bytes value len
+IsLebPrefix bytes (Ok (Continued value)) = IsContinued bytes value
+IsLebPrefix bytes (Err fault) = (fault ≡ Short) × (length bytes < 9) × All (λ byte. 128 ≤ byte) bytes
 
 -- the number at the front of the bytes, and its length
 unfoldable pub uleb_front : List ℕ → Result (ℕ × ℕ) ReadFault

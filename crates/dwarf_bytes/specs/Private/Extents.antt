@@ -1,0 +1,28 @@
+-- The addresses that load segments take, header by header, for the contracts of the steps.
+use Rattle.std.specs.Prelude.{ℕ, ◌+◌, ◌*◌, ◌-◌, ◌^◌, List, map, cond, Option, Some, None, Result, Ok, Err, min, max, nat_le}
+use Rattle.std.specs.List.{range_with_len}
+use Rattle.dwarf_bytes.specs.declared.fault.LoadFault.{LoadFault}
+use Rattle.dwarf_bytes.specs.declared.fault.Section.TheVariants as sections
+use Rattle.dwarf_bytes.specs.declared.fault.Cause.TheVariants as causes
+use Rattle.dwarf_bytes.specs.declared.headers.ProgramHeader.{ProgramHeader}
+use Rattle.dwarf_bytes.specs.Headers.{is_load, load_end, file_header, program_header}
+
+-- the lowest address and the end, with one more segment
+abbrev pub joined : Option (ℕ × ℕ) → ProgramHeader → Option (ℕ × ℕ)
+joined None header = Some (header.vaddr, load_end header)
+joined (Some e) header = Some (min e.0 header.vaddr, max e.1 (load_end header))
+
+-- the same, after one more header is judged
+abbrev pub extended : Option (ℕ × ℕ) → ProgramHeader → Result (Option (ℕ × ℕ)) LoadFault
+extended extent header =
+    cond (is_load header)
+    (cond (nat_le (2 ^ 64) (load_end header))
+    (Err (record { section = sections.Elf; cause = causes.Range; at = header.at }))
+    (Ok (joined extent header)))
+    (Ok extent)
+
+-- the program headers from the k-th on
+unfoldable pub headers_from : List ℕ → ℕ → List ProgramHeader
+headers_from bytes k =
+    let header = file_header bytes in
+    map (λ i. program_header bytes (header.phoff + 56 * i)) (range_with_len k (header.phnum - k))

@@ -1,0 +1,94 @@
+//! Names of sections in an object with many headers.
+
+use dwarf_bytes::{Cause, LoadFault, Object, Section, Span};
+use std::alloc::Global;
+use std::test::Fail;
+
+/// The headers of sections, and the bytes of the long name.
+const HEADERS: u16 = 20_000;
+
+const NAME_LEN: u32 = 100_000;
+
+/// The place of the program header, of the names, and of the section headers.
+const SEGMENT: usize = 64;
+
+const NAMES: usize = SEGMENT + 56;
+
+const NAMES_LEN: u32 = NAME_LEN + 15;
+
+const SECTIONS: usize = NAMES + NAMES_LEN as usize;
+
+/// The header of a file with so many sections, the last of which has the names.
+fn file_header() -> [u8; 64] {
+    let mut header = [0; 64];
+    header[..7].copy_from_slice(b"\x7fELF\x02\x01\x01");
+    header[16] = 3;
+    header[32] = SEGMENT as u8;
+    header[40..48].copy_from_slice(&(SECTIONS as u64).to_le_bytes());
+    header[54] = 56;
+    header[56] = 1;
+    header[58] = 64;
+    header[60..62].copy_from_slice(&HEADERS.to_le_bytes());
+    header[62..64].copy_from_slice(&(HEADERS - 1).to_le_bytes());
+    header
+}
+
+/// A load segment of 0x1000 bytes.
+fn segment() -> [u8; 56] {
+    let mut header = [0; 56];
+    header[0] = 1;
+    header[41] = 0x10;
+    header
+}
+
+/// A section with its name at an offset.
+fn section(name: u32, place: usize, len: usize) -> [u8; 64] {
+    let mut header = [0; 64];
+    header[..4].copy_from_slice(&name.to_le_bytes());
+    header[24..32].copy_from_slice(&(place as u64).to_le_bytes());
+    header[32..40].copy_from_slice(&(len as u64).to_le_bytes());
+    header
+}
+
+/// All headers but the last two name one long text, at an offset into it; the one before the last
+/// names `.debug_str` behind it.
+fn long_names(alloc: Global, offset: u32) -> Result<Vec<u8>, LoadFault> {
+    let mut object = Vec::new(alloc);
+    object.extend_from_slice(&file_header())?;
+    object.extend_from_slice(&segment())?;
+    object.extend_from_slice(b".debug_str")?;
+    for _ in 10..NAME_LEN {
+        object.push(b'x')?;
+    }
+    object.extend_from_slice(b"\0.debug_str\0\x61\x62\x63")?;
+    for _ in 2..HEADERS {
+        object.extend_from_slice(&section(offset, 0, 0))?;
+    }
+    object.extend_from_slice(&section(NAME_LEN + 1, 3, 5))?;
+    object.extend_from_slice(&section(0, NAMES, NAMES_LEN as usize))?;
+    Ok(object)
+}
+
+#[test]
+fn walks_over_no_name(rt: HostRuntime) -> Result<(), Fail> {
+    let layout = Object::find(&long_names(rt.alloc(), 0)?)?;
+    assert_eq!(rt; layout.debug_str, Span { place: 3, len: 5 });
+    assert_eq!(rt; layout.debug_info, Span { place: 0, len: 0 });
+    Ok(())
+}
+
+#[test]
+fn refuses_a_name_behind_the_last_nul(rt: HostRuntime) -> Result<(), Fail> {
+    let fault = |at| Some(LoadFault {
+        section: Section::Elf,
+        cause: Cause::Table,
+        at,
+    });
+    let last_nul = NAME_LEN + 11;
+    assert!(rt; Object::find(&long_names(rt.alloc(), last_nul)?).is_ok());
+    for offset in [last_nul + 1, NAMES_LEN - 1, NAMES_LEN, u32::MAX] {
+        let object = long_names(rt.alloc(), offset)?;
+        assert_eq!(rt; Object::find(&object).err(), fault(SECTIONS as u64));
+    }
+    Ok(())
+}
