@@ -177,7 +177,8 @@ pub(crate) fn read_attribute(
     specification: &AttributeSpecification,
     cursor: &mut Cursor,
 ) -> Result<Attribute, Cause>
-    ensures { ReadsField (λ a. a) result (attribute_at format specification.now) cursor.old cursor.new }
+    ensures { ReadsField (λ a. a) result
+        (attribute_at format specification.now) cursor.old cursor.new }
 {
     let form = form(specification.form, cursor)?;
     if !accepts(specification.name, form) {
@@ -201,7 +202,8 @@ fn read_value<'a>(
     constant: Option<i64>,
     cursor: &mut Cursor<'a>,
 ) -> Result<Value<'a>, Cause>
-    ensures { ReadsField value_of result (λ bytes at. reading_value (value_at form format constant bytes at)) cursor.old cursor.new }
+    ensures { ReadsField value_of result (λ bytes at. reading_value
+        (value_at form format constant bytes at)) cursor.old cursor.new }
 {
     match value(form, format, constant, cursor) {
         Ok(value) => Ok(value),

@@ -60,7 +60,8 @@ pub(crate) fn entries(
     keeping: Keeping,
 ) -> Result<UnitEntries, LoadFault>
     requires { table.now.format ≡ header.format }
-    ensures { Decodes (λ unit. kept_of unit) result (in_section sections.DebugInfo (kept_entries keeping info.now header table.now.declarations)) }
+    ensures { Decodes (λ unit. kept_of unit) result (in_section sections.DebugInfo
+        (kept_entries keeping info.now header table.now.declarations)) }
 {
     let walk = walk_unit(alloc, info, header, table, keeping)?;
     if walk.depth > 0 {
@@ -79,7 +80,8 @@ pub(crate) fn entries(
 
 impl Walk {
     fn new(alloc: Global) -> Walk
-        ensures { walked_of result ≡ record { depth = 0; root = None; entries = []; scopes = []; levels = [] } }
+        ensures { walked_of result
+            ≡ record { depth = 0; root = None; entries = []; scopes = []; levels = [] } }
     {
         Walk {
             depth: 0,
@@ -98,7 +100,9 @@ impl Walk {
         cursor: &mut Cursor,
         found: &mut Vec<Attribute>,
     ) -> Result<(), Cause>
-        ensures { Fills result (walked_of self.new) (walked_at keeping table.now.format table.now.declarations (walked_of self.old)) cursor.old cursor.new }
+        ensures { Fills result (walked_of self.new)
+            (walked_at keeping table.now.format table.now.declarations
+            (walked_of self.old)) cursor.old cursor.new }
     {
         let offset = cursor.place();
         let rooted = self.root.is_some();
@@ -153,7 +157,8 @@ fn walk_unit(
     keeping: Keeping,
 ) -> Result<Walk, LoadFault>
     requires { table.now.format ≡ header.format }
-    ensures { Decodes (λ walk. walked_of walk) result (in_section sections.DebugInfo (walk_of keeping info.now header table.now.declarations)) }
+    ensures { Decodes (λ walk. walked_of walk) result (in_section sections.DebugInfo
+        (walk_of keeping info.now header table.now.declarations)) }
 {
     let unit = Span {
         place: 0,
@@ -185,7 +190,8 @@ fn node(
     cursor: &mut Cursor,
     found: &mut Vec<Attribute>,
 ) -> Result<Option<EntryHead>, Cause>
-    ensures reads { ReadsNode (keeps_attributes keeping rooted) result found.new.items (node_behind table.now.format table.now.declarations depth rooted) cursor.old cursor.new }
+    ensures reads { ReadsNode (keeps_attributes keeping rooted) result found.new.items
+        (node_behind table.now.format table.now.declarations depth rooted) cursor.old cursor.new }
     ensures limit { IfOk result (λ entry. IsSome entry → depth ≤ DEPTH_LIMIT) }
 {
     let code = cursor.uleb()?;

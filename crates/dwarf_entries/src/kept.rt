@@ -100,7 +100,8 @@ impl NamedEntry {
 impl ScopeEntry {
     /// Of a scope of the kind, by its attributes.
     pub(crate) fn of(entry: NamedEntry, kind: ScopeKind, attributes: &[Attribute]) -> ScopeEntry
-        ensures { result ≡ record (scope_entry (die_with entry.offset attributes.now) kind) { entry = entry } }
+        ensures { result ≡ record (scope_entry
+            (die_with entry.offset attributes.now) kind) { entry = entry } }
     {
         ScopeEntry {
             entry,

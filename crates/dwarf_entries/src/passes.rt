@@ -30,8 +30,10 @@ pub(crate) fn all_entries(
     headers: &[UnitHeader],
     keeping: Keeping,
 ) -> Result<Vec<UnitEntries>, LoadFault>
-    ensures { (tables : List (List Declaration)) → tables_of sections.now.debug_abbrev.now headers.now ≡ Ok tables
-        → Decodes (λ units. map kept_of units.items) result (in_section names.DebugInfo (all_kept keeping sections.now.debug_info.now headers.now tables)) }
+    ensures { (tables : List (List Declaration))
+        → tables_of sections.now.debug_abbrev.now headers.now ≡ Ok tables
+        → Decodes (λ units. map kept_of units.items) result (in_section names.DebugInfo
+        (all_kept keeping sections.now.debug_info.now headers.now tables)) }
 {
     let mut left = DECLARATIONS_LIMIT;
     let mut last = None;
@@ -52,8 +54,10 @@ pub(crate) fn all_bases(
     sections: &Sections<'_>,
     units: &[UnitEntries],
 ) -> Result<Vec<Bases>, LoadFault>
-    ensures { (keeping : Keeping) (headers : List UnitHeader) (dies : List (List Die)) → map kept_of units.now ≡ kept_units keeping headers dies
-        → Decodes (λ all. all.items) result (in_section names.DebugInfo (all_bases (sections_of sections.now) headers dies)) }
+    ensures { (keeping : Keeping) (headers : List UnitHeader) (dies : List (List Die))
+        → map kept_of units.now ≡ kept_units keeping headers dies
+        → Decodes (λ all. all.items) result (in_section names.DebugInfo (all_bases
+        (sections_of sections.now) headers dies)) }
 {
     let mut all = Vec::new(alloc);
     for unit in units {
@@ -64,7 +68,8 @@ pub(crate) fn all_bases(
 
 /// What the root of a unit tells; a unit without entries has no bases.
 fn unit_bases(sections: &Sections<'_>, unit: &UnitEntries) -> Result<Bases, LoadFault>
-    ensures { Decodes (λ bases. bases) result (in_section names.DebugInfo (bases_in (sections_of sections.now) unit.now.header.format unit.now.root)) }
+    ensures { Decodes (λ bases. bases) result (in_section names.DebugInfo (bases_in
+        (sections_of sections.now) unit.now.header.format unit.now.root)) }
 {
     match &unit.root {
         None => Ok(Bases {

@@ -45,7 +45,8 @@ pub(crate) struct FirstNames {
 impl FirstNames {
     /// Those on the path with one more entry behind it.
     fn or(self, last: UnitEntry) -> FirstNames
-        ensures { (us : List CompilationUnit) (path : List Member) (m : Member) → AreFirst us self path → IsMember us last.unit last.entry m
+        ensures { (us : List CompilationUnit) (path : List Member) (m : Member)
+            → AreFirst us self path → IsMember us last.unit last.entry m
             → AreFirst us result (path ++ m ∷ []) }
     {
         FirstNames {
@@ -74,7 +75,8 @@ pub(crate) fn names(
 ) -> Result<EntryNames, Cause>
     requires { AreTexts (sections_of sections.now) texts.now }
     ensures { (us : List CompilationUnit) → AreKept units.now us → bases.now ≡ map (λ u. u.bases) us
-        → (m : Member) → IsMember us unit entry.now m → result ≡ names_of (sections_of sections.now) us m }
+        → (m : Member) → IsMember us unit entry.now m
+        → result ≡ names_of (sections_of sections.now) us m }
 {
     let entry = *entry;
     let firsts = first_names(units, UnitEntry { unit, entry })?;
@@ -91,7 +93,8 @@ fn text(
     found: Option<UnitAttribute>,
 ) -> Result<Option<Text>, Cause>
     requires { AreTexts (sections_of sections.now) texts.now }
-    ensures { result ≡ optional (λ found. text_of (sections_of sections.now) (str_offsets_of bases.now found.unit) found.value) found }
+    ensures { result ≡ optional (λ found. text_of (sections_of sections.now)
+        (str_offsets_of bases.now found.unit) found.value) found }
 {
     let Some(found) = found else {
         return Ok(None);
@@ -102,7 +105,8 @@ fn text(
 
 /// The first names on the path of an entry.
 fn first_names(units: &[UnitEntries], start: UnitEntry) -> Result<FirstNames, Cause>
-    ensures { (us : List CompilationUnit) → AreKept units.now us → (m : Member) → IsMember us start.unit start.entry m
+    ensures { (us : List CompilationUnit) → AreKept units.now us → (m : Member)
+        → IsMember us start.unit start.entry m
         → FindsFirst us result (path_of us m) }
 {
     let none = FirstNames {
@@ -129,7 +133,8 @@ fn first(
     unit: usize,
     value: Option<AttributeValue>,
 ) -> Option<UnitAttribute>
-    ensures { result ≡ option_or known (option_map (λ value. record { unit = unit; value = value }) value) }
+    ensures { result ≡ option_or known (option_map
+        (λ value. record { unit = unit; value = value }) value) }
 {
     known.or(value.map(|value| UnitAttribute { unit, value }))
 }
@@ -137,7 +142,8 @@ fn first(
 /// The entry that a reference in a unit names, if it names one: an offset into `.debug_info`, or one
 /// that counts from the first byte of the unit.
 fn target(units: &[UnitEntries], unit: usize, reference: AttributeValue) -> Option<UnitEntry>
-    ensures { (us : List CompilationUnit) → AreKept units.now us → (u : CompilationUnit) → slice_get us unit ≡ Some u
+    ensures { (us : List CompilationUnit) → AreKept units.now us → (u : CompilationUnit)
+        → slice_get us unit ≡ Some u
         → Finds us result (target_of us u reference) }
 {
     let number = u128::from(reference.number);
@@ -150,7 +156,8 @@ fn target(units: &[UnitEntries], unit: usize, reference: AttributeValue) -> Opti
 
 /// The entry of a unit at an offset of the section.
 fn entry_in(units: &[UnitEntries], unit: usize, offset: u128) -> Option<UnitEntry>
-    ensures { (us : List CompilationUnit) → AreKept units.now us → Finds us result (member_in us unit offset) }
+    ensures { (us : List CompilationUnit) → AreKept units.now us
+        → Finds us result (member_in us unit offset) }
 {
     let kept = units.get(unit)?;
     let entry = entry_at(kept.entries.as_slice(), offset)?;
@@ -159,7 +166,8 @@ fn entry_in(units: &[UnitEntries], unit: usize, offset: u128) -> Option<UnitEntr
 
 /// The entry at an offset, among entries in their order.
 fn entry_at(entries: &[NamedEntry], offset: u128) -> Option<NamedEntry>
-    ensures { IsNonDecreasingBy (λ entry. entry.offset) entries.now → result ≡ find (λ entry. entry.offset == offset) entries.now }
+    ensures { IsNonDecreasingBy (λ entry. entry.offset) entries.now
+        → result ≡ find (λ entry. entry.offset == offset) entries.now }
 {
     let entry = entries.get(starts_before(entries, offset))?;
     if entry.offset as u128 == offset {
@@ -172,7 +180,8 @@ fn entry_at(entries: &[NamedEntry], offset: u128) -> Option<NamedEntry>
 /// How many of the entries start before an offset.
 fn starts_before(entries: &[NamedEntry], offset: u128) -> usize
     ensures { IsNonDecreasingBy (λ entry. entry.offset) entries.now
-        → IsPartitionPoint (λ entry. entry.offset < offset) (λ entry. offset ≤ entry.offset) entries.now result }
+        → IsPartitionPoint (λ entry. entry.offset < offset)
+        (λ entry. offset ≤ entry.offset) entries.now result }
 {
     entries.partition_point(|entry| (entry.offset as u128) < offset)
 }
@@ -181,7 +190,8 @@ fn starts_before(entries: &[NamedEntry], offset: u128) -> usize
 fn ends_by(units: &[UnitEntries], offset: u128) -> usize
     ensures within { result ≤ length units.now }
     ensures parts { IsNonDecreasingBy (λ unit. unit.header.end) units.now
-        → IsPartitionPoint (λ unit. unit.header.end ≤ offset) (λ unit. offset < unit.header.end) units.now result }
+        → IsPartitionPoint (λ unit. unit.header.end ≤ offset)
+        (λ unit. offset < unit.header.end) units.now result }
 {
     units.partition_point(|unit| unit.header.end as u128 <= offset)
 }

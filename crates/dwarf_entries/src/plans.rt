@@ -54,7 +54,8 @@ impl Plan {
 
     /// The steps, by whether the used attributes are kept.
     pub(crate) fn steps(&self, keep: bool) -> &[AttributeStep]
-        ensures { (format : Format) (declared : List Specification) → self.now ≡ plan_of format declared → result.now ≡ steps_of keep format declared }
+        ensures { (format : Format) (declared : List Specification)
+            → self.now ≡ plan_of format declared → result.now ≡ steps_of keep format declared }
     {
         if keep { &self.kept } else { &self.passed }
     }
@@ -62,7 +63,8 @@ impl Plan {
 
 /// A plan for each declaration of a table, for units of a format.
 pub(crate) fn plans(alloc: Global, format: Format, table: &Abbrevs) -> Result<Vec<Plan>, AllocError>
-    ensures { IfOk result (λ plans. plans.items ≡ map (λ declaration. plan_of format declaration.attributes) table.now) }
+    ensures { IfOk result (λ plans. plans.items ≡ map
+        (λ declaration. plan_of format declaration.attributes) table.now) }
 {
     let mut plans = Vec::new(alloc);
     for declaration in table.decls() {
@@ -79,7 +81,10 @@ pub(crate) fn read_steps(
     cursor: &mut Cursor,
     found: &mut Vec<Attribute>,
 ) -> Result<(), Cause>
-    ensures { (keep : Bool) (declared : List Specification) → steps.now ≡ steps_of keep format declared → Fills result found.new.items (kept_attributes_at keep format declared) cursor.old cursor.new }
+    ensures { (keep : Bool) (declared : List Specification)
+        → steps.now ≡ steps_of keep format declared
+        → Fills result found.new.items
+        (kept_attributes_at keep format declared) cursor.old cursor.new }
 {
     let _ = cursor.place(); // it stands in the bytes or at their end, also where no step reads
     found.clear();
@@ -96,7 +101,8 @@ fn read_step(
     cursor: &mut Cursor,
     found: &mut Vec<Attribute>,
 ) -> Result<(), Cause>
-    ensures { Fills result found.new.items (λ bytes at. in_front found.old.items (step_at format step.now bytes at)) cursor.old cursor.new }
+    ensures { Fills result found.new.items (λ bytes at. in_front found.old.items
+        (step_at format step.now bytes at)) cursor.old cursor.new }
 {
     match step {
         AttributeStep::Skip(len) => {

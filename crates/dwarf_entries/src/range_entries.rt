@@ -91,7 +91,8 @@ fn covered_pair(base: u64, start: u64, end: u64) -> Result<Option<Range>, Cause>
 
 /// The address of an index of `.debug_addr` at the cursor.
 fn indexed(sections: &Sections<'_>, bases: &Bases, cursor: &mut Cursor) -> Result<u64, Cause>
-    ensures { ReadsField (λ address. address) result (index_at (sections_of sections.now) bases.now) cursor.old cursor.new }
+    ensures { ReadsField (λ address. address) result (index_at
+        (sections_of sections.now) bases.now) cursor.old cursor.new }
 {
     let index = cursor.uleb()?;
     item_at(TableKind::Addr, sections.debug_addr, bases.addr, index)
@@ -106,7 +107,8 @@ fn entry(
     bases: &Bases,
     cursor: &mut Cursor,
 ) -> Result<RangeListEntry, Cause>
-    ensures { ReadsField (λ entry. entry) result (entry_at (sections_of sections.now) bases.now base kind) cursor.old cursor.new }
+    ensures { ReadsField (λ entry. entry) result (entry_at
+        (sections_of sections.now) bases.now base kind) cursor.old cursor.new }
 {
     let (start, end) = match kind {
         RangeListKind::BaseAddressx => {
@@ -152,7 +154,8 @@ pub(crate) fn next_entry(
     bases: &Bases,
     cursor: &mut Cursor,
 ) -> Result<Option<RangeListEntry>, Cause>
-    ensures reads { ReadsNext result (listed_behind room (sections_of sections.now) bases.now count base) cursor.old cursor.new }
+    ensures reads { ReadsNext result (listed_behind room
+        (sections_of sections.now) bases.now count base) cursor.old cursor.new }
     ensures room { IfOk result (λ next. IsSome next → count < room) }
 {
     let Some(kind) = RangeListKind::of(cursor.u8()?)? else {

@@ -34,7 +34,8 @@ pub(crate) fn covers(
     high_pc: Option<AttributeValue>,
     ranges: Option<AttributeValue>,
 ) -> Result<Covering, Cause>
-    ensures { Gives (λ covering. covering_of covering) result (covers_by room (sections_of sections.now) bases.now low_pc high_pc ranges) }
+    ensures { Gives (λ covering. covering_of covering) result (covers_by room
+        (sections_of sections.now) bases.now low_pc high_pc ranges) }
 {
     match (low_pc, high_pc, ranges) {
         (None, None, Some(ranges)) => listed(alloc, room, sections, bases, ranges),
@@ -58,7 +59,8 @@ fn listed(
     bases: &Bases,
     value: AttributeValue,
 ) -> Result<Covering, Cause>
-    ensures { Gives (λ covering. covering_of covering) result (list_of room (sections_of sections.now) bases.now value) }
+    ensures { Gives (λ covering. covering_of covering) result (list_of room
+        (sections_of sections.now) bases.now value) }
 {
     let place = list_place(sections, bases, value)?;
     if place > sections.debug_rnglists.len() as u128 {
@@ -90,7 +92,8 @@ pub(crate) fn list(
     bases: &Bases,
     place: u64,
 ) -> Result<Covering, Cause>
-    ensures { Gives (λ covering. covering_of covering) result (list_at room (sections_of sections.now) bases.now place) }
+    ensures { Gives (λ covering. covering_of covering) result (list_at room
+        (sections_of sections.now) bases.now place) }
 {
     let mut cursor = Cursor::new(sections.debug_rnglists);
     cursor.seek(place as usize)?;
@@ -149,7 +152,8 @@ fn paired(
     low_pc: AttributeValue,
     high_pc: AttributeValue,
 ) -> Result<Covering, Cause>
-    ensures { Gives (λ covering. covering_of covering) result (pair_at room (sections_of sections.now) bases.now low_pc high_pc) }
+    ensures { Gives (λ covering. covering_of covering) result (pair_at room
+        (sections_of sections.now) bases.now low_pc high_pc) }
 {
     if room == 0 {
         return Err(Cause::TooMany);

@@ -71,7 +71,8 @@ impl Scopes {
         requires texts { AreTexts (sections_of sections.now) texts.now }
         requires tables { TablesRead (sections_of sections.now) headers.now }
         ensures { (read : TablesRead (sections_of sections.now) headers.now)
-            → Decodes (λ scopes. scopes) result (tree_with keeping (sections_of sections.now) headers.now read.tables) }
+            → Decodes (λ scopes. scopes) result (tree_with keeping
+            (sections_of sections.now) headers.now read.tables) }
     {
         let kept = all_entries(alloc, sections, headers, keeping)?;
         let bases = all_bases(alloc, sections, kept.as_slice())?;
@@ -102,7 +103,8 @@ impl Scopes {
 
     /// The scope that has the number of another one.
     pub(crate) fn get(&self, scope: &Scope) -> Option<&Scope>
-        ensures { option_map scope_of (option_copied result) ≡ slice_get self.now.scopes scope.now.number }
+        ensures { option_map scope_of (option_copied result)
+            ≡ slice_get self.now.scopes scope.now.number }
     {
         self.scopes.get(scope.number)
     }
@@ -111,7 +113,9 @@ impl Scopes {
 /// The roots of the units, each with the numbers of its unit's scopes.
 fn roots(alloc: Global, units: &[UnitEntries]) -> Result<Vec<Root>, LoadFault>
     requires { scope_count units.now < 2 ^ 63 }
-    ensures { (keeping : Keeping) (us : List CompilationUnit) → map kept_of units.now ≡ map (kept_unit_of keeping) us → Builds (λ roots. roots.items) result (roots_from 0 us) }
+    ensures { (keeping : Keeping) (us : List CompilationUnit)
+        → map kept_of units.now ≡ map (kept_unit_of keeping) us
+        → Builds (λ roots. roots.items) result (roots_from 0 us) }
 {
     let mut roots = Vec::new(alloc);
     let mut first = 0;

@@ -48,7 +48,9 @@ impl Model for UnitTable {
 
     ghost view = { λ t. record { offset = t.offset; format = t.format; declarations = t.declarations } };
 
-    ghost invariant = { λ t. (t.plans.items ≡ map (λ declaration. plan_of t.format declaration.attributes) t.declarations) × AreIndexed t.declarations t.moved };
+    ghost invariant = { λ t. (t.plans.items ≡ map
+        (λ declaration. plan_of t.format declaration.attributes) t.declarations)
+        × AreIndexed t.declarations t.moved };
 }
 
 impl UnitTable {
@@ -60,7 +62,8 @@ impl UnitTable {
         offset: u64,
         left: &mut u64,
     ) -> Result<UnitTable, LoadFault>
-        ensures decodes { Decodes (λ table. table.declarations) result (in_section sections.DebugAbbrev (declarations_of left.old section.now offset)) }
+        ensures decodes { Decodes (λ table. table.declarations) result
+            (in_section sections.DebugAbbrev (declarations_of left.old section.now offset)) }
         ensures counted { IfOk result (λ table. left.new + length table.declarations ≡ left.old) }
         ensures place { IfOk result (λ table. (table.offset ≡ offset) × (table.format ≡ format)) }
     {
@@ -85,8 +88,11 @@ impl UnitTable {
 
     /// The declaration of a code, and how its attributes are read.
     pub(crate) fn find(&self, code: u64) -> Option<(&Decl, &Plan)>
-        ensures some { IfSome result (λ found. (find (λ declaration. declaration.code == code) self.now.declarations ≡ Some found.0.now) × (found.1.now ≡ plan_of self.now.format found.0.now.attributes)) }
-        ensures none { IfNone result (find (λ declaration. declaration.code == code) self.now.declarations ≡ None) }
+        ensures some { IfSome result (λ found. (find
+            (λ declaration. declaration.code == code) self.now.declarations ≡ Some found.0.now)
+            × (found.1.now ≡ plan_of self.now.format found.0.now.attributes)) }
+        ensures none { IfNone result (find
+            (λ declaration. declaration.code == code) self.now.declarations ≡ None) }
     {
         let decls = self.declarations.decls();
         let place = place_of(decls, &self.moved, code)?;
@@ -103,7 +109,8 @@ impl UnitTable {
 
     /// Whether a unit names the table.
     fn is_of(&self, header: &UnitHeader) -> bool
-        ensures { IsTrue result ↔ ((self.now.offset ≡ header.now.abbreviations) × (self.now.format ≡ header.now.format)) }
+        ensures { IsTrue result ↔ ((self.now.offset ≡ header.now.abbreviations)
+            × (self.now.format ≡ header.now.format)) }
     {
         self.offset == header.abbreviations && self.format == header.format
     }
@@ -157,9 +164,13 @@ fn judged_table(
     last: Option<JudgedTable>,
 ) -> Result<JudgedTable, LoadFault>
     requires { IsJudged section.now last }
-    ensures ok { IfOk result (λ judged. (table : List Declaration) × (in_section sections.DebugAbbrev (declarations_of left.old section.now offset) ≡ Ok table)
-        × (left.new + length table ≡ left.old) × (judged ≡ record { offset = offset; len = length table })) }
-    ensures err { IfErr result (λ fault. (fault ≡ memory_fault) ⊎ (in_section sections.DebugAbbrev (declarations_of left.old section.now offset) ≡ Err fault)) }
+    ensures ok { IfOk result (λ judged. (table : List Declaration)
+        × (in_section sections.DebugAbbrev (declarations_of left.old section.now offset) ≡ Ok table)
+        × (left.new + length table ≡ left.old)
+        × (judged ≡ record { offset = offset; len = length table })) }
+    ensures err { IfErr result (λ fault. (fault ≡ memory_fault)
+        ⊎ (in_section sections.DebugAbbrev (declarations_of left.old section.now offset)
+        ≡ Err fault)) }
 {
     if let Some(last) = last {
         if last.offset == offset && last.len <= *left {
@@ -199,9 +210,12 @@ pub(crate) fn unit_table(
     last: Option<UnitTable>,
 ) -> Result<UnitTable, LoadFault>
     requires { IsLast section.now last }
-    ensures decodes { Decodes (λ table. table.declarations) result (in_section sections.DebugAbbrev (declarations_of left.old section.now header.now.abbreviations)) }
+    ensures decodes { Decodes (λ table. table.declarations) result
+        (in_section sections.DebugAbbrev
+        (declarations_of left.old section.now header.now.abbreviations)) }
     ensures counted { IfOk result (λ table. left.new + length table.declarations ≡ left.old) }
-    ensures place { IfOk result (λ table. (table.offset ≡ header.now.abbreviations) × (table.format ≡ header.now.format)) }
+    ensures place { IfOk result (λ table. (table.offset ≡ header.now.abbreviations)
+        × (table.format ≡ header.now.format)) }
 {
     if let Some(last) = last {
         let len = last.len();

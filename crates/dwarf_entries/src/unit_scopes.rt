@@ -46,8 +46,11 @@ impl<'a> Units<'a> {
         requires texts { AreTexts (sections_of self.sections.now) self.texts.now }
         requires unit { (unit < length self.units.now) × (unit < length self.bases.now) }
         requires end { number + inside + 1 < 2 ^ 64 }
-        ensures judged { (keeping : Keeping) (us : List CompilationUnit) (before : List Judged) (p : ScopeSite) → AreUnits keeping self.entry.units.now self.entry.bases.now us → IsScopeSite us unit entry.now inside number room before p
-            → Gives (λ found. judged_of found) result (scope_with keeping (sections_of self.entry.sections.now) us before p) }
+        ensures judged { (keeping : Keeping) (us : List CompilationUnit) (before : List Judged)
+            (p : ScopeSite) → AreUnits keeping self.entry.units.now self.entry.bases.now us
+            → IsScopeSite us unit entry.now inside number room before p
+            → Gives (λ found. judged_of found) result (scope_with keeping
+            (sections_of self.entry.sections.now) us before p) }
         ensures room { IfOk result (λ found. found.1 ≤ room) }
     {
         let names = names(
@@ -93,9 +96,14 @@ impl<'a> Units<'a> {
     ) -> Result<(), LoadFault>
         requires texts { AreTexts (sections_of self.sections.now) self.texts.now }
         requires unit { unit < length self.units.now }
-        requires known { (keeping : Keeping) × (us : List CompilationUnit) × AreUnits keeping self.units.now self.bases.now us }
-        ensures { (keeping : Keeping) (us : List CompilationUnit) (u : CompilationUnit) (before : List Judged) → AreUnits keeping self.entry.units.now self.entry.bases.now us → slice_get us unit ≡ Some u → AreJudged before scopes.old.items left.old
-            → AddsScopes keeping result (sections_of self.entry.sections.now) us (sites_in u u.dies) before scopes.new.items left.new }
+        requires known { (keeping : Keeping) × (us : List CompilationUnit)
+            × AreUnits keeping self.units.now self.bases.now us }
+        ensures { (keeping : Keeping) (us : List CompilationUnit) (u : CompilationUnit)
+            (before : List Judged)
+            → AreUnits keeping self.entry.units.now self.entry.bases.now us
+            → slice_get us unit ≡ Some u → AreJudged before scopes.old.items left.old
+            → AddsScopes keeping result (sections_of self.entry.sections.now) us
+            (sites_in u u.dies) before scopes.new.items left.new }
     {
         let kept = &self.units[unit];
         let first = scopes.len();
@@ -119,9 +127,12 @@ impl<'a> Units<'a> {
     /// The scopes of all units.
     pub(crate) fn scopes(self, alloc: Global) -> Result<Vec<Scope>, LoadFault>
         requires texts { AreTexts (sections_of self.sections.now) self.texts.now }
-        requires known { (keeping : Keeping) × (us : List CompilationUnit) × AreUnits keeping self.units.now self.bases.now us }
-        ensures { (keeping : Keeping) (us : List CompilationUnit) → AreUnits keeping self.entry.units.now self.entry.bases.now us
-            → Decodes (λ scopes. map scope_of scopes.items) result (in_section names.DebugInfo (all_scopes keeping (sections_of self.entry.sections.now) us)) }
+        requires known { (keeping : Keeping) × (us : List CompilationUnit)
+            × AreUnits keeping self.units.now self.bases.now us }
+        ensures { (keeping : Keeping) (us : List CompilationUnit)
+            → AreUnits keeping self.entry.units.now self.entry.bases.now us
+            → Decodes (λ scopes. map scope_of scopes.items) result (in_section names.DebugInfo
+            (all_scopes keeping (sections_of self.entry.sections.now) us)) }
     {
         let mut left = ITEMS_LIMIT;
         let mut scopes = Vec::new(alloc);

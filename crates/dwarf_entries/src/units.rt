@@ -56,7 +56,8 @@ pub(crate) struct UnitHeader {
 /// The units of `.debug_info` that are read, in file order. A fault is told at its unit.
 #[tactic(auto, unfolding(crate::specs::Units::units_of))]
 pub(crate) fn units(alloc: Global, info: &[u8]) -> Result<Vec<UnitHeader>, LoadFault>
-    ensures { Decodes (λ units. units.items) result (in_section sections.DebugInfo (units_of info.now)) }
+    ensures { Decodes (λ units. units.items) result (in_section sections.DebugInfo
+        (units_of info.now)) }
 {
     let mut all = headers(alloc, info)?;
     all.retain(|header| header.unit_type.is_read());
@@ -65,7 +66,8 @@ pub(crate) fn units(alloc: Global, info: &[u8]) -> Result<Vec<UnitHeader>, LoadF
 
 /// The headers of all units.
 fn headers(alloc: Global, info: &[u8]) -> Result<Vec<UnitHeader>, LoadFault>
-    ensures { Decodes (λ headers. headers.items) result (in_section sections.DebugInfo (headers_of info.now)) }
+    ensures { Decodes (λ headers. headers.items) result (in_section sections.DebugInfo
+        (headers_of info.now)) }
 {
     let mut all = Vec::new(alloc);
     let mut at = 0;

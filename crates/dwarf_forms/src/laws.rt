@@ -10,20 +10,29 @@ ghost use Rattle.dwarf_forms.specs.Values.{Value, Spells, value_at};
 /// A table is read exactly where the bytes at the place begin with a spelling of it, it is good, and
 /// it has no more declarations than there is room for.
 pub fn table_is_spelled()
-    ensures { (room : ℕ) (section : List ℕ) (at : ℕ) (table : List Declaration) (next : ℕ) → (table_at room section at ≡ Ok (table, next)) ↔ (StandsAt SpellsTable section at table next × AreGood table × (length table ≤ room)) }
+    ensures { (room : ℕ) (section : List ℕ) (at : ℕ) (table : List Declaration) (next : ℕ)
+        → (table_at room section at ≡ Ok (table, next))
+        ↔ (StandsAt SpellsTable section at table next × AreGood table × (length table ≤ room)) }
 {}
 
 /// No spelling of a good table begins another, and each has one table.
 pub fn table_is_unique()
-    ensures { (a b x y : List ℕ) (s t : List Declaration) → SpellsTable a s → AreGood s → SpellsTable b t → AreGood t → a ++ x ≡ b ++ y → (a ≡ b) × (s ≡ t) }
+    ensures { (a b x y : List ℕ) (s t : List Declaration) → SpellsTable a s → AreGood s
+        → SpellsTable b t → AreGood t → a ++ x ≡ b ++ y → (a ≡ b) × (s ≡ t) }
 {}
 
 /// A value is read exactly where the bytes at the place begin with a spelling of it.
 pub fn value_is_spelled()
-    ensures { (form : ℕ) (format : Format) (constant : Option ℤ) (bytes : List ℕ) (at : ℕ) (value : Value) (next : ℕ) → (value_at form format constant bytes at ≡ Ok (value, next)) ↔ StandsAt (Spells form format constant) bytes at value next }
+    ensures { (form : ℕ) (format : Format) (constant : Option ℤ) (bytes : List ℕ) (at : ℕ)
+        (value : Value) (next : ℕ) → (value_at form format constant bytes at ≡ Ok (
+          value,
+          next,
+        )) ↔ StandsAt (Spells form format constant) bytes at value next }
 {}
 
 /// No spelling in a form begins another, and each has one value.
 pub fn value_is_unique()
-    ensures { (form : ℕ) (format : Format) (constant : Option ℤ) (a b x y : List ℕ) (v w : Value) → Spells form format constant a v → Spells form format constant b w → a ++ x ≡ b ++ y → (a ≡ b) × (v ≡ w) }
+    ensures { (form : ℕ) (format : Format) (constant : Option ℤ) (a b x y : List ℕ)
+        (v w : Value) → Spells form format constant a v → Spells form format constant b w
+        → a ++ x ≡ b ++ y → (a ≡ b) × (v ≡ w) }
 {}

@@ -46,7 +46,8 @@ impl Abbrevs {
         offset: u64,
         left: &mut u64,
     ) -> Result<Abbrevs, LoadFault>
-        ensures decodes { Decodes (λ table. table) result (in_section sections.DebugAbbrev (declarations_of left.old section.now offset)) }
+        ensures decodes { Decodes (λ table. table) result (in_section sections.DebugAbbrev
+            (declarations_of left.old section.now offset)) }
         ensures counted { IfOk result (λ table. left.new + length table ≡ left.old) }
         ensures unchanged { OnErr result (left.new ≡ left.old) }
     {
@@ -165,7 +166,8 @@ impl Abbrevs {
 
 /// The table at the cursor, of `room` declarations at most.
 fn declarations(alloc: Global, room: u64, cursor: &mut Cursor) -> Result<Abbrevs, LoadFault>
-    ensures decodes { Decodes (λ table. table) result (in_section sections.DebugAbbrev (declarations_of room cursor.old.bytes cursor.old.place)) }
+    ensures decodes { Decodes (λ table. table) result (in_section sections.DebugAbbrev
+        (declarations_of room cursor.old.bytes cursor.old.place)) }
     ensures few { IfOk result (λ table. length table ≤ room) }
 {
     let mut table = Abbrevs::new(alloc);
