@@ -111,8 +111,8 @@ module _ (s : LineSections) (format : Format) (table : EntryTable) (bytes : List
   fields_again : (entry : Entry) (fields : List Field) (before : Entry) (at : ℕ) (front : List ℕ) (next : ℕ) → Stretch bytes at front next
       → SpellsEach (SpellsPart s format table entry) at front fields
       → (count_by is_path fields ≡ 0 → before.path ≡ entry.path)
-          → (count_by (is_index table) fields ≡ 0 → before.directory ≡ entry.directory)
-          → fields_at s format table fields before bytes at ≡ Ok (entry, next)
+      → (count_by (is_index table) fields ≡ 0 → before.directory ≡ entry.directory)
+      → fields_at s format table fields before bytes at ≡ Ok (entry, next)
   unfolding fields_at
   fields_again entry [] before at front next there none paths indexes =
       let end : at ≡ next = omega (arith, there.next_is, ap length none) in

@@ -14,7 +14,7 @@ module _ (s : LineSections) (format : Format) (table : EntryTable) (fields : Lis
   pub goes_on : (next : Entry) (after : ℕ) → i < length fields
       → field_at s format table (get_or fields i d) entry bytes place ≡ Ok (next, after)
       → fields_at s format table (drop i fields) entry bytes place ≡ total
-          → fields_at s format table (drop (i + 1) fields) next bytes after ≡ total
+      → fields_at s format table (drop (i + 1) fields) next bytes after ≡ total
   unfolding fields_at
   goes_on next after lt h so_far =
       let one : fields_at s format table (drop i fields) entry bytes place ≡ fields_at s format table (drop (i + 1) fields) next bytes after = rw (add-one, drop-cons fields i d, h) refl in

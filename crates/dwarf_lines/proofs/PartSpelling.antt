@@ -218,8 +218,8 @@ module _ (s : LineSections) (format : Format) (bytes : List ℕ) (at : ℕ) wher
     pub part_again : (entry before : Entry) (field : Field) (front rest : List ℕ) (next : ℕ) → drop at bytes ≡ front ++ rest
         → next ≡ at + length front → SpellsPart s format table entry at front field
         → (after : Entry) × (field_at s format table field before bytes at ≡ Ok (after, next))
-            × ((is_path field ≡ false → before.path ≡ entry.path) → after.path ≡ entry.path)
-            × ((is_index table field ≡ false → before.directory ≡ entry.directory) → after.directory ≡ entry.directory)
+        × ((is_path field ≡ false → before.path ≡ entry.path) → after.path ≡ entry.path)
+        × ((is_index table field ≡ false → before.directory ≡ entry.directory) → after.directory ≡ entry.directory)
     unfolding field_at
     part_again entry before field front rest next parts next_is (path is there) =
         (record before { path = entry.path }, rw (is, path_again field.form front entry.path next rest parts next_is there) refl, (λ given. refl), (λ given. given (path_is_no_index field is)))

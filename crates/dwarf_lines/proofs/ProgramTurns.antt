@@ -39,7 +39,7 @@ pub program_of : (s : LineSections) (number place n files : ℕ) (header : LineH
     → files ≡ length header.files → header_at s place ≡ Ok header
     → with_front old (matrix_at header.encoding (record { program = record { 0 = n }; files = files }) (take header.past s.line) header.first) ≡ Ok new
     → (rows : List Row)
-        × (program_at_place s number place ≡ Ok (record { offset = place; directories = header.directories; files = header.files; rows = rows; past = header.past })) × (new ≡ old ++ rows)
+    × (program_at_place s number place ≡ Ok (record { offset = place; directories = header.directories; files = header.files; rows = rows; past = header.past })) × (new ≡ old ++ rows)
 program_of s number place n files header old new n_is files_is header_is ran =
     let found = front_ok old (matrix_at header.encoding (record { program = record { 0 = n }; files = files }) (take header.past s.line) header.first) new ran in
     (found.0, is_program s number place n files header found.0 n_is files_is header_is found.1, found.2)
@@ -135,7 +135,7 @@ told-cases section cause at = inr refl
 pub refuses : (s : LineSections) (before : List Program) (place : ℕ) (rows : List Row) (tables : List FileTables)
     → IsReading s before place rows tables → (cause : Cause) → place < length s.line
     → Fails cause (program_at_place s (length tables) place)
-        → (told sections.DebugLine cause place ≡ memory_fault) ⊎ (lines_in s ≡ Err (told sections.DebugLine cause place))
+    → (told sections.DebugLine cause place ≡ memory_fault) ⊎ (lines_in s ≡ Err (told sections.DebugLine cause place))
 unfolding lines_in
 refuses s before place rows tables reads cause lt (inl memory) = inl (rw memory refl)
 refuses s before place rows tables reads cause lt (inr found) = by_told (told-cases sections.DebugLine cause place)

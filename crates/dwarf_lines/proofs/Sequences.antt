@@ -132,7 +132,7 @@ any_address program has_row a b (row ∷ rows) shut chain = (chain.0, λ h. absu
 none_more : (e : Encoding) (o : Origin) (before : List Instruction) (i : Instruction) (row rest : List Row) → made e o before i ≡ Ok row
     → is_dead before ≡ true → keeps_row (i ∷ before) ≡ false
     → IsChain o.program (keeps_row (i ∷ before)) (row_before e (i ∷ before)) rest
-        → IsChain o.program (keeps_row before) (row_before e before) (row ++ rest)
+    → IsChain o.program (keeps_row before) (row_before e before) (row ++ rest)
 none_more e o before i row rest is d shut chain =
     let none : [] ≡ row = ok_is {E = Cause} [] row (sym (made_dead e o before i d) ∙ is) in
     let other : IsChain o.program false (row_before e (i ∷ before)) rest = subst (λ (b : Bool). IsChain o.program b (row_before e (i ∷ before)) rest) shut chain in
@@ -144,7 +144,7 @@ none_more e o before i row rest is d shut chain =
 line_more : (e : Encoding) (o : Origin) (before : List Instruction) (i : Instruction) (row rest : List Row) → made e o before i ≡ Ok row
     → is_dead before ≡ false → ends_sequence i ≡ false → makes_line i ≡ true
     → IsChain o.program (keeps_row (i ∷ before)) (row_before e (i ∷ before)) rest
-        → IsChain o.program (keeps_row before) (row_before e before) (row ++ rest)
+    → IsChain o.program (keeps_row before) (row_before e before) (row ++ rest)
 line_more e o before i row rest is d e_is m_is chain =
     let P : Type 0 = IsChain o.program (keeps_row before) (row_before e before) (row ++ rest) in
     after_bind (line_row o (row_before e before) (address_after e (i ∷ before)) (line_after e (i ∷ before)) (file_after (i ∷ before))) _ row (sym (made_row e o i before m_is d) ∙ is) P (λ found found_is h.
@@ -161,7 +161,7 @@ line_more e o before i row rest is d e_is m_is chain =
 end_more : (e : Encoding) (o : Origin) (before : List Instruction) (row rest : List Row) → made e o before EndSequence ≡ Ok row
     → is_dead before ≡ false
     → IsChain o.program (keeps_row (EndSequence ∷ before)) (row_before e (EndSequence ∷ before)) rest
-        → IsChain o.program (keeps_row before) (row_before e before) (row ++ rest)
+    → IsChain o.program (keeps_row before) (row_before e before) (row ++ rest)
 end_more e o before row rest is d chain =
     let P : Type 0 = IsChain o.program (keeps_row before) (row_before e before) (row ++ rest) in
     after_bind (end_row o (row_before e before) (address_after e before)) _ row (sym (made_alive e o before EndSequence d) ∙ is) P (λ found found_is h.
@@ -176,7 +176,7 @@ end_more e o before row rest is d chain =
 one_more : (e : Encoding) (o : Origin) (before : List Instruction) (i : Instruction) (row rest : List Row) → made e o before i ≡ Ok row
     → Kind i
     → IsChain o.program (keeps_row (i ∷ before)) (row_before e (i ∷ before)) rest
-        → IsChain o.program (keeps_row before) (row_before e before) (row ++ rest)
+    → IsChain o.program (keeps_row before) (row_before e before) (row ++ rest)
 one_more e o before i row rest is (quiet e_is m_is) chain =
     let none : [] ≡ row = ok_is {E = Cause} [] row (sym (made_nothing e o i before e_is m_is) ∙ is) in
     let here : IsChain o.program (keeps_row before) (row_before e before) rest =

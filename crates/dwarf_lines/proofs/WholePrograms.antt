@@ -44,7 +44,7 @@ matrix_good e o read is rows read_is rows_is closed = rw (read_is, rows_is, clos
 
 matrix_is : (e : Encoding) (o : Origin) (read : Reading) (rows : List Row) → matrix_after e o [] read ≡ Ok rows
     → (read ≡ record { instructions = read.instructions; fault = None }) × (rows_from e o [] read.instructions ≡ Ok rows)
-        × (is_open (latest_first [] read.instructions) ≡ false)
+    × (is_open (latest_first [] read.instructions) ≡ false)
 matrix_is e o read rows h =
     let P : Type 0 = (read ≡ record { instructions = read.instructions; fault = None }) × (rows_from e o [] read.instructions ≡ Ok rows) × (is_open (latest_first [] read.instructions) ≡ false) in
     after_bind (rows_from e o [] read.instructions) _ rows h P (λ made made_is h1.

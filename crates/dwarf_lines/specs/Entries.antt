@@ -57,7 +57,7 @@ index_at form bytes place =
 abbrev pub after_value : Format → ℕ → List ℕ → ℕ → Result ℕ Cause
 after_value format form bytes place =
     option_map_or (λ layout. reading (content_at layout format bytes place) >>= λ content. Ok content.1)
-        (layout_of form) (Err causes.FileFormat)
+    (layout_of form) (Err causes.FileFormat)
 
 -- One field of an entry: a path or a directory index is kept, all else is passed over.
 unfoldable pub field_at : LineSections → Format → EntryTable → Field → Entry → List ℕ → ℕ → Result (Entry × ℕ) Cause

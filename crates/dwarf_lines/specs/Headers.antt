@@ -65,13 +65,16 @@ encoding_at bytes place = do
   opcode_base ← reading (u8_at bytes range.1)
   _ ← refuse_if (opcode_base.0 == 0) causes.LineParams
   lengths ← lengths_at (opcode_base.0 - 1) bytes opcode_base.1
-  Ok (record {
-    minimum_length = minimum.0;
-    line_base = signed_byte base.0;
-    line_range = range.0;
-    opcode_base = opcode_base.0;
-    opcode_lengths = lengths.0;
-  }, lengths.1)
+  Ok (
+    record {
+      minimum_length = minimum.0;
+      line_base = signed_byte base.0;
+      line_range = range.0;
+      opcode_base = opcode_base.0;
+      opcode_lengths = lengths.0;
+    },
+    lengths.1,
+  )
 
 pub record LineHeader : Type 0 where
   pub encoding : Encoding

@@ -42,9 +42,9 @@ with_operand make operand = Ok (make operand.0, operand.1)
 unfoldable pub extended_of : List ℕ → Result Instruction Cause
 extended_of body =
     if slice_index body 0 == DW_LNE_END_SEQUENCE then
-      (if length body == 1 then Ok EndSequence else Err causes.Extended)
+    (if length body == 1 then Ok EndSequence else Err causes.Extended)
     else if slice_index body 0 == DW_LNE_SET_ADDRESS then
-      (if length body == 9 then Ok (SetAddress (little_endian (drop 1 body))) else Err causes.Extended)
+    (if length body == 9 then Ok (SetAddress (little_endian (drop 1 body))) else Err causes.Extended)
     else Ok Skipped
 
 unfoldable pub extended_at : List ℕ → ℕ → Result (Instruction × ℕ) Cause
