@@ -83,7 +83,7 @@ tell a scopes nears start near top have le some chain ends told = by told
           record {
             walk = rw outer (record { have = have; within = outer-low a scopes k (get_or nears k 0) near top o (omega arith); ends = inr o.top_is });
             told = λ d. rw (outer, k_is) (ap (reverse {A = Scope}) (sym chain ∙ (o.chain_is d ∙ ap (λ (zs : List Scope). chain_around a scopes (get_or nears k 0) ++ zs) (one_of (get_or scopes k d) (held d))))
-              ∙ reverse-append (chain_around a scopes (get_or nears k 0)) (get_or scopes k d ∷ []));
+                ∙ reverse-append (chain_around a scopes (get_or nears k 0)) (get_or scopes k d ∷ []));
           })
     ]
       where

@@ -135,7 +135,9 @@ impl<'a> Texts<'a> {
         if number >= count(self.scopes) {
             return 0;
         }
-        scope_at(self.scopes, number).call_line(self.scopes).unwrap_or(0)
+        scope_at(self.scopes, number)
+            .call_line(self.scopes)
+            .unwrap_or(0)
     }
 
     /// The path of the file in which a frame stands.
