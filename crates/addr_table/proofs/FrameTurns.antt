@@ -17,8 +17,8 @@ use Rattle.dwarf_entries.specs.Scopes.{Scope}
 use Rattle.addr_table.specs.declared.texts.FrameSite.{FrameSite}
 use Rattle.addr_table.specs.declared.texts.FrameSite.TheVariants.{Row, Call}
 use Rattle.addr_table.specs.Frames.{line_sections, text_section, file_path, place_chain, row_site, frames_from, frames_of}
-use Rattle.addr_table.specs.Told.{walk_left, frame_told, site_told}
-use Rattle.addr_table.specs.Walks.{HaveParents, chain_around, top_around, begin_of, outer_of}
+use Rattle.addr_table.specs.Private.Told.{walk_left, frame_told, site_told}
+use Rattle.addr_table.specs.Private.Walks.{HaveParents, chain_around, top_around, begin_of, outer_of}
 use Rattle.addr_table.proofs.ChainLaws.{no_scope}
 use Rattle.addr_table.proofs.WalkLaws.{begun-chain, no-chain, some-chain, Told}
 

@@ -8,8 +8,8 @@ use Rattle.std.proofs.lemmas.List.Folds.{find-append}
 use Rattle.dwarf_entries.specs.declared.scope.ScopeKind.TheVariants.{Subprogram, Inlined}
 use Rattle.dwarf_entries.specs.Scopes.{Scope}
 use Rattle.addr_table.specs.Chains.{is_at, enclosing, held_among}
-use Rattle.addr_table.specs.Parents.{around, IsParent}
-use Rattle.addr_table.specs.Walks.{HaveParents, chain_around, top_around}
+use Rattle.addr_table.specs.Private.Parents.{around, IsParent}
+use Rattle.addr_table.specs.Private.Walks.{HaveParents, chain_around, top_around}
 use Rattle.addr_table.proofs.FrameLaws.{held-more, filtered-enclose}
 use Rattle.addr_table.proofs.ParentLaws.{number-there}
 

@@ -9,8 +9,8 @@ use Rattle.dwarf_entries.specs.Scopes.{Scope}
 use Rattle.dwarf_entries.specs.Order.{AreNumbered}
 use Rattle.addr_table.specs.Chains.{is_at, encloses, enclosing, held_among}
 use Rattle.addr_table.specs.Frames.{place_chain}
-use Rattle.addr_table.specs.Parents.{around, IsParent}
-use Rattle.addr_table.specs.Walks.{HaveParents, chain_around, top_around, EndsAt, IsTold, nothing, outermost, inlined, outer_of, begin_of, IsWalk}
+use Rattle.addr_table.specs.Private.Parents.{around, IsParent}
+use Rattle.addr_table.specs.Private.Walks.{HaveParents, chain_around, top_around, EndsAt, IsTold, nothing, outermost, inlined, outer_of, begin_of, IsWalk}
 use Rattle.addr_table.proofs.OutwardLaws.{Outer, held-none, held-some, number_in, step-outer, step-top}
 
 -- ---- the next scope of the chain

@@ -3,7 +3,7 @@
 ghost use Rattle.std.specs.Prelude.{◌≡◌, [], ◌∷◌, option_map, MatchOption};
 ghost use Rattle.std.specs.List.{join_with_byte};
 ghost use Rattle.addr_table.specs.Frames.{frames_of, place_chain};
-ghost use Rattle.addr_table.specs.Walks.{HaveParents};
+ghost use Rattle.addr_table.specs.Private.Walks.{HaveParents};
 
 use crate::outwards::{begin, next_told, outer, top};
 use crate::path::Path;
@@ -24,7 +24,7 @@ pub struct Frame<'a> {
 impl<'a> Model for Frame<'a> {
     ghost use Rattle.addr_table.specs.Frames.{Frame as FrameSeen};
     ghost use Rattle.dwarf_entries.specs.Order.{AreInOrder};
-    ghost use Rattle.addr_table.specs.Told.{frame_told};
+    ghost use Rattle.addr_table.specs.Private.Told.{frame_told};
 
     ghost Value = { FrameSeen };
 
@@ -83,8 +83,8 @@ pub struct Walk<'a> {
 impl<'a> Model for Walk<'a> {
     ghost use Rattle.std.specs.Prelude.{List};
     ghost use Rattle.addr_table.specs.Frames.{Frame as FrameSeen};
-    ghost use Rattle.addr_table.specs.Told.{walk_left};
-    ghost use Rattle.addr_table.specs.Walks.{IsWalk};
+    ghost use Rattle.addr_table.specs.Private.Told.{walk_left};
+    ghost use Rattle.addr_table.specs.Private.Walks.{IsWalk};
 
     ghost Value = { List FrameSeen };
 
@@ -166,7 +166,7 @@ pub struct Frames<'a> {
 impl<'a> Model for Frames<'a> {
     ghost use Rattle.std.specs.Prelude.{List};
     ghost use Rattle.addr_table.specs.Frames.{Frame as FrameSeen};
-    ghost use Rattle.addr_table.specs.Told.{frames_left};
+    ghost use Rattle.addr_table.specs.Private.Told.{frames_left};
 
     ghost Value = { List FrameSeen };
 

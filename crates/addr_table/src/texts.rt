@@ -6,7 +6,7 @@ ghost use Rattle.std.specs.List.{join_with_byte};
 ghost use Rattle.dwarf_bytes.specs.Elf.{layout};
 ghost use Rattle.dwarf_entries.specs.Order.{AreInOrder};
 ghost use Rattle.addr_table.specs.Frames.{text_section, text_bytes, file_path, row_site};
-ghost use Rattle.addr_table.specs.Told.{site_told};
+ghost use Rattle.addr_table.specs.Private.Told.{site_told};
 ghost use Rattle.addr_table.specs.declared.texts.FrameSite.TheVariants.{Call};
 
 use crate::path::Path;

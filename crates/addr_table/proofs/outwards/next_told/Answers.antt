@@ -1,5 +1,5 @@
 use Rattle.std.proofs.Common.{◌∙◌, ◌-◌, sym, arith}
-use Rattle.addr_table.specs.Walks.{inlined}
+use Rattle.addr_table.specs.Private.Walks.{inlined}
 use Rattle.addr_table.proofs.WalkLaws.{pass}
 use Rattle.addr_table.proofs.outwards.next_told.Goals as goal
 

@@ -1,5 +1,5 @@
 use Rattle.std.proofs.Common.{◌≡◌, ◌≤◌, length}
-use Rattle.addr_table.specs.Walks.{chain_around, EndsAt}
+use Rattle.addr_table.specs.Private.Walks.{chain_around, EndsAt}
 use Rattle.addr_table.proofs.outwards.next_told.Given as goal
 
 abbrev pub invariant-loop-near : goal.invariant-loop-near

@@ -4,7 +4,7 @@ use Rattle.dwarf_entries.specs.declared.scope.ScopeKind.TheVariants.{Subprogram,
 use Rattle.dwarf_entries.specs.Scopes.{Scope}
 use Rattle.dwarf_entries.specs.Order.{AreInOrder}
 use Rattle.addr_table.specs.Chains.{is_at, held_among}
-use Rattle.addr_table.specs.Parents.{around, AreParents}
+use Rattle.addr_table.specs.Private.Parents.{around, AreParents}
 
 -- scopes, and for each the number behind that of the nearest scope around it
 pub record HaveParents (scopes : List Scope) (nears : List ℕ) : Type 0 where

@@ -9,7 +9,7 @@ use Rattle.dwarf_entries.specs.Scopes.{Scope}
 use Rattle.addr_table.specs.declared.texts.FrameSite.{FrameSite}
 use Rattle.addr_table.specs.declared.texts.FrameSite.TheVariants.{Row, Call}
 use Rattle.addr_table.specs.Frames.{Frame, Site, nowhere, frame_at, row_site, call_site, frames_from}
-use Rattle.addr_table.specs.Walks.{chain_around}
+use Rattle.addr_table.specs.Private.Walks.{chain_around}
 
 -- the parts of a path that are left
 abbrev pub parts_left : LineSections → List Text → ℕ → List (List ℕ)

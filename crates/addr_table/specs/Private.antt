@@ -1,0 +1,9 @@
+pub mod Active
+pub mod Bits
+pub mod Kept
+pub mod Parents
+pub mod Scans
+pub mod Segments
+pub mod Sweep
+pub mod Told
+pub mod Walks
