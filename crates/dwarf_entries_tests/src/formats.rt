@@ -1,8 +1,8 @@
 //! Units of the 64-bit format, alone and beside those of the 32-bit one.
 
 use crate::fixtures::*;
-use dwarf_bytes::{Cause, Section};
-use dwarf_entries::{Root, ScopeKind, Scopes, Sections};
+use dwarf_bytes::{Cause, Section, Text};
+use dwarf_entries::{Range, Root, ScopeKind, Scopes, Sections};
 use dwarf_samples::INLINED;
 use std::alloc::{AllocError, Global};
 use std::process::Abort;
@@ -29,46 +29,37 @@ fn rows(start: usize, before: usize, first: usize, last: usize) -> [Row; 5] {
     let mid = text(Section::DebugInfo, at(first.saturating_add(1)), 3);
     let leaf = text(Section::DebugInfo, at(first.saturating_add(6)), 4);
     let main = text(Section::DebugInfo, at(first.saturating_add(12)), 4);
-    let inlined = Row {
-        kind: ScopeKind::Inlined,
-        offset: at(last),
-        end: end(5),
-        range: Some(range(0x1004, 0x1008)),
-        name: leaf,
-        call: Some((1, 5)),
-    };
-    let subprogram = Row {
-        kind: ScopeKind::Subprogram,
-        offset: at(first),
-        end: end(1),
-        range: None,
-        name: mid,
-        call: None,
-    };
+    let main_range = Some(range(0x1000, 0x1010));
     [
-        subprogram,
-        Row {
-            offset: at(first.saturating_add(5)),
-            end: end(2),
-            name: leaf,
-            ..subprogram
-        },
-        Row {
-            offset: at(first.saturating_add(11)),
-            end: end(5),
-            range: Some(range(0x1000, 0x1010)),
-            name: main,
-            ..subprogram
-        },
-        Row {
-            offset: at(last.saturating_sub(19)),
-            range: Some(range(0x1004, 0x100c)),
-            name: mid,
-            call: Some((1, 20)),
-            ..inlined
-        },
-        inlined,
+        subprogram(at(first), end(1), None, mid),
+        subprogram(at(first.saturating_add(5)), end(2), None, leaf),
+        subprogram(at(first.saturating_add(11)), end(5), main_range, main),
+        inlined(at(last.saturating_sub(19)), end(5), 0x100c, mid, 20),
+        inlined(at(last), end(5), 0x1008, leaf, 5),
     ]
+}
+
+fn subprogram(offset: usize, end: usize, range: Option<Range>, name: Option<Text>) -> Row {
+    Row {
+        kind: ScopeKind::Subprogram,
+        offset,
+        end,
+        range,
+        name,
+        call: None,
+    }
+}
+
+/// A subroutine that is inlined from 0x1004 on, called in file 1.
+fn inlined(offset: usize, end: usize, to: u64, name: Option<Text>, line: u64) -> Row {
+    Row {
+        kind: ScopeKind::Inlined,
+        offset,
+        end,
+        range: Some(range(0x1004, to)),
+        name,
+        call: Some((1, line)),
+    }
 }
 
 fn root_of(offset: usize, first: usize, past: usize) -> Root {
@@ -211,19 +202,32 @@ fn covers(rt: &impl Abort, read: &Scopes, from: u64, to: u64) -> Result<(), Fail
     Ok(())
 }
 
+/// A table of the addresses 0x1000 and 0x2000, whose base is 16.
+const ADDRESSES: [u8; 32] = [
+    0xff, 0xff, 0xff, 0xff, 20, 0, 0, 0, 0, 0, 0, 0, 5, 0, 8, 0, 0, 0x10, 0, 0, 0, 0, 0, 0, 0,
+    0x20, 0, 0, 0, 0, 0, 0,
+];
+
+/// A table of one list, whose base is 20, and the list behind its offset: startx_endx 0 and 1.
+const LISTS: [u8; 32] = [
+    0xff, 0xff, 0xff, 0xff, 20, 0, 0, 0, 0, 0, 0, 0, 5, 0, 8, 0, 1, 0, 0, 0, 8, 0, 0, 0, 0, 0, 0,
+    0, 2, 0, 1, 0,
+];
+
+/// A root with addr_base and rnglists_base, and a scope of the list of an index.
+fn entries_by_index(addr_base: u8, rnglists_base: u8, index: u8) -> [u8; 20] {
+    let mut entries = [0; 20];
+    entries[0] = 1;
+    entries[1] = addr_base;
+    entries[9] = rnglists_base;
+    entries[17] = 2;
+    entries[18] = index;
+    entries
+}
+
 /// Addresses and a range list by index, of tables in the 64-bit format.
 #[test]
 fn addresses_and_lists_by_index(rt: HostRuntime) -> Result<(), Fail> {
-    // a table of the addresses 0x1000 and 0x2000, whose base is 16
-    let addresses = [
-        0xff, 0xff, 0xff, 0xff, 20, 0, 0, 0, 0, 0, 0, 0, 5, 0, 8, 0, 0, 0x10, 0, 0, 0, 0, 0, 0, 0,
-        0x20, 0, 0, 0, 0, 0, 0,
-    ];
-    // a table of one list, whose base is 20, and the list behind its offset: startx_endx 0 and 1
-    let lists = [
-        0xff, 0xff, 0xff, 0xff, 20, 0, 0, 0, 0, 0, 0, 0, 5, 0, 8, 0, 1, 0, 0, 0, 8, 0, 0, 0, 0, 0,
-        0, 0, 2, 0, 1, 0,
-    ];
     // addr_base and rnglists_base as sec_offset, and ranges as rnglistx
     let root: Attributes<'_> = (&[0x73, 0x17, 0x74, 0x17], &[]);
     let table = declarations(rt.alloc(), root, (&[0x55, 0x23], &[]))?;
@@ -233,32 +237,11 @@ fn addresses_and_lists_by_index(rt: HostRuntime) -> Result<(), Fail> {
         (8, 20, 0, Some(fault(Cause::Base, 24))),
         (16, 16, 0, Some(fault(Cause::Base, 24))),
     ] {
-        let entries = [
-            1,
-            addr_base,
-            0,
-            0,
-            0,
-            0,
-            0,
-            0,
-            0,
-            rnglists_base,
-            0,
-            0,
-            0,
-            0,
-            0,
-            0,
-            0,
-            2,
-            index,
-            0,
-        ];
+        let entries = entries_by_index(addr_base, rnglists_base, index);
         let info = wide_unit(rt.alloc(), &entries)?;
         let all = Sections {
-            debug_addr: &addresses,
-            debug_rnglists: &lists,
+            debug_addr: &ADDRESSES,
+            debug_rnglists: &LISTS,
             ..sections(&info, &table)
         };
         match Scopes::read(rt.alloc(), &all) {
