@@ -1,6 +1,6 @@
 #!/usr/bin/env bash
-# Compares what is read from each object of tools/make_objects.sh, rows and scopes, with what other
-# readers show. Fails where anything differs.
+# Compares what is read from each object of tools/make_objects.sh, rows, scopes and the frames of ten
+# thousand addresses, with what other readers show. Fails where anything differs.
 set -euo pipefail
 cd "$(dirname "$0")/.."
 mkdir -p out
@@ -14,5 +14,6 @@ for object in "${objects[@]}"; do
     tools/compare_rows.py $measure out/objects/$object || differ=1
     $measure scope-table out/objects/$object > out/scopes.table
     tools/compare_scopes.py out/objects/$object out/scopes.table || differ=1
+    tools/compare_frames.py $measure out/objects/$object || differ=1
 done
 exit $differ

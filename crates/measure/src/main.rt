@@ -6,11 +6,13 @@
 //! `measure values OBJECT` reads the abbreviation tables and the values of all entries,
 //! `measure scopes OBJECT` reads its subprograms and inlined subroutines,
 //! `measure scope-table OBJECT` prints them,
-//! `measure module OBJECT` decodes it whole, from its tables to the index of its addresses, and
+//! `measure module OBJECT` decodes it whole, from its tables to the index of its addresses,
+//! `measure frames OBJECT` prints the frames of addresses spread over it, and
 //! `measure dump OBJECT` prints its rows, and then these.
 #![tactic(auto)]
 
 mod entries;
+mod frames;
 mod leb;
 mod lines;
 mod scopes;
@@ -35,6 +37,7 @@ fn main(rt: HostRuntime) -> Result<()> {
         "rows" => lines::print_rows(&rt, &bytes),
         "scope-table" => scopes::print_scopes(&rt, &bytes),
         "module" => measure_module(&rt, bytes),
+        "frames" => frames::print_frames(&rt, &decoded(&rt, bytes)?),
         "dump" => {
             lines::print_rows(&rt, &bytes)?;
             scopes::print_scopes(&rt, &bytes)
@@ -45,7 +48,9 @@ fn main(rt: HostRuntime) -> Result<()> {
 
 fn print_usage(rt: &HostRuntime) -> Result<()> {
     println!(rt; "usage: measure COMMAND FILE, where COMMAND is")?;
-    println!(rt; "leb, lines, rows, declarations, values, scopes, scope-table, module or dump")?;
+    println!(rt;
+        "leb, lines, rows, declarations, values, scopes, scope-table, module, frames or dump"
+    )?;
     Ok(())
 }
 
@@ -109,10 +114,7 @@ fn measure_scopes(rt: &HostRuntime, bytes: &[u8]) -> Result<()> {
 
 fn measure_module(rt: &HostRuntime, bytes: Vec<u8>) -> Result<()> {
     let start = Instant::now(rt)?;
-    let module = match Module::decode(rt.alloc(), bytes) {
-        Ok(module) => module,
-        Err((_, fault)) => return Err(fault.into()),
-    };
+    let module = decoded(rt, bytes)?;
     let time = start.elapsed(rt)?;
     println!(rt;
         "{} segments, {} calls, {} ms",
@@ -121,4 +123,12 @@ fn measure_module(rt: &HostRuntime, bytes: Vec<u8>) -> Result<()> {
         time.as_millis()
     )?;
     Ok(())
+}
+
+/// The object of these bytes.
+fn decoded(rt: &HostRuntime, bytes: Vec<u8>) -> Result<Module> {
+    match Module::decode(rt.alloc(), bytes) {
+        Ok(module) => Ok(module),
+        Err((_, fault)) => Err(fault.into()),
+    }
 }

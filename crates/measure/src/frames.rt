@@ -1,0 +1,51 @@
+//! The frames of the addresses of an object.
+
+use addr_table::{Frame, Module, Steps};
+use anyhow::{Context, Result};
+use std::io::{self, BufWriter, Write};
+
+/// How many addresses are asked.
+const ASKED: u64 = 10_000;
+
+/// Prints the frames of addresses that are spread over the object: a line with the address, and for
+/// each frame, the innermost first, a line with its name and its place in the source.
+pub fn print_frames(rt: &HostRuntime, module: &Module) -> Result<()> {
+    let mut out = BufWriter::new(rt.alloc(), io::writer(rt))?;
+    let mut steps = Steps {
+        compares: 0,
+        decoded: 0,
+    };
+    let stride = module.high().saturating_sub(module.low()) / ASKED + 1;
+    let mut link = module.low();
+    for _ in 0..ASKED {
+        writeln!(out, "{link:x}")?;
+        if let Some(place) = module.find(link, &mut steps) {
+            for frame in module.frames(place) {
+                print_frame(&mut out, &frame)?;
+            }
+        }
+        link = link.saturating_add(stride);
+    }
+    out.flush().context("writing")?;
+    Ok(())
+}
+
+/// Prints a frame as `\tNAME\tPATH:LINE`, with `??` for what is unknown.
+fn print_frame<W: Write>(out: &mut W, frame: &Frame<'_>) -> Result<()> {
+    out.write_all(b"\t")?;
+    out.write_all(frame.name().unwrap_or(b"??"))?;
+    out.write_all(b"\t")?;
+    match frame.path() {
+        None => out.write_all(b"??")?,
+        Some(path) => {
+            for (i, part) in path.enumerate() {
+                if i > 0 {
+                    out.write_all(b"/")?;
+                }
+                out.write_all(part)?;
+            }
+        }
+    }
+    writeln!(out, ":{}", frame.line())?;
+    Ok(())
+}

@@ -1,0 +1,67 @@
+#!/usr/bin/env python3
+"""Compares the frames that `measure frames OBJECT` prints with those of llvm-symbolizer.
+
+compare_frames.py MEASURE OBJECT.. asks for the same addresses. Of each the frames are compared, innermost
+first: name, file and line. Files are compared by their base names, and where this program tells no scope
+(`??`), names are not: llvm-symbolizer then takes one of the symbol table. Fails where anything differs.
+"""
+import json
+import subprocess
+import sys
+from pathlib import Path
+
+
+def ours(measure, path):
+    """The frames of each address."""
+    done = subprocess.run([measure, "frames", path], capture_output=True, text=True, errors="replace", check=True)
+    answers = {}
+    for text in done.stdout.splitlines():
+        if not text.startswith("\t"):
+            frames = answers[int(text, 16)] = []
+            continue
+        _, name, place = text.split("\t")
+        file, _, line = place.rpartition(":")
+        frames.append((name, file.rsplit("/", 1)[-1], int(line)))
+    return answers
+
+
+def theirs(path, addresses):
+    command = ["llvm-symbolizer", "--inlines", "--functions=short", "--no-demangle", "--output-style=JSON", f"--obj={path}"]
+    asked = "".join(f"0x{address:x}\n" for address in addresses)
+    done = subprocess.run(command, input=asked, capture_output=True, text=True, errors="replace", check=True)
+    answers = {}
+    for text in done.stdout.splitlines():
+        answer = json.loads(text)
+        answers[int(answer["Address"], 16)] = [
+            (frame["FunctionName"] or "??", frame["FileName"].rsplit("/", 1)[-1] or "??", frame["Line"])
+            for frame in answer.get("Symbol", [])
+        ]
+    return answers
+
+
+def agree(left, right):
+    if not left:
+        return all(file == "??" and line == 0 for _, file, line in right)
+    return len(left) == len(right) and all(
+        a[1:] == b[1:] and a[0] in ("??", b[0]) for a, b in zip(left, right)
+    )
+
+
+def main():
+    measure, *paths = sys.argv[1:]
+    differ = False
+    for path in paths:
+        left = ours(measure, path)
+        right = theirs(path, left)
+        different = [address for address in left if not agree(left[address], right[address])]
+        differ = differ or bool(different)
+        known = sum(bool(frames) for frames in left.values())
+        inlined = sum(len(frames) > 1 for frames in left.values())
+        print(f"{Path(path).name}: {len(left)} addresses, {known} known, {inlined} inlined, {len(different)} differ")
+        for address in different[:5]:
+            print(ascii(f"  {address:x}: {left[address]} beside {right[address]}"))
+    sys.exit(differ)
+
+
+if __name__ == "__main__":
+    main()
