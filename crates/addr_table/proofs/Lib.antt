@@ -14,6 +14,7 @@ pub mod ChainLaws
 pub mod EndLaws
 pub mod SweepLaws
 pub mod EndTurns
+pub mod RoomLaws
 pub mod BuildLaws
 pub mod FrameLaws
 pub mod ModuleLaws

@@ -13,6 +13,7 @@ mod outwards;
 mod parents;
 mod path;
 mod place;
+mod room;
 mod scan;
 mod scopes;
 mod segment;
