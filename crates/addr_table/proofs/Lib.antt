@@ -6,12 +6,16 @@ pub mod Constant
 pub mod CutLaws
 pub mod SearchLaws
 pub mod BitLaws
+pub mod FilledLaws
 pub mod ActiveLaws
 pub mod CountLaws
+pub mod TakenLaws
 pub mod FirstLaws
 pub mod KeyLaws
 pub mod ChainLaws
+pub mod ChainWalks
 pub mod EndLaws
+pub mod RangeEnds
 pub mod SweepLaws
 pub mod EndTurns
 pub mod RoomLaws

@@ -1,5 +1,6 @@
 -- One step from a scope outwards, and the outermost scope of a chain.
-use Rattle.std.proofs.Common.{◌≡◌, ◌≢◌, ◌∙◌, ℕ, zero, suc, ◌-◌, ◌<◌, ◌≤◌, List, [], ◌∷◌, ◌++◌, length, get_or, Bool, true, false, cond, ◌||◌, refl, sym, ap, subst, arith, zero-add}
+use Rattle.std.proofs.Common.{◌≡◌, ◌≢◌, ◌∙◌, ℕ, zero, suc, ◌-◌, ◌<◌, ◌≤◌, List, [], ◌∷◌, ◌++◌, length, get_or, Bool, true, false, cond}
+use Rattle.std.proofs.Common.{◌||◌, refl, sym, ap, subst, arith, zero-add}
 use Rattle.std.specs.Prelude.{Option, Some, None, option_map, find, filter}
 use Rattle.std.specs.Option.{option_or}
 use Rattle.std.specs.List.{AllByRecursion, list_any}
@@ -46,12 +47,14 @@ pub held-none : (a : ℕ) (xs : List Scope) → find (is_at Subprogram a) xs ≡
 held-none a [] h = refl
 held-none a (s ∷ xs) h = cases (is_at Subprogram a s) h (held-none a xs)
   where
-    cases : (b : Bool) → cond b (Some s) (find (is_at Subprogram a) xs) ≡ None → (find (is_at Subprogram a) xs ≡ None → held_among a xs ≡ []) →
+    cases : (b : Bool) → cond b (Some s) (find (is_at Subprogram a) xs) ≡ None
+        → (find (is_at Subprogram a) xs ≡ None → held_among a xs ≡ []) →
         cond b (s ∷ filter (is_at Inlined a) xs) (held_among a xs) ≡ []
     cases true h rest = cc
     cases false h rest = rest h
 
-pub held-some : (a : ℕ) (xs : List Scope) (t : Scope) → find (is_at Subprogram a) xs ≡ Some t → (inner : List Scope) × (held_among a xs ≡ t ∷ inner)
+pub held-some : (a : ℕ) (xs : List Scope) (t : Scope) → find (is_at Subprogram a) xs ≡ Some t
+    → (inner : List Scope) × (held_among a xs ≡ t ∷ inner)
 held-some a [] t h = cc
 held-some a (s ∷ xs) t h = cases (is_at Subprogram a s) h (held-some a xs t)
   where
@@ -66,16 +69,21 @@ held-some a (s ∷ xs) t h = cases (is_at Subprogram a s) h (held-some a xs t)
 -- what is around a scope is below its number
 around-below : (a p : ℕ) (scopes : List Scope) (t : Scope) → find (is_at Subprogram a) (around scopes p) ≡ Some t → t.number < p
 around-below a zero scopes t h = cc
-around-below a (suc k) scopes t h = let e : (t.number ≤ k) × (k < t.«end») = find-all (λ s. (s.number ≤ k) × (k < s.«end»)) (is_at Subprogram a) (enclosing k scopes) t (filtered-enclose k scopes) h in let le : t.number ≤ k = e.0 in omega arith
+around-below a (suc k) scopes t h =
+    let e : (t.number ≤ k) × (k < t.«end») =
+    find-all (λ s. (s.number ≤ k) × (k < s.«end»)) (is_at Subprogram a) (enclosing k scopes) t (filtered-enclose k scopes) h in
+    let le : t.number ≤ k = e.0 in omega arith
 
-found_more : (a : ℕ) (xs : List Scope) (s : Scope) → find (is_at Subprogram a) (xs ++ s ∷ []) ≡ option_or (find (is_at Subprogram a) xs) (cond (is_at Subprogram a s) (Some s) None)
+found_more : (a : ℕ) (xs : List Scope) (s : Scope)
+    → find (is_at Subprogram a) (xs ++ s ∷ []) ≡ option_or (find (is_at Subprogram a) xs) (cond (is_at Subprogram a s) (Some s) None)
 found_more a xs s = find-append (is_at Subprogram a) xs (s ∷ [])
 
 abbrev pub number_in : Option Scope → Option ℕ
 number_in = option_map (λ s. s.number)
 
 -- the scope of a number is the outermost one
-pub step-top : (a : ℕ) (scopes : List Scope) (nears : List ℕ) (k near : ℕ) (d : Scope) → HaveParents scopes nears → k < length scopes → near ≡ suc k → top_around a scopes near ≡ Some k → chain_around a scopes near ≡ get_or scopes k d ∷ []
+pub step-top : (a : ℕ) (scopes : List Scope) (nears : List ℕ) (k near : ℕ) (d : Scope) → HaveParents scopes nears → k < length scopes
+    → near ≡ suc k → top_around a scopes near ≡ Some k → chain_around a scopes near ≡ get_or scopes k d ∷ []
 step-top a scopes nears k near d have lt is top = subst (λ (n : ℕ). chain_around a scopes n ≡ get_or scopes k d ∷ []) (sym is) here
   where
     parent : IsParent scopes k (get_or nears k 0)
@@ -87,15 +95,21 @@ step-top a scopes nears k near d have lt is top = subst (λ (n : ℕ). chain_aro
     split : enclosing k scopes ≡ around scopes (get_or nears k 0) ++ get_or scopes k d ∷ []
     split = parent.around_is d
 
-    top_here : number_in (option_or (find (is_at Subprogram a) (around scopes (get_or nears k 0))) (cond (is_at Subprogram a (get_or scopes k d)) (Some (get_or scopes k d)) None)) ≡ Some k
+    top_here : number_in
+        (option_or (find (is_at Subprogram a) (around scopes (get_or nears k 0)))
+        (cond (is_at Subprogram a (get_or scopes k d)) (Some (get_or scopes k d)) None)) ≡ Some k
     top_here =
         sym (ap number_in (found_more a (around scopes (get_or nears k 0)) (get_or scopes k d)))
         ∙ (sym (ap (λ (xs : List Scope). number_in (find (is_at Subprogram a) xs)) split)
         ∙ subst (λ (n : ℕ). top_around a scopes n ≡ Some k) is top)
 
-    by : (o : Option Scope) → find (is_at Subprogram a) (around scopes (get_or nears k 0)) ≡ o → (b : Bool) → is_at Subprogram a (get_or scopes k d) ≡ b →
-        number_in (option_or o (cond b (Some (get_or scopes k d)) None)) ≡ Some k → held_among a (around scopes (get_or nears k 0) ++ get_or scopes k d ∷ []) ≡ get_or scopes k d ∷ []
-    by None f true t h = held-more a (around scopes (get_or nears k 0)) (get_or scopes k d) ∙ (rw (find-none (is_at Subprogram a) (around scopes (get_or nears k 0)) f, t) refl)
+    by : (o : Option Scope) → find (is_at Subprogram a) (around scopes (get_or nears k 0)) ≡ o → (b : Bool)
+        → is_at Subprogram a (get_or scopes k d) ≡ b →
+        number_in (option_or o (cond b (Some (get_or scopes k d)) None)) ≡ Some k
+        → held_among a (around scopes (get_or nears k 0) ++ get_or scopes k d ∷ []) ≡ get_or scopes k d ∷ []
+    by None f true t h =
+        held-more a (around scopes (get_or nears k 0)) (get_or scopes k d)
+        ∙ (rw (find-none (is_at Subprogram a) (around scopes (get_or nears k 0)) f, t) refl)
     by None f false t h = cc
     by (Some u) f b t h =
         let number : u.number ≡ k = the_same h in
@@ -104,7 +118,9 @@ step-top a scopes nears k near d have lt is top = subst (λ (n : ℕ). chain_aro
         absurd (omega arith)
 
     here : chain_around a scopes (suc k) ≡ get_or scopes k d ∷ []
-    here = ap (held_among a) split ∙ by (find (is_at Subprogram a) (around scopes (get_or nears k 0))) refl (is_at Subprogram a (get_or scopes k d)) refl top_here
+    here =
+        ap (held_among a) split
+        ∙ by (find (is_at Subprogram a) (around scopes (get_or nears k 0))) refl (is_at Subprogram a (get_or scopes k d)) refl top_here
 
 -- what is known behind a step over a scope that is not the outermost one
 pub record Outer (a : ℕ) (scopes : List Scope) (k p near top : ℕ) : Type 0 where
@@ -112,9 +128,11 @@ pub record Outer (a : ℕ) (scopes : List Scope) (k p near top : ℕ) : Type 0 w
   pub low : p ≤ k
   pub chain_is : (d : Scope) → chain_around a scopes near ≡ chain_around a scopes p ++ filter (is_at Inlined a) (get_or scopes k d ∷ [])
 
-pub step-outer : (a : ℕ) (scopes : List Scope) (nears : List ℕ) (k near top : ℕ) → HaveParents scopes nears → k < length scopes → near ≡ suc k → top_around a scopes near ≡ Some top → k ≢ top → Outer a scopes k (get_or nears k 0) near top
+pub step-outer : (a : ℕ) (scopes : List Scope) (nears : List ℕ) (k near top : ℕ) → HaveParents scopes nears → k < length scopes
+    → near ≡ suc k → top_around a scopes near ≡ Some top → k ≢ top → Outer a scopes k (get_or nears k 0) near top
 step-outer a scopes nears k near top have lt is told other = record {
-  top_is = (by_d (record { kind = Subprogram; offset = 0; number = 0; «end» = 0; ranges = []; name = None; linkage_name = None; stmt_list = None; call_file = None; call_line = None })).0;
+  top_is =
+      (by_d (record { kind = Subprogram; offset = 0; number = 0; «end» = 0; ranges = []; name = None; linkage_name = None; stmt_list = None; call_file = None; call_line = None })).0;
   low = parent.near_is;
   chain_is = λ d. (by_d d).1;
 }
@@ -122,8 +140,11 @@ step-outer a scopes nears k near top have lt is told other = record {
     parent : IsParent scopes k (get_or nears k 0)
     parent = have.parents k (let all : length nears ≡ length scopes = have.all in omega arith)
 
-    by_d : (d : Scope) → (top_around a scopes (get_or nears k 0) ≡ Some top) × (chain_around a scopes near ≡ chain_around a scopes (get_or nears k 0) ++ filter (is_at Inlined a) (get_or scopes k d ∷ []))
-    by_d d = subst (λ (n : ℕ). (top_around a scopes (get_or nears k 0) ≡ Some top) × (chain_around a scopes n ≡ chain_around a scopes (get_or nears k 0) ++ filter (is_at Inlined a) (get_or scopes k d ∷ []))) (sym is) here
+    by_d : (d : Scope)
+        → (top_around a scopes (get_or nears k 0) ≡ Some top) × (chain_around a scopes near ≡ chain_around a scopes (get_or nears k 0) ++ filter (is_at Inlined a) (get_or scopes k d ∷ []))
+    by_d d =
+        subst (λ (n : ℕ). (top_around a scopes (get_or nears k 0) ≡ Some top) × (chain_around a scopes n ≡ chain_around a scopes (get_or nears k 0) ++ filter (is_at Inlined a) (get_or scopes k d ∷ [])))
+        (sym is) here
       where
         split : enclosing k scopes ≡ around scopes (get_or nears k 0) ++ get_or scopes k d ∷ []
         split = parent.around_is d
@@ -131,7 +152,9 @@ step-outer a scopes nears k near top have lt is told other = record {
         there : (get_or scopes k d).number ≡ k
         there = number-there 0 (length scopes) k scopes d have.order.numbered lt ∙ zero-add k
 
-        top_here : number_in (option_or (find (is_at Subprogram a) (around scopes (get_or nears k 0))) (cond (is_at Subprogram a (get_or scopes k d)) (Some (get_or scopes k d)) None)) ≡ Some top
+        top_here : number_in
+            (option_or (find (is_at Subprogram a) (around scopes (get_or nears k 0)))
+            (cond (is_at Subprogram a (get_or scopes k d)) (Some (get_or scopes k d)) None)) ≡ Some top
         top_here =
             sym (ap number_in (found_more a (around scopes (get_or nears k 0)) (get_or scopes k d)))
             ∙ (sym (ap (λ (xs : List Scope). number_in (find (is_at Subprogram a) xs)) split)
@@ -139,15 +162,19 @@ step-outer a scopes nears k near top have lt is told other = record {
 
         by : (o : Option Scope) → find (is_at Subprogram a) (around scopes (get_or nears k 0)) ≡ o → (b : Bool) →
             number_in (option_or o (cond b (Some (get_or scopes k d)) None)) ≡ Some top →
-            (number_in o ≡ Some top) × (held_among a (around scopes (get_or nears k 0) ++ get_or scopes k d ∷ []) ≡ held_among a (around scopes (get_or nears k 0)) ++ filter (is_at Inlined a) (get_or scopes k d ∷ []))
+            (number_in o ≡ Some top) ×
+            (held_among a (around scopes (get_or nears k 0) ++ get_or scopes k d ∷ []) ≡ held_among a (around scopes (get_or nears k 0)) ++ filter (is_at Inlined a) (get_or scopes k d ∷ []))
         by None f true h = absurd (other (sym there ∙ the_same h))
         by None f false h = cc
-        by (Some u) f b h = (h, held-more a (around scopes (get_or nears k 0)) (get_or scopes k d) ∙ (rw (find-some (is_at Subprogram a) (around scopes (get_or nears k 0)) u f) refl))
+        by (Some u) f b h =
+            (h, held-more a (around scopes (get_or nears k 0)) (get_or scopes k d) ∙ (rw (find-some (is_at Subprogram a) (around scopes (get_or nears k 0)) u f) refl))
 
-        found : (number_in (find (is_at Subprogram a) (around scopes (get_or nears k 0))) ≡ Some top) × (held_among a (around scopes (get_or nears k 0) ++ get_or scopes k d ∷ []) ≡ held_among a (around scopes (get_or nears k 0)) ++ filter (is_at Inlined a) (get_or scopes k d ∷ []))
+        found : (number_in (find (is_at Subprogram a) (around scopes (get_or nears k 0))) ≡ Some top) ×
+            (held_among a (around scopes (get_or nears k 0) ++ get_or scopes k d ∷ []) ≡ held_among a (around scopes (get_or nears k 0)) ++ filter (is_at Inlined a) (get_or scopes k d ∷ []))
         found = by (find (is_at Subprogram a) (around scopes (get_or nears k 0))) refl (is_at Subprogram a (get_or scopes k d)) top_here
 
-        here : (top_around a scopes (get_or nears k 0) ≡ Some top) × (chain_around a scopes (suc k) ≡ chain_around a scopes (get_or nears k 0) ++ filter (is_at Inlined a) (get_or scopes k d ∷ []))
+        here : (top_around a scopes (get_or nears k 0) ≡ Some top) ×
+            (chain_around a scopes (suc k) ≡ chain_around a scopes (get_or nears k 0) ++ filter (is_at Inlined a) (get_or scopes k d ∷ []))
         here = (found.0, ap (held_among a) split ∙ found.1)
 
 -- ---- the outermost scope, found by going outwards
@@ -166,7 +193,8 @@ number_or (Some s) p = refl
 
 -- what is known of the outermost scope behind one step outwards
 top-split : (a : ℕ) (scopes : List Scope) (nears : List ℕ) (k : ℕ) (d : Scope) → HaveParents scopes nears → k < length scopes →
-    top_around a scopes (suc k) ≡ option_or (top_around a scopes (get_or nears k 0)) (cond (is_at Subprogram a (get_or scopes k d)) (Some k) None)
+    top_around a scopes (suc k) ≡ option_or (top_around a scopes (get_or nears k 0))
+    (cond (is_at Subprogram a (get_or scopes k d)) (Some k) None)
 top-split a scopes nears k d have lt =
     ap (λ (xs : List Scope). number_in (find (is_at Subprogram a) xs)) (parent.around_is d)
     ∙ (ap number_in (found_more a (around scopes (get_or nears k 0)) (get_or scopes k d))
@@ -190,25 +218,36 @@ IsTop a scopes start near found = top_around a scopes start ≡ option_or (top_a
 pub top-start : (a : ℕ) (scopes : List Scope) (start : ℕ) → IsTop a scopes start start None
 top-start a scopes start = sym (or-none (top_around a scopes start))
 
-pub top-end : (a : ℕ) (scopes : List Scope) (start near : ℕ) (found : Option ℕ) → IsTop a scopes start near found → near ≡ 0 → found ≡ top_around a scopes start
+pub top-end : (a : ℕ) (scopes : List Scope) (start near : ℕ) (found : Option ℕ) → IsTop a scopes start near found → near ≡ 0
+    → found ≡ top_around a scopes start
 top-end a scopes start near found h none = sym (h ∙ ap (λ (n : ℕ). option_or (top_around a scopes n) found) none)
 
-pub top-more : (a : ℕ) (scopes : List Scope) (nears : List ℕ) (start near : ℕ) (found : Option ℕ) (b : Bool) (e : ℕ) → HaveParents scopes nears → near ≤ length scopes → 0 < near → IsTop a scopes start near found →
-    ((d : Scope) → b ≡ is_at Subprogram a (get_or scopes (near - 1) d)) → IsTop a scopes start (get_or nears (near - 1) e) (cond b (Some (near - 1)) found)
+pub top-more : (a : ℕ) (scopes : List Scope) (nears : List ℕ) (start near : ℕ) (found : Option ℕ) (b : Bool) (e : ℕ)
+    → HaveParents scopes nears → near ≤ length scopes → 0 < near → IsTop a scopes start near found →
+    ((d : Scope) → b ≡ is_at Subprogram a (get_or scopes (near - 1) d))
+    → IsTop a scopes start (get_or nears (near - 1) e) (cond b (Some (near - 1)) found)
 top-more a scopes nears start zero found b e have le some h held = absurd (omega arith)
 top-more a scopes nears start (suc k) found b e have le some h held =
     let k_is : suc k - 1 ≡ k = omega arith in
     let P : ℕ → Type 0 = λ n. IsTop a scopes start (get_or nears n e) (cond b (Some n) found) in
     let H : ℕ → Type 0 = λ n. (d : Scope) → b ≡ is_at Subprogram a (get_or scopes n d) in
     let within : k < length nears = (let all : length nears ≡ length scopes = have.all in omega arith) in
-    subst P (sym k_is) (subst (λ (n : ℕ). IsTop a scopes start n (cond b (Some k) found)) (get_or_default nears k 0 e within) (by b (subst H k_is held)))
+    subst P (sym k_is)
+    (subst (λ (n : ℕ). IsTop a scopes start n (cond b (Some k) found)) (get_or_default nears k 0 e within) (by b (subst H k_is held)))
   where
     no_scope : Scope
-    no_scope = record { kind = Subprogram; offset = 0; number = 0; «end» = 0; ranges = []; name = None; linkage_name = None; stmt_list = None; call_file = None; call_line = None }
+    no_scope =
+        record
+        { kind = Subprogram; offset = 0; number = 0; «end» = 0; ranges = []; name = None; linkage_name = None; stmt_list = None; call_file = None; call_line = None }
 
-    split : (b : Bool) → ((d : Scope) → b ≡ is_at Subprogram a (get_or scopes k d)) → top_around a scopes start ≡ option_or (option_or (top_around a scopes (get_or nears k 0)) (cond b (Some k) None)) found
-    split b held = h ∙ ap (λ (o : Option ℕ). option_or o found) (top-split a scopes nears k no_scope have le ∙ ap (λ (c : Bool). option_or (top_around a scopes (get_or nears k 0)) (cond c (Some k) None)) (sym (held no_scope)))
+    split : (b : Bool) → ((d : Scope) → b ≡ is_at Subprogram a (get_or scopes k d))
+        → top_around a scopes start ≡ option_or (option_or (top_around a scopes (get_or nears k 0)) (cond b (Some k) None)) found
+    split b held =
+        h
+        ∙ ap (λ (o : Option ℕ). option_or o found)
+        (top-split a scopes nears k no_scope have le ∙ ap (λ (c : Bool). option_or (top_around a scopes (get_or nears k 0)) (cond c (Some k) None)) (sym (held no_scope)))
 
-    by : (b : Bool) → ((d : Scope) → b ≡ is_at Subprogram a (get_or scopes k d)) → IsTop a scopes start (get_or nears k 0) (cond b (Some k) found)
+    by : (b : Bool) → ((d : Scope) → b ≡ is_at Subprogram a (get_or scopes k d))
+        → IsTop a scopes start (get_or nears k 0) (cond b (Some k) found)
     by true held = split true held ∙ or-some k (top_around a scopes (get_or nears k 0)) found
     by false held = split false held ∙ ap (λ (o : Option ℕ). option_or o found) (or-none (top_around a scopes (get_or nears k 0)))

@@ -1,5 +1,6 @@
 -- Compares that follow one another, and a number below the power of two of its binary digits.
-use Rattle.std.proofs.Common.{◌≡◌, ◌∙◌, ℕ, zero, suc, ◌+◌, ◌/◌, ◌^◌, ◌<◌, ◌≤◌, Bool, true, false, eqb, refl, ap, add-one, add-zero, add-suc, arith}
+use Rattle.std.proofs.Common.{◌≡◌, ◌∙◌, ℕ, zero, suc, ◌+◌, ◌/◌, ◌^◌, ◌<◌, ◌≤◌, Bool, true, false, eqb, refl, ap, add-one, add-zero}
+use Rattle.std.proofs.Common.{add-suc, arith}
 use Rattle.std.proofs.Math.Nat.{two-pow-succ}
 use Rattle.std.proofs.lemmas.Bool.{eqb-true}
 use Rattle.addr_table.specs.declared.steps.Steps.{Steps}

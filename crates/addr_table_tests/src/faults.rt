@@ -106,3 +106,18 @@ fn a_call_file_of_a_subprogram_is_not_judged(rt: HostRuntime) -> Result<(), Fail
     assert!(rt; module(rt.alloc(), bytes).is_ok());
     Ok(())
 }
+
+// Each allocation can be made to fail by the way in which the tests are run.
+#[test]
+fn want_of_memory_is_the_only_other_answer(rt: HostRuntime) -> Result<(), Fail> {
+    let mut bytes = Vec::new(rt.alloc());
+    bytes.extend_from_slice(&INLINED)?;
+    match Module::decode(rt.alloc(), bytes) {
+        Ok(module) => assert_eq!(rt; module.segments().list().len(), 4),
+        Err((back, fault)) => {
+            assert_eq!(rt; fault, LoadFault::told(Section::Elf, Cause::Memory, 0));
+            assert_eq!(rt; back.as_slice(), INLINED.as_slice());
+        }
+    }
+    Ok(())
+}

@@ -15,4 +15,6 @@ pub returns-in-Subprogram : goal.returns-in-Subprogram
 returns-in-Subprogram c = λ s tells. told-bad _ _ _ s _ tells (of_subprogram _ _ (sym c.kind.ensures ∙ c.in-Subprogram.is))
 
 pub returns-in-Inlined : goal.returns-in-Inlined
-returns-in-Inlined c = λ s tells. told-bad _ _ _ s _ tells (of_inlined _ _ _ (sym c.kind.ensures ∙ c.in-Inlined.is) (rw (← c.call_file.ensures, ← c.stmt_list.ensures) c.is_bad_call.ensures))
+returns-in-Inlined c =
+    λ s tells. told-bad _ _ _ s _ tells
+    (of_inlined _ _ _ (sym c.kind.ensures ∙ c.in-Inlined.is) (rw (← c.call_file.ensures, ← c.stmt_list.ensures) c.is_bad_call.ensures))

@@ -8,7 +8,11 @@ pub loop-near-preserved : goal.loop-near-preserved
 loop-near-preserved c = record {
   within = parent-within _ _ _ 0 c.requires.have c.loop-near.invariant.within c.loop-near-test.true;
   found = elim c.if-is_held.branch [
-    | then-is_held w ↦ rw w.found-is (top-more c.args.link c.args.scopes.now.scopes c.args.parents.now c.args.near c.loop-near.near c.loop-near.found true 0 c.requires.have c.loop-near.invariant.within c.loop-near-test.true c.loop-near.invariant.found w.if-is_held.ensures)
-    | else-is_held w ↦ rw w.found-is (top-more c.args.link c.args.scopes.now.scopes c.args.parents.now c.args.near c.loop-near.near c.loop-near.found false 0 c.requires.have c.loop-near.invariant.within c.loop-near-test.true c.loop-near.invariant.found w.if-is_held.ensures)
+    | then-is_held w ↦
+        rw w.found-is
+        (top-more c.args.link c.args.scopes.now.scopes c.args.parents.now c.args.near c.loop-near.near c.loop-near.found true 0 c.requires.have c.loop-near.invariant.within c.loop-near-test.true c.loop-near.invariant.found w.if-is_held.ensures)
+    | else-is_held w ↦
+        rw w.found-is
+        (top-more c.args.link c.args.scopes.now.scopes c.args.parents.now c.args.near c.loop-near.near c.loop-near.found false 0 c.requires.have c.loop-near.invariant.within c.loop-near-test.true c.loop-near.invariant.found w.if-is_held.ensures)
   ];
 }

@@ -1,4 +1,4 @@
-use Rattle.std.proofs.Common.{◌≡◌, ◌+◌, ◌-◌, ◌≤◌, ◌<◌, ℕ, suc, length, ap, arith, sym, cond, ◌∙◌}
+use Rattle.std.proofs.Common.{◌≡◌, ◌+◌, ◌-◌, ◌≤◌, ℕ, suc, length, ap, arith, cond, ◌∙◌}
 use Rattle.addr_table.proofs.RoomLaws.{left_from, covers-more, covers-end}
 use Rattle.addr_table.proofs.room.count_covers.Goals as goal
 use Rattle.addr_table.proofs.room.count_covers.Goals.{then-is_cover, else-is_cover}
@@ -15,7 +15,8 @@ loop-next-preserved c =
     ] in
     record {
       counted = ap (λ (n : ℕ). c.if-is_cover.covers + left_from n c.args.rows.now) place
-          ∙ covers-more (c.loop-next.next - 1) c.loop-next.next _ _ _ _ _ _ _ here c.loop-next-test.true c.is_cover.ensures more c.loop-next.invariant.counted;
+          ∙ covers-more (c.loop-next.next - 1) c.loop-next.next _ _ _ _ _ _ _ here c.loop-next-test.true c.is_cover.ensures more
+          c.loop-next.invariant.counted;
       few = elim c.if-is_cover.branch [
         | then-is_cover w ↦ omega (arith, w.covers-is, c.loop-next.invariant.few)
         | else-is_cover w ↦ omega (arith, w.covers-is, c.loop-next.invariant.few)
