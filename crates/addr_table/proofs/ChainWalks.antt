@@ -34,7 +34,8 @@ walked-start rows a n before now scopes counts numbered h found le =
 
 pub walked-more : (rows a n m before now after : ℕ) (scopes : List Scope) (counts : List ℕ) → AreNumbered 0 (length scopes) scopes
     → IsActiveAt rows scopes a counts → n < length scopes →
-    IsFirstIn (is_filled counts) (rows + length scopes + n + 1) (rows + length scopes + (get_or scopes n no_scope).«end») (Some (rows + length scopes + m))
+    IsFirstIn (is_filled counts) (rows + length scopes + n + 1) (rows + length scopes + (get_or scopes n no_scope).«end»)
+    (Some (rows + length scopes + m))
     → IsWalked a scopes n before now → after ≤ now + 1 → IsWalked a scopes m before after
 walked-more rows a n m before now after scopes counts numbered h lt found w le =
     let is = inside-some rows a n m scopes counts no_scope numbered h lt found in

@@ -57,7 +57,8 @@ info-section bytes found names.DebugStrOffsets is a b = ap (λ (z : Layout). tak
 info-section bytes found names.DebugAddr is a b = ap (λ (z : Layout). take z.debug_info.len (drop z.debug_info.place bytes)) is
 info-section bytes found names.DebugRnglists is a b = ap (λ (z : Layout). take z.debug_info.len (drop z.debug_info.place bytes)) is
 
-pub path-read : (bytes : List ℕ) (lines : Lines) (program : ProgramNo) (file : ℕ) (parts : List Text) (texts : List (List ℕ)) (s : LineSections)
+pub path-read : (bytes : List ℕ) (lines : Lines) (program : ProgramNo) (file : ℕ) (parts : List Text) (texts : List (List ℕ))
+    (s : LineSections)
     → s ≡ line_sections bytes → texts ≡ map (part_bytes s) parts → path_of lines program file ≡ Some parts →
     Some (join_with_byte 47 texts) ≡ file_path bytes lines program file
 path-read bytes lines program file parts texts s is told found =
@@ -86,7 +87,8 @@ alone-row : (bytes : List ℕ) (lines : Lines) (scopes : List Scope) (a : ℕ) (
 alone-row bytes lines scopes a None = refl
 alone-row bytes lines scopes a (Some n) = refl
 
-pub begun-none : (bytes : List ℕ) (lines : Lines) (scopes : List Scope) (nears : List ℕ) (a : ℕ) (scope row : Option ℕ) (count near : ℕ) (alone : Bool)
+pub begun-none : (bytes : List ℕ) (lines : Lines) (scopes : List Scope) (nears : List ℕ) (a : ℕ) (scope row : Option ℕ) (count near : ℕ)
+    (alone : Bool)
     → HaveParents scopes nears → count ≡ length scopes → near ≡ begin_of count scope →
     None ≡ top_around a scopes near → alone ≡ is_some row
     → walk_left bytes lines scopes a 0 (Row row) alone ≡ frames_of bytes lines (place_chain a scope scopes) row
@@ -99,7 +101,8 @@ begun-none bytes lines scopes nears a scope row count near alone have total is t
 
 -- ---- one scope more
 
-pub told-frame : (bytes : List ℕ) (lines : Lines) (scopes : List Scope) (nears : List ℕ) (a start near top next : ℕ) (site : FrameSite) (alone : Bool)
+pub told-frame : (bytes : List ℕ) (lines : Lines) (scopes : List Scope) (nears : List ℕ) (a start near top next : ℕ) (site : FrameSite)
+    (alone : Bool)
     → Told a scopes nears start near top → near ≢ 0 → near ≤ length scopes → alone ≡ false → next ≡ outer_of nears top (near - 1) →
     walk_left bytes lines scopes a start site alone ≡ frame_told bytes lines scopes (Some (near - 1)) site ∷ walk_left bytes lines scopes
     a next (Call (near - 1)) alone

@@ -31,5 +31,6 @@ pub mod PlaceLaws
 pub mod BoundLaws
 pub mod WordLaws
 pub mod OutwardLaws
+pub mod TopLaws
 pub mod WalkLaws
 pub mod FrameTurns

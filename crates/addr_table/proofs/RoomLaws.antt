@@ -26,7 +26,9 @@ cover-counted n row next = by_end row.«end»
     by_order false = refl
 
     by_end : (b : Bool)
-        → length (nonempty (map reach_of (cond b [] (record { row = n; range = record { from = row.address; to = next.address } } ∷ [])))) ≡ cond (not b && nat_lt row.address next.address) 1 0
+        → length
+        (nonempty (map reach_of (cond b [] (record { row = n; range = record { from = row.address; to = next.address } } ∷ [])))) ≡ cond
+        (not b && nat_lt row.address next.address) 1 0
     by_end true = refl
     by_end false = by_order (nat_lt row.address next.address)
 

@@ -1,5 +1,5 @@
 use Rattle.std.proofs.Common.{true, false}
-use Rattle.addr_table.proofs.OutwardLaws.{top-more}
+use Rattle.addr_table.proofs.TopLaws.{top-more}
 use Rattle.addr_table.proofs.WalkLaws.{parent-within}
 use Rattle.addr_table.proofs.outwards.top.Goals as goal
 use Rattle.addr_table.proofs.outwards.top.Goals.{then-is_held, else-is_held}

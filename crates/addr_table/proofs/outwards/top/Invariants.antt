@@ -1,5 +1,5 @@
 use Rattle.std.proofs.Common.{◌≤◌, length}
-use Rattle.addr_table.proofs.OutwardLaws.{IsTop}
+use Rattle.addr_table.proofs.TopLaws.{IsTop}
 use Rattle.addr_table.proofs.outwards.top.Given as goal
 
 abbrev pub invariant-loop-near : goal.invariant-loop-near

@@ -4,7 +4,8 @@ use Rattle.addr_table.proofs.frames.Walk.next.Goals as goal
 use Rattle.addr_table.proofs.frames.Walk.next.Goals.{After-outer-self-inside}
 
 told : (c : After-outer-self-inside)
-    → Told c.self.inside.link c.self.inside.texts.scopes.now.scopes c.self.inside.parents.now c.self.inside.near c.next_told-near.result c.self.inside.top
+    → Told c.self.inside.link c.self.inside.texts.scopes.now.scopes c.self.inside.parents.now c.self.inside.near c.next_told-near.result
+    c.self.inside.top
 told c =
     tell _ _ _ _ _ _ c.self.invariant.have c.next_told-near.ensures.within c.if-near-eq0.false c.next_told-near.ensures.chain
     c.next_told-near.ensures.ends c.next_told-near.ensures.told
