@@ -16,8 +16,18 @@ use Rattle.addr_table.proofs.ChainLaws.{chain-none, chain-some, inside, inside-n
 -- a scope that is nowhere
 abbrev pub no_scope : Scope
 no_scope =
-    record
-    { kind = Subprogram; offset = 0; number = 0; «end» = 0; ranges = []; name = None; linkage_name = None; stmt_list = None; call_file = None; call_line = None }
+    record {
+      kind = Subprogram;
+      offset = 0;
+      number = 0;
+      «end» = 0;
+      ranges = [];
+      name = None;
+      linkage_name = None;
+      stmt_list = None;
+      call_file = None;
+      call_line = None;
+    }
 
 -- The scope of a number is in the chain, and so many calls were made as scopes of the chain were found, but for those to come.
 pub record IsWalked (a : ℕ) (scopes : List Scope) (n before now : ℕ) : Type 0 where
@@ -54,8 +64,11 @@ walked-end rows a n before now after scopes counts numbered h lt none w le =
     let was : now + length (inside a scopes n no_scope) + 1 ≤ before + length (chain_of a scopes) + 1 = w.calls in
     let at = number-at 0 (length scopes) n scopes no_scope numbered lt in
     let number : (get_or scopes n no_scope).number ≡ 0 + n = at.0 in
-    let zeroth : (get_or scopes n no_scope).number ≡ n = omega arith in
-    (sym (ap (option_map (λ s. s.number)) (w.last_is ∙ ap (λ (ss : List Scope). last (get_or scopes n no_scope ∷ ss)) is) ∙ ap Some zeroth), omega arith)
+    let zeroth : (get_or scopes n no_scope).number ≡ n = omega arith in (
+      sym (ap (option_map (λ s. s.number)) (w.last_is ∙ ap (λ (ss : List Scope). last (get_or scopes n no_scope ∷ ss)) is)
+          ∙ ap Some zeroth),
+      omega arith,
+    )
 
 pub walked-none : (rows a before now : ℕ) (scopes : List Scope) (counts : List ℕ) → AreNumbered 0 (length scopes) scopes
     → IsActiveAt rows scopes a counts →

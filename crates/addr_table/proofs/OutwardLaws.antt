@@ -131,7 +131,18 @@ pub step-outer : (a : ℕ) (scopes : List Scope) (nears : List ℕ) (k near top 
     → near ≡ suc k → top_around a scopes near ≡ Some top → k ≢ top → Outer a scopes k (get_or nears k 0) near top
 step-outer a scopes nears k near top have lt is told other = record {
   top_is =
-      (by_d (record { kind = Subprogram; offset = 0; number = 0; «end» = 0; ranges = []; name = None; linkage_name = None; stmt_list = None; call_file = None; call_line = None })).0;
+      (by_d (record {
+        kind = Subprogram;
+        offset = 0;
+        number = 0;
+        «end» = 0;
+        ranges = [];
+        name = None;
+        linkage_name = None;
+        stmt_list = None;
+        call_file = None;
+        call_line = None;
+      })).0;
   low = parent.near_is;
   chain_is = λ d. (by_d d).1;
 }
@@ -143,7 +154,8 @@ step-outer a scopes nears k near top have lt is told other = record {
         → (top_around a scopes (get_or nears k 0) ≡ Some top) ×
         (chain_around a scopes near ≡ chain_around a scopes (get_or nears k 0) ++ filter (is_at Inlined a) (get_or scopes k d ∷ []))
     by_d d =
-        subst (λ (n : ℕ). (top_around a scopes (get_or nears k 0) ≡ Some top) × (chain_around a scopes n ≡ chain_around a scopes (get_or nears k 0) ++ filter (is_at Inlined a) (get_or scopes k d ∷ [])))
+        subst (λ (n : ℕ). (top_around a scopes (get_or nears k 0) ≡ Some top) ×
+        (chain_around a scopes n ≡ chain_around a scopes (get_or nears k 0) ++ filter (is_at Inlined a) (get_or scopes k d ∷ [])))
         (sym is) here
       where
         split : enclosing k scopes ≡ around scopes (get_or nears k 0) ++ get_or scopes k d ∷ []
@@ -163,14 +175,19 @@ step-outer a scopes nears k near top have lt is told other = record {
         by : (o : Option Scope) → find (is_at Subprogram a) (around scopes (get_or nears k 0)) ≡ o → (b : Bool) →
             number_in (option_or o (cond b (Some (get_or scopes k d)) None)) ≡ Some top →
             (number_in o ≡ Some top) ×
-            (held_among a (around scopes (get_or nears k 0) ++ get_or scopes k d ∷ []) ≡ held_among a (around scopes (get_or nears k 0)) ++ filter (is_at Inlined a) (get_or scopes k d ∷ []))
+            (held_among a (around scopes (get_or nears k 0) ++ get_or scopes k d ∷ []) ≡ held_among a (around scopes (get_or nears k 0))
+            ++ filter (is_at Inlined a) (get_or scopes k d ∷ []))
         by None f true h = absurd (other (sym there ∙ the_same h))
         by None f false h = cc
-        by (Some u) f b h =
-            (h, held-more a (around scopes (get_or nears k 0)) (get_or scopes k d) ∙ (rw (find-some (is_at Subprogram a) (around scopes (get_or nears k 0)) u f) refl))
+        by (Some u) f b h = (
+          h,
+          held-more a (around scopes (get_or nears k 0)) (get_or scopes k d)
+              ∙ (rw (find-some (is_at Subprogram a) (around scopes (get_or nears k 0)) u f) refl),
+        )
 
         found : (number_in (find (is_at Subprogram a) (around scopes (get_or nears k 0))) ≡ Some top) ×
-            (held_among a (around scopes (get_or nears k 0) ++ get_or scopes k d ∷ []) ≡ held_among a (around scopes (get_or nears k 0)) ++ filter (is_at Inlined a) (get_or scopes k d ∷ []))
+            (held_among a (around scopes (get_or nears k 0) ++ get_or scopes k d ∷ []) ≡ held_among a (around scopes (get_or nears k 0))
+            ++ filter (is_at Inlined a) (get_or scopes k d ∷ []))
         found = by (find (is_at Subprogram a) (around scopes (get_or nears k 0))) refl (is_at Subprogram a (get_or scopes k d)) top_here
 
         here : (top_around a scopes (get_or nears k 0) ≡ Some top) ×

@@ -50,7 +50,8 @@ above-next e f (x ∷ xs) h is lt gap = elim gap.0 [
           let a : nat_lt e x ≡ true = grind (arith, nat_tests) in
           let b : nat_lt f x ≡ false = grind (arith, nat_tests) in
           rw (a, b)
-          (ap (λ (zs : List ℕ). x ∷ zs) (all-above e x xs h (omega arith) ∙ sym (all-above f x xs h (omega arith))) ∙ ap (λ n. n ∷ filter (λ y. nat_lt f y) xs) (sym same))
+          (ap (λ (zs : List ℕ). x ∷ zs) (all-above e x xs h (omega arith) ∙ sym (all-above f x xs h (omega arith)))
+          ∙ ap (λ n. n ∷ filter (λ y. nat_lt f y) xs) (sym same))
       | inr rest ↦ let far : x < f = among_above x f xs h rest in absurd (omega arith)
     ]
 
@@ -100,8 +101,13 @@ ends-among [] = tt
 ends-among (r ∷ rs) = (
   (among-put r.from (with_end r.to (ends_of rs)), among-kept r.to r.from (with_end r.to (ends_of rs)) (among-put r.to (ends_of rs))),
   each_weaker (λ (x : Range). IsAmong x.from (ends_of rs) × IsAmong x.to (ends_of rs))
-      (λ (x : Range). IsAmong x.from (with_end r.from (with_end r.to (ends_of rs))) × IsAmong x.to (with_end r.from (with_end r.to (ends_of rs))))
-      (λ x h. (among-kept x.from r.from (with_end r.to (ends_of rs)) (among-kept x.from r.to (ends_of rs) h.0), among-kept x.to r.from (with_end r.to (ends_of rs)) (among-kept x.to r.to (ends_of rs) h.1)))
+      (λ (x : Range). IsAmong x.from (with_end r.from (with_end r.to (ends_of rs))) × IsAmong x.to
+      (with_end r.from (with_end r.to (ends_of rs))))
+      (λ x h. (
+        among-kept x.from r.from (with_end r.to (ends_of rs)) (among-kept x.from r.to (ends_of rs) h.0),
+        among-kept x.to r.from
+            (with_end r.to (ends_of rs)) (among-kept x.to r.to (ends_of rs) h.1),
+      ))
       rs (ends-among rs),
 )
 
@@ -160,5 +166,7 @@ unfolding reaches_of
 reaches-ranges rows scopes =
     filtered-ranges (row_reaches rows ++ scope_reaches (length rows) (length scopes) scopes)
     ∙ ap (filter is_nonempty)
-    (map-joined (row_reaches rows) (scope_reaches (length rows) (length scopes) scopes) ∙ ap (λ (zs : List Range). zs ++ map (λ (r : Reach). r.range) (scope_reaches (length rows) (length scopes) scopes)) (rows-same (covers_of rows))
+    (map-joined (row_reaches rows) (scope_reaches (length rows) (length scopes) scopes)
+    ∙ ap (λ (zs : List Range). zs ++ map (λ (r : Reach). r.range) (scope_reaches (length rows) (length scopes) scopes))
+    (rows-same (covers_of rows))
     ∙ ap (λ (zs : List Range). row_ranges rows ++ zs) (scopes-same (length rows) (length scopes) scopes))

@@ -31,7 +31,8 @@ pub own-item : (scopes : List Scope) (kept : List Kept) (i : ℕ) (r : Kept) (d 
 own-item scopes kept i r d same lt is =
     let len : length kept ≡ length scopes = own-count kept scopes same in
     ap own_of is
-    ∙ (sym (get_or-map own_of kept i r (own d) (omega arith)) ∙ (ap (λ (os : List Own). get_or os i (own d)) same ∙ get_or-map own scopes i d (own d) lt))
+    ∙ (sym (get_or-map own_of kept i r (own d) (omega arith))
+    ∙ (ap (λ (os : List Own). get_or os i (own d)) same ∙ get_or-map own scopes i d (own d) lt))
 
 pub end-item : (scopes : List Scope) (kept : List Kept) (i : ℕ) (r : Kept) (d : Scope) → map own_of kept ≡ map own scopes
     → i < length scopes → r ≡ get_or kept i r → (own_of r).«end» ≡ (get_or scopes i d).«end»

@@ -33,7 +33,8 @@ top-split : (a : ℕ) (scopes : List Scope) (nears : List ℕ) (k : ℕ) (d : Sc
 top-split a scopes nears k d have lt =
     ap (λ (xs : List Scope). number_in (find (is_at Subprogram a) xs)) (parent.around_is d)
     ∙ (ap number_in (found_more a (around scopes (get_or nears k 0)) (get_or scopes k d))
-    ∙ (number_or (find (is_at Subprogram a) (around scopes (get_or nears k 0))) (cond (is_at Subprogram a (get_or scopes k d)) (Some (get_or scopes k d)) None)
+    ∙ (number_or (find (is_at Subprogram a) (around scopes (get_or nears k 0)))
+    (cond (is_at Subprogram a (get_or scopes k d)) (Some (get_or scopes k d)) None)
     ∙ ap (option_or (top_around a scopes (get_or nears k 0))) (inside (is_at Subprogram a (get_or scopes k d)))))
   where
     parent : IsParent scopes k (get_or nears k 0)
@@ -72,15 +73,26 @@ top-more a scopes nears start (suc k) found b e have le some h held =
   where
     no_scope : Scope
     no_scope =
-        record
-        { kind = Subprogram; offset = 0; number = 0; «end» = 0; ranges = []; name = None; linkage_name = None; stmt_list = None; call_file = None; call_line = None }
+        record {
+          kind = Subprogram;
+          offset = 0;
+          number = 0;
+          «end» = 0;
+          ranges = [];
+          name = None;
+          linkage_name = None;
+          stmt_list = None;
+          call_file = None;
+          call_line = None;
+        }
 
     split : (b : Bool) → ((d : Scope) → b ≡ is_at Subprogram a (get_or scopes k d))
         → top_around a scopes start ≡ option_or (option_or (top_around a scopes (get_or nears k 0)) (cond b (Some k) None)) found
     split b held =
         h
         ∙ ap (λ (o : Option ℕ). option_or o found)
-        (top-split a scopes nears k no_scope have le ∙ ap (λ (c : Bool). option_or (top_around a scopes (get_or nears k 0)) (cond c (Some k) None)) (sym (held no_scope)))
+        (top-split a scopes nears k no_scope have le
+        ∙ ap (λ (c : Bool). option_or (top_around a scopes (get_or nears k 0)) (cond c (Some k) None)) (sym (held no_scope)))
 
     by : (b : Bool) → ((d : Scope) → b ≡ is_at Subprogram a (get_or scopes k d))
         → IsTop a scopes start (get_or nears k 0) (cond b (Some k) found)

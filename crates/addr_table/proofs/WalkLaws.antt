@@ -42,8 +42,18 @@ pass a scopes nears near top e have le some ends other out = elim ends [
   where
     no_scope : Scope
     no_scope =
-        record
-        { kind = Subprogram; offset = 0; number = 0; «end» = 0; ranges = []; name = None; linkage_name = None; stmt_list = None; call_file = None; call_line = None }
+        record {
+          kind = Subprogram;
+          offset = 0;
+          number = 0;
+          «end» = 0;
+          ranges = [];
+          name = None;
+          linkage_name = None;
+          stmt_list = None;
+          call_file = None;
+          call_line = None;
+        }
 
     none_of : (s : Scope) → is_at Inlined a s ≡ false → filter (is_at Inlined a) (s ∷ []) ≡ []
     none_of s h = rw h refl
@@ -53,7 +63,8 @@ pass a scopes nears near top e have le some ends other out = elim ends [
     passed k p o lt out = record {
       within = outer-low a scopes k p near top o lt;
       chain =
-          sym (o.chain_is no_scope ∙ (ap (λ (zs : List Scope). chain_around a scopes p ++ zs) (none_of (get_or scopes k no_scope) (out no_scope)) ∙ append-nil (chain_around a scopes p)));
+          sym (o.chain_is no_scope ∙ (ap (λ (zs : List Scope). chain_around a scopes p ++ zs)
+          (none_of (get_or scopes k no_scope) (out no_scope)) ∙ append-nil (chain_around a scopes p)));
       ends = inr o.top_is;
     }
 
@@ -100,7 +111,8 @@ tell a scopes nears start near top have le some chain ends told = by told
                 (record { have = have; within = outer-low a scopes k (get_or nears k 0) near top o (omega arith); ends = inr o.top_is });
             told =
                 λ d. rw (outer, k_is)
-                (ap (reverse {A = Scope}) (sym chain ∙ (o.chain_is d ∙ ap (λ (zs : List Scope). chain_around a scopes (get_or nears k 0) ++ zs) (one_of (get_or scopes k d) (held d))))
+                (ap (reverse {A = Scope}) (sym chain ∙ (o.chain_is d
+                ∙ ap (λ (zs : List Scope). chain_around a scopes (get_or nears k 0) ++ zs) (one_of (get_or scopes k d) (held d))))
                 ∙ reverse-append (chain_around a scopes (get_or nears k 0)) (get_or scopes k d ∷ []));
           })
     ]
@@ -160,7 +172,8 @@ begun-chain a scopes nears None have = refl
 begun-chain a scopes nears (Some number) have = elim (cases_lt number (length scopes)) [
   | inl lt ↦ (let inside : nat_lt number (length scopes) ≡ true = grind (arith, nat_tests) in rw inside refl)
   | inr le ↦
-      (let outside : nat_lt number (length scopes) ≡ false = grind (arith, nat_tests) in rw outside (ap (held_among a) (past-end 0 (length scopes) number scopes have.order.numbered le)))
+      (let outside : nat_lt number (length scopes) ≡ false = grind (arith, nat_tests) in rw outside
+      (ap (held_among a) (past-end 0 (length scopes) number scopes have.order.numbered le)))
 ]
 
 pub begin-within : (count : ℕ) (scope : Option ℕ) → begin_of count scope ≤ count

@@ -15,7 +15,14 @@ reached-closed-requires-clause-upto c = passed-closes _ _ _ _ _ _ c.loop-end.inv
 pub loop-end-smaller : goal.loop-end-smaller
 loop-end-smaller c =
     let more = onwards (goal.at.loop-end-smaller c).After-reached-closed in
-    omega (arith, more, c.reached-opened.ensures.within, c.reached-closed.ensures.within, c.reached-opened.ensures.more, c.reached-closed.ensures.more)
+    omega (
+      arith,
+      more,
+      c.reached-opened.ensures.within,
+      c.reached-closed.ensures.within,
+      c.reached-opened.ensures.more,
+      c.reached-closed.ensures.more,
+    )
 
 pub loop-end-preserved : goal.loop-end-preserved
 loop-end-preserved c =

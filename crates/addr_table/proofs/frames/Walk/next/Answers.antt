@@ -16,4 +16,6 @@ invariant_of-self-2 c = rw c.outer-self-inside.ensures ((told (goal.at.invariant
 pub returns : goal.returns
 returns c =
     rw (← c.self.view_is)
-    (told-frame c.self.inside.texts.bytes.now c.self.inside.texts.lines.now _ _ _ _ _ _ _ c.self.inside.site _ (told (goal.at.returns c).After-outer-self-inside) c.if-near-eq0.false c.next_told-near.ensures.within c.if-self.false c.outer-self-inside.ensures)
+    (told-frame c.self.inside.texts.bytes.now c.self.inside.texts.lines.now _ _ _ _ _ _ _ c.self.inside.site _
+    (told (goal.at.returns c).After-outer-self-inside) c.if-near-eq0.false c.next_told-near.ensures.within c.if-self.false
+    c.outer-self-inside.ensures)
