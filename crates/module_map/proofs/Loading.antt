@@ -1,9 +1,12 @@
 -- What a load comes to: the tests in order.
-use Rattle.std.proofs.Common.{◌≡◌, ◌≢◌, ◌⊎◌, inl, inr, ℕ, Bool, true, false, List, refl, sym, ap, ◌∙◌, subst}
+use Rattle.std.proofs.Common.{◌≡◌, ◌⊎◌, inl, inr, ℕ, Bool, true, false, List, refl, sym, ap, ◌∙◌, subst}
 use Rattle.std.specs.Prelude.{Option, None, Some, Result, Ok, Err, MatchResult}
 use Rattle.dwarf_bytes.specs.Refusals.{memory_fault}
 use Rattle.addr_table.specs.Module.{fault_of}
 use Rattle.dwarf_bytes.specs.declared.fault.LoadFault.{LoadFault}
+use Rattle.dwarf_bytes.specs.declared.fault.Cause.{Cause}
+use Rattle.dwarf_bytes.specs.declared.fault.Cause.TheVariants as causes
+use Rattle.module_map.specs.Private.Refusals.{refusal_of, refusal_by}
 use Rattle.module_map.specs.World.{World, Loaded}
 use Rattle.module_map.specs.Counts.{ModuleMap}
 use Rattle.module_map.specs.Changes.{is_taken, is_full, load_fault, place_fault, with_module, IsExtentOf, Loads}
@@ -14,6 +17,10 @@ use Rattle.module_map.specs.declared.faults.MapFault.TheVariants.{NameTaken, Ful
 -- a load, of which memory may have been refused
 abbrev pub SomeLoad : World → Loaded → Result Extent MapFault → World → Type 0
 SomeLoad old m result new = (short : Bool) × Loads old m short result new
+
+either : (fault : LoadFault) (cause : Cause) → (refusal_by fault cause ≡ Memory) ⊎ (refusal_by fault cause ≡ Object fault)
+either fault causes.Memory = inl refl
+either fault _ = inr refl
 
 module _ (w : World) (m : Loaded) where
   pub name_taken : is_taken m.name w ≡ true → SomeLoad w m (Err NameTaken) w
@@ -39,11 +46,13 @@ module _ (w : World) (m : Loaded) where
       placed_of fault good e = rw (free, capacity, good) e
 
       -- an object that is not decoded
-      pub not_decoded : (fault : LoadFault) (result : MapFault) → (fault ≡ memory_fault) ⊎ (fault_of m.bytes ≡ Some fault) → (result ≡ Memory) ⊎ ((result ≡ Object fault) × (fault ≢ memory_fault)) →
-          SomeLoad w m (Err result) w
-      not_decoded fault result why (inl memory) = (true, (short_of ∙ ap Some (sym memory), refl))
-      not_decoded fault result (inl short) (inr other) = absurd (other.1 short)
-      not_decoded fault result (inr found) (inr other) = (false, (object_of fault found ∙ ap Some (sym other.0), refl))
+      pub not_decoded : (fault : LoadFault) (result : MapFault) → (fault ≡ memory_fault) ⊎ (fault_of m.bytes ≡ Some fault) → result ≡ refusal_of fault → SomeLoad w m (Err result) w
+      not_decoded fault result (inl memory) is = (true, (short_of ∙ ap Some (sym (is ∙ ap refusal_of memory)), refl))
+      not_decoded fault result (inr found) is = by (either fault fault.cause)
+        where
+          by : (refusal_of fault ≡ Memory) ⊎ (refusal_of fault ≡ Object fault) → SomeLoad w m (Err result) w
+          by (inl memory) = (true, (short_of ∙ ap Some (sym (is ∙ memory)), refl))
+          by (inr object) = (false, (object_of fault found ∙ ap Some (sym (is ∙ object)), refl))
 
       -- an object that was decoded has a place, or not
       pub not_kept : (fault : MapFault) → fault_of m.bytes ≡ None → (fault ≡ Memory) ⊎ (place_fault m w.modules ≡ Some fault) → SomeLoad w m (Err fault) w

@@ -42,7 +42,8 @@ meets m other = nat_lt (start_of m) (end_of other) && nat_lt (start_of other) (e
 -- the modules with one more, by rising address
 abbrev pub placed : Loaded → List Loaded → List Loaded
 placed m [] = m ∷ []
-placed m (other ∷ others) = if nat_lt (start_of other) (start_of m) then other ∷ placed m others else m ∷ other ∷ others
+placed m (other ∷ others) =
+    if nat_lt (start_of other) (start_of m) then other ∷ placed m others else m ∷ other ∷ others
 
 -- the modules of other names
 abbrev pub without : List ℕ → List Loaded → List Loaded

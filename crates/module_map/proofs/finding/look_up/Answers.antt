@@ -3,7 +3,7 @@ use Rattle.std.proofs.lemmas.List.{get_or_default}
 use Rattle.addr_table.specs.Module.{place_in}
 use Rattle.addr_table.specs.declared.place.Place.{Place}
 use Rattle.module_map.specs.Private.Serials.{NumberedModule, IsAnswerOf}
-use Rattle.module_map.proofs.modules.look_up.Goals as goal
+use Rattle.module_map.proofs.finding.look_up.Goals as goal
 
 answer_of : (h x : NumberedModule) (serial link : ℕ) (place : Option Place) (e : (ℕ × ℕ) × Option Place) → x ≡ h → serial ≡ x.serial → place ≡ place_in x.loaded.bytes link → e ≡ ((serial, link), place) → IsAnswerOf h e
 answer_of h x serial link place e same s p is = subst (IsAnswerOf h) (sym is) (sym (ap (λ (y : NumberedModule). y.serial) same) ∙ sym s, p ∙ ap (λ (y : NumberedModule). place_in y.loaded.bytes link) same)
