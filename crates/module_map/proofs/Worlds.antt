@@ -12,7 +12,7 @@ use Rattle.module_map.specs.declared.faults.MapFault.TheVariants.{Range, Overlap
 use Rattle.module_map.specs.Private.Serials.{NumberedModule, loaded_of}
 use Rattle.module_map.specs.Private.Rising.{IsClear, IsMet, IsOther, IsOnly}
 use Rattle.module_map.proofs.Positions.{is_at, is_nowhere, position_of_map}
-use Rattle.module_map.proofs.Gaps.{all_fail}
+use Rattle.module_map.proofs.Names.{all_fail}
 
 module _ (p : Loaded → Bool) where
   abbrev at_held : NumberedModule → Bool

@@ -1,5 +1,6 @@
 -- What is known of an address: the one module that holds it answers at the address less its base.
-use Rattle.std.specs.Prelude.{ℕ, ◌-◌, List, [], Option, None, Some, find, position, slice_get, option_map}
+use Rattle.std.specs.Prelude.{ℕ, ◌-◌, List, [], Option, None, Some, find, position}
+use Rattle.std.specs.Prelude.{slice_get, option_map}
 use Rattle.std.specs.Option.{option_and_then}
 use Rattle.addr_table.specs.Frames.{Frame}
 use Rattle.addr_table.specs.Module.{place_in, scan}

@@ -1,12 +1,16 @@
--- What a load, an unload and a move make of the modules: each is refused by the first test that it fails, and then changes nothing, or else it is done.
-use Rattle.std.specs.Prelude.{◌≡◌, ℕ, ◌+◌, ◌-◌, ◌^◌, Bool, ◌||◌, List, length, nat_lt, nat_le, Option, None, Some, Result, Ok, Err, if◌then◌else◌, option_map, find}
+-- What a load, an unload and a move make of the modules: each is refused by the first test that it
+-- fails, and then changes nothing, or else it is done.
+use Rattle.std.specs.Prelude.{◌≡◌, ℕ, ◌+◌, ◌-◌, ◌^◌, Bool, ◌||◌, List, length, nat_lt, nat_le, find}
+use Rattle.std.specs.Prelude.{Option, None, Some, Result, Ok, Err, if◌then◌else◌, option_map}
 use Rattle.std.specs.List.{list_any}
 use Rattle.addr_table.specs.Module.{fault_of}
 use Rattle.dwarf_bytes.specs.declared.fault.LoadFault.{LoadFault}
-use Rattle.module_map.specs.World.{World, most_modules, Loaded, start_of, end_of, is_named, placed, without, moved_to, met_at}
+use Rattle.module_map.specs.World.{World, most_modules, Loaded, start_of, end_of, is_named}
+use Rattle.module_map.specs.World.{placed, without, moved_to, met_at}
 use Rattle.module_map.specs.declared.faults.Extent.{Extent}
 use Rattle.module_map.specs.declared.faults.MapFault.{MapFault}
-use Rattle.module_map.specs.declared.faults.MapFault.TheVariants.{NameTaken, NoModule, Full, Object, Range, Overlap, Memory}
+use Rattle.module_map.specs.declared.faults.MapFault.TheVariants.{NameTaken, NoModule, Full}
+use Rattle.module_map.specs.declared.faults.MapFault.TheVariants.{Object, Range, Overlap, Memory}
 
 abbrev pub is_full : World → Bool
 is_full world = nat_le most_modules (length world.modules) || nat_le (2 ^ 64 - 1) world.loads

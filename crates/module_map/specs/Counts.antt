@@ -1,5 +1,6 @@
 -- What is counted, and how many answers the cache has.
-use Rattle.std.specs.Prelude.{◌≡◌, ℕ, ◌+◌, ◌-◌, ◌^◌, ◌≤◌, min, length, Option, None, Some, Result, Err}
+use Rattle.std.specs.Prelude.{◌≡◌, ℕ, ◌+◌, ◌-◌, ◌^◌, ◌≤◌, min, length}
+use Rattle.std.specs.Prelude.{Option, None, Some, Result, Err}
 use Rattle.addr_table.specs.Steps.{bits}
 use Rattle.addr_table.specs.Module.{cuts_in}
 use Rattle.module_map.specs.World.{World, Loaded}

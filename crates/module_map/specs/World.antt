@@ -1,5 +1,6 @@
 -- The modules that are loaded.
-use Rattle.std.specs.Prelude.{ℕ, ◌+◌, Bool, not, ◌&&◌, List, [], ◌∷◌, filter, nat_lt, nat_le, Option, if◌then◌else◌, position, slice_get}
+use Rattle.std.specs.Prelude.{ℕ, ◌+◌, Bool, not, ◌&&◌, List, [], ◌∷◌, filter, nat_lt, nat_le}
+use Rattle.std.specs.Prelude.{Option, if◌then◌else◌, position, slice_get}
 use Rattle.std.specs.Option.{option_map_or}
 use Rattle.std.specs.Str.{bytes_eq}
 use Rattle.addr_table.specs.Module.{low_of, high_of}

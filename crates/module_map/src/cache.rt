@@ -35,34 +35,33 @@ impl Model for Cache {
 /// The answer that is remembered, which becomes the last one to be dropped.
 fn recall(
     answers: &mut LruCache<(u64, u64), Option<Place>>,
-    serial: u64,
-    link: u64,
+    key: (u64, u64),
 ) -> Option<Option<Place>>
-    ensures found { IfSome result (λ place. Contains answers.old.entries ((serial, link), place)) }
+    ensures found { IfSome result (λ place. Contains answers.old.entries (key, place)) }
     ensures cached { (e : CacheEntry) → Contains answers.new.entries e →
         Contains answers.old.entries e }
     ensures count { length answers.new.entries ≡ length answers.old.entries }
     ensures capacity { answers.new.cap ≡ answers.old.cap }
 {
-    answers.get(&(serial, link)).copied()
+    answers.get(&key).copied()
 }
 
-/// Remembers an answer, if there is memory for it, in place of the one asked longest ago if need be.
+/// Remembers an answer, if there is memory for it; if need be in place of the one asked longest
+/// ago.
 fn remember(
     answers: &mut LruCache<(u64, u64), Option<Place>>,
-    serial: u64,
-    link: u64,
+    key: (u64, u64),
     place: Option<Place>,
 )
     ensures cached { (e : CacheEntry) → Contains answers.new.entries e →
-        Contains answers.old.entries e ⊎ (e ≡ ((serial, link), place)) }
+        Contains answers.old.entries e ⊎ (e ≡ (key, place)) }
     ensures grows { (length answers.old.entries ≤ length answers.new.entries)
         × (length answers.new.entries ≤ length answers.old.entries + 1) }
     ensures within { length answers.new.entries ≤ answers.new.cap }
     ensures capacity { answers.new.cap ≡ answers.old.cap }
 {
     let _count = answers.len();
-    let _ = answers.put((serial, link), place);
+    let _ = answers.put(key, place);
 }
 
 impl Cache {
@@ -95,8 +94,8 @@ impl Cache {
     }
 
     /// The answer that is remembered, which becomes the last one to be dropped.
-    pub fn get(&mut self, serial: u64, link: u64) -> Option<Option<Place>>
-        ensures found { IfSome result (λ place. Contains self.old.entries ((serial, link), place)) }
+    pub fn get(&mut self, key: (u64, u64)) -> Option<Option<Place>>
+        ensures found { IfSome result (λ place. Contains self.old.entries (key, place)) }
         ensures cached { (e : CacheEntry) → Contains self.new.entries e →
             Contains self.old.entries e }
         ensures count { length self.new.entries ≡ length self.old.entries }
@@ -106,13 +105,14 @@ impl Cache {
         let Some(answers) = &mut self.answers else {
             return None;
         };
-        recall(answers, serial, link)
+        recall(answers, key)
     }
 
-    /// Remembers an answer, if there is memory for it, in place of the one asked longest ago if need be.
-    pub fn put(&mut self, serial: u64, link: u64, place: Option<Place>)
+    /// Remembers an answer, if there is memory for it; if need be in place of the one asked longest
+    /// ago.
+    pub fn put(&mut self, key: (u64, u64), place: Option<Place>)
         ensures cached { (e : CacheEntry) → Contains self.new.entries e →
-            Contains self.old.entries e ⊎ (e ≡ ((serial, link), place)) }
+            Contains self.old.entries e ⊎ (e ≡ (key, place)) }
         ensures grows { (length self.old.entries ≤ length self.new.entries)
             × (length self.new.entries ≤ length self.old.entries + 1) }
         ensures within { length self.new.entries ≤ self.new.capacity }
@@ -121,6 +121,6 @@ impl Cache {
         let Some(answers) = &mut self.answers else {
             return;
         };
-        remember(answers, serial, link, place);
+        remember(answers, key, place);
     }
 }

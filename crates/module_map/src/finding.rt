@@ -38,12 +38,11 @@ pub fn look_up(
         × (steps.new ≡ counted n steps.old) }
 {
     let loaded = sorted.loaded_at(at);
-    let serial = loaded.serial();
-    let link = loaded.link(address);
-    if let Some(place) = cache.get(serial, link) {
+    let key = loaded.key(address);
+    if let Some(place) = cache.get(key) {
         return place;
     }
-    let place = loaded.find(link, steps);
-    cache.put(serial, link, place);
+    let place = loaded.find(key.1, steps);
+    cache.put(key, place);
     place
 }

@@ -71,12 +71,6 @@ impl LoadedModule {
         })
     }
 
-    pub fn serial(&self) -> u64
-        ensures { result ≡ self.now.serial }
-    {
-        self.serial
-    }
-
     pub fn name(&self) -> &str
         ensures { result.now ≡ self.now.loaded.name }
     {
@@ -103,12 +97,13 @@ impl LoadedModule {
         self.name.as_str() == name
     }
 
-    /// An address of the module, before it was moved to the base.
-    pub fn link(&self, address: u64) -> u64
+    /// The key of an address in the cache: the serial number of the load, and the link address.
+    pub fn key(&self, address: u64) -> (u64, u64)
         requires { start_of self.now.loaded ≤ address }
-        ensures { result ≡ address - self.now.loaded.base }
+        ensures serial { result.0 ≡ self.now.serial }
+        ensures link { result.1 ≡ address - self.now.loaded.base }
     {
-        address - self.base
+        (self.serial, address - self.base)
     }
 
     /// The extent at another base, or None past the greatest address.

@@ -8,18 +8,16 @@ ghost use Rattle.module_map.specs.Changes.{IsExtentOf, Loads, Unloads, Moves};
 ghost use Rattle.module_map.specs.Answers.{asked as asked_of, frames_at};
 ghost use Rattle.module_map.specs.Counts.{TakesCompares, CachesAnswer, decoded_after};
 ghost use Rattle.module_map.specs.Listing.{listing};
-ghost use Rattle.module_map.specs.Private.Refusals.{refusal_of};
 
 use crate::answer::Answer;
 use crate::asked::{Asked, Found};
 use crate::cache::Cache;
-use crate::faults::{Extent, MapFault};
+use crate::faults::{Extent, MapFault, refusal};
 use crate::finding::look_up;
 use crate::listing::Listing;
 use crate::loaded_module::LoadedModule;
 use crate::sorted::SortedModules;
 use addr_table::{Module, Steps};
-use dwarf_bytes::{Cause, LoadFault};
 use std::alloc::Global;
 use std::marker::Model;
 
@@ -52,16 +50,6 @@ impl Model for Modules {
     } };
 
     ghost invariant = { λ m. AreSound m.sorted m.loads m.cache.entries };
-}
-
-/// Why an object that cannot be decoded is not loaded.
-fn refusal(fault: LoadFault) -> MapFault
-    ensures { result ≡ refusal_of fault }
-{
-    match fault.cause {
-        Cause::Memory => MapFault::Memory,
-        _ => MapFault::Object(fault),
-    }
 }
 
 impl Modules {
@@ -126,7 +114,8 @@ impl Modules {
         ensures cached { (self.new.cached ≡ self.old.cached)
             × (self.new.capacity ≡ self.old.capacity) }
         ensures compares { self.new.compares ≡ self.old.compares }
-        ensures decoded { self.new.decoded ≡ decoded_after self.old.decoded (length bytes.items) result }
+        ensures decoded { self.new.decoded ≡
+            decoded_after self.old.decoded (length bytes.items) result }
     {
         if self.is_taken(name) {
             return Err(MapFault::NameTaken);
@@ -136,13 +125,13 @@ impl Modules {
         }
         self.steps.decoded = self.steps.decoded.saturating_add(bytes.len() as u64);
         match Module::decode(self.alloc, bytes) {
-            Ok(object) => self.keep(name, base, object),
+            Ok(object) => self.add(name, base, object),
             Err((_, fault)) => Err(refusal(fault)),
         }
     }
 
-    /// Keeps an object under a new name, if it has a place and there is memory for it.
-    fn keep(&mut self, name: &str, base: u64, object: Module) -> Result<Extent, MapFault>
+    /// Adds an object under a new name, if it has a place and there is memory for it.
+    fn add(&mut self, name: &str, base: u64, object: Module) -> Result<Extent, MapFault>
         requires new { is_taken name.now self.old.world ≡ false }
         requires loads { is_full self.old.world ≡ false }
         ensures { let m : Loaded = record { name = name.now; base = base; bytes = object } in

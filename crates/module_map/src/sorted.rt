@@ -1,7 +1,8 @@
 //! Modules by rising address.
 
 ghost use Rattle.std.specs.Prelude.{◌≡◌, ◌<◌, ◌≤◌, ◌⊎◌, ◌+◌, ◌^◌, ℕ, [], length, None, OnSome};
-ghost use Rattle.std.specs.Prelude.{IfSome, MatchResult, position, insert, remove, slice_index_or, map};
+ghost use Rattle.std.specs.Prelude.{IfSome, MatchResult, position, insert, remove, map};
+ghost use Rattle.std.specs.Prelude.{slice_index_or};
 ghost use Rattle.addr_table.specs.Steps.{counted, bits};
 ghost use Rattle.addr_table.specs.Module.{high_of};
 ghost use Rattle.module_map.specs.World.{is_named, holds, start_of, end_of, moved_to};
@@ -205,8 +206,8 @@ impl SortedModules {
         let _loaded = self.list.remove(at);
     }
 
-    /// Moves the module at a place to another base, and into the gap for it: what stands between its
-    /// old and its new place is turned.
+    /// Moves the module at a place to another base, and into the gap for it: what stands between
+    /// its old and its new place is turned.
     pub fn relocate(&mut self, own: usize, at: usize, base: u64)
         requires within { own < length self.old }
         requires fits { (d : NumberedModule) →

@@ -25,8 +25,10 @@ pub record CacheEntries : Type 0 where
 abbrev pub IsAnswerOf : NumberedModule → CacheEntry → Type 0
 IsAnswerOf h e = (h.serial ≡ e.0.0) × (e.1 ≡ place_in h.loaded.bytes e.0.1)
 
--- There are no more modules than may be. A serial number is below the count of loads, and names the bytes of one module. What the cache has under it is what that module answers.
-pub record AreSound (held : List NumberedModule) (loads : ℕ) (entries : List CacheEntry) : Type 0 where
+-- There are no more modules than may be. A serial number is below the count of loads, and names the
+-- bytes of one module. What the cache has under it is what that module answers.
+pub record AreSound (held : List NumberedModule) (loads : ℕ) (entries : List CacheEntry) :
+    Type 0 where
   pub few : length held ≤ most_modules
   pub below : (h : NumberedModule) → Contains held h → h.serial < loads
   pub one : (h g : NumberedModule) → Contains held h → Contains held g →
