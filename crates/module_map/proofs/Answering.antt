@@ -17,14 +17,17 @@ use Rattle.module_map.proofs.Asking.{asked_none, asked_some, in_list}
 -- what is found at an address, and the frames there
 record Finds (hs : List NumberedModule) (loads address : ℕ) (at : ℕ) : Type 0 where
   within : at < length hs
-  found : (d : NumberedModule) → (asked (world_of hs loads) address).found ≡ Some (record { at = at; place = place_in (get_or hs at d).loaded.bytes (address - (get_or hs at d).loaded.base) })
-  frames : (d : NumberedModule) → frames_at (world_of hs loads) address ≡ scan (get_or hs at d).loaded.bytes (address - (get_or hs at d).loaded.base)
+  found : (d : NumberedModule) →
+      (asked (world_of hs loads) address).found ≡ Some (record { at = at; place = place_in (get_or hs at d).loaded.bytes (address - (get_or hs at d).loaded.base) })
+  frames : (d : NumberedModule) →
+      frames_at (world_of hs loads) address ≡ scan (get_or hs at d).loaded.bytes (address - (get_or hs at d).loaded.base)
 
 record FindsNone (hs : List NumberedModule) (loads address : ℕ) : Type 0 where
   found : (asked (world_of hs loads) address).found ≡ None
   frames : frames_at (world_of hs loads) address ≡ []
 
-finds : (hs : List NumberedModule) (loads address : ℕ) (o : Option ℕ) → position (λ (h : NumberedModule). holds address h.loaded) hs ≡ o → FindsNone hs loads address ⊎ ((at : ℕ) × Finds hs loads address at)
+finds : (hs : List NumberedModule) (loads address : ℕ) (o : Option ℕ) → position (λ (h : NumberedModule). holds address h.loaded) hs ≡ o →
+    FindsNone hs loads address ⊎ ((at : ℕ) × Finds hs loads address at)
 unfolding frames_at
 finds hs loads address None e = inl (record {
   found = sym (ap (λ (x : Asked). x.found) (asked_none hs loads address e));
@@ -34,7 +37,8 @@ finds hs loads address (Some at) e = inr (
   at,
   record {
     within = in_list (λ (h : NumberedModule). holds address h.loaded) hs at e;
-    found = λ d. sym (ap (λ (x : Asked). x.found) (asked_some hs loads address at d (place_in (get_or hs at d).loaded.bytes (address - (get_or hs at d).loaded.base)) e refl));
+    found =
+        λ d. sym (ap (λ (x : Asked). x.found) (asked_some hs loads address at d (place_in (get_or hs at d).loaded.bytes (address - (get_or hs at d).loaded.base)) e refl));
     frames = λ d. ap (λ (o : Option Loaded). frames_of o address) (found_some (holds address) hs at d e);
   },
 )
@@ -51,14 +55,19 @@ module _ (hs : List NumberedModule) (loads address : ℕ) (x : Asked) (is : x �
     where
       by : FindsNone hs loads address ⊎ ((at : ℕ) × Finds hs loads address at) → [] ≡ frames_at (world_of hs loads) address
       by (inl none) = sym none.frames
-      by (inr some) = let d : NumberedModule = record { serial = 0; loaded = record { name = []; base = 0; bytes = [] } } in let f = some.1.found d in let g = same in cc
+      by (inr some) =
+          let d : NumberedModule = record { serial = 0; loaded = record { name = []; base = 0; bytes = [] } } in
+          let f = some.1.found d in
+          let g = same in
+          cc
 
   module _ (f : Found) (e : x.found ≡ Some f) where
     -- what was found, among the modules
     record There (at : ℕ) : Type 0 where
       within : at < length hs
       place : (d : NumberedModule) → f.place ≡ place_in (get_or hs at d).loaded.bytes (address - (get_or hs at d).loaded.base)
-      frames : (d : NumberedModule) → frames_at (world_of hs loads) address ≡ scan (get_or hs at d).loaded.bytes (address - (get_or hs at d).loaded.base)
+      frames : (d : NumberedModule) →
+          frames_at (world_of hs loads) address ≡ scan (get_or hs at d).loaded.bytes (address - (get_or hs at d).loaded.base)
       here : f.at ≡ at
 
     unwrap : {A : Type 0} (a b : A) → Some a ≡ Some b → a ≡ b
@@ -75,11 +84,14 @@ module _ (hs : List NumberedModule) (loads address : ℕ) (x : Asked) (is : x �
             within = found.within;
             place = λ d. ap (λ (y : Found). y.place) (unwrap f _ (sym e ∙ same ∙ found.found d));
             frames = found.frames;
-            here = let d : NumberedModule = record { serial = 0; loaded = record { name = []; base = 0; bytes = [] } } in ap (λ (y : Found). y.at) (unwrap f _ (sym e ∙ same ∙ found.found d));
+            here =
+                let d : NumberedModule = record { serial = 0; loaded = record { name = []; base = 0; bytes = [] } } in
+                ap (λ (y : Found). y.at) (unwrap f _ (sym e ∙ same ∙ found.found d));
           },
         )
 
-    framed : (d : NumberedModule) → frames_at (world_of hs loads) address ≡ option_map_or (frames_in (get_or hs there.0 d).loaded.bytes) f.place []
+    framed : (d : NumberedModule) →
+        frames_at (world_of hs loads) address ≡ option_map_or (frames_in (get_or hs there.0 d).loaded.bytes) f.place []
     framed d = there.1.frames d ∙ scan-place (get_or hs there.0 d).loaded.bytes (address - (get_or hs there.0 d).loaded.base)
         ∙ ap (λ (p : Option Place). option_map_or (frames_in (get_or hs there.0 d).loaded.bytes) p []) (sym (there.1.place d))
 
@@ -90,7 +102,8 @@ module _ (hs : List NumberedModule) (loads address : ℕ) (x : Asked) (is : x �
     pub past_end : length hs ≤ f.at → [] ≡ frames_at (world_of hs loads) address
     past_end le = let w = there.1.within in let h = there.1.here in absurd (omega arith)
 
-    pub at_place : (p : Place) (g : NumberedModule) → f.place ≡ Some p → g ≡ get_or hs f.at g → frames_in g.loaded.bytes p ≡ frames_at (world_of hs loads) address
+    pub at_place : (p : Place) (g : NumberedModule) → f.place ≡ Some p → g ≡ get_or hs f.at g →
+        frames_in g.loaded.bytes p ≡ frames_at (world_of hs loads) address
     at_place p g s r =
         ap (λ (h : NumberedModule). frames_in h.loaded.bytes p) (r ∙ ap (λ n. get_or hs n g) there.1.here)
         ∙ sym (framed g ∙ ap (λ (q : Option Place). option_map_or (frames_in (get_or hs there.0 g).loaded.bytes) q []) s)

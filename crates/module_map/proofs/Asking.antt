@@ -1,5 +1,6 @@
 -- What an ask finds, and how many compares it takes.
-use Rattle.std.proofs.Common.{◌≡◌, ℕ, zero, suc, ◌+◌, ◌-◌, ◌<◌, ◌≤◌, min, ◌^◌, Bool, true, false, List, [], ◌∷◌, length, map, get_or, refl, sym, ap, ◌∙◌, subst, arith}
+use Rattle.std.proofs.Common.{◌≡◌, ℕ, zero, suc, ◌+◌, ◌-◌, ◌<◌, ◌≤◌, min, ◌^◌, Bool, true, false, List, [], ◌∷◌, length, map, get_or}
+use Rattle.std.proofs.Common.{refl, sym, ap, ◌∙◌, subst, arith}
 use Rattle.std.specs.Prelude.{Option, None, Some, position, option_map, nat_lt, ◌&&◌}
 use Rattle.std.specs.Option.{option_and_then}
 use Rattle.std.proofs.lemmas.Bool.{leb-true, true≢false}
@@ -31,15 +32,19 @@ first_of : (a b : Bool) → (a && b) ≡ true → a ≡ true
 first_of true b e = refl
 first_of false b e = absurd (true≢false (sym e))
 
-pub begins_by : (hs : List NumberedModule) (address at : ℕ) → position (holding address) hs ≡ Some at → (d : NumberedModule) → start_of (get_or hs at d).loaded ≤ address
+pub begins_by : (hs : List NumberedModule) (address at : ℕ) → position (holding address) hs ≡ Some at → (d : NumberedModule) →
+    start_of (get_or hs at d).loaded ≤ address
 begins_by hs address at e d = leb-true (start_of (get_or hs at d).loaded) address
     (first_of _ (nat_lt address (end_of (get_or hs at d).loaded)) (position-Some (holding address) hs at d e).1)
 
-pub asked_none : (hs : List NumberedModule) (loads address : ℕ) → position (holding address) hs ≡ None → ◌≡◌ {A = Asked} (record { address = address; found = None }) (asked (world_of hs loads) address)
+pub asked_none : (hs : List NumberedModule) (loads address : ℕ) → position (holding address) hs ≡ None →
+    ◌≡◌ {A = Asked} (record { address = address; found = None }) (asked (world_of hs loads) address)
 unfolding asked
-asked_none hs loads address e = sym (ap (λ o. let a : Asked = record { address = address; found = option_and_then (found_at (world_of hs loads) address) o } in a) (position_of_map (holds address) loaded_of hs ∙ e))
+asked_none hs loads address e =
+    sym (ap (λ o. let a : Asked = record { address = address; found = option_and_then (found_at (world_of hs loads) address) o } in a) (position_of_map (holds address) loaded_of hs ∙ e))
 
-pub asked_some : (hs : List NumberedModule) (loads address at : ℕ) (d : NumberedModule) (place : Option Place) → position (holding address) hs ≡ Some at →
+pub asked_some : (hs : List NumberedModule) (loads address at : ℕ) (d : NumberedModule) (place : Option Place) →
+    position (holding address) hs ≡ Some at →
     place ≡ place_in (get_or hs at d).loaded.bytes (address - (get_or hs at d).loaded.base) →
     ◌≡◌ {A = Asked} (record { address = address; found = Some (record { at = at; place = place }) }) (asked (world_of hs loads) address)
 unfolding asked
@@ -55,11 +60,13 @@ counted_compares : (n : ℕ) (s : Steps) → s.compares ≡ 0 → (counted n s).
 counted_compares zero s e = e ∙ omega arith
 counted_compares (suc n) s e = ap (λ k. min (k + 1) (2 ^ 64 - 1)) (counted_compares n s e) ∙ omega arith
 
-takes : (o : Option Loaded) (b : ℕ) (n k : ℕ) → least_of o ≤ n → n ≤ b + 1 → k ≤ bits (segments_of o) + 1 → (least_of o ≤ min (n + k) (2 ^ 64 - 1)) × (min (n + k) (2 ^ 64 - 1) ≤ b + bits (segments_of o) + 2)
+takes : (o : Option Loaded) (b : ℕ) (n k : ℕ) → least_of o ≤ n → n ≤ b + 1 → k ≤ bits (segments_of o) + 1 →
+    (least_of o ≤ min (n + k) (2 ^ 64 - 1)) × (min (n + k) (2 ^ 64 - 1) ≤ b + bits (segments_of o) + 2)
 takes None b n k least le_ fits = (omega arith, omega arith)
 takes (Some m) b n k least le_ fits = (omega arith, omega arith)
 
-pub takes_compares : (hs : List NumberedModule) (loads address n k : ℕ) (s t : Steps) → s.compares ≡ 0 → t ≡ counted (n + k) s → least_of (holder (world_of hs loads) address) ≤ n →
+pub takes_compares : (hs : List NumberedModule) (loads address n k : ℕ) (s t : Steps) → s.compares ≡ 0 → t ≡ counted (n + k) s →
+    least_of (holder (world_of hs loads) address) ≤ n →
     n ≤ bits (length hs) + 1 → k ≤ bits (segments_of (holder (world_of hs loads) address)) + 1 → TakesCompares (world_of hs loads) address t.compares
 takes_compares hs loads address n k s t none is least up fits =
     let both = takes (holder (world_of hs loads) address) (bits (length hs)) n k least up fits in
@@ -68,12 +75,14 @@ takes_compares hs loads address n k s t none is least up fits =
     let lower = both.0 in let upper = both.1 in
     (rw count lower, rw (count, long) upper)
 
-pub takes_none : (hs : List NumberedModule) (loads address n : ℕ) (s t : Steps) → position (holding address) hs ≡ None → s.compares ≡ 0 → t ≡ counted n s → n ≤ bits (length hs) + 1 →
+pub takes_none : (hs : List NumberedModule) (loads address n : ℕ) (s t : Steps) → position (holding address) hs ≡ None → s.compares ≡ 0 →
+    t ≡ counted n s → n ≤ bits (length hs) + 1 →
     TakesCompares (world_of hs loads) address t.compares
 takes_none hs loads address n s t e none is up =
     takes_compares hs loads address n 0 s t none (is ∙ ap (λ k. counted k s) (omega arith)) (subst (λ o. least_of o ≤ n) (sym (found_none (holds address) hs e)) (omega arith)) up (omega arith)
 
-pub takes_some : (hs : List NumberedModule) (loads address at n k : ℕ) (d : NumberedModule) (s t u : Steps) → position (holding address) hs ≡ Some at → s.compares ≡ 0 → t ≡ counted n s → u ≡ counted k t →
+pub takes_some : (hs : List NumberedModule) (loads address at n k : ℕ) (d : NumberedModule) (s t u : Steps) →
+    position (holding address) hs ≡ Some at → s.compares ≡ 0 → t ≡ counted n s → u ≡ counted k t →
     n ≤ bits (length hs) + 1 → 2 ≤ n → k ≤ bits (length (cuts_in (get_or hs at d).loaded.bytes)) + 1 → TakesCompares (world_of hs loads) address u.compares
 takes_some hs loads address at n k d s t u e none first then up two fits =
     let found = found_some (holds address) hs at d e in

@@ -1,5 +1,6 @@
 -- What a look-up and a put leave of how many entries a cache holds.
-use Rattle.std.proofs.Common.{◌≡◌, ◌⊎◌, inl, inr, ℕ, suc, ◌+◌, ◌-◌, ◌<◌, ◌≤◌, Bool, true, false, ◌&&◌, eqb, List, [], ◌∷◌, length, take, Option, Some, None, IfSome, Contains, refl, sym, ap, ap₂, subst, arith}
+use Rattle.std.proofs.Common.{◌≡◌, ◌⊎◌, inl, inr, ℕ, suc, ◌+◌, ◌-◌, ◌<◌, ◌≤◌, Bool, true, false, ◌&&◌, eqb, List, [], ◌∷◌, length, take}
+use Rattle.std.proofs.Common.{Option, Some, None, IfSome, Contains, refl, sym, ap, ap₂, subst, arith}
 use Rattle.std.proofs.lemmas.Bool.{eqb-true, false≢true}
 use Rattle.std.proofs.lemmas.List.{length-take}
 use Rattle.std.specs.Option.{option_map_or}
@@ -8,14 +9,17 @@ use Rattle.lru.specs.LruCache.{LruCache, promoted, put_entries}
 use Rattle.lru.proofs.CallerLemmas.{Contains-lookup, Contains-put_entries, IsPut}
 
 module _ {K V : Type 0} (test : K → Bool) where
-  pub length-remove_entry : (es : List (K × V)) (e : K × V) → lookup_entry test es ≡ Some e → suc (length (remove_entry test es)) ≡ length es
+  pub length-remove_entry : (es : List (K × V)) (e : K × V) → lookup_entry test es ≡ Some e →
+      suc (length (remove_entry test es)) ≡ length es
   length-remove_entry [] e h = cc
-  length-remove_entry (f ∷ es) e h = (elim (test f.0) as (λ y. test f.0 ≡ y → suc (length (remove_entry test (f ∷ es))) ≡ suc (length es)) [
-    | true ↦ λ t. rw t refl
-    | false ↦ λ t. rw t (ap suc (length-remove_entry es e (rw t at h)))
-  ]) refl
+  length-remove_entry (f ∷ es) e h =
+      (elim (test f.0) as (λ y. test f.0 ≡ y → suc (length (remove_entry test (f ∷ es))) ≡ suc (length es)) [
+        | true ↦ λ t. rw t refl
+        | false ↦ λ t. rw t (ap suc (length-remove_entry es e (rw t at h)))
+      ]) refl
 
-  front : (es : List (K × V)) (o : Option (K × V)) → lookup_entry test es ≡ o → length (option_map_or (λ e. e ∷ remove_entry test es) o es) ≡ length es
+  front : (es : List (K × V)) (o : Option (K × V)) → lookup_entry test es ≡ o →
+      length (option_map_or (λ e. e ∷ remove_entry test es) o es) ≡ length es
   front es None h = refl
   front es (Some e) h = length-remove_entry es e h
 
@@ -32,7 +36,8 @@ module _ {K V : Type 0} (eq : K → K → Bool) (c : LruCache K V) (k : K) (v : 
 
   grown : (o : Option (K × V)) → lookup_entry (eq k) c.entries ≡ o → 0 < c.cap → length c.entries ≤ c.cap → Grows (after o)
   grown None h some within = let n = length-take (c.cap - 1) c.entries in (omega (arith, n), omega (arith, n), omega (arith, n))
-  grown (Some e) h some within = let n = length-remove_entry (eq k) c.entries e h in (omega (arith, n), omega (arith, n), omega (arith, n))
+  grown (Some e) h some within =
+      let n = length-remove_entry (eq k) c.entries e h in (omega (arith, n), omega (arith, n), omega (arith, n))
 
   pub Grows-put_entries : 0 < c.cap → length c.entries ≤ c.cap → Grows (put_entries eq c k v)
   Grows-put_entries = grown (lookup_entry (eq k) c.entries) refl
@@ -53,7 +58,8 @@ module _ {V : Type 0} (key : ℕ × ℕ) where
   -- what a look-up finds is cached under the very key
   pub found_key : (es : List ((ℕ × ℕ) × V)) (o : Option V) → o ≡ lookup (key_eq key) es → IfSome o (λ v. Contains es (key, v))
   found_key es None h = tt
-  found_key es (Some v) h = let it = Contains-lookup (key_eq key) es v (sym h) in subst (λ k. Contains es (k, v)) (same_key key it.0 it.2) it.1
+  found_key es (Some v) h =
+      let it = Contains-lookup (key_eq key) es v (sym h) in subst (λ k. Contains es (k, v)) (same_key key it.0 it.2) it.1
 
   put_key : (c : LruCache (ℕ × ℕ) V) (v : V) (e : (ℕ × ℕ) × V) → IsPut key_eq c key v e → e ≡ (key, v)
   put_key c v e h = elim h.1 [
@@ -62,7 +68,8 @@ module _ {V : Type 0} (key : ℕ × ℕ) where
   ]
 
   -- each entry after a put was there, or is the one that was put
-  pub put_or_was : (c : LruCache (ℕ × ℕ) V) (v : V) (e : (ℕ × ℕ) × V) → Contains (put_entries key_eq c key v) e → Contains c.entries e ⊎ (e ≡ (key, v))
+  pub put_or_was : (c : LruCache (ℕ × ℕ) V) (v : V) (e : (ℕ × ℕ) × V) → Contains (put_entries key_eq c key v) e →
+      Contains c.entries e ⊎ (e ≡ (key, v))
   put_or_was c v e h = elim (Contains-put_entries key_eq c key v e h) [
     | inl was ↦ inl was
     | inr is ↦ inr (put_key c v e is)

@@ -30,7 +30,8 @@ next_past own len from is = record { above = omega arith; least = λ k p q. omeg
 
 module _ (held : List NumberedModule) (own low high n : ℕ) (rising : AreRising held) (begun : HasBegun held low n) (order : low < high) where
   -- the last one that begins at the low end or before it ends past it
-  pub met_last : (at : ℕ) → at + 1 ≡ n → at ≢ own → ((d : NumberedModule) → low < end_of (get_or held at d).loaded) → IsMet held own low high at
+  pub met_last : (at : ℕ) → at + 1 ≡ n → at ≢ own → ((d : NumberedModule) → low < end_of (get_or held at d).loaded) →
+      IsMet held own low high at
   met_last at last ne ends = record {
     within = let w = begun.within in omega arith;
     other = other_of own at ne;
@@ -40,7 +41,8 @@ module _ (held : List NumberedModule) (own low high n : ℕ) (rising : AreRising
   }
 
   -- where a place begins at the high end or later, so do those after it
-  later : (at k : ℕ) (d : NumberedModule) → at ≤ k → k < length held → ((d : NumberedModule) → high ≤ start_of (get_or held at d).loaded) → high ≤ start_of (get_or held k d).loaded
+  later : (at k : ℕ) (d : NumberedModule) → at ≤ k → k < length held →
+      ((d : NumberedModule) → high ≤ start_of (get_or held at d).loaded) → high ≤ start_of (get_or held k d).loaded
   later at k d le lt begins = by (cases_lt at k)
     where
       by : (at < k) ⊎ (k ≤ at) → high ≤ start_of (get_or held k d).loaded
@@ -63,7 +65,8 @@ module _ (held : List NumberedModule) (own low high n : ℕ) (rising : AreRising
         by (inl before) = ended k d before o
         by (inr from) = absurd (not_own own k o (is.least k from lt))
 
-    pub met_next : next < length held → ((d : NumberedModule) → start_of (get_or held next d).loaded < high) → IsMet held own low high next
+    pub met_next : next < length held → ((d : NumberedModule) → start_of (get_or held next d).loaded < high) →
+        IsMet held own low high next
     met_next lt begins = record {
       within = lt;
       other = is.other lt;
@@ -79,7 +82,8 @@ module _ (held : List NumberedModule) (own low high n : ℕ) (rising : AreRising
         by (inl below) = absurd (not_own own k o (is.least k le below))
         by (inr from) = from
 
-    pub clear_all : (next < length held → (d : NumberedModule) → high ≤ start_of (get_or held next d).loaded) → IsClear held own low high n
+    pub clear_all : (next < length held → (d : NumberedModule) → high ≤ start_of (get_or held next d).loaded) →
+        IsClear held own low high n
     clear_all begins = record {
       within = begun.within;
       under = λ k d lt o. (let e = ended k d lt o in let w = begun.within in let s = rising.sound k d (omega arith) in omega arith);

@@ -11,7 +11,8 @@ pub record Halved (whole left used : ℕ) : Type 0 where
 pub halved_none : (n : ℕ) → Halved n n 0
 halved_none n = record { powers = λ a h. (a, omega arith, h) }
 
-halved_again : (left left' used a r : ℕ) → 0 < left → left' + left' ≤ left → used + r ≡ a → left < 2 ^ r → (s : ℕ) × (used + 1 + s ≡ a) × (left' < 2 ^ s)
+halved_again : (left left' used a r : ℕ) → 0 < left → left' + left' ≤ left → used + r ≡ a → left < 2 ^ r →
+    (s : ℕ) × (used + 1 + s ≡ a) × (left' < 2 ^ s)
 halved_again left left' used a zero some half is fits = absurd (omega arith)
 halved_again left left' used a (suc r) some half is fits = let twice = two-pow-succ r in (r, omega arith, omega (arith, twice))
 

@@ -46,7 +46,8 @@ module _ (w : World) (m : Loaded) where
       placed_of fault good e = rw (free, capacity, good) e
 
       -- an object that is not decoded
-      pub not_decoded : (fault : LoadFault) (result : MapFault) → (fault ≡ memory_fault) ⊎ (fault_of m.bytes ≡ Some fault) → result ≡ refusal_of fault → SomeLoad w m (Err result) w
+      pub not_decoded : (fault : LoadFault) (result : MapFault) → (fault ≡ memory_fault) ⊎ (fault_of m.bytes ≡ Some fault) →
+          result ≡ refusal_of fault → SomeLoad w m (Err result) w
       not_decoded fault result (inl memory) is = (true, (short_of ∙ ap Some (sym (is ∙ ap refusal_of memory)), refl))
       not_decoded fault result (inr found) is = by (either fault fault.cause)
         where
@@ -55,11 +56,13 @@ module _ (w : World) (m : Loaded) where
           by (inr object) = (false, (object_of fault found ∙ ap Some (sym (is ∙ object)), refl))
 
       -- an object that was decoded has a place, or not
-      pub not_added : (fault : MapFault) → fault_of m.bytes ≡ None → (fault ≡ Memory) ⊎ (place_fault m w.modules ≡ Some fault) → SomeLoad w m (Err fault) w
+      pub not_added : (fault : MapFault) → fault_of m.bytes ≡ None → (fault ≡ Memory) ⊎ (place_fault m w.modules ≡ Some fault) →
+          SomeLoad w m (Err fault) w
       not_added fault good (inl memory) = (true, (short_of ∙ ap Some (sym memory), refl))
       not_added fault good (inr found) = (false, (placed_of (Some fault) good found, refl))
 
-      pub added : (extent : Extent) → fault_of m.bytes ≡ None → place_fault m w.modules ≡ None → IsExtentOf extent m → SomeLoad w m (Ok extent) (with_module w m)
+      pub added : (extent : Extent) → fault_of m.bytes ≡ None → place_fault m w.modules ≡ None → IsExtentOf extent m →
+          SomeLoad w m (Ok extent) (with_module w m)
       added extent good none lies = (false, (placed_of None good none, lies, refl))
 
 -- what came of adding a decoded object, among modules of which only these are seen
@@ -68,13 +71,17 @@ Adds old new m result = MatchResult result
     (λ extent. (place_fault m old.world.modules ≡ None) × IsExtentOf extent m × (new ≡ record old { world = with_module old.world m }))
     (λ fault. ((fault ≡ Memory) ⊎ (place_fault m old.world.modules ≡ Some fault)) × (new ≡ old))
 
-pub added_by : (old new : ModuleMap) (m : Loaded) (result : Result Extent MapFault) → is_taken m.name old.world ≡ false → is_full old.world ≡ false → fault_of m.bytes ≡ None → Adds old new m result →
+pub added_by : (old new : ModuleMap) (m : Loaded) (result : Result Extent MapFault) → is_taken m.name old.world ≡ false →
+    is_full old.world ≡ false → fault_of m.bytes ≡ None → Adds old new m result →
     SomeLoad old.world m result new.world
-added_by old new m (Ok extent) free capacity good k = subst (λ (w : World). SomeLoad old.world m (Ok extent) w) (sym (ap (λ (x : ModuleMap). x.world) k.2)) (added old.world m free capacity extent good k.0 k.1)
-added_by old new m (Err fault) free capacity good k = subst (λ (w : World). SomeLoad old.world m (Err fault) w) (sym (ap (λ (x : ModuleMap). x.world) k.1)) (not_added old.world m free capacity fault good k.0)
+added_by old new m (Ok extent) free capacity good k =
+    subst (λ (w : World). SomeLoad old.world m (Ok extent) w) (sym (ap (λ (x : ModuleMap). x.world) k.2)) (added old.world m free capacity extent good k.0 k.1)
+added_by old new m (Err fault) free capacity good k =
+    subst (λ (w : World). SomeLoad old.world m (Err fault) w) (sym (ap (λ (x : ModuleMap). x.world) k.1)) (not_added old.world m free capacity fault good k.0)
 
 -- the same of an object that is its bytes
-pub added_bytes : (old new : ModuleMap) (name : List ℕ) (base : ℕ) (object bytes : List ℕ) (result : Result Extent MapFault) → is_taken name old.world ≡ false → is_full old.world ≡ false →
+pub added_bytes : (old new : ModuleMap) (name : List ℕ) (base : ℕ) (object bytes : List ℕ) (result : Result Extent MapFault) →
+    is_taken name old.world ≡ false → is_full old.world ≡ false →
     object ≡ bytes → fault_of bytes ≡ None → Adds old new (record { name = name; base = base; bytes = object }) result → SomeLoad old.world (record { name = name; base = base; bytes = bytes }) result new.world
 added_bytes old new name base object bytes result free capacity same good k =
     added_by old new (record { name = name; base = base; bytes = bytes }) result free capacity good (subst (λ (b : List ℕ). Adds old new (record { name = name; base = base; bytes = b }) result) same k)

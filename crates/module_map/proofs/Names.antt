@@ -1,5 +1,6 @@
 -- Names of modules, and a list in which one was written over.
-use Rattle.std.proofs.Common.{◌≡◌, ◌≢◌, inl, inr, ℕ, zero, suc, ◌-◌, ◌<◌, ◌≤◌, Bool, true, false, List, [], ◌∷◌, ◌++◌, length, get_or, take, set, refl, sym, ap, ap₂, ◌∙◌, subst, arith}
+use Rattle.std.proofs.Common.{◌≡◌, ◌≢◌, inl, inr, ℕ, zero, suc, ◌-◌, ◌<◌, ◌≤◌, Bool, true, false, List, [], ◌∷◌, ◌++◌, length, get_or}
+use Rattle.std.proofs.Common.{take, set, refl, sym, ap, ap₂, ◌∙◌, subst, arith}
 use Rattle.std.specs.Prelude.{Option, None, Some, IfSome, position, insert, nat_le, nat_lt, not, if◌then◌else◌}
 use Rattle.std.specs.List.{position_or_len}
 use Rattle.std.proofs.lemmas.Bool.{ltb-false, true≢false}
@@ -19,14 +20,17 @@ not_front p xs none = by (nat_lt (position_or_len p xs) (length xs)) refl
     by true e = let bad = rw e at none in cc
     by false e = ltb-false (position_or_len p xs) (length xs) e
 
-pub all_fail : {X : Type 0} (p : X → Bool) (xs : List X) → position p xs ≡ None → (k : ℕ) (d : X) → k < length xs → p (get_or xs k d) ≡ false
-all_fail p xs none k d lt = let n = not_front p xs none in not_true (p (get_or xs k d)) (prefix_len_passes (λ x. not (p x)) xs k d (omega arith))
+pub all_fail : {X : Type 0} (p : X → Bool) (xs : List X) → position p xs ≡ None → (k : ℕ) (d : X) → k < length xs →
+    p (get_or xs k d) ≡ false
+all_fail p xs none k d lt =
+    let n = not_front p xs none in not_true (p (get_or xs k d)) (prefix_len_passes (λ x. not (p x)) xs k d (omega arith))
   where
     not_true : (b : Bool) → not b ≡ true → b ≡ false
     not_true true e = cc
     not_true false e = refl
 
-pub names_differ : (name : List ℕ) (held : List NumberedModule) → position (λ (h : NumberedModule). is_named name h.loaded) held ≡ None → (k : ℕ) (d : NumberedModule) → k < length held → (get_or held k d).loaded.name ≢ name
+pub names_differ : (name : List ℕ) (held : List NumberedModule) → position (λ (h : NumberedModule). is_named name h.loaded) held ≡ None →
+    (k : ℕ) (d : NumberedModule) → k < length held → (get_or held k d).loaded.name ≢ name
 names_differ name held none k d lt = λ e. let f = all_fail (λ (h : NumberedModule). is_named name h.loaded) held none k d lt in
     true≢false (sym ((bytes_eq-Decides (get_or held k d).loaded.name name).1 e) ∙ f)
 
@@ -36,7 +40,8 @@ whole (x ∷ xs) ys zero e = absurd (omega arith)
 whole (x ∷ xs) ys (suc n) e = ap (λ l. x ∷ l) (whole xs ys n (omega arith))
 
 -- the same list, where the one that is moved was written in its place first
-pub turned_set : (held items xs : List NumberedModule) (own at base : ℕ) (h was d : NumberedModule) → items ≡ held → own < length held → xs ≡ set items own h → h ≡ rebased base was → was ≡ get_or items own was →
+pub turned_set : (held items xs : List NumberedModule) (own at base : ℕ) (h was d : NumberedModule) → items ≡ held → own < length held →
+    xs ≡ set items own h → h ≡ rebased base was → was ≡ get_or items own was →
     relocated xs own at (get_or xs own d) ≡ relocated held own at (rebased base (get_or held own d))
 turned_set held items xs own at base h was d same lt written is old =
     let there : own < length items = subst (λ (l : List NumberedModule). own < length l) (sym same) lt in
@@ -45,7 +50,8 @@ turned_set held items xs own at base h was d same lt written is old =
     ∙ ap (λ (l : List NumberedModule). relocated l own at (rebased base (get_or l own d))) same
 
 -- the first of a name is the only one
-pub only_named : (name : List ℕ) (held : List NumberedModule) → AreRising held → (o : Option ℕ) → o ≡ position (λ (h : NumberedModule). is_named name h.loaded) held → IfSome o (IsOnly held name)
+pub only_named : (name : List ℕ) (held : List NumberedModule) → AreRising held → (o : Option ℕ) →
+    o ≡ position (λ (h : NumberedModule). is_named name h.loaded) held → IfSome o (IsOnly held name)
 only_named name held rising None e = tt
 only_named name held rising (Some own) e = record { within = within held own (sym e); here = here; others = others }
   where
@@ -54,7 +60,8 @@ only_named name held rising (Some own) e = record { within = within held own (sy
     within (x ∷ xs) i e = (position-Some (λ (h : NumberedModule). is_named name h.loaded) (x ∷ xs) i x e).0
 
     here : (d : NumberedModule) → (get_or held own d).loaded.name ≡ name
-    here d = (bytes_eq-Decides (get_or held own d).loaded.name name).0 (position-Some (λ (h : NumberedModule). is_named name h.loaded) held own d (sym e)).1
+    here d =
+        (bytes_eq-Decides (get_or held own d).loaded.name name).0 (position-Some (λ (h : NumberedModule). is_named name h.loaded) held own d (sym e)).1
 
     others : (k : ℕ) (d : NumberedModule) → k < length held → IsOther own k → (get_or held k d).loaded.name ≢ name
     others k d lt (inl below) = λ same. rising.names k own d below (within held own (sym e)) (same ∙ sym (here d))

@@ -25,13 +25,13 @@ pub enum MapFault {
     /// As many modules are loaded as may be.
     #[error("full")]
     Full,
-    /// The object is refused.
+    /// The object is refused, with its first fault.
     #[error("{0}")]
     Object(LoadFault),
-    /// It would end past the greatest address.
+    /// The base and the highest link address are past 2^64-1.
     #[error("range")]
     Range,
-    /// It would meet the module at this place of the list.
+    /// It would share an address with another module: the lowest one, by its place in the list.
     #[error("overlap")]
     Overlap(usize),
     /// There is not enough memory.

@@ -53,7 +53,8 @@ impl Model for Modules {
 }
 
 impl Modules {
-    /// No modules. A cache of so many answers may want more memory than there is.
+    /// No modules, and a cache of so many answers; 0 is no cache. It may want more memory than
+    /// there is.
     pub fn new(alloc: Global, cache_entries: usize) -> Result<Modules, MapFault>
         ensures modules { IfOk result (λ m. m ≡ record {
           world = no_modules;
@@ -72,14 +73,12 @@ impl Modules {
             sorted: SortedModules::new(alloc),
             loads: 0,
             cache,
-            steps: Steps {
-                compares: 0,
-                decoded: 0,
-            },
+            steps: Steps::default(),
         })
     }
 
-    /// What was counted: the compares of the last ask, and the bytes decoded since the start.
+    /// What was counted: the compares of the last ask, 0 before the first, and the bytes that were
+    /// decoded, also of loads that were refused after it.
     pub fn steps(&self) -> Steps
         ensures { (result.compares ≡ self.now.compares) × (result.decoded ≡ self.now.decoded) }
     {
@@ -106,7 +105,8 @@ impl Modules {
         self.sorted.len() >= MOST_MODULES || self.loads == u64::MAX
     }
 
-    /// Loads an object under a name at a base, or says why not; then nothing is changed.
+    /// Loads an object under a name, its link addresses moved up by a base, or says why not, in the
+    /// order of the faults; but want of memory may come in place of all after `Full`.
     pub fn load(&mut self, name: &str, base: u64, bytes: Vec<u8>) -> Result<Extent, MapFault>
         ensures step { (short : Bool) × Loads self.old.world
             (record { name = name.now; base = base; bytes = bytes.items }) short result
@@ -174,7 +174,7 @@ impl Modules {
         Ok(())
     }
 
-    /// Moves the module of a name to another base, or says why not; then nothing is changed.
+    /// Moves the module of a name to another base, or says why not. It takes no memory.
     pub fn move_to(&mut self, name: &str, base: u64) -> Result<Extent, MapFault>
         ensures step { Moves self.old.world name.now base result self.new.world }
         ensures counts { self.new ≡ record self.old { world = self.new.world } }
@@ -194,7 +194,7 @@ impl Modules {
         }
     }
 
-    /// What is known of an address.
+    /// What is known of an address. It takes memory for the cache alone, and needs none.
     pub fn ask(&mut self, address: u64) -> Asked
         ensures world { self.new.world ≡ self.old.world }
         ensures found { result ≡ asked_of self.old.world address }
@@ -216,7 +216,8 @@ impl Modules {
         }
     }
 
-    /// What an ask answered, where no module was loaded, unloaded or moved since.
+    /// What an ask answered, where no module was loaded, unloaded or moved since. Of any other
+    /// `Asked` it tells some frames, or none.
     pub fn answer(&self, asked: Asked) -> Answer<'_>
         ensures address { result.address ≡ asked.address }
         ensures frames { asked ≡ asked_of self.now.world asked.address →

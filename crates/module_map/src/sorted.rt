@@ -170,10 +170,7 @@ impl SortedModules {
     {
         let _ = &self.list;
         let len = self.len();
-        let mut uncounted = Steps {
-            compares: 0,
-            decoded: 0,
-        };
+        let mut uncounted = Steps::default();
         let begun = self.begun(extent.low, &mut uncounted);
         if begun > 0 && begun - 1 != own && self.end(begun - 1) > extent.low {
             return Err(begun - 1);

@@ -11,4 +11,5 @@ returns-clause-cached c = λ e h. Contains-promoted (key_eq c.args.key) c.args.a
     (subst (λ l. Contains l e) (ap (λ s. s.entries) c.get.follows.holds-at-none) h)
 
 pub returns-clause-count : goal.returns-clause-count
-returns-clause-count c = ap (λ s. length s.entries) c.get.follows.holds-at-none ∙ length-promoted (key_eq c.args.key) c.args.answers.now.entries
+returns-clause-count c =
+    ap (λ s. length s.entries) c.get.follows.holds-at-none ∙ length-promoted (key_eq c.args.key) c.args.answers.now.entries

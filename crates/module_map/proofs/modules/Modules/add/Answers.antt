@@ -19,7 +19,10 @@ map_with hs loads entries capacity steps = record { world = world_of hs (loads +
 pub returns-in-Err : goal.returns-in-Err
 returns-in-Err c =
     let free = subst (λ v. is_taken c.args.name.now v.world ≡ false) (sym c.self.view_is) c.requires.new in
-    let fits : c.args.base + high_of c.args.object < 2 ^ 64 = let h = c.high.ensures in let b = c.if-base-high.false in let t = c.high.type_inv in omega arith in (
+    let fits : c.args.base + high_of c.args.object < 2 ^ 64 = let h = c.high.ensures in
+    let b = c.if-base-high.false in
+    let t = c.high.type_inv in
+    omega arith in (
       inr (subst (λ v. place_fault (record { name = c.args.name.now; base = c.args.base; bytes = c.args.object }) v.world.modules ≡ Some (Overlap c.in-Err.met)) c.self.view_is
           (over_any c.self.inside.sorted c.self.inside.loads (record { name = c.args.name.now; base = c.args.base; bytes = c.args.object }) _ _ _ free c.len.ensures
           (ap (λ n. c.args.base + n) c.low.ensures.low) (ap (λ n. c.args.base + n) c.high-2.ensures) _ fits c.in-Err.ensures)),
@@ -39,7 +42,10 @@ invariant_of-self-2 c = let e = c.in-Ok-insert.ensures in
 pub returns : goal.returns
 returns c =
     let free = subst (λ v. is_taken c.args.name.now v.world ≡ false) (sym c.self.view_is) c.requires.new in
-    let fits : c.args.base + high_of c.args.object < 2 ^ 64 = let h = c.high.ensures in let b = c.if-base-high.false in let t = c.high.type_inv in omega arith in
+    let fits : c.args.base + high_of c.args.object < 2 ^ 64 = let h = c.high.ensures in
+    let b = c.if-base-high.false in
+    let t = c.high.type_inv in
+    omega arith in
     let low = ap (λ n. c.args.base + n) c.low.ensures.low in
     let high = ap (λ n. c.args.base + n) c.high-2.ensures in
     let order : c.args.base + low_of c.args.object < c.args.base + high_of c.args.object = let o = c.low.ensures.order in omega arith in (

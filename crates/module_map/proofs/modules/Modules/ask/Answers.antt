@@ -13,7 +13,8 @@ any_module = record { serial = 0; loaded = record { name = []; base = 0; bytes =
 
 pub returns-in_default-clause-found : goal.returns-in_default-clause-found
 returns-in_default-clause-found c = let n = c.in_default.ensures in
-    asked_none c.self.inside.sorted c.self.inside.loads c.args.address (sym n.place) ∙ ap (λ v. asked v.world c.args.address) c.self.view_is
+    asked_none c.self.inside.sorted c.self.inside.loads c.args.address (sym n.place)
+    ∙ ap (λ v. asked v.world c.args.address) c.self.view_is
 
 pub returns-in_default-clause-compares : goal.returns-in_default-clause-compares
 returns-in_default-clause-compares c = let n = c.in_default.ensures in
@@ -34,7 +35,8 @@ invariant_of-self-2 c = let p = c.in-Some.ensures in
 
 pub returns-clause-found : goal.returns-clause-found
 returns-clause-found c = let p = c.in-Some.ensures in
-    asked_some c.self.inside.sorted c.self.inside.loads c.args.address c.in-Some.at any_module c.look_up-place.result (sym p.place) (c.look_up-place.ensures.place any_module) ∙ ap (λ v. asked v.world c.args.address) c.self.view_is
+    asked_some c.self.inside.sorted c.self.inside.loads c.args.address c.in-Some.at any_module c.look_up-place.result (sym p.place) (c.look_up-place.ensures.place any_module)
+    ∙ ap (λ v. asked v.world c.args.address) c.self.view_is
 
 pub returns-clause-compares : goal.returns-clause-compares
 returns-clause-compares c = let p = c.in-Some.ensures in let q = c.look_up-place.ensures.counted in
@@ -43,4 +45,5 @@ returns-clause-compares c = let p = c.in-Some.ensures in let q = c.look_up-place
 
 pub returns-clause-decoded : goal.returns-clause-decoded
 returns-clause-decoded c = let p = c.in-Some.ensures in let q = c.look_up-place.ensures.counted in
-    ap (λ s. s.decoded) q.2 ∙ counted_decoded q.0 _ ∙ ap (λ s. s.decoded) p.counted.3 ∙ counted_decoded p.counted.0 _ ∙ ap (λ v. v.decoded) c.self.view_is
+    ap (λ s. s.decoded) q.2 ∙ counted_decoded q.0 _ ∙ ap (λ s. s.decoded) p.counted.3 ∙ counted_decoded p.counted.0 _
+    ∙ ap (λ v. v.decoded) c.self.view_is

@@ -15,4 +15,8 @@ long [] = refl
 long (h ∷ hs) = ap suc (long hs)
 
 pub returns-clause-few : goal.returns-clause-few
-returns-clause-few c = let few = c.self.invariant.few in let count = long c.self.inside.sorted in let seen = ap (λ v. length v.world.modules) c.self.view_is in omega arith
+returns-clause-few c =
+    let few = c.self.invariant.few in
+    let count = long c.self.inside.sorted in
+    let seen = ap (λ v. length v.world.modules) c.self.view_is in
+    omega arith

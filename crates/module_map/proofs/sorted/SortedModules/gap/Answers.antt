@@ -4,11 +4,16 @@ use Rattle.module_map.specs.Private.Serials.{NumberedModule}
 use Rattle.module_map.specs.Private.Rising.{AreRising, IsNext, IsOther}
 use Rattle.module_map.proofs.Gaps.{met_last, met_next, clear_all, not_own}
 use Rattle.module_map.proofs.sorted.SortedModules.gap.Goals as goal
-use Rattle.module_map.proofs.sorted.SortedModules.gap.Goals.{After-next_place-next, else-begun-gt0-via-then-begun-gt0+then-begun-own+else-end-extent, else-begun-gt0-via-then-begun-gt0+else-begun-own, else-begun-gt0-via-else-begun-gt0}
-use Rattle.module_map.proofs.sorted.SortedModules.gap.Goals.{else-next-len-via-then-next-len+else-start-extent, else-next-len-via-else-next-len}
+use Rattle.module_map.proofs.sorted.SortedModules.gap.Goals.{After-next_place-next}
+use Rattle.module_map.proofs.sorted.SortedModules.gap.Goals.{else-begun-gt0-via-then-begun-gt0+then-begun-own+else-end-extent}
+use Rattle.module_map.proofs.sorted.SortedModules.gap.Goals.{else-begun-gt0-via-then-begun-gt0+else-begun-own}
+use Rattle.module_map.proofs.sorted.SortedModules.gap.Goals.{else-begun-gt0-via-else-begun-gt0}
+use Rattle.module_map.proofs.sorted.SortedModules.gap.Goals.{else-next-len-via-then-next-len+else-start-extent}
+use Rattle.module_map.proofs.sorted.SortedModules.gap.Goals.{else-next-len-via-else-next-len}
 
 -- the last one that begins at the low end or before it ends there or before, or is the one left out
-last_ends : (c : After-next_place-next) (at : ℕ) (d : NumberedModule) → at + 1 ≡ c.begun-begun.result → IsOther c.args.own at → end_of (get_or c.args.self.now at d).loaded ≤ c.args.extent.low
+last_ends : (c : After-next_place-next) (at : ℕ) (d : NumberedModule) → at + 1 ≡ c.begun-begun.result → IsOther c.args.own at →
+    end_of (get_or c.args.self.now at d).loaded ≤ c.args.extent.low
 last_ends c at d last other = let same : at ≡ c.begun-begun.result - 1 = omega arith in elim c.else-begun-gt0.branch [
   | else-begun-gt0-via-then-begun-gt0+then-begun-own+else-end-extent w ↦ let ends = w.if-end-extent.false in rw (same, ← w.end.ensures d) ends
   | else-begun-gt0-via-then-begun-gt0+else-begun-own w ↦ let own = w.if-begun-own.false in absurd (not_own c.args.own at other (omega arith))

@@ -5,8 +5,11 @@ use Rattle.module_map.proofs.Names.{turned_set, whole}
 use Rattle.module_map.proofs.sorted.SortedModules.relocate.Goals as goal
 
 pub rotate-requires-clause-at : goal.rotate-requires-clause-at
-rotate-requires-clause-at c = let clear = c.requires.clear c.move_to.new.self in let within = clear.within in let long = c.as_mut_slice.ensures.len in
-    let same : length c.self.inside.list.items ≡ length c.args.self.now = ap length c.self.view_is in let ok = c.self.inside.list.ok in omega arith
+rotate-requires-clause-at c =
+    let clear = c.requires.clear c.move_to.new.self in let within = clear.within in let long = c.as_mut_slice.ensures.len in
+    let same : length c.self.inside.list.items ≡ length c.args.self.now = ap length c.self.view_is in
+    let ok = c.self.inside.list.ok in
+    omega arith
 
 pub returns : goal.returns
 returns c = λ d. whole c.rotate.new.list _ _ (c.rotate.auto.list ∙ c.as_mut_slice.ensures.len) ∙ c.rotate.ensures d
