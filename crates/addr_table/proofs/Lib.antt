@@ -34,3 +34,4 @@ pub mod OutwardLaws
 pub mod TopLaws
 pub mod WalkLaws
 pub mod FrameTurns
+pub mod FaultLaws
