@@ -1,0 +1,3 @@
+pub mod DeviceLemmas
+pub mod PendingLemmas
+pub mod NumeralLemmas

@@ -1,0 +1,5 @@
+pub mod Devices
+pub mod Printable
+pub mod Numerals
+pub mod Numbers
+pub mod Pending
