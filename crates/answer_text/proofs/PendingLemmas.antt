@@ -1,14 +1,14 @@
 -- Texts put one after the other.
-use Rattle.std.proofs.Common.{◌≡◌, ◌≢◌, ℕ, zero, suc, ◌+◌, ◌-◌, ◌<◌, ◌≤◌, ◌⊎◌, inl, inr, List, [], ◌∷◌, ◌++◌, length, map, take, drop, get_or, refl, sym, ◌∙◌, ap, subst, append_assoc, append-nil, add-one, arith}
-use Rattle.std.specs.Prelude.{Option, Some, Result, Ok, Err}
-use Rattle.std.specs.List.{flat_map, join_with_byte}
+use Rattle.std.proofs.Common.{◌≡◌, Bool, true, false, ℕ, zero, suc, ◌+◌, ◌-◌, ◌<◌, ◌≤◌, ◌⊎◌, inl, inr, List, [], ◌∷◌, ◌++◌, length, map, take, drop, get_or, refl, sym, ◌∙◌, ap, subst, append_assoc, append-nil, add-one, arith}
+use Rattle.std.specs.Prelude.{Option, Result, Ok, Err, not, ◌&&◌}
+use Rattle.std.proofs.lemmas.Bool.{false≢true}
+use Rattle.answer_text.specs.Printable.{is_control, printable}
+use Rattle.std.specs.List.{flat_map, list_all}
 use Rattle.std.specs.Io.KnownBytes.{Appends}
 use Rattle.std.proofs.lemmas.List.Concat.{flat_map_single}
 use Rattle.answer_text.proofs.DeviceLemmas.{appends_then}
 use Rattle.answer_text.specs.Devices.{Writes}
 use Rattle.answer_text.specs.Pending.{Put, Cut, Puts}
-use Rattle.answer_text.specs.Printable.{printable, known_text, pieces}
-use Rattle.std.proofs.lemmas.List.{map-append, length-map}
 
 -- what is put behind what was put
 pub put_then : (a b c : Option (List ℕ)) (h h' h'' x y : List ℕ) → Put a b h h' x → Put b c h' h'' y → Put a c h h'' (x ++ y)
@@ -111,52 +111,6 @@ writes_all a b c h text (Ok done) p w =
 writes_all a b c h text (Err fault) p w =
     (p.sent ++ w.0, (w.1.0, append_assoc p.sent w.0 w.1.0 ∙ ap (λ (z : List ℕ). p.sent ++ z) w.1.1 ∙ sym p.kept), appends_then a b c p.sent w.0 p.appended w.2)
 
--- ---- a path
-
--- its pieces, one after the other
-pub join_is : (parts : List (List ℕ)) → join_with_byte 47 parts ≡ flat_map (λ piece. piece) (pieces parts)
-join_is [] = refl
-join_is (part ∷ []) = sym (append-nil part)
-join_is (part ∷ next ∷ parts) = ap (λ (z : List ℕ). part ++ 47 ∷ z) (join_is (next ∷ parts))
-
-map_flat : (f : ℕ → ℕ) (xs : List (List ℕ)) → map f (flat_map (λ x. x) xs) ≡ flat_map (λ x. map f x) xs
-map_flat f [] = refl
-map_flat f (x ∷ xs) = map-append f x (flat_map (λ x. x) xs) ∙ ap (λ (z : List ℕ). map f x ++ z) (map_flat f xs)
-
-pub printed_path : (parts : List (List ℕ)) → map printable (join_with_byte 47 parts) ≡ flat_map (λ piece. map printable piece) (pieces parts)
-printed_path parts = ap (map printable) (join_is parts) ∙ map_flat printable (pieces parts)
-
-pub length-pieces : (parts : List (List ℕ)) → length (pieces parts) ≡ length parts
-length-pieces [] = refl
-length-pieces (part ∷ parts) = ap suc (length-map parts (λ next. 47 ∷ next))
-
-pub first_piece : (parts : List (List ℕ)) (number : ℕ) (part d : List ℕ) → number ≡ 0 → number < length parts → part ≡ get_or parts number d → get_or (pieces parts) number [] ≡ part
-first_piece [] number part d is lt h = absurd (omega arith)
-first_piece (x ∷ parts) zero part d is lt h = sym h
-first_piece (x ∷ parts) (suc number) part d is lt h = absurd (omega arith)
-
-pub later_piece : (parts : List (List ℕ)) (number : ℕ) (part d : List ℕ) → number ≢ 0 → number < length parts → part ≡ get_or parts number d → get_or (pieces parts) number [] ≡ 47 ∷ part
-later_piece [] number part d ne lt h = absurd (omega arith)
-later_piece (x ∷ parts) zero part d ne lt h = absurd (ne refl)
-later_piece (x ∷ parts) (suc number) part d ne lt h = at parts number (omega arith) ∙ ap (λ (z : List ℕ). 47 ∷ z) (sym h)
-  where
-    at : (parts : List (List ℕ)) (number : ℕ) → number < length parts → get_or (map (λ next. 47 ∷ next) parts) number [] ≡ 47 ∷ get_or parts number d
-    at [] number lt = absurd (omega arith)
-    at (y ∷ parts) zero lt = refl
-    at (y ∷ parts) (suc number) lt = at parts number (omega arith)
-
--- a text with a byte
-pub known_some : (bytes : List ℕ) → bytes ≢ [] → map printable bytes ≡ known_text (Some bytes)
-known_some [] ne = absurd (ne refl)
-known_some (byte ∷ bytes) ne = refl
-
--- a path of more parts than one has a slash
-pub joined_longer : (parts : List (List ℕ)) → (length parts ≡ 0 → ⊥) → (length parts ≡ 1 → ⊥) → join_with_byte 47 parts ≡ [] → ⊥
-joined_longer [] some more e = some refl
-joined_longer (part ∷ []) some more e = more refl
-joined_longer ([] ∷ next ∷ parts) some more e = absurd cc
-joined_longer ((byte ∷ part) ∷ next ∷ parts) some more e = absurd cc
-
 -- all of several texts were put
 pub put_whole : {X : Type 0} (a b : Option (List ℕ)) (h h' : List ℕ) (f : X → List ℕ) (xs : List X) (i : ℕ) → length xs ≤ i → Put a b h h' (flat_map f (take i xs)) → Put a b h h' (flat_map f xs)
 put_whole a b h h' f xs i le p = let P : List ℕ → Type 0 = λ z. Put a b h h' z in subst P (ap (flat_map f) (take_whole xs i le)) p
@@ -166,3 +120,23 @@ put_whole a b h h' f xs i le p = let P : List ℕ → Type 0 = λ z. Put a b h h
     take_whole [] (suc i) le = refl
     take_whole (x ∷ xs) zero le = absurd (omega arith)
     take_whole (x ∷ xs) (suc i) le = ap (λ z. x ∷ z) (take_whole xs i (omega arith))
+
+-- a text without control characters
+pub all_printable : (text : List ℕ) → list_all (λ byte. not (is_control byte)) text ≡ true → text ≡ map printable text
+all_printable [] h = refl
+all_printable (byte ∷ text) h = at (is_control byte) refl h (all_printable text)
+  where
+    at : (v : Bool) → is_control byte ≡ v → (not v && list_all (λ b. not (is_control b)) text) ≡ true
+        → (list_all (λ b. not (is_control b)) text ≡ true → text ≡ map printable text) → byte ∷ text ≡ map printable (byte ∷ text)
+    at true e k rest = absurd (false≢true k)
+    at false e k rest = rw e (ap (λ (z : List ℕ). byte ∷ z) (rest k))
+
+-- a text by another name
+pub cut_as : (a b : Option (List ℕ)) (h x y : List ℕ) → x ≡ y → Cut a b h x → Cut a b h y
+cut_as a b h x y e p = subst (λ (z : List ℕ). Cut a b h z) e p
+
+pub put_as : (a b : Option (List ℕ)) (h h' x y : List ℕ) → x ≡ y → Put a b h h' x → Put a b h h' y
+put_as a b h h' x y e p = subst (λ (z : List ℕ). Put a b h h' z) e p
+
+pub puts_as : {E : Type 0} (a b : Option (List ℕ)) (h h' x y : List ℕ) (r : Result (Unit {0}) E) → x ≡ y → Puts a b h h' r x → Puts a b h h' r y
+puts_as a b h h' x y r e p = subst (λ (z : List ℕ). Puts a b h h' r z) e p

@@ -3,3 +3,5 @@ pub mod Printable
 pub mod Numerals
 pub mod Numbers
 pub mod Pending
+pub mod Text
+pub mod Private

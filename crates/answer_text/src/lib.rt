@@ -4,9 +4,12 @@
 
 mod devices;
 mod faults;
+mod frame_text;
 mod numerals;
 mod options;
+mod paths;
 mod pending;
+mod printing;
 
 pub use devices::{Device, DeviceFault, Feed, Objects, Sink};
 pub use faults::FetchFault;

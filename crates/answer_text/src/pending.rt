@@ -1,9 +1,11 @@
 //! Text on its way to a sink: held until there is enough of it for a write.
 
-ghost use Rattle.std.specs.Prelude.{◌≡◌, ℕ, ◌≤◌, ◌-◌, List, [], ◌∷◌, ◌++◌, length, map, flat_map, OnOk, ◌⊎◌};
+ghost use Rattle.std.specs.Prelude.{◌≡◌, ℕ, ◌≤◌, ◌-◌, List, [], ◌∷◌, ◌++◌, length, map, flat_map, not, OnOk, ◌⊎◌};
+ghost use Rattle.std.specs.List.{list_all};
 ghost use Rattle.answer_text.specs.Devices.{Writes, failures_after};
 ghost use Rattle.answer_text.specs.Pending.{Puts};
-ghost use Rattle.answer_text.specs.Printable.{printable};
+ghost use Rattle.answer_text.specs.Printable.{is_control, printable, known_text};
+ghost use Rattle.answer_text.specs.Private.Paths.{text_told};
 
 use crate::devices::{DeviceFault, Sink};
 use std::marker::Model;
@@ -11,11 +13,24 @@ use std::marker::Model;
 /// The most bytes that are held.
 const ROOM: usize = 512;
 
+fn is_control(byte: u8) -> bool
+    ensures { result ≡ is_control byte }
+{
+    byte < 32 || byte == 127
+}
+
 /// The byte, or `?` for a control character.
 fn printable(byte: u8) -> u8
     ensures { result ≡ printable byte }
 {
-    if byte < 32 || byte == 127 { b'?' } else { byte }
+    if is_control(byte) { b'?' } else { byte }
+}
+
+/// Whether a text has no control character.
+fn are_printable(text: &[u8]) -> bool
+    ensures { result ≡ list_all (λ byte. not (is_control byte)) text.now }
+{
+    text.iter().all(|byte| !is_control(*byte))
 }
 
 /// Text that is not written yet.
@@ -135,8 +150,8 @@ impl Pending {
         Ok(())
     }
 
-    /// Puts a text whose control characters are `?`.
-    pub fn put_printable<W: Sink>(&mut self, text: &[u8], writer: &mut W) -> Result<(), DeviceFault>
+    /// Puts a text byte by byte.
+    fn put_bytes<W: Sink>(&mut self, text: &[u8], writer: &mut W) -> Result<(), DeviceFault>
         ensures bytes { Puts (W.written writer.old) (W.written writer.new) self.old self.new result (map printable text.now) }
         ensures failures { W.failures writer.new ≡ failures_after (W.failures writer.old) result }
     {
@@ -144,6 +159,35 @@ impl Pending {
             self.put(&[printable(*byte)], writer)?;
         }
         Ok(())
+    }
+
+    /// Puts a text whose control characters are `?`: one without any in one piece.
+    pub fn put_printable<W: Sink>(&mut self, text: &[u8], writer: &mut W) -> Result<(), DeviceFault>
+        ensures bytes { Puts (W.written writer.old) (W.written writer.new) self.old self.new result (map printable text.now) }
+        ensures failures { W.failures writer.new ≡ failures_after (W.failures writer.old) result }
+    {
+        if are_printable(text) {
+            return self.put(text, writer);
+        }
+        self.put_bytes(text, writer)
+    }
+
+    /// Puts a text, or `??` where it is missing or empty.
+    pub fn put_known<W: Sink>(
+        &mut self,
+        text: Option<&[u8]>,
+        writer: &mut W,
+    ) -> Result<(), DeviceFault>
+        ensures bytes { Puts (W.written writer.old) (W.written writer.new) self.old self.new result (known_text (text_told text.entry)) }
+        ensures failures { W.failures writer.new ≡ failures_after (W.failures writer.old) result }
+    {
+        let Some(text) = text else {
+            return self.put(b"??", writer);
+        };
+        if text.is_empty() {
+            return self.put(b"??", writer);
+        }
+        self.put_printable(text, writer)
     }
 }
 

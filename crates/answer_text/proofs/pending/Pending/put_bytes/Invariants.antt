@@ -1,7 +1,7 @@
 use Rattle.std.proofs.Common.{◌≡◌, take, map}
 use Rattle.answer_text.specs.Pending.{Put}
 use Rattle.answer_text.specs.Printable.{printable}
-use Rattle.answer_text.proofs.pending.Pending.put_printable.Given as goal
+use Rattle.answer_text.proofs.pending.Pending.put_bytes.Given as goal
 
 abbrev pub invariant-loop-byte : goal.invariant-loop-byte
 invariant-loop-byte g l =
