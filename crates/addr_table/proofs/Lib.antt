@@ -28,3 +28,4 @@ pub mod WordLaws
 pub mod OutwardLaws
 pub mod WalkLaws
 pub mod FrameTurns
+pub mod FaultLaws

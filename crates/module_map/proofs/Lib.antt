@@ -1,0 +1,12 @@
+pub mod CacheLemmas
+pub mod Halving
+pub mod Positions
+pub mod Searches
+pub mod Gaps
+pub mod Rotations
+pub mod Worlds
+pub mod Serials
+pub mod Changing
+pub mod Loading
+pub mod Asking
+pub mod Answering

@@ -1,0 +1,43 @@
+-- What is counted, and what the cache keeps.
+use Rattle.std.specs.Prelude.{◌≡◌, ℕ, ◌+◌, ◌-◌, ◌^◌, ◌≤◌, min, length, Option, None, Some, Result, Err}
+use Rattle.addr_table.specs.Steps.{bits}
+use Rattle.addr_table.specs.Module.{cuts_in}
+use Rattle.module_map.specs.World.{World, Loaded}
+use Rattle.module_map.specs.Answers.{holder}
+use Rattle.module_map.specs.declared.faults.Extent.{Extent}
+use Rattle.module_map.specs.declared.faults.MapFault.{MapFault}
+use Rattle.module_map.specs.declared.faults.MapFault.TheVariants.{NameTaken, Full}
+
+-- what a contract sees of the modules
+pub record ModuleMap : Type 0 where
+  pub world : World
+  -- how many answers the cache keeps, and how many it may keep
+  pub cached : ℕ
+  pub capacity : ℕ
+  -- the compares of the last ask, and the bytes decoded since the start
+  pub compares : ℕ
+  pub decoded : ℕ
+
+abbrev pub segments_of : Option Loaded → ℕ
+segments_of None = 0
+segments_of (Some m) = length (cuts_in m.bytes)
+
+abbrev pub least_of : Option Loaded → ℕ
+least_of None = 0
+least_of (Some m) = 2
+
+-- the compares of an ask: two searches by halving, and the two ends of the module
+abbrev pub TakesCompares : World → ℕ → ℕ → Type 0
+TakesCompares world address compares =
+    (least_of (holder world address) ≤ compares)
+    × (compares ≤ bits (length world.modules) + bits (segments_of (holder world address)) + 2)
+
+-- an ask keeps the count of answers, or raises it by one
+abbrev pub CachesAnswer : ModuleMap → ModuleMap → Type 0
+CachesAnswer old new = (new.capacity ≡ old.capacity) × (old.cached ≤ new.cached) × (new.cached ≤ old.cached + 1)
+
+-- the decoded bytes after a load: those of an object that came to be decoded
+abbrev pub decoded_after : ℕ → ℕ → Result Extent MapFault → ℕ
+decoded_after decoded count (Err NameTaken) = decoded
+decoded_after decoded count (Err Full) = decoded
+decoded_after decoded count result = min (decoded + count) (2 ^ 64 - 1)

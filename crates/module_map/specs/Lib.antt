@@ -1,0 +1,6 @@
+pub mod World
+pub mod Changes
+pub mod Answers
+pub mod Counts
+pub mod Listing
+pub mod Private

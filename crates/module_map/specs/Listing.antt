@@ -1,0 +1,19 @@
+-- The modules as they are listed.
+use Rattle.std.specs.Prelude.{ℕ, List}
+use Rattle.std.specs.Borrow.{Bor}
+use Rattle.module_map.specs.World.{Loaded, start_of, end_of}
+use Rattle.module_map.specs.declared.faults.Extent.{Extent}
+
+-- a name, where the module lies, and its base
+pub record Listed : Type 0 where
+  pub name : List ℕ
+  pub low : ℕ
+  pub high : ℕ
+  pub base : ℕ
+
+abbrev pub listed : Loaded → Listed
+listed m = record { name = m.name; low = start_of m; high = end_of m; base = m.base }
+
+-- what an item tells
+abbrev pub item_listed : Bor (List ℕ) × Extent × ℕ → Listed
+item_listed item = record { name = item.0.now; low = item.1.low; high = item.1.high; base = item.2 }

@@ -1,0 +1,61 @@
+-- The modules that are loaded.
+use Rattle.std.specs.Prelude.{ℕ, ◌+◌, Bool, not, ◌&&◌, List, [], ◌∷◌, filter, nat_lt, nat_le, Option, if◌then◌else◌, position, slice_get}
+use Rattle.std.specs.Option.{option_map_or}
+use Rattle.std.specs.Str.{bytes_eq}
+use Rattle.addr_table.specs.Module.{low_of, high_of}
+
+-- an object at its base
+pub record Loaded : Type 0 where
+  pub name : List ℕ
+  pub base : ℕ
+  pub bytes : List ℕ
+
+-- the modules by rising address, and how many loads were accepted
+pub record World : Type 0 where
+  pub modules : List Loaded
+  pub loads : ℕ
+
+-- the most modules that are loaded at a time
+abbrev pub most_modules : ℕ
+most_modules = 4096
+
+abbrev pub no_modules : World
+no_modules = record { modules = []; loads = 0 }
+
+-- the first address of a module, and the first past it
+abbrev pub start_of : Loaded → ℕ
+start_of m = m.base + low_of m.bytes
+
+abbrev pub end_of : Loaded → ℕ
+end_of m = m.base + high_of m.bytes
+
+abbrev pub is_named : List ℕ → Loaded → Bool
+is_named name m = bytes_eq m.name name
+
+abbrev pub holds : ℕ → Loaded → Bool
+holds address m = nat_le (start_of m) address && nat_lt address (end_of m)
+
+-- two modules share an address
+abbrev pub meets : Loaded → Loaded → Bool
+meets m other = nat_lt (start_of m) (end_of other) && nat_lt (start_of other) (end_of m)
+
+-- the modules with one more, by rising address
+abbrev pub placed : Loaded → List Loaded → List Loaded
+placed m [] = m ∷ []
+placed m (other ∷ others) = if nat_lt (start_of other) (start_of m) then other ∷ placed m others else m ∷ other ∷ others
+
+-- the modules of other names
+abbrev pub without : List ℕ → List Loaded → List Loaded
+without name modules = filter (λ m. not (is_named name m)) modules
+
+-- the same module at another base
+abbrev pub moved_to : ℕ → Loaded → Loaded
+moved_to base m = record m { base = base }
+
+-- the place of the lowest module that the one at hand meets, itself left out
+abbrev pub met_at : Loaded → List Loaded → Option ℕ
+met_at m modules = position (λ other. not (is_named m.name other) && meets m other) modules
+
+-- the name of the module at a place
+abbrev pub name_at : List Loaded → ℕ → List ℕ
+name_at modules place = option_map_or (λ m. m.name) (slice_get modules place) []

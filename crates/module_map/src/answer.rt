@@ -1,0 +1,63 @@
+//! What is known of an address.
+
+ghost use Rattle.std.specs.Prelude.{◌≡◌, [], None, Some};
+ghost use Rattle.addr_table.specs.Module.{frames_in};
+
+use addr_table::{Frames, Module, Place};
+use std::marker::Model;
+
+/// An address, and the place of it in the module that holds it.
+#[derive(Drop)]
+pub struct Answer<'a> {
+    address: u64,
+    found: Option<(&'a Module, Place)>,
+}
+
+impl<'a> Model for Answer<'a> {
+    ghost use Rattle.std.specs.Prelude.{[]};
+    ghost use Rattle.std.specs.Option.{option_map_or};
+    ghost use Rattle.addr_table.specs.Module.{frames_in};
+    ghost use Rattle.module_map.specs.Answers.{Answered};
+
+    ghost Value = { Answered };
+
+    ghost view = { λ a. record { address = a.address; frames = option_map_or (λ f. frames_in f.0.now f.1) a.found [] } };
+}
+
+impl<'a> Answer<'a> {
+    /// Nothing is known.
+    pub(crate) fn none(address: u64) -> Answer<'a>
+        ensures { result ≡ record { address = address; frames = [] } }
+    {
+        Answer {
+            address,
+            found: None,
+        }
+    }
+
+    pub(crate) fn new(address: u64, object: &'a Module, place: Place) -> Answer<'a>
+        ensures { result ≡ record { address = address; frames = frames_in object.entry.now place } }
+    {
+        Answer {
+            address,
+            found: Some((object, place)),
+        }
+    }
+
+    /// The address that was asked.
+    pub fn address(&self) -> u64
+        ensures { result ≡ self.now.address }
+    {
+        self.address
+    }
+
+    /// The frames there, the innermost first; none where nothing is known.
+    pub fn frames(&self) -> Frames<'a>
+        ensures { result ≡ self.now.frames }
+    {
+        match self.found {
+            None => Frames::none(),
+            Some((object, place)) => object.frames(place),
+        }
+    }
+}

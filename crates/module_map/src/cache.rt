@@ -1,0 +1,116 @@
+//! Answers that are cached for the next time.
+
+ghost use Rattle.std.specs.Prelude.{◌≡◌, ◌≤◌, ◌⊎◌, ◌+◌, [], ℕ, length, IfOk, IfSome, Contains, Option};
+ghost use Rattle.addr_table.specs.declared.place.Place.{Place};
+
+use addr_table::Place;
+use lru::LruCache;
+use std::alloc::{AllocError, Global};
+use std::marker::Model;
+use std::num::NonZeroUsize;
+
+/// At most so many answers, by the serial number of a load and the link address.
+#[derive(Drop)]
+pub struct Cache {
+    answers: Option<LruCache<(u64, u64), Option<Place>>>,
+    capacity: usize,
+}
+
+impl Model for Cache {
+    ghost use Rattle.std.specs.Prelude.{◌≡◌, ◌≤◌, [], length};
+    ghost use Rattle.std.specs.Option.{option_map_or, ForSome};
+    ghost use Rattle.module_map.specs.Private.Serials.{CacheEntries};
+
+    ghost Value = { CacheEntries };
+
+    ghost view = { λ c. record { entries = option_map_or (λ answers. answers.entries) c.answers []; capacity = c.capacity } };
+
+    ghost invariant = { λ c. ForSome c.answers (λ answers. (answers.cap ≡ c.capacity) × (length answers.entries ≤ answers.cap)) };
+}
+
+/// The answer that is cached, which becomes the last one to be dropped.
+fn recall(
+    answers: &mut LruCache<(u64, u64), Option<Place>>,
+    serial: u64,
+    link: u64,
+) -> Option<Option<Place>>
+    ensures found { IfSome result (λ place. Contains answers.old.entries ((serial, link), place)) }
+    ensures cached { (e : (ℕ × ℕ) × Option Place) → Contains answers.new.entries e → Contains answers.old.entries e }
+    ensures count { length answers.new.entries ≡ length answers.old.entries }
+    ensures capacity { answers.new.cap ≡ answers.old.cap }
+{
+    answers.get(&(serial, link)).copied()
+}
+
+/// Keeps an answer, if there is memory for it, in place of the one asked longest ago if need be.
+fn remember(
+    answers: &mut LruCache<(u64, u64), Option<Place>>,
+    serial: u64,
+    link: u64,
+    place: Option<Place>,
+)
+    ensures cached { (e : (ℕ × ℕ) × Option Place) → Contains answers.new.entries e → Contains answers.old.entries e ⊎ (e ≡ ((serial, link), place)) }
+    ensures grows { (length answers.old.entries ≤ length answers.new.entries) × (length answers.new.entries ≤ length answers.old.entries + 1) }
+    ensures within { length answers.new.entries ≤ answers.new.cap }
+    ensures capacity { answers.new.cap ≡ answers.old.cap }
+{
+    let _count = answers.len();
+    let _ = answers.put((serial, link), place);
+}
+
+impl Cache {
+    /// A cache of so many answers; none where that is 0.
+    pub fn new(alloc: Global, capacity: usize) -> Result<Cache, AllocError>
+        ensures { IfOk result (λ cache. cache ≡ record { entries = []; capacity = capacity }) }
+    {
+        let answers = match NonZeroUsize::new(capacity) {
+            None => None,
+            Some(capacity) => Some(LruCache::new(alloc, capacity)?),
+        };
+        Ok(Cache { answers, capacity })
+    }
+
+    /// How many answers are cached.
+    pub fn len(&self) -> usize
+        ensures count { result ≡ length self.now.entries }
+        ensures within { result ≤ self.now.capacity }
+    {
+        match &self.answers {
+            None => 0,
+            Some(answers) => answers.len(),
+        }
+    }
+
+    pub fn capacity(&self) -> usize
+        ensures { result ≡ self.now.capacity }
+    {
+        self.capacity
+    }
+
+    /// The answer that is cached, which becomes the last one to be dropped.
+    pub fn get(&mut self, serial: u64, link: u64) -> Option<Option<Place>>
+        ensures found { IfSome result (λ place. Contains self.old.entries ((serial, link), place)) }
+        ensures cached { (e : (ℕ × ℕ) × Option Place) → Contains self.new.entries e → Contains self.old.entries e }
+        ensures count { length self.new.entries ≡ length self.old.entries }
+        ensures within { length self.new.entries ≤ self.new.capacity }
+        ensures capacity { self.new.capacity ≡ self.old.capacity }
+    {
+        let Some(answers) = &mut self.answers else {
+            return None;
+        };
+        recall(answers, serial, link)
+    }
+
+    /// Keeps an answer, if there is memory for it, in place of the one asked longest ago if need be.
+    pub fn put(&mut self, serial: u64, link: u64, place: Option<Place>)
+        ensures cached { (e : (ℕ × ℕ) × Option Place) → Contains self.new.entries e → Contains self.old.entries e ⊎ (e ≡ ((serial, link), place)) }
+        ensures grows { (length self.old.entries ≤ length self.new.entries) × (length self.new.entries ≤ length self.old.entries + 1) }
+        ensures within { length self.new.entries ≤ self.new.capacity }
+        ensures capacity { self.new.capacity ≡ self.old.capacity }
+    {
+        let Some(answers) = &mut self.answers else {
+            return;
+        };
+        remember(answers, serial, link, place);
+    }
+}

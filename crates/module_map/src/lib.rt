@@ -1,0 +1,18 @@
+//! The objects that are loaded, each under a name at a base: which one holds an address, and what it
+//! answers there. Answers are cached in a cache, by the serial number of a load and the link address.
+#![tactic(auto)]
+
+mod answer;
+mod asked;
+mod cache;
+mod faults;
+mod listing;
+mod loaded_module;
+mod modules;
+mod sorted;
+
+pub use answer::Answer;
+pub use asked::{Asked, Found};
+pub use faults::{Extent, MapFault};
+pub use listing::Listing;
+pub use modules::Modules;

@@ -1,0 +1,50 @@
+//! The modules one after the other.
+
+ghost use Rattle.std.specs.Prelude.{◌≡◌, map};
+ghost use Rattle.module_map.specs.Listing.{listed};
+
+use crate::loaded_module::LoadedModule;
+use crate::faults::Extent;
+use std::marker::Model;
+
+/// The name, the extent and the base of each module, by rising address.
+#[derive(Drop)]
+pub struct Listing<'a> {
+    rest: &'a [LoadedModule],
+}
+
+impl<'a> Model for Listing<'a> {
+    ghost use Rattle.std.specs.Prelude.{List, map};
+    ghost use Rattle.module_map.specs.Listing.{Listed, listed};
+
+    ghost Value = { List Listed };
+
+    ghost view = { λ l. map (λ h. listed h.loaded) l.rest.now };
+}
+
+impl<'a> Listing<'a> {
+    pub fn new(entries: &'a [LoadedModule]) -> Listing<'a>
+        ensures { result ≡ map (λ h. listed h.loaded) entries.entry.now }
+    {
+        Listing { rest: entries }
+    }
+}
+
+impl<'a> Iterator for Listing<'a> {
+    ghost use Rattle.std.specs.Prelude.{List};
+    ghost use Rattle.std.specs.Iterator.{YieldsFirstBy, item_count};
+    ghost use Rattle.module_map.specs.Listing.{item_listed};
+
+    type Item = (&'a str, Extent, u64);
+
+    ghost next_gives = { YieldsFirstBy item_listed (λ s. s) };
+
+    ghost remaining = { item_count (λ s. s) };
+
+    fn next(&mut self) -> Option<(&'a str, Extent, u64)> {
+        let rest = self.rest;
+        let loaded = rest.first()?;
+        self.rest = &rest[1..];
+        Some((loaded.name(), loaded.extent(), loaded.base()))
+    }
+}

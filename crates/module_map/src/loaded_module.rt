@@ -1,0 +1,146 @@
+//! A module at its base.
+
+ghost use Rattle.std.specs.Prelude.{◌≡◌, ◌<◌, ◌≤◌, ◌+◌, ◌-◌, ◌^◌, ℕ, length, IfOk, Some, MatchOption};
+ghost use Rattle.addr_table.specs.Module.{place_in, cuts_in, low_of, high_of};
+ghost use Rattle.addr_table.specs.Steps.{counted, bits};
+ghost use Rattle.module_map.specs.World.{is_named, start_of, end_of, moved_to};
+ghost use Rattle.module_map.specs.Changes.{IsExtentOf};
+
+use crate::faults::Extent;
+use addr_table::{Module, Place, Steps};
+use std::alloc::{AllocError, Global};
+use std::marker::Model;
+
+/// A module at its base, with the number of its load.
+#[derive(Drop)]
+pub struct LoadedModule {
+    serial: u64,
+    name: String,
+    base: u64,
+    extent: Extent,
+    object: Box<Module>,
+}
+
+impl Model for LoadedModule {
+    ghost use Rattle.std.specs.Prelude.{◌≡◌, ◌+◌, ◌<◌, ℕ, string_bytes};
+    ghost use Rattle.addr_table.specs.Module.{low_of, high_of};
+    ghost use Rattle.module_map.specs.Private.Serials.{NumberedModule};
+
+    ghost Value = { NumberedModule };
+
+    ghost view = { λ e. record { serial = e.serial; loaded = record { name = string_bytes e.name; base = e.base; bytes = e.object.value } } };
+
+    ghost invariant = { λ e. (e.extent.low ≡ e.base + low_of e.object.value) × (e.extent.high ≡ e.base + high_of e.object.value)
+        × (low_of e.object.value < high_of e.object.value) };
+}
+
+impl LoadedModule {
+    /// A module of these parts, if there is memory for it.
+    pub fn new(
+        alloc: Global,
+        serial: u64,
+        name: &str,
+        base: u64,
+        object: Module,
+    ) -> Result<LoadedModule, AllocError>
+        requires { base + high_of object < 2 ^ 64 }
+        ensures { IfOk result (λ m. m ≡ record { serial = serial; loaded = record { name = name.now; base = base; bytes = object } }) }
+    {
+        let extent = Extent {
+            low: base + object.low(),
+            high: base + object.high(),
+        };
+        let name = String::from_str(alloc, name)?;
+        let Ok(object) = Box::new(alloc, object) else {
+            return Err(AllocError);
+        };
+        Ok(LoadedModule {
+            serial,
+            name,
+            base,
+            extent,
+            object,
+        })
+    }
+
+    pub fn serial(&self) -> u64
+        ensures { result ≡ self.now.serial }
+    {
+        self.serial
+    }
+
+    pub fn name(&self) -> &str
+        ensures { result.now ≡ self.now.loaded.name }
+    {
+        self.name.as_str()
+    }
+
+    pub fn base(&self) -> u64
+        ensures value { result ≡ self.now.loaded.base }
+    {
+        self.base
+    }
+
+    /// Where it lies. It has an address.
+    pub fn extent(&self) -> Extent
+        ensures value { IsExtentOf result self.now.loaded }
+        ensures order { start_of self.now.loaded < end_of self.now.loaded }
+    {
+        self.extent
+    }
+
+    pub fn is_named(&self, name: &str) -> bool
+        ensures { result ≡ is_named name.now self.now.loaded }
+    {
+        self.name.as_str() == name
+    }
+
+    /// An address of the module, before it was moved to the base.
+    pub fn link(&self, address: u64) -> u64
+        requires { start_of self.now.loaded ≤ address }
+        ensures { result ≡ address - self.now.loaded.base }
+    {
+        address - self.base
+    }
+
+    /// The extent at another base, or None past the greatest address.
+    pub fn extent_at(&self, base: u64) -> Option<Extent>
+        ensures { let m = moved_to base self.now.loaded in
+            MatchOption result (2 ^ 64 ≤ end_of m) (λ extent. IsExtentOf extent m × (start_of m < end_of m) × (end_of m < 2 ^ 64)) }
+    {
+        if base > u64::MAX - self.object.high() {
+            return None;
+        }
+        Some(Extent {
+            low: base + self.object.low(),
+            high: base + self.object.high(),
+        })
+    }
+
+    /// Moves it to another base.
+    pub fn move_to(&mut self, base: u64)
+        requires { base + high_of self.old.loaded.bytes < 2 ^ 64 }
+        ensures { self.new ≡ record self.old { loaded = moved_to base self.old.loaded } }
+    {
+        let extent = Extent {
+            low: base + self.object.low(),
+            high: base + self.object.high(),
+        };
+        self.base = base;
+        self.extent = extent;
+    }
+
+    /// The place of a link address, if anything is known there.
+    pub fn find(&self, link: u64, steps: &mut Steps) -> Option<Place>
+        ensures place { result ≡ place_in self.now.loaded.bytes link }
+        ensures counted { (n : ℕ) × (n ≤ bits (length (cuts_in self.now.loaded.bytes)) + 1) × (steps.new ≡ counted n steps.old) }
+    {
+        self.object.find(link, steps)
+    }
+
+    pub fn object(&self) -> &Module
+        ensures { result.now ≡ self.now.loaded.bytes }
+    {
+        &self.object
+    }
+}

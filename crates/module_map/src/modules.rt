@@ -1,0 +1,283 @@
+//! The modules that are loaded.
+
+ghost use Rattle.std.specs.Prelude.{◌≡◌, ◌≢◌, ◌<◌, ◌≤◌, ◌⊎◌, ◌+◌, ◌-◌, ◌^◌, ℕ, length, Bool, true, false, Some, None, IfOk, IfErr, MatchResult, Contains, Option, slice_index_or, find, map};
+ghost use Rattle.dwarf_bytes.specs.Refusals.{memory_fault};
+ghost use Rattle.addr_table.specs.Module.{place_in, cuts_in, high_of};
+ghost use Rattle.addr_table.specs.Steps.{counted, bits};
+ghost use Rattle.addr_table.specs.declared.place.Place.{Place};
+ghost use Rattle.module_map.specs.World.{Loaded, no_modules, start_of, end_of, is_named, name_at};
+ghost use Rattle.module_map.specs.Changes.{is_taken, is_full, place_fault, with_module, IsExtentOf, Loads, Unloads, Moves};
+ghost use Rattle.module_map.specs.Answers.{asked as asked_of, frames_at};
+ghost use Rattle.module_map.specs.Counts.{TakesCompares, CachesAnswer, decoded_after};
+ghost use Rattle.module_map.specs.Private.Serials.{NumberedModule, IsAnswerOf};
+ghost use Rattle.module_map.specs.Listing.{listed};
+
+use crate::answer::Answer;
+use crate::asked::{Asked, Found};
+use crate::cache::Cache;
+use crate::loaded_module::LoadedModule;
+use crate::faults::{Extent, MapFault};
+use crate::listing::Listing;
+use crate::sorted::SortedModules;
+use addr_table::{Module, Place, Steps};
+use dwarf_bytes::{Cause, LoadFault};
+use std::alloc::Global;
+use std::marker::Model;
+
+/// The most modules that are loaded at a time.
+const MOST_MODULES: usize = 4096;
+
+/// The modules that are loaded, and answers that are cached.
+#[derive(Drop)]
+pub struct Modules {
+    alloc: Global,
+    sorted: SortedModules,
+    loads: u64,
+    cache: Cache,
+    steps: Steps,
+}
+
+impl Model for Modules {
+    ghost use Rattle.std.specs.Prelude.{map, length};
+    ghost use Rattle.module_map.specs.Counts.{ModuleMap};
+    ghost use Rattle.module_map.specs.Private.Serials.{AreSound, loaded_of};
+
+    ghost Value = { ModuleMap };
+
+    ghost view = { λ m. record {
+      world = record { modules = map loaded_of m.sorted; loads = m.loads };
+      cached = length m.cache.entries;
+      capacity = m.cache.capacity;
+      compares = m.steps.compares;
+      decoded = m.steps.decoded;
+    } };
+
+    ghost invariant = { λ m. AreSound m.sorted m.loads m.cache.entries };
+}
+
+/// Why an object that cannot be decoded is not loaded.
+fn refusal(fault: LoadFault) -> MapFault
+    ensures { (result ≡ MapFault.Memory) ⊎ ((result ≡ MapFault.Object fault) × (fault ≢ memory_fault)) }
+{
+    if fault.cause == Cause::Memory {
+        MapFault::Memory
+    } else {
+        MapFault::Object(fault)
+    }
+}
+
+/// What the module at a place answers at an address that it holds: what is cached of it, or else what
+/// is found, which is cached.
+fn look_up(
+    sorted: &SortedModules,
+    cache: &mut Cache,
+    steps: &mut Steps,
+    at: usize,
+    address: u64,
+) -> Option<Place>
+    requires within { at < length sorted.now }
+    requires held { (d : NumberedModule) → start_of (slice_index_or sorted.now at d).loaded ≤ address }
+    requires right { (h : NumberedModule) (e : (ℕ × ℕ) × Option Place) → Contains sorted.now h → Contains cache.old.entries e → h.serial ≡ e.0.0 → e.1 ≡ place_in h.loaded.bytes e.0.1 }
+    ensures place { (d : NumberedModule) → let m = (slice_index_or sorted.now at d).loaded in result ≡ place_in m.bytes (address - m.base) }
+    ensures cached { (d : NumberedModule) (e : (ℕ × ℕ) × Option Place) → Contains cache.new.entries e → Contains cache.old.entries e ⊎ IsAnswerOf (slice_index_or sorted.now at d) e }
+    ensures grows { (length cache.old.entries ≤ length cache.new.entries) × (length cache.new.entries ≤ length cache.old.entries + 1) }
+    ensures capacity { (length cache.new.entries ≤ cache.new.capacity) × (cache.new.capacity ≡ cache.old.capacity) }
+    ensures counted { (n : ℕ) × ((d : NumberedModule) → n ≤ bits (length (cuts_in (slice_index_or sorted.now at d).loaded.bytes)) + 1) × (steps.new ≡ counted n steps.old) }
+{
+    let loaded = sorted.loaded_at(at);
+    let serial = loaded.serial();
+    let link = loaded.link(address);
+    if let Some(place) = cache.get(serial, link) {
+        return place;
+    }
+    let place = loaded.find(link, steps);
+    cache.put(serial, link, place);
+    place
+}
+
+impl Modules {
+    /// No modules. A cache of so many answers may want more memory than there is.
+    pub fn new(alloc: Global, cache_entries: usize) -> Result<Modules, MapFault>
+        ensures modules { IfOk result (λ m. m ≡ record { world = no_modules; cached = 0; capacity = cache_entries; compares = 0; decoded = 0 }) }
+        ensures memory { IfErr result (λ fault. fault ≡ MapFault.Memory) }
+    {
+        let Ok(cache) = Cache::new(alloc, cache_entries) else {
+            return Err(MapFault::Memory);
+        };
+        Ok(Modules {
+            alloc,
+            sorted: SortedModules::new(alloc),
+            loads: 0,
+            cache,
+            steps: Steps {
+                compares: 0,
+                decoded: 0,
+            },
+        })
+    }
+
+    /// What was counted: the compares of the last ask, and the bytes decoded since the start.
+    pub fn steps(&self) -> Steps
+        ensures { (result.compares ≡ self.now.compares) × (result.decoded ≡ self.now.decoded) }
+    {
+        self.steps
+    }
+
+    /// How many answers are cached, and how many may be.
+    pub fn cached(&self) -> (usize, usize)
+        ensures counts { (result.0 ≡ self.now.cached) × (result.1 ≡ self.now.capacity) }
+        ensures within { result.0 ≤ result.1 }
+    {
+        (self.cache.len(), self.cache.capacity())
+    }
+
+    fn is_taken(&self, name: &str) -> bool
+        ensures { result ≡ is_taken name.now self.now.world }
+    {
+        self.sorted.position(name).is_some()
+    }
+
+    fn is_full(&self) -> bool
+        ensures { result ≡ is_full self.now.world }
+    {
+        self.sorted.len() >= MOST_MODULES || self.loads == u64::MAX
+    }
+
+    /// Loads an object under a name at a base, or says why not; then nothing is changed.
+    pub fn load(&mut self, name: &str, base: u64, bytes: Vec<u8>) -> Result<Extent, MapFault>
+        ensures step { (short : Bool) × Loads self.old.world (record { name = name.now; base = base; bytes = bytes.items }) short result self.new.world }
+        ensures cached { (self.new.cached ≡ self.old.cached) × (self.new.capacity ≡ self.old.capacity) × (self.new.compares ≡ self.old.compares) }
+        ensures decoded { self.new.decoded ≡ decoded_after self.old.decoded (length bytes.items) result }
+    {
+        if self.is_taken(name) {
+            return Err(MapFault::NameTaken);
+        }
+        if self.is_full() {
+            return Err(MapFault::Full);
+        }
+        self.steps.decoded = self.steps.decoded.saturating_add(bytes.len() as u64);
+        match Module::decode(self.alloc, bytes) {
+            Ok(object) => self.keep(name, base, object),
+            Err((_, fault)) => Err(refusal(fault)),
+        }
+    }
+
+    /// Keeps an object under a new name, if it has a place and there is memory for it.
+    fn keep(&mut self, name: &str, base: u64, object: Module) -> Result<Extent, MapFault>
+        requires new { is_taken name.now self.old.world ≡ false }
+        requires loads { is_full self.old.world ≡ false }
+        ensures { let m : Loaded = record { name = name.now; base = base; bytes = object } in MatchResult result
+            (λ extent. (place_fault m self.old.world.modules ≡ None) × IsExtentOf extent m × (self.new ≡ record self.old { world = with_module self.old.world m }))
+            (λ fault. ((fault ≡ MapFault.Memory) ⊎ (place_fault m self.old.world.modules ≡ Some fault)) × (self.new ≡ self.old)) }
+    {
+        if base > u64::MAX - object.high() {
+            return Err(MapFault::Range);
+        }
+        let extent = Extent {
+            low: base + object.low(),
+            high: base + object.high(),
+        };
+        let at = match self.sorted.gap(extent, self.sorted.len()) {
+            Ok(at) => at,
+            Err(met) => return Err(MapFault::Overlap(met)),
+        };
+        let Ok(loaded) = LoadedModule::new(self.alloc, self.loads, name, base, object) else {
+            return Err(MapFault::Memory);
+        };
+        let Ok(()) = self.sorted.insert(at, loaded) else {
+            return Err(MapFault::Memory);
+        };
+        self.loads += 1;
+        Ok(extent)
+    }
+
+    /// Takes the module of a name out. Answers of it that are cached are never asked again.
+    pub fn unload(&mut self, name: &str) -> Result<(), MapFault>
+        ensures step { Unloads self.old.world name.now result self.new.world }
+        ensures counts { self.new ≡ record self.old { world = self.new.world } }
+    {
+        let Some(at) = self.sorted.position(name) else {
+            return Err(MapFault::NoModule);
+        };
+        self.sorted.remove(at);
+        Ok(())
+    }
+
+    /// Moves the module of a name to another base, or says why not; then nothing is changed.
+    pub fn move_to(&mut self, name: &str, base: u64) -> Result<Extent, MapFault>
+        ensures step { Moves self.old.world name.now base result self.new.world }
+        ensures counts { self.new ≡ record self.old { world = self.new.world } }
+    {
+        let Some(own) = self.sorted.position(name) else {
+            return Err(MapFault::NoModule);
+        };
+        let Some(extent) = self.sorted.loaded_at(own).extent_at(base) else {
+            return Err(MapFault::Range);
+        };
+        match self.sorted.gap(extent, own) {
+            Err(met) => Err(MapFault::Overlap(met)),
+            Ok(at) => {
+                self.sorted.relocate(own, at, base);
+                Ok(extent)
+            }
+        }
+    }
+
+    /// What is known of an address.
+    pub fn ask(&mut self, address: u64) -> Asked
+        ensures world { self.new.world ≡ self.old.world }
+        ensures found { result ≡ asked_of self.old.world address }
+        ensures cached { CachesAnswer self.old self.new }
+        ensures compares { TakesCompares self.old.world address self.new.compares }
+        ensures decoded { self.new.decoded ≡ self.old.decoded }
+    {
+        self.steps.compares = 0;
+        let Some(at) = self.sorted.locate(address, &mut self.steps) else {
+            return Asked {
+                address,
+                found: None,
+            };
+        };
+        let place = look_up(&self.sorted, &mut self.cache, &mut self.steps, at, address);
+        Asked {
+            address,
+            found: Some(Found { at, place }),
+        }
+    }
+
+    /// What an ask answered, where no module was loaded, unloaded or moved since.
+    pub fn answer(&self, asked: Asked) -> Answer<'_>
+        ensures address { result.address ≡ asked.address }
+        ensures frames { asked ≡ asked_of self.now.world asked.address → result.frames ≡ frames_at self.now.world asked.address }
+    {
+        let len = self.sorted.len();
+        let Some(found) = asked.found else {
+            return Answer::none(asked.address);
+        };
+        let Some(place) = found.place else {
+            return Answer::none(asked.address);
+        };
+        if found.at >= len {
+            return Answer::none(asked.address);
+        }
+        Answer::new(asked.address, self.sorted.loaded_at(found.at).object(), place)
+    }
+
+    /// The modules by rising address: the name, the extent and the base of each.
+    pub fn list(&self) -> Listing<'_>
+        ensures modules { result ≡ map listed self.now.world.modules }
+        ensures few { length self.now.world.modules ≤ 4096 }
+    {
+        self.sorted.list()
+    }
+
+    /// The name of the module at a place of the list.
+    pub fn name_at(&self, place: usize) -> &str
+        ensures { result.now ≡ name_at self.now.world.modules place }
+    {
+        if place >= self.sorted.len() {
+            return "";
+        }
+        self.sorted.loaded_at(place).name()
+    }
+}

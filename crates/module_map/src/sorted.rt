@@ -1,0 +1,221 @@
+//! Modules by rising address.
+
+ghost use Rattle.std.specs.Prelude.{◌≡◌, ◌<◌, ◌≤◌, ◌⊎◌, ◌+◌, ◌-◌, ◌^◌, [], ℕ, length, IfOk, OnErr, OnSome, None, IsSome, IfSome, MatchResult, MatchOption, position, insert, remove, slice_index_or, nat_le, map};
+ghost use Rattle.addr_table.specs.Steps.{counted, bits};
+ghost use Rattle.addr_table.specs.Module.{high_of};
+ghost use Rattle.module_map.specs.World.{is_named, holds, start_of, end_of, moved_to};
+ghost use Rattle.module_map.specs.Listing.{listed};
+ghost use Rattle.module_map.specs.Private.Serials.{NumberedModule};
+ghost use Rattle.module_map.specs.Private.Rising.{HasBegun, IsClear, IsMet, IsOnly};
+ghost use Rattle.module_map.specs.Private.Rising.{IsNext, relocated, rebased};
+
+use crate::faults::Extent;
+use crate::listing::Listing;
+use crate::loaded_module::LoadedModule;
+use addr_table::Steps;
+use std::alloc::{AllocError, Global};
+use std::marker::Model;
+
+/// Modules by rising address, with different names.
+#[derive(Drop)]
+pub struct SortedModules {
+    list: Vec<LoadedModule>,
+}
+
+impl Model for SortedModules {
+    ghost use Rattle.std.specs.Prelude.{List};
+    ghost use Rattle.module_map.specs.Private.Serials.{NumberedModule};
+    ghost use Rattle.module_map.specs.Private.Rising.{AreRising};
+
+    ghost Value = { List NumberedModule };
+
+    ghost view = { λ s. s.list.items };
+
+    ghost invariant = { λ s. AreRising s.list.items };
+}
+
+/// Moves a module to a place among the others: what stands between is turned.
+fn rotate(list: &mut [LoadedModule], own: usize, at: usize)
+    requires own { own < length list.old }
+    requires at { at ≤ length list.old }
+    ensures { (d : NumberedModule) → list.new ≡ relocated list.old own at (slice_index_or list.old own d) }
+{
+    if at <= own {
+        list[at..own + 1].rotate_right(1);
+    } else {
+        list[own..at].rotate_left(1);
+    }
+}
+
+/// The first place from one on, but for a place of its own.
+fn next_place(from: usize, own: usize, len: usize) -> usize
+    requires { from ≤ len }
+    ensures { IsNext own len from result }
+{
+    if from == own && from < len {
+        return from + 1;
+    }
+    from
+}
+
+impl SortedModules {
+    pub fn new(alloc: Global) -> SortedModules
+        ensures { result ≡ [] }
+    {
+        SortedModules {
+            list: Vec::new(alloc),
+        }
+    }
+
+    pub fn len(&self) -> usize
+        ensures { result ≡ length self.now }
+    {
+        self.list.len()
+    }
+
+    /// The module at a place.
+    pub fn loaded_at(&self, at: usize) -> &LoadedModule
+        requires { at < length self.now }
+        ensures { result.now ≡ slice_index_or self.now at result.now }
+    {
+        &self.list[at]
+    }
+
+    /// The place of the first module of a name.
+    fn first_of(&self, name: &str) -> Option<usize>
+        ensures { result ≡ position (λ h. is_named name.now h.loaded) self.now }
+    {
+        self.list.iter().position(|loaded| loaded.is_named(name))
+    }
+
+    /// The place of the module of a name.
+    pub fn position(&self, name: &str) -> Option<usize>
+        ensures place { result ≡ position (λ h. is_named name.now h.loaded) self.now }
+        ensures only { IfSome result (IsOnly self.now name.now) }
+    {
+        let _ = &self.list;
+        self.first_of(name)
+    }
+
+    /// The modules one after the other.
+    pub fn list(&self) -> Listing<'_>
+        ensures { result ≡ map (λ h. listed h.loaded) self.now }
+    {
+        Listing::new(self.list.as_slice())
+    }
+
+    /// The first address of the module at a place.
+    fn start(&self, at: usize) -> u64
+        requires { at < length self.now }
+        ensures { (d : NumberedModule) → result ≡ start_of (slice_index_or self.now at d).loaded }
+    {
+        self.list[at].extent().low
+    }
+
+    /// The first address past the module at a place.
+    fn end(&self, at: usize) -> u64
+        requires { at < length self.now }
+        ensures { (d : NumberedModule) → result ≡ end_of (slice_index_or self.now at d).loaded }
+    {
+        self.list[at].extent().high
+    }
+
+    /// How many modules begin at an address or before it, found by halving.
+    fn begun(&self, address: u64, steps: &mut Steps) -> usize
+        ensures begun { HasBegun self.now address result }
+        ensures counted { (n : ℕ) × (n ≤ bits (length self.now)) × ((result ≡ 0) ⊎ (1 ≤ n))
+            × (steps.new ≡ counted n steps.old) }
+    {
+        let mut low = 0;
+        let mut high = self.list.len();
+        while low < high {
+            let middle = low + (high - low) / 2;
+            if steps.reached(address, self.start(middle)) {
+                low = middle + 1;
+            } else {
+                high = middle;
+            }
+        }
+        low
+    }
+
+    /// The place of the module that holds an address: of the last one that begins there or before,
+    /// where the address has not reached its end.
+    pub fn locate(&self, address: u64, steps: &mut Steps) -> Option<usize>
+        ensures place { result ≡ position (λ h. holds address h.loaded) self.now }
+        ensures counted { (n : ℕ) × (n ≤ bits (length self.now) + 1) × OnSome result (2 ≤ n)
+            × (steps.new ≡ counted n steps.old) }
+    {
+        let _ = &self.list;
+        let begun = self.begun(address, steps);
+        if begun == 0 {
+            return None;
+        }
+        let at = begun - 1;
+        if steps.reached(address, self.end(at)) {
+            return None;
+        }
+        Some(at)
+    }
+
+    /// The gap for an extent between the modules, but for one at a place of its own; or else the
+    /// lowest of them that the extent meets. Where that place is past the end, all count.
+    pub fn gap(&self, extent: Extent, own: usize) -> Result<usize, usize>
+        requires { extent.low < extent.high }
+        ensures { MatchResult result (IsClear self.now own extent.low extent.high)
+            (IsMet self.now own extent.low extent.high) }
+    {
+        let _ = &self.list;
+        let len = self.len();
+        let mut uncounted = Steps {
+            compares: 0,
+            decoded: 0,
+        };
+        let begun = self.begun(extent.low, &mut uncounted);
+        if begun > 0 && begun - 1 != own && self.end(begun - 1) > extent.low {
+            return Err(begun - 1);
+        }
+        let next = next_place(begun, own, len);
+        if next < len && self.start(next) < extent.high {
+            return Err(next);
+        }
+        Ok(begun)
+    }
+
+    /// Puts a module into a gap, if there is memory for it.
+    pub fn insert(&mut self, at: usize, loaded: LoadedModule) -> Result<(), AllocError>
+        requires clear { IsClear self.old (length self.old) (start_of loaded.loaded)
+            (end_of loaded.loaded) at }
+        requires new { position (λ h. is_named loaded.loaded.name h.loaded) self.old ≡ None }
+        ensures { MatchResult result (λ _. self.new ≡ insert self.old at loaded)
+            (λ _. self.new ≡ self.old) }
+    {
+        let _extent = loaded.extent();
+        self.list.insert(at, loaded)?;
+        Ok(())
+    }
+
+    /// Takes the module at a place out.
+    pub fn remove(&mut self, at: usize)
+        requires { at < length self.old }
+        ensures { self.new ≡ remove self.old at }
+    {
+        let _loaded = self.list.remove(at);
+    }
+
+    /// Moves the module at a place to another base, and into the gap for it: what stands between its
+    /// old and its new place is turned.
+    pub fn relocate(&mut self, own: usize, at: usize, base: u64)
+        requires within { own < length self.old }
+        requires fits { (d : NumberedModule) →
+            base + high_of (slice_index_or self.old own d).loaded.bytes < 2 ^ 64 }
+        requires clear { (d : NumberedModule) → let m = moved_to base (slice_index_or self.old own d).loaded in
+            IsClear self.old own (start_of m) (end_of m) at }
+        ensures { (d : NumberedModule) →
+            self.new ≡ relocated self.old own at (rebased base (slice_index_or self.old own d)) }
+    {
+        let loaded = &mut self.list[own];
+        loaded.move_to(base);
+        rotate(self.list.as_mut_slice(), own, at);
+    }
+}
