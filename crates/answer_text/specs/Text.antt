@@ -3,6 +3,7 @@ use Rattle.std.specs.Prelude.{ℕ, ◌==◌, List, [], ◌∷◌, ◌++◌, flat
 use Rattle.std.specs.List.{after_last}
 use Rattle.std.specs.Option.{option_or}
 use Rattle.addr_table.specs.Frames.{Frame}
+use Rattle.module_map.specs.Answers.{Answered}
 use Rattle.answer_text.specs.Printable.{known_text}
 use Rattle.answer_text.specs.Numerals.{address_text}
 use Rattle.answer_text.specs.declared.options.Options.{Options}
@@ -55,5 +56,5 @@ abbrev pub heading_text : Options → ℕ → List ℕ
 heading_text options address = if options.addresses then address_text address ++ after_address options else []
 
 -- the answer to an address
-unfoldable pub answer_text : Options → ℕ → List Frame → List ℕ
-answer_text options address frames = heading_text options address ++ frames_text options frames
+unfoldable pub answer_text : Options → Answered → List ℕ
+answer_text options answer = heading_text options answer.address ++ frames_text options answer.frames

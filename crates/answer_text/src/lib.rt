@@ -12,7 +12,8 @@ mod pending;
 mod printing;
 
 pub use devices::{Device, DeviceFault, Feed, Objects, Sink};
-pub use faults::FetchFault;
+pub use faults::{ExeFault, FetchFault, RunFault};
 pub use numerals::{address_text, parse_number};
 pub use options::Options;
 pub use pending::{Pending, write_texts};
+pub use printing::print;

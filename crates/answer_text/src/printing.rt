@@ -6,11 +6,13 @@ ghost use Rattle.answer_text.specs.Pending.{Puts};
 ghost use Rattle.answer_text.specs.Text.{after_address, nothing_text, later_text, frames_text, heading_text, answer_text};
 
 use crate::devices::{DeviceFault, Sink};
+use crate::faults::RunFault;
 use crate::frame_text::{put_frame, put_later};
 use crate::numerals::address_text;
 use crate::options::Options;
 use crate::pending::Pending;
 use addr_table::Frames;
+use module_map::Answer;
 
 fn after_address(options: &Options) -> &'static [u8]
     ensures { result.now ≡ after_address options.now }
@@ -90,14 +92,34 @@ fn put_heading<W: Sink>(
 #[tactic(auto, unfolding(crate::specs::Text::answer_text))]
 fn put_answer<W: Sink>(
     options: &Options,
-    address: u64,
-    frames: Frames<'_>,
+    answer: &Answer<'_>,
     pending: &mut Pending,
     writer: &mut W,
 ) -> Result<(), DeviceFault>
-    ensures bytes { Puts (W.written writer.old) (W.written writer.new) pending.old pending.new result (answer_text options.now address frames.entry) }
+    ensures bytes { Puts (W.written writer.old) (W.written writer.new) pending.old pending.new result (answer_text options.now answer.now) }
     ensures failures { W.failures writer.new ≡ failures_after (W.failures writer.old) result }
 {
-    put_heading(options, address, pending, writer)?;
-    put_frames(options, frames, pending, writer)
+    put_heading(options, answer.address(), pending, writer)?;
+    put_frames(options, answer.frames(), pending, writer)
+}
+
+/// Writes an answer, ended by a line feed, and does not flush. It takes no memory. After
+/// `RunFault::Writing`, which is the only fault, a beginning of the text is written.
+pub fn print<W: Sink>(
+    options: &Options,
+    answer: &Answer<'_>,
+    writer: &mut W,
+) -> Result<(), RunFault>
+    ensures bytes { Writes (W.written writer.old) (W.written writer.new) result (answer_text options.now answer.now) }
+    ensures fault { IfErr result (λ fault. fault ≡ RunFault.Writing) }
+    ensures failures { W.failures writer.new ≡ failures_after (W.failures writer.old) result }
+{
+    let mut pending = Pending::new();
+    if put_answer(options, answer, &mut pending, writer).is_err() {
+        return Err(RunFault::Writing);
+    }
+    if pending.send(writer).is_err() {
+        return Err(RunFault::Writing);
+    }
+    Ok(())
 }
