@@ -1,6 +1,5 @@
 -- A line cut at its first space.
-use Rattle.std.proofs.Common.{◌≡◌, ℕ, ◌+◌, ◌-◌, ◌<◌, ◌≤◌, ◌*◌, ◌^◌, Bool, true, false, nat_lt, cond, List, [], ◌∷◌, length, take, drop, get_or, refl, sym, ◌∙◌, ap, subst, arith, lit<}
-use Rattle.std.proofs.Math.Nat.{pow-le-pow_right}
+use Rattle.std.proofs.Common.{◌≡◌, ℕ, ◌+◌, ◌-◌, ◌<◌, ◌≤◌, Bool, true, false, nat_lt, cond, List, [], ◌∷◌, length, take, drop, get_or, refl, sym, ◌∙◌, ap, subst, arith}
 use Rattle.std.specs.Prelude.{Option, None, Some, is_some, option_copied, position, ◌==◌, IsUtf8, Err}
 use Rattle.std.specs.List.{position_or_len, join_with_byte, list_all}
 use Rattle.std.proofs.lemmas.Bool.{ltb-true, lt-ltb, false≢true}
@@ -15,7 +14,8 @@ use Rattle.std.proofs.lemmas.List.Splits.{slice_split_first, slice_split_none, j
 use Rattle.command_loop.proofs.LineLemmas.{has_first}
 use Rattle.command_loop.specs.declared.commands.BadLine.TheVariants.{Command, Fields}
 use Rattle.command_loop.specs.Private.Commands.{cut_parts}
-use Rattle.command_loop.specs.Requests.{fields, load_of, unload_of, move_of, list_of, address_of, checked_load, number, is_name_byte}
+use Rattle.command_loop.specs.Requests.{fields, load_of, unload_of, move_of, list_of, address_of, checked_load, is_name_byte}
+use Rattle.answer_text.specs.Numbers.{number}
 
 abbrev pub is_space : ℕ → Bool
 is_space byte = byte == 32
@@ -51,13 +51,6 @@ one_space text at h =
     let cut : fields text ≡ take n text ∷ fields (drop (n + 1) text) = slice_split_first is_space text 0 (ltb-true n (length text) w.0) in
     let P : ℕ → Type 0 = λ z. fields text ≡ take z text ∷ fields (drop (z + 1) text) in
     subst P (sym w.1) cut ∙ ap (λ (z : List ℕ). take at text ∷ fields z) (sym (take_rest text (at + 1)))
-
--- one more hexadecimal digit fits
-pub digit_fits : (value i n : ℕ) → value < 16 ^ i → i < n → n ≤ 16 → value * 16 + 15 < 2 ^ 64
-digit_fits value i n below lt most =
-    let room : 16 ^ i ≤ 16 ^ 15 = pow-le-pow_right (lit< tt) {j = 15} (omega arith) in
-    let small : value < 16 ^ 15 = omega (arith, room, below) in
-    omega (arith, small)
 
 -- the fields of a load
 pub load_cut : (operands rest path name base : List ℕ) → fields operands ≡ name ∷ fields rest → fields rest ≡ base ∷ fields path →

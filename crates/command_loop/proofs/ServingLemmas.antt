@@ -6,11 +6,11 @@ use Rattle.module_map.specs.declared.faults.MapFault.{MapFault}
 use Rattle.module_map.specs.declared.faults.Extent.{Extent}
 use Rattle.module_map.specs.World.{World, Loaded, no_modules, start_of, end_of, moved_to}
 use Rattle.module_map.specs.Changes.{load_fault, with_module, move_fault, IsMoved}
-use Rattle.module_map.specs.Answers.{asked, frames_at}
+use Rattle.module_map.specs.Answers.{asked}
 use Rattle.answer_text.specs.declared.faults.ExeFault.{ExeFault}
 use Rattle.answer_text.specs.declared.faults.ExeFault.TheVariants.{NotLoaded}
 use Rattle.command_loop.specs.Output.{placed_exe}
-use Rattle.command_loop.specs.Replies.{load_step, moved_step, move_step, met_name}
+use Rattle.command_loop.specs.Replies.{answer_at, load_step, moved_step, move_step, met_name}
 use Rattle.command_loop.specs.Replies.Reply.{Refused, LoadedAt, MovedTo, Answered}
 
 pub refused_world : (old new : World) (m : Loaded) (short : Bool) (fault : MapFault) → load_fault old m short ≡ Some fault → new ≡ old →
@@ -53,9 +53,9 @@ asked_current old new address result same e =
     e ∙ ap (λ (z : World). asked z address) (sym same) ∙ ap (asked new) (sym (asked_address old address result e))
 
 pub asked_reply : (old new : World) (address : ℕ) (result : found.Asked) → new ≡ old → result ≡ asked old address →
-    Answered result.address (frames_at new result.address) ≡ Answered address (frames_at old address)
+    Answered (answer_at new result.address) ≡ Answered (answer_at old address)
 asked_reply old new address result same e =
-    ap (λ (z : World). Answered result.address (frames_at z result.address)) same ∙ ap (λ (z : ℕ). Answered z (frames_at old z)) (asked_address old address result e)
+    ap (λ (z : World). Answered (answer_at z result.address)) same ∙ ap (λ (z : ℕ). Answered (answer_at old z)) (asked_address old address result e)
 
 -- the object of the command line
 abbrev pub ok_world : World → Result World ExeFault

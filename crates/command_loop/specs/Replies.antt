@@ -1,9 +1,9 @@
 -- The reply to each request, and the world that it leaves.
 use Rattle.std.specs.Prelude.{ℕ, Bool, List, [], ◌∷◌, map, find, Option, None, Some, Result, Ok, Err, if◌then◌else◌}
-use Rattle.addr_table.specs.Frames.{Frame}
 use Rattle.module_map.specs.World.{World, Loaded, start_of, end_of, is_named, moved_to, name_at}
 use Rattle.module_map.specs.Changes.{is_taken, load_fault, with_module, without_module, move_fault, with_moved}
 use Rattle.module_map.specs.Answers.{frames_at}
+use Rattle.module_map.specs.Answers as answers
 use Rattle.module_map.specs.Listing.{Listed, listed}
 use Rattle.module_map.specs.declared.faults.MapFault.{MapFault}
 use Rattle.module_map.specs.declared.faults.MapFault.TheVariants.{NoModule, Overlap, Memory}
@@ -20,7 +20,11 @@ pub data Reply : Type 0 where
   Unloaded : (name : List ℕ) → Reply
   MovedTo : (name : List ℕ) (low high : ℕ) → Reply
   AllListed : List Listed → Reply
-  Answered : (address : ℕ) (frames : List Frame) → Reply
+  Answered : answers.Answered → Reply
+
+-- what is known of an address
+abbrev pub answer_at : World → ℕ → answers.Answered
+answer_at world address = record { address = address; frames = frames_at world address }
 
 -- the name of the module that one meets, where it is refused for that
 abbrev pub met_name : World → MapFault → List ℕ
@@ -64,7 +68,7 @@ move_step world name m base = moved_step world name (move_fault m world base) m 
 -- a load takes the first outcome that is left
 abbrev pub step : World → Result Request BadLine → List Outcome → Stepped
 step world (Err bad) outcomes = record { reply = Unreadable bad; world = world }
-step world (Ok (Ask address)) outcomes = record { reply = Answered address (frames_at world address); world = world }
+step world (Ok (Ask address)) outcomes = record { reply = Answered (answer_at world address); world = world }
 step world (Ok ListAll) outcomes = record { reply = AllListed (map listed world.modules); world = world }
 step world (Ok (Unload name)) outcomes = unload_step world name
 step world (Ok (Move name base)) outcomes = move_step world name (find (is_named name) world.modules) base

@@ -66,4 +66,4 @@ text options (LoadedAt name low high) = done_at (codes "loaded ") name low high
 text options (Unloaded name) = unloaded name
 text options (MovedTo name low high) = done_at (codes "moved ") name low high
 text options (AllListed modules) = list_text modules
-text options (Answered address frames) = answer_text options address frames
+text options (Answered answer) = answer_text options answer

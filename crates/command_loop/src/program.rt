@@ -2,9 +2,7 @@
 
 use crate::replies::{fetch_word, write_object_refusal, write_refusal};
 use crate::running::run;
-use answer_text::{
-    DeviceFault, ExeFault, Feed, Objects, Options, RunFault, Sink, write_texts,
-};
+use answer_text::{DeviceFault, ExeFault, Feed, Objects, Options, RunFault, Sink, write_texts};
 use module_map::MapFault;
 use std::alloc::Global;
 

@@ -1,13 +1,13 @@
 -- What came of a request, before it is printed.
 use Rattle.std.specs.Prelude.{◌≡◌, List, map, Result, ⊤}
 use Rattle.module_map.specs.World.{World}
-use Rattle.module_map.specs.Answers.{asked, frames_at}
+use Rattle.module_map.specs.Answers.{asked}
 use Rattle.module_map.specs.Listing.{listed}
 use Rattle.command_loop.specs.declared.commands.BadLine.{BadLine}
 use Rattle.command_loop.specs.declared.serving.Done.{Done}
 use Rattle.command_loop.specs.declared.serving.Done.TheVariants as done
 use Rattle.command_loop.specs.Requests.{Request}
-use Rattle.command_loop.specs.Replies.{Outcome, Reply, step, question, met_name}
+use Rattle.command_loop.specs.Replies.{Outcome, Reply, step, question, met_name, answer_at}
 use Rattle.command_loop.specs.Replies.Reply.{Unreadable, NotFetched, Refused, LoadedAt, Unloaded, MovedTo, AllListed, Answered}
 use Rattle.command_loop.specs.Output.{Exchanges, Asked}
 
@@ -20,7 +20,7 @@ reply_of world (done.LoadedAt name extent) = LoadedAt name.now extent.low extent
 reply_of world (done.Unloaded name) = Unloaded name.now
 reply_of world (done.MovedTo name extent) = MovedTo name.now extent.low extent.high
 reply_of world done.Listed = AllListed (map listed world.modules)
-reply_of world (done.Asked found) = Answered found.address (frames_at world found.address)
+reply_of world (done.Asked found) = Answered (answer_at world found.address)
 
 -- what was found is what the modules answer now
 abbrev pub IsCurrent : World → Done → Type 0
