@@ -45,7 +45,7 @@ puts_after a b c h h' h'' y (Ok done) p q = put_then a b c h h' h'' [] y p q
 puts_after a b c h h' h'' y (Err fault) p q = put_cut a b c h h' [] y p q
 
 -- what did not fit was put where nothing was held
-pub none_held : (len room : ℕ) (h : List ℕ) → (len ≤ 512 - length h) ⊎ (h ≡ []) → room ≡ 512 - length h → room < len → h ≡ []
+pub none_held : (len room : ℕ) (h : List ℕ) → (len ≤ 2048 - length h) ⊎ (h ≡ []) → room ≡ 2048 - length h → room < len → h ≡ []
 none_held len room h (inl fits) is over = absurd (omega arith)
 none_held len room h (inr none) is over = none
 

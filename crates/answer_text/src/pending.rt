@@ -11,7 +11,7 @@ use crate::devices::{DeviceFault, Sink};
 use std::marker::Model;
 
 /// The most bytes that are held.
-const ROOM: usize = 512;
+const ROOM: usize = 2048;
 
 fn is_control(byte: u8) -> bool
     ensures { result ≡ is_control byte }
@@ -36,7 +36,7 @@ fn are_printable(text: &[u8]) -> bool
 /// Text that is not written yet.
 #[derive(Drop)]
 pub struct Pending {
-    bytes: [u8; 512],
+    bytes: [u8; 2048],
     len: usize,
 }
 
@@ -47,7 +47,7 @@ impl Model for Pending {
 
     ghost view = { λ p. take p.len p.bytes };
 
-    ghost invariant = { λ p. p.len ≤ 512 };
+    ghost invariant = { λ p. p.len ≤ 2048 };
 }
 
 /// Writes all of a text. A write that takes no byte is a failure.
@@ -71,13 +71,13 @@ impl Pending {
         ensures { result ≡ [] }
     {
         Pending {
-            bytes: [0; 512],
+            bytes: [0; 2048],
             len: 0,
         }
     }
 
     fn room(&self) -> usize
-        ensures { result ≡ 512 - length self.now }
+        ensures { result ≡ 2048 - length self.now }
     {
         ROOM - self.len
     }
@@ -95,7 +95,7 @@ impl Pending {
     }
 
     fn push_slice(&mut self, text: &[u8])
-        requires { length text.now ≤ 512 - length self.old }
+        requires { length text.now ≤ 2048 - length self.old }
         ensures { self.new ≡ self.old ++ text.now }
     {
         let end = self.len + text.len();
@@ -117,7 +117,7 @@ impl Pending {
     /// Writes what is held, where that many bytes would not fit behind it.
     fn make_room<W: Sink>(&mut self, len: usize, writer: &mut W) -> Result<(), DeviceFault>
         ensures bytes { Puts (W.written writer.old) (W.written writer.new) self.old self.new result [] }
-        ensures room { OnOk result ((len ≤ 512 - length self.new) ⊎ (self.new ≡ [])) }
+        ensures room { OnOk result ((len ≤ 2048 - length self.new) ⊎ (self.new ≡ [])) }
         ensures failures { W.failures writer.new ≡ failures_after (W.failures writer.old) result }
     {
         if len > self.room() {
