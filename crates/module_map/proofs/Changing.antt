@@ -15,10 +15,11 @@ use Rattle.module_map.specs.declared.faults.MapFault.TheVariants.{NoModule, Rang
 use Rattle.module_map.specs.Counts.{ModuleMap}
 use Rattle.module_map.specs.Private.Serials.{NumberedModule, loaded_of}
 use Rattle.module_map.specs.Private.Rising.{IsClear, IsMet, IsOther, IsOnly, relocated, rebased}
-use Rattle.module_map.proofs.Gaps.{all_fail, clear_removed}
+use Rattle.module_map.proofs.Edits.{clear_removed}
+use Rattle.module_map.proofs.Names.{all_fail}
 use Rattle.module_map.proofs.Worlds.{any_is, found_none, found_some, placed_in, without_is, not_named, is_its_name, met_is, nothing_met, range_fault, overlap_fault, no_place_fault}
 
--- the world of a sorted
+-- the world of sorted modules
 abbrev pub world_of : List NumberedModule → ℕ → World
 world_of hs loads = record { modules = map loaded_of hs; loads = loads }
 

@@ -3,6 +3,8 @@ pub mod Halving
 pub mod Positions
 pub mod Searches
 pub mod Gaps
+pub mod Edits
+pub mod Names
 pub mod Rotations
 pub mod Worlds
 pub mod Serials
@@ -10,3 +12,4 @@ pub mod Changing
 pub mod Loading
 pub mod Asking
 pub mod Answering
+pub mod Listings

@@ -1,9 +1,12 @@
 -- What a load comes to: the tests in order.
-use Rattle.std.proofs.Common.{◌≡◌, ◌≢◌, ◌⊎◌, inl, inr, ℕ, Bool, true, false, List, refl, sym, ap, ◌∙◌, subst}
+use Rattle.std.proofs.Common.{◌≡◌, ◌⊎◌, inl, inr, ℕ, Bool, true, false, List, refl, sym, ap, ◌∙◌, subst}
 use Rattle.std.specs.Prelude.{Option, None, Some, Result, Ok, Err, MatchResult}
 use Rattle.dwarf_bytes.specs.Refusals.{memory_fault}
 use Rattle.addr_table.specs.Module.{fault_of}
 use Rattle.dwarf_bytes.specs.declared.fault.LoadFault.{LoadFault}
+use Rattle.dwarf_bytes.specs.declared.fault.Cause.{Cause}
+use Rattle.dwarf_bytes.specs.declared.fault.Cause.TheVariants as causes
+use Rattle.module_map.specs.Private.Refusals.{refusal_of, refusal_by}
 use Rattle.module_map.specs.World.{World, Loaded}
 use Rattle.module_map.specs.Counts.{ModuleMap}
 use Rattle.module_map.specs.Changes.{is_taken, is_full, load_fault, place_fault, with_module, IsExtentOf, Loads}
@@ -14,6 +17,10 @@ use Rattle.module_map.specs.declared.faults.MapFault.TheVariants.{NameTaken, Ful
 -- a load, of which memory may have been refused
 abbrev pub SomeLoad : World → Loaded → Result Extent MapFault → World → Type 0
 SomeLoad old m result new = (short : Bool) × Loads old m short result new
+
+either : (fault : LoadFault) (cause : Cause) → (refusal_by fault cause ≡ Memory) ⊎ (refusal_by fault cause ≡ Object fault)
+either fault causes.Memory = inl refl
+either fault _ = inr refl
 
 module _ (w : World) (m : Loaded) where
   pub name_taken : is_taken m.name w ≡ true → SomeLoad w m (Err NameTaken) w
@@ -39,33 +46,35 @@ module _ (w : World) (m : Loaded) where
       placed_of fault good e = rw (free, capacity, good) e
 
       -- an object that is not decoded
-      pub not_decoded : (fault : LoadFault) (result : MapFault) → (fault ≡ memory_fault) ⊎ (fault_of m.bytes ≡ Some fault) → (result ≡ Memory) ⊎ ((result ≡ Object fault) × (fault ≢ memory_fault)) →
-          SomeLoad w m (Err result) w
-      not_decoded fault result why (inl memory) = (true, (short_of ∙ ap Some (sym memory), refl))
-      not_decoded fault result (inl short) (inr other) = absurd (other.1 short)
-      not_decoded fault result (inr found) (inr other) = (false, (object_of fault found ∙ ap Some (sym other.0), refl))
+      pub not_decoded : (fault : LoadFault) (result : MapFault) → (fault ≡ memory_fault) ⊎ (fault_of m.bytes ≡ Some fault) → result ≡ refusal_of fault → SomeLoad w m (Err result) w
+      not_decoded fault result (inl memory) is = (true, (short_of ∙ ap Some (sym (is ∙ ap refusal_of memory)), refl))
+      not_decoded fault result (inr found) is = by (either fault fault.cause)
+        where
+          by : (refusal_of fault ≡ Memory) ⊎ (refusal_of fault ≡ Object fault) → SomeLoad w m (Err result) w
+          by (inl memory) = (true, (short_of ∙ ap Some (sym (is ∙ memory)), refl))
+          by (inr object) = (false, (object_of fault found ∙ ap Some (sym (is ∙ object)), refl))
 
       -- an object that was decoded has a place, or not
-      pub not_kept : (fault : MapFault) → fault_of m.bytes ≡ None → (fault ≡ Memory) ⊎ (place_fault m w.modules ≡ Some fault) → SomeLoad w m (Err fault) w
-      not_kept fault good (inl memory) = (true, (short_of ∙ ap Some (sym memory), refl))
-      not_kept fault good (inr found) = (false, (placed_of (Some fault) good found, refl))
+      pub not_added : (fault : MapFault) → fault_of m.bytes ≡ None → (fault ≡ Memory) ⊎ (place_fault m w.modules ≡ Some fault) → SomeLoad w m (Err fault) w
+      not_added fault good (inl memory) = (true, (short_of ∙ ap Some (sym memory), refl))
+      not_added fault good (inr found) = (false, (placed_of (Some fault) good found, refl))
 
-      pub cached : (extent : Extent) → fault_of m.bytes ≡ None → place_fault m w.modules ≡ None → IsExtentOf extent m → SomeLoad w m (Ok extent) (with_module w m)
-      cached extent good none lies = (false, (placed_of None good none, lies, refl))
+      pub added : (extent : Extent) → fault_of m.bytes ≡ None → place_fault m w.modules ≡ None → IsExtentOf extent m → SomeLoad w m (Ok extent) (with_module w m)
+      added extent good none lies = (false, (placed_of None good none, lies, refl))
 
--- what came of keeping a decoded object, among modules of which only these are seen
-abbrev pub Keeps : ModuleMap → ModuleMap → Loaded → Result Extent MapFault → Type 0
-Keeps old new m result = MatchResult result
+-- what came of adding a decoded object, among modules of which only these are seen
+abbrev pub Adds : ModuleMap → ModuleMap → Loaded → Result Extent MapFault → Type 0
+Adds old new m result = MatchResult result
     (λ extent. (place_fault m old.world.modules ≡ None) × IsExtentOf extent m × (new ≡ record old { world = with_module old.world m }))
     (λ fault. ((fault ≡ Memory) ⊎ (place_fault m old.world.modules ≡ Some fault)) × (new ≡ old))
 
-pub kept_by : (old new : ModuleMap) (m : Loaded) (result : Result Extent MapFault) → is_taken m.name old.world ≡ false → is_full old.world ≡ false → fault_of m.bytes ≡ None → Keeps old new m result →
+pub added_by : (old new : ModuleMap) (m : Loaded) (result : Result Extent MapFault) → is_taken m.name old.world ≡ false → is_full old.world ≡ false → fault_of m.bytes ≡ None → Adds old new m result →
     SomeLoad old.world m result new.world
-kept_by old new m (Ok extent) free capacity good k = subst (λ (w : World). SomeLoad old.world m (Ok extent) w) (sym (ap (λ (x : ModuleMap). x.world) k.2)) (cached old.world m free capacity extent good k.0 k.1)
-kept_by old new m (Err fault) free capacity good k = subst (λ (w : World). SomeLoad old.world m (Err fault) w) (sym (ap (λ (x : ModuleMap). x.world) k.1)) (not_kept old.world m free capacity fault good k.0)
+added_by old new m (Ok extent) free capacity good k = subst (λ (w : World). SomeLoad old.world m (Ok extent) w) (sym (ap (λ (x : ModuleMap). x.world) k.2)) (added old.world m free capacity extent good k.0 k.1)
+added_by old new m (Err fault) free capacity good k = subst (λ (w : World). SomeLoad old.world m (Err fault) w) (sym (ap (λ (x : ModuleMap). x.world) k.1)) (not_added old.world m free capacity fault good k.0)
 
 -- the same of an object that is its bytes
-pub kept_bytes : (old new : ModuleMap) (name : List ℕ) (base : ℕ) (object bytes : List ℕ) (result : Result Extent MapFault) → is_taken name old.world ≡ false → is_full old.world ≡ false →
-    object ≡ bytes → fault_of bytes ≡ None → Keeps old new (record { name = name; base = base; bytes = object }) result → SomeLoad old.world (record { name = name; base = base; bytes = bytes }) result new.world
-kept_bytes old new name base object bytes result free capacity same good k =
-    kept_by old new (record { name = name; base = base; bytes = bytes }) result free capacity good (subst (λ (b : List ℕ). Keeps old new (record { name = name; base = base; bytes = b }) result) same k)
+pub added_bytes : (old new : ModuleMap) (name : List ℕ) (base : ℕ) (object bytes : List ℕ) (result : Result Extent MapFault) → is_taken name old.world ≡ false → is_full old.world ≡ false →
+    object ≡ bytes → fault_of bytes ≡ None → Adds old new (record { name = name; base = base; bytes = object }) result → SomeLoad old.world (record { name = name; base = base; bytes = bytes }) result new.world
+added_bytes old new name base object bytes result free capacity same good k =
+    added_by old new (record { name = name; base = base; bytes = bytes }) result free capacity good (subst (λ (b : List ℕ). Adds old new (record { name = name; base = base; bytes = b }) result) same k)

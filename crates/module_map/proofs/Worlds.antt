@@ -1,4 +1,4 @@
--- The modules on a sorted as a world: what a name, an address, a gap and a change mean there.
+-- Sorted modules as a world: what a name, an address, a gap and a change mean there.
 use Rattle.std.proofs.Common.{◌≡◌, ◌≢◌, ◌⊎◌, inl, inr, ℕ, zero, suc, ◌-◌, ◌^◌, ◌<◌, ◌≤◌, Bool, true, false, List, [], ◌∷◌, length, map, get_or, refl, sym, ap, ◌∙◌, arith}
 use Rattle.std.specs.Prelude.{Option, None, Some, is_some, position, find, slice_get, insert, remove, nat_lt, not, ◌&&◌, ◌||◌}
 use Rattle.std.specs.List.{list_any}
@@ -12,7 +12,7 @@ use Rattle.module_map.specs.declared.faults.MapFault.TheVariants.{Range, Overlap
 use Rattle.module_map.specs.Private.Serials.{NumberedModule, loaded_of}
 use Rattle.module_map.specs.Private.Rising.{IsClear, IsMet, IsOther, IsOnly}
 use Rattle.module_map.proofs.Positions.{is_at, is_nowhere, position_of_map}
-use Rattle.module_map.proofs.Gaps.{all_fail}
+use Rattle.module_map.proofs.Names.{all_fail}
 
 module _ (p : Loaded → Bool) where
   abbrev at_held : NumberedModule → Bool

@@ -1,5 +1,6 @@
 -- What is known of an address: the one module that holds it answers at the address less its base.
-use Rattle.std.specs.Prelude.{ℕ, ◌-◌, List, [], Option, None, Some, find, position, slice_get, option_map}
+use Rattle.std.specs.Prelude.{ℕ, ◌-◌, List, [], Option, None, Some, find, position}
+use Rattle.std.specs.Prelude.{slice_get, option_map}
 use Rattle.std.specs.Option.{option_and_then}
 use Rattle.addr_table.specs.Frames.{Frame}
 use Rattle.addr_table.specs.Module.{place_in, scan}
@@ -27,8 +28,11 @@ frames_at world address = frames_of (holder world address) address
 -- what is found in the module at a place of the list
 abbrev pub found_at : World → ℕ → ℕ → Option Found
 found_at world address place =
-    option_map (λ (m : Loaded). record { at = place; place = place_in m.bytes (address - m.base) }) (slice_get world.modules place)
+    option_map (λ (m : Loaded). record { at = place; place = place_in m.bytes (address - m.base) })
+    (slice_get world.modules place)
 
 -- what an ask finds
 unfoldable pub asked : World → ℕ → Asked
-asked world address = record { address = address; found = option_and_then (found_at world address) (position (holds address) world.modules) }
+asked world address =
+    let found = option_and_then (found_at world address) (position (holds address) world.modules) in
+    record { address = address; found = found }

@@ -1,5 +1,6 @@
--- What is counted, and what the cache keeps.
-use Rattle.std.specs.Prelude.{◌≡◌, ℕ, ◌+◌, ◌-◌, ◌^◌, ◌≤◌, min, length, Option, None, Some, Result, Err}
+-- What is counted, and how many answers the cache has.
+use Rattle.std.specs.Prelude.{◌≡◌, ℕ, ◌+◌, ◌-◌, ◌^◌, ◌≤◌, min, length}
+use Rattle.std.specs.Prelude.{Option, None, Some, Result, Err}
 use Rattle.addr_table.specs.Steps.{bits}
 use Rattle.addr_table.specs.Module.{cuts_in}
 use Rattle.module_map.specs.World.{World, Loaded}
@@ -11,7 +12,7 @@ use Rattle.module_map.specs.declared.faults.MapFault.TheVariants.{NameTaken, Ful
 -- what a contract sees of the modules
 pub record ModuleMap : Type 0 where
   pub world : World
-  -- how many answers the cache keeps, and how many it may keep
+  -- how many answers the cache has, and how many it may have
   pub cached : ℕ
   pub capacity : ℕ
   -- the compares of the last ask, and the bytes decoded since the start
@@ -32,9 +33,10 @@ TakesCompares world address compares =
     (least_of (holder world address) ≤ compares)
     × (compares ≤ bits (length world.modules) + bits (segments_of (holder world address)) + 2)
 
--- an ask keeps the count of answers, or raises it by one
+-- an ask leaves the count of answers in the cache, or raises it by one
 abbrev pub CachesAnswer : ModuleMap → ModuleMap → Type 0
-CachesAnswer old new = (new.capacity ≡ old.capacity) × (old.cached ≤ new.cached) × (new.cached ≤ old.cached + 1)
+CachesAnswer old new =
+    (new.capacity ≡ old.capacity) × (old.cached ≤ new.cached) × (new.cached ≤ old.cached + 1)
 
 -- the decoded bytes after a load: those of an object that came to be decoded
 abbrev pub decoded_after : ℕ → ℕ → Result Extent MapFault → ℕ

@@ -1,7 +1,7 @@
 -- The modules as they are listed.
-use Rattle.std.specs.Prelude.{ℕ, List}
+use Rattle.std.specs.Prelude.{ℕ, List, map}
 use Rattle.std.specs.Borrow.{Bor}
-use Rattle.module_map.specs.World.{Loaded, start_of, end_of}
+use Rattle.module_map.specs.World.{World, Loaded, start_of, end_of}
 use Rattle.module_map.specs.declared.faults.Extent.{Extent}
 
 -- a name, where the module lies, and its base
@@ -14,6 +14,11 @@ pub record Listed : Type 0 where
 abbrev pub listed : Loaded → Listed
 listed m = record { name = m.name; low = start_of m; high = end_of m; base = m.base }
 
+-- the modules by rising address
+abbrev pub listing : World → List Listed
+listing world = map listed world.modules
+
 -- what an item tells
 abbrev pub item_listed : Bor (List ℕ) × Extent × ℕ → Listed
-item_listed item = record { name = item.0.now; low = item.1.low; high = item.1.high; base = item.2 }
+item_listed item =
+    record { name = item.0.now; low = item.1.low; high = item.1.high; base = item.2 }

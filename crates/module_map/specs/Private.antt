@@ -1,2 +1,3 @@
 pub mod Serials
 pub mod Rising
+pub mod Refusals

@@ -1,5 +1,6 @@
 -- The modules that are loaded.
-use Rattle.std.specs.Prelude.{ℕ, ◌+◌, Bool, not, ◌&&◌, List, [], ◌∷◌, filter, nat_lt, nat_le, Option, if◌then◌else◌, position, slice_get}
+use Rattle.std.specs.Prelude.{ℕ, ◌+◌, Bool, not, ◌&&◌, List, [], ◌∷◌, filter, nat_lt, nat_le}
+use Rattle.std.specs.Prelude.{Option, if◌then◌else◌, position, slice_get}
 use Rattle.std.specs.Option.{option_map_or}
 use Rattle.std.specs.Str.{bytes_eq}
 use Rattle.addr_table.specs.Module.{low_of, high_of}
@@ -42,7 +43,8 @@ meets m other = nat_lt (start_of m) (end_of other) && nat_lt (start_of other) (e
 -- the modules with one more, by rising address
 abbrev pub placed : Loaded → List Loaded → List Loaded
 placed m [] = m ∷ []
-placed m (other ∷ others) = if nat_lt (start_of other) (start_of m) then other ∷ placed m others else m ∷ other ∷ others
+placed m (other ∷ others) =
+    if nat_lt (start_of other) (start_of m) then other ∷ placed m others else m ∷ other ∷ others
 
 -- the modules of other names
 abbrev pub without : List ℕ → List Loaded → List Loaded

@@ -21,7 +21,10 @@ impl<'a> Model for Answer<'a> {
 
     ghost Value = { Answered };
 
-    ghost view = { λ a. record { address = a.address; frames = option_map_or (λ f. frames_in f.0.now f.1) a.found [] } };
+    ghost view = { λ a. record {
+      address = a.address;
+      frames = option_map_or (λ f. frames_in f.0.now f.1) a.found [];
+    } };
 }
 
 impl<'a> Answer<'a> {
@@ -36,7 +39,10 @@ impl<'a> Answer<'a> {
     }
 
     pub(crate) fn new(address: u64, object: &'a Module, place: Place) -> Answer<'a>
-        ensures { result ≡ record { address = address; frames = frames_in object.entry.now place } }
+        ensures { result ≡ record {
+          address = address;
+          frames = frames_in object.entry.now place;
+        } }
     {
         Answer {
             address,

@@ -1,7 +1,7 @@
-//! Answers that are cached for the next time.
+//! Answers for the next time that they are asked.
 
-ghost use Rattle.std.specs.Prelude.{◌≡◌, ◌≤◌, ◌⊎◌, ◌+◌, [], ℕ, length, IfOk, IfSome, Contains, Option};
-ghost use Rattle.addr_table.specs.declared.place.Place.{Place};
+ghost use Rattle.std.specs.Prelude.{◌≡◌, ◌≤◌, ◌⊎◌, ◌+◌, [], length, IfOk, IfSome, Contains};
+ghost use Rattle.module_map.specs.Private.Serials.{CacheEntry};
 
 use addr_table::Place;
 use lru::LruCache;
@@ -23,39 +23,45 @@ impl Model for Cache {
 
     ghost Value = { CacheEntries };
 
-    ghost view = { λ c. record { entries = option_map_or (λ answers. answers.entries) c.answers []; capacity = c.capacity } };
+    ghost view = { λ c. record {
+      entries = option_map_or (λ answers. answers.entries) c.answers [];
+      capacity = c.capacity;
+    } };
 
-    ghost invariant = { λ c. ForSome c.answers (λ answers. (answers.cap ≡ c.capacity) × (length answers.entries ≤ answers.cap)) };
+    ghost invariant = { λ c. ForSome c.answers (λ answers.
+        (answers.cap ≡ c.capacity) × (length answers.entries ≤ answers.cap)) };
 }
 
-/// The answer that is cached, which becomes the last one to be dropped.
+/// The answer that is remembered, which becomes the last one to be dropped.
 fn recall(
     answers: &mut LruCache<(u64, u64), Option<Place>>,
-    serial: u64,
-    link: u64,
+    key: (u64, u64),
 ) -> Option<Option<Place>>
-    ensures found { IfSome result (λ place. Contains answers.old.entries ((serial, link), place)) }
-    ensures cached { (e : (ℕ × ℕ) × Option Place) → Contains answers.new.entries e → Contains answers.old.entries e }
+    ensures found { IfSome result (λ place. Contains answers.old.entries (key, place)) }
+    ensures cached { (e : CacheEntry) → Contains answers.new.entries e →
+        Contains answers.old.entries e }
     ensures count { length answers.new.entries ≡ length answers.old.entries }
     ensures capacity { answers.new.cap ≡ answers.old.cap }
 {
-    answers.get(&(serial, link)).copied()
+    answers.get(&key).copied()
 }
 
-/// Keeps an answer, if there is memory for it, in place of the one asked longest ago if need be.
+/// Remembers an answer, if there is memory for it; if need be in place of the one asked longest
+/// ago.
 fn remember(
     answers: &mut LruCache<(u64, u64), Option<Place>>,
-    serial: u64,
-    link: u64,
+    key: (u64, u64),
     place: Option<Place>,
 )
-    ensures cached { (e : (ℕ × ℕ) × Option Place) → Contains answers.new.entries e → Contains answers.old.entries e ⊎ (e ≡ ((serial, link), place)) }
-    ensures grows { (length answers.old.entries ≤ length answers.new.entries) × (length answers.new.entries ≤ length answers.old.entries + 1) }
+    ensures cached { (e : CacheEntry) → Contains answers.new.entries e →
+        Contains answers.old.entries e ⊎ (e ≡ (key, place)) }
+    ensures grows { (length answers.old.entries ≤ length answers.new.entries)
+        × (length answers.new.entries ≤ length answers.old.entries + 1) }
     ensures within { length answers.new.entries ≤ answers.new.cap }
     ensures capacity { answers.new.cap ≡ answers.old.cap }
 {
     let _count = answers.len();
-    let _ = answers.put((serial, link), place);
+    let _ = answers.put(key, place);
 }
 
 impl Cache {
@@ -70,7 +76,7 @@ impl Cache {
         Ok(Cache { answers, capacity })
     }
 
-    /// How many answers are cached.
+    /// How many answers there are.
     pub fn len(&self) -> usize
         ensures count { result ≡ length self.now.entries }
         ensures within { result ≤ self.now.capacity }
@@ -87,10 +93,11 @@ impl Cache {
         self.capacity
     }
 
-    /// The answer that is cached, which becomes the last one to be dropped.
-    pub fn get(&mut self, serial: u64, link: u64) -> Option<Option<Place>>
-        ensures found { IfSome result (λ place. Contains self.old.entries ((serial, link), place)) }
-        ensures cached { (e : (ℕ × ℕ) × Option Place) → Contains self.new.entries e → Contains self.old.entries e }
+    /// The answer that is remembered, which becomes the last one to be dropped.
+    pub fn get(&mut self, key: (u64, u64)) -> Option<Option<Place>>
+        ensures found { IfSome result (λ place. Contains self.old.entries (key, place)) }
+        ensures cached { (e : CacheEntry) → Contains self.new.entries e →
+            Contains self.old.entries e }
         ensures count { length self.new.entries ≡ length self.old.entries }
         ensures within { length self.new.entries ≤ self.new.capacity }
         ensures capacity { self.new.capacity ≡ self.old.capacity }
@@ -98,19 +105,22 @@ impl Cache {
         let Some(answers) = &mut self.answers else {
             return None;
         };
-        recall(answers, serial, link)
+        recall(answers, key)
     }
 
-    /// Keeps an answer, if there is memory for it, in place of the one asked longest ago if need be.
-    pub fn put(&mut self, serial: u64, link: u64, place: Option<Place>)
-        ensures cached { (e : (ℕ × ℕ) × Option Place) → Contains self.new.entries e → Contains self.old.entries e ⊎ (e ≡ ((serial, link), place)) }
-        ensures grows { (length self.old.entries ≤ length self.new.entries) × (length self.new.entries ≤ length self.old.entries + 1) }
+    /// Remembers an answer, if there is memory for it; if need be in place of the one asked longest
+    /// ago.
+    pub fn put(&mut self, key: (u64, u64), place: Option<Place>)
+        ensures cached { (e : CacheEntry) → Contains self.new.entries e →
+            Contains self.old.entries e ⊎ (e ≡ (key, place)) }
+        ensures grows { (length self.old.entries ≤ length self.new.entries)
+            × (length self.new.entries ≤ length self.old.entries + 1) }
         ensures within { length self.new.entries ≤ self.new.capacity }
         ensures capacity { self.new.capacity ≡ self.old.capacity }
     {
         let Some(answers) = &mut self.answers else {
             return;
         };
-        remember(answers, serial, link, place);
+        remember(answers, key, place);
     }
 }

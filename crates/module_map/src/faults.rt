@@ -1,6 +1,9 @@
 //! Why a module is not loaded, moved or unloaded, and where one lies.
 
-use dwarf_bytes::LoadFault;
+ghost use Rattle.std.specs.Prelude.{◌≡◌};
+ghost use Rattle.module_map.specs.Private.Refusals.{refusal_of};
+
+use dwarf_bytes::{Cause, LoadFault};
 use thiserror::Error;
 
 /// Where a module lies: its first address, and the first address past it.
@@ -34,4 +37,14 @@ pub enum MapFault {
     /// There is not enough memory.
     #[error("memory")]
     Memory,
+}
+
+/// Why an object that cannot be decoded is not loaded.
+pub(crate) fn refusal(fault: LoadFault) -> MapFault
+    ensures { result ≡ refusal_of fault }
+{
+    match fault.cause {
+        Cause::Memory => MapFault::Memory,
+        _ => MapFault::Object(fault),
+    }
 }

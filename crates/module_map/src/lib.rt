@@ -1,11 +1,12 @@
-//! The objects that are loaded, each under a name at a base: which one holds an address, and what it
-//! answers there. Answers are cached in a cache, by the serial number of a load and the link address.
+//! Objects that are loaded, each under a name at a base: which one holds an address, and what it
+//! answers there. A bounded cache has answers by the serial number of a load and the link address.
 #![tactic(auto)]
 
 mod answer;
 mod asked;
 mod cache;
 mod faults;
+mod finding;
 mod listing;
 mod loaded_module;
 mod modules;

@@ -3,8 +3,8 @@
 ghost use Rattle.std.specs.Prelude.{◌≡◌, map};
 ghost use Rattle.module_map.specs.Listing.{listed};
 
-use crate::loaded_module::LoadedModule;
 use crate::faults::Extent;
+use crate::loaded_module::LoadedModule;
 use std::marker::Model;
 
 /// The name, the extent and the base of each module, by rising address.

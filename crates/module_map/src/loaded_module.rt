@@ -1,6 +1,7 @@
 //! A module at its base.
 
-ghost use Rattle.std.specs.Prelude.{◌≡◌, ◌<◌, ◌≤◌, ◌+◌, ◌-◌, ◌^◌, ℕ, length, IfOk, Some, MatchOption};
+ghost use Rattle.std.specs.Prelude.{◌≡◌, ◌<◌, ◌≤◌, ◌+◌, ◌-◌, ◌^◌, ℕ, length, IfOk};
+ghost use Rattle.std.specs.Prelude.{MatchOption};
 ghost use Rattle.addr_table.specs.Module.{place_in, cuts_in, low_of, high_of};
 ghost use Rattle.addr_table.specs.Steps.{counted, bits};
 ghost use Rattle.module_map.specs.World.{is_named, start_of, end_of, moved_to};
@@ -28,10 +29,14 @@ impl Model for LoadedModule {
 
     ghost Value = { NumberedModule };
 
-    ghost view = { λ e. record { serial = e.serial; loaded = record { name = string_bytes e.name; base = e.base; bytes = e.object.value } } };
+    ghost view = { λ m. record {
+      serial = m.serial;
+      loaded = record { name = string_bytes m.name; base = m.base; bytes = m.object.value };
+    } };
 
-    ghost invariant = { λ e. (e.extent.low ≡ e.base + low_of e.object.value) × (e.extent.high ≡ e.base + high_of e.object.value)
-        × (low_of e.object.value < high_of e.object.value) };
+    ghost invariant = { λ m. (m.extent.low ≡ m.base + low_of m.object.value)
+        × (m.extent.high ≡ m.base + high_of m.object.value)
+        × (low_of m.object.value < high_of m.object.value) };
 }
 
 impl LoadedModule {
@@ -44,7 +49,10 @@ impl LoadedModule {
         object: Module,
     ) -> Result<LoadedModule, AllocError>
         requires { base + high_of object < 2 ^ 64 }
-        ensures { IfOk result (λ m. m ≡ record { serial = serial; loaded = record { name = name.now; base = base; bytes = object } }) }
+        ensures { IfOk result (λ m. m ≡ record {
+          serial = serial;
+          loaded = record { name = name.now; base = base; bytes = object };
+        }) }
     {
         let extent = Extent {
             low: base + object.low(),
@@ -61,12 +69,6 @@ impl LoadedModule {
             extent,
             object,
         })
-    }
-
-    pub fn serial(&self) -> u64
-        ensures { result ≡ self.now.serial }
-    {
-        self.serial
     }
 
     pub fn name(&self) -> &str
@@ -95,18 +97,20 @@ impl LoadedModule {
         self.name.as_str() == name
     }
 
-    /// An address of the module, before it was moved to the base.
-    pub fn link(&self, address: u64) -> u64
+    /// The key of an address in the cache: the serial number of the load, and the link address.
+    pub fn key(&self, address: u64) -> (u64, u64)
         requires { start_of self.now.loaded ≤ address }
-        ensures { result ≡ address - self.now.loaded.base }
+        ensures serial { result.0 ≡ self.now.serial }
+        ensures link { result.1 ≡ address - self.now.loaded.base }
     {
-        address - self.base
+        (self.serial, address - self.base)
     }
 
     /// The extent at another base, or None past the greatest address.
     pub fn extent_at(&self, base: u64) -> Option<Extent>
         ensures { let m = moved_to base self.now.loaded in
-            MatchOption result (2 ^ 64 ≤ end_of m) (λ extent. IsExtentOf extent m × (start_of m < end_of m) × (end_of m < 2 ^ 64)) }
+            MatchOption result (2 ^ 64 ≤ end_of m)
+            (λ extent. IsExtentOf extent m × (start_of m < end_of m) × (end_of m < 2 ^ 64)) }
     {
         if base > u64::MAX - self.object.high() {
             return None;
@@ -133,7 +137,8 @@ impl LoadedModule {
     /// The place of a link address, if anything is known there.
     pub fn find(&self, link: u64, steps: &mut Steps) -> Option<Place>
         ensures place { result ≡ place_in self.now.loaded.bytes link }
-        ensures counted { (n : ℕ) × (n ≤ bits (length (cuts_in self.now.loaded.bytes)) + 1) × (steps.new ≡ counted n steps.old) }
+        ensures counted { (n : ℕ) × (n ≤ bits (length (cuts_in self.now.loaded.bytes)) + 1)
+            × (steps.new ≡ counted n steps.old) }
     {
         self.object.find(link, steps)
     }

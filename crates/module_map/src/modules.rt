@@ -1,33 +1,30 @@
 //! The modules that are loaded.
 
-ghost use Rattle.std.specs.Prelude.{◌≡◌, ◌≢◌, ◌<◌, ◌≤◌, ◌⊎◌, ◌+◌, ◌-◌, ◌^◌, ℕ, length, Bool, true, false, Some, None, IfOk, IfErr, MatchResult, Contains, Option, slice_index_or, find, map};
-ghost use Rattle.dwarf_bytes.specs.Refusals.{memory_fault};
-ghost use Rattle.addr_table.specs.Module.{place_in, cuts_in, high_of};
-ghost use Rattle.addr_table.specs.Steps.{counted, bits};
-ghost use Rattle.addr_table.specs.declared.place.Place.{Place};
-ghost use Rattle.module_map.specs.World.{Loaded, no_modules, start_of, end_of, is_named, name_at};
-ghost use Rattle.module_map.specs.Changes.{is_taken, is_full, place_fault, with_module, IsExtentOf, Loads, Unloads, Moves};
+ghost use Rattle.std.specs.Prelude.{◌≡◌, ◌≤◌, ◌⊎◌, Bool, true, false, Some, None};
+ghost use Rattle.std.specs.Prelude.{length, IfOk, IfErr, MatchResult};
+ghost use Rattle.module_map.specs.World.{Loaded, no_modules};
+ghost use Rattle.module_map.specs.Changes.{is_taken, is_full, place_fault, with_module};
+ghost use Rattle.module_map.specs.Changes.{IsExtentOf, Loads, Unloads, Moves};
 ghost use Rattle.module_map.specs.Answers.{asked as asked_of, frames_at};
 ghost use Rattle.module_map.specs.Counts.{TakesCompares, CachesAnswer, decoded_after};
-ghost use Rattle.module_map.specs.Private.Serials.{NumberedModule, IsAnswerOf};
-ghost use Rattle.module_map.specs.Listing.{listed};
+ghost use Rattle.module_map.specs.Listing.{listing};
 
 use crate::answer::Answer;
 use crate::asked::{Asked, Found};
 use crate::cache::Cache;
-use crate::loaded_module::LoadedModule;
-use crate::faults::{Extent, MapFault};
+use crate::faults::{Extent, MapFault, refusal};
+use crate::finding::look_up;
 use crate::listing::Listing;
+use crate::loaded_module::LoadedModule;
 use crate::sorted::SortedModules;
-use addr_table::{Module, Place, Steps};
-use dwarf_bytes::{Cause, LoadFault};
+use addr_table::{Module, Steps};
 use std::alloc::Global;
 use std::marker::Model;
 
 /// The most modules that are loaded at a time.
 const MOST_MODULES: usize = 4096;
 
-/// The modules that are loaded, and answers that are cached.
+/// The modules that are loaded, and a cache of answers.
 #[derive(Drop)]
 pub struct Modules {
     alloc: Global,
@@ -55,50 +52,16 @@ impl Model for Modules {
     ghost invariant = { λ m. AreSound m.sorted m.loads m.cache.entries };
 }
 
-/// Why an object that cannot be decoded is not loaded.
-fn refusal(fault: LoadFault) -> MapFault
-    ensures { (result ≡ MapFault.Memory) ⊎ ((result ≡ MapFault.Object fault) × (fault ≢ memory_fault)) }
-{
-    if fault.cause == Cause::Memory {
-        MapFault::Memory
-    } else {
-        MapFault::Object(fault)
-    }
-}
-
-/// What the module at a place answers at an address that it holds: what is cached of it, or else what
-/// is found, which is cached.
-fn look_up(
-    sorted: &SortedModules,
-    cache: &mut Cache,
-    steps: &mut Steps,
-    at: usize,
-    address: u64,
-) -> Option<Place>
-    requires within { at < length sorted.now }
-    requires held { (d : NumberedModule) → start_of (slice_index_or sorted.now at d).loaded ≤ address }
-    requires right { (h : NumberedModule) (e : (ℕ × ℕ) × Option Place) → Contains sorted.now h → Contains cache.old.entries e → h.serial ≡ e.0.0 → e.1 ≡ place_in h.loaded.bytes e.0.1 }
-    ensures place { (d : NumberedModule) → let m = (slice_index_or sorted.now at d).loaded in result ≡ place_in m.bytes (address - m.base) }
-    ensures cached { (d : NumberedModule) (e : (ℕ × ℕ) × Option Place) → Contains cache.new.entries e → Contains cache.old.entries e ⊎ IsAnswerOf (slice_index_or sorted.now at d) e }
-    ensures grows { (length cache.old.entries ≤ length cache.new.entries) × (length cache.new.entries ≤ length cache.old.entries + 1) }
-    ensures capacity { (length cache.new.entries ≤ cache.new.capacity) × (cache.new.capacity ≡ cache.old.capacity) }
-    ensures counted { (n : ℕ) × ((d : NumberedModule) → n ≤ bits (length (cuts_in (slice_index_or sorted.now at d).loaded.bytes)) + 1) × (steps.new ≡ counted n steps.old) }
-{
-    let loaded = sorted.loaded_at(at);
-    let serial = loaded.serial();
-    let link = loaded.link(address);
-    if let Some(place) = cache.get(serial, link) {
-        return place;
-    }
-    let place = loaded.find(link, steps);
-    cache.put(serial, link, place);
-    place
-}
-
 impl Modules {
     /// No modules. A cache of so many answers may want more memory than there is.
     pub fn new(alloc: Global, cache_entries: usize) -> Result<Modules, MapFault>
-        ensures modules { IfOk result (λ m. m ≡ record { world = no_modules; cached = 0; capacity = cache_entries; compares = 0; decoded = 0 }) }
+        ensures modules { IfOk result (λ m. m ≡ record {
+          world = no_modules;
+          cached = 0;
+          capacity = cache_entries;
+          compares = 0;
+          decoded = 0;
+        }) }
         ensures memory { IfErr result (λ fault. fault ≡ MapFault.Memory) }
     {
         let Ok(cache) = Cache::new(alloc, cache_entries) else {
@@ -123,7 +86,7 @@ impl Modules {
         self.steps
     }
 
-    /// How many answers are cached, and how many may be.
+    /// How many answers the cache has, and how many it may have.
     pub fn cached(&self) -> (usize, usize)
         ensures counts { (result.0 ≡ self.now.cached) × (result.1 ≡ self.now.capacity) }
         ensures within { result.0 ≤ result.1 }
@@ -145,9 +108,14 @@ impl Modules {
 
     /// Loads an object under a name at a base, or says why not; then nothing is changed.
     pub fn load(&mut self, name: &str, base: u64, bytes: Vec<u8>) -> Result<Extent, MapFault>
-        ensures step { (short : Bool) × Loads self.old.world (record { name = name.now; base = base; bytes = bytes.items }) short result self.new.world }
-        ensures cached { (self.new.cached ≡ self.old.cached) × (self.new.capacity ≡ self.old.capacity) × (self.new.compares ≡ self.old.compares) }
-        ensures decoded { self.new.decoded ≡ decoded_after self.old.decoded (length bytes.items) result }
+        ensures step { (short : Bool) × Loads self.old.world
+            (record { name = name.now; base = base; bytes = bytes.items }) short result
+            self.new.world }
+        ensures cached { (self.new.cached ≡ self.old.cached)
+            × (self.new.capacity ≡ self.old.capacity) }
+        ensures compares { self.new.compares ≡ self.old.compares }
+        ensures decoded { self.new.decoded ≡
+            decoded_after self.old.decoded (length bytes.items) result }
     {
         if self.is_taken(name) {
             return Err(MapFault::NameTaken);
@@ -157,18 +125,21 @@ impl Modules {
         }
         self.steps.decoded = self.steps.decoded.saturating_add(bytes.len() as u64);
         match Module::decode(self.alloc, bytes) {
-            Ok(object) => self.keep(name, base, object),
+            Ok(object) => self.add(name, base, object),
             Err((_, fault)) => Err(refusal(fault)),
         }
     }
 
-    /// Keeps an object under a new name, if it has a place and there is memory for it.
-    fn keep(&mut self, name: &str, base: u64, object: Module) -> Result<Extent, MapFault>
+    /// Adds an object under a new name, if it has a place and there is memory for it.
+    fn add(&mut self, name: &str, base: u64, object: Module) -> Result<Extent, MapFault>
         requires new { is_taken name.now self.old.world ≡ false }
         requires loads { is_full self.old.world ≡ false }
-        ensures { let m : Loaded = record { name = name.now; base = base; bytes = object } in MatchResult result
-            (λ extent. (place_fault m self.old.world.modules ≡ None) × IsExtentOf extent m × (self.new ≡ record self.old { world = with_module self.old.world m }))
-            (λ fault. ((fault ≡ MapFault.Memory) ⊎ (place_fault m self.old.world.modules ≡ Some fault)) × (self.new ≡ self.old)) }
+        ensures { let m : Loaded = record { name = name.now; base = base; bytes = object } in
+            MatchResult result
+            (λ extent. (place_fault m self.old.world.modules ≡ None) × IsExtentOf extent m
+            × (self.new ≡ record self.old { world = with_module self.old.world m }))
+            (λ fault. ((fault ≡ MapFault.Memory)
+            ⊎ (place_fault m self.old.world.modules ≡ Some fault)) × (self.new ≡ self.old)) }
     {
         if base > u64::MAX - object.high() {
             return Err(MapFault::Range);
@@ -191,7 +162,7 @@ impl Modules {
         Ok(extent)
     }
 
-    /// Takes the module of a name out. Answers of it that are cached are never asked again.
+    /// Takes the module of a name out. What the cache has of it is never asked again.
     pub fn unload(&mut self, name: &str) -> Result<(), MapFault>
         ensures step { Unloads self.old.world name.now result self.new.world }
         ensures counts { self.new ≡ record self.old { world = self.new.world } }
@@ -248,7 +219,8 @@ impl Modules {
     /// What an ask answered, where no module was loaded, unloaded or moved since.
     pub fn answer(&self, asked: Asked) -> Answer<'_>
         ensures address { result.address ≡ asked.address }
-        ensures frames { asked ≡ asked_of self.now.world asked.address → result.frames ≡ frames_at self.now.world asked.address }
+        ensures frames { asked ≡ asked_of self.now.world asked.address →
+            result.frames ≡ frames_at self.now.world asked.address }
     {
         let len = self.sorted.len();
         let Some(found) = asked.found else {
@@ -260,24 +232,18 @@ impl Modules {
         if found.at >= len {
             return Answer::none(asked.address);
         }
-        Answer::new(asked.address, self.sorted.loaded_at(found.at).object(), place)
+        Answer::new(
+            asked.address,
+            self.sorted.loaded_at(found.at).object(),
+            place,
+        )
     }
 
     /// The modules by rising address: the name, the extent and the base of each.
     pub fn list(&self) -> Listing<'_>
-        ensures modules { result ≡ map listed self.now.world.modules }
+        ensures modules { result ≡ listing self.now.world }
         ensures few { length self.now.world.modules ≤ 4096 }
     {
         self.sorted.list()
-    }
-
-    /// The name of the module at a place of the list.
-    pub fn name_at(&self, place: usize) -> &str
-        ensures { result.now ≡ name_at self.now.world.modules place }
-    {
-        if place >= self.sorted.len() {
-            return "";
-        }
-        self.sorted.loaded_at(place).name()
     }
 }

@@ -1,6 +1,8 @@
 //! Modules by rising address.
 
-ghost use Rattle.std.specs.Prelude.{◌≡◌, ◌<◌, ◌≤◌, ◌⊎◌, ◌+◌, ◌-◌, ◌^◌, [], ℕ, length, IfOk, OnErr, OnSome, None, IsSome, IfSome, MatchResult, MatchOption, position, insert, remove, slice_index_or, nat_le, map};
+ghost use Rattle.std.specs.Prelude.{◌≡◌, ◌<◌, ◌≤◌, ◌⊎◌, ◌+◌, ◌^◌, ℕ, [], length, None, OnSome};
+ghost use Rattle.std.specs.Prelude.{IfSome, MatchResult, position, insert, remove, map};
+ghost use Rattle.std.specs.Prelude.{slice_index_or};
 ghost use Rattle.addr_table.specs.Steps.{counted, bits};
 ghost use Rattle.addr_table.specs.Module.{high_of};
 ghost use Rattle.module_map.specs.World.{is_named, holds, start_of, end_of, moved_to};
@@ -38,7 +40,8 @@ impl Model for SortedModules {
 fn rotate(list: &mut [LoadedModule], own: usize, at: usize)
     requires own { own < length list.old }
     requires at { at ≤ length list.old }
-    ensures { (d : NumberedModule) → list.new ≡ relocated list.old own at (slice_index_or list.old own d) }
+    ensures { (d : NumberedModule) →
+        list.new ≡ relocated list.old own at (slice_index_or list.old own d) }
 {
     if at <= own {
         list[at..own + 1].rotate_right(1);
@@ -203,13 +206,14 @@ impl SortedModules {
         let _loaded = self.list.remove(at);
     }
 
-    /// Moves the module at a place to another base, and into the gap for it: what stands between its
-    /// old and its new place is turned.
+    /// Moves the module at a place to another base, and into the gap for it: what stands between
+    /// its old and its new place is turned.
     pub fn relocate(&mut self, own: usize, at: usize, base: u64)
         requires within { own < length self.old }
         requires fits { (d : NumberedModule) →
             base + high_of (slice_index_or self.old own d).loaded.bytes < 2 ^ 64 }
-        requires clear { (d : NumberedModule) → let m = moved_to base (slice_index_or self.old own d).loaded in
+        requires clear { (d : NumberedModule) →
+            let m = moved_to base (slice_index_or self.old own d).loaded in
             IsClear self.old own (start_of m) (end_of m) at }
         ensures { (d : NumberedModule) →
             self.new ≡ relocated self.old own at (rebased base (slice_index_or self.old own d)) }

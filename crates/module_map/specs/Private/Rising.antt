@@ -1,5 +1,6 @@
 -- Modules by rising address.
-use Rattle.std.specs.Prelude.{◌≡◌, ◌≢◌, ℕ, ◌+◌, ◌-◌, ◌<◌, ◌≤◌, ◌⊎◌, List, length, nat_le, slice_index_or, insert, remove, if◌then◌else◌}
+use Rattle.std.specs.Prelude.{◌≡◌, ◌≢◌, ℕ, ◌+◌, ◌-◌, ◌<◌, ◌≤◌, ◌⊎◌, List, length, nat_le}
+use Rattle.std.specs.Prelude.{slice_index_or, insert, remove, if◌then◌else◌}
 use Rattle.module_map.specs.World.{start_of, end_of, moved_to}
 use Rattle.module_map.specs.Private.Serials.{NumberedModule}
 
@@ -31,7 +32,8 @@ pub record HasBegun (held : List NumberedModule) (address n : ℕ) : Type 0 wher
   pub after : (k : ℕ) (d : NumberedModule) → n ≤ k → k < length held →
       address < start_of (slice_index_or held k d).loaded
 
--- But for the one at a place of its own, those before a place begin before a low end, and end there or before, and the others begin at a high end or later.
+-- But for the one at a place of its own, those before a place begin before a low end, and end there
+-- or before, and the others begin at a high end or later.
 pub record IsClear (held : List NumberedModule) (own low high at : ℕ) : Type 0 where
   pub within : at ≤ length held
   pub under : (k : ℕ) (d : NumberedModule) → k < at → IsOther own k →
@@ -41,7 +43,8 @@ pub record IsClear (held : List NumberedModule) (own low high at : ℕ) : Type 0
   pub after : (k : ℕ) (d : NumberedModule) → at ≤ k → k < length held → IsOther own k →
       high ≤ start_of (slice_index_or held k d).loaded
 
--- But for the one at a place of its own, the one at this place is the lowest that has an address between two ends.
+-- But for the one at a place of its own, the one at this place is the lowest that has an address
+-- between two ends.
 pub record IsMet (held : List NumberedModule) (own low high at : ℕ) : Type 0 where
   pub within : at < length held
   pub other : IsOther own at

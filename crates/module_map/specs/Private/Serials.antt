@@ -1,30 +1,38 @@
--- What the entries of loaded modules, and of the cache, stand for.
+-- What the loaded modules, and the entries of the cache, stand for.
 use Rattle.std.specs.Prelude.{◌≡◌, ℕ, ◌<◌, ◌≤◌, List, length, Contains, Option}
 use Rattle.addr_table.specs.Module.{place_in}
 use Rattle.addr_table.specs.declared.place.Place.{Place}
 use Rattle.module_map.specs.World.{Loaded, most_modules}
 
--- a module and the number of its load, which is never used again
+-- a module and the serial number of its load, which is never used again
 pub record NumberedModule : Type 0 where
   pub serial : ℕ
   pub loaded : Loaded
 
--- the answers that a cache keeps, by serial and link address, and how many it may keep
-pub record CacheEntries : Type 0 where
-  pub entries : List ((ℕ × ℕ) × Option Place)
-  pub capacity : ℕ
-
--- An answer of a module, by its serial number and the link address.
-abbrev pub IsAnswerOf : NumberedModule → (ℕ × ℕ) × Option Place → Type 0
-IsAnswerOf h e = (h.serial ≡ e.0.0) × (e.1 ≡ place_in h.loaded.bytes e.0.1)
-
--- There are no more modules than may be. A serial number is below the count of loads, and names the bytes of one module. What is remembered under it is what that module answers.
-pub record AreSound (held : List NumberedModule) (loads : ℕ) (entries : List ((ℕ × ℕ) × Option Place)) : Type 0 where
-  pub few : length held ≤ most_modules
-  pub below : (h : NumberedModule) → Contains held h → h.serial < loads
-  pub one : (h g : NumberedModule) → Contains held h → Contains held g → h.serial ≡ g.serial → h.loaded.bytes ≡ g.loaded.bytes
-  pub past : (e : (ℕ × ℕ) × Option Place) → Contains entries e → e.0.0 < loads
-  pub right : (e : (ℕ × ℕ) × Option Place) (h : NumberedModule) → Contains entries e → Contains held h → h.serial ≡ e.0.0 → e.1 ≡ place_in h.loaded.bytes e.0.1
-
 abbrev pub loaded_of : NumberedModule → Loaded
 loaded_of h = h.loaded
+
+-- a serial number and a link address, and what was found there
+abbrev pub CacheEntry : Type 0
+CacheEntry = (ℕ × ℕ) × Option Place
+
+-- the entries of a cache, and how many there may be
+pub record CacheEntries : Type 0 where
+  pub entries : List CacheEntry
+  pub capacity : ℕ
+
+-- an answer of a module
+abbrev pub IsAnswerOf : NumberedModule → CacheEntry → Type 0
+IsAnswerOf h e = (h.serial ≡ e.0.0) × (e.1 ≡ place_in h.loaded.bytes e.0.1)
+
+-- There are no more modules than may be. A serial number is below the count of loads, and names the
+-- bytes of one module. What the cache has under it is what that module answers.
+pub record AreSound (held : List NumberedModule) (loads : ℕ) (entries : List CacheEntry) :
+    Type 0 where
+  pub few : length held ≤ most_modules
+  pub below : (h : NumberedModule) → Contains held h → h.serial < loads
+  pub one : (h g : NumberedModule) → Contains held h → Contains held g →
+      h.serial ≡ g.serial → h.loaded.bytes ≡ g.loaded.bytes
+  pub past : (e : CacheEntry) → Contains entries e → e.0.0 < loads
+  pub right : (e : CacheEntry) (h : NumberedModule) → Contains entries e → Contains held h →
+      h.serial ≡ e.0.0 → e.1 ≡ place_in h.loaded.bytes e.0.1

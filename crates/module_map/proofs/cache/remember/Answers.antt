@@ -21,13 +21,13 @@ module _ {V T E : Type 0} (c : LruCache (ℕ × ℕ) V) (key : ℕ × ℕ) (v : 
   same_room (Err x) ok err = ap (λ l. l.cap) err
 
 pub returns-clause-cached : goal.returns-clause-cached
-returns-clause-cached c = cached c.args.answers.now (c.args.serial, c.args.link) c.args.place c.put.new.self c.put.result c.put.ensures.entries c.put.ensures.err
+returns-clause-cached c = cached c.args.answers.now c.args.key c.args.place c.put.new.self c.put.result c.put.ensures.entries c.put.ensures.err
 
 pub returns-clause-grows : goal.returns-clause-grows
-returns-clause-grows c = let g = grown c.args.answers.now (c.args.serial, c.args.link) c.args.place c.put.new.self c.put.result c.put.ensures.entries c.put.ensures.err
+returns-clause-grows c = let g = grown c.args.answers.now c.args.key c.args.place c.put.new.self c.put.result c.put.ensures.entries c.put.ensures.err
     c.len-count.ensures.valid.2 c.len-count.ensures.valid.1 in (g.0, g.1)
 
 pub returns-clause-within : goal.returns-clause-within
-returns-clause-within c = let g = grown c.args.answers.now (c.args.serial, c.args.link) c.args.place c.put.new.self c.put.result c.put.ensures.entries c.put.ensures.err
+returns-clause-within c = let g = grown c.args.answers.now c.args.key c.args.place c.put.new.self c.put.result c.put.ensures.entries c.put.ensures.err
     c.len-count.ensures.valid.2 c.len-count.ensures.valid.1 in
-    let same = same_room c.args.answers.now (c.args.serial, c.args.link) c.args.place c.put.new.self c.put.result c.put.ensures.entries c.put.ensures.err in omega arith
+    let same = same_room c.args.answers.now c.args.key c.args.place c.put.new.self c.put.result c.put.ensures.entries c.put.ensures.err in omega arith

@@ -7,4 +7,4 @@ invariant_of-self-2 c = λ x e. let fits = c.self.invariant c.in-Some.answers c.
 
 pub returns-clause-cached : goal.returns-clause-cached
 returns-clause-cached c = let was : c.in-Some.answers.entries ≡ c.args.self.now.entries = rw (← c.self.view_is, c.in-Some.is) refl in
-    λ e h. subst (λ l. Contains l e ⊎ (e ≡ ((c.args.serial, c.args.link), c.args.place))) was (c.remember.ensures.cached e h)
+    λ e h. subst (λ l. Contains l e ⊎ (e ≡ (c.args.key, c.args.place))) was (c.remember.ensures.cached e h)

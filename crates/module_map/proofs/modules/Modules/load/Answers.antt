@@ -1,6 +1,6 @@
 use Rattle.std.proofs.Common.{◌≡◌, sym, ap, subst, false}
 use Rattle.module_map.specs.Changes.{is_taken, is_full}
-use Rattle.module_map.proofs.Loading.{SomeLoad, name_taken, full, not_decoded, kept_bytes}
+use Rattle.module_map.proofs.Loading.{SomeLoad, name_taken, full, not_decoded, added_bytes}
 use Rattle.addr_table.proofs.FaultLaws.{well-formed-faultless}
 use Rattle.module_map.proofs.modules.Modules.load.Goals as goal
 
@@ -14,8 +14,8 @@ pub returns-in-Ok-clause-step : goal.returns-in-Ok-clause-step
 returns-in-Ok-clause-step c =
     let free = subst (λ v. is_taken c.args.name.now v.world ≡ false) (sym c.self.view_is) (sym c.if-is_taken.ensures) in
     let capacity = subst (λ v. is_full v.world ≡ false) (sym c.self.view_is) (sym c.if-is_full.ensures) in
-    subst (λ v. SomeLoad v.world (record { name = c.args.name.now; base = c.args.base; bytes = c.args.bytes.items }) c.keep.result c.keep.new.self.world) c.self.view_is
-    (kept_bytes _ c.keep.new.self c.args.name.now c.args.base c.in-Ok.object c.args.bytes.items c.keep.result free capacity c.in-Ok.ensures.ok.0 (well-formed-faultless c.args.bytes.items c.in-Ok.ensures.ok.1) c.keep.ensures)
+    subst (λ v. SomeLoad v.world (record { name = c.args.name.now; base = c.args.base; bytes = c.args.bytes.items }) c.add.result c.add.new.self.world) c.self.view_is
+    (added_bytes _ c.add.new.self c.args.name.now c.args.base c.in-Ok.object c.args.bytes.items c.add.result free capacity c.in-Ok.ensures.ok.0 (well-formed-faultless c.args.bytes.items c.in-Ok.ensures.ok.1) c.add.ensures)
 
 pub returns-clause-step : goal.returns-clause-step
 returns-clause-step c =

@@ -1,7 +1,8 @@
 use Rattle.std.proofs.Common.{sym, ◌∙◌, ap, subst}
 use Rattle.std.specs.Prelude.{insert}
 use Rattle.module_map.specs.Private.Rising.{AreRising}
-use Rattle.module_map.proofs.Gaps.{rising_insert, names_differ}
+use Rattle.module_map.proofs.Edits.{rising_insert}
+use Rattle.module_map.proofs.Names.{names_differ}
 use Rattle.module_map.proofs.sorted.SortedModules.insert.Goals as goal
 
 pub invariant_of-self-2 : goal.invariant_of-self-2

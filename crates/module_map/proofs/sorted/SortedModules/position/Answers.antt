@@ -1,6 +1,6 @@
 use Rattle.std.proofs.Common.{subst}
 use Rattle.module_map.specs.Private.Rising.{AreRising}
-use Rattle.module_map.proofs.Gaps.{only_named}
+use Rattle.module_map.proofs.Names.{only_named}
 use Rattle.module_map.proofs.sorted.SortedModules.position.Goals as goal
 
 pub returns-clause-only : goal.returns-clause-only

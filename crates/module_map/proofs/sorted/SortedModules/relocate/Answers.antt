@@ -1,6 +1,7 @@
 use Rattle.std.proofs.Common.{◌≡◌, length, sym, ap, subst, ◌∙◌, arith}
 use Rattle.module_map.specs.Private.Rising.{AreRising}
-use Rattle.module_map.proofs.Gaps.{rising_turned, turned_set, whole}
+use Rattle.module_map.proofs.Edits.{rising_turned}
+use Rattle.module_map.proofs.Names.{turned_set, whole}
 use Rattle.module_map.proofs.sorted.SortedModules.relocate.Goals as goal
 
 pub rotate-requires-clause-at : goal.rotate-requires-clause-at

@@ -1,6 +1,6 @@
 use Rattle.std.proofs.Common.{sym, subst, ◌<◌, length}
 use Rattle.module_map.specs.Private.Rising.{AreRising}
-use Rattle.module_map.proofs.Gaps.{rising_remove}
+use Rattle.module_map.proofs.Edits.{rising_remove}
 use Rattle.module_map.proofs.sorted.SortedModules.remove.Goals as goal
 
 pub invariant_of-self : goal.invariant_of-self

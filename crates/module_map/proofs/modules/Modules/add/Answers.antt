@@ -10,7 +10,7 @@ use Rattle.module_map.specs.Counts.{ModuleMap}
 use Rattle.module_map.specs.Private.Serials.{AreSound, NumberedModule}
 use Rattle.module_map.proofs.Serials.{sound_insert}
 use Rattle.module_map.proofs.Changing.{same_but_modules, room_left, free_name, over_any, free_all, kept_there, world_of}
-use Rattle.module_map.proofs.modules.Modules.keep.Goals as goal
+use Rattle.module_map.proofs.modules.Modules.add.Goals as goal
 
 -- what is seen after an insert
 abbrev map_with : List NumberedModule → ℕ → List ((ℕ × ℕ) × Option Place) → ℕ → Steps → ModuleMap

@@ -1,0 +1,20 @@
+-- The module at a place of the listing, for a caller that asks `list().nth(place)`.
+use Rattle.std.proofs.Common.{◌≡◌, ℕ, zero, suc, List, [], ◌∷◌, map, refl, ap}
+use Rattle.std.specs.Prelude.{Option, None, Some, option_map, slice_get}
+use Rattle.std.specs.Borrow.{Bor}
+use Rattle.module_map.specs.World.{Loaded, name_at}
+use Rattle.module_map.specs.Listing.{Listed, listed, item_listed}
+use Rattle.module_map.specs.declared.faults.Extent.{Extent}
+
+unwrap : {a b : Listed} → Some a ≡ Some b → a ≡ b
+unwrap e = cc
+
+pub listed_name : (modules : List Loaded) (place : ℕ) (item : Bor (List ℕ) × Extent × ℕ) → option_map item_listed (Some item) ≡ slice_get (map listed modules) place → item.0.now ≡ name_at modules place
+listed_name [] place item e = cc
+listed_name (m ∷ modules) zero item e = ap (λ (l : Listed). l.name) (unwrap e)
+listed_name (m ∷ modules) (suc place) item e = listed_name modules place item e
+
+pub no_listed_name : (modules : List Loaded) (place : ℕ) → (let none : Option (Bor (List ℕ) × Extent × ℕ) = None in option_map item_listed none) ≡ slice_get (map listed modules) place → [] ≡ name_at modules place
+no_listed_name [] place e = refl
+no_listed_name (m ∷ modules) zero e = cc
+no_listed_name (m ∷ modules) (suc place) e = no_listed_name modules place e

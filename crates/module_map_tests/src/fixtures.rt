@@ -1,0 +1,49 @@
+//! Modules for the tests, and what is expected of them.
+
+use dwarf_samples::INLINED;
+use module_map::{Extent, MapFault, Modules};
+use std::alloc::{AllocError, Global};
+use std::process::Abort;
+use std::test::*;
+
+/// The bytes of a sample.
+pub fn copy(alloc: Global, object: &[u8]) -> Result<Vec<u8>, AllocError> {
+    let mut bytes = Vec::new(alloc);
+    bytes.extend_from_slice(object)?;
+    Ok(bytes)
+}
+
+/// The first sample at a base, alone, with a cache of so many entries.
+pub fn one(alloc: Global, base: u64, cache_entries: usize) -> Result<Modules, Fail> {
+    let mut modules = Modules::new(alloc, cache_entries)?;
+    modules.load("a", base, copy(alloc, &INLINED)?)?;
+    Ok(modules)
+}
+
+/// Where an object of 0x1000 bytes from a place lies.
+pub fn from(low: u64) -> Result<Extent, MapFault> {
+    Ok(Extent {
+        low,
+        high: low.saturating_add(0x1000),
+    })
+}
+
+/// The line of the innermost frame at an address; none where nothing is known.
+pub fn line(modules: &mut Modules, address: u64) -> Option<u64> {
+    let asked = modules.ask(address);
+    let frame = modules.answer(asked).frames().next()?;
+    Some(frame.line())
+}
+
+/// Checks the name and the extent of each module of the list.
+pub fn lists(rt: &impl Abort, modules: &Modules, expected: &[(&str, u64, u64)]) {
+    let mut list = modules.list();
+    for (name, low, base) in expected {
+        let extent = Extent {
+            low: *low,
+            high: low.saturating_add(0x1000),
+        };
+        assert_eq!(rt; list.next(), Some((*name, extent, *base)));
+    }
+    assert!(rt; list.next().is_none(), "too many modules");
+}
