@@ -9,8 +9,22 @@ mod streams;
 mod tests;
 
 use std::process::ExitCode;
+use std::{env, io};
 
-/// Status 0 at the end of input, or 1 with the reason on standard error.
+/// Status 0 at the end of input, of the addresses among the words, or after help; 1 after a fault of
+/// the run; 2 where the words are refused, or are no UTF-8. Standard error tells why.
 fn main(rt: HostRuntime) -> ExitCode {
-    ExitCode::from(streams::serve(&rt))
+    match words(&rt) {
+        Ok(words) => ExitCode::from(streams::serve(&rt, &words)),
+        Err(fault) => {
+            let _ = eprintln!(rt; "addr2line_live: {fault}");
+            ExitCode::from(2)
+        }
+    }
+}
+
+/// The words of the command line, the first of which is the program's name.
+fn words(rt: &HostRuntime) -> io::Result<Vec<String>> {
+    let words = env::args(rt)?.collect(rt.alloc())?;
+    Ok(words)
 }

@@ -1,8 +1,13 @@
 -- The modules as they are listed.
-use Rattle.std.proofs.Common.{◌≡◌, ℕ, List, [], ◌++◌, subst}
-use Rattle.std.specs.Prelude.{Option, Result, Ok, Err, flat_map, codes}
+use Rattle.std.proofs.Common.{◌≡◌, ◌∙◌, ℕ, List, [], ◌++◌, subst, refl, ap}
+use Rattle.std.specs.Prelude.{Option, None, Some, Result, Ok, Err, flat_map, codes, map, slice_get, option_map}
+use Rattle.std.specs.Option.{option_map_or}
+use Rattle.std.specs.Borrow.{Bor}
+use Rattle.std.proofs.lemmas.Option.{slice_get-map}
+use Rattle.module_map.specs.World.{Loaded, name_at}
+use Rattle.module_map.specs.declared.faults.Extent.{Extent}
 use Rattle.std.specs.Io.KnownBytes.{Appends}
-use Rattle.module_map.specs.Listing.{Listed}
+use Rattle.module_map.specs.Listing.{Listed, listed, item_listed}
 use Rattle.answer_text.specs.Devices.{IsBeginning, Writes}
 use Rattle.answer_text.specs.Pending.{Put, Cut}
 use Rattle.answer_text.proofs.PendingLemmas.{puts_then, writes_all}
@@ -23,3 +28,17 @@ list_writes {E} a b c d h h' h'' items all r e f p q w =
     let B : List ℕ → Type 0 = λ z. Put a c z h'' (flat_map module_text items ++ codes "end\n") in
     let C : List Listed → Type 0 = λ z. Writes a d r (list_text z) in
     subst C f (writes_all _ _ _ _ _ _ (subst B e k) w)
+
+-- ---- one module of the list
+
+-- what is listed at a place has the name of the module there
+pub listed_name : (item : Option (Bor (List ℕ) × Extent × ℕ)) (modules : List Loaded) (place : ℕ) → option_map item_listed item ≡ slice_get (map listed modules) place →
+    option_map_or (λ i. i.0.now) item [] ≡ name_at modules place
+listed_name item modules place e = at item (slice_get modules place) (e ∙ slice_get-map listed modules place)
+  where
+    at : (item : Option (Bor (List ℕ) × Extent × ℕ)) (m : Option Loaded) → option_map item_listed item ≡ option_map listed m →
+        option_map_or (λ i. i.0.now) item [] ≡ option_map_or (λ m. m.name) m []
+    at None None e = refl
+    at None (Some m) e = absurd cc
+    at (Some i) None e = absurd cc
+    at (Some i) (Some m) e = ap (λ (z : Option Listed). option_map_or (λ l. l.name) z []) e

@@ -4,7 +4,7 @@
 
 mod commands;
 mod line_buffer;
-mod program;
+mod programs;
 mod replies;
 mod running;
 mod serving;
@@ -13,5 +13,5 @@ mod starting;
 mod words;
 
 pub use commands::{BadLine, Command, parse_line};
-pub use program::finish;
+pub use programs::program;
 pub use running::run;

@@ -7,6 +7,7 @@ ghost use Rattle.module_map.specs.Listing.{Listed, listed};
 ghost use Rattle.command_loop.specs.Private.Serving.{reply_of, IsCurrent};
 ghost use Rattle.command_loop.specs.Text.{line_word, fetch_word, map_words, object_text, refused, done_at, unloaded, module_text, list_text, text};
 ghost use Rattle.command_loop.specs.Replies.{met_name};
+ghost use Rattle.module_map.specs.World.{name_at};
 
 use crate::commands::BadLine;
 use crate::serving::Done;
@@ -65,6 +66,16 @@ pub fn write_object_refusal<W: Sink>(fault: &LoadFault, writer: &mut W) -> Resul
     write_texts(&texts, writer)
 }
 
+/// The name of the module at a place of the list; nothing where there is none.
+fn name_at<'a>(modules: &'a Modules, place: usize) -> &'a str
+    ensures { result.now ≡ name_at modules.now.world.modules place }
+{
+    match modules.list().nth(place) {
+        None => "",
+        Some(listed) => listed.0,
+    }
+}
+
 /// Writes the refusal of a module that would meet another one.
 fn write_overlap<W: Sink>(met: &str, writer: &mut W) -> Result<(), DeviceFault>
     ensures bytes { Writes (W.written writer.old) (W.written writer.new) result (refused (codes "overlap " ++ met.now)) }
@@ -89,7 +100,7 @@ fn write_map_refusal<W: Sink>(
         MapFault::Full => write_refusal("full", writer),
         MapFault::Object(fault) => write_object_refusal(&fault, writer),
         MapFault::Range => write_refusal("range", writer),
-        MapFault::Overlap(place) => write_overlap(modules.name_at(place), writer),
+        MapFault::Overlap(place) => write_overlap(name_at(modules, place), writer),
         MapFault::Memory => write_refusal("memory", writer),
     }
 }
