@@ -1,9 +1,0 @@
-pub mod DeviceLemmas
-pub mod LineLemmas
-pub mod FieldLemmas
-pub mod PendingLemmas
-pub mod DecodedLemmas
-pub mod ModuleLemmas
-pub mod ProgressLemmas
-pub mod RunLemmas
-pub mod ServingLemmas

@@ -2,8 +2,7 @@
 
 ghost use Rattle.std.specs.Prelude.{◌≤◌, ◌^◌, IfOk, vec_len, None};
 
-use crate::devices::Objects;
-use crate::faults::FetchFault;
+use answer_text::{FetchFault, Objects};
 use std::alloc::Global;
 use std::fs;
 use std::io::Read;

@@ -1,37 +1,30 @@
 //! A symbolizer that stays up: addr2line over ELF-64 objects with DWARF 5. It reads commands and
 //! addresses as lines from standard input, and replies to each on standard output before it reads
-//! more. Modules are loaded at a base, and an address is answered by the place in the source of the
-//! first row of the line matrix that covers it (DWARF 5, 6.2).
+//! more. Modules are loaded at a base, moved and unloaded while it runs.
 #![tactic(auto)]
 
-mod commands;
-mod decoded;
-mod devices;
-mod faults;
 mod file_source;
-mod line_buffer;
-mod modules;
-mod numerals;
-mod options;
-mod pending;
-mod places;
-mod printing;
-mod replies;
-mod serving;
-mod session;
 mod streams;
 #[cfg(test)]
 mod tests;
 
 use std::process::ExitCode;
+use std::{env, io};
 
-/// Status 0 at the end of input, or 1 with the reason on standard error.
+/// Status 0 at the end of input, of the addresses among the words, or after help; 1 after a fault of
+/// the run; 2 where the words are refused, or are no UTF-8. Standard error tells why.
 fn main(rt: HostRuntime) -> ExitCode {
-    match streams::serve(&rt) {
-        Ok(()) => ExitCode::SUCCESS,
+    match words(&rt) {
+        Ok(words) => ExitCode::from(streams::serve(&rt, &words)),
         Err(fault) => {
             let _ = eprintln!(rt; "addr2line_live: {fault}");
-            ExitCode::FAILURE
+            ExitCode::from(2)
         }
     }
+}
+
+/// The words of the command line, the first of which is the program's name.
+fn words(rt: &HostRuntime) -> io::Result<Vec<String>> {
+    let words = env::args(rt)?.collect(rt.alloc())?;
+    Ok(words)
 }

@@ -1,21 +1,24 @@
 //! The standard streams and the file system as the devices of a run.
 
-use crate::devices::Device;
-use crate::faults::RunFault;
 use crate::file_source::FileSource;
-use crate::options::Options;
-use crate::session::run;
-use std::io::BufWriter;
+use answer_text::Device;
+use command_loop::program;
 
-/// Serves standard input, with replies to standard output and objects from files.
-pub fn serve(rt: &HostRuntime) -> Result<(), RunFault> {
+/// Serves the words of the command line, the first of which is the program's name: standard input,
+/// with replies to standard output, what is wrong to standard error, and objects from files. The
+/// answer is the exit status.
+pub fn serve(rt: &HostRuntime, words: &[String]) -> u8 {
     let alloc = rt.alloc();
-    let Ok(buffer) = BufWriter::new(alloc, rt.stdout()) else {
-        return Err(RunFault::Memory);
-    };
     let mut reader = Device::new(rt.stdin());
-    let mut writer = Device::new(buffer);
+    let mut writer = Device::new(rt.stdout());
+    let mut errors = Device::new(rt.stderr());
     let mut source = FileSource::new(alloc, rt);
-    let options = Options::plain(alloc);
-    run(alloc, &options, &mut reader, &mut writer, &mut source)
+    program(
+        alloc,
+        words,
+        &mut reader,
+        &mut writer,
+        &mut errors,
+        &mut source,
+    )
 }

@@ -1,9 +1,0 @@
-use Rattle.std.proofs.Common.{◌≡◌, take, map}
-use Rattle.addr2line_live.specs.Pending.{Put}
-use Rattle.addr2line_live.specs.Printable.{printable}
-use Rattle.addr2line_live.proofs.pending.Pending.put_printable.Given as goal
-
-abbrev pub invariant-loop-byte : goal.invariant-loop-byte
-invariant-loop-byte g l =
-    Put (g.W.Sink.written l.initial.writer) (g.W.Sink.written l.writer) l.initial.self l.self (map printable (take l.byte-index l.text))
-    × (g.W.Sink.failures l.writer ≡ g.W.Sink.failures l.initial.writer)

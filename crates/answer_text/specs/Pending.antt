@@ -1,0 +1,20 @@
+-- What is held for writing.
+use Rattle.std.specs.Prelude.{◌≡◌, ℕ, List, ◌++◌, Option, Result, Ok, Err}
+use Rattle.std.specs.Io.KnownBytes.{Appends}
+use Rattle.answer_text.specs.Devices.{IsBeginning}
+
+-- A text was put behind what is held: all of it was written but for what is held afterwards.
+pub record Put (written written' : Option (List ℕ)) (held held' : List ℕ) (text : List ℕ) : Type 0 where
+  pub sent : List ℕ
+  pub kept : held ++ text ≡ sent ++ held'
+  pub appended : Appends written written' sent
+
+-- A write failed while a text was put behind what is held: a beginning of it was written.
+pub record Cut (written written' : Option (List ℕ)) (held : List ℕ) (text : List ℕ) : Type 0 where
+  pub sent : List ℕ
+  pub begins : IsBeginning sent (held ++ text)
+  pub appended : Appends written written' sent
+
+abbrev pub Puts : {E : Type 0} → Option (List ℕ) → Option (List ℕ) → List ℕ → List ℕ → Result (Unit {0}) E → List ℕ → Type 0
+Puts written written' held held' (Ok done) text = Put written written' held held' text
+Puts written written' held held' (Err fault) text = Cut written written' held text

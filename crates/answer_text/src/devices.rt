@@ -1,0 +1,139 @@
+//! What the command loop reads from, writes to and asks for objects.
+
+ghost use Rattle.std.specs.Prelude.{◌≡◌, ◌≢◌, ℕ, ◌+◌, ◌-◌, ◌*◌, ◌<◌, ◌≤◌, ◌^◌, List, [], ◌∷◌, ◌++◌, length, take, drop, Option, None, Some, Result, IfOk, OnErr, OnOk, IfErr, MatchResult, is_ok};
+ghost use Rattle.std.specs.Io.{ReadsAtMost, WritesAtMost};
+ghost use Rattle.std.specs.Io.KnownBytes.{ReadConsumes, WriteAppends, Keeps, Appends};
+ghost use Rattle.answer_text.specs.Devices.{one_more, failures_after, write_failures, Grows, fetched_of, Writes};
+ghost use Rattle.answer_text.specs.declared.faults.FetchFault.{FetchFault};
+
+use crate::faults::FetchFault;
+use std::io::{Read, Write};
+use thiserror::Error;
+
+/// A read, a write or a flush that failed.
+#[derive(Clone, Copy, Debug, PartialEq, Eq, Error)]
+#[error("the device failed")]
+pub struct DeviceFault;
+
+/// A reader of bytes that counts its failures and has a bounded number of reads.
+pub trait Feed {
+    // The bytes that are left, where they are told.
+    ghost left: { Self → Option (List ℕ) };
+    // How many reads have failed, up to the greatest u64.
+    ghost failures: { Self → ℕ };
+    // A number that each read of some bytes lowers.
+    ghost reads_left: { Self → ℕ };
+
+    fn read(&mut self, buf: &mut [u8]) -> Result<usize, DeviceFault>
+        ensures bound { ReadsAtMost result buf.new }
+        ensures bytes { ReadConsumes (left self.old) (left self.new) result buf.new }
+        ensures failures { failures self.new ≡ failures_after (failures self.old) result }
+        ensures reads { IfOk result (λ n. 0 < n → reads_left self.new < reads_left self.old) };
+}
+
+/// A writer of bytes that counts its failures.
+pub trait Sink {
+    // The bytes that it holds, where they are told.
+    ghost written: { Self → Option (List ℕ) };
+    // How many writes and flushes have failed, up to the greatest u64.
+    ghost failures: { Self → ℕ };
+
+    fn write(&mut self, bytes: &[u8]) -> Result<usize, DeviceFault>
+        ensures bound { WritesAtMost result bytes.now }
+        ensures bytes { WriteAppends (written self.old) (written self.new) result bytes.now }
+        ensures failures { failures self.new ≡ write_failures (failures self.old) bytes.now result };
+
+    fn flush(&mut self) -> Result<(), DeviceFault>
+        ensures bytes { Keeps (written self.old) (written self.new) }
+        ensures failures { failures self.new ≡ failures_after (failures self.old) result };
+}
+
+/// A source of objects by their path.
+pub trait Objects {
+    // What it was asked and has answered, in order, where that is told.
+    ghost asked: { Self → Option (List (List ℕ × Result (List ℕ) FetchFault)) };
+
+    fn fetch(&mut self, path: &str) -> Result<Vec<u8>, FetchFault>
+        ensures asked { Grows (asked self.old) (asked self.new) ((path.now, fetched_of result) ∷ []) };
+}
+
+/// A `Feed` of a std reader, a `Sink` of a std writer. It counts failures and tells no bytes.
+#[derive(Drop)]
+pub struct Device<T: Drop> {
+    inner: T,
+    reads_left: u64,
+    failures: u64,
+}
+
+impl<T: Drop> Device<T> {
+    /// A device that has not failed, and has 2^64-1 reads of some bytes left.
+    pub fn new(inner: T) -> Self
+        ensures failures { result.failures ≡ 0 }
+        ensures reads { result.reads_left ≡ 2 ^ 64 - 1 }
+    {
+        Device {
+            inner,
+            reads_left: u64::MAX,
+            failures: 0,
+        }
+    }
+}
+
+impl<T: Read + Drop> Feed for Device<T> {
+    ghost left = { λ _. None };
+
+    ghost failures = { λ d. d.failures };
+
+    ghost reads_left = { λ d. d.reads_left };
+
+    fn read(&mut self, buf: &mut [u8]) -> Result<usize, DeviceFault> {
+        if self.reads_left == 0 {
+            self.failures = self.failures.saturating_add(1);
+            return Err(DeviceFault);
+        }
+        match self.inner.read(buf) {
+            Ok(n) => {
+                if n > 0 {
+                    self.reads_left -= 1;
+                }
+                Ok(n)
+            }
+            Err(_) => {
+                self.failures = self.failures.saturating_add(1);
+                Err(DeviceFault)
+            }
+        }
+    }
+}
+
+impl<T: Write + Drop> Sink for Device<T> {
+    ghost written = { λ _. None };
+
+    ghost failures = { λ d. d.failures };
+
+    fn write(&mut self, bytes: &[u8]) -> Result<usize, DeviceFault> {
+        match self.inner.write(bytes) {
+            Ok(0) => {
+                if !bytes.is_empty() {
+                    self.failures = self.failures.saturating_add(1);
+                }
+                Ok(0)
+            }
+            Ok(n) => Ok(n),
+            Err(_) => {
+                self.failures = self.failures.saturating_add(1);
+                Err(DeviceFault)
+            }
+        }
+    }
+
+    fn flush(&mut self) -> Result<(), DeviceFault> {
+        match self.inner.flush() {
+            Ok(()) => Ok(()),
+            Err(_) => {
+                self.failures = self.failures.saturating_add(1);
+                Err(DeviceFault)
+            }
+        }
+    }
+}

@@ -1,0 +1,126 @@
+//! The texts of frames.
+
+ghost use Rattle.std.specs.Prelude.{◌≡◌, ◌++◌, ◌∷◌, [], List};
+ghost use Rattle.answer_text.specs.Devices.{failures_after};
+ghost use Rattle.answer_text.specs.Pending.{Puts};
+ghost use Rattle.answer_text.specs.Printable.{known_text};
+ghost use Rattle.answer_text.specs.Private.Paths.{text_told};
+ghost use Rattle.answer_text.specs.Text.{name_of, file_of, after_name, before_later, name_text, place_text, frame_text, later_text};
+
+use crate::devices::{DeviceFault, Sink};
+use crate::options::Options;
+use crate::paths::{put_base_name, put_path};
+use crate::pending::Pending;
+use addr_table::Frame;
+use itoa::Buffer;
+
+/// The name that is printed.
+fn printed_name<'a>(options: &Options, frame: &Frame<'a>) -> Option<&'a [u8]>
+    ensures { text_told result ≡ name_of options.now frame.now }
+{
+    if !options.linkage {
+        return frame.name();
+    }
+    match frame.linkage() {
+        Some(name) => Some(name),
+        None => frame.name(),
+    }
+}
+
+fn after_name(options: &Options) -> &'static [u8]
+    ensures { result.now ≡ after_name options.now }
+{
+    if options.pretty { b" at " } else { b"\n" }
+}
+
+fn before_later(options: &Options) -> &'static [u8]
+    ensures { result.now ≡ before_later options.now }
+{
+    if options.pretty {
+        b" (inlined by) "
+    } else {
+        b""
+    }
+}
+
+/// Puts the name of a frame, where names are asked for.
+fn put_name<W: Sink>(
+    options: &Options,
+    frame: &Frame<'_>,
+    pending: &mut Pending,
+    writer: &mut W,
+) -> Result<(), DeviceFault>
+    ensures bytes { Puts (W.written writer.old) (W.written writer.new) pending.old pending.new result (name_text options.now frame.now) }
+    ensures failures { W.failures writer.new ≡ failures_after (W.failures writer.old) result }
+{
+    if !options.functions {
+        return pending.put(b"", writer);
+    }
+    pending.put_known(printed_name(options, frame), writer)?;
+    pending.put(after_name(options), writer)
+}
+
+/// Puts the path of a frame, or what follows its last slash; `??` where that is nothing.
+fn put_file<W: Sink>(
+    options: &Options,
+    frame: &Frame<'_>,
+    pending: &mut Pending,
+    writer: &mut W,
+) -> Result<(), DeviceFault>
+    ensures bytes { Puts (W.written writer.old) (W.written writer.new) pending.old pending.new result (known_text (file_of options.now frame.now)) }
+    ensures failures { W.failures writer.new ≡ failures_after (W.failures writer.old) result }
+{
+    let Some(path) = frame.path() else {
+        return pending.put(b"??", writer);
+    };
+    if options.basenames {
+        put_base_name(path, pending, writer)
+    } else {
+        put_path(path, pending, writer)
+    }
+}
+
+/// Puts the file and the line of a frame.
+fn put_place<W: Sink>(
+    options: &Options,
+    frame: &Frame<'_>,
+    pending: &mut Pending,
+    writer: &mut W,
+) -> Result<(), DeviceFault>
+    ensures bytes { Puts (W.written writer.old) (W.written writer.new) pending.old pending.new result (place_text options.now frame.now) }
+    ensures failures { W.failures writer.new ≡ failures_after (W.failures writer.old) result }
+{
+    put_file(options, frame, pending, writer)?;
+    let mut buffer = Buffer::new();
+    let line = buffer.format(frame.line()).as_bytes();
+    let texts: [&[u8]; 3] = [b":", line, b"\n"];
+    pending.put_all(&texts, writer)
+}
+
+/// Puts a frame.
+pub fn put_frame<W: Sink>(
+    options: &Options,
+    frame: &Frame<'_>,
+    pending: &mut Pending,
+    writer: &mut W,
+) -> Result<(), DeviceFault>
+    ensures bytes { Puts (W.written writer.old) (W.written writer.new) pending.old pending.new result (frame_text options.now frame.now) }
+    ensures failures { W.failures writer.new ≡ failures_after (W.failures writer.old) result }
+{
+    put_name(options, frame, pending, writer)?;
+    put_place(options, frame, pending, writer)
+}
+
+/// Puts a frame that is not the innermost.
+pub fn put_later<W: Sink>(
+    options: &Options,
+    frame: &Frame<'_>,
+    pending: &mut Pending,
+    writer: &mut W,
+) -> Result<(), DeviceFault>
+    ensures bytes { Puts (W.written writer.old) (W.written writer.new) pending.old pending.new result (later_text options.now frame.now) }
+    ensures failures { W.failures writer.new ≡ failures_after (W.failures writer.old) result }
+{
+    pending.put(before_later(options), writer)?;
+    put_frame(options, frame, pending, writer)
+}

@@ -1,0 +1,19 @@
+//! The texts of answers, and what they are written to: devices, text on its way to a sink, numbers
+//! as they are read and printed, and the options of an answer.
+#![tactic(auto)]
+
+mod devices;
+mod faults;
+mod frame_text;
+mod numerals;
+mod options;
+mod paths;
+mod pending;
+mod printing;
+
+pub use devices::{Device, DeviceFault, Feed, Objects, Sink};
+pub use faults::{ExeFault, FetchFault, RunFault};
+pub use numerals::{address_text, parse_number};
+pub use options::Options;
+pub use pending::{Pending, write_texts};
+pub use printing::print;

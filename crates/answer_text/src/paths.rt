@@ -1,0 +1,113 @@
+//! The texts of paths.
+
+ghost use Rattle.std.specs.Prelude.{◌≡◌, List, ◌++◌, ◌∷◌, [], Some, flat_map, map};
+ghost use Rattle.std.specs.List.{after_last, join_with_byte};
+ghost use Rattle.answer_text.specs.Devices.{failures_after};
+ghost use Rattle.answer_text.specs.Pending.{Puts};
+ghost use Rattle.answer_text.specs.Printable.{known_text};
+ghost use Rattle.answer_text.specs.Text.{base_name};
+ghost use Rattle.answer_text.specs.Private.Paths.{last_behind, slashed};
+
+use crate::devices::{DeviceFault, Sink};
+use crate::pending::Pending;
+use addr_table::Path;
+
+/// What follows the last slash of a path: all of it where there is none.
+fn base_name(path: &[u8]) -> &[u8]
+    ensures { result.now ≡ base_name path.now }
+{
+    let mut start = path.len();
+    while start > 0 && path[start - 1] != b'/' {
+        start -= 1;
+    }
+    &path[start..]
+}
+
+/// The last part of a path; nothing where it has none.
+fn last_part<'a>(path: Path<'a>) -> &'a [u8]
+    ensures { result.now ≡ last_behind [] path.entry }
+{
+    let mut last: &'a [u8] = b"";
+    for part in path {
+        last = part;
+    }
+    last
+}
+
+/// Puts what follows the last slash of a path, or `??` where that is nothing.
+pub fn put_base_name<W: Sink>(
+    path: Path<'_>,
+    pending: &mut Pending,
+    writer: &mut W,
+) -> Result<(), DeviceFault>
+    ensures bytes { Puts (W.written writer.old) (W.written writer.new) pending.old pending.new result
+        (known_text (Some (base_name (join_with_byte 47 path.entry)))) }
+    ensures failures { W.failures writer.new ≡ failures_after (W.failures writer.old) result }
+{
+    pending.put_known(Some(base_name(last_part(path))), writer)
+}
+
+/// Puts a part, and a slash before it.
+fn put_slashed<W: Sink>(
+    part: &[u8],
+    pending: &mut Pending,
+    writer: &mut W,
+) -> Result<(), DeviceFault>
+    ensures bytes { Puts (W.written writer.old) (W.written writer.new) pending.old pending.new result (slashed part.now) }
+    ensures failures { W.failures writer.new ≡ failures_after (W.failures writer.old) result }
+{
+    pending.put(b"/", writer)?;
+    pending.put_printable(part, writer)
+}
+
+/// Puts what is left of a path, with a slash before each part.
+fn put_rest<W: Sink>(
+    path: Path<'_>,
+    pending: &mut Pending,
+    writer: &mut W,
+) -> Result<(), DeviceFault>
+    ensures bytes { Puts (W.written writer.old) (W.written writer.new) pending.old pending.new result (flat_map slashed path.entry) }
+    ensures failures { W.failures writer.new ≡ failures_after (W.failures writer.old) result }
+{
+    for part in path {
+        put_slashed(part, pending, writer)?;
+    }
+    Ok(())
+}
+
+/// Puts what is left of a path behind a first part of no byte, or `??` where that is nothing.
+fn put_behind_nothing<W: Sink>(
+    mut path: Path<'_>,
+    pending: &mut Pending,
+    writer: &mut W,
+) -> Result<(), DeviceFault>
+    ensures bytes { Puts (W.written writer.old) (W.written writer.new) pending.old pending.new result
+        (known_text (Some (join_with_byte 47 ([] ∷ path.entry)))) }
+    ensures failures { W.failures writer.new ≡ failures_after (W.failures writer.old) result }
+{
+    let Some(part) = path.next() else {
+        return pending.put(b"??", writer);
+    };
+    put_slashed(part, pending, writer)?;
+    put_rest(path, pending, writer)
+}
+
+/// Puts a path: its parts with slashes between them, or `??` where that is nothing.
+pub fn put_path<W: Sink>(
+    mut path: Path<'_>,
+    pending: &mut Pending,
+    writer: &mut W,
+) -> Result<(), DeviceFault>
+    ensures bytes { Puts (W.written writer.old) (W.written writer.new) pending.old pending.new result
+        (known_text (Some (join_with_byte 47 path.entry))) }
+    ensures failures { W.failures writer.new ≡ failures_after (W.failures writer.old) result }
+{
+    let Some(part) = path.next() else {
+        return pending.put(b"??", writer);
+    };
+    if part.is_empty() {
+        return put_behind_nothing(path, pending, writer);
+    }
+    pending.put_printable(part, writer)?;
+    put_rest(path, pending, writer)
+}

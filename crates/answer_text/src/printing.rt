@@ -1,0 +1,125 @@
+//! The texts of answers.
+
+ghost use Rattle.std.specs.Prelude.{◌≡◌, ◌++◌, ◌∷◌, [], List, IfErr, flat_map};
+ghost use Rattle.answer_text.specs.Devices.{Writes, failures_after};
+ghost use Rattle.answer_text.specs.Pending.{Puts};
+ghost use Rattle.answer_text.specs.Text.{after_address, nothing_text, later_text, frames_text, heading_text, answer_text};
+
+use crate::devices::{DeviceFault, Sink};
+use crate::faults::RunFault;
+use crate::frame_text::{put_frame, put_later};
+use crate::numerals::address_text;
+use crate::options::Options;
+use crate::pending::Pending;
+use addr_table::Frames;
+use module_map::Answer;
+
+fn after_address(options: &Options) -> &'static [u8]
+    ensures { result.now ≡ after_address options.now }
+{
+    if options.pretty { b": " } else { b"\n" }
+}
+
+/// The text where nothing is known.
+fn nothing_text(options: &Options) -> &'static [u8]
+    ensures { result.now ≡ nothing_text options.now }
+{
+    if !options.functions {
+        return b"??:0\n";
+    }
+    if options.pretty {
+        b"?? ??:0\n"
+    } else {
+        b"??\n??:0\n"
+    }
+}
+
+/// Puts the frames after the innermost one.
+fn put_rest<W: Sink>(
+    options: &Options,
+    frames: Frames<'_>,
+    pending: &mut Pending,
+    writer: &mut W,
+) -> Result<(), DeviceFault>
+    ensures bytes { Puts (W.written writer.old) (W.written writer.new) pending.old pending.new result (flat_map (later_text options.now) frames.entry) }
+    ensures failures { W.failures writer.new ≡ failures_after (W.failures writer.old) result }
+{
+    for frame in frames {
+        put_later(options, &frame, pending, writer)?;
+    }
+    Ok(())
+}
+
+/// Puts frames: the innermost one alone, or all of them.
+fn put_frames<W: Sink>(
+    options: &Options,
+    mut frames: Frames<'_>,
+    pending: &mut Pending,
+    writer: &mut W,
+) -> Result<(), DeviceFault>
+    ensures bytes { Puts (W.written writer.old) (W.written writer.new) pending.old pending.new result (frames_text options.now frames.entry) }
+    ensures failures { W.failures writer.new ≡ failures_after (W.failures writer.old) result }
+{
+    let Some(frame) = frames.next() else {
+        return pending.put(nothing_text(options), writer);
+    };
+    put_frame(options, &frame, pending, writer)?;
+    if !options.inlines {
+        return pending.put(b"", writer);
+    }
+    put_rest(options, frames, pending, writer)
+}
+
+/// Puts the address, where addresses are asked for.
+fn put_heading<W: Sink>(
+    options: &Options,
+    address: u64,
+    pending: &mut Pending,
+    writer: &mut W,
+) -> Result<(), DeviceFault>
+    ensures bytes { Puts (W.written writer.old) (W.written writer.new) pending.old pending.new result (heading_text options.now address) }
+    ensures failures { W.failures writer.new ≡ failures_after (W.failures writer.old) result }
+{
+    if !options.addresses {
+        return pending.put(b"", writer);
+    }
+    let address = address_text(address);
+    let texts: [&[u8]; 2] = [&address, after_address(options)];
+    pending.put_all(&texts, writer)
+}
+
+/// Puts an answer.
+#[tactic(auto, unfolding(crate::specs::Text::answer_text))]
+fn put_answer<W: Sink>(
+    options: &Options,
+    answer: &Answer<'_>,
+    pending: &mut Pending,
+    writer: &mut W,
+) -> Result<(), DeviceFault>
+    ensures bytes { Puts (W.written writer.old) (W.written writer.new) pending.old pending.new result (answer_text options.now answer.now) }
+    ensures failures { W.failures writer.new ≡ failures_after (W.failures writer.old) result }
+{
+    put_heading(options, answer.address(), pending, writer)?;
+    put_frames(options, answer.frames(), pending, writer)
+}
+
+/// Writes an answer, ended by a line feed, and does not flush. It takes no memory. After
+/// `RunFault::Writing`, which is the only fault, a beginning of the text is written.
+pub fn print<W: Sink>(
+    options: &Options,
+    answer: &Answer<'_>,
+    writer: &mut W,
+) -> Result<(), RunFault>
+    ensures bytes { Writes (W.written writer.old) (W.written writer.new) result (answer_text options.now answer.now) }
+    ensures fault { IfErr result (λ fault. fault ≡ RunFault.Writing) }
+    ensures failures { W.failures writer.new ≡ failures_after (W.failures writer.old) result }
+{
+    let mut pending = Pending::new();
+    if put_answer(options, answer, &mut pending, writer).is_err() {
+        return Err(RunFault::Writing);
+    }
+    if pending.send(writer).is_err() {
+        return Err(RunFault::Writing);
+    }
+    Ok(())
+}

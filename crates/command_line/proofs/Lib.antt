@@ -1,0 +1,4 @@
+pub mod WordLemmas
+pub mod SizeLemmas
+pub mod ParserLemmas
+pub mod SettingsLemmas

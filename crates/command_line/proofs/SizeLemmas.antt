@@ -1,0 +1,10 @@
+-- Decimal digits, one after another.
+use Rattle.std.proofs.Common.{ℕ, ◌+◌, ◌*◌, ◌<◌, ◌≤◌, ◌^◌, arith, lit<}
+use Rattle.std.proofs.Math.Nat.{pow-le-pow_right}
+
+-- one more decimal digit fits
+pub digit_fits : (value i n : ℕ) → value < 10 ^ i → i < n → n ≤ 16 → value * 10 + 9 < 2 ^ 64
+digit_fits value i n below lt most =
+    let room : 10 ^ i ≤ 10 ^ 15 = pow-le-pow_right (lit< tt) {j = 15} (omega arith) in
+    let small : value < 10 ^ 15 = omega (arith, room, below) in
+    omega (arith, small)

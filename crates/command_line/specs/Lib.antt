@@ -1,0 +1,4 @@
+pub mod CommandLine
+pub mod Settings
+pub mod Refusals
+pub mod Private

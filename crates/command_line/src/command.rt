@@ -1,0 +1,149 @@
+//! The command line as the parser is told of it.
+
+ghost use Rattle.std.specs.Prelude.{◌≡◌, IfOk, MatchResult, map, false, pos, string_bytes};
+ghost use Rattle.clap.specs.Walk.{rows_of, rule_of};
+ghost use Rattle.clap.specs.Matches.{found_of};
+ghost use Rattle.clap.specs.Simple.{matches_of, app_of};
+ghost use Rattle.clap.specs.Kinds.{HasKind};
+ghost use Rattle.clap.specs.Faults.{fault_of};
+ghost use Rattle.clap.specs.declared.builder.value_parser.ValueParser.TheVariants.{Names, Signed};
+ghost use Rattle.command_line.specs.CommandLine.{flag_rule, exe_rule, cache_rule, linkage_rule};
+ghost use Rattle.command_line.specs.CommandLine.{words_rule, app_with, our_app};
+ghost use Rattle.command_line.specs.Refusals.{IsTaken};
+ghost use Rattle.command_line.specs.Private.Parsing.{IsNoAddress};
+
+use crate::faults::CliFault;
+use crate::help::{ABOUT, COMMANDS};
+use clap::{Arg, ArgAction, ArgMatches, Command, Error};
+use std::alloc::{AllocError, Global};
+
+/// The sizes that a cache may have, as a refusal names them.
+const SIZES: [&str; 1] = ["a number from 0 to 65536"];
+
+/// A flag with a letter and a long name, which is its id.
+fn flag(alloc: Global, letter: char, name: &'static str, help: &'static str) -> Arg<'static>
+    ensures rule { rule_of result ≡ flag_rule letter name.entry.now }
+    ensures local { result.global ≡ false }
+{
+    Arg::new(alloc, name)
+        .short(letter)
+        .long(name)
+        .help(help)
+        .action(ArgAction::SetTrue)
+}
+
+/// The flag for linkage names.
+fn linkage(alloc: Global) -> Arg<'static>
+    ensures rule { rule_of result ≡ linkage_rule }
+    ensures local { result.global ≡ false }
+{
+    Arg::new(alloc, "linkage")
+        .long("linkage")
+        .help("Print linkage names where there are any")
+        .action(ArgAction::SetTrue)
+}
+
+/// The object that is loaded first.
+fn exe(alloc: Global) -> Arg<'static>
+    ensures rule { rule_of result ≡ exe_rule }
+    ensures local { result.global ≡ false }
+{
+    Arg::new(alloc, "exe")
+        .short('e')
+        .long("exe")
+        .value_name("FILE")
+        .help("Load FILE first, under the name exe at base 0")
+        .action(ArgAction::Set)
+}
+
+/// How many answers may be kept.
+fn cache<'a>(alloc: Global) -> Arg<'a>
+    ensures rule { rule_of result ≡ cache_rule (Signed (pos 0) (pos 65536)) }
+    ensures local { result.global ≡ false }
+{
+    Arg::new(alloc, "cache")
+        .long("cache")
+        .value_name("N")
+        .help("Keep N answers, 0 to 65536 [default: 1024]")
+        .action(ArgAction::Set)
+        .value_parser(clap::value_parser!(u32).range(0..=65536))
+}
+
+/// The same, where every size is refused.
+fn no_cache<'a>(alloc: Global, sizes: &'a [&'a str]) -> Arg<'a>
+    ensures rule { rule_of result ≡ cache_rule (Names sizes.entry) }
+    ensures local { result.global ≡ false }
+{
+    Arg::new(alloc, "cache")
+        .long("cache")
+        .value_name("N")
+        .action(ArgAction::Set)
+        .value_parser(sizes)
+}
+
+/// The addresses.
+fn addresses(alloc: Global) -> Arg<'static>
+    ensures rule { rule_of result ≡ words_rule }
+    ensures local { result.global ≡ false }
+{
+    Arg::new(alloc, "words")
+        .value_name("ADDR")
+        .help("Answer these addresses, and read no input")
+        .action(ArgAction::Append)
+}
+
+/// The command, but for its help, with an argument for the size of the cache.
+fn command<'a>(alloc: Global, size: Arg<'a>) -> Result<Command<'a>, AllocError>
+    requires { size.global ≡ false }
+    ensures { IfOk result (λ c. app_of c ≡ app_with (rule_of size.entry)) }
+{
+    Command::new(alloc, "addr2line_live")
+        .arg(flag(
+            alloc,
+            'a',
+            "addresses",
+            "Print the address before each answer",
+        ))?
+        .arg(flag(alloc, 'f', "functions", "Print the names of functions"))?
+        .arg(flag(
+            alloc,
+            'i',
+            "inlines",
+            "Print the callers into which it was inlined",
+        ))?
+        .arg(flag(alloc, 'p', "pretty-print", "Print each frame on one line"))?
+        .arg(flag(alloc, 's', "basenames", "Print base names of files"))?
+        .arg(linkage(alloc))?
+        .arg(exe(alloc))?
+        .arg(size)?
+        .arg(addresses(alloc))
+}
+
+/// What the parser makes of the words.
+pub fn parse<'a>(alloc: Global, words: &'a [String]) -> Result<ArgMatches<'a>, Error>
+    ensures { MatchResult result
+        (λ m. IsTaken (map string_bytes words.entry.now)
+        × (rows_of (found_of m) ≡ matches_of our_app (map string_bytes words.entry.now)))
+        (HasKind (fault_of our_app (map string_bytes words.entry.now))) }
+{
+    let command = command(alloc, cache(alloc))?;
+    command
+        .about(ABOUT)
+        .after_help(COMMANDS)
+        .try_get_matches_from(words)
+}
+
+/// The refusal of words in which only the size of the cache is bad: a sign, say, which the parser would
+/// take. It comes of a command that refuses all sizes.
+pub fn refused_size<'a>(alloc: Global, words: &'a [String]) -> CliFault<'a>
+    ensures { IsNoAddress result }
+{
+    let command = match command(alloc, no_cache(alloc, &SIZES)) {
+        Ok(command) => command,
+        Err(_) => return CliFault::Memory,
+    };
+    match command.try_get_matches_from(words) {
+        Ok(_) => CliFault::Memory,
+        Err(error) => CliFault::of(error),
+    }
+}

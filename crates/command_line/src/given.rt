@@ -1,0 +1,33 @@
+//! What was given on a command line, read from the parser's matches.
+
+ghost use Rattle.std.specs.Prelude.{◌≡◌, map, option_map, codes};
+ghost use Rattle.clap.specs.Walk.{rows_of, first_of, all_of};
+ghost use Rattle.clap.specs.Matches.{found_of};
+ghost use Rattle.command_line.specs.Settings.{is_flag};
+
+use clap::ArgMatches;
+
+/// Whether a flag was given.
+pub fn is_set(matches: &ArgMatches<'_>, id: &str) -> bool
+    ensures { result ≡ is_flag id.now (rows_of (found_of matches.now)) }
+{
+    match text(matches, id) {
+        Some(given) => given == "true",
+        None => false,
+    }
+}
+
+/// The text that was given to an option.
+pub fn text<'a>(matches: &ArgMatches<'a>, id: &str) -> Option<&'a str>
+    ensures { option_map (λ s. s.now) result ≡ first_of id.now (rows_of (found_of matches.now)) }
+{
+    matches.get_str(id)
+}
+
+/// The words that are no options, if there are any.
+pub fn words<'b, 'a>(matches: &'b ArgMatches<'a>) -> Option<&'b [&'a str]>
+    ensures { option_map (λ s. map (λ v. v.now) s.now) result
+        ≡ all_of (codes "words") (rows_of (found_of matches.entry.now)) }
+{
+    matches.get_strs("words")
+}

@@ -1,0 +1,13 @@
+//! The command line: its options, and the addresses among its words.
+#![tactic(auto)]
+
+mod command;
+mod faults;
+mod given;
+mod help;
+mod settings;
+mod size;
+mod words;
+
+pub use faults::CliFault;
+pub use settings::options;

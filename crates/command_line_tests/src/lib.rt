@@ -1,0 +1,5 @@
+//! Tests of the command line.
+#![tactic(auto)]
+
+#[cfg(test)]
+mod options;

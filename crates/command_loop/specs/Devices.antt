@@ -1,0 +1,20 @@
+-- What a run leaves of the failures that its devices tell.
+use Rattle.std.specs.Prelude.{ℕ, Result, Ok, Err}
+use Rattle.answer_text.specs.Devices.{one_more}
+use Rattle.answer_text.specs.declared.faults.RunFault.{RunFault}
+use Rattle.answer_text.specs.declared.faults.RunFault.TheVariants.{Reading, Writing, Memory, Exe}
+
+-- a run fails to read, or to write, once at most, and ends there
+abbrev pub read_failures_after : ℕ → Result (Unit {0}) RunFault → ℕ
+read_failures_after n (Err Reading) = one_more n
+read_failures_after n (Err Writing) = n
+read_failures_after n (Err Memory) = n
+read_failures_after n (Err (Exe why)) = n
+read_failures_after n (Ok done) = n
+
+abbrev pub write_failures_after : ℕ → Result (Unit {0}) RunFault → ℕ
+write_failures_after n (Err Writing) = one_more n
+write_failures_after n (Err Reading) = n
+write_failures_after n (Err Memory) = n
+write_failures_after n (Err (Exe why)) = n
+write_failures_after n (Ok done) = n

@@ -1,0 +1,24 @@
+-- What a parsed command stands for.
+use Rattle.std.specs.Prelude.{ℕ, List, [], Option, Some, None, Result, Ok, Err}
+use Rattle.command_loop.specs.Requests.{Request, fields}
+use Rattle.command_loop.specs.Requests.Request.{Load, Unload, Move, ListAll, Ask}
+use Rattle.command_loop.specs.declared.commands.BadLine.{BadLine}
+use Rattle.command_loop.specs.declared.commands.Command.{Command}
+use Rattle.command_loop.specs.declared.commands.Command.TheVariants as command
+
+abbrev pub request_of : Command → Request
+request_of (command.Load name base path) = Load name.now base path.now
+request_of (command.Unload name) = Unload name.now
+request_of (command.Move name base) = Move name.now base
+request_of command.List = ListAll
+request_of (command.Ask address) = Ask address
+
+-- the request that a line was parsed to, or why there is none
+abbrev pub parsed : Result Command BadLine → Result Request BadLine
+parsed (Ok c) = Ok (request_of c)
+parsed (Err bad) = Err bad
+
+-- the fields of what follows a space, if there is one
+abbrev pub cut_parts : Option (List ℕ) → List (List ℕ)
+cut_parts None = []
+cut_parts (Some rest) = fields rest

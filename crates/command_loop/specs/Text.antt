@@ -1,0 +1,69 @@
+-- The text of replies.
+use Rattle.std.specs.Prelude.{ℕ, List, [], ◌∷◌, ◌++◌, flat_map, codes, decimal}
+use Rattle.dwarf_bytes.specs.Words.{section_name, cause_word}
+use Rattle.dwarf_bytes.specs.declared.fault.LoadFault.{LoadFault}
+use Rattle.module_map.specs.Listing.{Listed}
+use Rattle.module_map.specs.declared.faults.MapFault.{MapFault}
+use Rattle.module_map.specs.declared.faults.MapFault.TheVariants as modules
+use Rattle.answer_text.specs.Numerals.{address_text}
+use Rattle.answer_text.specs.Text.{answer_text}
+use Rattle.answer_text.specs.declared.options.Options.{Options}
+use Rattle.answer_text.specs.declared.faults.FetchFault.{FetchFault}
+use Rattle.answer_text.specs.declared.faults.FetchFault.TheVariants as sources
+use Rattle.command_loop.specs.Replies.{Reply}
+use Rattle.command_loop.specs.Replies.Reply.{Unreadable, NotFetched, Refused, LoadedAt, Unloaded, MovedTo, AllListed, Answered}
+use Rattle.command_loop.specs.declared.commands.BadLine.{BadLine}
+use Rattle.command_loop.specs.declared.commands.BadLine.TheVariants as lines
+
+abbrev pub line_word : BadLine → List ℕ
+line_word lines.LongLine = codes "long-line"
+line_word lines.Command = codes "command"
+line_word lines.Fields = codes "fields"
+line_word lines.Name = codes "name"
+line_word lines.Number = codes "number"
+line_word lines.Path = codes "path"
+
+abbrev pub fetch_word : FetchFault → List ℕ
+fetch_word sources.File = codes "file"
+fetch_word sources.TooLarge = codes "too-large"
+fetch_word sources.Memory = codes "memory"
+
+abbrev pub object_text : LoadFault → List ℕ
+object_text fault = codes "object " ++ section_name fault.section ++ codes " " ++ cause_word fault.cause ++ codes " at " ++ decimal fault.at
+
+-- why modules are not changed, and the name of the module that one would meet
+abbrev pub map_words : MapFault → List ℕ → List ℕ
+map_words modules.NameTaken met = codes "name-taken"
+map_words modules.NoModule met = codes "no-module"
+map_words modules.Full met = codes "full"
+map_words (modules.Object fault) met = object_text fault
+map_words modules.Range met = codes "range"
+map_words (modules.Overlap place) met = codes "overlap " ++ met
+map_words modules.Memory met = codes "memory"
+
+abbrev pub refused : List ℕ → List ℕ
+refused words = codes "refused " ++ words ++ 10 ∷ []
+
+-- where a module was loaded, or moved to
+abbrev pub done_at : List ℕ → List ℕ → ℕ → ℕ → List ℕ
+done_at done name low high = done ++ name ++ codes " " ++ address_text low ++ codes "-" ++ address_text high ++ 10 ∷ []
+
+abbrev pub unloaded : List ℕ → List ℕ
+unloaded name = codes "unloaded " ++ name ++ 10 ∷ []
+
+abbrev pub module_text : Listed → List ℕ
+module_text m = codes "module " ++ m.name ++ codes " " ++ address_text m.low ++ codes "-" ++ address_text m.high ++ codes " " ++ address_text m.base ++ 10 ∷ []
+
+abbrev pub list_text : List Listed → List ℕ
+list_text modules = flat_map module_text modules ++ codes "end\n"
+
+-- the text of a reply; each line of it is ended by a line feed
+unfoldable pub text : Options → Reply → List ℕ
+text options (Unreadable bad) = refused (line_word bad)
+text options (NotFetched fault) = refused (fetch_word fault)
+text options (Refused fault met) = refused (map_words fault met)
+text options (LoadedAt name low high) = done_at (codes "loaded ") name low high
+text options (Unloaded name) = unloaded name
+text options (MovedTo name low high) = done_at (codes "moved ") name low high
+text options (AllListed modules) = list_text modules
+text options (Answered answer) = answer_text options answer

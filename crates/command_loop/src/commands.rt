@@ -1,0 +1,236 @@
+//! What a line asks for.
+
+ghost use Rattle.std.specs.Prelude.{◌≡◌, ◌∷◌, [], List, option_map, MatchOption, IsTrue, ◌↔◌, IfSome, option_copied, position, ◌==◌, if◌then◌else◌, Some, None, true, false, ◌<◌, not};
+ghost use Rattle.std.specs.List.{slice_split, list_all};
+ghost use Rattle.command_loop.specs.Requests.{parse, is_name, is_path, fields, load_of, unload_of, move_of, list_of, checked_load, checked_move, request_of_fields, address_of, is_name_byte};
+ghost use Rattle.answer_text.specs.Numbers.{number};
+ghost use Rattle.command_loop.specs.Private.Commands.{parsed, cut_parts};
+
+use answer_text::parse_number;
+use std::str;
+use thiserror::Error;
+
+/// Why a line is no request.
+#[derive(Clone, Copy, Debug, PartialEq, Eq, Error)]
+pub enum BadLine {
+    /// It has more than 4,096 bytes.
+    #[error("long-line")]
+    LongLine = 1,
+    /// Its first field names no command, or it is no number.
+    #[error("command")]
+    Command = 2,
+    /// It has too few fields.
+    #[error("fields")]
+    Fields = 3,
+    /// A name is not of 1 to 64 letters, digits, `_`, `-` and `.`.
+    #[error("name")]
+    Name = 4,
+    /// A number is not of 1 to 16 hexadecimal digits.
+    #[error("number")]
+    Number = 5,
+    /// A path is empty, has a NUL, or is no UTF-8.
+    #[error("path")]
+    Path = 6,
+}
+
+/// What a line asks for.
+#[derive(Debug, Clone, Copy)]
+pub enum Command<'a> {
+    Load(&'a str, u64, &'a str),
+    Unload(&'a str),
+    Move(&'a str, u64),
+    List,
+    Ask(u64),
+}
+
+/// The place of the first space.
+fn first_space(text: &[u8]) -> Option<usize>
+    ensures { result ≡ position (λ byte. byte == 32) text.now }
+{
+    text.iter().position(|byte| *byte == b' ')
+}
+
+/// What stands before the first space, and what follows it, if there is one.
+fn cut(text: &[u8]) -> (&[u8], Option<&[u8]>)
+    ensures { fields text.now ≡ result.0.now ∷ cut_parts (option_copied result.1) }
+{
+    match first_space(text) {
+        None => (text, None),
+        Some(at) => (&text[..at], Some(&text[at + 1..])),
+    }
+}
+
+fn is_name_part(byte: u8) -> bool
+    ensures { result ≡ is_name_byte byte }
+{
+    byte.is_ascii_alphanumeric() || byte == b'_' || byte == b'-' || byte == b'.'
+}
+
+/// Whether each byte may stand in a name.
+fn are_name_parts(text: &[u8]) -> bool
+    ensures { result ≡ list_all is_name_byte text.now }
+{
+    text.iter().all(|byte| is_name_part(*byte))
+}
+
+/// Whether no byte is NUL.
+fn has_no_nul(text: &[u8]) -> bool
+    ensures { result ≡ list_all (λ byte. not (byte == 0)) text.now }
+{
+    text.iter().all(|byte| *byte != 0)
+}
+
+/// The text of a name.
+#[tactic(auto, unfolding(crate::specs::Requests::is_name))]
+fn parse_name(text: &[u8]) -> Option<&str>
+    ensures { MatchOption result (is_name text.now ≡ false) (λ name. (is_name text.now ≡ true) × (name.now ≡ text.now)) }
+{
+    if text.is_empty() || text.len() > 64 || !are_name_parts(text) {
+        return None;
+    }
+    match str::from_utf8(text) {
+        Ok(name) => Some(name),
+        Err(_) => None,
+    }
+}
+
+/// The text of a path.
+#[tactic(auto, unfolding(crate::specs::Requests::is_path))]
+fn parse_path(text: &[u8]) -> Option<&str>
+    ensures { MatchOption result (is_path text.now ≡ false) (λ path. (is_path text.now ≡ true) × (path.now ≡ text.now)) }
+{
+    if text.is_empty() || !has_no_nul(text) {
+        return None;
+    }
+    match str::from_utf8(text) {
+        Ok(path) => Some(path),
+        Err(_) => None,
+    }
+}
+
+/// A load, whose operands are tested in order.
+fn check_load<'a>(name: &'a [u8], base: &[u8], path: &'a [u8]) -> Result<Command<'a>, BadLine>
+    ensures { parsed result ≡ checked_load name.entry.now (number base.now) path.entry.now }
+{
+    let Some(name) = parse_name(name) else {
+        return Err(BadLine::Name);
+    };
+    let Some(base) = parse_number(base) else {
+        return Err(BadLine::Number);
+    };
+    let Some(path) = parse_path(path) else {
+        return Err(BadLine::Path);
+    };
+    Ok(Command::Load(name, base, path))
+}
+
+/// The operands of a load: a name, a base, and all that follows the third space.
+fn parse_load<'a>(operands: Option<&'a [u8]>) -> Result<Command<'a>, BadLine>
+    ensures { parsed result ≡ load_of (cut_parts (option_copied operands.entry)) }
+{
+    let Some(operands) = operands else {
+        return Err(BadLine::Fields);
+    };
+    let (name, rest) = cut(operands);
+    let Some(rest) = rest else {
+        return Err(BadLine::Fields);
+    };
+    let (base, path) = cut(rest);
+    let Some(path) = path else {
+        return Err(BadLine::Fields);
+    };
+    check_load(name, base, path)
+}
+
+/// The operand of an unload: a name.
+fn parse_unload<'a>(operands: Option<&'a [u8]>) -> Result<Command<'a>, BadLine>
+    ensures { parsed result ≡ unload_of (cut_parts (option_copied operands.entry)) }
+{
+    let Some(operands) = operands else {
+        return Err(BadLine::Fields);
+    };
+    let (name, rest) = cut(operands);
+    if rest.is_some() {
+        return Err(BadLine::Fields);
+    }
+    match parse_name(name) {
+        Some(name) => Ok(Command::Unload(name)),
+        None => Err(BadLine::Name),
+    }
+}
+
+/// A move, whose operands are tested in order.
+fn check_move<'a>(name: &'a [u8], base: &[u8]) -> Result<Command<'a>, BadLine>
+    ensures { parsed result ≡ checked_move name.entry.now (number base.now) }
+{
+    let Some(name) = parse_name(name) else {
+        return Err(BadLine::Name);
+    };
+    let Some(base) = parse_number(base) else {
+        return Err(BadLine::Number);
+    };
+    Ok(Command::Move(name, base))
+}
+
+/// The operands of a move: a name and a base.
+fn parse_move<'a>(operands: Option<&'a [u8]>) -> Result<Command<'a>, BadLine>
+    ensures { parsed result ≡ move_of (cut_parts (option_copied operands.entry)) }
+{
+    let Some(operands) = operands else {
+        return Err(BadLine::Fields);
+    };
+    let (name, rest) = cut(operands);
+    let Some(rest) = rest else {
+        return Err(BadLine::Fields);
+    };
+    let (base, more) = cut(rest);
+    if more.is_some() {
+        return Err(BadLine::Fields);
+    }
+    check_move(name, base)
+}
+
+/// A list has no operand.
+fn parse_list<'a>(operands: Option<&'a [u8]>) -> Result<Command<'a>, BadLine>
+    ensures { parsed result ≡ list_of (cut_parts (option_copied operands.entry)) }
+{
+    match operands {
+        None => Ok(Command::List),
+        Some(_) => Err(BadLine::Fields),
+    }
+}
+
+/// A line of one field that is a number.
+fn parse_address<'a>(word: &[u8], operands: Option<&'a [u8]>) -> Result<Command<'a>, BadLine>
+    ensures { parsed result ≡ address_of (number word.now) (cut_parts (option_copied operands.entry)) }
+{
+    let Some(address) = parse_number(word) else {
+        return Err(BadLine::Command);
+    };
+    match operands {
+        None => Ok(Command::Ask(address)),
+        Some(_) => Err(BadLine::Command),
+    }
+}
+
+/// What a line asks for, or the first rule that it breaks.
+#[tactic(auto, unfolding(crate::specs::Requests::parse))]
+pub fn parse_line(line: &[u8]) -> Result<Command<'_>, BadLine>
+    ensures { parsed result ≡ parse line.now }
+{
+    if line.len() > 4096 {
+        return Err(BadLine::LongLine);
+    }
+    let (word, operands) = cut(line);
+    if word == b"load".as_slice() {
+        parse_load(operands)
+    } else if word == b"unload".as_slice() {
+        parse_unload(operands)
+    } else if word == b"move".as_slice() {
+        parse_move(operands)
+    } else if word == b"list".as_slice() {
+        parse_list(operands)
+    } else {
+        parse_address(word, operands)
+    }
+}

@@ -1,0 +1,215 @@
+//! The texts of replies.
+
+ghost use Rattle.std.specs.Prelude.{◌≡◌, ◌++◌, ◌∷◌, [], List, codes, flat_map, map};
+ghost use Rattle.answer_text.specs.Devices.{failures_after, Writes};
+ghost use Rattle.answer_text.specs.Pending.{Puts};
+ghost use Rattle.module_map.specs.Listing.{Listed, listed};
+ghost use Rattle.command_loop.specs.Private.Serving.{reply_of, IsCurrent};
+ghost use Rattle.command_loop.specs.Text.{line_word, fetch_word, map_words, object_text, refused, done_at, unloaded, module_text, list_text, text};
+ghost use Rattle.command_loop.specs.Replies.{met_name};
+ghost use Rattle.module_map.specs.World.{name_at};
+
+use crate::commands::BadLine;
+use crate::serving::Done;
+use answer_text::{
+    DeviceFault, FetchFault, Options, Pending, Sink, address_text, print, write_texts,
+};
+use dwarf_bytes::LoadFault;
+use itoa::Buffer;
+use module_map::{Extent, Listing, MapFault, Modules};
+
+/// The word for a line that is no command.
+fn line_word(bad: BadLine) -> &'static str
+    ensures { result.now ≡ line_word bad }
+{
+    match bad {
+        BadLine::LongLine => "long-line",
+        BadLine::Command => "command",
+        BadLine::Fields => "fields",
+        BadLine::Name => "name",
+        BadLine::Number => "number",
+        BadLine::Path => "path",
+    }
+}
+
+/// The word for an object that the source does not give.
+pub fn fetch_word(fault: FetchFault) -> &'static str
+    ensures { result.now ≡ fetch_word fault }
+{
+    match fault {
+        FetchFault::File => "file",
+        FetchFault::TooLarge => "too-large",
+        FetchFault::Memory => "memory",
+    }
+}
+
+/// Writes a refusal of one word.
+pub fn write_refusal<W: Sink>(word: &str, writer: &mut W) -> Result<(), DeviceFault>
+    ensures bytes { Writes (W.written writer.old) (W.written writer.new) result (refused word.now) }
+    ensures failures { W.failures writer.new ≡ failures_after (W.failures writer.old) result }
+{
+    let texts: [&[u8]; 3] = [b"refused ", word.as_bytes(), b"\n"];
+    write_texts(&texts, writer)
+}
+
+/// Writes the refusal of an object: the section that holds its first fault, what is wrong, and the
+/// offset of the item that holds it.
+pub fn write_object_refusal<W: Sink>(fault: &LoadFault, writer: &mut W) -> Result<(), DeviceFault>
+    ensures bytes { Writes (W.written writer.old) (W.written writer.new) result (refused (object_text fault.now)) }
+    ensures failures { W.failures writer.new ≡ failures_after (W.failures writer.old) result }
+{
+    let section = fault.section.name().as_bytes();
+    let cause = fault.cause.word().as_bytes();
+    let mut buffer = Buffer::new();
+    let at = buffer.format(fault.at).as_bytes();
+    let texts: [&[u8]; 7] = [b"refused object ", section, b" ", cause, b" at ", at, b"\n"];
+    write_texts(&texts, writer)
+}
+
+/// The name of the module at a place of the list; nothing where there is none.
+fn name_at<'a>(modules: &'a Modules, place: usize) -> &'a str
+    ensures { result.now ≡ name_at modules.now.world.modules place }
+{
+    match modules.list().nth(place) {
+        None => "",
+        Some(listed) => listed.0,
+    }
+}
+
+/// Writes the refusal of a module that would meet another one.
+fn write_overlap<W: Sink>(met: &str, writer: &mut W) -> Result<(), DeviceFault>
+    ensures bytes { Writes (W.written writer.old) (W.written writer.new) result (refused (codes "overlap " ++ met.now)) }
+    ensures failures { W.failures writer.new ≡ failures_after (W.failures writer.old) result }
+{
+    let texts: [&[u8]; 3] = [b"refused overlap ", met.as_bytes(), b"\n"];
+    write_texts(&texts, writer)
+}
+
+/// Writes why modules are not changed.
+fn write_map_refusal<W: Sink>(
+    modules: &Modules,
+    fault: MapFault,
+    writer: &mut W,
+) -> Result<(), DeviceFault>
+    ensures bytes { Writes (W.written writer.old) (W.written writer.new) result (refused (map_words fault (met_name modules.now.world fault))) }
+    ensures failures { W.failures writer.new ≡ failures_after (W.failures writer.old) result }
+{
+    match fault {
+        MapFault::NameTaken => write_refusal("name-taken", writer),
+        MapFault::NoModule => write_refusal("no-module", writer),
+        MapFault::Full => write_refusal("full", writer),
+        MapFault::Object(fault) => write_object_refusal(&fault, writer),
+        MapFault::Range => write_refusal("range", writer),
+        MapFault::Overlap(place) => write_overlap(name_at(modules, place), writer),
+        MapFault::Memory => write_refusal("memory", writer),
+    }
+}
+
+/// Writes where a module was loaded, or moved to.
+fn write_done_at<W: Sink>(
+    done: &[u8],
+    name: &str,
+    extent: &Extent,
+    writer: &mut W,
+) -> Result<(), DeviceFault>
+    ensures bytes { Writes (W.written writer.old) (W.written writer.new) result (done_at done.now name.now extent.now.low extent.now.high) }
+    ensures failures { W.failures writer.new ≡ failures_after (W.failures writer.old) result }
+{
+    let low = address_text(extent.low);
+    let high = address_text(extent.high);
+    let texts: [&[u8]; 7] = [done, name.as_bytes(), b" ", &low, b"-", &high, b"\n"];
+    write_texts(&texts, writer)
+}
+
+/// Writes that a module was taken out.
+fn write_unloaded<W: Sink>(name: &str, writer: &mut W) -> Result<(), DeviceFault>
+    ensures bytes { Writes (W.written writer.old) (W.written writer.new) result (unloaded name.now) }
+    ensures failures { W.failures writer.new ≡ failures_after (W.failures writer.old) result }
+{
+    let texts: [&[u8]; 3] = [b"unloaded ", name.as_bytes(), b"\n"];
+    write_texts(&texts, writer)
+}
+
+/// Puts the line of a module.
+fn put_module<W: Sink>(
+    name: &str,
+    extent: &Extent,
+    base: u64,
+    pending: &mut Pending,
+    writer: &mut W,
+) -> Result<(), DeviceFault>
+    ensures bytes { Puts (W.written writer.old) (W.written writer.new) pending.old pending.new result
+        (module_text (record { name = name.now; low = extent.now.low; high = extent.now.high; base = base })) }
+    ensures failures { W.failures writer.new ≡ failures_after (W.failures writer.old) result }
+{
+    let low = address_text(extent.low);
+    let high = address_text(extent.high);
+    let base = address_text(base);
+    let texts: [&[u8]; 9] = [
+        b"module ",
+        name.as_bytes(),
+        b" ",
+        &low,
+        b"-",
+        &high,
+        b" ",
+        &base,
+        b"\n",
+    ];
+    pending.put_all(&texts, writer)
+}
+
+/// Puts the lines of modules.
+fn put_modules<W: Sink>(
+    modules: Listing<'_>,
+    pending: &mut Pending,
+    writer: &mut W,
+) -> Result<(), DeviceFault>
+    ensures bytes { Puts (W.written writer.old) (W.written writer.new) pending.old pending.new result (flat_map module_text modules.entry) }
+    ensures failures { W.failures writer.new ≡ failures_after (W.failures writer.old) result }
+{
+    for listed in modules {
+        put_module(listed.0, &listed.1, listed.2, pending, writer)?;
+    }
+    Ok(())
+}
+
+/// Writes the modules, and that these are all.
+fn write_list<W: Sink>(modules: &Modules, writer: &mut W) -> Result<(), DeviceFault>
+    ensures bytes { Writes (W.written writer.old) (W.written writer.new) result (list_text (map listed modules.now.world.modules)) }
+    ensures failures { W.failures writer.new ≡ failures_after (W.failures writer.old) result }
+{
+    let mut pending = Pending::new();
+    put_modules(modules.list(), &mut pending, writer)?;
+    pending.put(b"end\n", writer)?;
+    pending.send(writer)
+}
+
+/// Writes the reply to what came of a request.
+#[tactic(auto, unfolding(crate::specs::Text::text))]
+pub fn write_reply<W: Sink>(
+    options: &Options,
+    modules: &Modules,
+    done: &Done<'_>,
+    writer: &mut W,
+) -> Result<(), DeviceFault>
+    requires { IsCurrent modules.now.world done.now }
+    ensures bytes { Writes (W.written writer.old) (W.written writer.new) result (text options.now (reply_of modules.now.world done.now)) }
+    ensures failures { W.failures writer.new ≡ failures_after (W.failures writer.old) result }
+{
+    match done {
+        Done::Unreadable(bad) => write_refusal(line_word(*bad), writer),
+        Done::NotFetched(fault) => write_refusal(fetch_word(*fault), writer),
+        Done::Refused(fault) => write_map_refusal(modules, *fault, writer),
+        Done::LoadedAt(name, extent) => write_done_at(b"loaded ", name, extent, writer),
+        Done::Unloaded(name) => write_unloaded(name, writer),
+        Done::MovedTo(name, extent) => write_done_at(b"moved ", name, extent, writer),
+        Done::Listed => write_list(modules, writer),
+        Done::Asked(asked) => {
+            match print(options, &modules.answer(*asked), writer) {
+                Ok(()) => Ok(()),
+                Err(_) => Err(DeviceFault),
+            }
+        }
+    }
+}

@@ -1,0 +1,59 @@
+//! The run.
+
+ghost use Rattle.std.specs.Prelude.{◌≡◌, ℕ, ◌≤◌, List, [], ◌++◌, length, Option, OnOk, IsErrOf, IfErr, IfOk};
+ghost use Rattle.std.specs.Io.KnownBytes.{Consumes, Keeps};
+ghost use Rattle.command_loop.specs.Lines.{lines, ended_lines};
+ghost use Rattle.command_loop.specs.Requests.{requests};
+ghost use Rattle.command_loop.specs.Devices.{read_failures_after, write_failures_after};
+ghost use Rattle.command_loop.specs.Output.{Answers, Served, Stopped, Refused, exe_of, asks};
+
+use crate::session::serve_input;
+use crate::starting::begin;
+use crate::words::serve_words;
+use answer_text::{Feed, Objects, Options, RunFault, Sink};
+use module_map::Modules;
+use std::alloc::Global;
+
+/// Loads the object of the command line, and then answers its words, or where there are none serves
+/// the lines of a reader. Each reply is written and flushed before the next request is looked at.
+pub fn run<R: Feed, W: Sink, O: Objects>(
+    alloc: Global,
+    options: &Options,
+    reader: &mut R,
+    writer: &mut W,
+    source: &mut O,
+) -> Result<(), RunFault>
+    // What is written is the replies to all requests, and what was asked is their questions.
+    ensures served { OnOk result (Served options.now (R.left reader.old) (R.left reader.new) (λ requests.
+        Answers options.now (exe_of options.now) requests (O.asked source.old) (O.asked source.new) (W.written writer.old) (W.written writer.new))) }
+    // After a failed read it is so for the lines that were ended.
+    ensures reading { IsErrOf result RunFault.Reading → (asks options.now ≡ []) × ((read : List ℕ) ×
+        Consumes (R.left reader.old) (R.left reader.new) read ×
+        Answers options.now (exe_of options.now) (requests (ended_lines read)) (O.asked source.old) (O.asked source.new) (W.written writer.old) (W.written writer.new)) }
+    // After a failed write it is so for the requests before the one at hand, of whose reply a beginning is written.
+    ensures writing { IsErrOf result RunFault.Writing →
+        Stopped options.now (R.left reader.old) (R.left reader.new) (O.asked source.old) (O.asked source.new) (W.written writer.old) (W.written writer.new) }
+    // Without memory to begin with, nothing was read, asked or written.
+    ensures memory { IsErrOf result RunFault.Memory →
+        (R.left reader.new ≡ R.left reader.old) × (O.asked source.new ≡ O.asked source.old) × (W.written writer.new ≡ W.written writer.old) }
+    // Where the object of the command line is refused, nothing but its path was asked.
+    ensures exe { IfErr result (Refused (exe_of options.now) (R.left reader.old) (R.left reader.new) (O.asked source.old) (O.asked source.new) (W.written writer.old) (W.written writer.new)) }
+    ensures reader_failed { R.failures reader.new ≡ read_failures_after (R.failures reader.old) result }
+    ensures writer_failed { W.failures writer.new ≡ write_failures_after (W.failures writer.old) result }
+{
+    let Ok(mut modules) = Modules::new(alloc, options.cache) else {
+        return Err(RunFault::Memory);
+    };
+    match begin(&options.exe, &mut modules, source) {
+        Err(why) => return Err(RunFault::Exe(why)),
+        Ok(()) => {}
+    }
+    let words: &[u64] = &options.words;
+    if words.is_empty() {
+        return serve_input(&options, modules, reader, writer, source);
+    }
+    if serve_words(&options, words, &mut modules, writer, source).is_err() {
+        return Err(RunFault::Writing);
+    }
+    Ok(())
+}

@@ -1,0 +1,139 @@
+//! One request: what it does, and the reply to it.
+
+ghost use Rattle.std.specs.Prelude.{◌≡◌, ℕ, List, [], ◌∷◌, Option, option_copied, MatchResult, Ok};
+ghost use Rattle.answer_text.specs.Devices.{failures_after, Writes};
+ghost use Rattle.command_loop.specs.Private.Commands.{parsed};
+ghost use Rattle.command_loop.specs.Requests.{parse_kept};
+ghost use Rattle.command_loop.specs.Private.Progress.{RunState, ServesRequest, FailsToReply};
+ghost use Rattle.command_loop.specs.Private.Serving.{Performs};
+ghost use Rattle.command_loop.specs.Requests.Request.{Load, Unload, Move};
+
+use crate::commands::{BadLine, Command, parse_line};
+use crate::replies::write_reply;
+use answer_text::{DeviceFault, FetchFault, Objects, Options, Sink};
+use module_map::{Asked, Extent, MapFault, Modules};
+
+/// What came of a request.
+#[derive(Clone, Copy)]
+pub enum Done<'a> {
+    Unreadable(BadLine),
+    NotFetched(FetchFault),
+    Refused(MapFault),
+    LoadedAt(&'a str, Extent),
+    Unloaded(&'a str),
+    MovedTo(&'a str, Extent),
+    Listed,
+    Asked(Asked),
+}
+
+/// Asks the source for an object, and loads it.
+fn load<'a, O: Objects>(
+    name: &'a str,
+    base: u64,
+    path: &str,
+    modules: &mut Modules,
+    source: &mut O,
+) -> Done<'a>
+    ensures { Performs (Ok (Load name.entry.now base path.now)) modules.old.world modules.new.world (O.asked source.old) (O.asked source.new) result }
+{
+    match source.fetch(path) {
+        Err(fault) => Done::NotFetched(fault),
+        Ok(bytes) => match modules.load(name, base, bytes) {
+            Err(fault) => Done::Refused(fault),
+            Ok(extent) => Done::LoadedAt(name, extent),
+        },
+    }
+}
+
+fn unload<'a, O: Objects>(name: &'a str, modules: &mut Modules, source: &O) -> Done<'a>
+    ensures { Performs (Ok (Unload name.entry.now)) modules.old.world modules.new.world (O.asked source.now) (O.asked source.now) result }
+{
+    let _ = source;
+    match modules.unload(name) {
+        Err(fault) => Done::Refused(fault),
+        Ok(()) => Done::Unloaded(name),
+    }
+}
+
+fn move_to<'a, O: Objects>(name: &'a str, base: u64, modules: &mut Modules, source: &O) -> Done<'a>
+    ensures { Performs (Ok (Move name.entry.now base)) modules.old.world modules.new.world (O.asked source.now) (O.asked source.now) result }
+{
+    let _ = source;
+    match modules.move_to(name, base) {
+        Err(fault) => Done::Refused(fault),
+        Ok(extent) => Done::MovedTo(name, extent),
+    }
+}
+
+/// What a line asks for. A line over the limit is None.
+fn request_of(line: Option<&[u8]>) -> Result<Command<'_>, BadLine>
+    ensures { parsed result ≡ parse_kept (option_copied line.entry) }
+{
+    match line {
+        None => Err(BadLine::LongLine),
+        Some(line) => parse_line(line),
+    }
+}
+
+/// Does what is asked for.
+fn act<'a, O: Objects>(
+    request: Result<Command<'a>, BadLine>,
+    modules: &mut Modules,
+    source: &mut O,
+) -> Done<'a>
+    ensures { Performs (parsed request.entry) modules.old.world modules.new.world (O.asked source.old) (O.asked source.new) result }
+{
+    let command = match request {
+        Err(bad) => return Done::Unreadable(bad),
+        Ok(command) => command,
+    };
+    match command {
+        Command::Ask(address) => Done::Asked(modules.ask(address)),
+        Command::List => Done::Listed,
+        Command::Load(name, base, path) => load(name, base, path, modules, source),
+        Command::Unload(name) => unload(name, modules, source),
+        Command::Move(name, base) => move_to(name, base, modules, source),
+    }
+}
+
+/// ServesRequest a request: the source is asked, the modules change, and the reply is written and flushed.
+pub fn serve_request<W: Sink, O: Objects>(
+    options: &Options,
+    request: Result<Command<'_>, BadLine>,
+    modules: &mut Modules,
+    writer: &mut W,
+    source: &mut O,
+) -> Result<(), DeviceFault>
+    ensures served { MatchResult result
+        (λ _. ServesRequest options.now (parsed request.entry)
+        (record { world = modules.old.world; asked = O.asked source.old; written = W.written writer.old })
+        (record { world = modules.new.world; asked = O.asked source.new; written = W.written writer.new }))
+        (λ _. FailsToReply options.now (parsed request.entry)
+        (record { world = modules.old.world; asked = O.asked source.old; written = W.written writer.old })
+        (record { world = modules.new.world; asked = O.asked source.new; written = W.written writer.new })) }
+    ensures failures { W.failures writer.new ≡ failures_after (W.failures writer.old) result }
+{
+    let done = act(request, modules, source);
+    write_reply(options, modules, &done, writer)?;
+    writer.flush()
+}
+
+/// ServesRequest a line. One over the limit is None.
+pub fn serve<W: Sink, O: Objects>(
+    options: &Options,
+    line: Option<&[u8]>,
+    modules: &mut Modules,
+    writer: &mut W,
+    source: &mut O,
+) -> Result<(), DeviceFault>
+    ensures served { MatchResult result
+        (λ _. ServesRequest options.now (parse_kept (option_copied line.entry))
+        (record { world = modules.old.world; asked = O.asked source.old; written = W.written writer.old })
+        (record { world = modules.new.world; asked = O.asked source.new; written = W.written writer.new }))
+        (λ _. FailsToReply options.now (parse_kept (option_copied line.entry))
+        (record { world = modules.old.world; asked = O.asked source.old; written = W.written writer.old })
+        (record { world = modules.new.world; asked = O.asked source.new; written = W.written writer.new })) }
+    ensures failures { W.failures writer.new ≡ failures_after (W.failures writer.old) result }
+{
+    serve_request(options, request_of(line), modules, writer, source)
+}

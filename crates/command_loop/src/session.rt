@@ -1,0 +1,128 @@
+//! Lines are read, and each is served before more is read.
+
+ghost use Rattle.std.specs.Prelude.{◌≡◌, ℕ, ◌≤◌, List, [], ◌∷◌, ◌++◌, length, Option, OnOk, OnErr};
+ghost use Rattle.answer_text.specs.Devices.{failures_after};
+ghost use Rattle.command_loop.specs.Devices.{read_failures_after, write_failures_after};
+ghost use Rattle.command_loop.specs.Private.Progress.{RunState, ReadsOn, StopsWithin, ReadsLines};
+
+use crate::line_buffer::LineBuffer;
+use crate::serving::serve;
+use answer_text::{DeviceFault, Feed, Objects, Options, RunFault, Sink};
+use module_map::Modules;
+
+/// The modules, and the line that is being read.
+#[derive(Drop)]
+pub struct Session {
+    modules: Modules,
+    line: LineBuffer,
+}
+
+impl Session {
+    /// ServesRequest the line that is ended here, if it has a byte.
+    fn end_line<W: Sink, O: Objects>(
+        &mut self,
+        options: &Options,
+        writer: &mut W,
+        source: &mut O,
+    ) -> Result<(), DeviceFault>
+        ensures goes_on { OnOk result (ReadsOn options.now (10 ∷ [])
+            (record { world = self.old.modules.world; asked = O.asked source.old; written = W.written writer.old }) self.old.line
+            (record { world = self.new.modules.world; asked = O.asked source.new; written = W.written writer.new }) self.new.line) }
+        ensures breaks { OnErr result (StopsWithin options.now (10 ∷ [])
+            (record { world = self.old.modules.world; asked = O.asked source.old; written = W.written writer.old }) self.old.line
+            (O.asked source.new) (W.written writer.new)) }
+        ensures failures { W.failures writer.new ≡ failures_after (W.failures writer.old) result }
+    {
+        if self.line.is_empty() {
+            return Ok(());
+        }
+        serve(options, self.line.text(), &mut self.modules, writer, source)?;
+        self.line.clear();
+        Ok(())
+    }
+
+    /// Takes one byte of input.
+    fn take_byte<W: Sink, O: Objects>(
+        &mut self,
+        options: &Options,
+        byte: u8,
+        writer: &mut W,
+        source: &mut O,
+    ) -> Result<(), DeviceFault>
+        ensures goes_on { OnOk result (ReadsOn options.now (byte ∷ [])
+            (record { world = self.old.modules.world; asked = O.asked source.old; written = W.written writer.old }) self.old.line
+            (record { world = self.new.modules.world; asked = O.asked source.new; written = W.written writer.new }) self.new.line) }
+        ensures breaks { OnErr result (StopsWithin options.now (byte ∷ [])
+            (record { world = self.old.modules.world; asked = O.asked source.old; written = W.written writer.old }) self.old.line
+            (O.asked source.new) (W.written writer.new)) }
+        ensures failures { W.failures writer.new ≡ failures_after (W.failures writer.old) result }
+    {
+        if byte == b'\n' {
+            self.end_line(options, writer, source)
+        } else {
+            self.line.push(byte);
+            Ok(())
+        }
+    }
+
+    /// Takes a piece of input, and serves each line that ends in it.
+    fn take_piece<W: Sink, O: Objects>(
+        &mut self,
+        options: &Options,
+        piece: &[u8],
+        writer: &mut W,
+        source: &mut O,
+    ) -> Result<(), DeviceFault>
+        ensures goes_on { OnOk result (ReadsOn options.now piece.now
+            (record { world = self.old.modules.world; asked = O.asked source.old; written = W.written writer.old }) self.old.line
+            (record { world = self.new.modules.world; asked = O.asked source.new; written = W.written writer.new }) self.new.line) }
+        ensures breaks { OnErr result (StopsWithin options.now piece.now
+            (record { world = self.old.modules.world; asked = O.asked source.old; written = W.written writer.old }) self.old.line
+            (O.asked source.new) (W.written writer.new)) }
+        ensures failures { W.failures writer.new ≡ failures_after (W.failures writer.old) result }
+    {
+        for byte in piece {
+            self.take_byte(options, *byte, writer, source)?;
+        }
+        Ok(())
+    }
+}
+
+/// ServesRequest the lines of a reader, one after the other. Each reply is written and flushed before more
+/// is read. Input is asked for in pieces of at most 4,096 bytes.
+pub fn serve_input<R: Feed, W: Sink, O: Objects>(
+    options: &Options,
+    modules: Modules,
+    reader: &mut R,
+    writer: &mut W,
+    source: &mut O,
+) -> Result<(), RunFault>
+    ensures reads { ReadsLines options.now (record { world = modules.world; asked = O.asked source.old; written = W.written writer.old })
+        (R.left reader.old) (R.left reader.new) (O.asked source.new) (W.written writer.new) result }
+    ensures reader_failed { R.failures reader.new ≡ read_failures_after (R.failures reader.old) result }
+    ensures writer_failed { W.failures writer.new ≡ write_failures_after (W.failures writer.old) result }
+{
+    let mut session = Session {
+        modules,
+        line: LineBuffer::new(),
+    };
+    let mut piece = [0u8; 4096];
+    'pieces: loop {
+        let Ok(count) = reader.read(&mut piece) else {
+            return Err(RunFault::Reading);
+        };
+        if count == 0 {
+            break;
+        }
+        if session
+            .take_piece(options, &piece[..count], writer, source)
+            .is_err()
+        {
+            return Err(RunFault::Writing);
+        }
+    }
+    if session.end_line(options, writer, source).is_err() {
+        return Err(RunFault::Writing);
+    }
+    Ok(())
+}

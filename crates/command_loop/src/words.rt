@@ -1,0 +1,31 @@
+//! The words of the command line.
+
+ghost use Rattle.std.specs.Prelude.{◌≡◌, OnOk, OnErr, List, ◌++◌, ◌∷◌, map};
+ghost use Rattle.answer_text.specs.Devices.{failures_after};
+ghost use Rattle.command_loop.specs.Output.{ask_of, Requests};
+ghost use Rattle.command_loop.specs.Private.Progress.{RunState, ServedInOrder, StopsAmong};
+
+use crate::commands::Command;
+use crate::serving::serve_request;
+use answer_text::{DeviceFault, Objects, Options, Sink};
+use module_map::Modules;
+
+/// Answers addresses, one after the other.
+pub fn serve_words<W: Sink, O: Objects>(
+    options: &Options,
+    words: &[u64],
+    modules: &mut Modules,
+    writer: &mut W,
+    source: &mut O,
+) -> Result<(), DeviceFault>
+    ensures handled { OnOk result (ServedInOrder options.now (record { world = modules.old.world; asked = O.asked source.old; written = W.written writer.old })
+        (map ask_of words.now) (record { world = modules.new.world; asked = O.asked source.new; written = W.written writer.new })) }
+    ensures halts { OnErr result (StopsAmong options.now (record { world = modules.old.world; asked = O.asked source.old; written = W.written writer.old })
+        (map ask_of words.now) (O.asked source.new) (W.written writer.new)) }
+    ensures failures { W.failures writer.new ≡ failures_after (W.failures writer.old) result }
+{
+    for word in words {
+        serve_request(options, Ok(Command::Ask(*word)), modules, writer, source)?;
+    }
+    Ok(())
+}

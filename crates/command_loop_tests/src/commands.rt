@@ -1,0 +1,100 @@
+//! Commands that change the modules, and answers before and after them.
+
+use crate::devices::{Paper, Script};
+use crate::fixtures::*;
+use crate::shelf::Shelf;
+use answer_text::Options;
+use command_loop::run;
+use std::test::*;
+
+#[test]
+fn loads_a_module(rt: HostRuntime) {
+    fresh(&rt, rt.alloc(), b"", LOAD, LOADED);
+}
+
+#[test]
+fn lists_modules_by_rising_address(rt: HostRuntime) -> Result<(), Fail> {
+    loaded(
+        &rt,
+        rt.alloc(),
+        b"",
+        b"load b 0x11000 A\nlist\n",
+        b"loaded b 0x0000000000012000-0x0000000000013000\nmodule a 0x0000000000011000-0x0000000000012000 0x0000000000010000\nmodule b 0x0000000000012000-0x0000000000013000 0x0000000000011000\nend\n",
+    )
+}
+
+#[test]
+fn moves_over_its_own_old_place(rt: HostRuntime) -> Result<(), Fail> {
+    loaded(
+        &rt,
+        rt.alloc(),
+        b"",
+        b"load b 0x11000 A\nmove a 0x10800\nunload b\nmove a 0x10800\n11804\n",
+        b"loaded b 0x0000000000012000-0x0000000000013000\nrefused overlap b\nunloaded b\nmoved a 0x0000000000011800-0x0000000000012800\n/src/a.c:11\n",
+    )
+}
+
+#[test]
+fn answers_follow_a_move(rt: HostRuntime) -> Result<(), Fail> {
+    loaded(
+        &rt,
+        rt.alloc(),
+        b"",
+        b"11004\nmove a 0x20000\n11004\n21004\n",
+        b"/src/a.c:11\nmoved a 0x0000000000021000-0x0000000000022000\n??:0\n/src/a.c:11\n",
+    )
+}
+
+#[test]
+fn answers_are_those_of_the_module_of_now(rt: HostRuntime) -> Result<(), Fail> {
+    loaded(
+        &rt,
+        rt.alloc(),
+        b"",
+        b"11000\nunload a\nload a 0x10000 B\n11000\n",
+        b"/src/a.c:10\nunloaded a\nloaded a 0x0000000000011000-0x0000000000012000\n/src/a.c:12\n",
+    )
+}
+
+#[test]
+fn loads_up_to_the_greatest_address(rt: HostRuntime) {
+    fresh(
+        &rt,
+        rt.alloc(),
+        b"",
+        b"load a 0xffffffffffffdfff A\nunload a\nload a 0xffffffffffffe000 A\n",
+        b"loaded a 0xffffffffffffefff-0xffffffffffffffff\nunloaded a\nrefused range\n",
+    );
+}
+
+#[test]
+fn no_input_has_no_reply(rt: HostRuntime) {
+    fresh(&rt, rt.alloc(), b"", b"", b"");
+}
+
+#[test]
+fn a_good_load_asks_once(rt: HostRuntime) {
+    let alloc = rt.alloc();
+    let lines: [(&[u8], u64); 7] = [
+        (b"load a 0 A\n", 1),
+        (b"load a 0 none\n", 1),
+        (b"load a 0 A\nload a 0 A\n", 2),
+        (b"load a! 0 A\n", 0),
+        (b"load a 0x A\n", 0),
+        (b"load a 0\n", 0),
+        (b"1000\nlist\nunload a\nmove a 0\nx\n", 0),
+    ];
+    for (input, questions) in lines {
+        let mut source = Shelf::new(alloc);
+        let mut reader = Script::new(input, 4096);
+        let result = run(
+            alloc,
+            &Options::plain(alloc),
+            &mut reader,
+            &mut Paper::new(),
+            &mut source,
+        );
+        assert_eq!(rt; result, Ok(()));
+        assert_eq!(rt; source.questions, questions);
+    }
+}

@@ -1,0 +1,153 @@
+//! Runs whose devices fail, or for which there is no memory.
+
+use crate::devices::{Paper, Script};
+use crate::fixtures::*;
+use crate::shelf::Shelf;
+use crate::turns::{Bell, Turns};
+use answer_text::{Options, RunFault};
+use command_loop::run;
+use std::alloc::Global;
+use std::cell::Cell;
+use std::test::*;
+
+const SCRIPT: &[u8] = b"load a 0x10000 A\n11004\nmove a 0x20000\n21004\nunload a\n";
+
+const REPLIES: [&[u8]; 5] = [
+    LOADED,
+    b"/src/a.c:11\n",
+    b"moved a 0x0000000000021000-0x0000000000022000\n",
+    b"/src/a.c:11\n",
+    b"unloaded a\n",
+];
+
+/// What is written where there is no memory for the object.
+const WITHOUT_MEMORY: &[u8] = b"refused memory\n??:0\nrefused no-module\n??:0\nrefused no-module\n";
+
+/// Whether a text is the first so many replies.
+fn is_first_replies(text: &[u8], count: usize) -> bool {
+    let mut rest = text;
+    for reply in REPLIES.iter().take(count) {
+        match rest.strip_prefix(*reply) {
+            Some(after) => rest = after,
+            None => return false,
+        }
+    }
+    rest.is_empty()
+}
+
+/// The options of these runs: a cache of four answers.
+fn small(alloc: Global) -> Options {
+    let mut options = Options::plain(alloc);
+    options.cache = 4;
+    options
+}
+
+#[test]
+fn nothing_fails(rt: HostRuntime) {
+    let alloc = rt.alloc();
+    let mut writer = Paper::new();
+    let result = outcome(
+        alloc,
+        &small(alloc),
+        &mut Script::new(SCRIPT, 4096),
+        &mut writer,
+    );
+    assert_eq!(rt; result, Ok(()));
+    assert!(rt; is_first_replies(writer.text(), 5));
+}
+
+/// Where any allocation is refused the replies are those without the object, or none; or all of them
+/// are as they are with memory, since a cache may do without it.
+#[test]
+fn memory_fails(rt: HostRuntime) {
+    let alloc = rt.alloc();
+    let mut writer = Paper::new();
+    match outcome(
+        alloc,
+        &small(alloc),
+        &mut Script::new(SCRIPT, 7),
+        &mut writer,
+    ) {
+        Err(fault) => {
+            assert_eq!(rt; fault, RunFault::Memory);
+            assert_eq!(rt; writer.text(), b"".as_slice());
+        }
+        Ok(()) => {
+            let text = writer.text();
+            assert!(rt; is_first_replies(text, 5) || text == WITHOUT_MEMORY);
+        }
+    }
+}
+
+#[test]
+fn a_write_fails(rt: HostRuntime) {
+    let alloc = rt.alloc();
+    let options = small(alloc);
+    let mut whole = Paper::new();
+    let result = outcome(alloc, &options, &mut Script::new(SCRIPT, 4096), &mut whole);
+    assert_eq!(rt; result, Ok(()));
+    for room in 0..whole.text().len() {
+        for is_stuck in [false, true] {
+            let mut writer = Paper::new();
+            writer.room = room;
+            writer.is_stuck = is_stuck;
+            let result = outcome(alloc, &options, &mut Script::new(SCRIPT, 7), &mut writer);
+            assert_eq!(rt; result, Err(RunFault::Writing));
+            assert_eq!(rt; writer.text().len(), room);
+            assert!(rt; whole.text().starts_with(writer.text()));
+        }
+    }
+}
+
+#[test]
+fn a_flush_fails(rt: HostRuntime) {
+    let alloc = rt.alloc();
+    for flushes in 0..5 {
+        let mut writer = Paper::new();
+        writer.flushes = flushes as u64;
+        let result = outcome(
+            alloc,
+            &small(alloc),
+            &mut Script::new(SCRIPT, 7),
+            &mut writer,
+        );
+        assert_eq!(rt; result, Err(RunFault::Writing));
+        assert!(rt; is_first_replies(writer.text(), flushes + 1));
+    }
+}
+
+/// How many bytes of the script are read when each of its replies is made.
+const ENDS: [usize; 5] = [17, 23, 38, 44, 53];
+
+#[test]
+fn a_read_fails(rt: HostRuntime) {
+    let alloc = rt.alloc();
+    for until in 0..=SCRIPT.len() {
+        let mut reader = Script::new(SCRIPT, 1);
+        reader.until = until;
+        let mut writer = Paper::new();
+        let result = outcome(alloc, &small(alloc), &mut reader, &mut writer);
+        assert_eq!(rt; result, Err(RunFault::Reading));
+        let count = ENDS.iter().filter(|end| **end <= until).count();
+        assert!(rt; is_first_replies(writer.text(), count), "after {until}");
+    }
+}
+
+#[test]
+fn flushes_each_reply_before_it_reads_on(rt: HostRuntime) {
+    let alloc = rt.alloc();
+    let flushes = Cell::new(0);
+    let mut reader = Turns {
+        input: b"load a 0 A\n1004\nx\nlist\n",
+        flushes: &flushes,
+        lines: 0,
+        is_early: false,
+    };
+    let mut writer = Bell { flushes: &flushes };
+    let mut source = Shelf::new(alloc);
+    let options = Options::plain(alloc);
+    let result = run(alloc, &options, &mut reader, &mut writer, &mut source);
+    assert_eq!(rt; result, Ok(()));
+    assert_eq!(rt; flushes.get(), 4);
+    assert!(rt; !reader.is_early);
+}

@@ -1,0 +1,67 @@
+//! Runs over devices of fixed memory, and what is expected of them.
+
+use crate::devices::{Paper, Script};
+use crate::shelf::Shelf;
+use answer_text::{Options, RunFault};
+use command_loop::run;
+use std::alloc::Global;
+use std::process::Abort;
+use std::test::*;
+
+/// A command that most runs begin with, and its reply.
+pub const LOAD: &[u8] = b"load a 0x10000 A\n";
+
+pub const LOADED: &[u8] = b"loaded a 0x0000000000011000-0x0000000000012000\n";
+
+/// The options of these letters, `l` being linkage names.
+pub fn options(alloc: Global, letters: &[u8]) -> Options {
+    let mut options = Options::plain(alloc);
+    options.addresses = letters.contains(&b'a');
+    options.functions = letters.contains(&b'f');
+    options.inlines = letters.contains(&b'i');
+    options.pretty = letters.contains(&b'p');
+    options.basenames = letters.contains(&b's');
+    options.linkage = letters.contains(&b'l');
+    options
+}
+
+/// What comes of a run over these devices.
+pub fn outcome(
+    alloc: Global,
+    options: &Options,
+    reader: &mut Script<'_>,
+    writer: &mut Paper,
+) -> Result<(), RunFault> {
+    run(alloc, options, reader, writer, &mut Shelf::new(alloc))
+}
+
+/// Compares what is written for an input, handed out in pieces of several sizes.
+pub fn compare(rt: &impl Abort, options: &Options, alloc: Global, input: &[u8], wanted: &[u8]) {
+    for most in [1, 7, 4096] {
+        let mut writer = Paper::new();
+        let result = outcome(alloc, options, &mut Script::new(input, most), &mut writer);
+        assert_eq!(rt; result, Ok(()));
+        assert_eq!(rt; writer.text(), wanted);
+    }
+}
+
+/// The same of a run that begins without a module.
+pub fn fresh(rt: &impl Abort, alloc: Global, letters: &[u8], input: &[u8], wanted: &[u8]) {
+    compare(rt, &options(alloc, letters), alloc, input, wanted);
+}
+
+/// The same of a run that begins with the first sample object at 0x10000.
+pub fn loaded(
+    rt: &impl Abort,
+    alloc: Global,
+    letters: &[u8],
+    input: &[u8],
+    wanted: &[u8],
+) -> Result<(), Fail> {
+    let mut whole = LOAD.to_vec(alloc)?;
+    whole.extend_from_slice(input)?;
+    let mut text = LOADED.to_vec(alloc)?;
+    text.extend_from_slice(wanted)?;
+    compare(rt, &options(alloc, letters), alloc, &whole, &text);
+    Ok(())
+}

@@ -1,0 +1,22 @@
+//! Tests of `command_loop`: whole runs over the sample objects, with devices that fail where they
+//! are told to.
+#![tactic(auto)]
+
+#[cfg(test)]
+mod answers;
+#[cfg(test)]
+mod commands;
+#[cfg(test)]
+mod devices;
+#[cfg(test)]
+mod failures;
+#[cfg(test)]
+mod fixtures;
+#[cfg(test)]
+mod refusals;
+#[cfg(test)]
+mod shelf;
+#[cfg(test)]
+mod starts;
+#[cfg(test)]
+mod turns;

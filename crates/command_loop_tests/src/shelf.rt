@@ -1,0 +1,74 @@
+//! A source of the sample objects by their names.
+
+ghost use Rattle.std.specs.Prelude.{None};
+
+use answer_text::{FetchFault, Objects};
+use dwarf_samples::*;
+use std::alloc::{AllocError, Global};
+
+/// Gives the sample objects, and counts the questions. It does not tell them: whoever tells all of
+/// them cannot be out of memory.
+#[derive(Drop)]
+pub struct Shelf {
+    alloc: Global,
+    /// How often it was asked.
+    pub questions: u64,
+}
+
+impl Shelf {
+    pub fn new(alloc: Global) -> Shelf {
+        Shelf {
+            alloc,
+            questions: 0,
+        }
+    }
+
+    /// The bytes of a sample object.
+    fn object(&self, path: &str) -> Option<Result<Vec<u8>, AllocError>> {
+        let bytes = match path {
+            "A" => INLINED,
+            "A1" => cut_abbreviations(),
+            "A2" => circular_origins(),
+            "A3" => many_directories_without_a_format(),
+            "A4" => leaf_without_code(),
+            "A5" => version_four(),
+            "A6" => call_file_outside(),
+            "A7" => cut_line_program(),
+            "A8" => origin_of_no_entry(),
+            "control" => with_files(b"a.\0\0a\x01.c\0\0"),
+            "slash" => with_files(b"a\0\0/src/\0\0"),
+            _ => return None,
+        };
+        Some(bytes.to_vec(self.alloc))
+    }
+}
+
+/// The first sample with other texts of its two files, each with a NUL and the number 0 behind it.
+fn with_files(files: &[u8; 10]) -> [u8; 703] {
+    let mut object = INLINED;
+    object[304..314].copy_from_slice(files);
+    object
+}
+
+impl Objects for Shelf {
+    ghost asked = { λ _. None };
+
+    fn fetch(&mut self, path: &str) -> Result<Vec<u8>, FetchFault> {
+        self.questions = self.questions.saturating_add(1);
+        let object = match path {
+            "B" => TWO_SEQUENCES.to_vec(self.alloc),
+            "empty" => Ok(Vec::new(self.alloc)),
+            "cut" => INLINED[..63].to_vec(self.alloc),
+            "large" => return Err(FetchFault::TooLarge),
+            "short" => return Err(FetchFault::Memory),
+            _ => match self.object(path) {
+                Some(object) => object,
+                None => return Err(FetchFault::File),
+            },
+        };
+        match object {
+            Ok(bytes) => Ok(bytes),
+            Err(_) => Err(FetchFault::Memory),
+        }
+    }
+}

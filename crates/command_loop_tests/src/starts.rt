@@ -1,0 +1,149 @@
+//! Words, the object that is loaded first, statuses, and what is said on standard error.
+
+use crate::devices::{Paper, Script};
+use crate::fixtures::*;
+use crate::shelf::Shelf;
+use answer_text::Options;
+use command_loop::program;
+use std::alloc::{AllocError, Global};
+use std::test::*;
+
+/// The words of a command line, behind the program's name.
+fn words(alloc: Global, texts: &[&str]) -> Result<Vec<String>, AllocError> {
+    let mut words = Vec::new(alloc);
+    words.push(String::from_str(alloc, "addr2line_live")?)?;
+    for text in texts {
+        words.push(String::from_str(alloc, text)?)?;
+    }
+    Ok(words)
+}
+
+/// The status of the program over input that cannot be read, and what it leaves on its writers.
+fn unread(
+    alloc: Global,
+    texts: &[&str],
+    writer: &mut Paper,
+    errors: &mut Paper,
+) -> Result<u8, Fail> {
+    let words = words(alloc, texts)?;
+    let mut reader = Script::new(b"11004\n", 4096);
+    reader.until = 0;
+    let mut source = Shelf::new(alloc);
+    Ok(program(alloc, &words, &mut reader, writer, errors, &mut source))
+}
+
+#[test]
+fn words_of_an_object(rt: HostRuntime) -> Result<(), Fail> {
+    let mut writer = Paper::new();
+    let mut errors = Paper::new();
+    let texts = ["-e", "A", "-f", "1004", "1010"];
+    let status = unread(rt.alloc(), &texts, &mut writer, &mut errors)?;
+    assert_eq!(rt; status, 0);
+    assert_eq!(rt; writer.text(), b"leaf\n/src/a.c:11\n??\n??:0\n".as_slice());
+    assert_eq!(rt; errors.text(), b"".as_slice());
+    Ok(())
+}
+
+#[test]
+fn no_file(rt: HostRuntime) -> Result<(), Fail> {
+    let mut writer = Paper::new();
+    let mut errors = Paper::new();
+    let status = unread(rt.alloc(), &["-e", "none"], &mut writer, &mut errors)?;
+    assert_eq!(rt; status, 1);
+    assert_eq!(rt; writer.text(), b"".as_slice());
+    assert_eq!(rt; errors.text(), b"addr2line_live: refused file\n".as_slice());
+    Ok(())
+}
+
+#[test]
+fn no_object(rt: HostRuntime) -> Result<(), Fail> {
+    let mut writer = Paper::new();
+    let mut errors = Paper::new();
+    let status = unread(rt.alloc(), &["-e", "A5", "0"], &mut writer, &mut errors)?;
+    assert_eq!(rt; status, 1);
+    assert_eq!(rt; writer.text(), b"".as_slice());
+    assert_eq!(rt;
+        errors.text(),
+        b"addr2line_live: refused object .debug_info version at 0\n".as_slice()
+    );
+    Ok(())
+}
+
+#[test]
+fn a_bad_address(rt: HostRuntime) -> Result<(), Fail> {
+    let mut writer = Paper::new();
+    let mut errors = Paper::new();
+    let texts = ["-e", "none", "10", "zz", "yy"];
+    let status = unread(rt.alloc(), &texts, &mut writer, &mut errors)?;
+    assert_eq!(rt; status, 2);
+    assert_eq!(rt; writer.text(), b"".as_slice());
+    assert_eq!(rt;
+        errors.text(),
+        b"addr2line_live: bad address zz\n".as_slice()
+    );
+    Ok(())
+}
+
+#[test]
+fn too_large_a_cache(rt: HostRuntime) -> Result<(), Fail> {
+    let mut writer = Paper::new();
+    let mut errors = Paper::new();
+    let status = unread(rt.alloc(), &["--cache", "65537"], &mut writer, &mut errors)?;
+    assert_eq!(rt; status, 2);
+    assert_eq!(rt; writer.text(), b"".as_slice());
+    assert!(rt; !errors.text().is_empty());
+    Ok(())
+}
+
+#[test]
+fn help_is_no_fault(rt: HostRuntime) -> Result<(), Fail> {
+    let mut writer = Paper::new();
+    let mut errors = Paper::new();
+    let status = unread(rt.alloc(), &["--help"], &mut writer, &mut errors)?;
+    assert_eq!(rt; status, 0);
+    assert!(rt; !writer.text().is_empty());
+    assert_eq!(rt; errors.text(), b"".as_slice());
+    Ok(())
+}
+
+#[test]
+fn help_that_cannot_be_written(rt: HostRuntime) -> Result<(), Fail> {
+    let mut writer = Paper::new();
+    writer.room = 0;
+    let mut errors = Paper::new();
+    let status = unread(rt.alloc(), &["--help"], &mut writer, &mut errors)?;
+    assert_eq!(rt; status, 1);
+    assert_eq!(rt;
+        errors.text(),
+        b"addr2line_live: writing failed\n".as_slice()
+    );
+    Ok(())
+}
+
+#[test]
+fn says_that_reading_failed(rt: HostRuntime) -> Result<(), Fail> {
+    let mut writer = Paper::new();
+    let mut errors = Paper::new();
+    let status = unread(rt.alloc(), &[], &mut writer, &mut errors)?;
+    assert_eq!(rt; status, 1);
+    assert_eq!(rt;
+        errors.text(),
+        b"addr2line_live: reading failed\n".as_slice()
+    );
+    Ok(())
+}
+
+#[test]
+fn commands_after_the_first_object(rt: HostRuntime) -> Result<(), Fail> {
+    let alloc = rt.alloc();
+    let mut options = Options::plain(alloc);
+    options.exe = Some(String::from_str(alloc, "A")?);
+    compare(
+        &rt,
+        &options,
+        alloc,
+        b"1004\nload exe 0x10000 A\nmove exe 0x10000\n11004\nunload exe\n",
+        b"/src/a.c:11\nrefused name-taken\nmoved exe 0x0000000000011000-0x0000000000012000\n/src/a.c:11\nunloaded exe\n",
+    );
+    Ok(())
+}

@@ -1,0 +1,61 @@
+//! A reader that hands out a line at a time, and a writer whose flushes it sees.
+
+ghost use Rattle.std.specs.Prelude.{None, length};
+
+use answer_text::{DeviceFault, Feed, Sink};
+use std::cell::Cell;
+
+/// Hands out a line at a time, and looks whether each line before it was answered.
+#[derive(Drop)]
+pub struct Turns<'a> {
+    pub input: &'a [u8],
+    pub flushes: &'a Cell<u64>,
+    pub lines: u64,
+    /// Whether a line was asked for before the reply to the one before it was flushed.
+    pub is_early: bool,
+}
+
+impl<'a> Feed for Turns<'a> {
+    ghost left = { λ _. None };
+
+    ghost failures = { λ _. 0 };
+
+    ghost reads_left = { λ t. length t.input.now };
+
+    fn read(&mut self, buf: &mut [u8]) -> Result<usize, DeviceFault> {
+        if self.flushes.get() != self.lines {
+            self.is_early = true;
+        }
+        let input = self.input;
+        let line = match input.iter().position(|byte| *byte == b'\n') {
+            Some(end) => end + 1,
+            None => input.len(),
+        };
+        let count = line.min(input.len()).min(buf.len());
+        buf[..count].copy_from_slice(&input[..count]);
+        self.input = &input[count..];
+        self.lines = self.lines.saturating_add(1);
+        Ok(count)
+    }
+}
+
+/// Takes everything, and counts flushes.
+#[derive(Drop)]
+pub struct Bell<'a> {
+    pub flushes: &'a Cell<u64>,
+}
+
+impl<'a> Sink for Bell<'a> {
+    ghost written = { λ _. None };
+
+    ghost failures = { λ _. 0 };
+
+    fn write(&mut self, bytes: &[u8]) -> Result<usize, DeviceFault> {
+        Ok(bytes.len())
+    }
+
+    fn flush(&mut self) -> Result<(), DeviceFault> {
+        self.flushes.set(self.flushes.get().saturating_add(1));
+        Ok(())
+    }
+}
