@@ -24,9 +24,9 @@ coproc "$program" -f -i -p -s
 while read -r line; do
     echo "> $line"
     echo "$line" >&"${COPROC[1]}"
-    read -r reply <&"${COPROC[0]}"
+    IFS= read -r reply <&"${COPROC[0]}"
     echo "$reply"
-    while read -t 0.1 -r reply <&"${COPROC[0]}"; do echo " $reply"; done
+    while IFS= read -t 0.1 -r reply <&"${COPROC[0]}"; do echo "$reply"; done
 done << COMMANDS
 load demo 0x7f0000000000 $object
 $(address 0x7f0000000000 0)
