@@ -1,29 +1,69 @@
 #!/usr/bin/env bash
-# Answers a second over a pipe, beside addr2line, for COUNT addresses spread over an object.
+# Answers a second on three objects, beside the peers that are there: in a batch over a pipe and in
+# ping-pong, FILE:LINE alone and with functions and inlined callers, for addresses spread over an object in
+# no order, and, of this program, for sixteen addresses that are asked again and again. Arguments: how many
+# addresses are asked, and how many of slow peers.
 set -euo pipefail
 cd "$(dirname "$0")/.."
 program=crates/addr2line_live/out/addr2line_live
-count=${1:-100000}
+many=${1:-200000}
+few=${2:-2000}
+mkdir -p out
+[ -x $program ] || (cd crates/addr2line_live && rt run > ../../out/program.log 2>&1 < /dev/null)
+[ -f out/objects/large ] || tools/make_objects.sh out/objects
+gcc -O2 -o out/ask bench/ask.c
 
-# The addresses of an object's executable sections, evenly spread.
+# So many addresses of an object's executable sections, in no order, or the first sixteen of them again and
+# again.
 spread() {
-    python3 - "$1" "$count" << 'PY'
+    python3 - "$1" "$2" "$3" << 'PY'
+import random
 import sys
 sys.path.insert(0, "tools")
 from compare_addr2line import addresses
-for address in addresses(sys.argv[1], int(sys.argv[2])):
-    print(f"{address:x}")
+path, count, kinds = sys.argv[1], int(sys.argv[2]), int(sys.argv[3])
+asked = list(addresses(path, count))
+random.Random(1).shuffle(asked)
+for number in range(count):
+    print(f"0x{asked[number % kinds]:x}")
 PY
 }
 
-seconds() { local start=$EPOCHREALTIME; "$@"; awk -v a="$start" -v b="$EPOCHREALTIME" 'BEGIN { print b - a }'; }
-ours() { { echo "load object 0 $1"; cat out/addresses; } | "$program" > out/ours.txt; }
-theirs() { addr2line -e "$1" < out/addresses > out/theirs.txt; }
+# One line: what was asked how, and what came of it.
+show() {
+    local what=$1
+    shift
+    printf '  %-44s %s\n' "$what" "$(out/ask "$@" || echo failed)"
+}
 
-for object in out/objects/small out/objects/program out/objects/library.so out/objects/large; do
-    [ -f "$object" ] || continue
-    spread "$object" > out/addresses
-    a=$(seconds ours "$object")
-    b=$(seconds theirs "$object")
-    awk -v o="$object" -v n="$count" -v a="$a" -v b="$b" 'BEGIN { printf "%-28s %9.0f answers a second, addr2line %9.0f\n", o, n / a, n / b }'
+measure() {
+    local object=$1 how=$2 options=$3
+    spread "$object" "$many" "$many" > out/spread
+    spread "$object" "$many" 16 > out/hot
+    head -n "$few" out/spread > out/few
+    for cache in 1024 0 65536; do
+        show "addr2line_live --cache $cache, spread" "$how" out/spread $program -e "$object" $options --cache $cache
+    done
+    show 'addr2line_live, sixteen addresses' "$how" out/hot $program -e "$object" $options
+    if command -v llvm-symbolizer > /dev/null; then
+        local style='--functions=none --no-inlines'
+        [ -z "$options" ] || style='--functions=short --inlines'
+        show 'llvm-symbolizer, spread' "$how" out/spread llvm-symbolizer --output-style=GNU --no-demangle $style --obj="$object"
+    fi
+    if [ -n "${GIMLI_ADDR2LINE:-}" ]; then
+        show "addr2line of gimli, spread" "$how" out/spread "$GIMLI_ADDR2LINE" -e "$object" $options
+    fi
+    if command -v eu-addr2line > /dev/null; then
+        show 'eu-addr2line, fewer' "$how" out/few eu-addr2line -e "$object" $options
+    fi
+    show 'addr2line of binutils, fewer' "$how" out/few addr2line -e "$object" $options
+}
+
+for object in out/objects/small out/objects/program out/objects/large; do
+    for how in batch pingpong; do
+        for options in '' '-f -i'; do
+            echo "$(basename "$object"), $how${options:+, }$options"
+            measure "$object" "$how" "$options"
+        done
+    done
 done

@@ -2,6 +2,7 @@
 // reader, and says how long it took. A name is looked for by reading the entries again to which the
 // references of a scope lead.
 #include "bytes.h"
+#include "kept.h"
 #include <elf.h>
 #include <stdint.h>
 #include <stdio.h>
@@ -56,10 +57,6 @@ struct text {
     size_t length;
 };
 
-struct range {
-    uint64_t from, to;
-};
-
 struct scope {
     struct entry entry;
     struct unit *unit;
@@ -70,8 +67,9 @@ struct scope {
 static struct section info, abbrev, line_strings, strings, string_offsets, addresses, range_lists;
 static struct unit *units;
 static struct scope *scopes;
-static struct range *ranges;
-static size_t unit_count, unit_room, scope_count, scope_room, range_count, range_room;
+struct range *ranges;
+static size_t unit_count, unit_room, scope_room, range_room;
+size_t scope_count, range_count;
 static uint64_t entry_count, value_count;
 static uint64_t *starts; // a bit for each byte of .debug_info: whether an entry starts there
 
@@ -458,6 +456,26 @@ static struct section section_of(const uint8_t *bytes, const char *wanted) {
     return (struct section){bytes, 0};
 }
 
+int read_entries_of(const uint8_t *bytes) {
+    info = section_of(bytes, ".debug_info");
+    abbrev = section_of(bytes, ".debug_abbrev");
+    line_strings = section_of(bytes, ".debug_line_str");
+    strings = section_of(bytes, ".debug_str");
+    string_offsets = section_of(bytes, ".debug_str_offsets");
+    addresses = section_of(bytes, ".debug_addr");
+    range_lists = section_of(bytes, ".debug_rnglists");
+    starts = calloc(info.size / 64 + 1, sizeof *starts);
+    if (!starts) abort();
+    if (read_scopes()) { fprintf(stderr, "bad object\n"); return 1; }
+    return 0;
+}
+
+struct found_scope scope_at(size_t number) {
+    const struct scope *scope = &scopes[number];
+    return (struct found_scope){scope->entry.tag == 0x1d, scope->end, scope->first_range, scope->range_count};
+}
+
+#ifndef WHOLE
 int main(int argc, char **argv) {
     if (argc != 2) return 2;
     FILE *stream = fopen(argv[1], "rb");
@@ -469,19 +487,11 @@ int main(int argc, char **argv) {
     if (!bytes || fread(bytes, 1, size, stream) != (size_t)size) return 1;
     struct timespec start, stop;
     clock_gettime(CLOCK_MONOTONIC, &start);
-    info = section_of(bytes, ".debug_info");
-    abbrev = section_of(bytes, ".debug_abbrev");
-    line_strings = section_of(bytes, ".debug_line_str");
-    strings = section_of(bytes, ".debug_str");
-    string_offsets = section_of(bytes, ".debug_str_offsets");
-    addresses = section_of(bytes, ".debug_addr");
-    range_lists = section_of(bytes, ".debug_rnglists");
-    starts = calloc(info.size / 64 + 1, sizeof *starts);
-    if (!starts) abort();
-    if (read_scopes()) { fprintf(stderr, "bad object\n"); return 1; }
+    if (read_entries_of(bytes)) return 1;
     clock_gettime(CLOCK_MONOTONIC, &stop);
     long ms = (stop.tv_sec - start.tv_sec) * 1000 + (stop.tv_nsec - start.tv_nsec) / 1000000;
     printf("%zu units, %lu entries, %lu values, %zu scopes, %zu ranges, %ld ms\n", unit_count, (unsigned long)entry_count,
         (unsigned long)value_count, scope_count, range_count, ms);
     return 0;
 }
+#endif

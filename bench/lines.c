@@ -1,23 +1,13 @@
 // Reads the line programs of an object with a plain interpreter that makes the same checks and keeps
 // the same rows, and says how long it took.
 #include "bytes.h"
+#include "kept.h"
 #include <elf.h>
 #include <stdint.h>
 #include <stdio.h>
 #include <stdlib.h>
 #include <string.h>
 #include <time.h>
-
-struct row {
-    uint64_t address, program, file;
-    uint32_t line;
-    uint8_t end;
-};
-
-struct rows {
-    struct row *items;
-    size_t count, room;
-};
 
 static void text(struct bytes *b) {
     const uint8_t *nul = memchr(b->at, 0, b->end - b->at);
@@ -139,6 +129,24 @@ static int run(struct bytes *section, struct bytes strings, uint64_t number, str
     return open;
 }
 
+struct rows rows;
+
+int read_lines(const uint8_t *bytes) {
+    const Elf64_Ehdr *file = (const Elf64_Ehdr *)bytes;
+    const Elf64_Shdr *sections = (const Elf64_Shdr *)(bytes + file->e_shoff);
+    const char *names = (const char *)bytes + sections[file->e_shstrndx].sh_offset;
+    struct bytes line = {0}, strings = {0};
+    for (int i = 0; i < file->e_shnum; i++) {
+        struct bytes here = {bytes + sections[i].sh_offset, bytes + sections[i].sh_offset + sections[i].sh_size, 0};
+        if (!strcmp(names + sections[i].sh_name, ".debug_line")) line = here;
+        if (!strcmp(names + sections[i].sh_name, ".debug_line_str")) strings = here;
+    }
+    for (uint64_t number = 0; line.at < line.end; number++)
+        if (run(&line, strings, number, &rows)) { fprintf(stderr, "bad program %lu\n", (unsigned long)number); return 1; }
+    return 0;
+}
+
+#ifndef WHOLE
 int main(int argc, char **argv) {
     if (argc != 2) return 2;
     FILE *stream = fopen(argv[1], "rb");
@@ -150,20 +158,10 @@ int main(int argc, char **argv) {
     if (!bytes || fread(bytes, 1, size, stream) != (size_t)size) return 1;
     struct timespec start, stop;
     clock_gettime(CLOCK_MONOTONIC, &start);
-    Elf64_Ehdr *file = (Elf64_Ehdr *)bytes;
-    Elf64_Shdr *sections = (Elf64_Shdr *)(bytes + file->e_shoff);
-    const char *names = (const char *)bytes + sections[file->e_shstrndx].sh_offset;
-    struct bytes line = {0}, strings = {0};
-    for (int i = 0; i < file->e_shnum; i++) {
-        struct bytes here = {bytes + sections[i].sh_offset, bytes + sections[i].sh_offset + sections[i].sh_size, 0};
-        if (!strcmp(names + sections[i].sh_name, ".debug_line")) line = here;
-        if (!strcmp(names + sections[i].sh_name, ".debug_line_str")) strings = here;
-    }
-    struct rows rows = {0};
-    for (uint64_t number = 0; line.at < line.end; number++)
-        if (run(&line, strings, number, &rows)) { fprintf(stderr, "bad program %lu\n", (unsigned long)number); return 1; }
+    if (read_lines(bytes)) return 1;
     clock_gettime(CLOCK_MONOTONIC, &stop);
     long ms = (stop.tv_sec - start.tv_sec) * 1000 + (stop.tv_nsec - start.tv_nsec) / 1000000;
     printf("%zu rows, %ld ms\n", rows.count, ms);
     return 0;
 }
+#endif

@@ -8,6 +8,9 @@ measure=crates/measure/out/measure
 gcc -O2 -o out/leb bench/leb.c
 gcc -O2 -o out/lines bench/lines.c
 gcc -O2 -o out/entries bench/entries.c
+gcc -O2 -DWHOLE -c -o out/lines.o bench/lines.c
+gcc -O2 -DWHOLE -c -o out/entries.o bench/entries.c
+g++ -O2 -o out/load bench/load.cpp out/lines.o out/entries.o
 [ -f out/leb.bin ] || out/leb make out/leb.bin 100000000
 [ -f out/objects/large ] || tools/make_objects.sh out/objects
 [ -f out/objects/hundred ] || tools/repeat_lines.sh out/objects/large out/objects/hundred
@@ -52,3 +55,8 @@ for peer in 'llvm-dwarfdump --debug-info' 'readelf --debug-dump=info'; do
 done
 $measure declarations out/objects/large
 $measure values out/objects/large
+compare 'whole load of a C++ program' "$(best $measure module out/objects/large)" "$(best out/load out/objects/large)"
+$measure module out/objects/large
+out/load out/objects/large
+echo "memory for its whole load: $(peak $measure module out/objects/large) MB, plain C and C++ $(peak out/load out/objects/large) MB"
+$measure finds out/objects/large

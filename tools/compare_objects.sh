@@ -1,13 +1,16 @@
 #!/usr/bin/env bash
 # Compares what is read from each object of tools/make_objects.sh, rows, scopes and the frames of ten
-# thousand addresses, with what other readers show. Fails where anything differs.
+# thousand addresses, with what other readers show, and the frames also with a scan of all rows and scopes
+# for each address. Fails where anything differs.
 set -euo pipefail
 cd "$(dirname "$0")/.."
 mkdir -p out
 (cd crates/measure && rt run > ../../out/measure.log 2>&1)
 measure=crates/measure/out/measure
 [ -f out/objects/large ] || tools/make_objects.sh out/objects
-objects=(small small.clang small.dwarf64 library.so program program.clang program.dwarf64 program.dead large)
+objects=(small small.clang small.dwarf64 library.so program program.clang program.dwarf64 program.dead
+    program.lto program.clang.lto large)
+gcc -O2 -o out/plain_scan tools/plain_scan.c
 differ=0
 for object in "${objects[@]}"; do
     [ -f out/objects/$object ] || continue
@@ -15,5 +18,6 @@ for object in "${objects[@]}"; do
     $measure scope-table out/objects/$object > out/scopes.table
     tools/compare_scopes.py out/objects/$object out/scopes.table || differ=1
     tools/compare_frames.py $measure out/objects/$object || differ=1
+    tools/compare_plain_scan.sh $measure out/objects/$object || differ=1
 done
 exit $differ

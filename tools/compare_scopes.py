@@ -2,10 +2,10 @@
 """Compares the scopes that `measure scope-table OBJECT` prints with those that other readers show.
 
 compare_scopes.py OBJECT TABLE, where TABLE holds what was printed. Kinds, names, linkage names, call
-files and call lines are those of readelf; a name that is not at the entry is looked for along its
+files, call lines and the statement list of the unit are those of readelf; a name that is not at the entry is looked for along its
 references, up to 16 of them. Ranges are those of llvm-dwarfdump, which adds the base in force; empty
-ones, and those that start at 2^64-1, the mark of dropped code, are left out. Fails where anything
-differs.
+ones, and those that start at 2^64-1, the mark of dropped code, are left out. The end of a scope is found
+by the depths that readelf shows. Fails where anything differs.
 """
 import re
 import subprocess
@@ -15,9 +15,9 @@ from pathlib import Path
 KINDS = {"DW_TAG_subprogram": "subprogram", "DW_TAG_inlined_subroutine": "inlined"}
 HOPS = 16
 DROPPED = 2**64 - 1
-FIELDS = ["kind", "name", "linkage name", "ranges", "call file", "call line"]
+FIELDS = ["kind", "name", "linkage name", "ranges", "call file", "call line", "end", "statement list"]
 
-ENTRY = re.compile(r"^ <[0-9a-f]+><(?P<offset>[0-9a-f]+)>: Abbrev Number: \d+ \((?P<tag>\w+)")
+ENTRY = re.compile(r"^ <(?P<depth>[0-9a-f]+)><(?P<offset>[0-9a-f]+)>: Abbrev Number: \d+ \((?P<tag>\w+)")
 ATTRIBUTE = re.compile(r"^    <[0-9a-f]+>   (?P<name>DW_AT_\w+) *: (?P<value>.*)$")
 FORM = re.compile(r"^\((?P<form>\w+)\)\s?")
 ELSEWHERE = re.compile(r"^\([^)]*\): ")
@@ -46,15 +46,23 @@ def value_of(text):
 
 
 def attributes_of(path):
-    """The attributes of each scope as readelf shows them, by its offset; its tag stands with them."""
-    scopes, current = {}, None
+    """The attributes of each scope as readelf shows them, by its offset; its tag stands with them, the
+    number of the first later scope that is not below it, and the attributes of its unit's root."""
+    scopes, current, root, around = {}, None, {}, []
     for text in lines("readelf", "--wide", "--debug-dump=info", path):
         if found := ENTRY.match(text):
-            current = None
-            if found["tag"] in KINDS:
-                current = scopes[int(found["offset"], 16)] = {"tag": found["tag"]}
+            current, depth = None, int(found["depth"], 16)
+            while around and around[-1][0] >= depth:
+                around.pop()[1]["end"] = len(scopes)
+            if depth == 0:
+                current = root = {}
+            elif found["tag"] in KINDS:
+                current = scopes[int(found["offset"], 16)] = {"tag": found["tag"], "root": root}
+                around.append((depth, current))
         elif current is not None and (found := ATTRIBUTE.match(text)):
             current.setdefault(found["name"], value_of(found["value"]))
+    for _, scope in around:
+        scope["end"] = len(scopes)
     return scopes
 
 
@@ -118,6 +126,8 @@ def shown(path):
             spelled(ranges.get(offset, [])),
             number(attributes.get("DW_AT_call_file", "-")),
             number(attributes.get("DW_AT_call_line", "-")),
+            str(attributes["end"]),
+            number(attributes["root"].get("DW_AT_stmt_list", "-")),
         ]
 
 

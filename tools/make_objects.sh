@@ -1,8 +1,9 @@
 #!/usr/bin/env bash
 # Compiles the objects on which the readers are compared and measured, into the folder named: a C
-# program, a C++ program, a shared library, and a large C++ program of many instantiations. Where there
-# is clang, also a C and a C++ program of its own, and these in the 64-bit format of DWARF; where there is
-# lld too, a C++ program whose dropped code is marked by the address 2^64-1.
+# program, a C++ program, the same with link-time optimization, a shared library, and a large C++ program
+# of many instantiations. Where there is clang, also a C and a C++ program of its own, and these in the
+# 64-bit format of DWARF; where there is lld too, a C++ program whose dropped code is marked by the address
+# 2^64-1, and one with link-time optimization.
 set -euo pipefail
 folder=$1
 mkdir -p "$folder"
@@ -51,6 +52,7 @@ echo 'int main(int argc, char **) { return program::run(argc); }' >> "$folder/pr
 gcc "${flags[@]}" -o "$folder/small" "$folder/small.c"
 g++ "${flags[@]}" -shared -fPIC -o "$folder/library.so" "$folder/library.cpp"
 g++ "${flags[@]}" -o "$folder/program" "$folder/program.cpp"
+g++ "${flags[@]}" -flto=1 -o "$folder/program.lto" "$folder/program.cpp" "$folder/library.cpp"
 if command -v clang > /dev/null; then
     clang "${flags[@]}" -o "$folder/small.clang" "$folder/small.c"
     clang "${flags[@]}" -gdwarf64 -o "$folder/small.dwarf64" "$folder/small.c"
@@ -62,6 +64,8 @@ if command -v clang++ > /dev/null; then
         clang++ "${flags[@]}" -ffunction-sections -fuse-ld=lld -Wl,--gc-sections \
             '-Wl,-z,dead-reloc-in-nonalloc=.debug_*=0xffffffffffffffff' \
             -o "$folder/program.dead" "$folder/program.cpp" "$folder/library.cpp"
+        clang++ "${flags[@]}" -flto -fuse-ld=lld \
+            -o "$folder/program.clang.lto" "$folder/program.cpp" "$folder/library.cpp"
     fi
 fi
 

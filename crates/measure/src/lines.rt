@@ -1,5 +1,6 @@
 //! The line programs of an object.
 
+use crate::scopes;
 use anyhow::{Context, Result};
 use dwarf_bytes::{LoadFault, Object, Section};
 use dwarf_lines::{LineTables, PathParts};
@@ -33,6 +34,40 @@ pub fn print_rows(rt: &HostRuntime, bytes: &[u8]) -> Result<()> {
         writeln!(out, ":{}", row.line)?;
     }
     out.flush().context("writing")?;
+    Ok(())
+}
+
+/// Prints the files of the programs that units name, each as `STMT_LIST NUMBER PATH`, with tabs.
+pub fn print_files(rt: &HostRuntime, bytes: &[u8]) -> Result<()> {
+    let lines = read(rt.alloc(), bytes)?;
+    let scopes = scopes::read(rt.alloc(), bytes)?;
+    let mut out = BufWriter::new(rt.alloc(), io::writer(rt))?;
+    for root in scopes.roots() {
+        if let Some(offset) = root.stmt_list {
+            print_program_files(&mut out, bytes, &lines, offset)?;
+        }
+    }
+    out.flush().context("writing")?;
+    Ok(())
+}
+
+/// Prints the files of the program at an offset.
+fn print_program_files<W: Write>(
+    out: &mut W,
+    bytes: &[u8],
+    lines: &LineTables,
+    offset: u64,
+) -> Result<()> {
+    let Some(program) = lines.program_at(offset) else {
+        return Ok(());
+    };
+    for file in 0..lines.files(program) {
+        write!(out, "{offset}\t{file}\t")?;
+        if let Some(parts) = lines.path(program, file) {
+            print_path(out, bytes, &parts)?;
+        }
+        out.write_all(b"\n")?;
+    }
     Ok(())
 }
 

@@ -6,12 +6,15 @@
 //! `measure values OBJECT` reads the abbreviation tables and the values of all entries,
 //! `measure scopes OBJECT` reads its subprograms and inlined subroutines,
 //! `measure scope-table OBJECT` prints them,
+//! `measure files OBJECT` prints the files that they are called from,
 //! `measure module OBJECT` decodes it whole, from its tables to the index of its addresses,
+//! `measure finds OBJECT` then finds a million addresses, and tells their frames,
 //! `measure frames OBJECT` prints the frames of addresses spread over it, and
 //! `measure dump OBJECT` prints its rows, and then these.
 #![tactic(auto)]
 
 mod entries;
+mod finds;
 mod frames;
 mod leb;
 mod lines;
@@ -36,7 +39,9 @@ fn main(rt: HostRuntime) -> Result<()> {
         "scopes" => measure_scopes(&rt, &bytes),
         "rows" => lines::print_rows(&rt, &bytes),
         "scope-table" => scopes::print_scopes(&rt, &bytes),
+        "files" => lines::print_files(&rt, &bytes),
         "module" => measure_module(&rt, bytes),
+        "finds" => finds::measure_finds(&rt, &decoded(&rt, bytes)?),
         "frames" => frames::print_frames(&rt, &decoded(&rt, bytes)?),
         "dump" => {
             lines::print_rows(&rt, &bytes)?;
@@ -49,8 +54,9 @@ fn main(rt: HostRuntime) -> Result<()> {
 fn print_usage(rt: &HostRuntime) -> Result<()> {
     println!(rt; "usage: measure COMMAND FILE, where COMMAND is")?;
     println!(rt;
-        "leb, lines, rows, declarations, values, scopes, scope-table, module, frames or dump"
+        "leb, lines, rows, files, declarations, values, scopes, scope-table, module, finds, frames",
     )?;
+    println!(rt; "or dump")?;
     Ok(())
 }
 

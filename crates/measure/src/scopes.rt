@@ -20,8 +20,9 @@ pub fn count_ranges(scopes: &Scopes) -> u64 {
     count
 }
 
-/// Prints each scope as `OFFSET KIND NAME LINKAGE_NAME RANGES CALL_FILE CALL_LINE`, with tabs between
-/// them, ranges as `FROM-TO,..`, and `-` for what is absent.
+/// Prints each scope as `OFFSET KIND NAME LINKAGE_NAME RANGES CALL_FILE CALL_LINE END STMT_LIST`, with
+/// tabs between them, ranges as `FROM-TO,..`, and `-` for what is absent. END is the number of the first
+/// later scope that is not below it.
 pub fn print_scopes(rt: &HostRuntime, bytes: &[u8]) -> Result<()> {
     let sections = Sections::of(bytes, &Object::find(bytes)?);
     let scopes = Scopes::read(rt.alloc(), &sections)?;
@@ -54,6 +55,8 @@ fn print_scope<W: Write>(
     print_number(out, scope.call_file(scopes))?;
     out.write_all(b"\t")?;
     print_number(out, scope.call_line(scopes))?;
+    write!(out, "\t{}\t", scope.end())?;
+    print_number(out, scope.stmt_list(scopes))?;
     out.write_all(b"\n")?;
     Ok(())
 }

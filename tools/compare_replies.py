@@ -1,0 +1,70 @@
+#!/usr/bin/env python3
+"""Compares the replies of addr2line_live, as text, with those of addr2line and of llvm-symbolizer.
+
+compare_replies.py PROGRAM COUNT OBJECT.. asks each for COUNT addresses, spread evenly over the executable
+sections, with -a -f -i -p -s and linkage names. Of the others' text is taken away what ours never has: a
+discriminator. Where this program tells no function or no line, names of the symbol table and other spellings
+of what is unknown agree. Fails where a reply is neither that of addr2line nor that of llvm-symbolizer.
+"""
+import re
+import subprocess
+import sys
+from pathlib import Path
+
+from compare_addr2line import addresses
+
+FRAME = re.compile(r"^(?:0x(?P<address>[0-9a-f]+): | \(inlined by\) )(?P<name>.*?)(?: at | (?=\?\?:))(?P<file>.*):(?P<line>\d+|\?)$")
+DISCRIMINATOR = re.compile(r" \(discriminator \d+\)$")
+OPTIONS = ["-a", "-f", "-i", "-p", "-s"]
+
+
+def replies(command, asked):
+    """The frames of each address, as name, file and line."""
+    done = subprocess.run(command, input="".join(f"0x{a:x}\n" for a in asked), capture_output=True, text=True, errors="replace")
+    if done.returncode:
+        raise SystemExit(f"{command[0]} ended with {done.returncode}")
+    found = {}
+    for text in done.stdout.splitlines():
+        if not text:
+            continue
+        frame = FRAME.match(DISCRIMINATOR.sub("", text))
+        if frame is None:
+            raise SystemExit(f"{command[0]} says {text!r}")
+        if frame["address"]:
+            frames = found[int(frame["address"], 16)] = []
+        line = 0 if frame["line"] == "?" else int(frame["line"])
+        frames.append((frame["name"], frame["file"], line))
+    return found
+
+
+def agree(ours, theirs):
+    """Whether two replies say the same, but for what this one does not know."""
+    if len(ours) != len(theirs):
+        return len(ours) == 1 and ours[0] == ("??", "??", 0) and all(f[1:] == ("??", 0) for f in theirs)
+    return all(a[1:] == b[1:] and a[0] in ("??", b[0]) for a, b in zip(ours, theirs))
+
+
+def main():
+    program, count, *paths = sys.argv[1:]
+    unexplained = 0
+    for path in paths:
+        asked = list(dict.fromkeys(addresses(path, int(count))))
+        ours = replies([program, "-e", path, "--linkage", *OPTIONS], asked)
+        binutils = replies(["addr2line", "-e", path, *OPTIONS], asked)
+        llvm = replies(["llvm-symbolizer", "--output-style=GNU", "--no-demangle", f"--obj={path}", *OPTIONS], asked)
+        with_binutils = {a for a in asked if agree(ours[a], binutils[a])}
+        with_llvm = {a for a in asked if agree(ours[a], llvm[a])}
+        alone = [a for a in asked if a not in with_binutils and a not in with_llvm]
+        print(
+            f"{Path(path).name}: {len(asked)} replies, {len(with_binutils & with_llvm)} as both others,"
+            f" {len(with_llvm - with_binutils)} as llvm-symbolizer alone,"
+            f" {len(with_binutils - with_llvm)} as addr2line alone, {len(alone)} as neither"
+        )
+        for a in alone[:3]:
+            print(f"  {a:x}: {ours[a]}\n    addr2line {binutils[a]}\n    llvm-symbolizer {llvm[a]}")
+        unexplained += len(alone)
+    sys.exit(bool(unexplained))
+
+
+if __name__ == "__main__":
+    main()
