@@ -4,8 +4,8 @@ ghost use Rattle.std.specs.Prelude.{◌≡◌, ◌≤◌, ◌<◌, ◌^◌, leng
 ghost use Rattle.dwarf_entries.specs.Scopes.{Scope as ScopeSeen};
 ghost use Rattle.addr_table.specs.Chains.{is_at};
 ghost use Rattle.dwarf_entries.specs.Order.{AreInOrder};
-ghost use Rattle.addr_table.specs.Private.Walks.{HaveParents, chain_around, top_around, EndsAt, IsTold};
-ghost use Rattle.addr_table.specs.Private.Walks.{outer_of, begin_of};
+ghost use Rattle.addr_table.specs.Private.Walks.{HaveParents, chain_around, top_around, EndsAt};
+ghost use Rattle.addr_table.specs.Private.Walks.{IsTold, outer_of, begin_of};
 
 use crate::scan::is_at;
 use crate::scopes::scope_at;
