@@ -1,12 +1,15 @@
 #!/usr/bin/env bash
 # Compares what is read from each object of tools/make_objects.sh, rows, scopes and the frames of ten
 # thousand addresses, with what other readers show, and the frames also with a scan of all rows and scopes
-# for each address. Fails where anything differs.
+# for each address; and the program's replies with those of addr2line and llvm-symbolizer. Fails where
+# anything differs.
 set -euo pipefail
 cd "$(dirname "$0")/.."
 mkdir -p out
 (cd crates/measure && rt run > ../../out/measure.log 2>&1)
+(cd crates/addr2line_live && rt run > ../../out/program.log 2>&1 < /dev/null)
 measure=crates/measure/out/measure
+program=crates/addr2line_live/out/addr2line_live
 [ -f out/objects/large ] || tools/make_objects.sh out/objects
 objects=(small small.clang small.dwarf64 library.so program program.clang program.dwarf64 program.dead
     program.lto program.clang.lto large)
@@ -19,5 +22,6 @@ for object in "${objects[@]}"; do
     tools/compare_scopes.py out/objects/$object out/scopes.table || differ=1
     tools/compare_frames.py $measure out/objects/$object || differ=1
     tools/compare_plain_scan.sh $measure out/objects/$object || differ=1
+    tools/compare_replies.py $program 10000 out/objects/$object || differ=1
 done
 exit $differ

@@ -3,8 +3,9 @@
 
 compare_replies.py PROGRAM COUNT OBJECT.. asks each for COUNT addresses, spread evenly over the executable
 sections, with -a -f -i -p -s and linkage names. Of the others' text is taken away what ours never has: a
-discriminator. Where this program tells no function or no line, names of the symbol table and other spellings
-of what is unknown agree. Fails where a reply is neither that of addr2line nor that of llvm-symbolizer.
+discriminator, and what a compiler puts behind the symbol of a copy of a function. Where this program tells no
+function, names of the symbol table agree, and where it knows nothing, all that tells no line, for it reads no
+symbols. Fails where a reply is neither that of addr2line nor that of llvm-symbolizer.
 """
 import re
 import subprocess
@@ -15,6 +16,7 @@ from compare_addr2line import addresses
 
 FRAME = re.compile(r"^(?:0x(?P<address>[0-9a-f]+): | \(inlined by\) )(?P<name>.*?)(?: at | (?=\?\?:))(?P<file>.*):(?P<line>\d+|\?)$")
 DISCRIMINATOR = re.compile(r" \(discriminator \d+\)$")
+COPY = re.compile(r"(\.(lto_priv|isra|constprop|part|cold)(\.\d+)?)+$")
 OPTIONS = ["-a", "-f", "-i", "-p", "-s"]
 
 
@@ -33,14 +35,16 @@ def replies(command, asked):
         if frame["address"]:
             frames = found[int(frame["address"], 16)] = []
         line = 0 if frame["line"] == "?" else int(frame["line"])
-        frames.append((frame["name"], frame["file"], line))
+        frames.append((COPY.sub("", frame["name"]), frame["file"], line))
     return found
 
 
 def agree(ours, theirs):
     """Whether two replies say the same, but for what this one does not know."""
+    if ours == [("??", "??", 0)]:
+        return all(line == 0 for _, _, line in theirs)
     if len(ours) != len(theirs):
-        return len(ours) == 1 and ours[0] == ("??", "??", 0) and all(f[1:] == ("??", 0) for f in theirs)
+        return False
     return all(a[1:] == b[1:] and a[0] in ("??", b[0]) for a, b in zip(ours, theirs))
 
 
