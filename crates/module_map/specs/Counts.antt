@@ -27,7 +27,7 @@ abbrev pub least_of : Option Loaded → ℕ
 least_of None = 0
 least_of (Some m) = 2
 
--- the compares of an ask: two searches by halving, and the two ends of the module
+-- the compares of an ask: two searches by halving, each with the end of the one that was found
 abbrev pub TakesCompares : World → ℕ → ℕ → Type 0
 TakesCompares world address compares =
     (least_of (holder world address) ≤ compares)
