@@ -1,5 +1,6 @@
 -- Texts put one after the other.
-use Rattle.std.proofs.Common.{◌≡◌, Bool, true, false, ℕ, zero, suc, ◌+◌, ◌-◌, ◌<◌, ◌≤◌, ◌⊎◌, inl, inr, List, [], ◌∷◌, ◌++◌, length, map, take, drop, get_or, refl, sym, ◌∙◌, ap, subst, append_assoc, append-nil, add-one, arith}
+use Rattle.std.proofs.Common.{◌≡◌, Bool, true, false, ℕ, zero, suc, ◌+◌, ◌-◌, ◌<◌, ◌≤◌, ◌⊎◌, inl, inr, List, [], ◌∷◌, ◌++◌, length, map}
+use Rattle.std.proofs.Common.{take, drop, get_or, refl, sym, ◌∙◌, ap, subst, append_assoc, append-nil, add-one, arith}
 use Rattle.std.specs.Prelude.{Option, Result, Ok, Err, not, ◌&&◌}
 use Rattle.std.proofs.lemmas.Bool.{false≢true}
 use Rattle.answer_text.specs.Printable.{is_control, printable}
@@ -14,14 +15,20 @@ use Rattle.answer_text.specs.Pending.{Put, Cut, Puts}
 pub put_then : (a b c : Option (List ℕ)) (h h' h'' x y : List ℕ) → Put a b h h' x → Put b c h' h'' y → Put a c h h'' (x ++ y)
 put_then a b c h h' h'' x y p q = record {
   sent = p.sent ++ q.sent;
-  kept = sym (append_assoc h x y) ∙ ap (λ (z : List ℕ). z ++ y) p.kept ∙ append_assoc p.sent h' y ∙ ap (λ (z : List ℕ). p.sent ++ z) q.kept ∙ sym (append_assoc p.sent q.sent h'');
+  kept =
+      sym (append_assoc h x y) ∙ ap (λ (z : List ℕ). z ++ y) p.kept ∙ append_assoc p.sent h' y ∙ ap
+      (λ (z : List ℕ). p.sent ++ z) q.kept ∙ sym (append_assoc p.sent q.sent h'');
   appended = appends_then a b c p.sent q.sent p.appended q.appended;
 }
 
 pub put_cut : (a b c : Option (List ℕ)) (h h' x y : List ℕ) → Put a b h h' x → Cut b c h' y → Cut a c h (x ++ y)
 put_cut a b c h h' x y p q = record {
   sent = p.sent ++ q.sent;
-  begins = (q.begins.0, append_assoc p.sent q.sent q.begins.0 ∙ ap (λ (z : List ℕ). p.sent ++ z) q.begins.1 ∙ sym (append_assoc p.sent h' y) ∙ ap (λ (z : List ℕ). z ++ y) (sym p.kept) ∙ append_assoc h x y);
+  begins = (
+    q.begins.0,
+    append_assoc p.sent q.sent q.begins.0 ∙ ap (λ (z : List ℕ). p.sent ++ z) q.begins.1 ∙ sym
+        (append_assoc p.sent h' y) ∙ ap (λ (z : List ℕ). z ++ y) (sym p.kept) ∙ append_assoc h x y,
+  );
   appended = appends_then a b c p.sent q.sent p.appended q.appended;
 }
 
@@ -34,13 +41,15 @@ cut_more a b h x y p = record {
 }
 
 -- a text was written, where nothing was held
-pub puts_through : {E : Type 0} (a b : Option (List ℕ)) (h x : List ℕ) (r : Result (Unit {0}) E) → h ≡ [] → Writes a b r x → Puts a b h h r x
+pub puts_through : {E : Type 0} (a b : Option (List ℕ)) (h x : List ℕ) (r : Result (Unit {0}) E) → h ≡ [] → Writes a b r x
+    → Puts a b h h r x
 puts_through a b [] x (Ok done) e w = record { sent = x; kept = sym (append-nil x); appended = w }
 puts_through a b [] x (Err fault) e w = record { sent = w.0; begins = w.1; appended = w.2 }
 puts_through a b (y ∷ h) x r e w = cc
 
 -- after nothing was put, a text is put
-pub puts_after : {E : Type 0} (a b c : Option (List ℕ)) (h h' h'' y : List ℕ) (r : Result (Unit {0}) E) → Put a b h h' [] → Puts b c h' h'' r y → Puts a c h h'' r y
+pub puts_after : {E : Type 0} (a b c : Option (List ℕ)) (h h' h'' y : List ℕ) (r : Result (Unit {0}) E) → Put a b h h' []
+    → Puts b c h' h'' r y → Puts a c h h'' r y
 puts_after a b c h h' h'' y (Ok done) p q = put_then a b c h h' h'' [] y p q
 puts_after a b c h h' h'' y (Err fault) p q = put_cut a b c h h' [] y p q
 
@@ -64,14 +73,16 @@ flat_map_on : {X : Type 0} (f : X → List ℕ) (xs : List X) (i : ℕ) (d : X) 
 flat_map_on f [] i d lt = absurd (omega arith)
 flat_map_on f (x ∷ xs) zero d lt = append-nil (f x)
 flat_map_on f (x ∷ xs) (suc i) d lt =
-    ap (λ (z : List ℕ). f x ++ z) (flat_map_on f xs i d (omega arith)) ∙ sym (append_assoc (f x) (flat_map f (take i xs)) (f (get_or xs i d)))
+    ap (λ (z : List ℕ). f x ++ z) (flat_map_on f xs i d (omega arith)) ∙ sym
+    (append_assoc (f x) (flat_map f (take i xs)) (f (get_or xs i d)))
 
 -- one more of several texts
 pub put_next : {X : Type 0} (a b c : Option (List ℕ)) (h h' h'' : List ℕ) (f : X → List ℕ) (xs : List X) (i : ℕ) (d : X) → i < length xs →
     Put a b h h' (flat_map f (take i xs)) → Put b c h' h'' (f (get_or xs i d)) → Put a c h h'' (flat_map f (take (i + 1) xs))
 put_next a b c h h' h'' f xs i d lt p q =
     let P : List ℕ → Type 0 = λ z. Put a c h h'' z in
-    subst P (sym (ap (λ (n : ℕ). flat_map f (take n xs)) (add-one i) ∙ flat_map_on f xs i d lt)) (put_then a b c h h' h'' (flat_map f (take i xs)) (f (get_or xs i d)) p q)
+    subst P (sym (ap (λ (n : ℕ). flat_map f (take n xs)) (add-one i) ∙ flat_map_on f xs i d lt))
+    (put_then a b c h h' h'' (flat_map f (take i xs)) (f (get_or xs i d)) p q)
 
 -- the one of several texts at which it stopped
 pub cut_at : {X : Type 0} (a b c : Option (List ℕ)) (h h' : List ℕ) (f : X → List ℕ) (xs : List X) (i : ℕ) (d : X) → i < length xs →
@@ -99,20 +110,27 @@ cut_at_number a b c h h' f xs i lt p q =
     subst Q (flat_map_single f xs)
     (cut_at a b c h h' (λ x. f x ∷ []) xs i 0 lt (subst P (sym (flat_map_single f (take i xs))) p) q)
 
-pub puts_then : {E : Type 0} (a b c : Option (List ℕ)) (h h' h'' x y : List ℕ) (r : Result (Unit {0}) E) → Put a b h h' x → Puts b c h' h'' r y → Puts a c h h'' r (x ++ y)
+pub puts_then : {E : Type 0} (a b c : Option (List ℕ)) (h h' h'' x y : List ℕ) (r : Result (Unit {0}) E) → Put a b h h' x
+    → Puts b c h' h'' r y → Puts a c h h'' r (x ++ y)
 puts_then a b c h h' h'' x y (Ok done) p q = put_then a b c h h' h'' x y p q
 puts_then a b c h h' h'' x y (Err fault) p q = put_cut a b c h h' x y p q
 
 -- a text was put where nothing was held, and what was held of it was written
-pub writes_all : {E : Type 0} (a b c : Option (List ℕ)) (h text : List ℕ) (r : Result (Unit {0}) E) → Put a b [] h text → Writes b c r h → Writes a c r text
+pub writes_all : {E : Type 0} (a b c : Option (List ℕ)) (h text : List ℕ) (r : Result (Unit {0}) E) → Put a b [] h text → Writes b c r h
+    → Writes a c r text
 writes_all a b c h text (Ok done) p w =
     let P : List ℕ → Type 0 = λ z. Appends a c z in
     subst P (sym p.kept) (appends_then a b c p.sent h p.appended w)
-writes_all a b c h text (Err fault) p w =
-    (p.sent ++ w.0, (w.1.0, append_assoc p.sent w.0 w.1.0 ∙ ap (λ (z : List ℕ). p.sent ++ z) w.1.1 ∙ sym p.kept), appends_then a b c p.sent w.0 p.appended w.2)
+writes_all a b c h text (Err fault) p w = (
+  p.sent ++ w.0,
+  (w.1.0, append_assoc p.sent w.0 w.1.0 ∙ ap (λ (z : List ℕ). p.sent ++ z) w.1.1 ∙ sym p.kept),
+  appends_then a b c
+      p.sent w.0 p.appended w.2,
+)
 
 -- all of several texts were put
-pub put_whole : {X : Type 0} (a b : Option (List ℕ)) (h h' : List ℕ) (f : X → List ℕ) (xs : List X) (i : ℕ) → length xs ≤ i → Put a b h h' (flat_map f (take i xs)) → Put a b h h' (flat_map f xs)
+pub put_whole : {X : Type 0} (a b : Option (List ℕ)) (h h' : List ℕ) (f : X → List ℕ) (xs : List X) (i : ℕ) → length xs ≤ i
+    → Put a b h h' (flat_map f (take i xs)) → Put a b h h' (flat_map f xs)
 put_whole a b h h' f xs i le p = let P : List ℕ → Type 0 = λ z. Put a b h h' z in subst P (ap (flat_map f) (take_whole xs i le)) p
   where
     take_whole : {X : Type 0} (xs : List X) (i : ℕ) → length xs ≤ i → take i xs ≡ xs
@@ -138,5 +156,6 @@ cut_as a b h x y e p = subst (λ (z : List ℕ). Cut a b h z) e p
 pub put_as : (a b : Option (List ℕ)) (h h' x y : List ℕ) → x ≡ y → Put a b h h' x → Put a b h h' y
 put_as a b h h' x y e p = subst (λ (z : List ℕ). Put a b h h' z) e p
 
-pub puts_as : {E : Type 0} (a b : Option (List ℕ)) (h h' x y : List ℕ) (r : Result (Unit {0}) E) → x ≡ y → Puts a b h h' r x → Puts a b h h' r y
+pub puts_as : {E : Type 0} (a b : Option (List ℕ)) (h h' x y : List ℕ) (r : Result (Unit {0}) E) → x ≡ y → Puts a b h h' r x
+    → Puts a b h h' r y
 puts_as a b h h' x y r e p = subst (λ (z : List ℕ). Puts a b h h' r z) e p

@@ -1,5 +1,6 @@
 -- Numbers as they are written in commands and in words of a command line.
-use Rattle.std.specs.Prelude.{ℕ, ◌+◌, ◌*◌, Bool, ◌&&◌, List, length, drop, fold, nat_lt, nat_le, nat_eq, Option, None, Some, if◌then◌else◌, codes}
+use Rattle.std.specs.Prelude.{ℕ, ◌+◌, ◌*◌, Bool, ◌&&◌, List, length, drop, fold, nat_lt, nat_le}
+use Rattle.std.specs.Prelude.{nat_eq, Option, None, Some, if◌then◌else◌, codes}
 use Rattle.std.specs.List.{list_all, starts_with}
 use Rattle.std.specs.Char.{digit_value, is_ascii_hexdigit}
 
@@ -13,7 +14,8 @@ digits_of text = if starts_with nat_eq text (codes "0x") then drop 2 text else t
 
 -- 1 to 16 hexadecimal digits of either case
 abbrev pub are_digits : List ℕ → Bool
-are_digits digits = nat_lt 0 (length digits) && nat_le (length digits) 16 && list_all is_ascii_hexdigit digits
+are_digits digits =
+    nat_lt 0 (length digits) && nat_le (length digits) 16 && list_all is_ascii_hexdigit digits
 
 -- a number, with or without 0x
 unfoldable pub number : List ℕ → Option ℕ

@@ -4,7 +4,8 @@ use Rattle.std.specs.Io.KnownBytes.{Appends}
 use Rattle.answer_text.specs.Devices.{IsBeginning}
 
 -- A text was put behind what is held: all of it was written but for what is held afterwards.
-pub record Put (written written' : Option (List ℕ)) (held held' : List ℕ) (text : List ℕ) : Type 0 where
+pub record Put (written written' : Option (List ℕ)) (held held' : List ℕ)
+    (text : List ℕ) : Type 0 where
   pub sent : List ℕ
   pub kept : held ++ text ≡ sent ++ held'
   pub appended : Appends written written' sent
@@ -15,6 +16,7 @@ pub record Cut (written written' : Option (List ℕ)) (held : List ℕ) (text : 
   pub begins : IsBeginning sent (held ++ text)
   pub appended : Appends written written' sent
 
-abbrev pub Puts : {E : Type 0} → Option (List ℕ) → Option (List ℕ) → List ℕ → List ℕ → Result (Unit {0}) E → List ℕ → Type 0
+abbrev pub Puts : {E : Type 0} → Option (List ℕ) → Option (List ℕ) → List ℕ → List ℕ
+    → Result (Unit {0}) E → List ℕ → Type 0
 Puts written written' held held' (Ok done) text = Put written written' held held' text
 Puts written written' held held' (Err fault) text = Cut written written' held text

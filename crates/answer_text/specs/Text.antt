@@ -1,5 +1,6 @@
 -- The text of an answer.
-use Rattle.std.specs.Prelude.{ℕ, ◌==◌, List, [], ◌∷◌, ◌++◌, flat_map, Option, option_map, if◌then◌else◌, codes, decimal}
+use Rattle.std.specs.Prelude.{ℕ, ◌==◌, List, [], ◌∷◌, ◌++◌, flat_map, Option, option_map}
+use Rattle.std.specs.Prelude.{if◌then◌else◌, codes, decimal}
 use Rattle.std.specs.List.{after_last}
 use Rattle.std.specs.Option.{option_or}
 use Rattle.addr_table.specs.Frames.{Frame}
@@ -25,10 +26,12 @@ abbrev pub after_name : Options → List ℕ
 after_name options = if options.pretty then codes " at " else codes "\n"
 
 abbrev pub name_text : Options → Frame → List ℕ
-name_text options frame = if options.functions then known_text (name_of options frame) ++ after_name options else []
+name_text options frame =
+    if options.functions then known_text (name_of options frame) ++ after_name options else []
 
 abbrev pub place_text : Options → Frame → List ℕ
-place_text options frame = known_text (file_of options frame) ++ (58 ∷ decimal frame.line ++ 10 ∷ [])
+place_text options frame =
+    known_text (file_of options frame) ++ (58 ∷ decimal frame.line ++ 10 ∷ [])
 
 abbrev pub frame_text : Options → Frame → List ℕ
 frame_text options frame = name_text options frame ++ place_text options frame
@@ -42,19 +45,25 @@ abbrev pub later_text : Options → Frame → List ℕ
 later_text options frame = before_later options ++ frame_text options frame
 
 abbrev pub nothing_text : Options → List ℕ
-nothing_text options = if options.functions then (if options.pretty then codes "?? ??:0\n" else codes "??\n??:0\n") else codes "??:0\n"
+nothing_text options =
+    if options.functions then (if options.pretty then codes "?? ??:0\n" else codes "??\n??:0\n")
+    else codes "??:0\n"
 
 -- the innermost frame, and where all are asked for the others
 abbrev pub frames_text : Options → List Frame → List ℕ
 frames_text options [] = nothing_text options
-frames_text options (frame ∷ frames) = frame_text options frame ++ (if options.inlines then flat_map (later_text options) frames else [])
+frames_text options (frame ∷ frames) =
+    frame_text options frame ++ (if options.inlines then flat_map (later_text options) frames else
+    [])
 
 abbrev pub after_address : Options → List ℕ
 after_address options = if options.pretty then codes ": " else codes "\n"
 
 abbrev pub heading_text : Options → ℕ → List ℕ
-heading_text options address = if options.addresses then address_text address ++ after_address options else []
+heading_text options address =
+    if options.addresses then address_text address ++ after_address options else []
 
 -- the answer to an address
 unfoldable pub answer_text : Options → Answered → List ℕ
-answer_text options answer = heading_text options answer.address ++ frames_text options answer.frames
+answer_text options answer =
+    heading_text options answer.address ++ frames_text options answer.frames

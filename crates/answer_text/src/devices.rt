@@ -1,9 +1,12 @@
 //! What the command loop reads from, writes to and asks for objects.
 
-ghost use Rattle.std.specs.Prelude.{◌≡◌, ◌≢◌, ℕ, ◌+◌, ◌-◌, ◌*◌, ◌<◌, ◌≤◌, ◌^◌, List, [], ◌∷◌, ◌++◌, length, take, drop, Option, None, Some, Result, IfOk, OnErr, OnOk, IfErr, MatchResult, is_ok};
+ghost use Rattle.std.specs.Prelude.{◌≡◌, ◌≢◌, ℕ, ◌+◌, ◌-◌, ◌*◌, ◌<◌, ◌≤◌, ◌^◌, List, [], ◌∷◌};
+ghost use Rattle.std.specs.Prelude.{◌++◌, length, take, drop, Option, None, Some, Result, IfOk};
+ghost use Rattle.std.specs.Prelude.{OnErr, OnOk, IfErr, MatchResult, is_ok};
 ghost use Rattle.std.specs.Io.{ReadsAtMost, WritesAtMost};
 ghost use Rattle.std.specs.Io.KnownBytes.{ReadConsumes, WriteAppends, Keeps, Appends};
-ghost use Rattle.answer_text.specs.Devices.{one_more, failures_after, write_failures, Grows, fetched_of, Writes};
+ghost use Rattle.answer_text.specs.Devices.{one_more, failures_after, write_failures, Grows};
+ghost use Rattle.answer_text.specs.Devices.{fetched_of, Writes};
 ghost use Rattle.answer_text.specs.declared.faults.FetchFault.{FetchFault};
 
 use crate::faults::FetchFault;
@@ -41,7 +44,8 @@ pub trait Sink {
     fn write(&mut self, bytes: &[u8]) -> Result<usize, DeviceFault>
         ensures bound { WritesAtMost result bytes.now }
         ensures bytes { WriteAppends (written self.old) (written self.new) result bytes.now }
-        ensures failures { failures self.new ≡ write_failures (failures self.old) bytes.now result };
+        ensures failures { failures self.new
+            ≡ write_failures (failures self.old) bytes.now result };
 
     fn flush(&mut self) -> Result<(), DeviceFault>
         ensures bytes { Keeps (written self.old) (written self.new) }
@@ -54,7 +58,8 @@ pub trait Objects {
     ghost asked: { Self → Option (List (List ℕ × Result (List ℕ) FetchFault)) };
 
     fn fetch(&mut self, path: &str) -> Result<Vec<u8>, FetchFault>
-        ensures asked { Grows (asked self.old) (asked self.new) ((path.now, fetched_of result) ∷ []) };
+        ensures asked { Grows (asked self.old) (asked self.new)
+            ((path.now, fetched_of result) ∷ []) };
 }
 
 /// A `Feed` of a std reader, a `Sink` of a std writer. It counts failures and tells no bytes.

@@ -5,7 +5,8 @@ ghost use Rattle.answer_text.specs.Devices.{failures_after};
 ghost use Rattle.answer_text.specs.Pending.{Puts};
 ghost use Rattle.answer_text.specs.Printable.{known_text};
 ghost use Rattle.answer_text.specs.Private.Paths.{text_told};
-ghost use Rattle.answer_text.specs.Text.{name_of, file_of, after_name, before_later, name_text, place_text, frame_text, later_text};
+ghost use Rattle.answer_text.specs.Text.{name_of, file_of, after_name, before_later, name_text};
+ghost use Rattle.answer_text.specs.Text.{place_text, frame_text, later_text};
 
 use crate::devices::{DeviceFault, Sink};
 use crate::options::Options;
@@ -50,7 +51,8 @@ fn put_name<W: Sink>(
     pending: &mut Pending,
     writer: &mut W,
 ) -> Result<(), DeviceFault>
-    ensures bytes { Puts (W.written writer.old) (W.written writer.new) pending.old pending.new result (name_text options.now frame.now) }
+    ensures bytes { Puts (W.written writer.old) (W.written writer.new) pending.old pending.new
+        result (name_text options.now frame.now) }
     ensures failures { W.failures writer.new ≡ failures_after (W.failures writer.old) result }
 {
     if !options.functions {
@@ -67,7 +69,8 @@ fn put_file<W: Sink>(
     pending: &mut Pending,
     writer: &mut W,
 ) -> Result<(), DeviceFault>
-    ensures bytes { Puts (W.written writer.old) (W.written writer.new) pending.old pending.new result (known_text (file_of options.now frame.now)) }
+    ensures bytes { Puts (W.written writer.old) (W.written writer.new) pending.old pending.new
+        result (known_text (file_of options.now frame.now)) }
     ensures failures { W.failures writer.new ≡ failures_after (W.failures writer.old) result }
 {
     let Some(path) = frame.path() else {
@@ -87,7 +90,8 @@ fn put_place<W: Sink>(
     pending: &mut Pending,
     writer: &mut W,
 ) -> Result<(), DeviceFault>
-    ensures bytes { Puts (W.written writer.old) (W.written writer.new) pending.old pending.new result (place_text options.now frame.now) }
+    ensures bytes { Puts (W.written writer.old) (W.written writer.new) pending.old pending.new
+        result (place_text options.now frame.now) }
     ensures failures { W.failures writer.new ≡ failures_after (W.failures writer.old) result }
 {
     put_file(options, frame, pending, writer)?;
@@ -104,7 +108,8 @@ pub fn put_frame<W: Sink>(
     pending: &mut Pending,
     writer: &mut W,
 ) -> Result<(), DeviceFault>
-    ensures bytes { Puts (W.written writer.old) (W.written writer.new) pending.old pending.new result (frame_text options.now frame.now) }
+    ensures bytes { Puts (W.written writer.old) (W.written writer.new) pending.old pending.new
+        result (frame_text options.now frame.now) }
     ensures failures { W.failures writer.new ≡ failures_after (W.failures writer.old) result }
 {
     put_name(options, frame, pending, writer)?;
@@ -118,7 +123,8 @@ pub fn put_later<W: Sink>(
     pending: &mut Pending,
     writer: &mut W,
 ) -> Result<(), DeviceFault>
-    ensures bytes { Puts (W.written writer.old) (W.written writer.new) pending.old pending.new result (later_text options.now frame.now) }
+    ensures bytes { Puts (W.written writer.old) (W.written writer.new) pending.old pending.new
+        result (later_text options.now frame.now) }
     ensures failures { W.failures writer.new ≡ failures_after (W.failures writer.old) result }
 {
     pending.put(before_later(options), writer)?;

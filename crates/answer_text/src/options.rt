@@ -33,7 +33,8 @@ pub struct Options {
 impl Options {
     /// No option and no word, and a cache of 1,024 answers. It takes no memory.
     pub fn plain(alloc: Global) -> Options
-        ensures flags { (result.addresses ≡ false) × (result.functions ≡ false) × (result.inlines ≡ false)
+        ensures flags { (result.addresses ≡ false) × (result.functions ≡ false)
+            × (result.inlines ≡ false)
             × (result.pretty ≡ false) × (result.basenames ≡ false) × (result.linkage ≡ false) }
         ensures exe { result.exe ≡ None }
         ensures cache { result.cache ≡ 1024 }

@@ -40,7 +40,8 @@ pub fn put_base_name<W: Sink>(
     pending: &mut Pending,
     writer: &mut W,
 ) -> Result<(), DeviceFault>
-    ensures bytes { Puts (W.written writer.old) (W.written writer.new) pending.old pending.new result
+    ensures bytes { Puts (W.written writer.old) (W.written writer.new) pending.old pending.new
+        result
         (known_text (Some (base_name (join_with_byte 47 path.entry)))) }
     ensures failures { W.failures writer.new ≡ failures_after (W.failures writer.old) result }
 {
@@ -53,7 +54,8 @@ fn put_slashed<W: Sink>(
     pending: &mut Pending,
     writer: &mut W,
 ) -> Result<(), DeviceFault>
-    ensures bytes { Puts (W.written writer.old) (W.written writer.new) pending.old pending.new result (slashed part.now) }
+    ensures bytes { Puts (W.written writer.old) (W.written writer.new) pending.old pending.new
+        result (slashed part.now) }
     ensures failures { W.failures writer.new ≡ failures_after (W.failures writer.old) result }
 {
     pending.put(b"/", writer)?;
@@ -66,7 +68,8 @@ fn put_rest<W: Sink>(
     pending: &mut Pending,
     writer: &mut W,
 ) -> Result<(), DeviceFault>
-    ensures bytes { Puts (W.written writer.old) (W.written writer.new) pending.old pending.new result (flat_map slashed path.entry) }
+    ensures bytes { Puts (W.written writer.old) (W.written writer.new) pending.old pending.new
+        result (flat_map slashed path.entry) }
     ensures failures { W.failures writer.new ≡ failures_after (W.failures writer.old) result }
 {
     for part in path {
@@ -81,7 +84,8 @@ fn put_behind_nothing<W: Sink>(
     pending: &mut Pending,
     writer: &mut W,
 ) -> Result<(), DeviceFault>
-    ensures bytes { Puts (W.written writer.old) (W.written writer.new) pending.old pending.new result
+    ensures bytes { Puts (W.written writer.old) (W.written writer.new) pending.old pending.new
+        result
         (known_text (Some (join_with_byte 47 ([] ∷ path.entry)))) }
     ensures failures { W.failures writer.new ≡ failures_after (W.failures writer.old) result }
 {
@@ -98,7 +102,8 @@ pub fn put_path<W: Sink>(
     pending: &mut Pending,
     writer: &mut W,
 ) -> Result<(), DeviceFault>
-    ensures bytes { Puts (W.written writer.old) (W.written writer.new) pending.old pending.new result
+    ensures bytes { Puts (W.written writer.old) (W.written writer.new) pending.old pending.new
+        result
         (known_text (Some (join_with_byte 47 path.entry))) }
     ensures failures { W.failures writer.new ≡ failures_after (W.failures writer.old) result }
 {

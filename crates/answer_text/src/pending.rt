@@ -1,6 +1,7 @@
 //! Text on its way to a sink: held until there is enough of it for a write.
 
-ghost use Rattle.std.specs.Prelude.{◌≡◌, ℕ, ◌≤◌, ◌-◌, List, [], ◌∷◌, ◌++◌, length, map, flat_map, not, OnOk, ◌⊎◌};
+ghost use Rattle.std.specs.Prelude.{◌≡◌, ℕ, ◌≤◌, ◌-◌, List, [], ◌∷◌, ◌++◌, length, map, flat_map};
+ghost use Rattle.std.specs.Prelude.{not, OnOk, ◌⊎◌};
 ghost use Rattle.std.specs.List.{list_all};
 ghost use Rattle.answer_text.specs.Devices.{Writes, failures_after};
 ghost use Rattle.answer_text.specs.Pending.{Puts};
@@ -116,7 +117,8 @@ impl Pending {
 
     /// Writes what is held, where that many bytes would not fit behind it.
     fn make_room<W: Sink>(&mut self, len: usize, writer: &mut W) -> Result<(), DeviceFault>
-        ensures bytes { Puts (W.written writer.old) (W.written writer.new) self.old self.new result [] }
+        ensures bytes { Puts (W.written writer.old) (W.written writer.new) self.old self.new result
+            [] }
         ensures room { OnOk result ((len ≤ 2048 - length self.new) ⊎ (self.new ≡ [])) }
         ensures failures { W.failures writer.new ≡ failures_after (W.failures writer.old) result }
     {
@@ -128,7 +130,8 @@ impl Pending {
 
     /// Puts a text behind what is held.
     pub fn put<W: Sink>(&mut self, text: &[u8], writer: &mut W) -> Result<(), DeviceFault>
-        ensures bytes { Puts (W.written writer.old) (W.written writer.new) self.old self.new result text.now }
+        ensures bytes { Puts (W.written writer.old) (W.written writer.new) self.old self.new result
+            text.now }
         ensures failures { W.failures writer.new ≡ failures_after (W.failures writer.old) result }
     {
         self.make_room(text.len(), writer)?;
@@ -141,7 +144,8 @@ impl Pending {
 
     /// Puts texts, one after the other.
     pub fn put_all<W: Sink>(&mut self, texts: &[&[u8]], writer: &mut W) -> Result<(), DeviceFault>
-        ensures bytes { Puts (W.written writer.old) (W.written writer.new) self.old self.new result (flat_map (λ text. text.now) texts.now) }
+        ensures bytes { Puts (W.written writer.old) (W.written writer.new) self.old self.new result
+            (flat_map (λ text. text.now) texts.now) }
         ensures failures { W.failures writer.new ≡ failures_after (W.failures writer.old) result }
     {
         for text in texts {
@@ -152,7 +156,8 @@ impl Pending {
 
     /// Puts a text byte by byte.
     fn put_bytes<W: Sink>(&mut self, text: &[u8], writer: &mut W) -> Result<(), DeviceFault>
-        ensures bytes { Puts (W.written writer.old) (W.written writer.new) self.old self.new result (map printable text.now) }
+        ensures bytes { Puts (W.written writer.old) (W.written writer.new) self.old self.new result
+            (map printable text.now) }
         ensures failures { W.failures writer.new ≡ failures_after (W.failures writer.old) result }
     {
         for byte in text {
@@ -163,7 +168,8 @@ impl Pending {
 
     /// Puts a text whose control characters are `?`: one without any in one piece.
     pub fn put_printable<W: Sink>(&mut self, text: &[u8], writer: &mut W) -> Result<(), DeviceFault>
-        ensures bytes { Puts (W.written writer.old) (W.written writer.new) self.old self.new result (map printable text.now) }
+        ensures bytes { Puts (W.written writer.old) (W.written writer.new) self.old self.new result
+            (map printable text.now) }
         ensures failures { W.failures writer.new ≡ failures_after (W.failures writer.old) result }
     {
         if are_printable(text) {
@@ -178,7 +184,8 @@ impl Pending {
         text: Option<&[u8]>,
         writer: &mut W,
     ) -> Result<(), DeviceFault>
-        ensures bytes { Puts (W.written writer.old) (W.written writer.new) self.old self.new result (known_text (text_told text.entry)) }
+        ensures bytes { Puts (W.written writer.old) (W.written writer.new) self.old self.new result
+            (known_text (text_told text.entry)) }
         ensures failures { W.failures writer.new ≡ failures_after (W.failures writer.old) result }
     {
         let Some(text) = text else {
@@ -193,7 +200,8 @@ impl Pending {
 
 /// Writes texts, one after the other, in as few pieces as may be.
 pub fn write_texts<W: Sink>(texts: &[&[u8]], writer: &mut W) -> Result<(), DeviceFault>
-    ensures bytes { Writes (W.written writer.old) (W.written writer.new) result (flat_map (λ text. text.now) texts.now) }
+    ensures bytes { Writes (W.written writer.old) (W.written writer.new) result
+        (flat_map (λ text. text.now) texts.now) }
     ensures failures { W.failures writer.new ≡ failures_after (W.failures writer.old) result }
 {
     let mut pending = Pending::new();

@@ -3,7 +3,8 @@
 ghost use Rattle.std.specs.Prelude.{◌≡◌, ◌++◌, ◌∷◌, [], List, IfErr, flat_map};
 ghost use Rattle.answer_text.specs.Devices.{Writes, failures_after};
 ghost use Rattle.answer_text.specs.Pending.{Puts};
-ghost use Rattle.answer_text.specs.Text.{after_address, nothing_text, later_text, frames_text, heading_text, answer_text};
+ghost use Rattle.answer_text.specs.Text.{after_address, nothing_text, later_text, frames_text};
+ghost use Rattle.answer_text.specs.Text.{heading_text, answer_text};
 
 use crate::devices::{DeviceFault, Sink};
 use crate::faults::RunFault;
@@ -41,7 +42,8 @@ fn put_rest<W: Sink>(
     pending: &mut Pending,
     writer: &mut W,
 ) -> Result<(), DeviceFault>
-    ensures bytes { Puts (W.written writer.old) (W.written writer.new) pending.old pending.new result (flat_map (later_text options.now) frames.entry) }
+    ensures bytes { Puts (W.written writer.old) (W.written writer.new) pending.old pending.new
+        result (flat_map (later_text options.now) frames.entry) }
     ensures failures { W.failures writer.new ≡ failures_after (W.failures writer.old) result }
 {
     for frame in frames {
@@ -57,7 +59,8 @@ fn put_frames<W: Sink>(
     pending: &mut Pending,
     writer: &mut W,
 ) -> Result<(), DeviceFault>
-    ensures bytes { Puts (W.written writer.old) (W.written writer.new) pending.old pending.new result (frames_text options.now frames.entry) }
+    ensures bytes { Puts (W.written writer.old) (W.written writer.new) pending.old pending.new
+        result (frames_text options.now frames.entry) }
     ensures failures { W.failures writer.new ≡ failures_after (W.failures writer.old) result }
 {
     let Some(frame) = frames.next() else {
@@ -77,7 +80,8 @@ fn put_heading<W: Sink>(
     pending: &mut Pending,
     writer: &mut W,
 ) -> Result<(), DeviceFault>
-    ensures bytes { Puts (W.written writer.old) (W.written writer.new) pending.old pending.new result (heading_text options.now address) }
+    ensures bytes { Puts (W.written writer.old) (W.written writer.new) pending.old pending.new
+        result (heading_text options.now address) }
     ensures failures { W.failures writer.new ≡ failures_after (W.failures writer.old) result }
 {
     if !options.addresses {
@@ -96,7 +100,8 @@ fn put_answer<W: Sink>(
     pending: &mut Pending,
     writer: &mut W,
 ) -> Result<(), DeviceFault>
-    ensures bytes { Puts (W.written writer.old) (W.written writer.new) pending.old pending.new result (answer_text options.now answer.now) }
+    ensures bytes { Puts (W.written writer.old) (W.written writer.new) pending.old pending.new
+        result (answer_text options.now answer.now) }
     ensures failures { W.failures writer.new ≡ failures_after (W.failures writer.old) result }
 {
     put_heading(options, answer.address(), pending, writer)?;
@@ -110,7 +115,8 @@ pub fn print<W: Sink>(
     answer: &Answer<'_>,
     writer: &mut W,
 ) -> Result<(), RunFault>
-    ensures bytes { Writes (W.written writer.old) (W.written writer.new) result (answer_text options.now answer.now) }
+    ensures bytes { Writes (W.written writer.old) (W.written writer.new) result
+        (answer_text options.now answer.now) }
     ensures fault { IfErr result (λ fault. fault ≡ RunFault.Writing) }
     ensures failures { W.failures writer.new ≡ failures_after (W.failures writer.old) result }
 {

@@ -1,5 +1,6 @@
 -- A line cut at its first space.
-use Rattle.std.proofs.Common.{◌≡◌, ℕ, ◌+◌, ◌-◌, ◌<◌, ◌≤◌, Bool, true, false, nat_lt, cond, List, [], ◌∷◌, length, take, drop, get_or, refl, sym, ◌∙◌, ap, subst, arith}
+use Rattle.std.proofs.Common.{◌≡◌, ℕ, ◌+◌, ◌-◌, ◌<◌, ◌≤◌, Bool, true, false, nat_lt, cond, List, [], ◌∷◌, length, take, drop, get_or}
+use Rattle.std.proofs.Common.{refl, sym, ◌∙◌, ap, subst, arith}
 use Rattle.std.specs.Prelude.{Option, None, Some, is_some, option_copied, position, ◌==◌, IsUtf8, Err}
 use Rattle.std.specs.List.{position_or_len, join_with_byte, list_all}
 use Rattle.std.proofs.lemmas.Bool.{ltb-true, lt-ltb, false≢true}
@@ -44,7 +45,8 @@ no_space text h =
     slice_split_none is_space text (All-from_get_or (λ x. is_space x ≡ false) text 0
     (λ i lt. fails_before_first is_space text i 0 (not_below (position_or_len is_space text) (length text) i beyond lt)))
 
-pub one_space : (text : List ℕ) (at : ℕ) → Some at ≡ position is_space text → fields text ≡ take at text ∷ fields (take (length text - (at + 1)) (drop (at + 1) text))
+pub one_space : (text : List ℕ) (at : ℕ) → Some at ≡ position is_space text
+    → fields text ≡ take at text ∷ fields (take (length text - (at + 1)) (drop (at + 1) text))
 one_space text at h =
     let n : ℕ = position_or_len is_space text in
     let w = found_at (nat_lt n (length text)) n at h in
@@ -57,7 +59,8 @@ pub load_cut : (operands rest path name base : List ℕ) → fields operands ≡
     load_of (fields operands) ≡ checked_load name (number base) path
 load_cut operands rest path name base e f =
     let first = has_first is_space path in
-    let joined : join_with_byte 32 (first.first ∷ first.others) ≡ path = ap (join_with_byte 32) (sym first.is) ∙ join_with_byte-slice_split 32 path in
+    let joined : join_with_byte 32 (first.first ∷ first.others) ≡ path =
+    ap (join_with_byte 32) (sym first.is) ∙ join_with_byte-slice_split 32 path in
     ap load_of (e ∙ ap (λ (z : List (List ℕ)). name ∷ z) (f ∙ ap (λ (z : List (List ℕ)). base ∷ z) first.is))
     ∙ ap (checked_load name (number base)) joined
 
@@ -89,11 +92,14 @@ not_utf8 bytes h = at (is_utf8 bytes) refl
 pub list_more : (rest : List ℕ) → list_of (fields rest) ≡ Err Fields
 list_more rest = let first = has_first is_space rest in ap list_of first.is
 
-pub unload_more : (parts : List (List ℕ)) (name : List ℕ) (rest : Option (Bor (List ℕ))) → parts ≡ name ∷ cut_parts (option_copied rest) → is_some rest ≡ true → unload_of parts ≡ Err Fields
+pub unload_more : (parts : List (List ℕ)) (name : List ℕ) (rest : Option (Bor (List ℕ))) → parts ≡ name ∷ cut_parts (option_copied rest)
+    → is_some rest ≡ true → unload_of parts ≡ Err Fields
 unload_more parts name None e h = absurd (false≢true h)
-unload_more parts name (Some rest) e h = let first = has_first is_space rest.now in ap unload_of (e ∙ ap (λ (z : List (List ℕ)). name ∷ z) first.is)
+unload_more parts name (Some rest) e h = let first =
+    has_first is_space rest.now in ap unload_of (e ∙ ap (λ (z : List (List ℕ)). name ∷ z) first.is)
 
-pub move_more : (parts after : List (List ℕ)) (name base : List ℕ) (rest : Option (Bor (List ℕ))) → parts ≡ name ∷ after → after ≡ base ∷ cut_parts (option_copied rest) → is_some rest ≡ true → move_of parts ≡ Err Fields
+pub move_more : (parts after : List (List ℕ)) (name base : List ℕ) (rest : Option (Bor (List ℕ))) → parts ≡ name ∷ after
+    → after ≡ base ∷ cut_parts (option_copied rest) → is_some rest ≡ true → move_of parts ≡ Err Fields
 move_more parts after name base None e f h = absurd (false≢true h)
 move_more parts after name base (Some rest) e f h = let first = has_first is_space rest.now in
     ap move_of (e ∙ ap (λ (z : List (List ℕ)). name ∷ z) (f ∙ ap (λ (z : List (List ℕ)). base ∷ z) first.is))

@@ -12,7 +12,8 @@ pub record HasFirst (parts : List (List ℕ)) : Type 0 where
   pub others : List (List ℕ)
   pub is : parts ≡ first ∷ others
 
-has_first_at : (v : Bool) (x : ℕ) (part : List ℕ) (parts : List (List ℕ)) → HasFirst (cond v ([] ∷ part ∷ parts) (onto_first x (part ∷ parts)))
+has_first_at : (v : Bool) (x : ℕ) (part : List ℕ) (parts : List (List ℕ))
+    → HasFirst (cond v ([] ∷ part ∷ parts) (onto_first x (part ∷ parts)))
 has_first_at true x part parts = record { first = []; others = part ∷ parts; is = refl }
 has_first_at false x part parts = record { first = x ∷ part; others = parts; is = refl }
 
@@ -24,14 +25,16 @@ has_first p (x ∷ xs) =
     subst P (sym h.is) (has_first_at (p x) x h.first h.others)
 
 close_at : (v : Bool) (x : ℕ) (part : List ℕ) (parts : List (List ℕ)) →
-    cond v ([] ∷ (part ∷ parts ++ [] ∷ [])) (onto_first x (part ∷ parts ++ [] ∷ [])) ≡ cond v ([] ∷ part ∷ parts) (onto_first x (part ∷ parts)) ++ [] ∷ []
+    cond v ([] ∷ (part ∷ parts ++ [] ∷ [])) (onto_first x (part ∷ parts ++ [] ∷ []))
+    ≡ cond v ([] ∷ part ∷ parts) (onto_first x (part ∷ parts)) ++ [] ∷ []
 close_at true x part parts = refl
 close_at false x part parts = refl
 
 close_step : (v : Bool) (x : ℕ) (parts : List (List ℕ)) → HasFirst parts →
     cond v ([] ∷ (parts ++ [] ∷ [])) (onto_first x (parts ++ [] ∷ [])) ≡ cond v ([] ∷ parts) (onto_first x parts) ++ [] ∷ []
 close_step v x parts h =
-    let P : List (List ℕ) → Type 0 = λ z. cond v ([] ∷ (z ++ [] ∷ [])) (onto_first x (z ++ [] ∷ [])) ≡ cond v ([] ∷ z) (onto_first x z) ++ [] ∷ [] in
+    let P : List (List ℕ) → Type 0 =
+    λ z. cond v ([] ∷ (z ++ [] ∷ [])) (onto_first x (z ++ [] ∷ [])) ≡ cond v ([] ∷ z) (onto_first x z) ++ [] ∷ [] in
     subst P (sym h.is) (close_at v x h.first h.others)
 
 -- a byte at which the list is cut begins an empty part
@@ -46,7 +49,8 @@ abbrev pub grown : List (List ℕ) → ℕ → List (List ℕ)
 grown parts b = all_but_last parts ++ (the_last parts ++ b ∷ []) ∷ []
 
 grow_at : (v : Bool) (x : ℕ) (part : List ℕ) (parts : List (List ℕ)) (b : ℕ) →
-    cond v ([] ∷ grown (part ∷ parts) b) (onto_first x (grown (part ∷ parts) b)) ≡ grown (cond v ([] ∷ part ∷ parts) (onto_first x (part ∷ parts))) b
+    cond v ([] ∷ grown (part ∷ parts) b) (onto_first x (grown (part ∷ parts) b))
+    ≡ grown (cond v ([] ∷ part ∷ parts) (onto_first x (part ∷ parts))) b
 grow_at true x part parts b = refl
 grow_at false x part [] b = refl
 grow_at false x part (next ∷ parts) b = refl
@@ -54,7 +58,8 @@ grow_at false x part (next ∷ parts) b = refl
 grow_step : (v : Bool) (x : ℕ) (parts : List (List ℕ)) (b : ℕ) → HasFirst parts →
     cond v ([] ∷ grown parts b) (onto_first x (grown parts b)) ≡ grown (cond v ([] ∷ parts) (onto_first x parts)) b
 grow_step v x parts b h =
-    let P : List (List ℕ) → Type 0 = λ z. cond v ([] ∷ grown z b) (onto_first x (grown z b)) ≡ grown (cond v ([] ∷ z) (onto_first x z)) b in
+    let P : List (List ℕ) → Type 0 =
+    λ z. cond v ([] ∷ grown z b) (onto_first x (grown z b)) ≡ grown (cond v ([] ∷ z) (onto_first x z)) b in
     subst P (sym h.is) (grow_at v x h.first h.others b)
 
 -- any other byte goes onto the last part
@@ -120,7 +125,9 @@ ended_at_byte xs b ne =
 
 pub open_at_byte : (xs : List ℕ) (b : ℕ) → b ≢ 10 → open_line (xs ++ b ∷ []) ≡ open_line xs ++ b ∷ []
 unfolding open_line
-open_at_byte xs b ne = ap the_last (split_grows is_line_feed xs b (ne_eqb b 10 ne)) ∙ last_of_push (all_but_last (stretches xs)) (the_last (stretches xs) ++ b ∷ [])
+open_at_byte xs b ne =
+    ap the_last (split_grows is_line_feed xs b (ne_eqb b 10 ne)) ∙ last_of_push (all_but_last (stretches xs))
+    (the_last (stretches xs) ++ b ∷ [])
 
 -- what was read ends with the open line
 pub ends_open : (xs : List ℕ) → (front : List ℕ) × (xs ≡ front ++ open_line xs)

@@ -1,5 +1,6 @@
 -- A run from its first read to its end.
-use Rattle.std.proofs.Common.{◌≡◌, ℕ, ◌≤◌, true, false, List, [], ◌∷◌, ◌++◌, length, take, refl, sym, ◌∙◌, ap, subst, append_assoc, append-nil, length-append, arith}
+use Rattle.std.proofs.Common.{◌≡◌, ℕ, ◌≤◌, true, false, List, [], ◌∷◌, ◌++◌, length, take, refl, sym, ◌∙◌, ap, subst, append_assoc}
+use Rattle.std.proofs.Common.{append-nil, length-append, arith}
 use Rattle.std.specs.Prelude.{Option, None, Some, Result, Ok, Err, OnOk, OnErr, is_err, filter}
 use Rattle.std.specs.Io.KnownBytes.{Consumes, IsAtEnd}
 use Rattle.std.proofs.lemmas.Bool.{false≢true, true≢false}
@@ -7,7 +8,7 @@ use Rattle.module_map.specs.World.{World}
 use Rattle.answer_text.specs.Devices.{failures_after}
 use Rattle.answer_text.specs.declared.options.Options.{Options}
 use Rattle.command_loop.proofs.LineLemmas.{lines_are, ended_at_feed, open_at_feed}
-use Rattle.command_loop.proofs.ProgressLemmas.{handled_none, handled_as}
+use Rattle.command_loop.proofs.ServedLemmas.{handled_none, handled_as}
 use Rattle.command_loop.specs.Lines.{has_bytes, lines, ended_lines, open_line}
 use Rattle.command_loop.specs.Requests.{requests}
 use Rattle.command_loop.specs.Output.{Exchanges, EndsLine}
@@ -35,27 +36,33 @@ consumes_nothing (Some a) = refl
 abbrev pub HasRead : Options → RunState → Option (List ℕ) → Option (List ℕ) → RunState → Option (List ℕ) → Type 0
 HasRead options start a b now held = (read : List ℕ) × Consumes a b read × ReadSoFar options start read now held
 
-pub reads_nothing : (options : Options) (start now : RunState) (a : Option (List ℕ)) (held : Option (List ℕ)) → now.world ≡ start.world → now.asked ≡ start.asked → now.written ≡ start.written →
+pub reads_nothing : (options : Options) (start now : RunState) (a : Option (List ℕ)) (held : Option (List ℕ)) → now.world ≡ start.world
+    → now.asked ≡ start.asked → now.written ≡ start.written →
     held ≡ Some [] → HasRead options start a a now held
 unfolding ended_lines open_line
-reads_nothing options start now a held w q t h = ([], consumes_nothing a, record { handled = handled_none options start now w q t; holds = h })
+reads_nothing options start now a held w q t h =
+    ([], consumes_nothing a, record { handled = handled_none options start now w q t; holds = h })
 
-pub reads_on : (options : Options) (start now new : RunState) (a b c held held' : Option (List ℕ)) (more : List ℕ) → HasRead options start a b now held → Consumes b c more →
+pub reads_on : (options : Options) (start now new : RunState) (a b c held held' : Option (List ℕ)) (more : List ℕ)
+    → HasRead options start a b now held → Consumes b c more →
     ReadsOn options more now held new held' → HasRead options start a c new held'
 reads_on options start now new a b c held held' more h k on =
     (h.0 ++ more, consumes_then a b c h.0 more h.1 k, on start h.0 h.2)
 
 -- the last read gives nothing
-pub reads_no_more : (options : Options) (start now : RunState) (a b c held : Option (List ℕ)) (piece : List ℕ) (n : ℕ) → n ≡ 0 → HasRead options start a b now held → Consumes b c (take n piece) → HasRead options start a c now held
+pub reads_no_more : (options : Options) (start now : RunState) (a b c held : Option (List ℕ)) (piece : List ℕ) (n : ℕ) → n ≡ 0
+    → HasRead options start a b now held → Consumes b c (take n piece) → HasRead options start a c now held
 reads_no_more options start now a b c held piece n none h k =
     let P : List ℕ → Type 0 = λ z. Consumes b c z in
     let Q : List ℕ → Type 0 = λ z. Consumes a c z in
     (h.0, subst Q (append-nil h.0) (consumes_then a b c h.0 [] h.1 (subst P (ap (λ (z : ℕ). take z piece) none) k)), h.2)
 
 -- a break in a piece
-pub reads_and_breaks : (options : Options) (start now : RunState) (asked : Exchanges) (written : Option (List ℕ)) (a b c held : Option (List ℕ)) (piece : List ℕ) → HasRead options start a b now held → Consumes b c piece →
+pub reads_and_breaks : (options : Options) (start now : RunState) (asked : Exchanges) (written : Option (List ℕ))
+    (a b c held : Option (List ℕ)) (piece : List ℕ) → HasRead options start a b now held → Consumes b c piece →
     length piece ≤ 4096 → StopsWithin options piece now held asked written →
-    (read past : List ℕ) × Consumes a c (read ++ past) × (length past ≤ 4096) × EndsLine past c × StopsAtLine options start read asked written
+    (read past : List ℕ) × Consumes a c (read ++ past) × (length past ≤ 4096) × EndsLine past c
+    × StopsAtLine options start read asked written
 reads_and_breaks options start now asked written a b c held piece h k fits on =
     let w = on start h.0 h.2 in
     let P : List ℕ → Type 0 = λ z. Consumes a c z in (
@@ -69,11 +76,15 @@ reads_and_breaks options start now asked written a b c held piece h k fits on =
 
 -- a line feed after the end changes no line
 feed_at_end : (read : List ℕ) → lines (read ++ 10 ∷ []) ≡ lines read
-feed_at_end read = lines_are (read ++ 10 ∷ []) ∙ ap (λ (z : List ℕ). ended_lines (read ++ 10 ∷ []) ++ filter has_bytes (z ∷ [])) (open_at_feed read)
+feed_at_end read =
+    lines_are (read ++ 10 ∷ []) ∙ ap (λ (z : List ℕ). ended_lines (read ++ 10 ∷ []) ++ filter has_bytes (z ∷ [])) (open_at_feed read)
     ∙ append-nil (ended_lines (read ++ 10 ∷ [])) ∙ ended_at_feed read ∙ sym (lines_are read)
 
-pub ends_well : (options : Options) (start now new : RunState) (a b held held' : Option (List ℕ)) → HasRead options start a b now held → IsAtEnd b →
-    ReadsOn options (10 ∷ []) now held new held' → (input : List ℕ) × Consumes a b input × IsAtEnd b × ((world : World) × ServedInOrder options start (requests (lines input)) (record { world = world; asked = new.asked; written = new.written }))
+pub ends_well : (options : Options) (start now new : RunState) (a b held held' : Option (List ℕ)) → HasRead options start a b now held
+    → IsAtEnd b →
+    ReadsOn options (10 ∷ []) now held new held' → (input : List ℕ) × Consumes a b input × IsAtEnd b
+    × ((world : World) × ServedInOrder options start (requests (lines input))
+    (record { world = world; asked = new.asked; written = new.written }))
 ends_well options start now new a b held held' h end on =
     let r = on start h.0 h.2 in
     let same : ended_lines (h.0 ++ 10 ∷ []) ≡ lines h.0 = ended_at_feed h.0 ∙ sym (lines_are h.0) in
@@ -84,8 +95,10 @@ nil_of_length [] e = refl
 nil_of_length (x ∷ xs) e = absurd (omega (arith, e))
 
 -- a break at the end of input
-pub ends_badly : (options : Options) (start now : RunState) (asked : Exchanges) (written : Option (List ℕ)) (a b held : Option (List ℕ)) → HasRead options start a b now held → IsAtEnd b → StopsWithin options (10 ∷ []) now held asked written →
-    (read past : List ℕ) × Consumes a b (read ++ past) × (length past ≤ 4096) × EndsLine past b × StopsAtLine options start read asked written
+pub ends_badly : (options : Options) (start now : RunState) (asked : Exchanges) (written : Option (List ℕ)) (a b held : Option (List ℕ))
+    → HasRead options start a b now held → IsAtEnd b → StopsWithin options (10 ∷ []) now held asked written →
+    (read past : List ℕ) × Consumes a b (read ++ past) × (length past ≤ 4096) × EndsLine past b
+    × StopsAtLine options start read asked written
 ends_badly options start now asked written a b held h end on =
     let w = on start h.0 h.2 in
     let none_more : w.0 ≡ [] = nil_of_length w.0 (omega (arith, ap length w.2, length-append w.0 w.1, ap length w.3.1)) in

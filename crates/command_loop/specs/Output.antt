@@ -1,5 +1,7 @@
 -- What is written and asked for a whole run.
-use Rattle.std.specs.Prelude.{◌≡◌, ℕ, ◌≤◌, List, [], ◌∷◌, ◌++◌, map, drop, length, flat_map, zip, Option, None, Some, Result, Ok, Err, Bool, string_bytes, codes, option_map, ⊤}
+use Rattle.std.specs.Prelude.{◌≡◌, ℕ, ◌≤◌, List, [], ◌∷◌, ◌++◌, map, drop, length, flat_map, zip}
+use Rattle.std.specs.Prelude.{Option, None, Some, Result, Ok, Err, Bool, string_bytes, codes}
+use Rattle.std.specs.Prelude.{option_map, ⊤}
 use Rattle.std.specs.Option.{option_to_list}
 use Rattle.std.specs.Io.KnownBytes.{Appends, Consumes, IsAtEnd}
 use Rattle.module_map.specs.World.{World, Loaded, no_modules}
@@ -47,7 +49,8 @@ exe_module bytes = record { name = codes "exe"; base = 0; bytes = bytes }
 
 abbrev pub fetched_exe : Result (List ℕ) FetchFault → Bool → Result World ExeFault
 fetched_exe (Err why) short = Err (NotFetched why)
-fetched_exe (Ok bytes) short = placed_exe (exe_module bytes) (load_fault no_modules (exe_module bytes) short)
+fetched_exe (Ok bytes) short =
+    placed_exe (exe_module bytes) (load_fault no_modules (exe_module bytes) short)
 
 -- the world in which a run starts: with no modules, or with one whose outcome comes first
 abbrev pub started : Option (List ℕ) → List Outcome → Result World ExeFault
@@ -65,26 +68,31 @@ later request outcomes = drop (length (question request)) outcomes
 abbrev pub replies : Options → World → Requests → List Outcome → List ℕ
 replies options world [] outcomes = []
 replies options world (request ∷ requests) outcomes =
-    text options (step world request outcomes).reply ++ replies options (step world request outcomes).world requests (later request outcomes)
+    text options (step world request outcomes).reply
+    ++ replies options (step world request outcomes).world requests (later request outcomes)
 
 -- the world that these requests leave
 abbrev pub world_after : World → Requests → List Outcome → World
 world_after world [] outcomes = world
-world_after world (request ∷ requests) outcomes = world_after (step world request outcomes).world requests (later request outcomes)
+world_after world (request ∷ requests) outcomes =
+    world_after (step world request outcomes).world requests (later request outcomes)
 
 -- the paths that the source is asked for, in order
 abbrev pub questions : Requests → List (List ℕ)
 questions requests = flat_map question requests
 
--- each question has one outcome, and the source has been asked these questions, and has answered so
-pub record Asked (old new : Exchanges) (paths : List (List ℕ)) (outcomes : List Outcome) : Type 0 where
+-- each question has one outcome, and the source has been asked these questions, and has answered
+-- so
+pub record Asked (old new : Exchanges) (paths : List (List ℕ))
+    (outcomes : List Outcome) : Type 0 where
   pub each : length outcomes ≡ length paths
   pub asked : Grows old new (zip paths (map (λ (outcome : Outcome). outcome.fetched) outcomes))
 
 -- ---- what a run leaves
 
 -- a run that started so has served these requests, and nothing else
-pub record Answers (options : Options) (exe : Option (List ℕ)) (requests : Requests) (asked asked' : Exchanges) (written written' : Option (List ℕ)) : Type 0 where
+pub record Answers (options : Options) (exe : Option (List ℕ)) (requests : Requests)
+    (asked asked' : Exchanges) (written written' : Option (List ℕ)) : Type 0 where
   pub first : List Outcome
   pub others : List Outcome
   pub world : World
@@ -93,24 +101,32 @@ pub record Answers (options : Options) (exe : Option (List ℕ)) (requests : Req
   pub answered : Asked asked asked' (option_to_list exe ++ questions requests) (first ++ others)
   pub replied : Appends written written' (replies options world requests others)
 
--- the requests of a run that ends well: the words, or the lines of all input; with words no input is read
+-- the requests of a run that ends well: the words, or the lines of all input; with words no input
+-- is read
 abbrev pub ServedBy : Requests → Option (List ℕ) → Option (List ℕ) → (Requests → Type 0) → Type 0
-ServedBy [] left left' P = (input : List ℕ) × Consumes left left' input × IsAtEnd left' × P (requests (lines input))
+ServedBy [] left left' P = (input : List ℕ) × Consumes left left' input × IsAtEnd left'
+    × P (requests (lines input))
 ServedBy (word ∷ words) left left' P = P (word ∷ words) × (left' ≡ left)
 
 abbrev pub Served : Options → Option (List ℕ) → Option (List ℕ) → (Requests → Type 0) → Type 0
 Served options = ServedBy (asks options)
 
--- All requests before the one at hand are served, and of its reply no more than a beginning is written.
-pub record StoppedAt (options : Options) (exe : Option (List ℕ)) (before : Requests) (request : Result Request BadLine) (asked asked' : Exchanges) (written written' : Option (List ℕ)) : Type 0 where
+-- All requests before the one at hand are served, and of its reply no more than a beginning is
+-- written.
+pub record StoppedAt (options : Options) (exe : Option (List ℕ)) (before : Requests)
+    (request : Result Request BadLine) (asked asked' : Exchanges)
+    (written written' : Option (List ℕ)) : Type 0 where
   pub first : List Outcome
   pub others : List Outcome
   pub world : World
   pub begun : started exe first ≡ Ok world
   pub one : length first ≡ length (option_to_list exe)
-  pub answered : Asked asked asked' (option_to_list exe ++ questions (before ++ request ∷ [])) (first ++ others)
+  pub answered : Asked asked asked' (option_to_list exe ++ questions (before ++ request ∷ []))
+      (first ++ others)
   pub part : List ℕ
-  pub begins : IsBeginning part (text options (step (world_after world before others) request (drop (length (questions before)) others)).reply)
+  pub begins : IsBeginning part
+      (text options (step (world_after world before others) request
+      (drop (length (questions before)) others)).reply)
   pub replied : Appends written written' (replies options world before others ++ part)
 
 -- the line at hand is ended by a line feed, or by the end of input
@@ -124,20 +140,31 @@ pub record EndsWith (read : List ℕ) (before : List (List ℕ)) (line : List �
   pub ends : read ≡ front ++ line
   pub all : lines read ≡ before ++ line ∷ []
 
--- a run stopped at one of its words, or at the line that ends what was read but for a piece at most
-abbrev pub StoppedBy : Requests → Option (List ℕ) → Option (List ℕ) → (Requests → Result Request BadLine → Type 0) → Type 0
-StoppedBy [] left left' P = (read past : List ℕ) × (before : List (List ℕ)) × (line : List ℕ) × Consumes left left' (read ++ past) × (length past ≤ 4096) × EndsLine past left'
+-- a run stopped at one of its words, or at the line that ends what was read but for a piece at
+-- most
+abbrev pub StoppedBy : Requests → Option (List ℕ) → Option (List ℕ)
+    → (Requests → Result Request BadLine → Type 0) → Type 0
+StoppedBy [] left left' P = (read past : List ℕ) × (before : List (List ℕ)) × (line : List ℕ)
+    × Consumes left left' (read ++ past) × (length past ≤ 4096) × EndsLine past left'
     × EndsWith read before line × P (requests before) (parse line)
-StoppedBy (word ∷ words) left left' P = (before after : Requests) × (request : Result Request BadLine) × (word ∷ words ≡ before ++ request ∷ after) × P before request × (left' ≡ left)
+StoppedBy (word ∷ words) left left' P = (before after : Requests)
+    × (request : Result Request BadLine) × (word ∷ words ≡ before ++ request ∷ after)
+    × P before request × (left' ≡ left)
 
-abbrev pub Stopped : Options → Option (List ℕ) → Option (List ℕ) → Exchanges → Exchanges → Option (List ℕ) → Option (List ℕ) → Type 0
+abbrev pub Stopped : Options → Option (List ℕ) → Option (List ℕ) → Exchanges → Exchanges
+    → Option (List ℕ) → Option (List ℕ) → Type 0
 Stopped options left left' asked asked' written written' =
-    StoppedBy (asks options) left left' (λ before request. StoppedAt options (exe_of options) before request asked asked' written written')
+    StoppedBy (asks options) left left'
+    (λ before request. StoppedAt options (exe_of options) before request asked asked' written
+    written')
 
 -- the object of the command line was refused so: nothing but its path was asked
 abbrev pub IsRefused : Option (List ℕ) → Exchanges → Exchanges → ExeFault → Type 0
-IsRefused exe asked asked' why = (outcome : Outcome) × (started exe (outcome ∷ []) ≡ Err why) × Asked asked asked' (option_to_list exe) (outcome ∷ [])
+IsRefused exe asked asked' why = (outcome : Outcome) × (started exe (outcome ∷ []) ≡ Err why)
+    × Asked asked asked' (option_to_list exe) (outcome ∷ [])
 
-abbrev pub Refused : Option (List ℕ) → Option (List ℕ) → Option (List ℕ) → Exchanges → Exchanges → Option (List ℕ) → Option (List ℕ) → RunFault → Type 0
-Refused exe left left' asked asked' written written' (fault.Exe why) = IsRefused exe asked asked' why × (written' ≡ written) × (left' ≡ left)
+abbrev pub Refused : Option (List ℕ) → Option (List ℕ) → Option (List ℕ) → Exchanges → Exchanges
+    → Option (List ℕ) → Option (List ℕ) → RunFault → Type 0
+Refused exe left left' asked asked' written written' (fault.Exe why) =
+    IsRefused exe asked asked' why × (written' ≡ written) × (left' ≡ left)
 Refused exe left left' asked asked' written written' other = ⊤

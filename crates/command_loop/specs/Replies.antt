@@ -1,7 +1,9 @@
 -- The reply to each request, and the world that it leaves.
-use Rattle.std.specs.Prelude.{ℕ, Bool, List, [], ◌∷◌, map, find, Option, None, Some, Result, Ok, Err, if◌then◌else◌}
+use Rattle.std.specs.Prelude.{ℕ, Bool, List, [], ◌∷◌, map, find, Option, None, Some, Result, Ok}
+use Rattle.std.specs.Prelude.{Err, if◌then◌else◌}
 use Rattle.module_map.specs.World.{World, Loaded, start_of, end_of, is_named, moved_to, name_at}
-use Rattle.module_map.specs.Changes.{is_taken, load_fault, with_module, without_module, move_fault, with_moved}
+use Rattle.module_map.specs.Changes.{is_taken, load_fault, with_module, without_module, move_fault}
+use Rattle.module_map.specs.Changes.{with_moved}
 use Rattle.module_map.specs.Answers.{frames_at}
 use Rattle.module_map.specs.Answers as answers
 use Rattle.module_map.specs.Listing.{Listed, listed}
@@ -46,21 +48,30 @@ refused world fault = record { reply = Refused fault (met_name world fault); wor
 
 abbrev pub load_step : World → Loaded → Option MapFault → Stepped
 load_step world m (Some fault) = refused world fault
-load_step world m None = record { reply = LoadedAt m.name (start_of m) (end_of m); world = with_module world m }
+load_step world m None =
+    record { reply = LoadedAt m.name (start_of m) (end_of m); world = with_module world m }
 
 abbrev pub fetched_step : World → List ℕ → ℕ → Result (List ℕ) FetchFault → Bool → Stepped
 fetched_step world name base (Err fault) short = record { reply = NotFetched fault; world = world }
 fetched_step world name base (Ok bytes) short =
-    let m : Loaded = record { name = name; base = base; bytes = bytes } in load_step world m (load_fault world m short)
+    let m : Loaded =
+    record { name = name; base = base; bytes = bytes } in load_step world m
+    (load_fault world m short)
 
 abbrev pub unload_step : World → List ℕ → Stepped
-unload_step world name = if is_taken name world then record { reply = Unloaded name; world = without_module world name } else refused world NoModule
+unload_step world name =
+    if is_taken name world then record { reply = Unloaded name; world = without_module world name }
+    else refused world NoModule
 
 abbrev pub moved_step : World → List ℕ → Option MapFault → Option Loaded → ℕ → Stepped
 moved_step world name (Some fault) m base = refused world fault
 moved_step world name None None base = refused world NoModule
 moved_step world name None (Some m) base =
-    record { reply = MovedTo name (start_of (moved_to base m)) (end_of (moved_to base m)); world = with_moved world m base }
+    record {
+      reply = MovedTo name (start_of (moved_to base m))
+          (end_of (moved_to base m));
+      world = with_moved world m base;
+    }
 
 abbrev pub move_step : World → List ℕ → Option Loaded → ℕ → Stepped
 move_step world name m base = moved_step world name (move_fault m world base) m base
@@ -68,12 +79,16 @@ move_step world name m base = moved_step world name (move_fault m world base) m 
 -- a load takes the first outcome that is left
 abbrev pub step : World → Result Request BadLine → List Outcome → Stepped
 step world (Err bad) outcomes = record { reply = Unreadable bad; world = world }
-step world (Ok (Ask address)) outcomes = record { reply = Answered (answer_at world address); world = world }
-step world (Ok ListAll) outcomes = record { reply = AllListed (map listed world.modules); world = world }
+step world (Ok (Ask address)) outcomes =
+    record { reply = Answered (answer_at world address); world = world }
+step world (Ok ListAll) outcomes =
+    record { reply = AllListed (map listed world.modules); world = world }
 step world (Ok (Unload name)) outcomes = unload_step world name
-step world (Ok (Move name base)) outcomes = move_step world name (find (is_named name) world.modules) base
+step world (Ok (Move name base)) outcomes =
+    move_step world name (find (is_named name) world.modules) base
 step world (Ok (Load name base path)) [] = refused world Memory
-step world (Ok (Load name base path)) (outcome ∷ outcomes) = fetched_step world name base outcome.fetched outcome.short
+step world (Ok (Load name base path)) (outcome ∷ outcomes) =
+    fetched_step world name base outcome.fetched outcome.short
 
 -- what the source is asked for it
 abbrev pub question : Result Request BadLine → List (List ℕ)

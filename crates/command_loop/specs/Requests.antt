@@ -1,11 +1,13 @@
 -- What a line asks for.
-use Rattle.std.specs.Prelude.{ℕ, Bool, not, ◌&&◌, ◌||◌, List, [], ◌∷◌, length, map, nat_lt, nat_le, ◌==◌, Option, None, Some, Result, Ok, Err, if◌then◌else◌, codes}
+use Rattle.std.specs.Prelude.{ℕ, Bool, not, ◌&&◌, ◌||◌, List, [], ◌∷◌, length, map, nat_lt, nat_le}
+use Rattle.std.specs.Prelude.{◌==◌, Option, None, Some, Result, Ok, Err, if◌then◌else◌, codes}
 use Rattle.std.specs.List.{slice_split, list_all, join_with_byte}
 use Rattle.std.specs.Char.{is_ascii_alphanumeric}
 use Rattle.answer_text.specs.Numbers.{number}
 use Rattle.std.specs.Str.{is_utf8, bytes_eq}
 use Rattle.command_loop.specs.declared.commands.BadLine.{BadLine}
-use Rattle.command_loop.specs.declared.commands.BadLine.TheVariants.{LongLine, Command, Fields, Name, Number, Path}
+use Rattle.command_loop.specs.declared.commands.BadLine.TheVariants.{LongLine, Command, Fields}
+use Rattle.command_loop.specs.declared.commands.BadLine.TheVariants.{Name, Number, Path}
 
 -- a well-formed line
 pub data Request : Type 0 where
@@ -34,7 +36,9 @@ fields line = slice_split (λ byte. byte == 32) line
 -- operands are tested in order: a name, a number, a path
 abbrev pub checked_load : List ℕ → Option ℕ → List ℕ → Result Request BadLine
 checked_load name None path = if is_name name then Err Number else Err Name
-checked_load name (Some base) path = if is_name name then (if is_path path then Ok (Load name base path) else Err Path) else Err Name
+checked_load name (Some base) path =
+    if is_name name then (if is_path path then Ok (Load name base path) else Err Path)
+    else Err Name
 
 abbrev pub checked_move : List ℕ → Option ℕ → Result Request BadLine
 checked_move name None = if is_name name then Err Number else Err Name
@@ -45,7 +49,8 @@ abbrev pub load_of : List (List ℕ) → Result Request BadLine
 load_of [] = Err Fields
 load_of (name ∷ []) = Err Fields
 load_of (name ∷ base ∷ []) = Err Fields
-load_of (name ∷ base ∷ path ∷ more) = checked_load name (number base) (join_with_byte 32 (path ∷ more))
+load_of (name ∷ base ∷ path ∷ more) =
+    checked_load name (number base) (join_with_byte 32 (path ∷ more))
 
 -- an unload of one name, and a move of a name to a base
 abbrev pub unload_of : List (List ℕ) → Result Request BadLine

@@ -11,7 +11,8 @@ use Rattle.answer_text.specs.declared.options.Options.{Options}
 use Rattle.answer_text.specs.declared.faults.FetchFault.{FetchFault}
 use Rattle.answer_text.specs.declared.faults.FetchFault.TheVariants as sources
 use Rattle.command_loop.specs.Replies.{Reply}
-use Rattle.command_loop.specs.Replies.Reply.{Unreadable, NotFetched, Refused, LoadedAt, Unloaded, MovedTo, AllListed, Answered}
+use Rattle.command_loop.specs.Replies.Reply.{Unreadable, NotFetched, Refused, LoadedAt, Unloaded}
+use Rattle.command_loop.specs.Replies.Reply.{MovedTo, AllListed, Answered}
 use Rattle.command_loop.specs.declared.commands.BadLine.{BadLine}
 use Rattle.command_loop.specs.declared.commands.BadLine.TheVariants as lines
 
@@ -29,7 +30,9 @@ fetch_word sources.TooLarge = codes "too-large"
 fetch_word sources.Memory = codes "memory"
 
 abbrev pub object_text : LoadFault → List ℕ
-object_text fault = codes "object " ++ section_name fault.section ++ codes " " ++ cause_word fault.cause ++ codes " at " ++ decimal fault.at
+object_text fault =
+    codes "object " ++ section_name fault.section ++ codes " " ++ cause_word fault.cause
+    ++ codes " at " ++ decimal fault.at
 
 -- why modules are not changed, and the name of the module that one would meet
 abbrev pub map_words : MapFault → List ℕ → List ℕ
@@ -46,13 +49,16 @@ refused words = codes "refused " ++ words ++ 10 ∷ []
 
 -- where a module was loaded, or moved to
 abbrev pub done_at : List ℕ → List ℕ → ℕ → ℕ → List ℕ
-done_at done name low high = done ++ name ++ codes " " ++ address_text low ++ codes "-" ++ address_text high ++ 10 ∷ []
+done_at done name low high =
+    done ++ name ++ codes " " ++ address_text low ++ codes "-" ++ address_text high ++ 10 ∷ []
 
 abbrev pub unloaded : List ℕ → List ℕ
 unloaded name = codes "unloaded " ++ name ++ 10 ∷ []
 
 abbrev pub module_text : Listed → List ℕ
-module_text m = codes "module " ++ m.name ++ codes " " ++ address_text m.low ++ codes "-" ++ address_text m.high ++ codes " " ++ address_text m.base ++ 10 ∷ []
+module_text m =
+    codes "module " ++ m.name ++ codes " " ++ address_text m.low ++ codes "-"
+    ++ address_text m.high ++ codes " " ++ address_text m.base ++ 10 ∷ []
 
 abbrev pub list_text : List Listed → List ℕ
 list_text modules = flat_map module_text modules ++ codes "end\n"

@@ -1,8 +1,12 @@
 //! What a line asks for.
 
-ghost use Rattle.std.specs.Prelude.{◌≡◌, ◌∷◌, [], List, option_map, MatchOption, IsTrue, ◌↔◌, IfSome, option_copied, position, ◌==◌, if◌then◌else◌, Some, None, true, false, ◌<◌, not};
+ghost use Rattle.std.specs.Prelude.{◌≡◌, ◌∷◌, [], List, option_map, MatchOption, IsTrue, ◌↔◌};
+ghost use Rattle.std.specs.Prelude.{IfSome, option_copied, position, ◌==◌, if◌then◌else◌, Some};
+ghost use Rattle.std.specs.Prelude.{None, true, false, ◌<◌, not};
 ghost use Rattle.std.specs.List.{slice_split, list_all};
-ghost use Rattle.command_loop.specs.Requests.{parse, is_name, is_path, fields, load_of, unload_of, move_of, list_of, checked_load, checked_move, request_of_fields, address_of, is_name_byte};
+ghost use Rattle.command_loop.specs.Requests.{parse, is_name, is_path, fields, load_of, unload_of};
+ghost use Rattle.command_loop.specs.Requests.{move_of, list_of, checked_load, checked_move};
+ghost use Rattle.command_loop.specs.Requests.{request_of_fields, address_of, is_name_byte};
 ghost use Rattle.answer_text.specs.Numbers.{number};
 ghost use Rattle.command_loop.specs.Private.Commands.{parsed, cut_parts};
 
@@ -83,7 +87,8 @@ fn has_no_nul(text: &[u8]) -> bool
 /// The text of a name.
 #[tactic(auto, unfolding(crate::specs::Requests::is_name))]
 fn parse_name(text: &[u8]) -> Option<&str>
-    ensures { MatchOption result (is_name text.now ≡ false) (λ name. (is_name text.now ≡ true) × (name.now ≡ text.now)) }
+    ensures { MatchOption result (is_name text.now ≡ false)
+        (λ name. (is_name text.now ≡ true) × (name.now ≡ text.now)) }
 {
     if text.is_empty() || text.len() > 64 || !are_name_parts(text) {
         return None;
@@ -97,7 +102,8 @@ fn parse_name(text: &[u8]) -> Option<&str>
 /// The text of a path.
 #[tactic(auto, unfolding(crate::specs::Requests::is_path))]
 fn parse_path(text: &[u8]) -> Option<&str>
-    ensures { MatchOption result (is_path text.now ≡ false) (λ path. (is_path text.now ≡ true) × (path.now ≡ text.now)) }
+    ensures { MatchOption result (is_path text.now ≡ false)
+        (λ path. (is_path text.now ≡ true) × (path.now ≡ text.now)) }
 {
     if text.is_empty() || !has_no_nul(text) {
         return None;
@@ -202,7 +208,8 @@ fn parse_list<'a>(operands: Option<&'a [u8]>) -> Result<Command<'a>, BadLine>
 
 /// A line of one field that is a number.
 fn parse_address<'a>(word: &[u8], operands: Option<&'a [u8]>) -> Result<Command<'a>, BadLine>
-    ensures { parsed result ≡ address_of (number word.now) (cut_parts (option_copied operands.entry)) }
+    ensures { parsed result ≡ address_of (number word.now)
+        (cut_parts (option_copied operands.entry)) }
 {
     let Some(address) = parse_number(word) else {
         return Err(BadLine::Command);

@@ -1,6 +1,7 @@
 //! The line that is being read.
 
-ghost use Rattle.std.specs.Prelude.{◌≡◌, ℕ, List, [], Option, None, Some, if◌then◌else◌, option_copied, IsTrue, ◌↔◌};
+ghost use Rattle.std.specs.Prelude.{◌≡◌, ℕ, List, [], Option, None, Some, if◌then◌else◌};
+ghost use Rattle.std.specs.Prelude.{option_copied, IsTrue, ◌↔◌};
 ghost use Rattle.command_loop.specs.Lines.{longer};
 
 use arrayvec::ArrayVec;

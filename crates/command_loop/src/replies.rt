@@ -5,7 +5,8 @@ ghost use Rattle.answer_text.specs.Devices.{failures_after, Writes};
 ghost use Rattle.answer_text.specs.Pending.{Puts};
 ghost use Rattle.module_map.specs.Listing.{Listed, listed};
 ghost use Rattle.command_loop.specs.Private.Serving.{reply_of, IsCurrent};
-ghost use Rattle.command_loop.specs.Text.{line_word, fetch_word, map_words, object_text, refused, done_at, unloaded, module_text, list_text, text};
+ghost use Rattle.command_loop.specs.Text.{line_word, fetch_word, map_words, object_text, refused};
+ghost use Rattle.command_loop.specs.Text.{done_at, unloaded, module_text, list_text, text};
 ghost use Rattle.command_loop.specs.Replies.{met_name};
 ghost use Rattle.module_map.specs.World.{name_at};
 
@@ -45,7 +46,8 @@ pub fn fetch_word(fault: FetchFault) -> &'static str
 
 /// Writes a refusal of one word.
 pub fn write_refusal<W: Sink>(word: &str, writer: &mut W) -> Result<(), DeviceFault>
-    ensures bytes { Writes (W.written writer.old) (W.written writer.new) result (refused word.now) }
+    ensures bytes { Writes (W.written writer.old) (W.written writer.new) result
+        (refused word.now) }
     ensures failures { W.failures writer.new ≡ failures_after (W.failures writer.old) result }
 {
     let texts: [&[u8]; 3] = [b"refused ", word.as_bytes(), b"\n"];
@@ -55,7 +57,8 @@ pub fn write_refusal<W: Sink>(word: &str, writer: &mut W) -> Result<(), DeviceFa
 /// Writes the refusal of an object: the section that holds its first fault, what is wrong, and the
 /// offset of the item that holds it.
 pub fn write_object_refusal<W: Sink>(fault: &LoadFault, writer: &mut W) -> Result<(), DeviceFault>
-    ensures bytes { Writes (W.written writer.old) (W.written writer.new) result (refused (object_text fault.now)) }
+    ensures bytes { Writes (W.written writer.old) (W.written writer.new) result
+        (refused (object_text fault.now)) }
     ensures failures { W.failures writer.new ≡ failures_after (W.failures writer.old) result }
 {
     let section = fault.section.name().as_bytes();
@@ -78,7 +81,8 @@ fn name_at<'a>(modules: &'a Modules, place: usize) -> &'a str
 
 /// Writes the refusal of a module that would meet another one.
 fn write_overlap<W: Sink>(met: &str, writer: &mut W) -> Result<(), DeviceFault>
-    ensures bytes { Writes (W.written writer.old) (W.written writer.new) result (refused (codes "overlap " ++ met.now)) }
+    ensures bytes { Writes (W.written writer.old) (W.written writer.new) result
+        (refused (codes "overlap " ++ met.now)) }
     ensures failures { W.failures writer.new ≡ failures_after (W.failures writer.old) result }
 {
     let texts: [&[u8]; 3] = [b"refused overlap ", met.as_bytes(), b"\n"];
@@ -91,7 +95,8 @@ fn write_map_refusal<W: Sink>(
     fault: MapFault,
     writer: &mut W,
 ) -> Result<(), DeviceFault>
-    ensures bytes { Writes (W.written writer.old) (W.written writer.new) result (refused (map_words fault (met_name modules.now.world fault))) }
+    ensures bytes { Writes (W.written writer.old) (W.written writer.new) result
+        (refused (map_words fault (met_name modules.now.world fault))) }
     ensures failures { W.failures writer.new ≡ failures_after (W.failures writer.old) result }
 {
     match fault {
@@ -112,7 +117,8 @@ fn write_done_at<W: Sink>(
     extent: &Extent,
     writer: &mut W,
 ) -> Result<(), DeviceFault>
-    ensures bytes { Writes (W.written writer.old) (W.written writer.new) result (done_at done.now name.now extent.now.low extent.now.high) }
+    ensures bytes { Writes (W.written writer.old) (W.written writer.new) result
+        (done_at done.now name.now extent.now.low extent.now.high) }
     ensures failures { W.failures writer.new ≡ failures_after (W.failures writer.old) result }
 {
     let low = address_text(extent.low);
@@ -123,7 +129,8 @@ fn write_done_at<W: Sink>(
 
 /// Writes that a module was taken out.
 fn write_unloaded<W: Sink>(name: &str, writer: &mut W) -> Result<(), DeviceFault>
-    ensures bytes { Writes (W.written writer.old) (W.written writer.new) result (unloaded name.now) }
+    ensures bytes { Writes (W.written writer.old) (W.written writer.new) result
+        (unloaded name.now) }
     ensures failures { W.failures writer.new ≡ failures_after (W.failures writer.old) result }
 {
     let texts: [&[u8]; 3] = [b"unloaded ", name.as_bytes(), b"\n"];
@@ -138,8 +145,14 @@ fn put_module<W: Sink>(
     pending: &mut Pending,
     writer: &mut W,
 ) -> Result<(), DeviceFault>
-    ensures bytes { Puts (W.written writer.old) (W.written writer.new) pending.old pending.new result
-        (module_text (record { name = name.now; low = extent.now.low; high = extent.now.high; base = base })) }
+    ensures bytes { Puts (W.written writer.old) (W.written writer.new) pending.old pending.new
+        result
+        (module_text (record {
+          name = name.now;
+          low = extent.now.low;
+          high = extent.now.high;
+          base = base;
+        })) }
     ensures failures { W.failures writer.new ≡ failures_after (W.failures writer.old) result }
 {
     let low = address_text(extent.low);
@@ -165,7 +178,8 @@ fn put_modules<W: Sink>(
     pending: &mut Pending,
     writer: &mut W,
 ) -> Result<(), DeviceFault>
-    ensures bytes { Puts (W.written writer.old) (W.written writer.new) pending.old pending.new result (flat_map module_text modules.entry) }
+    ensures bytes { Puts (W.written writer.old) (W.written writer.new) pending.old pending.new
+        result (flat_map module_text modules.entry) }
     ensures failures { W.failures writer.new ≡ failures_after (W.failures writer.old) result }
 {
     for listed in modules {
@@ -176,7 +190,8 @@ fn put_modules<W: Sink>(
 
 /// Writes the modules, and that these are all.
 fn write_list<W: Sink>(modules: &Modules, writer: &mut W) -> Result<(), DeviceFault>
-    ensures bytes { Writes (W.written writer.old) (W.written writer.new) result (list_text (map listed modules.now.world.modules)) }
+    ensures bytes { Writes (W.written writer.old) (W.written writer.new) result
+        (list_text (map listed modules.now.world.modules)) }
     ensures failures { W.failures writer.new ≡ failures_after (W.failures writer.old) result }
 {
     let mut pending = Pending::new();
@@ -194,7 +209,8 @@ pub fn write_reply<W: Sink>(
     writer: &mut W,
 ) -> Result<(), DeviceFault>
     requires { IsCurrent modules.now.world done.now }
-    ensures bytes { Writes (W.written writer.old) (W.written writer.new) result (text options.now (reply_of modules.now.world done.now)) }
+    ensures bytes { Writes (W.written writer.old) (W.written writer.new) result
+        (text options.now (reply_of modules.now.world done.now)) }
     ensures failures { W.failures writer.new ≡ failures_after (W.failures writer.old) result }
 {
     match done {

@@ -1,6 +1,7 @@
 //! The run.
 
-ghost use Rattle.std.specs.Prelude.{◌≡◌, ℕ, ◌≤◌, List, [], ◌++◌, length, Option, OnOk, IsErrOf, IfErr, IfOk};
+ghost use Rattle.std.specs.Prelude.{◌≡◌, ℕ, ◌≤◌, List, [], ◌++◌, length, Option, OnOk, IsErrOf};
+ghost use Rattle.std.specs.Prelude.{IfErr, IfOk};
 ghost use Rattle.std.specs.Io.KnownBytes.{Consumes, Keeps};
 ghost use Rattle.command_loop.specs.Lines.{lines, ended_lines};
 ghost use Rattle.command_loop.specs.Requests.{requests};
@@ -14,7 +15,8 @@ use answer_text::{Feed, Objects, Options, RunFault, Sink};
 use module_map::Modules;
 use std::alloc::Global;
 
-/// Loads the object of the command line, and then answers its words, or where there are none serves
+/// Loads the object of the command line, and then answers its words, or where there are none
+/// serves
 /// the lines of a reader. Each reply is written and flushed before the next request is looked at.
 pub fn run<R: Feed, W: Sink, O: Objects>(
     alloc: Global,
@@ -24,22 +26,33 @@ pub fn run<R: Feed, W: Sink, O: Objects>(
     source: &mut O,
 ) -> Result<(), RunFault>
     // What is written is the replies to all requests, and what was asked is their questions.
-    ensures served { OnOk result (Served options.now (R.left reader.old) (R.left reader.new) (λ requests.
-        Answers options.now (exe_of options.now) requests (O.asked source.old) (O.asked source.new) (W.written writer.old) (W.written writer.new))) }
+    ensures served { OnOk result
+        (Served options.now (R.left reader.old) (R.left reader.new) (λ requests.
+        Answers options.now (exe_of options.now) requests (O.asked source.old) (O.asked source.new)
+        (W.written writer.old) (W.written writer.new))) }
     // After a failed read it is so for the lines that were ended.
-    ensures reading { IsErrOf result RunFault.Reading → (asks options.now ≡ []) × ((read : List ℕ) ×
+    ensures reading { IsErrOf result RunFault.Reading → (asks options.now ≡ [])
+        × ((read : List ℕ) ×
         Consumes (R.left reader.old) (R.left reader.new) read ×
-        Answers options.now (exe_of options.now) (requests (ended_lines read)) (O.asked source.old) (O.asked source.new) (W.written writer.old) (W.written writer.new)) }
-    // After a failed write it is so for the requests before the one at hand, of whose reply a beginning is written.
+        Answers options.now (exe_of options.now) (requests (ended_lines read)) (O.asked source.old)
+        (O.asked source.new) (W.written writer.old) (W.written writer.new)) }
+    // After a failed write it is so for the requests before the one at hand, of whose reply a
+    // beginning is written.
     ensures writing { IsErrOf result RunFault.Writing →
-        Stopped options.now (R.left reader.old) (R.left reader.new) (O.asked source.old) (O.asked source.new) (W.written writer.old) (W.written writer.new) }
+        Stopped options.now (R.left reader.old) (R.left reader.new) (O.asked source.old)
+        (O.asked source.new) (W.written writer.old) (W.written writer.new) }
     // Without memory to begin with, nothing was read, asked or written.
     ensures memory { IsErrOf result RunFault.Memory →
-        (R.left reader.new ≡ R.left reader.old) × (O.asked source.new ≡ O.asked source.old) × (W.written writer.new ≡ W.written writer.old) }
+        (R.left reader.new ≡ R.left reader.old) × (O.asked source.new ≡ O.asked source.old)
+        × (W.written writer.new ≡ W.written writer.old) }
     // Where the object of the command line is refused, nothing but its path was asked.
-    ensures exe { IfErr result (Refused (exe_of options.now) (R.left reader.old) (R.left reader.new) (O.asked source.old) (O.asked source.new) (W.written writer.old) (W.written writer.new)) }
-    ensures reader_failed { R.failures reader.new ≡ read_failures_after (R.failures reader.old) result }
-    ensures writer_failed { W.failures writer.new ≡ write_failures_after (W.failures writer.old) result }
+    ensures exe { IfErr result
+        (Refused (exe_of options.now) (R.left reader.old) (R.left reader.new) (O.asked source.old)
+        (O.asked source.new) (W.written writer.old) (W.written writer.new)) }
+    ensures reader_failed { R.failures reader.new
+        ≡ read_failures_after (R.failures reader.old) result }
+    ensures writer_failed { W.failures writer.new
+        ≡ write_failures_after (W.failures writer.old) result }
 {
     let Ok(mut modules) = Modules::new(alloc, options.cache) else {
         return Err(RunFault::Memory);

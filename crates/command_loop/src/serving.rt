@@ -34,7 +34,8 @@ fn load<'a, O: Objects>(
     modules: &mut Modules,
     source: &mut O,
 ) -> Done<'a>
-    ensures { Performs (Ok (Load name.entry.now base path.now)) modules.old.world modules.new.world (O.asked source.old) (O.asked source.new) result }
+    ensures { Performs (Ok (Load name.entry.now base path.now)) modules.old.world modules.new.world
+        (O.asked source.old) (O.asked source.new) result }
 {
     match source.fetch(path) {
         Err(fault) => Done::NotFetched(fault),
@@ -46,7 +47,8 @@ fn load<'a, O: Objects>(
 }
 
 fn unload<'a, O: Objects>(name: &'a str, modules: &mut Modules, source: &O) -> Done<'a>
-    ensures { Performs (Ok (Unload name.entry.now)) modules.old.world modules.new.world (O.asked source.now) (O.asked source.now) result }
+    ensures { Performs (Ok (Unload name.entry.now)) modules.old.world modules.new.world
+        (O.asked source.now) (O.asked source.now) result }
 {
     let _ = source;
     match modules.unload(name) {
@@ -56,7 +58,8 @@ fn unload<'a, O: Objects>(name: &'a str, modules: &mut Modules, source: &O) -> D
 }
 
 fn move_to<'a, O: Objects>(name: &'a str, base: u64, modules: &mut Modules, source: &O) -> Done<'a>
-    ensures { Performs (Ok (Move name.entry.now base)) modules.old.world modules.new.world (O.asked source.now) (O.asked source.now) result }
+    ensures { Performs (Ok (Move name.entry.now base)) modules.old.world modules.new.world
+        (O.asked source.now) (O.asked source.now) result }
 {
     let _ = source;
     match modules.move_to(name, base) {
@@ -81,7 +84,8 @@ fn act<'a, O: Objects>(
     modules: &mut Modules,
     source: &mut O,
 ) -> Done<'a>
-    ensures { Performs (parsed request.entry) modules.old.world modules.new.world (O.asked source.old) (O.asked source.new) result }
+    ensures { Performs (parsed request.entry) modules.old.world modules.new.world
+        (O.asked source.old) (O.asked source.new) result }
 {
     let command = match request {
         Err(bad) => return Done::Unreadable(bad),
@@ -96,7 +100,8 @@ fn act<'a, O: Objects>(
     }
 }
 
-/// ServesRequest a request: the source is asked, the modules change, and the reply is written and flushed.
+/// ServesRequest a request: the source is asked, the modules change, and the reply is written and
+/// flushed.
 pub fn serve_request<W: Sink, O: Objects>(
     options: &Options,
     request: Result<Command<'_>, BadLine>,
@@ -106,11 +111,31 @@ pub fn serve_request<W: Sink, O: Objects>(
 ) -> Result<(), DeviceFault>
     ensures served { MatchResult result
         (λ _. ServesRequest options.now (parsed request.entry)
-        (record { world = modules.old.world; asked = O.asked source.old; written = W.written writer.old })
-        (record { world = modules.new.world; asked = O.asked source.new; written = W.written writer.new }))
+        (record {
+          world = modules.old.world;
+          asked = O.asked source.old;
+          written = W.written
+              writer.old;
+        })
+        (record {
+          world = modules.new.world;
+          asked = O.asked source.new;
+          written = W.written
+              writer.new;
+        }))
         (λ _. FailsToReply options.now (parsed request.entry)
-        (record { world = modules.old.world; asked = O.asked source.old; written = W.written writer.old })
-        (record { world = modules.new.world; asked = O.asked source.new; written = W.written writer.new })) }
+        (record {
+          world = modules.old.world;
+          asked = O.asked source.old;
+          written = W.written
+              writer.old;
+        })
+        (record {
+          world = modules.new.world;
+          asked = O.asked source.new;
+          written = W.written
+              writer.new;
+        })) }
     ensures failures { W.failures writer.new ≡ failures_after (W.failures writer.old) result }
 {
     let done = act(request, modules, source);
@@ -128,11 +153,31 @@ pub fn serve<W: Sink, O: Objects>(
 ) -> Result<(), DeviceFault>
     ensures served { MatchResult result
         (λ _. ServesRequest options.now (parse_kept (option_copied line.entry))
-        (record { world = modules.old.world; asked = O.asked source.old; written = W.written writer.old })
-        (record { world = modules.new.world; asked = O.asked source.new; written = W.written writer.new }))
+        (record {
+          world = modules.old.world;
+          asked = O.asked source.old;
+          written = W.written
+              writer.old;
+        })
+        (record {
+          world = modules.new.world;
+          asked = O.asked source.new;
+          written = W.written
+              writer.new;
+        }))
         (λ _. FailsToReply options.now (parse_kept (option_copied line.entry))
-        (record { world = modules.old.world; asked = O.asked source.old; written = W.written writer.old })
-        (record { world = modules.new.world; asked = O.asked source.new; written = W.written writer.new })) }
+        (record {
+          world = modules.old.world;
+          asked = O.asked source.old;
+          written = W.written
+              writer.old;
+        })
+        (record {
+          world = modules.new.world;
+          asked = O.asked source.new;
+          written = W.written
+              writer.new;
+        })) }
     ensures failures { W.failures writer.new ≡ failures_after (W.failures writer.old) result }
 {
     serve_request(options, request_of(line), modules, writer, source)

@@ -26,10 +26,22 @@ impl Session {
         source: &mut O,
     ) -> Result<(), DeviceFault>
         ensures goes_on { OnOk result (ReadsOn options.now (10 ∷ [])
-            (record { world = self.old.modules.world; asked = O.asked source.old; written = W.written writer.old }) self.old.line
-            (record { world = self.new.modules.world; asked = O.asked source.new; written = W.written writer.new }) self.new.line) }
+            (record {
+              world = self.old.modules.world;
+              asked = O.asked source.old;
+              written = W.written writer.old;
+            }) self.old.line
+            (record {
+              world = self.new.modules.world;
+              asked = O.asked source.new;
+              written = W.written writer.new;
+            }) self.new.line) }
         ensures breaks { OnErr result (StopsWithin options.now (10 ∷ [])
-            (record { world = self.old.modules.world; asked = O.asked source.old; written = W.written writer.old }) self.old.line
+            (record {
+              world = self.old.modules.world;
+              asked = O.asked source.old;
+              written = W.written writer.old;
+            }) self.old.line
             (O.asked source.new) (W.written writer.new)) }
         ensures failures { W.failures writer.new ≡ failures_after (W.failures writer.old) result }
     {
@@ -50,10 +62,22 @@ impl Session {
         source: &mut O,
     ) -> Result<(), DeviceFault>
         ensures goes_on { OnOk result (ReadsOn options.now (byte ∷ [])
-            (record { world = self.old.modules.world; asked = O.asked source.old; written = W.written writer.old }) self.old.line
-            (record { world = self.new.modules.world; asked = O.asked source.new; written = W.written writer.new }) self.new.line) }
+            (record {
+              world = self.old.modules.world;
+              asked = O.asked source.old;
+              written = W.written writer.old;
+            }) self.old.line
+            (record {
+              world = self.new.modules.world;
+              asked = O.asked source.new;
+              written = W.written writer.new;
+            }) self.new.line) }
         ensures breaks { OnErr result (StopsWithin options.now (byte ∷ [])
-            (record { world = self.old.modules.world; asked = O.asked source.old; written = W.written writer.old }) self.old.line
+            (record {
+              world = self.old.modules.world;
+              asked = O.asked source.old;
+              written = W.written writer.old;
+            }) self.old.line
             (O.asked source.new) (W.written writer.new)) }
         ensures failures { W.failures writer.new ≡ failures_after (W.failures writer.old) result }
     {
@@ -74,10 +98,22 @@ impl Session {
         source: &mut O,
     ) -> Result<(), DeviceFault>
         ensures goes_on { OnOk result (ReadsOn options.now piece.now
-            (record { world = self.old.modules.world; asked = O.asked source.old; written = W.written writer.old }) self.old.line
-            (record { world = self.new.modules.world; asked = O.asked source.new; written = W.written writer.new }) self.new.line) }
+            (record {
+              world = self.old.modules.world;
+              asked = O.asked source.old;
+              written = W.written writer.old;
+            }) self.old.line
+            (record {
+              world = self.new.modules.world;
+              asked = O.asked source.new;
+              written = W.written writer.new;
+            }) self.new.line) }
         ensures breaks { OnErr result (StopsWithin options.now piece.now
-            (record { world = self.old.modules.world; asked = O.asked source.old; written = W.written writer.old }) self.old.line
+            (record {
+              world = self.old.modules.world;
+              asked = O.asked source.old;
+              written = W.written writer.old;
+            }) self.old.line
             (O.asked source.new) (W.written writer.new)) }
         ensures failures { W.failures writer.new ≡ failures_after (W.failures writer.old) result }
     {
@@ -88,7 +124,8 @@ impl Session {
     }
 }
 
-/// ServesRequest the lines of a reader, one after the other. Each reply is written and flushed before more
+/// ServesRequest the lines of a reader, one after the other. Each reply is written and flushed
+/// before more
 /// is read. Input is asked for in pieces of at most 4,096 bytes.
 pub fn serve_input<R: Feed, W: Sink, O: Objects>(
     options: &Options,
@@ -97,10 +134,18 @@ pub fn serve_input<R: Feed, W: Sink, O: Objects>(
     writer: &mut W,
     source: &mut O,
 ) -> Result<(), RunFault>
-    ensures reads { ReadsLines options.now (record { world = modules.world; asked = O.asked source.old; written = W.written writer.old })
-        (R.left reader.old) (R.left reader.new) (O.asked source.new) (W.written writer.new) result }
-    ensures reader_failed { R.failures reader.new ≡ read_failures_after (R.failures reader.old) result }
-    ensures writer_failed { W.failures writer.new ≡ write_failures_after (W.failures writer.old) result }
+    ensures reads { ReadsLines options.now
+        (record {
+          world = modules.world;
+          asked = O.asked source.old;
+          written = W.written writer.old;
+        })
+        (R.left reader.old) (R.left reader.new) (O.asked source.new)
+        (W.written writer.new) result }
+    ensures reader_failed { R.failures reader.new
+        ≡ read_failures_after (R.failures reader.old) result }
+    ensures writer_failed { W.failures writer.new
+        ≡ write_failures_after (W.failures writer.old) result }
 {
     let mut session = Session {
         modules,

@@ -11,7 +11,9 @@ use module_map::Modules;
 /// Asks the source for an object, and loads it as `exe` at base 0.
 fn load_exe<O: Objects>(path: &str, modules: &mut Modules, source: &mut O) -> Result<(), ExeFault>
     requires { modules.old.world ≡ no_modules }
-    ensures { MatchResult result (λ _. HasStarted (Some path.now) (O.asked source.old) (O.asked source.new) modules.new.world)
+    ensures { MatchResult result
+        (λ _. HasStarted (Some path.now) (O.asked source.old)
+        (O.asked source.new) modules.new.world)
         (λ why. IsRefused (Some path.now) (O.asked source.old) (O.asked source.new) why) }
 {
     match source.fetch(path) {
@@ -30,8 +32,11 @@ pub fn begin<O: Objects>(
     source: &mut O,
 ) -> Result<(), ExeFault>
     requires { modules.old.world ≡ no_modules }
-    ensures { MatchResult result (λ _. HasStarted (option_map string_bytes exe.now) (O.asked source.old) (O.asked source.new) modules.new.world)
-        (λ why. IsRefused (option_map string_bytes exe.now) (O.asked source.old) (O.asked source.new) why) }
+    ensures { MatchResult result
+        (λ _. HasStarted (option_map string_bytes exe.now) (O.asked source.old)
+        (O.asked source.new) modules.new.world)
+        (λ why. IsRefused (option_map string_bytes exe.now) (O.asked source.old)
+        (O.asked source.new) why) }
 {
     match exe {
         None => Ok(()),

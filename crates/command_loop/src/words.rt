@@ -18,9 +18,22 @@ pub fn serve_words<W: Sink, O: Objects>(
     writer: &mut W,
     source: &mut O,
 ) -> Result<(), DeviceFault>
-    ensures handled { OnOk result (ServedInOrder options.now (record { world = modules.old.world; asked = O.asked source.old; written = W.written writer.old })
-        (map ask_of words.now) (record { world = modules.new.world; asked = O.asked source.new; written = W.written writer.new })) }
-    ensures halts { OnErr result (StopsAmong options.now (record { world = modules.old.world; asked = O.asked source.old; written = W.written writer.old })
+    ensures handled { OnOk result
+        (ServedInOrder options.now
+        (record {
+          world = modules.old.world;
+          asked = O.asked source.old;
+          written = W.written
+              writer.old;
+        })
+        (map ask_of words.now) (record {
+          world = modules.new.world;
+          asked = O.asked source.new;
+          written = W.written writer.new;
+        })) }
+    ensures halts { OnErr result
+        (StopsAmong options.now (record
+        { world = modules.old.world; asked = O.asked source.old; written = W.written writer.old })
         (map ask_of words.now) (O.asked source.new) (W.written writer.new)) }
     ensures failures { W.failures writer.new ≡ failures_after (W.failures writer.old) result }
 {

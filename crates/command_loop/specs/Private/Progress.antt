@@ -1,5 +1,6 @@
 -- How far a run has come.
-use Rattle.std.specs.Prelude.{◌≡◌, ℕ, ◌≤◌, List, [], ◌∷◌, ◌++◌, length, drop, Option, Result, Ok, Err}
+use Rattle.std.specs.Prelude.{◌≡◌, ℕ, ◌≤◌, List, [], ◌∷◌, ◌++◌, length, drop, Option, Result, Ok}
+use Rattle.std.specs.Prelude.{Err}
 use Rattle.std.specs.Option.{option_to_list}
 use Rattle.std.specs.Io.KnownBytes.{Appends, Consumes, IsAtEnd}
 use Rattle.module_map.specs.World.{World}
@@ -12,7 +13,8 @@ use Rattle.command_loop.specs.Requests.{Request, requests, parse}
 use Rattle.command_loop.specs.Lines.{lines, ended_lines, open_line, within_limit}
 use Rattle.command_loop.specs.Replies.{Outcome, step, question}
 use Rattle.command_loop.specs.Text.{text}
-use Rattle.command_loop.specs.Output.{Requests, Exchanges, started, replies, world_after, questions, Asked, EndsLine, EndsWith}
+use Rattle.command_loop.specs.Output.{Requests, Exchanges, started, replies, world_after}
+use Rattle.command_loop.specs.Output.{questions, Asked, EndsLine, EndsWith}
 
 -- the modules, what the source has been asked, and what is written, where those are told
 pub record RunState : Type 0 where
@@ -21,14 +23,17 @@ pub record RunState : Type 0 where
   pub written : Option (List ℕ)
 
 -- one request was served
-pub record ServesRequest (options : Options) (request : Result Request BadLine) (old new : RunState) : Type 0 where
+pub record ServesRequest (options : Options) (request : Result Request BadLine)
+    (old new : RunState) : Type 0 where
   pub outcomes : List Outcome
   pub answered : Asked old.asked new.asked (question request) outcomes
   pub steps : new.world ≡ (step old.world request outcomes).world
-  pub replied : Appends old.written new.written (text options (step old.world request outcomes).reply)
+  pub replied : Appends old.written new.written
+      (text options (step old.world request outcomes).reply)
 
 -- one request was served, but no more than a beginning of its reply is written
-pub record FailsToReply (options : Options) (request : Result Request BadLine) (old new : RunState) : Type 0 where
+pub record FailsToReply (options : Options) (request : Result Request BadLine)
+    (old new : RunState) : Type 0 where
   pub outcomes : List Outcome
   pub answered : Asked old.asked new.asked (question request) outcomes
   pub part : List ℕ
@@ -36,58 +41,78 @@ pub record FailsToReply (options : Options) (request : Result Request BadLine) (
   pub replied : Appends old.written new.written part
 
 -- these requests were served, one after the other
-pub record ServedInOrder (options : Options) (start : RunState) (served : Requests) (now : RunState) : Type 0 where
+pub record ServedInOrder (options : Options) (start : RunState) (served : Requests)
+    (now : RunState) : Type 0 where
   pub outcomes : List Outcome
   pub answered : Asked start.asked now.asked (questions served) outcomes
   pub stands : now.world ≡ world_after start.world served outcomes
   pub replied : Appends start.written now.written (replies options start.world served outcomes)
 
 -- these requests were served, and then one of whose reply no more than a beginning is written
-pub record StopsAtRequest (options : Options) (start : RunState) (before : Requests) (request : Result Request BadLine) (asked : Exchanges) (written : Option (List ℕ)) : Type 0 where
+pub record StopsAtRequest (options : Options) (start : RunState) (before : Requests)
+    (request : Result Request BadLine) (asked : Exchanges)
+    (written : Option (List ℕ)) : Type 0 where
   pub outcomes : List Outcome
   pub answered : Asked start.asked asked (questions (before ++ request ∷ [])) outcomes
   pub part : List ℕ
-  pub begins : IsBeginning part (text options (step (world_after start.world before outcomes) request (drop (length (questions before)) outcomes)).reply)
+  pub begins : IsBeginning part
+      (text options (step (world_after start.world before outcomes) request
+      (drop (length (questions before)) outcomes)).reply)
   pub replied : Appends start.written written (replies options start.world before outcomes ++ part)
 
 -- ---- lines
 
 -- all ended lines of what was read are served, and the rest of it is held
-pub record ReadSoFar (options : Options) (start : RunState) (read : List ℕ) (now : RunState) (held : Option (List ℕ)) : Type 0 where
+pub record ReadSoFar (options : Options) (start : RunState) (read : List ℕ) (now : RunState)
+    (held : Option (List ℕ)) : Type 0 where
   pub handled : ServedInOrder options start (requests (ended_lines read)) now
   pub holds : held ≡ within_limit (open_line read)
 
--- What was read ends with a line, and all its lines are served but this last one, of whose reply no more than a beginning is written.
-pub record StopsAtLine (options : Options) (start : RunState) (read : List ℕ) (asked : Exchanges) (written : Option (List ℕ)) : Type 0 where
+-- What was read ends with a line, and all its lines are served but this last one, of whose reply
+-- no more than a beginning is written.
+pub record StopsAtLine (options : Options) (start : RunState) (read : List ℕ) (asked : Exchanges)
+    (written : Option (List ℕ)) : Type 0 where
   pub before : List (List ℕ)
   pub line : List ℕ
   pub ends : EndsWith read before line
   pub halts : StopsAtRequest options start (requests before) (parse line) asked written
 
 -- from wherever a run stood, it has come further by these bytes
-abbrev pub ReadsOn : Options → List ℕ → RunState → Option (List ℕ) → RunState → Option (List ℕ) → Type 0
-ReadsOn options bytes old held new held' = (start : RunState) (read : List ℕ) → ReadSoFar options start read old held → ReadSoFar options start (read ++ bytes) new held'
+abbrev pub ReadsOn : Options → List ℕ → RunState → Option (List ℕ) → RunState → Option (List ℕ)
+    → Type 0
+ReadsOn options bytes old held new held' = (start : RunState) (read : List ℕ)
+    → ReadSoFar options start read old held → ReadSoFar options start (read ++ bytes) new held'
 
 -- from wherever a run stood, it stopped at a line that ends within these bytes
-abbrev pub StopsWithin : Options → List ℕ → RunState → Option (List ℕ) → Exchanges → Option (List ℕ) → Type 0
-StopsWithin options bytes old held asked written = (start : RunState) (read : List ℕ) → ReadSoFar options start read old held →
-    (front past : List ℕ) × (bytes ≡ front ++ past) × ((rest : List ℕ) × (past ≡ 10 ∷ rest)) × StopsAtLine options start (read ++ front) asked written
+abbrev pub StopsWithin : Options → List ℕ → RunState → Option (List ℕ) → Exchanges
+    → Option (List ℕ) → Type 0
+StopsWithin options bytes old held asked written = (start : RunState) (read : List ℕ)
+    → ReadSoFar options start read old held →
+    (front past : List ℕ) × (bytes ≡ front ++ past) × ((rest : List ℕ) × (past ≡ 10 ∷ rest))
+    × StopsAtLine options start (read ++ front) asked written
 
 -- how the lines of a reader were served from here on
-abbrev pub ReadsLines : {a : Type 0} → Options → RunState → Option (List ℕ) → Option (List ℕ) → Exchanges → Option (List ℕ) → Result a RunFault → Type 0
+abbrev pub ReadsLines : {a : Type 0} → Options → RunState → Option (List ℕ) → Option (List ℕ)
+    → Exchanges → Option (List ℕ) → Result a RunFault → Type 0
 ReadsLines options start left left' asked written (Ok done) =
-    (input : List ℕ) × Consumes left left' input × IsAtEnd left' × ((world : World) × ServedInOrder options start (requests (lines input)) (record { world = world; asked = asked; written = written }))
+    (input : List ℕ) × Consumes left left' input × IsAtEnd left'
+    × ((world : World) × ServedInOrder options start (requests (lines input))
+    (record { world = world; asked = asked; written = written }))
 ReadsLines options start left left' asked written (Err Reading) =
-    (read : List ℕ) × Consumes left left' read × ((world : World) × ServedInOrder options start (requests (ended_lines read)) (record { world = world; asked = asked; written = written }))
+    (read : List ℕ) × Consumes left left' read
+    × ((world : World) × ServedInOrder options start (requests (ended_lines read))
+    (record { world = world; asked = asked; written = written }))
 ReadsLines options start left left' asked written (Err Writing) =
-    (read past : List ℕ) × Consumes left left' (read ++ past) × (length past ≤ 4096) × EndsLine past left' × StopsAtLine options start read asked written
+    (read past : List ℕ) × Consumes left left' (read ++ past) × (length past ≤ 4096)
+    × EndsLine past left' × StopsAtLine options start read asked written
 ReadsLines options start left left' asked written (Err Memory) = ⊥
 ReadsLines options start left left' asked written (Err (Exe why)) = ⊥
 
 -- ---- the start
 
 -- the run has started: the source was asked for the object of the command line, if there is one
-pub record HasStarted (exe : Option (List ℕ)) (asked asked' : Exchanges) (world : World) : Type 0 where
+pub record HasStarted (exe : Option (List ℕ)) (asked asked' : Exchanges)
+    (world : World) : Type 0 where
   pub first : List Outcome
   pub begun : started exe first ≡ Ok world
   pub one : length first ≡ length (option_to_list exe)
@@ -98,4 +123,6 @@ pub record HasStarted (exe : Option (List ℕ)) (asked asked' : Exchanges) (worl
 -- it stopped at one of these requests
 abbrev pub StopsAmong : Options → RunState → Requests → Exchanges → Option (List ℕ) → Type 0
 StopsAmong options start requests asked written =
-    (before after : Requests) × (request : Result Request BadLine) × (requests ≡ before ++ request ∷ after) × StopsAtRequest options start before request asked written
+    (before after : Requests) × (request : Result Request BadLine)
+    × (requests ≡ before ++ request ∷ after)
+    × StopsAtRequest options start before request asked written

@@ -8,7 +8,8 @@ use Rattle.command_loop.specs.declared.serving.Done.{Done}
 use Rattle.command_loop.specs.declared.serving.Done.TheVariants as done
 use Rattle.command_loop.specs.Requests.{Request}
 use Rattle.command_loop.specs.Replies.{Outcome, Reply, step, question, met_name, answer_at}
-use Rattle.command_loop.specs.Replies.Reply.{Unreadable, NotFetched, Refused, LoadedAt, Unloaded, MovedTo, AllListed, Answered}
+use Rattle.command_loop.specs.Replies.Reply.{Unreadable, NotFetched, Refused, LoadedAt, Unloaded}
+use Rattle.command_loop.specs.Replies.Reply.{MovedTo, AllListed, Answered}
 use Rattle.command_loop.specs.Output.{Exchanges, Asked}
 
 -- the reply that is printed for it
@@ -28,7 +29,8 @@ IsCurrent world (done.Asked found) = found ≡ asked world found.address
 IsCurrent world other = ⊤
 
 -- the request was served but for its reply
-pub record Performs (request : Result Request BadLine) (old new : World) (asked asked' : Exchanges) (result : Done) : Type 0 where
+pub record Performs (request : Result Request BadLine) (old new : World) (asked asked' : Exchanges)
+    (result : Done) : Type 0 where
   pub outcomes : List Outcome
   pub answered : Asked asked asked' (question request) outcomes
   pub steps : new ≡ (step old request outcomes).world

@@ -1,4 +1,5 @@
-use Rattle.std.proofs.Common.{◌≡◌, ℕ, suc, ◌+◌, ◌-◌, ◌<◌, ◌≤◌, ◌/◌, ◌%◌, List, [], ◌∷◌, ◌++◌, length, take, drop, set, sym, ◌∙◌, ap, append_assoc, arith}
+use Rattle.std.proofs.Common.{◌≡◌, ℕ, suc, ◌+◌, ◌-◌, ◌<◌, ◌≤◌, ◌/◌, ◌%◌, List, [], ◌∷◌, ◌++◌, length, take, drop, set, sym, ◌∙◌, ap}
+use Rattle.std.proofs.Common.{append_assoc, arith}
 use Rattle.std.specs.Prelude.{codes}
 use Rattle.std.specs.Char.{digit_char}
 use Rattle.std.proofs.lemmas.List.{drop-set, take-set-le, length-set, take-append-drop}
@@ -6,7 +7,8 @@ use Rattle.answer_text.specs.Numerals.{hex_digits, address_text}
 use Rattle.answer_text.proofs.numerals.address_text.Goals as goal
 
 -- one more digit in front of those that stand
-digit_before : (n at : ℕ) (text all : List ℕ) (digit : ℕ) → 2 < at → at ≤ length text → digit ≡ digit_char (n % 16) → hex_digits (at - 2) n ++ drop at text ≡ all →
+digit_before : (n at : ℕ) (text all : List ℕ) (digit : ℕ) → 2 < at → at ≤ length text → digit ≡ digit_char (n % 16)
+    → hex_digits (at - 2) n ++ drop at text ≡ all →
     hex_digits (at - 1 - 2) (n / 16) ++ drop (at - 1) (set text (at - 1) digit) ≡ all
 digit_before n at text all digit ge le is h =
     let there : at - 1 + 1 ≡ at = omega arith in
@@ -17,7 +19,8 @@ digit_before n at text all digit ge le is h =
     ∙ sym (append_assoc (hex_digits (at - 1 - 2) (n / 16)) (digit_char (n % 16) ∷ []) (drop at text))
     ∙ ap (λ (z : ℕ). hex_digits z n ++ drop at text) (sym less) ∙ h
 
-all_digits : (address left at : ℕ) (text : List ℕ) → at ≡ 2 → take 2 text ≡ codes "0x" → hex_digits (at - 2) left ++ drop at text ≡ hex_digits 16 address → text ≡ address_text address
+all_digits : (address left at : ℕ) (text : List ℕ) → at ≡ 2 → take 2 text ≡ codes "0x"
+    → hex_digits (at - 2) left ++ drop at text ≡ hex_digits 16 address → text ≡ address_text address
 unfolding address_text
 all_digits address left at text is prefix h =
     let rest : drop 2 text ≡ hex_digits 16 address = ap (λ (z : ℕ). hex_digits (z - 2) left ++ drop z text) (sym is) ∙ h in

@@ -8,5 +8,6 @@ use Rattle.answer_text.proofs.paths.put_base_name.Goals as goal
 
 pub returns-clause-bytes : goal.returns-clause-bytes
 returns-clause-bytes g c =
-    puts_as _ _ _ _ _ _ _ (ap (λ (z : List ℕ). known_text (Some z)) (c.base_name.ensures ∙ ap base_name c.last_part.ensures ∙ base_of_last c.args.path))
+    puts_as _ _ _ _ _ _ _ (ap (λ (z : List ℕ). known_text (Some z))
+    (c.base_name.ensures ∙ ap base_name c.last_part.ensures ∙ base_of_last c.args.path))
     c.put_known.ensures.bytes

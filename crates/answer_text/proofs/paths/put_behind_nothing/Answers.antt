@@ -6,7 +6,8 @@ use Rattle.answer_text.proofs.paths.put_behind_nothing.Goals as goal
 pub returns-in_err-put_slashed-clause-bytes : goal.returns-in_err-put_slashed-clause-bytes
 returns-in_err-put_slashed-clause-bytes g c =
     let p = err_from_is_err_and c.from_residual.result c.from_residual.ensures.1 in
-    rw (p.1) (cut_as _ _ _ _ _ (second_known c.args.path _ _ c.in-Some.ensures.steps) (cut_more _ _ _ _ _ c.in_err-put_slashed.ensures.bytes))
+    rw (p.1) (cut_as _ _ _ _ _ (second_known c.args.path _ _ c.in-Some.ensures.steps)
+    (cut_more _ _ _ _ _ c.in_err-put_slashed.ensures.bytes))
 
 pub returns-clause-bytes : goal.returns-clause-bytes
 returns-clause-bytes g c =

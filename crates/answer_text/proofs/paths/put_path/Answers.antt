@@ -8,7 +8,8 @@ pub returns-in_err-put_printable-clause-bytes : goal.returns-in_err-put_printabl
 returns-in_err-put_printable-clause-bytes g c =
     let p = err_from_is_err_and c.from_residual.result c.from_residual.ensures.1 in
     let some : c.in-Some.part.now ≢ [] = search rules in
-    rw (p.1) (cut_as _ _ _ _ _ (first_known c.args.path _ _ c.in-Some.ensures.steps some) (cut_more _ _ _ _ _ c.in_err-put_printable.ensures.bytes))
+    rw (p.1) (cut_as _ _ _ _ _ (first_known c.args.path _ _ c.in-Some.ensures.steps some)
+    (cut_more _ _ _ _ _ c.in_err-put_printable.ensures.bytes))
 
 pub returns-clause-bytes : goal.returns-clause-bytes
 returns-clause-bytes g c =

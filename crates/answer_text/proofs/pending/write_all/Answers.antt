@@ -16,7 +16,12 @@ returns-then-count-eq0-clause-bytes g c =
 
 pub loop-at-preserved : goal.loop-at-preserved
 loop-at-preserved g c = (
-  omega (arith, ap length (take_rest c.args.text.now c.loop-at.at), length-drop c.loop-at.at c.args.text.now, c.in_ok-count.ensures.bound),
+  omega (
+    arith,
+    ap length (take_rest c.args.text.now c.loop-at.at),
+    length-drop c.loop-at.at c.args.text.now,
+    c.in_ok-count.ensures.bound,
+  ),
   goes_on _ _ _ _ _ _ c.loop-at.invariant.1 c.in_ok-count.ensures.bytes,
   c.in_ok-count.ensures.failures ∙ took_some DeviceFault _ _ _ c.if-count-eq0.false ∙ c.loop-at.invariant.2,
 )

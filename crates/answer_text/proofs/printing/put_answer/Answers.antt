@@ -21,4 +21,5 @@ returns-clause-bytes g c =
     let a = c.args.answer.now in
     puts_first _ _ _ _ _ _ (heading_text o c.address.result) (heading_text o a.address) (frames_text o a.frames) _
     (ap (heading_text o) c.address.ensures) c.in_ok-put_heading.ensures.bytes
-    (puts_as _ _ _ _ (frames_text o c.frames.result) (frames_text o a.frames) _ (ap (frames_text o) c.frames.ensures) c.put_frames.ensures.bytes)
+    (puts_as _ _ _ _ (frames_text o c.frames.result) (frames_text o a.frames) _
+    (ap (frames_text o) c.frames.ensures) c.put_frames.ensures.bytes)

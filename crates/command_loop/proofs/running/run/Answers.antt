@@ -6,27 +6,60 @@ use Rattle.command_loop.proofs.running.run.Goals as goal
 
 pub returns-then-is_empty-clause-served : goal.returns-then-is_empty-clause-served
 returns-then-is_empty-clause-served g c =
-    let start : RunState = record { world = c.begin.new.modules.world; asked = g.O.Objects.asked c.begin.new.source; written = g.W.Sink.written c.args.writer.now } in
-    lines_served _ _ _ _ _ _ _ start _ _ (no_words _ _ _ c.deref-words.ensures.value c.is_empty.ensures c.if-is_empty.true) c.in-Ok-begin.ensures c.serve_input.ensures.reads
+    let start : RunState =
+    record {
+      world = c.begin.new.modules.world;
+      asked = g.O.Objects.asked c.begin.new.source;
+      written = g.W.Sink.written
+          c.args.writer.now;
+    } in
+    lines_served _ _ _ _ _ _ _ start _ _ (no_words _ _ _ c.deref-words.ensures.value c.is_empty.ensures c.if-is_empty.true)
+    c.in-Ok-begin.ensures c.serve_input.ensures.reads
 
 pub returns-then-is_empty-clause-reading : goal.returns-then-is_empty-clause-reading
 returns-then-is_empty-clause-reading g c =
-    let start : RunState = record { world = c.begin.new.modules.world; asked = g.O.Objects.asked c.begin.new.source; written = g.W.Sink.written c.args.writer.now } in
-    lines_reading _ _ _ _ _ _ _ start _ _ (no_words _ _ _ c.deref-words.ensures.value c.is_empty.ensures c.if-is_empty.true) c.in-Ok-begin.ensures c.serve_input.ensures.reads
+    let start : RunState =
+    record {
+      world = c.begin.new.modules.world;
+      asked = g.O.Objects.asked c.begin.new.source;
+      written = g.W.Sink.written
+          c.args.writer.now;
+    } in
+    lines_reading _ _ _ _ _ _ _ start _ _ (no_words _ _ _ c.deref-words.ensures.value c.is_empty.ensures c.if-is_empty.true)
+    c.in-Ok-begin.ensures c.serve_input.ensures.reads
 
 pub returns-then-is_empty-clause-writing : goal.returns-then-is_empty-clause-writing
 returns-then-is_empty-clause-writing g c =
-    let start : RunState = record { world = c.begin.new.modules.world; asked = g.O.Objects.asked c.begin.new.source; written = g.W.Sink.written c.args.writer.now } in
-    lines_writing _ _ _ _ _ _ _ start _ _ (no_words _ _ _ c.deref-words.ensures.value c.is_empty.ensures c.if-is_empty.true) c.in-Ok-begin.ensures c.serve_input.ensures.reads
+    let start : RunState =
+    record {
+      world = c.begin.new.modules.world;
+      asked = g.O.Objects.asked c.begin.new.source;
+      written = g.W.Sink.written
+          c.args.writer.now;
+    } in
+    lines_writing _ _ _ _ _ _ _ start _ _ (no_words _ _ _ c.deref-words.ensures.value c.is_empty.ensures c.if-is_empty.true)
+    c.in-Ok-begin.ensures c.serve_input.ensures.reads
 
 pub returns-then-is_err-clause-writing : goal.returns-then-is_err-clause-writing
 returns-then-is_err-clause-writing g c =
-    let start : RunState = record { world = c.begin.new.modules.world; asked = g.O.Objects.asked c.begin.new.source; written = g.W.Sink.written c.args.writer.now } in
+    let start : RunState =
+    record {
+      world = c.begin.new.modules.world;
+      asked = g.O.Objects.asked c.begin.new.source;
+      written = g.W.Sink.written
+          c.args.writer.now;
+    } in
     λ _. words_halted_at _ _ _ _ _ _ start _ _ _ c.deref-words.ensures.value c.is_empty.ensures c.if-is_empty.false c.in-Ok-begin.ensures
     (on_err_at _ (sym c.if-is_err.ensures.value) c.serve_words.ensures.halts)
 
 pub returns-clause-served : goal.returns-clause-served
 returns-clause-served g c =
-    let start : RunState = record { world = c.begin.new.modules.world; asked = g.O.Objects.asked c.begin.new.source; written = g.W.Sink.written c.args.writer.now } in
+    let start : RunState =
+    record {
+      world = c.begin.new.modules.world;
+      asked = g.O.Objects.asked c.begin.new.source;
+      written = g.W.Sink.written
+          c.args.writer.now;
+    } in
     words_served_at _ _ _ _ start _ _ _ _ c.deref-words.ensures.value c.is_empty.ensures c.if-is_empty.false c.in-Ok-begin.ensures
     (on_ok_at _ (sym c.if-is_err.ensures.value) c.serve_words.ensures.handled)

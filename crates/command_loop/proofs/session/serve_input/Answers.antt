@@ -1,5 +1,6 @@
 use Rattle.std.proofs.Common.{◌≤◌, ◌∙◌, sym, refl, length, take, length-take, arith}
-use Rattle.command_loop.proofs.RunLemmas.{failures_at_ok, on_err_at, on_ok_at, reads_nothing, reads_on, reads_and_breaks, reads_no_more, ends_well, ends_badly}
+use Rattle.command_loop.proofs.RunLemmas.{failures_at_ok, on_err_at, on_ok_at, reads_nothing, reads_on, reads_and_breaks, reads_no_more}
+use Rattle.command_loop.proofs.RunLemmas.{ends_well, ends_badly}
 use Rattle.command_loop.proofs.session.serve_input.Goals as goal
 
 pub pieces-init : goal.pieces-init
@@ -16,7 +17,8 @@ pieces-preserved g c = (
 
 pub returns-then-is_err-clause-reads : goal.returns-then-is_err-clause-reads
 returns-then-is_err-clause-reads g c =
-    let fits : length (take c.in-Ok.count c.read.new.buf) ≤ 4096 = omega (arith, length-take c.in-Ok.count c.read.new.buf, c.read.auto.buf, c.pieces.invariant.1) in
+    let fits : length (take c.in-Ok.count c.read.new.buf) ≤ 4096 =
+    omega (arith, length-take c.in-Ok.count c.read.new.buf, c.read.auto.buf, c.pieces.invariant.1) in
     reads_and_breaks _ _ _ _ _ _ _ _ _ _ c.pieces.invariant.0 c.in-Ok.ensures.bytes.0 fits
     (on_err_at _ (sym c.if-is_err.ensures.value) c.take_piece.ensures.breaks)
 

@@ -1,6 +1,6 @@
 use Rattle.std.proofs.Common.{◌≤◌, ◌∙◌, length, arith, refl}
 use Rattle.std.proofs.lemmas.Result.{err_from_is_err_and}
-use Rattle.command_loop.proofs.ProgressLemmas.{handled_none, word_next, word_halts, words_all}
+use Rattle.command_loop.proofs.ServedLemmas.{handled_none, word_next, word_halts, words_all}
 use Rattle.command_loop.proofs.words.serve_words.Goals as goal
 
 pub loop-word-init : goal.loop-word-init

@@ -1,4 +1,4 @@
-use Rattle.command_loop.proofs.ProgressLemmas.{continues_byte}
+use Rattle.command_loop.proofs.ReadLemmas.{continues_byte}
 use Rattle.command_loop.proofs.session.Session.take_byte.Goals as goal
 
 pub returns-then-byte-eq10-clause-breaks : goal.returns-then-byte-eq10-clause-breaks
