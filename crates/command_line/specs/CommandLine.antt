@@ -37,7 +37,9 @@ words_rule = record (new_rule (codes "words")) { value_names = 1; action = Some 
 
 -- the letters are a, f, i, p and s
 abbrev pub flags : App
-flags = with_rule (with_rule (with_rule (with_rule (with_rule (with_rule (new_app (codes "addr2line_live"))
+flags =
+    with_rule (with_rule (with_rule (with_rule (with_rule (with_rule
+    (new_app (codes "addr2line_live"))
     (flag_rule 97 (codes "addresses"))) (flag_rule 102 (codes "functions")))
     (flag_rule 105 (codes "inlines"))) (flag_rule 112 (codes "pretty-print")))
     (flag_rule 115 (codes "basenames"))) linkage_rule

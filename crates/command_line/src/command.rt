@@ -133,8 +133,8 @@ pub fn parse<'a>(alloc: Global, words: &'a [String]) -> Result<ArgMatches<'a>, E
         .try_get_matches_from(words)
 }
 
-/// The refusal of words in which only the size of the cache is bad: a sign, say, which the parser would
-/// take. It comes of a command that refuses all sizes.
+/// The refusal of words in which only the size of the cache is bad: it has a sign, say, which the
+/// parser would take. It comes of a command that refuses all sizes.
 pub fn refused_size<'a>(alloc: Global, words: &'a [String]) -> CliFault<'a>
     ensures { IsNoAddress result }
 {

@@ -2,7 +2,7 @@
 
 /// What the program is.
 pub const ABOUT: &str =
-    "Answers which function, file and line an address of a running program is, for as long as it runs.";
+    "Tells the function, file and line of addresses of a running program, for as long as it runs.";
 
 /// The commands that are read, with an example.
 pub const COMMANDS: &str = "\
@@ -12,8 +12,8 @@ Without ADDR, commands are read, one a line, and each is answered at once:
   move NAME BASE        put it at another base
   list                  tell what is loaded, and then end
   ADDR                  tell where a run-time address is: FILE:LINE
-BASE and ADDR are hexadecimal, with or without 0x. NAME has letters, digits, '_', '-' and '.'. What is
-refused is answered by a line that begins with refused, and changes nothing.
+BASE and ADDR are hexadecimal, with or without 0x. NAME has letters, digits, '_', '-' and '.'.
+What cannot be done is answered by a line that begins with refused, and changes nothing.
 
 Example:
   $ printf 'load app 0x400000 ./app\\n401136\\n' | addr2line_live -f -i

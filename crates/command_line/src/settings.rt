@@ -13,7 +13,8 @@ use std::alloc::{AllocError, Global};
 
 /// A copy of a text that may be given.
 fn owned(alloc: Global, text: Option<&str>) -> Result<Option<String>, AllocError>
-    ensures { IfOk result (λ copy. option_map string_bytes copy ≡ option_map (λ t. t.now) text.entry) }
+    ensures { IfOk result (λ copy.
+        option_map string_bytes copy ≡ option_map (λ t. t.now) text.entry) }
 {
     match text {
         None => Ok(None),
@@ -21,8 +22,8 @@ fn owned(alloc: Global, text: Option<&str>) -> Result<Option<String>, AllocError
     }
 }
 
-/// The options that the words of a command line give, the first word being the program's name. A text
-/// that is asked for by `--help` is told as a refusal, whose error says so.
+/// The options that the words of a command line give, the first word being the program's name. Help
+/// that is asked for is told as a refusal, whose error has the text.
 pub fn options<'a>(alloc: Global, arguments: &'a [String]) -> Result<Options, CliFault<'a>>
     ensures { MatchResult result (AreOptions (map string_bytes arguments.entry.now))
         (IsRefused (map string_bytes arguments.entry.now)) }
