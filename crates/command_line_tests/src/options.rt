@@ -76,7 +76,11 @@ fn letters_in_one_word(rt: HostRuntime) -> Result<(), Fail> {
 
 #[test]
 fn long_names(rt: HostRuntime) -> Result<(), Fail> {
-    let options = taken(&rt, rt.alloc(), &["--pretty-print", "--basenames", "--linkage"])?;
+    let options = taken(
+        &rt,
+        rt.alloc(),
+        &["--pretty-print", "--basenames", "--linkage"],
+    )?;
     assert!(rt; !options.addresses && !options.functions && !options.inlines);
     assert!(rt; options.pretty && options.basenames && options.linkage);
     Ok(())
@@ -104,7 +108,12 @@ fn sizes_of_the_cache(rt: HostRuntime) -> Result<(), Fail> {
 
 #[test]
 fn bad_sizes(rt: HostRuntime) -> Result<(), Fail> {
-    is_usage(&rt, rt.alloc(), &["--cache", "65537"], ErrorKind::ValueValidation)?;
+    is_usage(
+        &rt,
+        rt.alloc(),
+        &["--cache", "65537"],
+        ErrorKind::ValueValidation,
+    )?;
     is_usage(&rt, rt.alloc(), &["--cache", "+5"], ErrorKind::InvalidValue)?;
     Ok(())
 }
@@ -132,7 +141,17 @@ fn first_bad_address(rt: HostRuntime) -> Result<(), Fail> {
 
 #[test]
 fn usage_before_a_bad_address(rt: HostRuntime) -> Result<(), Fail> {
-    is_usage(&rt, rt.alloc(), &["zz", "--cache", "65537"], ErrorKind::ValueValidation)?;
-    is_usage(&rt, rt.alloc(), &["zz", "--cache", "+5"], ErrorKind::InvalidValue)?;
+    is_usage(
+        &rt,
+        rt.alloc(),
+        &["zz", "--cache", "65537"],
+        ErrorKind::ValueValidation,
+    )?;
+    is_usage(
+        &rt,
+        rt.alloc(),
+        &["zz", "--cache", "+5"],
+        ErrorKind::InvalidValue,
+    )?;
     Ok(())
 }
