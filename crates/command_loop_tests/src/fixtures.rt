@@ -65,3 +65,9 @@ pub fn loaded(
     compare(rt, &options(alloc, letters), alloc, &whole, &text);
     Ok(())
 }
+
+/// The same of two runs, of which one begins without a module and one with that object.
+pub fn refused(rt: &impl Abort, alloc: Global, input: &[u8], wanted: &[u8]) -> Result<(), Fail> {
+    fresh(rt, alloc, b"", input, wanted);
+    loaded(rt, alloc, b"", input, wanted)
+}

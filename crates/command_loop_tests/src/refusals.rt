@@ -53,10 +53,9 @@ fn lines_up_to_the_limit(rt: HostRuntime) -> Result<(), Fail> {
 
 #[test]
 fn abbreviations_cut_short(rt: HostRuntime) -> Result<(), Fail> {
-    loaded(
+    refused(
         &rt,
         rt.alloc(),
-        b"",
         b"load c 0 A1\n",
         b"refused object .debug_abbrev short at 0\n",
     )
@@ -64,10 +63,9 @@ fn abbreviations_cut_short(rt: HostRuntime) -> Result<(), Fail> {
 
 #[test]
 fn origins_in_a_circle(rt: HostRuntime) -> Result<(), Fail> {
-    loaded(
+    refused(
         &rt,
         rt.alloc(),
-        b"",
         b"load c 0 A2\n",
         b"refused object .debug_info origin-depth at 54\n",
     )
@@ -75,10 +73,9 @@ fn origins_in_a_circle(rt: HostRuntime) -> Result<(), Fail> {
 
 #[test]
 fn directories_without_a_format(rt: HostRuntime) -> Result<(), Fail> {
-    loaded(
+    refused(
         &rt,
         rt.alloc(),
-        b"",
         b"load c 0 A3\n",
         b"refused object .debug_line file-format at 0\n",
     )
@@ -97,10 +94,9 @@ fn objects_that_are_none(rt: HostRuntime) -> Result<(), Fail> {
 
 #[test]
 fn units_and_calls(rt: HostRuntime) -> Result<(), Fail> {
-    loaded(
+    refused(
         &rt,
         rt.alloc(),
-        b"",
         b"load c 0 A5\nload c 0 A6\n",
         b"refused object .debug_info version at 0\nrefused object .debug_info call-file at 54\n",
     )
@@ -108,10 +104,9 @@ fn units_and_calls(rt: HostRuntime) -> Result<(), Fail> {
 
 #[test]
 fn lines_and_references(rt: HostRuntime) -> Result<(), Fail> {
-    loaded(
+    refused(
         &rt,
         rt.alloc(),
-        b"",
         b"load c 0 A7\nload c 0 A8\n",
         b"refused object .debug_line short at 0\nrefused object .debug_info reference at 54\n",
     )
