@@ -100,7 +100,7 @@ fn act<'a, O: Objects>(
     }
 }
 
-/// ServesRequest a request: the source is asked, the modules change, and the reply is written and
+/// Serves a request: the source is asked, the modules change, and the reply is written and
 /// flushed.
 pub fn serve_request<W: Sink, O: Objects>(
     options: &Options,
@@ -114,27 +114,23 @@ pub fn serve_request<W: Sink, O: Objects>(
         (record {
           world = modules.old.world;
           asked = O.asked source.old;
-          written = W.written
-              writer.old;
+          written = W.written writer.old;
         })
         (record {
           world = modules.new.world;
           asked = O.asked source.new;
-          written = W.written
-              writer.new;
+          written = W.written writer.new;
         }))
         (λ _. FailsToReply options.now (parsed request.entry)
         (record {
           world = modules.old.world;
           asked = O.asked source.old;
-          written = W.written
-              writer.old;
+          written = W.written writer.old;
         })
         (record {
           world = modules.new.world;
           asked = O.asked source.new;
-          written = W.written
-              writer.new;
+          written = W.written writer.new;
         })) }
     ensures failures { W.failures writer.new ≡ failures_after (W.failures writer.old) result }
 {
@@ -143,7 +139,7 @@ pub fn serve_request<W: Sink, O: Objects>(
     writer.flush()
 }
 
-/// ServesRequest a line. One over the limit is None.
+/// Serves a line. One over the limit is None.
 pub fn serve<W: Sink, O: Objects>(
     options: &Options,
     line: Option<&[u8]>,
@@ -156,27 +152,23 @@ pub fn serve<W: Sink, O: Objects>(
         (record {
           world = modules.old.world;
           asked = O.asked source.old;
-          written = W.written
-              writer.old;
+          written = W.written writer.old;
         })
         (record {
           world = modules.new.world;
           asked = O.asked source.new;
-          written = W.written
-              writer.new;
+          written = W.written writer.new;
         }))
         (λ _. FailsToReply options.now (parse_kept (option_copied line.entry))
         (record {
           world = modules.old.world;
           asked = O.asked source.old;
-          written = W.written
-              writer.old;
+          written = W.written writer.old;
         })
         (record {
           world = modules.new.world;
           asked = O.asked source.new;
-          written = W.written
-              writer.new;
+          written = W.written writer.new;
         })) }
     ensures failures { W.failures writer.new ≡ failures_after (W.failures writer.old) result }
 {

@@ -18,7 +18,7 @@ pub struct Session {
 }
 
 impl Session {
-    /// ServesRequest the line that is ended here, if it has a byte.
+    /// Serves the line that is ended here, if it has a byte.
     fn end_line<W: Sink, O: Objects>(
         &mut self,
         options: &Options,
@@ -124,8 +124,7 @@ impl Session {
     }
 }
 
-/// ServesRequest the lines of a reader, one after the other. Each reply is written and flushed
-/// before more
+/// Serves the lines of a reader, one after the other. Each reply is written and flushed before more
 /// is read. Input is asked for in pieces of at most 4,096 bytes.
 pub fn serve_input<R: Feed, W: Sink, O: Objects>(
     options: &Options,
