@@ -29,11 +29,28 @@ for number in range(count):
 PY
 }
 
+# How many bytes a program answers to each of some addresses: all but the lines with which its answers begin
+# where addresses are asked for too.
+lengths() {
+    local addresses=$1
+    shift
+    "$@" -a < "$addresses" | python3 -c '
+import re, sys
+lengths = []
+for line in sys.stdin.buffer:
+    if re.fullmatch(rb"0x[0-9a-f]+:?\n", line):
+        lengths.append(0)
+    else:
+        lengths[-1] += len(line)
+print(*lengths, sep="\n")'
+}
+
 # One line: what was asked how, and what came of it.
 show() {
-    local what=$1
-    shift
-    printf '  %-44s %s\n' "$what" "$(out/ask "$@" || echo failed)"
+    local what=$1 how=$2 addresses=$3
+    shift 3
+    lengths "$addresses" "$@" > out/lengths
+    printf '  %-44s %s\n' "$what" "$(out/ask "$how" "$addresses" out/lengths "$@" || echo failed)"
 }
 
 measure() {

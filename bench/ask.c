@@ -1,10 +1,11 @@
 // Asks a program that answers addresses on its standard input, and says how fast it answers.
 //
-// ask batch|pingpong ADDRESSES COMMAND.. sends the lines of the file ADDRESSES. The first one is sent and
-// answered before the clock starts, so that what was loaded is loaded. A batch is sent as fast as it is
-// taken; in ping-pong the next address is sent when an answer has come. Answers end with a line, and come
-// in one piece each; whether they did is told by their bytes, which are the same in both ways.
+// ask batch|pingpong ADDRESSES LENGTHS COMMAND.. sends the lines of the file ADDRESSES. The file LENGTHS says
+// how many bytes each answer has, a line each. The first address is sent and answered before the clock
+// starts, so that what was loaded is loaded. A batch is sent as fast as it is taken; in ping-pong the next
+// address is sent when all bytes of an answer have come. It fails where no byte comes for ten seconds.
 #define _GNU_SOURCE
+#include <poll.h>
 #include <signal.h>
 #include <stdio.h>
 #include <stdlib.h>
@@ -50,15 +51,25 @@ static void send_all(const char *bytes, size_t count) {
     }
 }
 
-// Reads up to the end of an answer: 0 at the end of all answers.
-static int read_answer(void) {
+// Reads so many bytes of answers: 0 where fewer come.
+static int read_bytes(size_t wanted) {
     static char buffer[1 << 16];
-    for (;;) {
-        ssize_t count = read(from_program, buffer, sizeof buffer);
+    while (wanted) {
+        struct pollfd ready = {from_program, POLLIN, 0};
+        if (poll(&ready, 1, 10000) != 1) return 0;
+        ssize_t count = read(from_program, buffer, wanted < sizeof buffer ? wanted : sizeof buffer);
         if (count <= 0) return 0;
         answered += count;
-        if (buffer[count - 1] == '\n') return 1;
+        wanted -= count;
     }
+    return 1;
+}
+
+// The length of the next answer.
+static size_t next_length(FILE *lengths) {
+    size_t length;
+    if (fscanf(lengths, "%zu", &length) != 1) exit(1);
+    return length;
 }
 
 // How often a process has read and written.
@@ -74,40 +85,51 @@ static long calls_of(pid_t program) {
     return sum;
 }
 
+// Sends each address when the one before is answered; gives how many there were.
+static size_t ping_pong(char *line, char *end, FILE *lengths) {
+    size_t asked = 0;
+    for (; line < end; asked++) {
+        char *next = strchr(line, '\n') + 1;
+        send_all(line, next - line);
+        if (!read_bytes(next_length(lengths))) exit(1);
+        line = next;
+    }
+    return asked;
+}
+
+// Sends all addresses beside reading the answers; gives how many there were.
+static size_t batch(char *first, char *end, FILE *lengths) {
+    size_t asked = 0, wanted = 0;
+    for (char *line = first; line < end; line++)
+        if (*line == '\n') {
+            wanted += next_length(lengths);
+            asked++;
+        }
+    if (fork() == 0) {
+        send_all(first, end - first);
+        _exit(0);
+    }
+    close(to_program);
+    if (!read_bytes(wanted)) exit(1);
+    return asked;
+}
+
 int main(int argc, char **argv) {
-    if (argc < 4) return 2;
-    FILE *file = fopen(argv[2], "r");
-    if (!file) return 1;
+    if (argc < 5) return 2;
+    FILE *file = fopen(argv[2], "r"), *lengths = fopen(argv[3], "r");
+    if (!file || !lengths) return 1;
     static char text[1 << 26];
-    size_t size = fread(text, 1, sizeof text, file), asked = 0;
-    char *end = text + size, *rest = strchr(text, '\n') + 1;
+    char *end = text + fread(text, 1, sizeof text, file), *rest = strchr(text, '\n') + 1;
     double begun = now();
-    pid_t program = start(argv + 3);
+    pid_t program = start(argv + 4);
     send_all(text, rest - text);
-    if (!read_answer()) return 1;
+    if (!read_bytes(next_length(lengths))) return 1;
     double loaded = now();
     long calls = calls_of(program);
-    if (!strcmp(argv[1], "pingpong")) {
-        for (char *line = rest; line < end; asked++) {
-            char *next = strchr(line, '\n') + 1;
-            send_all(line, next - line);
-            if (!read_answer()) return 1;
-            line = next;
-        }
-        calls = calls_of(program) - calls;
-        close(to_program);
-    } else {
-        for (char *line = rest; line < end; line++) asked += *line == '\n';
-        if (fork() == 0) {
-            send_all(rest, end - rest);
-            _exit(0);
-        }
-        close(to_program);
-        while (read_answer()) {}
-        calls = 0;
-    }
+    int in_turn = !strcmp(argv[1], "pingpong");
+    size_t asked = (in_turn ? ping_pong : batch)(rest, end, lengths);
     double done = now();
-    while (read_answer()) {}
+    calls = in_turn ? calls_of(program) - calls : 0;
     printf("%.0f answers a second", asked / (done - loaded));
     if (calls) printf(", %.2f reads and writes an answer", (double)calls / asked);
     printf(", first answer after %.0f ms, %zu bytes\n", 1000 * (loaded - begun), answered);

@@ -60,3 +60,4 @@ $measure module out/objects/large
 out/load out/objects/large
 echo "memory for its whole load: $(peak $measure module out/objects/large) MB, plain C and C++ $(peak out/load out/objects/large) MB"
 $measure finds out/objects/large
+$measure asks out/objects/large

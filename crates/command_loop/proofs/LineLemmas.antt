@@ -1,5 +1,6 @@
--- Lines of input, a byte at a time.
-use Rattle.std.proofs.Common.{◌≡◌, ◌≢◌, ℕ, Bool, true, false, cond, List, [], ◌∷◌, ◌++◌, refl, sym, ◌∙◌, ap, subst, append_assoc}
+-- Lines of input, a stretch at a time.
+use Rattle.std.proofs.Common.{◌≡◌, ◌≢◌, ℕ, suc, ◌<◌, Bool, true, false, cond, List, [], ◌∷◌, ◌++◌, length, get_or, refl, sym, ◌∙◌, ap, subst}
+use Rattle.std.proofs.Common.{append_assoc, append-nil, arith}
 use Rattle.std.specs.Prelude.{filter}
 use Rattle.std.specs.List.{slice_split, onto_first, join_with_byte}
 use Rattle.std.proofs.lemmas.List.Splits.{join_with_byte-slice_split}
@@ -128,6 +129,23 @@ unfolding open_line
 open_at_byte xs b ne =
     ap the_last (split_grows is_line_feed xs b (ne_eqb b 10 ne)) ∙ last_of_push (all_but_last (stretches xs))
     (the_last (stretches xs) ++ b ∷ [])
+
+-- bytes without a line feed
+abbrev pub HasNoFeed : List ℕ → Type 0
+HasNoFeed bytes = (k : ℕ) → k < length bytes → get_or bytes k 0 ≢ 10
+
+pub ended_at_bytes : (xs bytes : List ℕ) → HasNoFeed bytes → ended_lines (xs ++ bytes) ≡ ended_lines xs
+ended_at_bytes xs [] none = ap ended_lines (append-nil xs)
+ended_at_bytes xs (b ∷ bytes) none =
+    ap ended_lines (sym (append_assoc xs (b ∷ []) bytes))
+    ∙ ended_at_bytes (xs ++ b ∷ []) bytes (λ k lt. none (suc k) (omega (arith, lt))) ∙ ended_at_byte xs b (none 0 (omega arith))
+
+pub open_at_bytes : (xs bytes : List ℕ) → HasNoFeed bytes → open_line (xs ++ bytes) ≡ open_line xs ++ bytes
+open_at_bytes xs [] none = ap open_line (append-nil xs) ∙ sym (append-nil (open_line xs))
+open_at_bytes xs (b ∷ bytes) none =
+    ap open_line (sym (append_assoc xs (b ∷ []) bytes))
+    ∙ open_at_bytes (xs ++ b ∷ []) bytes (λ k lt. none (suc k) (omega (arith, lt)))
+    ∙ ap (λ (z : List ℕ). z ++ bytes) (open_at_byte xs b (none 0 (omega arith))) ∙ append_assoc (open_line xs) (b ∷ []) bytes
 
 -- what was read ends with the open line
 pub ends_open : (xs : List ℕ) → (front : List ℕ) × (xs ≡ front ++ open_line xs)

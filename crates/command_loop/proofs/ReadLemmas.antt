@@ -3,9 +3,11 @@ use Rattle.std.proofs.Common.{◌≡◌, ◌≢◌, ℕ, ◌+◌, ◌<◌, ◌�
 use Rattle.std.proofs.Common.{take, drop, get_or, take-append-drop, drop-cons, refl, sym, ◌∙◌, ap, subst, append_assoc}
 use Rattle.std.proofs.Common.{append-nil, length-append, arith}
 use Rattle.std.specs.Prelude.{filter, Option, None, Some, Result}
-use Rattle.std.proofs.lemmas.Bool.{ltb-true, lt-ltb}
+use Rattle.std.proofs.lemmas.Bool.{ltb-true, lt-ltb, eqb-true}
+use Rattle.std.proofs.lemmas.List.{get_or-take}
 use Rattle.answer_text.specs.declared.options.Options.{Options}
-use Rattle.command_loop.proofs.LineLemmas.{lines_are, ended_at_feed, open_at_feed, ended_at_byte, open_at_byte, ends_open}
+use Rattle.command_loop.proofs.LineLemmas.{lines_are, ended_at_feed, open_at_feed, ended_at_bytes, open_at_bytes, ends_open, HasNoFeed}
+use Rattle.memchr.specs.Find.{IsFirstByte, is_byte}
 use Rattle.command_loop.specs.declared.commands.BadLine.{BadLine}
 use Rattle.command_loop.specs.Lines.{has_bytes, lines, ended_lines, open_line, within_limit, longer}
 use Rattle.command_loop.specs.Requests.{Request, requests, parse, parse_kept}
@@ -45,26 +47,26 @@ parsed_kept line = at (nat_lt 4096 (length line)) line refl
     at true line h = rw h refl
     at false line h = refl
 
-longer_kept : (line : List ℕ) (byte : ℕ) → longer (within_limit line) byte ≡ within_limit (line ++ byte ∷ [])
-longer_kept line byte = at (nat_lt 4096 (length line)) line byte refl
+longer_kept : (line bytes : List ℕ) → longer (within_limit line) bytes ≡ within_limit (line ++ bytes)
+longer_kept line bytes = at (nat_lt 4096 (length line)) line bytes refl
   where
-    at : (v : Bool) (line : List ℕ) (byte : ℕ) → nat_lt 4096 (length line) ≡ v
-        → longer (cond v None (Some line)) byte ≡ within_limit (line ++ byte ∷ [])
-    at true line byte h =
+    at : (v : Bool) (line bytes : List ℕ) → nat_lt 4096 (length line) ≡ v
+        → longer (cond v None (Some line)) bytes ≡ within_limit (line ++ bytes)
+    at true line bytes h =
         let over : 4096 < length line = ltb-true 4096 (length line) h in
-        let more : nat_lt 4096 (length (line ++ byte ∷ [])) ≡ true =
-        lt-ltb 4096 (length (line ++ byte ∷ [])) (omega (arith, length-append line (byte ∷ []))) in
+        let more : nat_lt 4096 (length (line ++ bytes)) ≡ true =
+        lt-ltb 4096 (length (line ++ bytes)) (omega (arith, length-append line bytes)) in
         rw more refl
-    at false line byte h = refl
+    at false line bytes h = refl
 
--- a byte that is no line feed
-pub continues_byte : (options : Options) (now : RunState) (held : Option (List ℕ)) (byte : ℕ) → byte ≢ 10
-    → ReadsOn options (byte ∷ []) now held now (longer held byte)
-continues_byte options now held byte ne start read r =
-    further options start now now read (byte ∷ []) held (longer held byte) [] r
-    (ended_at_byte read byte ne ∙ sym (append-nil (ended_lines read)))
-    (ap (λ (z : Option (List ℕ)). longer z byte) r.holds ∙ longer_kept (open_line read) byte ∙ ap within_limit
-    (sym (open_at_byte read byte ne)))
+-- bytes without a line feed
+pub continues_bytes : (options : Options) (now : RunState) (held : Option (List ℕ)) (bytes : List ℕ) → HasNoFeed bytes
+    → ReadsOn options bytes now held now (longer held bytes)
+continues_bytes options now held bytes none start read r =
+    further options start now now read bytes held (longer held bytes) [] r
+    (ended_at_bytes read bytes none ∙ sym (append-nil (ended_lines read)))
+    (ap (λ (z : Option (List ℕ)). longer z bytes) r.holds ∙ longer_kept (open_line read) bytes ∙ ap within_limit
+    (sym (open_at_bytes read bytes none)))
     (handled_none options now now refl refl refl)
 
 -- the end of a line of no byte
@@ -131,29 +133,92 @@ breaks_before options a ha asked written xs ys k start read r =
     let w = k start read r in
     (w.0, w.1 ++ ys, ap (λ (z : List ℕ). z ++ ys) w.2 ∙ append_assoc w.0 w.1 ys, (w.3.0 ++ ys, ap (λ (z : List ℕ). z ++ ys) w.3.1), w.4)
 
--- a break at one byte of a piece
-pub breaks_in : (options : Options) (a b : RunState) (ha hb : Option (List ℕ)) (asked : Exchanges) (written : Option (List ℕ))
-    (piece : List ℕ) (i : ℕ) → i < length piece →
-    ReadsOn options (take i piece) a ha b hb → StopsWithin options (get_or piece i 0 ∷ []) b hb asked written
-    → StopsWithin options piece a ha asked written
-breaks_in options a b ha hb asked written piece i lt h k =
-    let byte : List ℕ = get_or piece i 0 ∷ [] in
-    let cut : (take i piece ++ byte) ++ drop (suc i) piece ≡ piece =
-    append_assoc (take i piece) byte (drop (suc i) piece) ∙ ap (λ (z : List ℕ). take i piece ++ z)
-    (sym (drop-cons piece i 0 lt)) ∙ take-append-drop i piece in
-    let P : List ℕ → Type 0 = λ z. StopsWithin options z a ha asked written in
-    subst P cut (breaks_before options a ha asked written (take i piece ++ byte) (drop (suc i) piece)
-    (breaks_then options a b ha hb asked written (take i piece) byte h k))
-
-pub continues_in : (options : Options) (a b c : RunState) (ha hb hc : Option (List ℕ)) (piece : List ℕ) (i : ℕ) → i < length piece →
-    ReadsOn options (take i piece) a ha b hb → ReadsOn options (get_or piece i 0 ∷ []) b hb c hc
-    → ReadsOn options (take (i + 1) piece) a ha c hc
-continues_in options a b c ha hb hc piece i lt h k start read r =
+-- more input, behind some
+pub continues_then : (options : Options) (a b c : RunState) (ha hb hc : Option (List ℕ)) (xs ys : List ℕ) →
+    ReadsOn options xs a ha b hb → ReadsOn options ys b hb c hc → ReadsOn options (xs ++ ys) a ha c hc
+continues_then options a b c ha hb hc xs ys h k start read r =
     let P : List ℕ → Type 0 = λ z. ReadSoFar options start z c hc in
-    subst P (append_assoc read (take i piece) (get_or piece i 0 ∷ []) ∙ ap (λ (z : List ℕ). read ++ z) (take_next piece i 0 lt))
-    (k start (read ++ take i piece) (h start read r))
+    subst P (append_assoc read xs ys) (k start (read ++ xs) (h start read r))
 
-pub continues_all : (options : Options) (a b : RunState) (ha hb : Option (List ℕ)) (piece : List ℕ) (i : ℕ) → length piece ≤ i
-    → ReadsOn options (take i piece) a ha b hb → ReadsOn options piece a ha b hb
-continues_all options a b ha hb piece i past h start read r =
-    let P : List ℕ → Type 0 = λ z. ReadSoFar options start (read ++ z) b hb in subst P (take_past i piece past) (h start read r)
+-- a piece as far as its lines were served, and what is left of it
+pub record ServedTo (options : Options) (piece rest : List ℕ) (a : RunState) (ha : Option (List ℕ)) (b : RunState)
+    (hb : Option (List ℕ)) : Type 0 where
+  pub front : List ℕ
+  pub cut : piece ≡ front ++ rest
+  pub reads : ReadsOn options front a ha b hb
+
+pub served_none : (options : Options) (piece : List ℕ) (a : RunState) (ha : Option (List ℕ)) → ServedTo options piece piece a ha a ha
+served_none options piece a ha = record {
+  front = [];
+  cut = refl;
+  reads = λ start read r. let P : List ℕ → Type 0 = λ z. ReadSoFar options start z a ha in subst P (sym (append-nil read)) r;
+}
+
+-- the first line feed, as a search tells it
+pub no_feed : (bytes : List ℕ) (found : Option ℕ) → found ≡ None → IsFirstByte (is_byte 10) bytes found → HasNoFeed bytes
+no_feed bytes None is nowhere k lt e = nowhere k (omega arith) lt (rw e refl)
+no_feed bytes (Some end) is first = cc
+
+-- what stands before a line feed, and behind it
+pub record CutAtFeed (bytes : List ℕ) (end : ℕ) : Type 0 where
+  pub none : HasNoFeed (take end bytes)
+  pub cut : bytes ≡ take end bytes ++ 10 ∷ drop (end + 1) bytes
+
+pub cut_at_feed : (bytes : List ℕ) (found : Option ℕ) (end : ℕ) → found ≡ Some end → IsFirstByte (is_byte 10) bytes found
+    → CutAtFeed bytes end
+cut_at_feed bytes None end is nowhere = cc
+cut_at_feed bytes (Some place) end is first =
+    let there : place ≡ end = some_is place end is in
+    let P : ℕ → Type 0 = λ z. CutAtFeed bytes z in
+    subst P there (at_place bytes place first.0.high (eqb-true (get_or bytes place 0) 10 first.1) (λ k lt e.
+    first.0.before k (omega arith) lt (rw e refl)))
+  where
+    some_is : (a b : ℕ) → Some a ≡ Some b → a ≡ b
+    some_is a b e = cc
+
+    at_place : (bytes : List ℕ) (place : ℕ) → place < length bytes → get_or bytes place 0 ≡ 10
+        → ((k : ℕ) → k < place → get_or bytes k 0 ≢ 10) → CutAtFeed bytes place
+    at_place bytes place lt is none = record {
+      none = λ k below e.
+          let within : k < place = omega (arith, below, length-take place bytes) in
+          none k within (sym (get_or-take place bytes k 0 within) ∙ e);
+      cut = sym (take-append-drop place bytes) ∙ ap (λ (z : List ℕ). take place bytes ++ z)
+          (drop-cons bytes place 0 lt ∙ ap (λ (z : ℕ). z ∷ drop (suc place) bytes) is
+          ∙ ap (λ (n : ℕ). 10 ∷ drop n bytes) (omega arith));
+    }
+
+-- the lines of a piece, up to the next line feed
+pub serves_line : (options : Options) (piece rest : List ℕ) (end : ℕ) (a b c : RunState) (ha hb hc : Option (List ℕ)) →
+    CutAtFeed rest end → ServedTo options piece rest a ha b hb → ReadsOn options (10 ∷ []) b (longer hb (take end rest)) c hc
+    → ServedTo options piece (drop (end + 1) rest) a ha c hc
+serves_line options piece rest end a b c ha hb hc f s k =
+    let line : List ℕ = take end rest in
+    record {
+      front = s.front ++ (line ++ 10 ∷ []);
+      cut = s.cut ∙ ap (λ (z : List ℕ). s.front ++ z) (f.cut ∙ sym (append_assoc line (10 ∷ []) (drop (end + 1) rest)))
+          ∙ sym (append_assoc s.front (line ++ 10 ∷ []) (drop (end + 1) rest));
+      reads = continues_then options a b c ha hb hc s.front (line ++ 10 ∷ []) s.reads
+          (continues_then options b b c hb (longer hb line) hc line (10 ∷ []) (continues_bytes options b hb line f.none) k);
+    }
+
+-- a break at the next line feed
+pub breaks_at_line : (options : Options) (piece rest : List ℕ) (end : ℕ) (a b : RunState) (ha hb : Option (List ℕ))
+    (asked : Exchanges) (written : Option (List ℕ)) → CutAtFeed rest end → ServedTo options piece rest a ha b hb
+    → StopsWithin options (10 ∷ []) b (longer hb (take end rest)) asked written → StopsWithin options piece a ha asked written
+breaks_at_line options piece rest end a b ha hb asked written f s k =
+    let line : List ℕ = take end rest in
+    let past : List ℕ = drop (end + 1) rest in
+    let whole : (s.front ++ line) ++ (10 ∷ [] ++ past) ≡ piece =
+    append_assoc s.front line (10 ∷ past) ∙ sym (s.cut ∙ ap (λ (z : List ℕ). s.front ++ z) f.cut) in
+    let P : List ℕ → Type 0 = λ z. StopsWithin options z a ha asked written in
+    subst P whole (breaks_then options a b ha (longer hb line) asked written (s.front ++ line) (10 ∷ [] ++ past)
+    (continues_then options a b b ha hb (longer hb line) s.front line s.reads (continues_bytes options b hb line f.none))
+    (breaks_before options b (longer hb line) asked written (10 ∷ []) past k))
+
+-- the rest of a piece, without a line feed
+pub serves_rest : (options : Options) (piece rest : List ℕ) (a b : RunState) (ha hb : Option (List ℕ)) → HasNoFeed rest
+    → ServedTo options piece rest a ha b hb → ReadsOn options piece a ha b (longer hb rest)
+serves_rest options piece rest a b ha hb none s =
+    let P : List ℕ → Type 0 = λ z. ReadsOn options z a ha b (longer hb rest) in
+    subst P (sym s.cut) (continues_then options a b b ha hb (longer hb rest) s.front rest s.reads
+    (continues_bytes options b hb rest none))

@@ -1,5 +1,4 @@
-//! The command loop: lines of input and words of a command line as requests, what each of them
-//! does
+//! The command loop: lines of input and words of a command line as requests, what each of them does
 //! to the loaded modules, and the replies to them.
 #![tactic(auto)]
 

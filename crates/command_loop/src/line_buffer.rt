@@ -37,10 +37,10 @@ impl LineBuffer {
         self.is_over = false;
     }
 
-    pub fn push(&mut self, byte: u8)
-        ensures { self.new ≡ longer self.old byte }
+    pub fn extend(&mut self, bytes: &[u8])
+        ensures { self.new ≡ longer self.old bytes.now }
     {
-        if !self.is_over && self.bytes.try_push(byte).is_err() {
+        if !self.is_over && self.bytes.try_extend_from_slice(bytes).is_err() {
             self.is_over = true;
         }
     }

@@ -1,5 +1,4 @@
-//! The program over its devices: the words of its command line, a run, the exit status, and what
-//! it
+//! The program over its devices: the words of its command line, a run, the exit status, and what it
 //! says on standard error.
 
 use crate::replies::{fetch_word, write_object_refusal, write_refusal};
@@ -18,8 +17,7 @@ fn write_message<E: Sink>(message: &str, errors: &mut E) -> Result<(), DeviceFau
     write_texts(&texts, errors)
 }
 
-/// Writes why the object of the command line is not loaded, as a reply would say it. With no
-/// module
+/// Writes why the object of the command line is not loaded, as a reply would say it. With no module
 /// loaded it meets none.
 fn write_exe_fault<E: Sink>(fault: ExeFault, errors: &mut E) -> Result<(), DeviceFault> {
     write_texts(&[NAME], errors)?;
@@ -64,8 +62,7 @@ fn refuse<E: Sink>(texts: &[&[u8]], errors: &mut E) -> u8 {
 }
 
 /// The help on standard output, and status 0; or what is wrong with the words on standard error,
-/// and
-/// status 2.
+/// and status 2.
 fn tell<W: Sink, E: Sink>(alloc: Global, error: &Error, writer: &mut W, errors: &mut E) -> u8 {
     let Ok(text) = format!(in alloc; "{error}") else {
         return refuse(&[NAME, b"no memory\n"], errors);
@@ -79,10 +76,8 @@ fn tell<W: Sink, E: Sink>(alloc: Global, error: &Error, writer: &mut W, errors: 
     }
 }
 
-/// Runs by the words of a command line, of which the first is the program's name. The answer is
-/// the
-/// exit status: 0 at the end of input or of the addresses among the words, or after help; 1 after
-/// a
+/// Runs by the words of a command line, of which the first is the program's name. The answer is the
+/// exit status: 0 at the end of input or of the addresses among the words, or after help; 1 after a
 /// fault of the run; 2 where the words are refused. Standard error tells why; a write that fails
 /// there is passed over.
 pub fn program<R: Feed, W: Sink, E: Sink, O: Objects>(

@@ -15,8 +15,7 @@ use answer_text::{Feed, Objects, Options, RunFault, Sink};
 use module_map::Modules;
 use std::alloc::Global;
 
-/// Loads the object of the command line, and then answers its words, or where there are none
-/// serves
+/// Loads the object of the command line, and then answers its words, or where there are none serves
 /// the lines of a reader. Each reply is written and flushed before the next request is looked at.
 pub fn run<R: Feed, W: Sink, O: Objects>(
     alloc: Global,

@@ -2,6 +2,7 @@
 
 ghost use Rattle.std.specs.Prelude.{◌≡◌, ℕ, List, [], ◌∷◌, Option, option_copied, MatchResult, Ok};
 ghost use Rattle.answer_text.specs.Devices.{failures_after, Writes};
+ghost use Rattle.command_loop.specs.Output.{Exchanges};
 ghost use Rattle.command_loop.specs.Private.Commands.{parsed};
 ghost use Rattle.command_loop.specs.Requests.{parse_kept};
 ghost use Rattle.command_loop.specs.Private.Progress.{RunState, ServesRequest, FailsToReply};
@@ -46,22 +47,20 @@ fn load<'a, O: Objects>(
     }
 }
 
-fn unload<'a, O: Objects>(name: &'a str, modules: &mut Modules, source: &O) -> Done<'a>
-    ensures { Performs (Ok (Unload name.entry.now)) modules.old.world modules.new.world
-        (O.asked source.now) (O.asked source.now) result }
+fn unload<'a>(name: &'a str, modules: &mut Modules) -> Done<'a>
+    ensures { (asked : Exchanges) → Performs (Ok (Unload name.entry.now)) modules.old.world
+        modules.new.world asked asked result }
 {
-    let _ = source;
     match modules.unload(name) {
         Err(fault) => Done::Refused(fault),
         Ok(()) => Done::Unloaded(name),
     }
 }
 
-fn move_to<'a, O: Objects>(name: &'a str, base: u64, modules: &mut Modules, source: &O) -> Done<'a>
-    ensures { Performs (Ok (Move name.entry.now base)) modules.old.world modules.new.world
-        (O.asked source.now) (O.asked source.now) result }
+fn move_to<'a>(name: &'a str, base: u64, modules: &mut Modules) -> Done<'a>
+    ensures { (asked : Exchanges) → Performs (Ok (Move name.entry.now base)) modules.old.world
+        modules.new.world asked asked result }
 {
-    let _ = source;
     match modules.move_to(name, base) {
         Err(fault) => Done::Refused(fault),
         Ok(extent) => Done::MovedTo(name, extent),
@@ -95,13 +94,12 @@ fn act<'a, O: Objects>(
         Command::Ask(address) => Done::Asked(modules.ask(address)),
         Command::List => Done::Listed,
         Command::Load(name, base, path) => load(name, base, path, modules, source),
-        Command::Unload(name) => unload(name, modules, source),
-        Command::Move(name, base) => move_to(name, base, modules, source),
+        Command::Unload(name) => unload(name, modules),
+        Command::Move(name, base) => move_to(name, base, modules),
     }
 }
 
-/// Serves a request: the source is asked, the modules change, and the reply is written and
-/// flushed.
+/// Serves a request: the source is asked, the modules change, and the reply is written and flushed.
 pub fn serve_request<W: Sink, O: Objects>(
     options: &Options,
     request: Result<Command<'_>, BadLine>,

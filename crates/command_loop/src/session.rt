@@ -8,6 +8,7 @@ ghost use Rattle.command_loop.specs.Private.Progress.{RunState, ReadsOn, StopsWi
 use crate::line_buffer::LineBuffer;
 use crate::serving::serve;
 use answer_text::{DeviceFault, Feed, Objects, Options, RunFault, Sink};
+use memchr::memchr;
 use module_map::Modules;
 
 /// The modules, and the line that is being read.
@@ -53,42 +54,6 @@ impl Session {
         Ok(())
     }
 
-    /// Takes one byte of input.
-    fn take_byte<W: Sink, O: Objects>(
-        &mut self,
-        options: &Options,
-        byte: u8,
-        writer: &mut W,
-        source: &mut O,
-    ) -> Result<(), DeviceFault>
-        ensures goes_on { OnOk result (ReadsOn options.now (byte ∷ [])
-            (record {
-              world = self.old.modules.world;
-              asked = O.asked source.old;
-              written = W.written writer.old;
-            }) self.old.line
-            (record {
-              world = self.new.modules.world;
-              asked = O.asked source.new;
-              written = W.written writer.new;
-            }) self.new.line) }
-        ensures breaks { OnErr result (StopsWithin options.now (byte ∷ [])
-            (record {
-              world = self.old.modules.world;
-              asked = O.asked source.old;
-              written = W.written writer.old;
-            }) self.old.line
-            (O.asked source.new) (W.written writer.new)) }
-        ensures failures { W.failures writer.new ≡ failures_after (W.failures writer.old) result }
-    {
-        if byte == b'\n' {
-            self.end_line(options, writer, source)
-        } else {
-            self.line.push(byte);
-            Ok(())
-        }
-    }
-
     /// Takes a piece of input, and serves each line that ends in it.
     fn take_piece<W: Sink, O: Objects>(
         &mut self,
@@ -117,9 +82,13 @@ impl Session {
             (O.asked source.new) (W.written writer.new)) }
         ensures failures { W.failures writer.new ≡ failures_after (W.failures writer.old) result }
     {
-        for byte in piece {
-            self.take_byte(options, *byte, writer, source)?;
+        let mut rest = piece;
+        'lines: while let Some(end) = memchr(b'\n', rest) {
+            self.line.extend(&rest[..end]);
+            self.end_line(options, writer, source)?;
+            rest = &rest[end + 1..];
         }
+        self.line.extend(rest);
         Ok(())
     }
 }

@@ -7,7 +7,8 @@ use Rattle.dwarf_bytes.specs.declared.form.ValueLayout.TheVariants as layouts
 use Rattle.dwarf_bytes.specs.declared.content.Content.{Content as Lent}
 use Rattle.dwarf_bytes.specs.declared.content.Content.TheVariants as lent
 use Rattle.dwarf_bytes.specs.Bind.{◌>>=◌}
-use Rattle.dwarf_bytes.specs.Numbers.{block_at, fixed_at, offset_len, offset_at, uleb_at, sleb_at, cstr_at, IsFixed, IsText, IsUleb, IsSleb}
+use Rattle.dwarf_bytes.specs.Numbers.{block_at, fixed_at, offset_len, offset_at, uleb_at, sleb_at}
+use Rattle.dwarf_bytes.specs.Numbers.{cstr_at, IsFixed, IsText, IsUleb, IsSleb}
 use Rattle.dwarf_bytes.specs.Forms.{byte_len}
 
 -- what a value is, wherever its bytes lie

@@ -1,7 +1,29 @@
 -- The forms of attributes (DWARF 5, 7.5.6, table 7.6).
 use Rattle.std.specs.Prelude.{ℕ, List, [], ◌∷◌, Option, nat_eq, find, option_map}
-use Rattle.dwarf_bytes.specs.declared.constants.TheConstants.{DW_FORM_ADDR, DW_FORM_BLOCK2, DW_FORM_BLOCK4, DW_FORM_DATA2, DW_FORM_DATA4, DW_FORM_DATA8, DW_FORM_STRING, DW_FORM_BLOCK, DW_FORM_BLOCK1, DW_FORM_DATA1, DW_FORM_FLAG, DW_FORM_SDATA, DW_FORM_STRP, DW_FORM_UDATA, DW_FORM_REF_ADDR, DW_FORM_REF1, DW_FORM_REF2, DW_FORM_REF4, DW_FORM_REF8, DW_FORM_REF_UDATA, DW_FORM_INDIRECT, DW_FORM_SEC_OFFSET, DW_FORM_EXPRLOC, DW_FORM_FLAG_PRESENT, DW_FORM_STRX, DW_FORM_ADDRX, DW_FORM_DATA16, DW_FORM_LINE_STRP, DW_FORM_REF_SIG8, DW_FORM_IMPLICIT_CONST, DW_FORM_LOCLISTX, DW_FORM_RNGLISTX, DW_FORM_STRX1, DW_FORM_STRX2, DW_FORM_STRX3, DW_FORM_STRX4, DW_FORM_ADDRX1, DW_FORM_ADDRX2, DW_FORM_ADDRX3, DW_FORM_ADDRX4}
-use Rattle.dwarf_bytes.specs.declared.form.ValueLayout.TheVariants.{Fixed, Offset, Present, Signed, Unsigned, Text, Sixteen, Block, LongBlock}
+use Rattle.dwarf_bytes.specs.declared.constants.TheConstants.{DW_FORM_ADDR, DW_FORM_BLOCK2}
+use Rattle.dwarf_bytes.specs.declared.constants.TheConstants.{DW_FORM_BLOCK4, DW_FORM_DATA2}
+use Rattle.dwarf_bytes.specs.declared.constants.TheConstants.{DW_FORM_DATA4, DW_FORM_DATA8}
+use Rattle.dwarf_bytes.specs.declared.constants.TheConstants.{DW_FORM_STRING, DW_FORM_BLOCK}
+use Rattle.dwarf_bytes.specs.declared.constants.TheConstants.{DW_FORM_BLOCK1, DW_FORM_DATA1}
+use Rattle.dwarf_bytes.specs.declared.constants.TheConstants.{DW_FORM_FLAG, DW_FORM_SDATA}
+use Rattle.dwarf_bytes.specs.declared.constants.TheConstants.{DW_FORM_STRP, DW_FORM_UDATA}
+use Rattle.dwarf_bytes.specs.declared.constants.TheConstants.{DW_FORM_REF_ADDR, DW_FORM_REF1}
+use Rattle.dwarf_bytes.specs.declared.constants.TheConstants.{DW_FORM_REF2, DW_FORM_REF4}
+use Rattle.dwarf_bytes.specs.declared.constants.TheConstants.{DW_FORM_REF8, DW_FORM_REF_UDATA}
+use Rattle.dwarf_bytes.specs.declared.constants.TheConstants.{DW_FORM_INDIRECT, DW_FORM_SEC_OFFSET}
+use Rattle.dwarf_bytes.specs.declared.constants.TheConstants.{DW_FORM_EXPRLOC, DW_FORM_FLAG_PRESENT}
+use Rattle.dwarf_bytes.specs.declared.constants.TheConstants.{DW_FORM_STRX, DW_FORM_ADDRX}
+use Rattle.dwarf_bytes.specs.declared.constants.TheConstants.{DW_FORM_DATA16, DW_FORM_LINE_STRP}
+use Rattle.dwarf_bytes.specs.declared.constants.TheConstants.{DW_FORM_REF_SIG8}
+use Rattle.dwarf_bytes.specs.declared.constants.TheConstants.{DW_FORM_IMPLICIT_CONST}
+use Rattle.dwarf_bytes.specs.declared.constants.TheConstants.{DW_FORM_LOCLISTX, DW_FORM_RNGLISTX}
+use Rattle.dwarf_bytes.specs.declared.constants.TheConstants.{DW_FORM_STRX1, DW_FORM_STRX2}
+use Rattle.dwarf_bytes.specs.declared.constants.TheConstants.{DW_FORM_STRX3, DW_FORM_STRX4}
+use Rattle.dwarf_bytes.specs.declared.constants.TheConstants.{DW_FORM_ADDRX1, DW_FORM_ADDRX2}
+use Rattle.dwarf_bytes.specs.declared.constants.TheConstants.{DW_FORM_ADDRX3, DW_FORM_ADDRX4}
+use Rattle.dwarf_bytes.specs.declared.form.ValueLayout.TheVariants.{Fixed, Offset, Present, Signed}
+use Rattle.dwarf_bytes.specs.declared.form.ValueLayout.TheVariants.{Unsigned, Text, Sixteen, Block}
+use Rattle.dwarf_bytes.specs.declared.form.ValueLayout.TheVariants.{LongBlock}
 use Rattle.dwarf_bytes.specs.declared.form.Width.{Width}
 use Rattle.dwarf_bytes.specs.declared.form.Width.TheVariants.{One, Two, Three, Four, Eight}
 use Rattle.dwarf_bytes.specs.declared.form.Form.{Form}

@@ -2,7 +2,9 @@
 
 ghost use Rattle.std.specs.Prelude.{◌≡◌, ◌≤◌, ◌<◌, ◌+◌, ◌↔◌, length, take, OnOk, OnErr, IsOk, IfOk};
 ghost use Rattle.dwarf_bytes.specs.Position.{Position, Reads};
-ghost use Rattle.dwarf_bytes.specs.Numbers.{block_at, u8_at, u16_at, u24_at, u32_at, u64_at, uleb_at, sleb_at, cstr_at, initial_length_at, offset_at};
+ghost use Rattle.dwarf_bytes.specs.Numbers.{block_at, u8_at, u16_at, u24_at, u32_at, u64_at};
+ghost use Rattle.dwarf_bytes.specs.Numbers.{uleb_at, sleb_at, cstr_at, initial_length_at};
+ghost use Rattle.dwarf_bytes.specs.Numbers.{offset_at};
 
 use crate::fault::ReadFault;
 use crate::format::Format;

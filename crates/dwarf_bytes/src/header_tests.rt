@@ -1,9 +1,11 @@
 //! Whether the header of a file is that of an object.
 
-ghost use Rattle.std.specs.Prelude.{◌≡◌, ◌≤◌, ◌<◌, ◌+◌, ◌*◌, ◌⊎◌, length, MatchResult, Some, None, IfOk, IsTrue, false};
+ghost use Rattle.std.specs.Prelude.{◌≡◌, ◌≤◌, ◌<◌, ◌+◌, ◌*◌, ◌⊎◌, length, MatchResult, Some, None};
+ghost use Rattle.std.specs.Prelude.{IfOk, IsTrue, false};
 ghost use Rattle.dwarf_bytes.specs.Faults.{first_failure};
 ghost use Rattle.dwarf_bytes.specs.Headers.{file_header};
-ghost use Rattle.dwarf_bytes.specs.Elf.{is_not_elf, is_other_class, is_other_type, is_bad_segment_table, is_bad_section_table, header_tests};
+ghost use Rattle.dwarf_bytes.specs.Elf.{is_not_elf, is_other_class, is_other_type};
+ghost use Rattle.dwarf_bytes.specs.Elf.{is_bad_segment_table, is_bad_section_table, header_tests};
 
 use crate::fault::Cause;
 use crate::fields::byte_at;

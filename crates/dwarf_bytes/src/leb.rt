@@ -1,6 +1,7 @@
 //! LEB128 numbers (DWARF 5, 7.6).
 
-ghost use Rattle.std.specs.Prelude.{slice_index, nat_le, ◌≡◌, ◌≤◌, ◌<◌, ◌*◌, ◌^◌, pos, ◌-ℤ◌, if◌then◌else◌, length, IfOk, MatchResult, Ok, Err};
+ghost use Rattle.std.specs.Prelude.{slice_index, nat_le, ◌≡◌, ◌≤◌, ◌<◌, ◌*◌, ◌^◌, pos, ◌-ℤ◌};
+ghost use Rattle.std.specs.Prelude.{if◌then◌else◌, length, IfOk, MatchResult, Ok, Err};
 ghost use Rattle.dwarf_bytes.specs.declared.fault.ReadFault.TheVariants.{Short};
 ghost use Rattle.dwarf_bytes.specs.Private.LebPrefixes.{IsLebPrefix, uleb_front, sleb_front};
 

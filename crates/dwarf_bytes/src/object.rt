@@ -1,9 +1,12 @@
 //! The tables of an ELF file.
 
-ghost use Rattle.std.specs.Prelude.{◌≡◌, ◌≤◌, ◌<◌, ◌+◌, ◌*◌, length, MatchResult, Some, None, false, Ok, Err};
+ghost use Rattle.std.specs.Prelude.{◌≡◌, ◌≤◌, ◌<◌, ◌+◌, ◌*◌, length, MatchResult, Some, None};
+ghost use Rattle.std.specs.Prelude.{false, Ok, Err};
 ghost use Rattle.dwarf_bytes.specs.Faults.{first_failure, item_fault, first_fault};
 ghost use Rattle.dwarf_bytes.specs.Headers.{file_header};
-ghost use Rattle.dwarf_bytes.specs.Elf.{is_bad_section_table, section_header, names, names_item, section_item, load_items, section_items, elf_fault, layout, low, high, AreInside};
+ghost use Rattle.dwarf_bytes.specs.Elf.{is_bad_section_table, section_header, names, names_item};
+ghost use Rattle.dwarf_bytes.specs.Elf.{section_item, load_items, section_items, elf_fault, layout};
+ghost use Rattle.dwarf_bytes.specs.Elf.{low, high, AreInside};
 ghost use Rattle.dwarf_bytes.specs.declared.fault.Section.TheVariants as sections;
 ghost use Rattle.dwarf_bytes.specs.Private.Extents.{extended};
 ghost use Rattle.dwarf_bytes.specs.Private.FoundSections.{layout_of, spans_before, wanted_tests};

@@ -1,6 +1,7 @@
 //! Texts, which run up to a NUL (DWARF 5, 7.5.5, class string).
 
-ghost use Rattle.std.specs.Prelude.{◌≡◌, ◌<◌, Ok, Err, IfSome, option_map, MatchResult, ◌==◌, position, length};
+ghost use Rattle.std.specs.Prelude.{◌≡◌, ◌<◌, Ok, Err, IfSome, option_map, MatchResult, ◌==◌};
+ghost use Rattle.std.specs.Prelude.{position, length};
 ghost use Rattle.dwarf_bytes.specs.Numbers.{text_front, text_at};
 
 use crate::fault::{ReadFault, Section};

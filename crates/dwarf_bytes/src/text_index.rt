@@ -1,7 +1,8 @@
 //! Where texts end (DWARF 5, 7.5.5). A text may be as long as its section, and every name may stand
 //! in it: so its end is found by way of an index.
 
-ghost use Rattle.std.specs.Prelude.{◌≡◌, ◌+◌, ◌==◌, IfOk, MatchResult, Ok, Err, take, drop, option_map, position, slice_get, unwrap_or, None};
+ghost use Rattle.std.specs.Prelude.{◌≡◌, ◌+◌, ◌==◌, IfOk, MatchResult, Ok, Err, take, drop};
+ghost use Rattle.std.specs.Prelude.{option_map, position, slice_get, unwrap_or, None};
 ghost use Rattle.dwarf_bytes.specs.Numbers.{text_at};
 ghost use Rattle.dwarf_bytes.specs.Private.Nuls.{nul_from, AreNuls};
 

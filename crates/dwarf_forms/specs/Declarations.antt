@@ -1,5 +1,6 @@
 -- Abbreviation declarations (DWARF 5, 7.5.3): what a table says, and how it is spelled.
-use Rattle.std.specs.Prelude.{◌≡◌, ◌≢◌, ℕ, ℤ, List, [], ◌∷◌, ◌++◌, Bool, Option, Some, None, IsSome, if◌then◌else◌, All, AllPairs}
+use Rattle.std.specs.Prelude.{◌≡◌, ◌≢◌, ℕ, ℤ, List, [], ◌∷◌, ◌++◌, Bool, Option, Some, None, IsSome}
+use Rattle.std.specs.Prelude.{if◌then◌else◌, All, AllPairs}
 use Rattle.dwarf_bytes.specs.declared.constants.TheConstants.{DW_FORM_IMPLICIT_CONST}
 use Rattle.dwarf_bytes.specs.Numbers.{IsUleb, IsSleb}
 use Rattle.dwarf_bytes.specs.Forms.{form_of}

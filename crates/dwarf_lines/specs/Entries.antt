@@ -1,7 +1,9 @@
 -- The entries of a line header's two tables (DWARF 5, 6.2.4 and 6.2.4.1).
-use Rattle.std.specs.Prelude.{ℕ, zero, suc, List, [], ◌∷◌, length, Bool, true, not, ◌&&◌, Result, Ok, Err, slice_index, nat_lt, ◌==◌, if◌then◌else◌}
+use Rattle.std.specs.Prelude.{ℕ, zero, suc, List, [], ◌∷◌, length, Bool, true, not, ◌&&◌, Result}
+use Rattle.std.specs.Prelude.{Ok, Err, slice_index, nat_lt, ◌==◌, if◌then◌else◌}
 use Rattle.std.specs.Option.{option_map_or}
-use Rattle.dwarf_bytes.specs.declared.constants.TheConstants.{DW_FORM_STRING, DW_FORM_STRP, DW_FORM_DATA1, DW_FORM_DATA2}
+use Rattle.dwarf_bytes.specs.declared.constants.TheConstants.{DW_FORM_STRING, DW_FORM_STRP}
+use Rattle.dwarf_bytes.specs.declared.constants.TheConstants.{DW_FORM_DATA1, DW_FORM_DATA2}
 use Rattle.dwarf_bytes.specs.Bind.{◌>>=◌}
 use Rattle.dwarf_bytes.specs.Items.{reading, refuse_if}
 use Rattle.dwarf_bytes.specs.Numbers.{u8_at, u16_at, uleb_at, cstr_at, text_at, offset_at}

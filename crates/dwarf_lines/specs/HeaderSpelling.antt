@@ -1,8 +1,12 @@
 -- How the header of a line program is spelled (DWARF 5, 6.2.4 and 6.2.4.1). What is spelled may depend on the place in
 -- the section at which the bytes stand.
-use Rattle.std.specs.Prelude.{◌≡◌, ◌≢◌, ℕ, suc, ◌+◌, ◌<◌, List, [], ◌∷◌, ◌++◌, length, true, false, Some, count_by}
-use Rattle.dwarf_bytes.specs.declared.constants.TheConstants.{DW_FORM_STRING, DW_FORM_STRP, DW_FORM_LINE_STRP, DW_FORM_DATA1, DW_FORM_DATA2, DW_FORM_UDATA}
-use Rattle.dwarf_bytes.specs.Numbers.{IsFixed, IsUleb, IsText, IsInitialLength, StandsAt, offset_len}
+use Rattle.std.specs.Prelude.{◌≡◌, ◌≢◌, ℕ, suc, ◌+◌, ◌<◌, List, [], ◌∷◌, ◌++◌, length, true, false}
+use Rattle.std.specs.Prelude.{Some, count_by}
+use Rattle.dwarf_bytes.specs.declared.constants.TheConstants.{DW_FORM_STRING, DW_FORM_STRP}
+use Rattle.dwarf_bytes.specs.declared.constants.TheConstants.{DW_FORM_LINE_STRP, DW_FORM_DATA1}
+use Rattle.dwarf_bytes.specs.declared.constants.TheConstants.{DW_FORM_DATA2, DW_FORM_UDATA}
+use Rattle.dwarf_bytes.specs.Numbers.{IsFixed, IsUleb, IsText, IsInitialLength, StandsAt}
+use Rattle.dwarf_bytes.specs.Numbers.{offset_len}
 use Rattle.dwarf_bytes.specs.Contents.{Content, SpellsContent}
 use Rattle.dwarf_bytes.specs.declared.format.Format.{Format}
 use Rattle.dwarf_bytes.specs.declared.form.ValueLayout.{ValueLayout}

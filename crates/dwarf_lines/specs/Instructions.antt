@@ -1,13 +1,25 @@
 -- The instructions of a line program (DWARF 5, 6.2.5): what the bytes at a place spell.
-use Rattle.std.specs.Prelude.{ℕ, zero, suc, ◌-◌, ℤ, List, [], ◌∷◌, length, drop, slice_index, Result, Ok, Err, Option, Some, None, nat_lt, nat_le, ◌==◌, if◌then◌else◌}
-use Rattle.dwarf_bytes.specs.declared.constants.TheConstants.{DW_LNS_COPY, DW_LNS_ADVANCE_PC, DW_LNS_ADVANCE_LINE, DW_LNS_SET_FILE, DW_LNS_CONST_ADD_PC, DW_LNS_FIXED_ADVANCE_PC, DW_LNE_END_SEQUENCE, DW_LNE_SET_ADDRESS}
+use Rattle.std.specs.Prelude.{ℕ, zero, suc, ◌-◌, ℤ, List, [], ◌∷◌, length, drop, slice_index}
+use Rattle.std.specs.Prelude.{Result, Ok, Err, Option, Some, None, nat_lt, nat_le, ◌==◌}
+use Rattle.std.specs.Prelude.{if◌then◌else◌}
+use Rattle.dwarf_bytes.specs.declared.constants.TheConstants.{DW_LNS_COPY, DW_LNS_ADVANCE_PC}
+use Rattle.dwarf_bytes.specs.declared.constants.TheConstants.{DW_LNS_ADVANCE_LINE, DW_LNS_SET_FILE}
+use Rattle.dwarf_bytes.specs.declared.constants.TheConstants.{DW_LNS_CONST_ADD_PC}
+use Rattle.dwarf_bytes.specs.declared.constants.TheConstants.{DW_LNS_FIXED_ADVANCE_PC}
+use Rattle.dwarf_bytes.specs.declared.constants.TheConstants.{DW_LNE_END_SEQUENCE}
+use Rattle.dwarf_bytes.specs.declared.constants.TheConstants.{DW_LNE_SET_ADDRESS}
 use Rattle.dwarf_bytes.specs.Bind.{◌>>=◌}
 use Rattle.dwarf_bytes.specs.Numbers.{block_at, u8_at, u16_at, uleb_at, sleb_at, little_endian}
 use Rattle.dwarf_bytes.specs.declared.fault.Cause.{Cause}
 use Rattle.dwarf_bytes.specs.declared.fault.Cause.TheVariants as causes
 use Rattle.dwarf_lines.specs.declared.line_encoding.LineEncoding.{LineEncoding}
 use Rattle.dwarf_lines.specs.declared.instruction.Instruction.{Instruction}
-use Rattle.dwarf_lines.specs.declared.instruction.Instruction.TheVariants.{Copy, AdvancePc, AdvanceLine, SetFile, ConstAddPc, FixedAdvancePc, SetAddress, EndSequence, Special, Skipped}
+use Rattle.dwarf_lines.specs.declared.instruction.Instruction.TheVariants.{Copy, AdvancePc}
+use Rattle.dwarf_lines.specs.declared.instruction.Instruction.TheVariants.{AdvanceLine, SetFile}
+use Rattle.dwarf_lines.specs.declared.instruction.Instruction.TheVariants.{ConstAddPc}
+use Rattle.dwarf_lines.specs.declared.instruction.Instruction.TheVariants.{FixedAdvancePc}
+use Rattle.dwarf_lines.specs.declared.instruction.Instruction.TheVariants.{SetAddress, EndSequence}
+use Rattle.dwarf_lines.specs.declared.instruction.Instruction.TheVariants.{Special, Skipped}
 use Rattle.dwarf_bytes.specs.Items.{reading}
 
 -- what a header says of the instructions (DWARF 5, 6.2.4)

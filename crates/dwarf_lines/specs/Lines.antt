@@ -1,5 +1,7 @@
 -- What callers see of the line programs of an object.
-use Rattle.std.specs.Prelude.{◌≡◌, ◌+◌, ◌≤◌, false, ℕ, suc, List, [], ◌∷◌, length, map, position, slice_get, Bool, not, ◌&&◌, nat_le, nat_lt, Result, Ok, Option, Some, None, ◌==◌, if◌then◌else◌}
+use Rattle.std.specs.Prelude.{◌≡◌, ◌+◌, ◌≤◌, false, ℕ, suc, List, [], ◌∷◌, length, map, position}
+use Rattle.std.specs.Prelude.{slice_get, Bool, not, ◌&&◌, nat_le, nat_lt, Result, Ok, Option, Some}
+use Rattle.std.specs.Prelude.{None, ◌==◌, if◌then◌else◌}
 use Rattle.std.specs.Option.{option_map, option_map_or, option_and_then}
 use Rattle.dwarf_bytes.specs.Bind.{◌>>=◌}
 use Rattle.dwarf_bytes.specs.Refusals.{in_section}

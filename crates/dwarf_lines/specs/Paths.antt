@@ -1,5 +1,6 @@
 -- The path of a file (DWARF 5, 6.2.4: directories and file_names).
-use Rattle.std.specs.Prelude.{ℕ, List, [], ◌∷◌, take, drop, map, filter, slice_get, ◌||◌, Option, nat_lt, ◌==◌, if◌then◌else◌}
+use Rattle.std.specs.Prelude.{ℕ, List, [], ◌∷◌, take, drop, map, filter, slice_get, ◌||◌, Option}
+use Rattle.std.specs.Prelude.{nat_lt, ◌==◌, if◌then◌else◌}
 use Rattle.std.specs.List.{join_with_byte}
 use Rattle.std.specs.Option.{option_map, option_and_then}
 use Rattle.dwarf_bytes.specs.declared.text.Text.{Text}

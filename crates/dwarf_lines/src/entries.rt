@@ -2,7 +2,8 @@
 
 ghost use Rattle.std.specs.Prelude.{◌≡◌, ◌==◌, slice_index, length};
 ghost use Rattle.dwarf_bytes.specs.Refusals.{ReadsField, ReadsPlace};
-ghost use Rattle.dwarf_lines.specs.Entries.{text_from, text_here, text_by_offset, path_at, index_at, after_value, no_entry, has_directory};
+ghost use Rattle.dwarf_lines.specs.Entries.{text_from, text_here, text_by_offset, path_at};
+ghost use Rattle.dwarf_lines.specs.Entries.{index_at, after_value, no_entry, has_directory};
 ghost use Rattle.dwarf_lines.specs.Private.Readers.{sections_of};
 
 use crate::formats::{EntryTable, layout_of};

@@ -3,7 +3,8 @@
 ghost use Rattle.std.specs.Prelude.{◌≡◌, ◌<◌, true};
 ghost use Rattle.dwarf_bytes.specs.Refusals.{ReadsField, ReadsItems};
 ghost use Rattle.dwarf_lines.specs.Formats.{is_format};
-ghost use Rattle.dwarf_lines.specs.Private.Readers.{field_by, fields_by, entry_by, entries_by, table_by};
+ghost use Rattle.dwarf_lines.specs.Private.Readers.{field_by, fields_by, entry_by, entries_by};
+ghost use Rattle.dwarf_lines.specs.Private.Readers.{table_by};
 
 use crate::entries::{Entry, IndexedSections, directory_index, pass_over, path};
 use crate::formats::{EntryTable, Field, fields_with_bytes, format};

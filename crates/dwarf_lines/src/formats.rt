@@ -4,7 +4,8 @@ ghost use Rattle.std.specs.Prelude.{◌≡◌, count_by, filter};
 ghost use Rattle.std.specs.List.{list_all};
 ghost use Rattle.dwarf_bytes.specs.Refusals.{ReadsField, ReadsItems};
 ghost use Rattle.dwarf_lines.specs.Entries.{format_at, repeated_at};
-ghost use Rattle.dwarf_lines.specs.Formats.{is_path, is_index, is_text_form, is_index_form, layout_of, has_good_form, is_format};
+ghost use Rattle.dwarf_lines.specs.Formats.{is_path, is_index, is_text_form, is_index_form};
+ghost use Rattle.dwarf_lines.specs.Formats.{layout_of, has_good_form, is_format};
 ghost use Rattle.dwarf_lines.specs.Private.Readers.{has_bytes};
 
 use dwarf_bytes::constants::{

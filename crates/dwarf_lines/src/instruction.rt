@@ -1,7 +1,9 @@
 //! The instructions of a line program.
 
-ghost use Rattle.std.specs.Prelude.{◌≡◌, ◌≤◌, ◌<◌, ◌+◌, ◌*◌, ◌-◌, ◌^◌, ◌==◌, ℕ, length, MatchResult, IfOk, unsigned_abs};
-ghost use Rattle.dwarf_lines.specs.Instructions.{encoding, extended_of, extended_at, standard_at, after_ulebs, instruction_at};
+ghost use Rattle.std.specs.Prelude.{◌≡◌, ◌≤◌, ◌<◌, ◌+◌, ◌*◌, ◌-◌, ◌^◌, ◌==◌, ℕ, length};
+ghost use Rattle.std.specs.Prelude.{MatchResult, IfOk, unsigned_abs};
+ghost use Rattle.dwarf_lines.specs.Instructions.{encoding, extended_of, extended_at, standard_at};
+ghost use Rattle.dwarf_lines.specs.Instructions.{after_ulebs, instruction_at};
 ghost use Rattle.dwarf_bytes.specs.Refusals.{ReadsField, ReadsPlace};
 ghost use Rattle.dwarf_lines.specs.Private.Registers.{line_reach};
 

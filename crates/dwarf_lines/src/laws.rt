@@ -1,6 +1,7 @@
 //! What is true of all line programs.
 
-ghost use Rattle.std.specs.Prelude.{◌≡◌, ◌<◌, ◌≤◌, ◌↔◌, ℕ, List, [], length, drop, map, Ok, None, true};
+ghost use Rattle.std.specs.Prelude.{◌≡◌, ◌<◌, ◌≤◌, ◌↔◌, ℕ, List, [], length, drop, map, Ok, None};
+ghost use Rattle.std.specs.Prelude.{true};
 ghost use Rattle.std.specs.List.Sorted.{IsStrictlyIncreasing, IsNonDecreasingBy};
 ghost use Rattle.dwarf_bytes.specs.Numbers.{StandsAt};
 ghost use Rattle.dwarf_bytes.specs.declared.format.Format.{Format};
@@ -15,7 +16,8 @@ ghost use Rattle.dwarf_lines.specs.declared.entries.Entry.{Entry};
 ghost use Rattle.dwarf_lines.specs.Formats.{is_format};
 ghost use Rattle.dwarf_lines.specs.Headers.{LineHeader, encoding_at, header_at};
 ghost use Rattle.dwarf_lines.specs.Entries.{repeated_at, format_at, entry_at, table_at};
-ghost use Rattle.dwarf_lines.specs.HeaderSpelling.{SpellsEach, SpellsField, SpellsEntry, SpellsTable, SpellsEncoding, SpellsHeader};
+ghost use Rattle.dwarf_lines.specs.HeaderSpelling.{SpellsEach, SpellsField, SpellsEntry};
+ghost use Rattle.dwarf_lines.specs.HeaderSpelling.{SpellsTable, SpellsEncoding, SpellsHeader};
 ghost use Rattle.dwarf_lines.specs.Matrix.{rows_from};
 ghost use Rattle.dwarf_lines.specs.Machine.{at_start, rows_by};
 ghost use Rattle.dwarf_lines.specs.Sections.{LineSections};

@@ -5,7 +5,7 @@ use anyhow::Result;
 use std::time::Instant;
 
 /// How many addresses are asked.
-const ASKED: u64 = 1_000_000;
+pub const ASKED: u64 = 1_000_000;
 
 /// A step that spreads the addresses: the golden ratio of 2^64.
 const STEP: u64 = 0x9e37_79b9_7f4a_7c15;
@@ -46,17 +46,16 @@ pub fn measure_finds(rt: &HostRuntime, module: &Module) -> Result<()> {
     Ok(())
 }
 
-/// The n-th of addresses that lie all over the object, in no order.
-fn spread(module: &Module, n: u64) -> u64 {
-    let low = module.low();
-    let size = module.high().wrapping_sub(low).max(1);
+/// The n-th of addresses that lie all over the ones from low up to high, in no order.
+pub fn spread(low: u64, high: u64, n: u64) -> u64 {
+    let size = high.wrapping_sub(low).max(1);
     low.wrapping_add(n.wrapping_mul(STEP) % size)
 }
 
 fn find_all(module: &Module, steps: &mut Steps) -> u64 {
     let mut places = 0u64;
     for n in 0..ASKED {
-        if module.find(spread(module, n), steps).is_some() {
+        if module.find(spread(module.low(), module.high(), n), steps).is_some() {
             places = places.wrapping_add(1);
         }
     }
@@ -70,7 +69,7 @@ fn tell_all(module: &Module, steps: &mut Steps) -> Seen {
         bytes: 0,
     };
     for n in 0..ASKED {
-        if let Some(place) = module.find(spread(module, n), steps) {
+        if let Some(place) = module.find(spread(module.low(), module.high(), n), steps) {
             seen.places = seen.places.wrapping_add(1);
             for frame in module.frames(place) {
                 seen.frames = seen.frames.wrapping_add(1);

@@ -9,10 +9,12 @@
 //! `measure files OBJECT` prints the files that they are called from,
 //! `measure module OBJECT` decodes it whole, from its tables to the index of its addresses,
 //! `measure finds OBJECT` then finds a million addresses, and tells their frames,
+//! `measure asks OBJECT` loads it, and asks a million addresses that are cached, and that are not,
 //! `measure frames OBJECT` prints the frames of addresses spread over it, and
 //! `measure dump OBJECT` prints its rows, and then these.
 #![tactic(auto)]
 
+mod asks;
 mod entries;
 mod finds;
 mod frames;
@@ -42,6 +44,7 @@ fn main(rt: HostRuntime) -> Result<()> {
         "files" => lines::print_files(&rt, &bytes),
         "module" => measure_module(&rt, bytes),
         "finds" => finds::measure_finds(&rt, &decoded(&rt, bytes)?),
+        "asks" => asks::measure_asks(&rt, bytes),
         "frames" => frames::print_frames(&rt, &decoded(&rt, bytes)?),
         "dump" => {
             lines::print_rows(&rt, &bytes)?;
@@ -54,9 +57,9 @@ fn main(rt: HostRuntime) -> Result<()> {
 fn print_usage(rt: &HostRuntime) -> Result<()> {
     println!(rt; "usage: measure COMMAND FILE, where COMMAND is")?;
     println!(rt;
-        "leb, lines, rows, files, declarations, values, scopes, scope-table, module, finds, frames",
+        "leb, lines, rows, files, declarations, values, scopes, scope-table, module, finds, asks,",
     )?;
-    println!(rt; "or dump")?;
+    println!(rt; "frames or dump")?;
     Ok(())
 }
 

@@ -1,5 +1,6 @@
 -- What the program's frames and paths tell.
-use Rattle.std.specs.Prelude.{ℕ, List, [], ◌∷◌, ◌++◌, map, drop, reverse, Bool, true, false, Option, None, option_map, unwrap_or, slice_get}
+use Rattle.std.specs.Prelude.{ℕ, List, [], ◌∷◌, ◌++◌, map, drop, reverse, Bool, true, false, Option}
+use Rattle.std.specs.Prelude.{None, option_map, unwrap_or, slice_get}
 use Rattle.std.specs.Option.{option_and_then}
 use Rattle.dwarf_bytes.specs.declared.text.Text.{Text}
 use Rattle.dwarf_lines.specs.Sections.{LineSections}
@@ -8,7 +9,8 @@ use Rattle.dwarf_lines.specs.Paths.{part_bytes}
 use Rattle.dwarf_entries.specs.Scopes.{Scope}
 use Rattle.addr_table.specs.declared.texts.FrameSite.{FrameSite}
 use Rattle.addr_table.specs.declared.texts.FrameSite.TheVariants.{Row, Call}
-use Rattle.addr_table.specs.Frames.{Frame, Site, nowhere, frame_at, row_site, call_site, frames_from}
+use Rattle.addr_table.specs.Frames.{Frame, Site, nowhere, frame_at, row_site, call_site}
+use Rattle.addr_table.specs.Frames.{frames_from}
 use Rattle.addr_table.specs.Private.Walks.{chain_around}
 
 -- the parts of a path that are left

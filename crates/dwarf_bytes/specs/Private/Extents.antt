@@ -1,5 +1,6 @@
 -- The addresses that load segments take, header by header, for the contracts of the steps.
-use Rattle.std.specs.Prelude.{ℕ, ◌+◌, ◌*◌, ◌-◌, ◌^◌, List, map, cond, Option, Some, None, Result, Ok, Err, min, max, nat_le}
+use Rattle.std.specs.Prelude.{ℕ, ◌+◌, ◌*◌, ◌-◌, ◌^◌, List, map, cond, Option, Some, None, Result}
+use Rattle.std.specs.Prelude.{Ok, Err, min, max, nat_le}
 use Rattle.std.specs.List.{range_with_len}
 use Rattle.dwarf_bytes.specs.declared.fault.LoadFault.{LoadFault}
 use Rattle.dwarf_bytes.specs.declared.fault.Section.TheVariants as sections

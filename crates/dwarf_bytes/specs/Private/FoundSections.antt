@@ -1,5 +1,6 @@
 -- The sections that are found, header by header, for the contracts of the steps.
-use Rattle.std.specs.Prelude.{◌≡◌, ℕ, zero, suc, Bool, true, false, List, [], ◌∷◌, find, map, get_or, Option, None, unwrap_or}
+use Rattle.std.specs.Prelude.{◌≡◌, ℕ, zero, suc, Bool, true, false, List, [], ◌∷◌, find, map}
+use Rattle.std.specs.Prelude.{get_or, Option, None, unwrap_or}
 use Rattle.std.specs.List.{range_with_len, list_any}
 use Rattle.std.specs.Option.{option_map}
 use Rattle.dwarf_bytes.specs.declared.fault.Section.{Section}

@@ -1,5 +1,6 @@
 -- Where texts end (DWARF 5, 7.5.5), for the contracts of the index by which the end of a text is found.
-use Rattle.std.specs.Prelude.{◌≡◌, ℕ, zero, suc, ◌+◌, ◌*◌, ◌≤◌, List, [], ◌∷◌, length, drop, Option, option_map, position, ◌==◌}
+use Rattle.std.specs.Prelude.{◌≡◌, ℕ, zero, suc, ◌+◌, ◌*◌, ◌≤◌, List, [], ◌∷◌, length, drop, Option}
+use Rattle.std.specs.Prelude.{option_map, position, ◌==◌}
 
 -- the first NUL from a place of a section on
 abbrev pub nul_from : List ℕ → ℕ → Option ℕ

@@ -1,5 +1,6 @@
 -- The names of sections, for the contracts of the look-up that walks over none of them.
-use Rattle.std.specs.Prelude.{◌≡◌, ◌≢◌, ℕ, ◌+◌, ◌<◌, ◌≤◌, ◌&&◌, ◌==◌, Bool, List, length, nat_eq, nat_lt, get_or, Option, Ok, position}
+use Rattle.std.specs.Prelude.{◌≡◌, ◌≢◌, ℕ, ◌+◌, ◌<◌, ◌≤◌, ◌&&◌, ◌==◌, Bool, List, length, nat_eq}
+use Rattle.std.specs.Prelude.{nat_lt, get_or, Option, Ok, position}
 use Rattle.std.specs.List.{starts_with}
 use Rattle.std.specs.Str.{bytes_eq}
 use Rattle.dwarf_bytes.specs.Numbers.{text_at}

@@ -7,7 +7,8 @@ use Rattle.dwarf_lines.specs.declared.entries.IndexedSections.{IndexedSections}
 use Rattle.dwarf_lines.specs.declared.entries.Entry.{Entry}
 use Rattle.dwarf_lines.specs.declared.entry_tables.EntryReader.{EntryReader}
 use Rattle.dwarf_lines.specs.Sections.{LineSections}
-use Rattle.dwarf_lines.specs.Entries.{field_at, fields_at, no_entry, entry_at, repeated_at, table_at}
+use Rattle.dwarf_lines.specs.Entries.{field_at, fields_at, no_entry, entry_at, repeated_at}
+use Rattle.dwarf_lines.specs.Entries.{table_at}
 
 abbrev pub sections_of : IndexedSections → LineSections
 sections_of s = record { line = s.line.now; line_str = s.line_str.now; str = s.str.now }

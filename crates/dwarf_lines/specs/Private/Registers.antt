@@ -1,5 +1,6 @@
 -- What the registers of the code hold.
-use Rattle.std.specs.Prelude.{◌≡◌, ℕ, ◌^◌, ◌≤◌, ◌+◌, ℤ, List, ◌∷◌, Option, Some, None, Result, Ok, Err, option_to_list, Bool, true, false, ◌&&◌, unsigned_abs}
+use Rattle.std.specs.Prelude.{◌≡◌, ℕ, ◌^◌, ◌≤◌, ◌+◌, ℤ, List, ◌∷◌, Option, Some, None, Result, Ok}
+use Rattle.std.specs.Prelude.{Err, option_to_list, Bool, true, false, ◌&&◌, unsigned_abs}
 use Rattle.dwarf_bytes.specs.declared.fault.Cause.{Cause}
 use Rattle.dwarf_lines.specs.declared.row.Row.{Row}
 use Rattle.dwarf_lines.specs.declared.row.Origin.{Origin}
@@ -8,7 +9,8 @@ use Rattle.dwarf_lines.specs.declared.instruction.Instruction.{Instruction}
 use Rattle.dwarf_lines.specs.declared.instruction.Instruction.TheVariants.{AdvanceLine}
 use Rattle.dwarf_bytes.specs.Refusals.{Fails}
 use Rattle.dwarf_lines.specs.Instructions.{Encoding}
-use Rattle.dwarf_lines.specs.Matrix.{address_after, line_after, file_after, is_open, is_dead, row_before, line_row, made, with_front}
+use Rattle.dwarf_lines.specs.Matrix.{address_after, line_after, file_after, is_open, is_dead}
+use Rattle.dwarf_lines.specs.Matrix.{row_before, line_row, made, with_front}
 
 -- a sum that is known below 2 ^ 64
 abbrev pub IsSum : Option ℕ → ℕ → Type 0

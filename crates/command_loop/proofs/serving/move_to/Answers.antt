@@ -4,7 +4,7 @@ use Rattle.command_loop.proofs.ServingLemmas.{moved_world, moved_reply}
 use Rattle.command_loop.proofs.serving.move_to.Goals as goal
 
 pub returns-in-Ok : goal.returns-in-Ok
-returns-in-Ok g c =
+returns-in-Ok c = λ asked.
     let h = c.in-Ok.ensures.step in
     record {
       outcomes = [];

@@ -1,10 +1,10 @@
-use Rattle.std.proofs.Common.{◌≡◌, take}
-use Rattle.command_loop.specs.Private.Progress.{ReadsOn}
+use Rattle.std.proofs.Common.{◌≡◌, ℕ, length}
+use Rattle.command_loop.proofs.ReadLemmas.{ServedTo}
 use Rattle.command_loop.proofs.session.Session.take_piece.Given as goal
 
-abbrev pub invariant-loop-byte : goal.invariant-loop-byte
-invariant-loop-byte g l =
-    ReadsOn l.options (take l.byte-index l.piece)
+abbrev pub invariant-lines : goal.invariant-lines
+invariant-lines g l =
+    ServedTo l.options l.piece l.rest
     (record {
       world = l.initial.self.modules.world;
       asked = g.O.Objects.asked l.initial.source;
@@ -13,3 +13,6 @@ invariant-loop-byte g l =
     }) l.initial.self.line
     (record { world = l.self.modules.world; asked = g.O.Objects.asked l.source; written = g.W.Sink.written l.writer }) l.self.line
     × (g.W.Sink.failures l.writer ≡ g.W.Sink.failures l.initial.writer)
+
+abbrev pub decreases-lines : goal.decreases-lines
+decreases-lines g l = length l.rest

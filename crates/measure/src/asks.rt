@@ -1,0 +1,41 @@
+//! How fast addresses of a loaded module are asked.
+
+use crate::finds::{ASKED, spread};
+use anyhow::Result;
+use module_map::{Extent, Modules};
+use std::time::Instant;
+
+/// How many addresses are asked again and again.
+const FEW: u64 = 16;
+
+/// Loads an object at the base 0, asks addresses spread over it, which the cache has not, and then
+/// sixteen of them again and again, which it has.
+pub fn measure_asks(rt: &HostRuntime, bytes: Vec<u8>) -> Result<()> {
+    let mut modules = Modules::new(rt.alloc(), 1024)?;
+    let extent = modules.load("module", 0, bytes)?;
+    let start = Instant::now(rt)?;
+    let places = ask_all(&mut modules, extent, ASKED);
+    let time = start.elapsed(rt)?;
+    println!(rt; "{ASKED} asks, {places} places, {} ms", time.as_millis())?;
+    let start = Instant::now(rt)?;
+    let places = ask_all(&mut modules, extent, FEW);
+    let time = start.elapsed(rt)?;
+    println!(rt;
+        "{ASKED} asks of {FEW} addresses, {places} places, {} compares for the last, {} ms",
+        modules.steps().compares,
+        time.as_millis()
+    )?;
+    Ok(())
+}
+
+/// Asks the first so many of the addresses in turn; gives how often a place was known.
+fn ask_all(modules: &mut Modules, extent: Extent, kinds: u64) -> u64 {
+    let mut places = 0u64;
+    for n in 0..ASKED {
+        let asked = modules.ask(spread(extent.low, extent.high, n % kinds));
+        if asked.found.is_some_and(|found| found.place.is_some()) {
+            places = places.wrapping_add(1);
+        }
+    }
+    places
+}
