@@ -11,8 +11,8 @@ mod tests;
 use std::process::ExitCode;
 use std::{env, io};
 
-/// Status 0 at the end of input, of the addresses among the words, or after help; 1 after a fault of
-/// the run; 2 where the words are refused, or are no UTF-8. Standard error tells why.
+/// Status 0 at the end of input, of the addresses among the words, or after help; 1 after a fault
+/// of the run; 2 where the words are refused, or are no UTF-8. Standard error tells why.
 fn main(rt: HostRuntime) -> ExitCode {
     match words(&rt) {
         Ok(words) => ExitCode::from(streams::serve(&rt, &words)),

@@ -20,8 +20,8 @@ abbrev pub AreOptions : List (List ℕ) → Options → Type 0
 AreOptions words options =
     IsTaken words × (settings_of (matches_of our_app words) ≡ Ok (told options))
 
--- The parser's error is of a kind that it gives at these words, but where only the size of the cache
--- is bad; a word is the first bad one; want of memory may come in place of any outcome.
+-- The parser's error is of a kind that it gives at these words, but where only the size of the
+-- cache is bad; a word is the first bad one; want of memory may come in place of any outcome.
 abbrev pub IsRefused : List (List ℕ) → CliFault → Type 0
 IsRefused words (Usage error) = IsAmong (kind_of error) (fault_of our_app words)
     ⊎ (IsTaken words × (settings_of (matches_of our_app words) ≡ Err BadSize))

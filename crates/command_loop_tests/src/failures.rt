@@ -56,8 +56,8 @@ fn nothing_fails(rt: HostRuntime) {
     assert!(rt; is_first_replies(writer.text(), 5));
 }
 
-/// Where any allocation is refused the replies are those without the object, or none; or all of them
-/// are as they are with memory, since a cache may do without it.
+/// Where any allocation is refused the replies are those without the object, or none; or all of
+/// them are as they are with memory, since a cache may do without it.
 #[test]
 fn memory_fails(rt: HostRuntime) {
     let alloc = rt.alloc();

@@ -1,4 +1,5 @@
--- The contents of values (DWARF 5, 7.5.5 and 7.5.6): how each layout spells one, and how it is read.
+-- The contents of values (DWARF 5, 7.5.5 and 7.5.6): how each layout spells one, and how it is
+-- read.
 use Rattle.std.specs.Prelude.{◌≡◌, ℕ, ℤ, List, [], ◌++◌, length, Result, Ok}
 use Rattle.dwarf_bytes.specs.declared.fault.ReadFault.{ReadFault}
 use Rattle.dwarf_bytes.specs.declared.format.Format.{Format}
@@ -44,12 +45,14 @@ SpellsContent layouts.LongBlock format bytes (Bytes block) =
 SpellsContent layout format bytes content = ⊥
 
 -- what is read, as a content
-abbrev pub read_as : {X : Type 0} → (X → Content) → Result (X × ℕ) ReadFault → Result (Content × ℕ) ReadFault
+abbrev pub read_as : {X : Type 0} → (X → Content) → Result (X × ℕ) ReadFault
+    → Result (Content × ℕ) ReadFault
 read_as content read = read >>= λ x. Ok (content x.0, x.1)
 
 -- the content of a layout at a place, and the place after it
 unfoldable pub content_at : ValueLayout → Format → List ℕ → ℕ → Result (Content × ℕ) ReadFault
-content_at (layouts.Fixed width) format bytes at = read_as Number (fixed_at (byte_len width) bytes at)
+content_at (layouts.Fixed width) format bytes at =
+    read_as Number (fixed_at (byte_len width) bytes at)
 content_at layouts.Offset format bytes at = read_as Number (offset_at format bytes at)
 content_at layouts.Present format bytes at = Ok (Number 1, at)
 content_at layouts.Signed format bytes at = read_as Signed (sleb_at bytes at)
@@ -58,4 +61,5 @@ content_at layouts.Text format bytes at = read_as Bytes (cstr_at bytes at)
 content_at layouts.Sixteen format bytes at = read_as Bytes (block_at 16 bytes at)
 content_at (layouts.Block width) format bytes at =
     fixed_at (byte_len width) bytes at >>= λ len. read_as Bytes (block_at len.0 bytes len.1)
-content_at layouts.LongBlock format bytes at = uleb_at bytes at >>= λ len. read_as Bytes (block_at len.0 bytes len.1)
+content_at layouts.LongBlock format bytes at =
+    uleb_at bytes at >>= λ len. read_as Bytes (block_at len.0 bytes len.1)

@@ -37,8 +37,8 @@ byte_len Three = 3
 byte_len Four = 4
 byte_len Eight = 8
 
--- Each form that is read, and how its value is laid out. DW_FORM_ref_sup4 (0x1c), DW_FORM_strp_sup (0x1d), DW_FORM_ref_sup8 (0x24)
--- and every other number are refused.
+-- Each form that is read, and how its value is laid out. DW_FORM_ref_sup4 (0x1c), DW_FORM_strp_sup
+-- (0x1d), DW_FORM_ref_sup8 (0x24) and every other number are refused.
 abbrev pub forms : List (ℕ × Form)
 forms =
     (DW_FORM_ADDR, Direct (Fixed Eight)) ∷

@@ -1,5 +1,6 @@
--- Items that stand one after another, each judged by its own tests in order once all before it are good. What an
--- item is may depend on the list of the items before it, and on nothing else that came before.
+-- Items that stand one after another, each judged by its own tests in order once all before it are
+-- good. What an item is may depend on the list of the items before it, and on nothing else that
+-- came before.
 use Rattle.std.specs.Prelude.{◌≡◌, ℕ, zero, suc, ◌-◌, ◌<◌, ◌≤◌, List, [], ◌∷◌, ◌++◌, Bool, true}
 use Rattle.std.specs.Prelude.{false, Result, Ok, Err}
 use Rattle.dwarf_bytes.specs.declared.fault.ReadFault.{ReadFault}
@@ -44,20 +45,25 @@ items_within zero step before at = Err (causes.Short, at)
 items_within (suc n) step before at = told_at at (step before at) >>= λ next.
     elim next [
       | End after ↦ Ok ([], after)
-      | Item x after ↦ items_within n step (before ++ x ∷ []) after >>= λ rest. Ok (x ∷ rest.0, rest.1)
+      | Item x after ↦ items_within n step (before ++ x ∷ []) after
+          >>= λ rest. Ok (x ∷ rest.0, rest.1)
     ]
 
 -- the same, where each item takes a byte or more of the bytes up to the end
-abbrev pub items_from : {X : Type 0} → ℕ → (List X → ℕ → Result (Next X) Cause) → List X → ℕ → Result (List X × ℕ) At
+abbrev pub items_from : {X : Type 0} → ℕ → (List X → ℕ → Result (Next X) Cause) → List X → ℕ
+    → Result (List X × ℕ) At
 items_from end step before at = items_within (suc (end - at)) step before at
 
 -- each item takes a byte or more, and none reaches past the end
 abbrev pub Advances : {X : Type 0} → ℕ → (List X → ℕ → Result (Next X) Cause) → Type 0
 Advances {X} end step =
-    (before : List X) (at : ℕ) (x : X) (after : ℕ) → step before at ≡ Ok (Item x after) → (at < after) × (after ≤ end)
+    (before : List X) (at : ℕ) (x : X) (after : ℕ) → step before at ≡ Ok (Item x after)
+    → (at < after) × (after ≤ end)
 
--- What is made of each element of a list, in order; what is made of one may depend on what was made of those before it.
-unfoldable pub each_from : {X Y : Type 0} → (List Y → X → Result Y At) → List Y → List X → Result (List Y) At
+-- What is made of each element of a list, in order; what is made of one may depend on what was made
+-- of those before it.
+unfoldable pub each_from : {X Y : Type 0} → (List Y → X → Result Y At) → List Y → List X
+    → Result (List Y) At
 each_from make before [] = Ok []
 each_from make before (x ∷ xs) = do
   y ← make before x
@@ -68,9 +74,10 @@ each_from make before (x ∷ xs) = do
 abbrev pub each : {X Y : Type 0} → (List Y → X → Result Y At) → List X → Result (List Y) At
 each make xs = each_from make [] xs
 
--- The whole-list form: the items stand at these places, each is what the step gives behind the ones before it, and the
--- step gives the end behind all of them.
-abbrev pub Lists : {X : Type 0} → (List X → ℕ → Result (Next X) Cause) → List X → ℕ → List X → ℕ → Type 0
+-- The whole-list form: the items stand at these places, each is what the step gives behind the ones
+-- before it, and the step gives the end behind all of them.
+abbrev pub Lists : {X : Type 0} → (List X → ℕ → Result (Next X) Cause) → List X → ℕ → List X → ℕ
+    → Type 0
 Lists step before at [] after = step before at ≡ Ok (End after)
 Lists step before at (x ∷ xs) after =
     (mid : ℕ) × (step before at ≡ Ok (Item x mid)) × Lists step (before ++ x ∷ []) mid xs after

@@ -1,5 +1,5 @@
--- Numbers and texts as DWARF 5 spells them. A read takes bytes and a place in them, and answers the value
--- and the place after it, or the fault.
+-- Numbers and texts as DWARF 5 spells them. A read takes bytes and a place in them, and answers the
+-- value and the place after it, or the fault.
 use Rattle.std.specs.Prelude.{All, ◌≢◌, FitsSigned, int_le, int_lt, ◌&&◌, ◌==◌, position}
 use Rattle.std.specs.Prelude.{option_map, Option, ◌≡◌, ℕ, ◌+◌, ◌*◌, ◌-◌, ◌%◌, ◌^◌, ◌<◌, ◌≤◌, ℤ, pos}
 use Rattle.std.specs.Prelude.{◌-ℤ◌, List, [], ◌∷◌, ◌++◌, length, take, drop, slice_index, Bool}
@@ -14,7 +14,8 @@ use Rattle.dwarf_bytes.specs.Bind.{◌>>=◌}
 
 -- the n bytes at the place
 unfoldable pub block_at : ℕ → List ℕ → ℕ → Result (List ℕ × ℕ) ReadFault
-block_at n bytes at = if nat_lt (length bytes) (at + n) then Err Short else Ok (take n (drop at bytes), at + n)
+block_at n bytes at =
+    if nat_lt (length bytes) (at + n) then Err Short else Ok (take n (drop at bytes), at + n)
 
 -- Fixed width (DWARF 5, 7.1 and 7.4; little-endian): the sum of b_i * 256 ^ i.
 abbrev pub little_endian : List ℕ → ℕ
@@ -106,7 +107,8 @@ abbrev pub IsOverSleb : List ℕ → Type 0
 IsOverSleb front = ¬ (FitsSigned w64 (sleb_value front))
 
 -- the bytes at the place begin with what spells the value, and next is the place after it
-pub record StandsAt {X : Type 0} (Spells : List ℕ → X → Type 0) (bytes : List ℕ) (at : ℕ) (value : X)
+pub record StandsAt {X : Type 0} (Spells : List ℕ → X → Type 0) (bytes : List ℕ) (at : ℕ)
+    (value : X)
     (next : ℕ) : Type 0 where
   pub front : List ℕ
   pub rest : List ℕ
@@ -114,10 +116,12 @@ pub record StandsAt {X : Type 0} (Spells : List ℕ → X → Type 0) (bytes : L
   pub parts : drop at bytes ≡ front ++ rest
   pub next_is : next ≡ at + length front
 
--- the spelling at the front of the bytes: up to the first byte below 128, which is one of the first ten
+-- the spelling at the front of the bytes: up to the first byte below 128, which is one of the first
+-- ten
 unfoldable pub leb_front : List ℕ → Result (List ℕ) ReadFault
 leb_front bytes =
-    option_map_or (λ last. Ok (take (last + 1) bytes)) (position (λ b. nat_lt b 128) (take 10 bytes))
+    option_map_or (λ last. Ok (take (last + 1) bytes))
+    (position (λ b. nat_lt b 128) (take 10 bytes))
     (Err (if nat_lt (length bytes) 10 then Short else Leb))
 
 unfoldable pub uleb_at : List ℕ → ℕ → Result (ℕ × ℕ) ReadFault
@@ -144,11 +148,13 @@ text_front bytes = option_map (λ n. take n bytes) (position (λ b. b == 0) byte
 
 unfoldable pub cstr_at : List ℕ → ℕ → Result (List ℕ × ℕ) ReadFault
 cstr_at bytes at =
-    option_map_or (λ text. Ok (text, at + length text + 1)) (text_front (drop at bytes)) (Err Unterminated)
+    option_map_or (λ text. Ok (text, at + length text + 1)) (text_front (drop at bytes))
+    (Err Unterminated)
 
 -- the text of a section at an offset into it
 unfoldable pub text_at : List ℕ → ℕ → Result (List ℕ) ReadFault
-text_at section offset = option_map_or (λ text. Ok text) (text_front (drop offset section)) (Err Unterminated)
+text_at section offset =
+    option_map_or (λ text. Ok text) (text_front (drop offset section)) (Err Unterminated)
 
 -- the bytes of an initial length, and of an offset into a section (DWARF 5, 7.4)
 abbrev pub length_len : Format → ℕ

@@ -1,4 +1,5 @@
--- How a decoding call refuses: by the first fault of the bytes, or for want of memory, which is no fault of theirs.
+-- How a decoding call refuses: by the first fault of the bytes, or for want of memory, which is no
+-- fault of theirs.
 use Rattle.std.specs.Prelude.{◌≡◌, ◌⊎◌, ℕ, List, Option, Some, None, Result, Ok, Err, Vec}
 use Rattle.std.specs.declared.alloc.Global.{Global}
 use Rattle.dwarf_bytes.specs.declared.fault.Section.{Section}
@@ -32,30 +33,39 @@ abbrev pub Decodes : {X Y : Type 0} → (X → Y) → Result X LoadFault → Res
 Decodes view (Ok x) outcome = outcome ≡ Ok (view x)
 Decodes view (Err fault) outcome = (fault ≡ memory_fault) ⊎ (outcome ≡ Err fault)
 
--- What a step on a cursor gives is what is read at the place, and the cursor stands after it. After a fault nothing is said of
--- the cursor.
-abbrev pub ReadsField : {X Y : Type 0} → (X → Y) → Result X Cause → (List ℕ → ℕ → Result (Y × ℕ) Cause) → Position →
+-- What a step on a cursor gives is what is read at the place, and the cursor stands after it. After
+-- a fault nothing is said of the cursor.
+abbrev pub ReadsField : {X Y : Type 0} → (X → Y) → Result X Cause
+    → (List ℕ → ℕ → Result (Y × ℕ) Cause) → Position →
     Position → Type 0
-ReadsField view (Ok x) read old new = (read old.bytes old.place ≡ Ok (view x, new.place)) × (new.bytes ≡ old.bytes)
+ReadsField view (Ok x) read old new =
+    (read old.bytes old.place ≡ Ok (view x, new.place)) × (new.bytes ≡ old.bytes)
 ReadsField view (Err cause) read old new = read old.bytes old.place ≡ Err cause
 
 -- The same, where only the place after it counts.
-abbrev pub ReadsPlace : {X : Type 0} → Result X Cause → (List ℕ → ℕ → Result ℕ Cause) → Position → Position → Type 0
+abbrev pub ReadsPlace : {X : Type 0} → Result X Cause → (List ℕ → ℕ → Result ℕ Cause) → Position
+    → Position → Type 0
 ReadsPlace (Ok _) read old new = (read old.bytes old.place ≡ Ok new.place) × (new.bytes ≡ old.bytes)
 ReadsPlace (Err cause) read old new = read old.bytes old.place ≡ Err cause
 
--- The items of a list in memory are those that are read, and the cursor stands after them, unless memory ran out.
-abbrev pub ReadsItems : {X : Type 0} → Result (Vec X Global) Cause → (List ℕ → ℕ → Result (List X × ℕ) Cause) →
+-- The items of a list in memory are those that are read, and the cursor stands after them, unless
+-- memory ran out.
+abbrev pub ReadsItems : {X : Type 0} → Result (Vec X Global) Cause
+    → (List ℕ → ℕ → Result (List X × ℕ) Cause) →
     Position → Position → Type 0
-ReadsItems (Ok v) read old new = (read old.bytes old.place ≡ Ok (v.items, new.place)) × (new.bytes ≡ old.bytes)
+ReadsItems (Ok v) read old new =
+    (read old.bytes old.place ≡ Ok (v.items, new.place)) × (new.bytes ≡ old.bytes)
 ReadsItems (Err cause) read old new = Fails cause (read old.bytes old.place)
 
--- What a step on a cursor finds is the next item, or the end of the items, and the cursor stands after it. After a fault
--- nothing is said of the cursor.
-abbrev pub ReadsNext : {X : Type 0} → Result (Option X) Cause → (List ℕ → ℕ → Result (Next X) Cause) → Position →
+-- What a step on a cursor finds is the next item, or the end of the items, and the cursor stands
+-- after it. After a fault nothing is said of the cursor.
+abbrev pub ReadsNext : {X : Type 0} → Result (Option X) Cause → (List ℕ → ℕ → Result (Next X) Cause)
+    → Position →
     Position → Type 0
-ReadsNext (Ok (Some x)) step old new = (step old.bytes old.place ≡ Ok (Item x new.place)) × (new.bytes ≡ old.bytes)
-ReadsNext (Ok None) step old new = (step old.bytes old.place ≡ Ok (End new.place)) × (new.bytes ≡ old.bytes)
+ReadsNext (Ok (Some x)) step old new =
+    (step old.bytes old.place ≡ Ok (Item x new.place)) × (new.bytes ≡ old.bytes)
+ReadsNext (Ok None) step old new =
+    (step old.bytes old.place ≡ Ok (End new.place)) × (new.bytes ≡ old.bytes)
 ReadsNext (Err cause) step old new = step old.bytes old.place ≡ Err cause
 
 -- What a step gives, seen by view, is the outcome, unless memory ran out.

@@ -35,7 +35,8 @@ is_length Dwarf64 section start = field 4 section start == 0xffffffff
 
 -- whether a length of the 64-bit format begins there and is cut
 abbrev pub is_cut : Format → List ℕ → ℕ → Bool
-is_cut Dwarf32 section start = (field 4 section start == 0xffffffff) && nat_lt (length section) (start + 12)
+is_cut Dwarf32 section start =
+    (field 4 section start == 0xffffffff) && nat_lt (length section) (start + 12)
 is_cut Dwarf64 section start = false
 
 -- where the header starts, where its version stands, and where the table ends
@@ -57,7 +58,8 @@ offset_count RngLists format section base = field 4 section (version_place RngLi
 
 -- the items of the table: offsets, or addresses of 8 bytes
 abbrev pub item_count : TableKind → Format → List ℕ → ℕ → ℕ
-item_count StrOffsets format section base = (table_end StrOffsets format section base - base) / offset_len format
+item_count StrOffsets format section base =
+    (table_end StrOffsets format section base - base) / offset_len format
 item_count Addr format section base = (table_end Addr format section base - base) / 8
 item_count RngLists format section base = offset_count RngLists format section base
 
@@ -79,4 +81,8 @@ head_tests kind format section base =
 unfoldable pub table_before : TableKind → Format → List ℕ → ℕ → Result TableHead Cause
 table_before kind format section base =
     option_map_or (λ cause. Err cause) (first_failure (head_tests kind format section base))
-    (Ok (record { end = table_end kind format section base; items = item_count kind format section base }))
+    (Ok (record {
+      end = table_end kind format section base;
+      items = item_count kind format section
+          base;
+    }))

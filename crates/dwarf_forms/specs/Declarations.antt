@@ -30,7 +30,8 @@ pub record SpellsAttribute (bytes : List ℕ) (attribute : AttributeSpecificatio
 -- Stretches of the bytes spell the elements, one after another.
 abbrev pub SpellsEach : {X : Type 0} → (List ℕ → X → Type 0) → List ℕ → List X → Type 0
 SpellsEach spells bytes [] = bytes ≡ []
-SpellsEach spells bytes (x ∷ xs) = (front rest : List ℕ) × (bytes ≡ front ++ rest) × spells front x × SpellsEach spells rest xs
+SpellsEach spells bytes (x ∷ xs) =
+    (front rest : List ℕ) × (bytes ≡ front ++ rest) × spells front x × SpellsEach spells rest xs
 
 -- The attributes are ended by a name 0 and a form 0.
 pub record EndsAttributes (bytes : List ℕ) : Type 0 where
@@ -46,7 +47,8 @@ pub record SpellsDeclaration (bytes : List ℕ) (declaration : Declaration) : Ty
   pub tag : List ℕ
   pub attributes : List ℕ
   pub end : List ℕ
-  pub whole : bytes ≡ (code ++ tag) ++ ((if declaration.children then 1 else 0) ∷ (attributes ++ end))
+  pub whole : bytes ≡ (code ++ tag)
+      ++ ((if declaration.children then 1 else 0) ∷ (attributes ++ end))
   pub code_is : IsUleb code declaration.code
   pub tag_is : IsUleb tag declaration.tag
   pub attributes_are : SpellsEach SpellsAttribute attributes declaration.attributes

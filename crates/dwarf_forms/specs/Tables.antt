@@ -17,10 +17,12 @@ use Rattle.dwarf_bytes.specs.declared.constants.TheConstants.{DW_FORM_IMPLICIT_C
 -- the constant that stands behind a form in a declaration
 abbrev pub constant_at : ℕ → List ℕ → ℕ → Result (Option ℤ × ℕ) Cause
 constant_at form section at =
-    if form == DW_FORM_IMPLICIT_CONST then (reading (sleb_at section at) >>= λ c. Ok (Some c.0, c.1)) else Ok (None, at)
+    if form == DW_FORM_IMPLICIT_CONST
+    then (reading (sleb_at section at) >>= λ c. Ok (Some c.0, c.1)) else Ok (None, at)
 
 -- the attribute at a place, behind those before it in its declaration
-abbrev pub attribute_at : List ℕ → List AttributeSpecification → ℕ → Result (Next AttributeSpecification) Cause
+abbrev pub attribute_at : List ℕ → List AttributeSpecification → ℕ
+    → Result (Next AttributeSpecification) Cause
 attribute_at section before at = do
   name ← reading (uleb_at section at)
   form ← reading (uleb_at section name.1)
@@ -34,7 +36,8 @@ attribute_at section before at = do
 unfoldable pub attributes_at : List ℕ → ℕ → Result (List AttributeSpecification × ℕ) Cause
 attributes_at section at = untold (items_from (length section) (attribute_at section) [] at)
 
--- what stands before the attributes, behind the declarations before it in its table, which may have so many
+-- what stands before the attributes, behind the declarations before it in its table, which may have
+-- so many
 abbrev pub head_at : ℕ → List ℕ → List Declaration → ℕ → Result (Next Head) Cause
 head_at room section before at = do
   code ← reading (uleb_at section at)
@@ -51,7 +54,12 @@ abbrev pub declaration_at : ℕ → List ℕ → List Declaration → ℕ → Re
 declaration_at room section before at = head_at room section before at >>= λ next. elim next [
   | End after ↦ Ok (End after)
   | Item head after ↦ attributes_at section after >>= λ attributes.
-      Ok (Item (record { code = head.code; tag = head.tag; children = head.children; attributes = attributes.0 }) attributes.1)
+      Ok (Item (record {
+        code = head.code;
+        tag = head.tag;
+        children = head.children;
+        attributes = attributes.0;
+      }) attributes.1)
 ]
 
 -- the table at an offset, of so many declarations at most, and the place after it
@@ -62,9 +70,12 @@ table_at room section offset = items_from (length section) (declaration_at room 
 abbrev pub declarations_of : ℕ → List ℕ → ℕ → Result (List Declaration) At
 declarations_of room section offset = table_at room section offset >>= λ table. Ok table.0
 
--- What a step on a cursor finds is the next item, or the end of the items, and the cursor stands after it. After a fault
--- nothing is said of the cursor.
-abbrev pub ReadsNext : {X : Type 0} → Result (Option X) Cause → (List ℕ → ℕ → Result (Next X) Cause) → Position → Position → Type 0
-ReadsNext (Ok (Some x)) step old new = (step old.bytes old.place ≡ Ok (Item x new.place)) × (new.bytes ≡ old.bytes)
-ReadsNext (Ok None) step old new = (step old.bytes old.place ≡ Ok (End new.place)) × (new.bytes ≡ old.bytes)
+-- What a step on a cursor finds is the next item, or the end of the items, and the cursor stands
+-- after it. After a fault nothing is said of the cursor.
+abbrev pub ReadsNext : {X : Type 0} → Result (Option X) Cause → (List ℕ → ℕ → Result (Next X) Cause)
+    → Position → Position → Type 0
+ReadsNext (Ok (Some x)) step old new =
+    (step old.bytes old.place ≡ Ok (Item x new.place)) × (new.bytes ≡ old.bytes)
+ReadsNext (Ok None) step old new =
+    (step old.bytes old.place ≡ Ok (End new.place)) × (new.bytes ≡ old.bytes)
 ReadsNext (Err cause) step old new = step old.bytes old.place ≡ Err cause

@@ -22,10 +22,12 @@ pub record Value : Type 0 where
 abbrev pub value_of : Lent → Value
 value_of value = record { form = value.form; content = content_of value.content }
 
--- The bytes spell the value in this form, which is neither indirect nor one whose value stands in the declaration.
+-- The bytes spell the value in this form, which is neither indirect nor one whose value stands in
+-- the declaration.
 abbrev pub SpellsDirectly : ℕ → Format → List ℕ → Value → Type 0
 SpellsDirectly form format bytes value =
-    (layout : ValueLayout) × (form_of form ≡ Some (Direct layout)) × SpellsContent layout format bytes value.content × (value.form ≡ form)
+    (layout : ValueLayout) × (form_of form ≡ Some (Direct layout))
+    × SpellsContent layout format bytes value.content × (value.form ≡ form)
 
 -- The bytes are the number of a form, and behind it a value in that form.
 pub record SpellsIndirectly (format : Format) (bytes : List ℕ) (value : Value) : Type 0 where
@@ -35,12 +37,14 @@ pub record SpellsIndirectly (format : Format) (bytes : List ℕ) (value : Value)
   pub form_is : IsUleb front value.form
   pub value_is : SpellsDirectly value.form format rest value
 
--- The bytes spell the value in this form, in a unit of the format; the constant is that of the declaration.
+-- The bytes spell the value in this form, in a unit of the format; the constant is that of the
+-- declaration.
 abbrev pub Spells : ℕ → Format → Option ℤ → List ℕ → Value → Type 0
 Spells form format constant bytes value = elim (form_of form) [
   | None ↦ ⊥
   | Some (Direct layout) ↦ SpellsDirectly form format bytes value
-  | Some ImplicitConst ↦ (c : ℤ) × (constant ≡ Some c) × (bytes ≡ []) × (value ≡ record { form = form; content = Signed c })
+  | Some ImplicitConst ↦ (c : ℤ) × (constant ≡ Some c) × (bytes ≡ [])
+      × (value ≡ record { form = form; content = Signed c })
   | Some Indirect ↦ SpellsIndirectly format bytes value
 ]
 
@@ -49,11 +53,13 @@ abbrev pub reading_value : {X : Type 0} → Result X ReadFault → Result X Valu
 reading_value (Ok x) = Ok x
 reading_value (Err fault) = Err (Read fault)
 
--- the value at a place in a form that is neither indirect nor one whose value stands in the declaration
+-- the value at a place in a form that is neither indirect nor one whose value stands in the
+-- declaration
 unfoldable pub direct_at : ℕ → Format → List ℕ → ℕ → Result (Value × ℕ) ValueFault
 direct_at form format bytes at = elim (form_of form) [
   | None ↦ Err Form
-  | Some (Direct layout) ↦ reading_value (content_at layout format bytes at) >>= λ read. Ok (record { form = form; content = read.0 }, read.1)
+  | Some (Direct layout) ↦ reading_value (content_at layout format bytes at)
+      >>= λ read. Ok (record { form = form; content = read.0 }, read.1)
   | Some ImplicitConst ↦ Err Form
   | Some Indirect ↦ Err Form
 ]
@@ -63,11 +69,19 @@ unfoldable pub value_at : ℕ → Format → Option ℤ → List ℕ → ℕ →
 value_at form format constant bytes at = elim (form_of form) [
   | None ↦ Err Form
   | Some (Direct layout) ↦ direct_at form format bytes at
-  | Some ImplicitConst ↦ (elim constant [ None ↦ Err Form | Some c ↦ Ok (record { form = form; content = Signed c }, at) ])
-  | Some Indirect ↦ reading_value (uleb_at bytes at) >>= λ inner. direct_at inner.0 format bytes inner.1
+  | Some ImplicitConst ↦ (elim constant [
+    | None ↦ Err Form
+    | Some c ↦ Ok
+        (record { form = form; content = Signed c }, at)
+  ])
+  | Some Indirect ↦ reading_value (uleb_at bytes at)
+      >>= λ inner. direct_at inner.0 format bytes inner.1
 ]
 
--- What a call gives is what is read at the cursor's place, and the cursor stands after it; after a fault it is as before.
-abbrev pub ReadsValue : Result Lent ValueFault → (List ℕ → ℕ → Result (Value × ℕ) ValueFault) → Position → Position → Type 0
-ReadsValue (Ok value) read old new = (read old.bytes old.place ≡ Ok (value_of value, new.place)) × (new.bytes ≡ old.bytes)
+-- What a call gives is what is read at the cursor's place, and the cursor stands after it; after a
+-- fault it is as before.
+abbrev pub ReadsValue : Result Lent ValueFault → (List ℕ → ℕ → Result (Value × ℕ) ValueFault)
+    → Position → Position → Type 0
+ReadsValue (Ok value) read old new =
+    (read old.bytes old.place ≡ Ok (value_of value, new.place)) × (new.bytes ≡ old.bytes)
 ReadsValue (Err fault) read old new = (read old.bytes old.place ≡ Err fault) × (new ≡ old)

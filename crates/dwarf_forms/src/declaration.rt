@@ -25,12 +25,22 @@ impl Model for Decl {
 
     ghost Value = { Declaration };
 
-    ghost view = { λ d. record { code = d.head.code; tag = d.head.tag; children = d.head.children; attributes = d.attributes.items } };
+    ghost view = { λ d. record {
+      code = d.head.code;
+      tag = d.head.tag;
+      children = d.head.children;
+      attributes = d.attributes.items;
+    } };
 }
 
 impl Decl {
     pub(crate) fn new(head: Head, attributes: Vec<AttributeSpecification>) -> Decl
-        ensures { result ≡ record { code = head.code; tag = head.tag; children = head.children; attributes = attributes.items } }
+        ensures { result ≡ record {
+          code = head.code;
+          tag = head.tag;
+          children = head.children;
+          attributes = attributes.items;
+        } }
     {
         Decl { head, attributes }
     }

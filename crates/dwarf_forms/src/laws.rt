@@ -7,8 +7,8 @@ ghost use Rattle.dwarf_forms.specs.Declarations.{Declaration, SpellsTable, AreGo
 ghost use Rattle.dwarf_forms.specs.Tables.{table_at};
 ghost use Rattle.dwarf_forms.specs.Values.{Value, Spells, value_at};
 
-/// A table is read exactly where the bytes at the place begin with a spelling of it, it is good, and
-/// it has no more declarations than there is room for.
+/// A table is read exactly where the bytes at the place begin with a spelling of it, it is good,
+/// and it has no more declarations than there is room for.
 pub fn table_is_spelled()
     ensures { (room : ℕ) (section : List ℕ) (at : ℕ) (table : List Declaration) (next : ℕ)
         → (table_at room section at ≡ Ok (table, next))

@@ -38,9 +38,9 @@ impl Model for Abbrevs {
 }
 
 impl Abbrevs {
-    /// The table at an offset from the section's start, up to the code 0 that ends it. `left` is how
-    /// many more declarations may be read; it falls by one for each of the table's. A fault is told
-    /// at the declaration that holds it, in `.debug_abbrev`.
+    /// The table at an offset from the section's start, up to the code 0 that ends it. `left` is
+    /// how many more declarations may be read; it falls by one for each of the table's. A fault is
+    /// told at the declaration that holds it, in `.debug_abbrev`.
     pub fn read(
         alloc: Global,
         section: &[u8],
@@ -75,8 +75,8 @@ impl Abbrevs {
         self.decls.get(self.position(code)?)
     }
 
-    /// The place of the declaration of a code, counted from 0. It is found in constant time where codes
-    /// count up from 1, and by the logarithm of their number otherwise.
+    /// The place of the declaration of a code, counted from 0. It is found in constant time where
+    /// codes count up from 1, and by the logarithm of their number otherwise.
     fn position(&self, code: u64) -> Option<usize>
         ensures { result ≡ position (λ declaration. declaration.code == code) self.now }
     {

@@ -149,8 +149,8 @@ fn constants_of_declarations(rt: HostRuntime) {
     }
 }
 
-/// Offsets have eight bytes in the 64-bit format, also behind DW_FORM_indirect; other forms keep their
-/// widths.
+/// Offsets have eight bytes in the 64-bit format, also behind DW_FORM_indirect; other forms keep
+/// their widths.
 #[test]
 fn values_of_the_64_bit_format(rt: HostRuntime) {
     let bytes = [1, 2, 3, 4, 5, 6, 7, 8, 9];

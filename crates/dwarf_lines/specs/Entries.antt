@@ -58,14 +58,19 @@ index_at form bytes place =
 -- the place after a value that is passed over
 abbrev pub after_value : Format → ℕ → List ℕ → ℕ → Result ℕ Cause
 after_value format form bytes place =
-    option_map_or (λ layout. reading (content_at layout format bytes place) >>= λ content. Ok content.1)
+    option_map_or (λ layout. reading (content_at layout format bytes place)
+    >>= λ content. Ok content.1)
     (layout_of form) (Err causes.FileFormat)
 
 -- One field of an entry: a path or a directory index is kept, all else is passed over.
-unfoldable pub field_at : LineSections → Format → EntryTable → Field → Entry → List ℕ → ℕ → Result (Entry × ℕ) Cause
+unfoldable pub field_at : LineSections → Format → EntryTable → Field → Entry → List ℕ → ℕ
+    → Result (Entry × ℕ) Cause
 field_at s format table field entry bytes place =
-    if is_path field then (path_at s format field.form bytes place >>= λ text. Ok (record entry { path = text.0 }, text.1))
-    else if is_index table field then (index_at field.form bytes place >>= λ index. Ok (record entry { directory = index.0 }, index.1))
+    if is_path field then (path_at s format field.form bytes place
+    >>= λ text. Ok (record entry { path = text.0 }, text.1))
+    else if is_index table field
+    then (index_at field.form bytes place
+    >>= λ index. Ok (record entry { directory = index.0 }, index.1))
     else after_value format field.form bytes place >>= λ after. Ok (entry, after)
 
 -- the fields of an entry, in the order of the format
@@ -86,7 +91,8 @@ has_directory Directories entry = true
 has_directory (Files directories) entry = nat_lt entry.directory directories
 
 -- an entry, judged right after its fields
-unfoldable pub entry_at : LineSections → Format → EntryTable → List Field → List ℕ → ℕ → Result (Entry × ℕ) Cause
+unfoldable pub entry_at : LineSections → Format → EntryTable → List Field → List ℕ → ℕ
+    → Result (Entry × ℕ) Cause
 entry_at s format table fields bytes place = do
   entry ← fields_at s format table fields no_entry bytes place
   _ ← refuse_if (not (has_directory table entry.0)) causes.DirIndex
@@ -108,8 +114,10 @@ format_at bytes place = do
   form ← reading (uleb_at bytes content.1)
   Ok (record { content = content.0; form = form.0 }, form.1)
 
--- A table: its format, its count, and its entries. The format of a table without entries is not judged.
-unfoldable pub table_at : LineSections → Format → EntryTable → List ℕ → ℕ → Result (List Entry × ℕ) Cause
+-- A table: its format, its count, and its entries. The format of a table without entries is not
+-- judged.
+unfoldable pub table_at : LineSections → Format → EntryTable → List ℕ → ℕ
+    → Result (List Entry × ℕ) Cause
 table_at s format table bytes place = do
   format_count ← reading (u8_at bytes place)
   fields ← repeated_at format_at format_count.0 bytes format_count.1

@@ -1,4 +1,5 @@
--- The formats of a line header's two tables (DWARF 5, 6.2.4 and 6.2.4.1): what the fields of an entry are.
+-- The formats of a line header's two tables (DWARF 5, 6.2.4 and 6.2.4.1): what the fields of an
+-- entry are.
 use Rattle.std.specs.Prelude.{ℕ, List, Bool, false, ◌&&◌, ◌||◌, Option, Some, None, nat_le, is_some}
 use Rattle.std.specs.Prelude.{count_by, ◌==◌, if◌then◌else◌}
 use Rattle.std.specs.List.{list_all}
@@ -25,7 +26,8 @@ is_index (Files directories) field = field.content == DW_LNCT_DIRECTORY_INDEX
 
 -- string, strp and line_strp
 abbrev pub is_text_form : ℕ → Bool
-is_text_form form = (form == DW_FORM_STRING) || (form == DW_FORM_STRP) || (form == DW_FORM_LINE_STRP)
+is_text_form form =
+    (form == DW_FORM_STRING) || (form == DW_FORM_STRP) || (form == DW_FORM_LINE_STRP)
 
 -- data1, data2 and udata
 abbrev pub is_index_form : ℕ → Bool
@@ -41,8 +43,8 @@ direct None = None
 abbrev pub layout_of : ℕ → Option ValueLayout
 layout_of form = direct (form_of form)
 
--- The form of a field is one for its content: a text for a path, a count for a directory index, and any that can be
--- passed over for another content (our choice).
+-- The form of a field is one for its content: a text for a path, a count for a directory index, and
+-- any that can be passed over for another content (our choice).
 abbrev pub has_good_form : EntryTable → Field → Bool
 has_good_form table field =
     if is_path field then is_text_form field.form

@@ -1,5 +1,5 @@
--- How the header of a line program is spelled (DWARF 5, 6.2.4 and 6.2.4.1). What is spelled may depend on the place in
--- the section at which the bytes stand.
+-- How the header of a line program is spelled (DWARF 5, 6.2.4 and 6.2.4.1). What is spelled may
+-- depend on the place in the section at which the bytes stand.
 use Rattle.std.specs.Prelude.{◌≡◌, ◌≢◌, ℕ, suc, ◌+◌, ◌<◌, List, [], ◌∷◌, ◌++◌, length, true, false}
 use Rattle.std.specs.Prelude.{Some, count_by}
 use Rattle.dwarf_bytes.specs.declared.constants.TheConstants.{DW_FORM_STRING, DW_FORM_STRP}
@@ -25,7 +25,8 @@ use Rattle.dwarf_lines.specs.Headers.{LineHeader, are_standard, signed_byte}
 -- Stretches of the bytes at the place spell the elements, one after another.
 abbrev pub SpellsEach : {X : Type 0} → (ℕ → List ℕ → X → Type 0) → ℕ → List ℕ → List X → Type 0
 SpellsEach spells place bytes [] = bytes ≡ []
-SpellsEach spells place bytes (x ∷ xs) = (front rest : List ℕ) × (bytes ≡ front ++ rest) × spells place front x
+SpellsEach spells place bytes (x ∷ xs) =
+    (front rest : List ℕ) × (bytes ≡ front ++ rest) × spells place front x
     × SpellsEach spells (place + length front) rest xs
 
 -- A field of a format is a content and a form, wherever it stands.
@@ -37,42 +38,53 @@ pub record SpellsField (place : ℕ) (bytes : List ℕ) (field : Field) : Type 0
   pub form_is : IsUleb form field.form
 
 -- The bytes at the place are a path in a form (7.5.5): a text, or the offset of one in its section.
-pub data SpellsPath (s : LineSections) (format : Format) (place : ℕ) : ℕ → List ℕ → PathText → Type 0 where
+pub data SpellsPath (s : LineSections) (format : Format) (place : ℕ) : ℕ → List ℕ → PathText
+    → Type 0 where
   string : {bytes : List ℕ} → (text : List ℕ) → IsText bytes text
       → SpellsPath s format place DW_FORM_STRING bytes (text_from sections.DebugLine place text)
-  strp : {bytes : List ℕ} → (offset past : ℕ) (text : List ℕ) → IsFixed (offset_len format) bytes offset
+  strp : {bytes : List ℕ} → (offset past : ℕ) (text : List ℕ)
+      → IsFixed (offset_len format) bytes offset
       → StandsAt IsText s.str offset text past
       → SpellsPath s format place DW_FORM_STRP bytes (text_from sections.DebugStr offset text)
-  line_strp : {bytes : List ℕ} → (offset past : ℕ) (text : List ℕ) → IsFixed (offset_len format) bytes offset
+  line_strp : {bytes : List ℕ} → (offset past : ℕ) (text : List ℕ)
+      → IsFixed (offset_len format) bytes offset
       → StandsAt IsText s.line_str offset text past
-      → SpellsPath s format place DW_FORM_LINE_STRP bytes (text_from sections.DebugLineStr offset text)
+      → SpellsPath s format place DW_FORM_LINE_STRP bytes
+      (text_from sections.DebugLineStr offset text)
 
 -- The bytes are a directory index in a form.
 pub data SpellsIndex : ℕ → List ℕ → ℕ → Type 0 where
-  data1 : {bytes : List ℕ} {index : ℕ} → IsFixed 1 bytes index → SpellsIndex DW_FORM_DATA1 bytes index
-  data2 : {bytes : List ℕ} {index : ℕ} → IsFixed 2 bytes index → SpellsIndex DW_FORM_DATA2 bytes index
+  data1 : {bytes : List ℕ} {index : ℕ} → IsFixed 1 bytes index
+      → SpellsIndex DW_FORM_DATA1 bytes index
+  data2 : {bytes : List ℕ} {index : ℕ} → IsFixed 2 bytes index
+      → SpellsIndex DW_FORM_DATA2 bytes index
   udata : {bytes : List ℕ} {index : ℕ} → IsUleb bytes index → SpellsIndex DW_FORM_UDATA bytes index
 
--- The bytes at the place are a field of the entry: its path, its directory, or what the entry does not keep.
-pub data SpellsPart (s : LineSections) (format : Format) (table : EntryTable) (entry : Entry) (place : ℕ) (bytes : List ℕ) (field : Field) : Type 0 where
+-- The bytes at the place are a field of the entry: its path, its directory, or what the entry does
+-- not keep.
+pub data SpellsPart (s : LineSections) (format : Format) (table : EntryTable) (entry : Entry)
+    (place : ℕ) (bytes : List ℕ) (field : Field) : Type 0 where
   path : is_path field ≡ true → SpellsPath s format place field.form bytes entry.path
       → SpellsPart s format table entry place bytes field
   directory : is_index table field ≡ true → SpellsIndex field.form bytes entry.directory
       → SpellsPart s format table entry place bytes field
-  other : (layout : ValueLayout) (content : Content) → is_path field ≡ false → is_index table field ≡ false
+  other : (layout : ValueLayout) (content : Content) → is_path field ≡ false → is_index table field
+      ≡ false
       → layout_of field.form ≡ Some layout → SpellsContent layout format bytes content
       → SpellsPart s format table entry place bytes field
 
--- The bytes at the place are an entry: its fields, in the order of the format. Its directory is there, and is
--- directory 0 where no field says one.
-pub record SpellsEntry (s : LineSections) (format : Format) (table : EntryTable) (fields : List Field) (place : ℕ) (bytes : List ℕ) (entry : Entry) : Type 0 where
+-- The bytes at the place are an entry: its fields, in the order of the format. Its directory is
+-- there, and is directory 0 where no field says one.
+pub record SpellsEntry (s : LineSections) (format : Format) (table : EntryTable)
+    (fields : List Field) (place : ℕ) (bytes : List ℕ) (entry : Entry) : Type 0 where
   pub parts : SpellsEach (SpellsPart s format table entry) place bytes fields
   pub unsaid : count_by (is_index table) fields ≡ 0 → entry.directory ≡ 0
   pub known : has_directory table entry ≡ true
 
--- The bytes at the place are a table: how many fields its format has, the format, how many entries there are, and these.
--- The format of a table that has entries is a good one.
-pub record SpellsTable (s : LineSections) (format : Format) (table : EntryTable) (place : ℕ) (bytes : List ℕ) (entries : List Entry) : Type 0 where
+-- The bytes at the place are a table: how many fields its format has, the format, how many entries
+-- there are, and these. The format of a table that has entries is a good one.
+pub record SpellsTable (s : LineSections) (format : Format) (table : EntryTable) (place : ℕ)
+    (bytes : List ℕ) (entries : List Entry) : Type 0 where
   pub fields : List Field
   pub entry_format : List ℕ
   pub count : List ℕ
@@ -81,35 +93,43 @@ pub record SpellsTable (s : LineSections) (format : Format) (table : EntryTable)
   pub fields_are : SpellsEach SpellsField (place + 1) entry_format fields
   pub count_is : IsUleb count (length entries)
   pub good : 0 < length entries → is_format table fields ≡ true
-  pub entries_are : SpellsEach (SpellsEntry s format table fields) (place + 1 + length entry_format + length count) items entries
+  pub entries_are : SpellsEach (SpellsEntry s format table fields)
+      (place + 1 + length entry_format + length count) items entries
 
--- The bytes are what a header says of the instructions, from minimum_instruction_length to standard_opcode_lengths.
--- maximum_operations_per_instruction is 1, line_range is not 0, and each opcode before opcode_base has a length.
+-- The bytes are what a header says of the instructions, from minimum_instruction_length to
+-- standard_opcode_lengths. maximum_operations_per_instruction is 1, line_range is not 0, and each
+-- opcode before opcode_base has a length.
 pub record SpellsEncoding (bytes : List ℕ) (e : Encoding) : Type 0 where
   pub default_is_stmt : ℕ
   pub line_base : ℕ
-  pub whole : bytes ≡ e.minimum_length ∷ 1 ∷ default_is_stmt ∷ line_base ∷ e.line_range ∷ e.opcode_base ∷ e.opcode_lengths
+  pub whole : bytes ≡ e.minimum_length ∷ 1 ∷ default_is_stmt ∷ line_base ∷ e.line_range
+      ∷ e.opcode_base ∷ e.opcode_lengths
   pub base_is : e.line_base ≡ signed_byte line_base
   pub range : e.line_range ≢ 0
   pub lengths : e.opcode_base ≡ suc (length e.opcode_lengths)
   pub standard : are_standard e.opcode_lengths ≡ true
 
--- The bytes at the place are what header_length counts: the fields from minimum_instruction_length to the last file, and
--- what stands behind them up to the first instruction, which is not read.
-pub record SpellsFields (s : LineSections) (format : Format) (place : ℕ) (bytes : List ℕ) (header : LineHeader) : Type 0 where
+-- The bytes at the place are what header_length counts: the fields from minimum_instruction_length
+-- to the last file, and what stands behind them up to the first instruction, which is not read.
+pub record SpellsFields (s : LineSections) (format : Format) (place : ℕ) (bytes : List ℕ)
+    (header : LineHeader) : Type 0 where
   pub encoding : List ℕ
   pub directories : List ℕ
   pub files : List ℕ
   pub unread : List ℕ
   pub whole : bytes ≡ encoding ++ (directories ++ (files ++ unread))
   pub encoding_is : SpellsEncoding encoding header.encoding
-  pub directories_are : SpellsTable s format Directories (place + length encoding) directories header.directories
-  pub files_are : SpellsTable s format (Files (length header.directories)) (place + length encoding + length directories) files header.files
+  pub directories_are : SpellsTable s format Directories (place + length encoding) directories
+      header.directories
+  pub files_are : SpellsTable s format (Files (length header.directories))
+      (place + length encoding + length directories) files header.files
   pub first_is : header.first ≡ place + length bytes
 
--- The bytes at the place are a line program that has the header. unit_length counts what stands behind it, version is 5,
--- address_size 8 and segment_selector_size 0, and header_length counts what stands between it and the instructions.
-pub record SpellsHeader (s : LineSections) (place : ℕ) (bytes : List ℕ) (header : LineHeader) : Type 0 where
+-- The bytes at the place are a line program that has the header. unit_length counts what stands
+-- behind it, version is 5, address_size 8 and segment_selector_size 0, and header_length counts
+-- what stands between it and the instructions.
+pub record SpellsHeader (s : LineSections) (place : ℕ) (bytes : List ℕ) (header : LineHeader) : Type
+    0 where
   pub format : Format
   pub unit_length : List ℕ
   pub unit : List ℕ
@@ -120,5 +140,6 @@ pub record SpellsHeader (s : LineSections) (place : ℕ) (bytes : List ℕ) (hea
   pub unit_is : unit ≡ (5 ∷ 0 ∷ 8 ∷ 0 ∷ header_length) ++ (fields ++ instructions)
   pub unit_length_is : IsInitialLength format unit_length (length unit)
   pub header_length_is : IsFixed (offset_len format) header_length (length fields)
-  pub fields_are : SpellsFields s format (place + length unit_length + 4 + length header_length) fields header
+  pub fields_are : SpellsFields s format (place + length unit_length + 4 + length header_length)
+      fields header
   pub past_is : header.past ≡ place + length bytes

@@ -18,9 +18,9 @@ use Rattle.dwarf_lines.specs.Entries.{table_at}
 abbrev pub within : List ℕ → ℕ → Result ℕ Cause
 within bytes place = if nat_le place (length bytes) then Ok place else Err causes.Short
 
--- The bounds of the program at a place: its format, where the fields after header_length stand, where the
--- instructions begin, and where it ends. unit_length is read in the bounds of the section, the others in those of
--- the program.
+-- The bounds of the program at a place: its format, where the fields after header_length stand,
+-- where the instructions begin, and where it ends. unit_length is read in the bounds of the
+-- section, the others in those of the program.
 unfoldable pub bounds_at : List ℕ → ℕ → Result ProgramBounds Cause
 bounds_at line place = do
   unit ← reading (initial_length_at line place)
@@ -39,11 +39,13 @@ bounds_at line place = do
 abbrev pub standard_lengths : List ℕ
 standard_lengths = 0 ∷ 1 ∷ 1 ∷ 1 ∷ 1 ∷ 0 ∷ 0 ∷ 0 ∷ 1 ∷ 0 ∷ 0 ∷ 1 ∷ []
 
--- whether the lengths of opcodes, from opcode 1 on, are the standard's where it has one (our choice)
+-- whether the lengths of opcodes, from opcode 1 on, are the standard's where it has one (our
+-- choice)
 abbrev pub are_standard : List ℕ → Bool
 are_standard lengths = list_all (λ pair. pair.0 == pair.1) (zip lengths standard_lengths)
 
--- The lengths of so many opcodes. Each is judged as it is read: those that are there, before a missing one.
+-- The lengths of so many opcodes. Each is judged as it is read: those that are there, before a
+-- missing one.
 unfoldable pub lengths_at : ℕ → List ℕ → ℕ → Result (List ℕ × ℕ) Cause
 lengths_at count bytes place = do
   _ ← refuse_if (not (are_standard (take count (drop place bytes)))) causes.OpcodeLengths
@@ -85,12 +87,19 @@ pub record LineHeader : Type 0 where
   pub first : ℕ
   pub past : ℕ
 
--- The header of the program at a place. From minimum_instruction_length to the last file it is read in its own
--- bounds; what stands after that, up to the first instruction, is not read.
+-- The header of the program at a place. From minimum_instruction_length to the last file it is read
+-- in its own bounds; what stands after that, up to the first instruction, is not read.
 unfoldable pub header_at : LineSections → ℕ → Result LineHeader Cause
 header_at s place = do
   bounds ← bounds_at s.line place
   encoding ← encoding_at (take bounds.first s.line) bounds.fields
   directories ← table_at s bounds.format Directories (take bounds.first s.line) encoding.1
-  files ← table_at s bounds.format (Files (length directories.0)) (take bounds.first s.line) directories.1
-  Ok (record { encoding = encoding.0; directories = directories.0; files = files.0; first = bounds.first; past = bounds.past })
+  files ← table_at s bounds.format (Files (length directories.0)) (take bounds.first s.line)
+      directories.1
+  Ok (record {
+    encoding = encoding.0;
+    directories = directories.0;
+    files = files.0;
+    first = bounds.first;
+    past = bounds.past;
+  })

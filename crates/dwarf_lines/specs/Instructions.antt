@@ -50,13 +50,15 @@ after_ulebs (suc count) bytes place = do
 abbrev pub with_operand : {X : Type 0} → (X → Instruction) → X × ℕ → Result (Instruction × ℕ) Cause
 with_operand make operand = Ok (make operand.0, operand.1)
 
--- Extended opcodes (6.2.5.3): an opcode and its operands, all of the bytes of the length before them.
+-- Extended opcodes (6.2.5.3): an opcode and its operands, all of the bytes of the length before
+-- them.
 unfoldable pub extended_of : List ℕ → Result Instruction Cause
 extended_of body =
     if slice_index body 0 == DW_LNE_END_SEQUENCE then
     (if length body == 1 then Ok EndSequence else Err causes.Extended)
     else if slice_index body 0 == DW_LNE_SET_ADDRESS then
-    (if length body == 9 then Ok (SetAddress (little_endian (drop 1 body))) else Err causes.Extended)
+    (if length body == 9 then Ok (SetAddress (little_endian (drop 1 body)))
+    else Err causes.Extended)
     else Ok Skipped
 
 unfoldable pub extended_at : List ℕ → ℕ → Result (Instruction × ℕ) Cause
@@ -71,14 +73,19 @@ extended_at bytes place = do
 unfoldable pub standard_at : Encoding → ℕ → List ℕ → ℕ → Result (Instruction × ℕ) Cause
 standard_at e opcode bytes place =
     if opcode == DW_LNS_COPY then Ok (Copy, place)
-    else if opcode == DW_LNS_ADVANCE_PC then reading (uleb_at bytes place) >>= with_operand AdvancePc
-    else if opcode == DW_LNS_ADVANCE_LINE then reading (sleb_at bytes place) >>= with_operand AdvanceLine
+    else if opcode == DW_LNS_ADVANCE_PC then reading (uleb_at bytes place)
+    >>= with_operand AdvancePc
+    else if opcode == DW_LNS_ADVANCE_LINE then reading (sleb_at bytes place)
+    >>= with_operand AdvanceLine
     else if opcode == DW_LNS_SET_FILE then reading (uleb_at bytes place) >>= with_operand SetFile
     else if opcode == DW_LNS_CONST_ADD_PC then Ok (ConstAddPc, place)
-    else if opcode == DW_LNS_FIXED_ADVANCE_PC then reading (u16_at bytes place) >>= with_operand FixedAdvancePc
-    else after_ulebs (slice_index e.opcode_lengths (opcode - 1)) bytes place >>= λ after. Ok (Skipped, after)
+    else if opcode == DW_LNS_FIXED_ADVANCE_PC then reading (u16_at bytes place)
+    >>= with_operand FixedAdvancePc
+    else after_ulebs (slice_index e.opcode_lengths (opcode - 1)) bytes place
+    >>= λ after. Ok (Skipped, after)
 
--- An instruction, and the place after it. From opcode_base on an opcode is special, and is adjusted (6.2.5.1).
+-- An instruction, and the place after it. From opcode_base on an opcode is special, and is adjusted
+-- (6.2.5.1).
 unfoldable pub instruction_at : Encoding → List ℕ → ℕ → Result (Instruction × ℕ) Cause
 instruction_at e bytes place = do
   opcode ← reading (u8_at bytes place)
@@ -103,11 +110,13 @@ abbrev pub read_on : Result (Instruction × ℕ) Cause → (ℕ → Reading) →
 read_on (Ok i) rest = onto_reading i.0 (rest i.1)
 read_on (Err cause) rest = no_more (Some cause)
 
--- The instructions up to the end of the bytes or to the first fault. Each has a byte, so as many steps as there are bytes are enough.
+-- The instructions up to the end of the bytes or to the first fault. Each has a byte, so as many
+-- steps as there are bytes are enough.
 unfoldable pub reading_from : ℕ → Encoding → List ℕ → ℕ → Reading
 reading_from zero e bytes place = no_more None
 reading_from (suc steps) e bytes place =
-    if nat_lt place (length bytes) then read_on (instruction_at e bytes place) (reading_from steps e bytes) else no_more None
+    if nat_lt place (length bytes)
+    then read_on (instruction_at e bytes place) (reading_from steps e bytes) else no_more None
 
 abbrev pub reading_of : Encoding → List ℕ → ℕ → Reading
 reading_of e bytes place = reading_from (length bytes - place) e bytes place

@@ -27,7 +27,8 @@ pub record Lines : Type 0 where
   pub programs : List FileTables
 
 abbrev pub tables_of : Program → FileTables
-tables_of program = record { offset = program.offset; directories = program.directories; files = program.files }
+tables_of program =
+    record { offset = program.offset; directories = program.directories; files = program.files }
 
 abbrev pub lines_of : List Program → Lines
 lines_of programs = record { rows = rows_of programs; programs = map tables_of programs }
@@ -38,19 +39,22 @@ lines_in s = in_section sections.DebugLine (programs_of s) >>= λ programs. Ok (
 
 -- the number of the program that starts at an offset
 abbrev pub program_at : Lines → ℕ → Option ProgramNo
-program_at lines offset = option_map (λ n. record { 0 = n }) (position (λ program. program.offset == offset) lines.programs)
+program_at lines offset = option_map (λ n. record { 0 = n })
+    (position (λ program. program.offset == offset) lines.programs)
 
 -- how many files a program has; none for a number of no program
 abbrev pub file_count : Lines → ProgramNo → ℕ
-file_count lines number = option_map_or (λ program. length program.files) (slice_get lines.programs number.0) 0
+file_count lines number =
+    option_map_or (λ program. length program.files) (slice_get lines.programs number.0) 0
 
 -- the parts of the path of a program's file
 abbrev pub path_of : Lines → ProgramNo → ℕ → Option (List Text)
 path_of lines number file =
-    option_and_then (λ program. path_parts program.directories program.files file) (slice_get lines.programs number.0)
+    option_and_then (λ program. path_parts program.directories program.files file)
+    (slice_get lines.programs number.0)
 
--- A row covers an address from its own one on up to that of the next row of its sequence. The next row of one that
--- does not end its sequence is in its sequence.
+-- A row covers an address from its own one on up to that of the next row of its sequence. The next
+-- row of one that does not end its sequence is in its sequence.
 abbrev pub covers : ℕ → Row → Row → Bool
 covers address row next = not row.«end» && nat_le row.address address && nat_lt address next.address
 
@@ -58,14 +62,18 @@ covers address row next = not row.«end» && nat_le row.address address && nat_l
 abbrev pub row_of : List Row → ℕ → Option ℕ
 row_of [] address = None
 row_of (row ∷ []) address = None
-row_of (row ∷ next ∷ rows) address = if covers address row next then Some 0 else option_map suc (row_of (next ∷ rows) address)
+row_of (row ∷ next ∷ rows) address =
+    if covers address row next then Some 0 else option_map suc (row_of (next ∷ rows) address)
 
--- Behind each row that does not end its sequence stands the next row of the sequence, at no lower address.
+-- Behind each row that does not end its sequence stands the next row of the sequence, at no lower
+-- address.
 abbrev pub HaveNext : List Row → Type 0
 HaveNext rows = (i : ℕ) (row : Row) → slice_get rows i ≡ Some row → row.«end» ≡ false
-    → (next : Row) × (slice_get rows (i + 1) ≡ Some next) × (next.program ≡ row.program) × (row.address ≤ next.address)
+    → (next : Row) × (slice_get rows (i + 1) ≡ Some next) × (next.program ≡ row.program)
+    × (row.address ≤ next.address)
 
--- Each row that does not end its sequence has a path: its program and its file are there, and the file's directory is.
+-- Each row that does not end its sequence has a path: its program and its file are there, and the
+-- file's directory is.
 abbrev pub HavePaths : Lines → Type 0
 HavePaths lines = (i : ℕ) (row : Row) → slice_get lines.rows i ≡ Some row → row.«end» ≡ false
     → (parts : List Text) × (path_of lines row.program row.file ≡ Some parts)

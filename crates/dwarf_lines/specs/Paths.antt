@@ -8,8 +8,8 @@ use Rattle.dwarf_lines.specs.declared.entries.PathText.{PathText}
 use Rattle.dwarf_lines.specs.declared.entries.Entry.{Entry}
 use Rattle.dwarf_lines.specs.Sections.{LineSections, section_bytes}
 
--- The texts of a path: the file's; where it is not absolute its directory's before it; and where that is not absolute
--- either and not directory 0, that of directory 0.
+-- The texts of a path: the file's; where it is not absolute its directory's before it; and where
+-- that is not absolute either and not directory 0, that of directory 0.
 abbrev pub texts_of : PathText → ℕ → PathText → PathText → List PathText
 texts_of current number directory file =
     if file.absolute then file ∷ []
@@ -20,9 +20,11 @@ texts_of current number directory file =
 abbrev pub nonempty_parts : List PathText → List Text
 nonempty_parts texts = filter (λ part. nat_lt 0 part.span.len) (map (λ text. text.part) texts)
 
--- The parts of a file's path, between which slashes stand; directories and files are numbered from 0.
+-- The parts of a file's path, between which slashes stand; directories and files are numbered from
+-- 0.
 abbrev pub path_parts : List Entry → List Entry → ℕ → Option (List Text)
-path_parts directories files number = option_and_then (λ file. option_and_then (λ directory. option_map (λ current.
+path_parts directories files number =
+    option_and_then (λ file. option_and_then (λ directory. option_map (λ current.
     nonempty_parts (texts_of current.path file.directory directory.path file.path))
     (slice_get directories 0)) (slice_get directories file.directory)) (slice_get files number)
 

@@ -10,14 +10,16 @@ use Rattle.dwarf_lines.specs.Matrix.{is_open, latest_first}
 use Rattle.dwarf_lines.specs.Machine.{at_start, rows_by}
 use Rattle.dwarf_lines.specs.Programs.{Program}
 
--- At the place stands the number-th program: a header, and the spellings of instructions up to the program's end. Its rows
--- are those that the machine appends, and its last sequence is ended.
+-- At the place stands the number-th program: a header, and the spellings of instructions up to the
+-- program's end. Its rows are those that the machine appends, and its last sequence is ended.
 pub record IsProgram (s : LineSections) (number place : ℕ) (program : Program) : Type 0 where
   pub header : LineHeader
   pub instructions : List Instruction
   pub header_is : StandsAt (SpellsHeader s place) s.line place header header.past
-  pub instructions_are : AreSpelled header.encoding (drop header.first (take header.past s.line)) instructions
-  pub rows_are : rows_by header.encoding (record { program = record { 0 = number }; files = length header.files }) at_start
+  pub instructions_are : AreSpelled header.encoding (drop header.first (take header.past s.line))
+      instructions
+  pub rows_are : rows_by header.encoding (record
+      { program = record { 0 = number }; files = length header.files }) at_start
       instructions ≡ Ok program.rows
   pub ended : is_open (latest_first [] instructions) ≡ false
   pub program_is : program ≡ record {

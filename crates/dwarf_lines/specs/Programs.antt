@@ -1,4 +1,5 @@
--- The line programs of a section (DWARF 5, 6.2.4 and 6.2.5): their rows and files, or the first fault.
+-- The line programs of a section (DWARF 5, 6.2.4 and 6.2.5): their rows and files, or the first
+-- fault.
 use Rattle.std.specs.Prelude.{ℕ, List, [], length, take, Result, Ok, nat_le, if◌then◌else◌}
 use Rattle.std.specs.List.{flat_map}
 use Rattle.dwarf_bytes.specs.Bind.{◌>>=◌}
@@ -22,8 +23,18 @@ pub record Program : Type 0 where
 unfoldable pub program_at_place : LineSections → ℕ → ℕ → Result Program Cause
 program_at_place s number place = do
   header ← header_at s place
-  rows ← matrix_at header.encoding (record { program = record { 0 = number }; files = length header.files }) (take header.past s.line) header.first
-  Ok (record { offset = place; directories = header.directories; files = header.files; rows = rows; past = header.past })
+  rows ← matrix_at header.encoding (record {
+    program = record { 0 = number };
+    files = length
+        header.files;
+  }) (take header.past s.line) header.first
+  Ok (record {
+    offset = place;
+    directories = header.directories;
+    files = header.files;
+    rows = rows;
+    past = header.past;
+  })
 
 -- what stands at a place after these programs: the next one, or the end of the section
 abbrev pub next_program : LineSections → List Program → ℕ → Result (Next Program) Cause
@@ -31,8 +42,8 @@ next_program s before place =
     if nat_le (length s.line) place then Ok (End place)
     else program_at_place s (length before) place >>= λ program. Ok (Item program program.past)
 
--- The programs of the section, from its front to its end, each wholly good before the next one is looked at; or the
--- first fault, with the offset of its program.
+-- The programs of the section, from its front to its end, each wholly good before the next one is
+-- looked at; or the first fault, with the offset of its program.
 abbrev pub programs_of : LineSections → Result (List Program × ℕ) At
 programs_of s = items_from (length s.line) (next_program s) [] 0
 

@@ -23,7 +23,8 @@ impl EntryReader<'_> {
     /// An entry with one more of its fields.
     #[tactic(auto, unfolding(crate::specs::Entries::field_at))]
     fn with_field(&self, field: Field, entry: Entry, cursor: &mut Cursor) -> Result<Entry, Cause>
-        ensures { ReadsField (λ entry. entry) result (field_by self.now field entry) cursor.old cursor.new }
+        ensures { ReadsField (λ entry. entry) result (field_by self.now field entry) cursor.old
+            cursor.new }
     {
         if field.is_path() {
             let path = path(self.sections, self.format, field.form, cursor)?;
@@ -39,7 +40,8 @@ impl EntryReader<'_> {
 
     /// The fields of an entry.
     fn fields(&self, fields: &[Field], cursor: &mut Cursor) -> Result<Entry, Cause>
-        ensures { ReadsField (λ entry. entry) result (fields_by self.now fields.now) cursor.old cursor.new }
+        ensures { ReadsField (λ entry. entry) result (fields_by self.now fields.now) cursor.old
+            cursor.new }
     {
         let mut entry = Entry::new();
         for field in fields {
@@ -51,7 +53,8 @@ impl EntryReader<'_> {
     /// An entry whose directory is there.
     #[tactic(auto, unfolding(crate::specs::Entries::entry_at))]
     fn entry(&self, fields: &[Field], cursor: &mut Cursor) -> Result<Entry, Cause>
-        ensures { ReadsField (λ entry. entry) result (entry_by self.now fields.now) cursor.old cursor.new }
+        ensures { ReadsField (λ entry. entry) result (entry_by self.now fields.now) cursor.old
+            cursor.new }
     {
         let entry = self.fields(fields, cursor)?;
         if !entry.has_directory(self.table) {

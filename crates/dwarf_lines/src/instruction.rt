@@ -34,7 +34,8 @@ pub enum Instruction {
 /// The instruction at the cursor.
 #[tactic(auto, unfolding(crate::specs::Instructions::instruction_at))]
 pub fn decode(header: &LineEncoding, cursor: &mut Cursor) -> Result<Instruction, Cause>
-    ensures reads { ReadsField (λ i. i) result (instruction_at (encoding header.now)) cursor.old cursor.new }
+    ensures reads { ReadsField (λ i. i) result (instruction_at (encoding header.now)) cursor.old
+        cursor.new }
     ensures moves { IfOk result (λ _. cursor.old.place < cursor.new.place) }
     ensures reach { IfOk result (λ i. line_reach i ≤ 2 ^ 62 * (cursor.new.place - cursor.old.place)) }
 {
@@ -54,7 +55,8 @@ fn standard(header: &LineEncoding, opcode: u8, cursor: &mut Cursor) -> Result<In
     ensures reads { ReadsField (λ i. i) result (standard_at (encoding header.now) opcode)
         cursor.old cursor.new }
     ensures moves { IfOk result (λ _. cursor.old.place ≤ cursor.new.place) }
-    ensures reach { IfOk result (λ i. line_reach i ≤ 2 ^ 62 * (cursor.new.place + 1 - cursor.old.place)) }
+    ensures reach { IfOk result (λ i. line_reach i ≤ 2 ^ 62 *
+        (cursor.new.place + 1 - cursor.old.place)) }
 {
     match opcode {
         DW_LNS_COPY => Ok(Instruction::Copy),

@@ -37,8 +37,8 @@ impl Model for LineTables {
 }
 
 impl LineTables {
-    /// The line programs of `.debug_line`, which take texts of `.debug_line_str` and `.debug_str` by
-    /// offsets; or the first fault, with its program's offset in `.debug_line` (DWARF 5, 6.2).
+    /// The line programs of `.debug_line`, which take texts of `.debug_line_str` and `.debug_str`
+    /// by offsets; or the first fault, with its program's offset in `.debug_line` (DWARF 5, 6.2).
     pub fn read(
         alloc: Global,
         line: &[u8],

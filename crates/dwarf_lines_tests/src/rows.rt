@@ -163,7 +163,8 @@ fn a_dead_sequence_has_no_rows(rt: HostRuntime) -> Result<(), Fail> {
     open[74] = 4;
     let read = LineTables::read(rt.alloc(), &open, &[], &[]);
     assert_eq!(rt; read.err(), Some(fault(Cause::SequenceOpen, 0)));
-    // set_address 7, set_address 2^64 - 1, advance_pc 1, set_file 9, advance_line -5, copy, set_address 0, copy, end;
+    // set_address 7, set_address 2^64 - 1, advance_pc 1, set_file 9, advance_line -5, copy,
+    // set_address 0, copy, end;
     // then a sequence at 0
     let line = with_instructions(
         rt.alloc(),

@@ -19,7 +19,8 @@ struct Seen {
     bytes: u64,
 }
 
-/// Finds addresses spread over an object in one pass, and finds them with all their frames in another.
+/// Finds addresses spread over an object in one pass, and finds them with all their frames in
+/// another.
 pub fn measure_finds(rt: &HostRuntime, module: &Module) -> Result<()> {
     let mut steps = Steps {
         compares: 0,

@@ -20,9 +20,9 @@ pub fn count_ranges(scopes: &Scopes) -> u64 {
     count
 }
 
-/// Prints each scope as `OFFSET KIND NAME LINKAGE_NAME RANGES CALL_FILE CALL_LINE END STMT_LIST`, with
-/// tabs between them, ranges as `FROM-TO,..`, and `-` for what is absent. END is the number of the first
-/// later scope that is not below it.
+/// Prints each scope as `OFFSET KIND NAME LINKAGE_NAME RANGES CALL_FILE CALL_LINE END STMT_LIST`,
+/// with tabs between them, ranges as `FROM-TO,..`, and `-` for what is absent. END is the number of
+/// the first later scope that is not below it.
 pub fn print_scopes(rt: &HostRuntime, bytes: &[u8]) -> Result<()> {
     let sections = Sections::of(bytes, &Object::find(bytes)?);
     let scopes = Scopes::read(rt.alloc(), &sections)?;

@@ -20,13 +20,15 @@ parts_left s parts next = drop next (map (part_bytes s) parts)
 -- where a frame stands: at a row, or where the scope of a number was called
 abbrev pub site_told : List ℕ → Lines → List Scope → FrameSite → Site
 site_told bytes lines scopes (Row number) = row_site bytes lines number
-site_told bytes lines scopes (Call number) = unwrap_or (option_map (call_site bytes lines) (slice_get scopes number)) nowhere
+site_told bytes lines scopes (Call number) =
+    unwrap_or (option_map (call_site bytes lines) (slice_get scopes number)) nowhere
 
 -- a frame, of the scope of a number or of a row alone
 abbrev pub frame_told : List ℕ → Lines → List Scope → Option ℕ → FrameSite → Frame
 frame_told bytes lines scopes number site =
     let scope = option_and_then (slice_get scopes) number in
-    frame_at bytes (option_and_then (λ s. s.name) scope) (option_and_then (λ s. s.linkage_name) scope) (site_told bytes lines scopes site)
+    frame_at bytes (option_and_then (λ s. s.name) scope)
+        (option_and_then (λ s. s.linkage_name) scope) (site_told bytes lines scopes site)
 
 -- the frame of a row alone
 abbrev pub row_frame : Bool → List ℕ → Site → List Frame
@@ -37,7 +39,8 @@ row_frame false bytes site = []
 abbrev pub walk_left : List ℕ → Lines → List Scope → ℕ → ℕ → FrameSite → Bool → List Frame
 walk_left bytes lines scopes link near site alone =
     let here = site_told bytes lines scopes site in
-    row_frame alone bytes here ++ frames_from bytes lines (reverse (chain_around link scopes near)) here
+    row_frame alone bytes here
+        ++ frames_from bytes lines (reverse (chain_around link scopes near)) here
 
 -- what is left of a walk, if there is one
 abbrev pub frames_left : Option (List Frame) → List Frame

@@ -19,7 +19,8 @@ chain_around a scopes near = held_among a (around scopes near)
 
 -- the number of its outermost scope
 abbrev pub top_around : ℕ → List Scope → ℕ → Option ℕ
-top_around a scopes near = option_map (λ s. s.number) (find (is_at Subprogram a) (around scopes near))
+top_around a scopes near =
+    option_map (λ s. s.number) (find (is_at Subprogram a) (around scopes near))
 
 -- nothing is left of the chain, or it ends with this one
 abbrev pub EndsAt : ℕ → List Scope → ℕ → ℕ → Type 0
@@ -29,7 +30,8 @@ EndsAt a scopes near top = (near ≡ 0) ⊎ (top_around a scopes near ≡ Some t
 pub data IsTold (a : ℕ) (scopes : List Scope) (near top : ℕ) : Type 0 where
   nothing : near ≡ 0 → IsTold a scopes near top
   outermost : near ≡ suc top → IsTold a scopes near top
-  inlined : (k : ℕ) → near ≡ suc k → k ≢ top → ((d : Scope) → is_at Inlined a (get_or scopes k d) ≡ true) → IsTold a scopes near top
+  inlined : (k : ℕ) → near ≡ suc k → k ≢ top
+      → ((d : Scope) → is_at Inlined a (get_or scopes k d) ≡ true) → IsTold a scopes near top
 
 -- the number behind that of the scope around one that was told
 abbrev pub outer_of : List ℕ → ℕ → ℕ → ℕ

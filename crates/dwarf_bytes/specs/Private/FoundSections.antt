@@ -15,7 +15,8 @@ use Rattle.dwarf_bytes.specs.Elf.{no_span, section_header, span_of, is_named, wa
 -- where the section of a name stands, by the headers below the k-th
 abbrev pub span_before : List ℕ → ℕ → Section → Option Span
 span_before bytes k section =
-    option_map (λ j. span_of (section_header bytes j)) (find (λ j. is_named bytes j section) (range_with_len 0 k))
+    option_map (λ j. span_of (section_header bytes j))
+    (find (λ j. is_named bytes j section) (range_with_len 0 k))
 
 -- the same for each wanted section
 unfoldable pub spans_before : List ℕ → ℕ → List (Option Span)

@@ -28,7 +28,8 @@ pub record IsContinued (bytes : List ℕ) (value : ℕ) : Type 0 where
 abbrev pub IsLebPrefix : List ℕ → Result LebPrefix ReadFault → Type 0
 IsLebPrefix bytes (Ok (Whole value len)) = IsWhole bytes value len
 IsLebPrefix bytes (Ok (Continued value)) = IsContinued bytes value
-IsLebPrefix bytes (Err fault) = (fault ≡ Short) × (length bytes < 9) × All (λ byte. 128 ≤ byte) bytes
+IsLebPrefix bytes (Err fault) =
+    (fault ≡ Short) × (length bytes < 9) × All (λ byte. 128 ≤ byte) bytes
 
 -- the number at the front of the bytes, and its length
 unfoldable pub uleb_front : List ℕ → Result (ℕ × ℕ) ReadFault

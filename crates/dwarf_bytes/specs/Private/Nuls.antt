@@ -1,4 +1,5 @@
--- Where texts end (DWARF 5, 7.5.5), for the contracts of the index by which the end of a text is found.
+-- Where texts end (DWARF 5, 7.5.5), for the contracts of the index by which the end of a text is
+-- found.
 use Rattle.std.specs.Prelude.{◌≡◌, ℕ, zero, suc, ◌+◌, ◌*◌, ◌≤◌, List, [], ◌∷◌, length, drop, Option}
 use Rattle.std.specs.Prelude.{option_map, position, ◌==◌}
 
@@ -13,7 +14,8 @@ block_len = 4096
 -- the first NUL from the start of each of some blocks on
 abbrev pub nuls_from : List ℕ → ℕ → ℕ → List (Option ℕ)
 nuls_from section block zero = []
-nuls_from section block (suc count) = nul_from section (block_len * block) ∷ nuls_from section (block + 1) count
+nuls_from section block (suc count) =
+    nul_from section (block_len * block) ∷ nuls_from section (block + 1) count
 
 -- .. of all blocks of a section
 pub record AreNuls (section : List ℕ) (nuls : List (Option ℕ)) : Type 0 where

@@ -16,7 +16,8 @@ pub record EndsTexts (bytes : List ℕ) (end : ℕ) : Type 0 where
 -- whether the bytes begin with a text and its NUL
 abbrev pub begins_with : List ℕ → List ℕ → Bool
 begins_with bytes text =
-    nat_lt (length text) (length bytes) && (starts_with nat_eq bytes text && (get_or bytes (length text) 0 == 0))
+    nat_lt (length text) (length bytes)
+    && (starts_with nat_eq bytes text && (get_or bytes (length text) 0 == 0))
 
 -- a name stands at the offset, and this is its number among the wanted ones
 abbrev pub IsNumberAt : List ℕ → ℕ → Option ℕ → Type 0

@@ -7,10 +7,15 @@ use Rattle.dwarf_bytes.specs.Position.{Position}
 use Rattle.dwarf_forms.specs.Declarations.{Declaration}
 use Rattle.dwarf_forms.specs.Tables.{declaration_at}
 
--- The table has one more declaration, that at the cursor, and the cursor stands after it; or the end stands there.
-abbrev pub ExtendsTable : Result Bool Cause → ℕ → List Declaration → List Declaration → Position → Position → Type 0
+-- The table has one more declaration, that at the cursor, and the cursor stands after it; or the
+-- end stands there.
+abbrev pub ExtendsTable : Result Bool Cause → ℕ → List Declaration → List Declaration → Position
+    → Position → Type 0
 ExtendsTable (Ok true) room before after old new =
-    (d : Declaration) × (declaration_at room old.bytes before old.place ≡ Ok (Item d new.place)) × (after ≡ before ++ d ∷ []) × (new.bytes ≡ old.bytes)
+    (d : Declaration) × (declaration_at room old.bytes before old.place ≡ Ok (Item d new.place))
+    × (after ≡ before ++ d ∷ []) × (new.bytes ≡ old.bytes)
 ExtendsTable (Ok false) room before after old new =
-    (declaration_at room old.bytes before old.place ≡ Ok (End new.place)) × (after ≡ before) × (new.bytes ≡ old.bytes)
-ExtendsTable (Err cause) room before after old new = Fails cause (declaration_at room old.bytes before old.place)
+    (declaration_at room old.bytes before old.place ≡ Ok (End new.place)) × (after ≡ before)
+    × (new.bytes ≡ old.bytes)
+ExtendsTable (Err cause) room before after old new =
+    Fails cause (declaration_at room old.bytes before old.place)

@@ -11,16 +11,28 @@ use Rattle.dwarf_lines.specs.Programs.{Program}
 use Rattle.dwarf_lines.specs.Lines.{FileTables, tables_of}
 
 abbrev pub tables_in : ProgramFiles → FileTables
-tables_in program = record { offset = program.offset; directories = program.directories.items; files = program.files.items }
+tables_in program = record {
+  offset = program.offset;
+  directories = program.directories.items;
+  files = program.files.items;
+}
 
 abbrev pub header_in : LineProgramHeader → LineHeader
-header_in h = record { encoding = encoding h.opcodes; directories = h.directories.items; files = h.files.items; first = h.first; past = h.past }
+header_in h = record {
+  encoding = encoding h.opcodes;
+  directories = h.directories.items;
+  files = h.files.items;
+  first = h.first;
+  past = h.past;
+}
 
--- The program of the outcome was put at the end, its rows and its files, or the fault is the outcome's, unless
--- memory ran out.
-abbrev pub AddsProgram : Result ℕ Cause → Result Program Cause → List Row → List Row → List ProgramFiles
+-- The program of the outcome was put at the end, its rows and its files, or the fault is the
+-- outcome's, unless memory ran out.
+abbrev pub AddsProgram : Result ℕ Cause → Result Program Cause → List Row → List Row
+    → List ProgramFiles
     → List ProgramFiles → Type 0
 AddsProgram (Ok past) outcome old_rows new_rows old new =
-    (program : Program) × (outcome ≡ Ok program) × (past ≡ program.past) × (new_rows ≡ old_rows ++ program.rows)
+    (program : Program) × (outcome ≡ Ok program) × (past ≡ program.past)
+    × (new_rows ≡ old_rows ++ program.rows)
     × (map tables_in new ≡ map tables_in old ++ tables_of program ∷ [])
 AddsProgram (Err cause) outcome old_rows new_rows old new = Fails cause outcome

@@ -18,7 +18,8 @@ abbrev pub field_by : EntryReader → Field → Entry → List ℕ → ℕ → R
 field_by reader = field_at (sections_of reader.sections) reader.format reader.table
 
 abbrev pub fields_by : EntryReader → List Field → List ℕ → ℕ → Result (Entry × ℕ) Cause
-fields_by reader fields = fields_at (sections_of reader.sections) reader.format reader.table fields no_entry
+fields_by reader fields =
+    fields_at (sections_of reader.sections) reader.format reader.table fields no_entry
 
 -- an entry, so many, and the whole table
 abbrev pub entry_by : EntryReader → List Field → List ℕ → ℕ → Result (Entry × ℕ) Cause

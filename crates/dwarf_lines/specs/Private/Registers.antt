@@ -21,7 +21,8 @@ IsSum (Some n) sum = n ≡ sum
 abbrev pub has_dropped : List Instruction → Bool
 has_dropped before = is_open before && is_dead before
 
--- The registers are those after these instructions. The address of the last row is kept of a sequence that is not dead.
+-- The registers are those after these instructions. The address of the last row is kept of a
+-- sequence that is not dead.
 pub record AreRegisters (e : Encoding) (before : List Instruction) (r : Registers) : Type 0 where
   pub address : IsSum r.address (address_after e before)
   pub line : r.line ≡ line_after e before
@@ -30,7 +31,8 @@ pub record AreRegisters (e : Encoding) (before : List Instruction) (r : Register
   pub has_row : r.has_row ≡ is_open before
   pub dead : r.dead ≡ is_dead before
 
--- The row of the registers is made at the address sum, and is then the last one; in a dead sequence it is dropped.
+-- The row of the registers is made at the address sum, and is then the last one; in a dead sequence
+-- it is dropped.
 abbrev pub KeepsRow : Origin → Registers → ℕ → Result (Option Row) Cause → Registers → Type 0
 KeepsRow origin old sum (Ok (Some row)) new = (old.dead ≡ false)
     × (line_row origin old.previous sum old.line old.file ≡ Ok row)
@@ -46,7 +48,8 @@ last_row false (Ok row) = Ok (Some row)
 last_row false (Err cause) = Err cause
 
 -- A step after these instructions gives what the instruction makes, and the registers after it.
-abbrev pub Makes : Encoding → Origin → List Instruction → Instruction → Result (Option Row) Cause → Registers → Type 0
+abbrev pub Makes : Encoding → Origin → List Instruction → Instruction → Result (Option Row) Cause
+    → Registers → Type 0
 Makes e origin before i (Ok row) new = (made e origin before i ≡ Ok (option_to_list row))
     × AreRegisters e (i ∷ before) new
 Makes e origin before i (Err cause) new = made e origin before i ≡ Err cause
@@ -60,7 +63,9 @@ line_reach _ = 0
 abbrev pub IsNear : ℤ → ℤ → Instruction → Type 0
 IsNear old new i = unsigned_abs new ≤ 2 ^ 10 + unsigned_abs old + line_reach i
 
--- The rows of the outcome were put at the end, or the fault is the outcome's, unless memory ran out.
-abbrev pub Adds : {X : Type 0} → Result X Cause → List Row → List Row → Result (List Row) Cause → Type 0
+-- The rows of the outcome were put at the end, or the fault is the outcome's, unless memory ran
+-- out.
+abbrev pub Adds : {X : Type 0} → Result X Cause → List Row → List Row → Result (List Row) Cause
+    → Type 0
 Adds (Ok _) old new outcome = with_front old outcome ≡ Ok new
 Adds (Err cause) old new outcome = Fails cause outcome
