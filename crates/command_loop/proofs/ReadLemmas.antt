@@ -1,10 +1,10 @@
 -- Lines that were read, and served.
-use Rattle.std.proofs.Common.{◌≡◌, ◌≢◌, ℕ, ◌+◌, ◌<◌, ◌≤◌, Bool, true, false, suc, nat_lt, cond, List, [], ◌∷◌, ◌++◌, length}
+use Rattle.std.proofs.Common.{◌≡◌, ◌≢◌, ℕ, ◌+◌, ◌-◌, ◌<◌, Bool, true, false, suc, nat_lt, cond, List, [], ◌∷◌, ◌++◌, length}
 use Rattle.std.proofs.Common.{take, drop, get_or, take-append-drop, drop-cons, refl, sym, ◌∙◌, ap, subst, append_assoc}
-use Rattle.std.proofs.Common.{append-nil, length-append, arith}
+use Rattle.std.proofs.Common.{append-nil, length-append, length-take, arith}
 use Rattle.std.specs.Prelude.{filter, Option, None, Some, Result}
 use Rattle.std.proofs.lemmas.Bool.{ltb-true, lt-ltb, eqb-true}
-use Rattle.std.proofs.lemmas.List.{get_or-take}
+use Rattle.std.proofs.lemmas.List.{get_or-take, take_all, length-drop}
 use Rattle.answer_text.specs.declared.options.Options.{Options}
 use Rattle.command_loop.proofs.LineLemmas.{lines_are, ended_at_feed, open_at_feed, ended_at_bytes, open_at_bytes, ends_open, HasNoFeed}
 use Rattle.memchr.specs.Find.{IsFirstByte, is_byte}
@@ -14,7 +14,7 @@ use Rattle.command_loop.specs.Requests.{Request, requests, parse, parse_kept}
 use Rattle.command_loop.specs.Output.{Exchanges}
 use Rattle.command_loop.specs.Private.Progress.{RunState, ServesRequest, FailsToReply, ServedInOrder, ReadSoFar}
 use Rattle.command_loop.specs.Private.Progress.{StopsAtLine, ReadsOn, StopsWithin}
-use Rattle.command_loop.proofs.ServedLemmas.{map_append, handled_none, handled_one, handled_then, handled_as, halts, take_next, take_past}
+use Rattle.command_loop.proofs.ServedLemmas.{map_append, handled_none, handled_one, handled_then, handled_as, halts}
 
 -- more lines were served
 pub further : (options : Options) (start now new : RunState) (read more : List ℕ) (held held' : Option (List ℕ)) (extra : List (List ℕ)) →
@@ -157,7 +157,7 @@ served_none options piece a ha = record {
 -- the first line feed, as a search tells it
 pub no_feed : (bytes : List ℕ) (found : Option ℕ) → found ≡ None → IsFirstByte (is_byte 10) bytes found → HasNoFeed bytes
 no_feed bytes None is nowhere k lt e = nowhere k (omega arith) lt (rw e refl)
-no_feed bytes (Some end) is first = cc
+no_feed bytes (Some end) is first k lt e = cc
 
 -- what stands before a line feed, and behind it
 pub record CutAtFeed (bytes : List ℕ) (end : ℕ) : Type 0 where
@@ -184,19 +184,22 @@ cut_at_feed bytes (Some place) end is first =
           none k within (sym (get_or-take place bytes k 0 within) ∙ e);
       cut = sym (take-append-drop place bytes) ∙ ap (λ (z : List ℕ). take place bytes ++ z)
           (drop-cons bytes place 0 lt ∙ ap (λ (z : ℕ). z ∷ drop (suc place) bytes) is
-          ∙ ap (λ (n : ℕ). 10 ∷ drop n bytes) (omega arith));
+          ∙ ap (λ (n : ℕ). 10 ∷ drop n bytes) {x = suc place} {y = place + 1} (omega arith));
     }
 
 -- the lines of a piece, up to the next line feed
 pub serves_line : (options : Options) (piece rest : List ℕ) (end : ℕ) (a b c : RunState) (ha hb hc : Option (List ℕ)) →
     CutAtFeed rest end → ServedTo options piece rest a ha b hb → ReadsOn options (10 ∷ []) b (longer hb (take end rest)) c hc
-    → ServedTo options piece (drop (end + 1) rest) a ha c hc
+    → ServedTo options piece (take (length rest - (end + 1)) (drop (end + 1) rest)) a ha c hc
 serves_line options piece rest end a b c ha hb hc f s k =
     let line : List ℕ = take end rest in
+    let past : List ℕ = drop (end + 1) rest in
+    let behind : take (length rest - (end + 1)) past ≡ past =
+    take_all (length rest - (end + 1)) past (omega (arith, length-drop (end + 1) rest)) in
     record {
       front = s.front ++ (line ++ 10 ∷ []);
-      cut = s.cut ∙ ap (λ (z : List ℕ). s.front ++ z) (f.cut ∙ sym (append_assoc line (10 ∷ []) (drop (end + 1) rest)))
-          ∙ sym (append_assoc s.front (line ++ 10 ∷ []) (drop (end + 1) rest));
+      cut = s.cut ∙ ap (λ (z : List ℕ). s.front ++ z) (f.cut ∙ sym (append_assoc line (10 ∷ []) past))
+          ∙ sym (append_assoc s.front (line ++ 10 ∷ []) past) ∙ ap (λ (z : List ℕ). (s.front ++ (line ++ 10 ∷ [])) ++ z) (sym behind);
       reads = continues_then options a b c ha hb hc s.front (line ++ 10 ∷ []) s.reads
           (continues_then options b b c hb (longer hb line) hc line (10 ∷ []) (continues_bytes options b hb line f.none) k);
     }

@@ -1,4 +1,4 @@
-use Rattle.std.proofs.Common.{◌≡◌, ℕ, length}
+use Rattle.std.proofs.Common.{◌≡◌, length}
 use Rattle.command_loop.proofs.ReadLemmas.{ServedTo}
 use Rattle.command_loop.proofs.session.Session.take_piece.Given as goal
 
