@@ -17,10 +17,18 @@ fn main(rt: HostRuntime) -> ExitCode {
     match words(&rt) {
         Ok(words) => ExitCode::from(streams::serve(&rt, &words)),
         Err(fault) => {
-            let _ = eprintln!(rt; "addr2line_live: {fault}");
+            let _ = tell(&rt, &fault);
             ExitCode::from(2)
         }
     }
+}
+
+/// Tells on standard error why there are no words.
+fn tell(rt: &HostRuntime, fault: &io::Error) -> io::Result<()> {
+    if fault.kind() == io::ErrorKind::OutOfMemory {
+        return eprintln!(rt; "addr2line_live: no memory");
+    }
+    eprintln!(rt; "addr2line_live: {fault}")
 }
 
 /// The words of the command line, the first of which is the program's name.
