@@ -5,12 +5,12 @@ use std::test::*;
 
 #[test]
 fn reads_objects_from_files(rt: HostRuntime) -> Result<(), Fail> {
-    fs::write(&rt, "inlined.o", dwarf_samples::INLINED.as_slice())?;
+    fs::write(&rt, "inlined.o", dwarf_samples::inlined().as_slice())?;
     let mut source = FileSource::new(rt.alloc(), &rt);
     let bytes = source.fetch("inlined.o");
     fs::remove_file(&rt, "inlined.o")?;
     match bytes {
-        Ok(bytes) => assert_eq!(rt; bytes.as_slice(), dwarf_samples::INLINED.as_slice()),
+        Ok(bytes) => assert_eq!(rt; bytes.as_slice(), dwarf_samples::inlined().as_slice()),
         Err(fault) => assert_eq!(rt; fault, FetchFault::Memory),
     }
     Ok(())

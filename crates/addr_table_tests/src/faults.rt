@@ -49,14 +49,14 @@ fn samples_with_a_fault(rt: HostRuntime) -> Result<(), Fail> {
     )?;
     is_refused(&rt, &origin_of_no_entry(), info, Cause::Reference, 54)?;
     is_refused(&rt, &[], Section::Elf, Cause::NotElf, 0)?;
-    is_refused(&rt, &INLINED[..63], Section::Elf, Cause::NotElf, 0)?;
+    is_refused(&rt, &inlined()[..63], Section::Elf, Cause::NotElf, 0)?;
     Ok(())
 }
 
 #[test]
 fn a_root_of_no_program(rt: HostRuntime) -> Result<(), Fail> {
     // the root's line program at 1; and also the call file outside: the root is judged first
-    let mut object = INLINED;
+    let mut object = *inlined();
     object[176] = 1;
     is_refused(&rt, &object, Section::DebugInfo, Cause::StmtList, 12)?;
     let mut both = call_file_outside();
@@ -83,7 +83,7 @@ fn units_are_judged_one_after_the_other(rt: HostRuntime) -> Result<(), Fail> {
     let parts = Parts {
         abbrev: &ABBREV,
         info: &info,
-        line: &INLINED[259..334],
+        line: &inlined()[259..334],
         rnglists: &[],
     };
     let bytes = object(rt.alloc(), parts)?;
@@ -99,7 +99,7 @@ fn a_call_file_of_a_subprogram_is_not_judged(rt: HostRuntime) -> Result<(), Fail
     let parts = Parts {
         abbrev: &ABBREV,
         info: &info,
-        line: &INLINED[259..334],
+        line: &inlined()[259..334],
         rnglists: &[],
     };
     let bytes = object(rt.alloc(), parts)?;
@@ -111,12 +111,12 @@ fn a_call_file_of_a_subprogram_is_not_judged(rt: HostRuntime) -> Result<(), Fail
 #[test]
 fn want_of_memory_is_the_only_other_answer(rt: HostRuntime) -> Result<(), Fail> {
     let mut bytes = Vec::new(rt.alloc());
-    bytes.extend_from_slice(&INLINED)?;
+    bytes.extend_from_slice(inlined())?;
     match Module::decode(rt.alloc(), bytes) {
         Ok(module) => assert_eq!(rt; module.segments().list().len(), 4),
         Err((back, fault)) => {
             assert_eq!(rt; fault, LoadFault::told(Section::Elf, Cause::Memory, 0));
-            assert_eq!(rt; back.as_slice(), INLINED.as_slice());
+            assert_eq!(rt; back.as_slice(), inlined().as_slice());
         }
     }
     Ok(())

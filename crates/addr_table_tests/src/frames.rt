@@ -1,7 +1,7 @@
 //! Frames of objects that are made for one question.
 
 use crate::fixtures::*;
-use dwarf_samples::INLINED;
+use dwarf_samples::inlined;
 use std::alloc::{AllocError, Global};
 use std::test::*;
 
@@ -58,7 +58,7 @@ fn one_unit(
 
 /// The line program of the first sample.
 fn line() -> &'static [u8] {
-    &INLINED[259..334]
+    &inlined()[259..334]
 }
 
 #[test]
@@ -123,7 +123,7 @@ fn a_call_without_file_and_line(rt: HostRuntime) -> Result<(), Fail> {
 /// The first sample's line program for the file `b.c`.
 fn other_line() -> [u8; 75] {
     let mut line = [0; 75];
-    line.copy_from_slice(&INLINED[259..334]);
+    line.copy_from_slice(&inlined()[259..334]);
     // the names of files 0 and 1
     line[45] = b'b';
     line[50] = b'b';

@@ -2,20 +2,20 @@
 
 use crate::fixtures::*;
 use addr_table::{Place, laws};
-use dwarf_samples::{INLINED, TWO_SEQUENCES};
+use dwarf_samples::{inlined, two_sequences};
 use std::process::Abort;
 use std::test::*;
 
 /// The place of 0x1004 in the first sample: row 1 and scope 4.
 fn place(rt: &(impl Abort + AllocGlobal)) -> Result<Place, Fail> {
-    let module = sample(rt.alloc(), &INLINED)?;
+    let module = sample(rt.alloc(), inlined())?;
     Ok(find(&module, 0x1004).ok_or("no place")?)
 }
 
 #[test]
 fn a_place_of_a_module_with_scopes(rt: HostRuntime) -> Result<(), Fail> {
     let place = place(&rt)?;
-    let mut bare = INLINED;
+    let mut bare = *inlined();
     bare[543] = 0;
     let module = sample(rt.alloc(), &bare)?;
     are_frames(&rt, module.frames(place), &[(None, Some(b"/src/a.c"), 11)])?;
@@ -41,7 +41,7 @@ fn a_place_of_a_module_with_rows(rt: HostRuntime) -> Result<(), Fail> {
 fn a_place_of_a_module_with_other_rows(rt: HostRuntime) -> Result<(), Fail> {
     let place = place(&rt)?;
     // the same scopes
-    let module = sample(rt.alloc(), &TWO_SEQUENCES)?;
+    let module = sample(rt.alloc(), two_sequences())?;
     let frame = module.frames(place).next().ok_or("no frame")?;
     assert_eq!(rt; frame.name(), Some(b"leaf".as_slice()));
     Ok(())

@@ -2,19 +2,19 @@
 
 use crate::fixtures::*;
 use addr_table::{Frames, Module};
-use dwarf_samples::{INLINED, TWO_SEQUENCES, leaf_without_code};
+use dwarf_samples::{inlined, leaf_without_code, two_sequences};
 use std::test::*;
 
 /// The first sample without `.debug_info`.
 fn without_entries() -> [u8; 703] {
-    let mut object = INLINED;
+    let mut object = *inlined();
     object[543] = 0;
     object
 }
 
 #[test]
 fn frames_of_inlined_subroutines(rt: HostRuntime) -> Result<(), Fail> {
-    let module = sample(rt.alloc(), &INLINED)?;
+    let module = sample(rt.alloc(), inlined())?;
     assert_eq!(rt; (module.low(), module.high()), (0x1000, 0x2000));
     let place = find(&module, 0x1004).ok_or("no place")?;
     assert_eq!(rt;
@@ -65,7 +65,7 @@ fn a_row_alone_is_a_frame_without_a_name(rt: HostRuntime) -> Result<(), Fail> {
 #[test]
 fn the_first_covering_row_in_file_order(rt: HostRuntime) -> Result<(), Fail> {
     // both sequences cover 0x1000 to 0x1010; the later one tells line 98
-    let module = sample(rt.alloc(), &TWO_SEQUENCES)?;
+    let module = sample(rt.alloc(), two_sequences())?;
     answers(
         &rt,
         &module,
@@ -99,7 +99,7 @@ fn a_scope_without_code_is_passed_over(rt: HostRuntime) -> Result<(), Fail> {
 
 #[test]
 fn the_parts_of_a_path(rt: HostRuntime) -> Result<(), Fail> {
-    let module = sample(rt.alloc(), &INLINED)?;
+    let module = sample(rt.alloc(), inlined())?;
     let place = find(&module, 0x1000).ok_or("no place")?;
     let frame = module.frames(place).next().ok_or("no frame")?;
     let mut path = frame.path().ok_or("no path")?;
@@ -114,8 +114,8 @@ fn the_parts_of_a_path(rt: HostRuntime) -> Result<(), Fail> {
 #[test]
 fn segments_and_scan_tell_the_same_places(rt: HostRuntime) -> Result<(), Fail> {
     let modules: [Module; 4] = [
-        sample(rt.alloc(), &INLINED)?,
-        sample(rt.alloc(), &TWO_SEQUENCES)?,
+        sample(rt.alloc(), inlined())?,
+        sample(rt.alloc(), two_sequences())?,
         sample(rt.alloc(), &leaf_without_code())?,
         sample(rt.alloc(), &without_entries())?,
     ];

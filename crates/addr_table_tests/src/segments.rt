@@ -2,7 +2,7 @@
 
 use crate::fixtures::*;
 use addr_table::{AddressTable, Segment, Steps};
-use dwarf_samples::INLINED;
+use dwarf_samples::inlined;
 use std::process::Abort;
 use std::test::*;
 
@@ -25,7 +25,7 @@ fn is_segment(
 
 #[test]
 fn segments_of_inlined_subroutines(rt: HostRuntime) -> Result<(), Fail> {
-    let module = sample(rt.alloc(), &INLINED)?;
+    let module = sample(rt.alloc(), inlined())?;
     let list = module.segments().list();
     assert_eq!(rt; list.len(), 4);
     is_segment(&rt, list.get(0), (0x1000, 0x1004), 0, 2);
@@ -40,7 +40,7 @@ fn segments_of_inlined_subroutines(rt: HostRuntime) -> Result<(), Fail> {
 
 #[test]
 fn a_search_halves(rt: HostRuntime) -> Result<(), Fail> {
-    let module = sample(rt.alloc(), &INLINED)?;
+    let module = sample(rt.alloc(), inlined())?;
     for link in 0x1000..0x1010 {
         let mut steps = Steps {
             compares: 100,
@@ -68,7 +68,7 @@ fn counts_stop_at_the_greatest_number(rt: HostRuntime) -> Result<(), Fail> {
     assert_eq!(rt; steps.compares, u64::MAX);
     assert!(rt; !steps.reached(4, 5));
     assert_eq!(rt; (steps.compares, steps.decoded), (u64::MAX, 3));
-    let module = sample(rt.alloc(), &INLINED)?;
+    let module = sample(rt.alloc(), inlined())?;
     assert!(rt; module.find(0x1004, &mut steps).is_some());
     assert!(rt; module.scan().find(0x1004, &mut steps).is_some());
     assert_eq!(rt; (steps.compares, steps.decoded), (u64::MAX, 3));

@@ -26,7 +26,7 @@ impl Shelf {
     /// The bytes of a sample object.
     fn object(&self, path: &str) -> Option<Result<Vec<u8>, AllocError>> {
         let bytes = match path {
-            "A" => INLINED,
+            "A" => *inlined(),
             "A1" => cut_abbreviations(),
             "A2" => circular_origins(),
             "A3" => many_directories_without_a_format(),
@@ -45,7 +45,7 @@ impl Shelf {
 
 /// The first sample with other texts of its two files, each with a NUL and the number 0 behind it.
 fn with_files(files: &[u8; 10]) -> [u8; 703] {
-    let mut object = INLINED;
+    let mut object = *inlined();
     object[304..314].copy_from_slice(files);
     object
 }
@@ -56,9 +56,9 @@ impl Objects for Shelf {
     fn fetch(&mut self, path: &str) -> Result<Vec<u8>, FetchFault> {
         self.questions = self.questions.saturating_add(1);
         let object = match path {
-            "B" => TWO_SEQUENCES.to_vec(self.alloc),
+            "B" => two_sequences().to_vec(self.alloc),
             "empty" => Ok(Vec::new(self.alloc)),
-            "cut" => INLINED[..63].to_vec(self.alloc),
+            "cut" => inlined()[..63].to_vec(self.alloc),
             "large" => return Err(FetchFault::TooLarge),
             "short" => return Err(FetchFault::Memory),
             _ => match self.object(path) {

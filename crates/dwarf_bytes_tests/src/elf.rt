@@ -1,12 +1,12 @@
 //! Object files: their layout, and their first fault.
 
 use dwarf_bytes::{Cause, LoadFault, Object, Section, Span};
-use dwarf_samples::{INLINED, TWO_SEQUENCES};
+use dwarf_samples::{inlined, two_sequences};
 use std::test::Fail;
 
 /// The first object with other bytes at some places.
 fn changed(edits: &[(usize, u8)]) -> [u8; 703] {
-    let mut object = INLINED;
+    let mut object = *inlined();
     for (place, byte) in edits {
         if *place < object.len() {
             object[*place] = *byte;
@@ -25,7 +25,7 @@ fn elf(cause: Cause, at: u64) -> Option<LoadFault> {
 
 #[test]
 fn finds_the_sections(rt: HostRuntime) -> Result<(), Fail> {
-    let layout = Object::find(&INLINED)?;
+    let layout = Object::find(inlined())?;
     let span = |place, len| Span { place, len };
     assert_eq!(rt; layout.debug_abbrev, span(120, 43));
     assert_eq!(rt; layout.debug_info, span(163, 96));
@@ -36,7 +36,7 @@ fn finds_the_sections(rt: HostRuntime) -> Result<(), Fail> {
     assert_eq!(rt; layout.debug_addr, span(0, 0));
     assert_eq!(rt; layout.debug_rnglists, span(0, 0));
     assert_eq!(rt; (layout.low, layout.high), (0x1000, 0x2000));
-    assert_eq!(rt; layout.debug_line.of(&INLINED).len(), 75);
+    assert_eq!(rt; layout.debug_line.of(inlined()).len(), 75);
     Ok(())
 }
 
@@ -141,17 +141,17 @@ fn refuses_a_cut_name_section(rt: HostRuntime) {
 
 #[test]
 fn refuses_a_cut_file(rt: HostRuntime) {
-    for n in 0..INLINED.len() {
+    for n in 0..inlined().len() {
         let cause = if n < 64 { Cause::NotElf } else { Cause::Table };
         assert_eq!(rt;
-            Object::find(&INLINED[..n]).err(),
+            Object::find(&inlined()[..n]).err(),
             elf(cause, 0),
             "the first {n} bytes"
         );
     }
-    for n in 64..TWO_SEQUENCES.len() {
+    for n in 64..two_sequences().len() {
         assert_eq!(rt;
-            Object::find(&TWO_SEQUENCES[..n]).err(),
+            Object::find(&two_sequences()[..n]).err(),
             elf(Cause::Table, 0),
             "the first {n} bytes"
         );

@@ -3,7 +3,7 @@
 use crate::fixtures::*;
 use dwarf_bytes::{Cause, Section, Text};
 use dwarf_entries::{Range, Root, ScopeKind, Scopes, Sections};
-use dwarf_samples::INLINED;
+use dwarf_samples::inlined;
 use std::alloc::{AllocError, Global};
 use std::process::Abort;
 use std::test::*;
@@ -71,7 +71,7 @@ fn root_of(offset: usize, first: usize, past: usize) -> Root {
 
 #[test]
 fn a_unit_of_64_bits(rt: HostRuntime) -> Result<(), Fail> {
-    let table = sections_of(&INLINED)?.debug_abbrev;
+    let table = sections_of(inlined())?.debug_abbrev;
     let read = Scopes::read(rt.alloc(), &sections(&WIDE, table))?;
     assert_eq!(rt; read.roots(), [root_of(24, 0, 5)].as_slice());
     are_scopes(&rt, &read, Some(0), &rows(0, 0, 41, 89));
@@ -81,7 +81,7 @@ fn a_unit_of_64_bits(rt: HostRuntime) -> Result<(), Fail> {
 /// Both units name one table, and references count from the first byte of their own unit.
 #[test]
 fn units_of_both_formats(rt: HostRuntime) -> Result<(), Fail> {
-    let object = sections_of(&INLINED)?;
+    let object = sections_of(inlined())?;
     let mut info = Vec::new(rt.alloc());
     info.extend_from_slice(object.debug_info)?;
     info.extend_from_slice(&WIDE)?;
@@ -99,7 +99,7 @@ fn units_of_both_formats(rt: HostRuntime) -> Result<(), Fail> {
 
 #[test]
 fn refused_lengths(rt: HostRuntime) -> Result<(), Fail> {
-    let table = sections_of(&INLINED)?.debug_abbrev;
+    let table = sections_of(inlined())?.debug_abbrev;
     for (place, byte, cause) in [
         // reserved, a byte too long, and past all sections
         (0, 0xf0, Cause::Length),

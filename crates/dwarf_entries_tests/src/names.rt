@@ -3,7 +3,7 @@
 use crate::fixtures::*;
 use dwarf_bytes::{Cause, Section};
 use dwarf_entries::{Scopes, Sections, Text};
-use dwarf_samples::INLINED;
+use dwarf_samples::inlined;
 use std::alloc::{AllocError, Global};
 use std::process::Abort;
 use std::test::*;
@@ -339,9 +339,9 @@ fn references_to_no_entry(rt: HostRuntime) -> Result<(), Fail> {
 /// Nulls, headers and the inside of entries of the first object.
 #[test]
 fn an_origin_that_is_no_entry(rt: HostRuntime) -> Result<(), Fail> {
-    let whole = sections_of(&INLINED)?;
+    let whole = sections_of(inlined())?;
     let mut info = [0; 96];
-    info.copy_from_slice(&INLINED[163..259]);
+    info.copy_from_slice(&inlined()[163..259]);
     for origin in [0, 11, 13, 26, 91, 92, 93, 94, 95, 96, 255] {
         info[55] = origin;
         is_refused(

@@ -4,8 +4,8 @@ use crate::fixtures::*;
 use dwarf_bytes::{Cause, LoadFault, Section};
 use dwarf_entries::{Root, ScopeKind, Scopes, Text};
 use dwarf_samples::{
-    INLINED, TWO_SEQUENCES, call_file_outside, circular_origins, cut_abbreviations,
-    leaf_without_code, origin_of_no_entry, version_four,
+    call_file_outside, circular_origins, cut_abbreviations, inlined, leaf_without_code,
+    origin_of_no_entry, two_sequences, version_four,
 };
 use std::process::Abort;
 use std::test::*;
@@ -69,14 +69,14 @@ fn has(rt: &(impl Abort + AllocGlobal), object: &[u8], rows: &[Row]) -> Result<(
 
 #[test]
 fn scopes_of_a_sample(rt: HostRuntime) -> Result<(), Fail> {
-    has(&rt, &INLINED, &rows())
+    has(&rt, inlined(), &rows())
 }
 
 /// What scopes share is told of the number that a scope has, by whatever scopes are asked.
 #[test]
 fn scopes_of_another_object(rt: HostRuntime) -> Result<(), Fail> {
     let bare = leaf_without_code();
-    let read = Scopes::read(rt.alloc(), &sections_of(&INLINED)?)?;
+    let read = Scopes::read(rt.alloc(), &sections_of(inlined())?)?;
     let other = Scopes::read(rt.alloc(), &sections_of(&bare)?)?;
     let none = Scopes::read(rt.alloc(), &sections(&[], &[]))?;
     let leaf = read.scopes().last().ok_or("no scope")?;
@@ -93,7 +93,7 @@ fn scopes_of_another_object(rt: HostRuntime) -> Result<(), Fail> {
 
 #[test]
 fn line_programs_are_not_read(rt: HostRuntime) -> Result<(), Fail> {
-    has(&rt, &TWO_SEQUENCES, &rows())
+    has(&rt, two_sequences(), &rows())
 }
 
 #[test]
@@ -107,7 +107,7 @@ fn a_scope_without_code(rt: HostRuntime) -> Result<(), Fail> {
 #[test]
 fn scopes_of_dropped_code(rt: HostRuntime) -> Result<(), Fail> {
     for (start, dropped) in [(205, 2), (222, 3)] {
-        let mut object = INLINED;
+        let mut object = *inlined();
         for byte in &mut object[start..start + 8] {
             *byte = 0xff;
         }
@@ -148,7 +148,7 @@ fn refused_samples(rt: HostRuntime) -> Result<(), Fail> {
 /// `.debug_info` of each size: one of no bytes has no unit, and any other cuts the unit.
 #[test]
 fn a_unit_past_the_end(rt: HostRuntime) -> Result<(), Fail> {
-    let whole = sections_of(&INLINED)?;
+    let whole = sections_of(inlined())?;
     assert_eq!(rt; whole.debug_info.len(), 96);
     for size in 0..96 {
         let cut = sections(&whole.debug_info[..size], whole.debug_abbrev);
@@ -192,9 +192,9 @@ fn fault_of_a_unit_of(size: usize) -> Option<LoadFault> {
 
 #[test]
 fn a_unit_of_each_length(rt: HostRuntime) -> Result<(), Fail> {
-    let whole = sections_of(&INLINED)?;
+    let whole = sections_of(inlined())?;
     let mut info = [0; 96];
-    info.copy_from_slice(&INLINED[163..259]);
+    info.copy_from_slice(&inlined()[163..259]);
     for size in 4u8..97 {
         info[0] = size.saturating_sub(4);
         let unit = &info[..usize::from(size)];
@@ -207,7 +207,7 @@ fn a_unit_of_each_length(rt: HostRuntime) -> Result<(), Fail> {
 
 #[test]
 fn cut_abbreviation_tables(rt: HostRuntime) -> Result<(), Fail> {
-    let whole = sections_of(&INLINED)?;
+    let whole = sections_of(inlined())?;
     assert_eq!(rt; whole.debug_abbrev.len(), 43);
     for size in 0..43 {
         let cut = sections(whole.debug_info, &whole.debug_abbrev[..size]);

@@ -2,7 +2,7 @@
 
 use dwarf_bytes::{Cause, LoadFault, Section};
 use dwarf_forms::{Abbrevs, AttributeSpecification};
-use dwarf_samples::INLINED;
+use dwarf_samples::inlined;
 use std::alloc::{AllocError, Global};
 use std::process::Abort;
 use std::test::*;
@@ -28,7 +28,7 @@ fn is_refused(rt: &(impl Abort + AllocGlobal), table: &[u8], cause: Cause, at: u
 #[test]
 fn declarations_of_a_unit(rt: HostRuntime) -> Result<(), Fail> {
     let mut left = MOST;
-    let table = Abbrevs::read(rt.alloc(), &INLINED[120..163], 0, &mut left)?;
+    let table = Abbrevs::read(rt.alloc(), &inlined()[120..163], 0, &mut left)?;
     assert_eq!(rt; left, MOST - 4);
     let decls = table.decls();
     assert_eq!(rt; decls.len(), 4);
@@ -66,7 +66,7 @@ fn declarations_of_a_unit(rt: HostRuntime) -> Result<(), Fail> {
 #[test]
 fn faults_stand_at_declarations(rt: HostRuntime) {
     for (place, at) in [(2, 0), (11, 9), (22, 20), (37, 35)] {
-        let mut object = INLINED;
+        let mut object = *inlined();
         object[120 + place] = 2;
         is_refused(&rt, &object[120..163], Cause::Children, at);
     }

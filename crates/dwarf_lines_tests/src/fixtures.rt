@@ -4,28 +4,28 @@ ghost use Rattle.std.specs.Prelude.{◌≡◌, ◌+◌, length};
 
 use dwarf_bytes::{Cause, LoadFault, Section};
 use dwarf_lines::{LineTables, ProgramNo, Row, Text};
-use dwarf_samples::{INLINED, TWO_SEQUENCES};
+use dwarf_samples::{inlined, two_sequences};
 use std::alloc::{AllocError, Global};
 
 /// The 75 bytes of the first sample's `.debug_line`.
 pub fn one_sequence() -> [u8; 75] {
     let mut line = [0; 75];
-    line.copy_from_slice(&INLINED[259..334]);
+    line.copy_from_slice(&inlined()[259..334]);
     line
 }
 
 /// The 97 bytes of the second sample's `.debug_line`.
 pub fn two_sequences() -> [u8; 97] {
     let mut line = [0; 97];
-    line.copy_from_slice(&TWO_SEQUENCES[259..356]);
+    line.copy_from_slice(&two_sequences()[259..356]);
     line
 }
 
 /// Both, one after the other.
 pub fn two_programs() -> [u8; 172] {
     let mut line = [0; 172];
-    line[..75].copy_from_slice(&INLINED[259..334]);
-    line[75..].copy_from_slice(&TWO_SEQUENCES[259..356]);
+    line[..75].copy_from_slice(&inlined()[259..334]);
+    line[75..].copy_from_slice(&two_sequences()[259..356]);
     line
 }
 
@@ -36,7 +36,7 @@ pub fn long_program() -> [u8; 87] {
     line[4] = 75;
     line[12..16].copy_from_slice(&[5, 0, 8, 0]);
     line[16] = 43;
-    line[24..].copy_from_slice(&INLINED[271..334]);
+    line[24..].copy_from_slice(&inlined()[271..334]);
     line
 }
 
@@ -51,7 +51,7 @@ pub fn dead_program() -> [u8; 75] {
 pub fn with_instructions(alloc: Global, instructions: &[u8]) -> Result<Vec<u8>, AllocError> {
     let mut line = Vec::new(alloc);
     line.push(51u8.saturating_add(instructions.len().min(200) as u8))?;
-    line.extend_from_slice(&INLINED[260..314])?;
+    line.extend_from_slice(&inlined()[260..314])?;
     line.extend_from_slice(instructions)?;
     Ok(line)
 }
@@ -63,7 +63,7 @@ pub fn with_paths(
     file: &[u8],
 ) -> Result<Vec<u8>, AllocError> {
     let mut tables = Vec::new(alloc);
-    tables.extend_from_slice(&INLINED[271..289])?;
+    tables.extend_from_slice(&inlined()[271..289])?;
     tables.extend_from_slice(&[1, 1, 8, 2])?;
     for directory in directories {
         tables.extend_from_slice(directory)?;
@@ -84,7 +84,7 @@ pub fn with_paths(
 pub fn with_offsets(alloc: Global) -> Result<Vec<u8>, AllocError> {
     let mut line = Vec::new(alloc);
     line.extend_from_slice(&[44, 0, 0, 0, 5, 0, 8, 0, 36, 0, 0, 0])?;
-    line.extend_from_slice(&INLINED[271..289])?;
+    line.extend_from_slice(&inlined()[271..289])?;
     line.extend_from_slice(&[1, 1, 0x1f, 1, 0, 0, 0, 0, 1, 1, 0x0e, 1, 3, 0, 0, 0])?;
     line.extend_from_slice(&[0xaa, 0xbb])?;
     Ok(line)

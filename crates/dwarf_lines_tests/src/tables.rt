@@ -3,7 +3,7 @@
 use crate::fixtures::{fault, path};
 use dwarf_bytes::{Cause, Section, Span};
 use dwarf_lines::{LineTables, ProgramNo, Text};
-use dwarf_samples::INLINED;
+use dwarf_samples::inlined;
 use std::alloc::{AllocError, Global};
 use std::test::Fail;
 
@@ -14,7 +14,7 @@ fn with_tables(alloc: Global, tables: &[u8]) -> Result<Vec<u8>, AllocError> {
     line.extend_from_slice(&fields.saturating_add(8).to_le_bytes())?;
     line.extend_from_slice(&[5, 0, 8, 0])?;
     line.extend_from_slice(&fields.to_le_bytes())?;
-    line.extend_from_slice(&INLINED[271..289])?;
+    line.extend_from_slice(&inlined()[271..289])?;
     line.extend_from_slice(tables)?;
     Ok(line)
 }

@@ -4,7 +4,11 @@
 
 /// An object of 703 bytes: `main` at 0x1000 to 0x1010, into which `mid` was inlined, into which
 /// `leaf` was inlined; two rows, of lines 10 and 11 of `/src/a.c`.
-pub const INLINED: [u8; 703] = [
+pub fn inlined() -> &'static [u8; 703] {
+    &INLINED
+}
+
+const INLINED: [u8; 703] = [
     // file header
     0x7f, 0x45, 0x4c, 0x46, 0x02, 0x01, 0x01, 0x00, 0x00, 0x00, 0x00, 0x00, 0x00, 0x00, 0x00, 0x00,
     // e_type to e_version
@@ -97,7 +101,11 @@ pub const INLINED: [u8; 703] = [
 
 /// The same with two sequences of rows for the same addresses, of which the later never shows. The
 /// first changes its line twice at 0x1000.
-pub const TWO_SEQUENCES: [u8; 725] = [
+pub fn two_sequences() -> &'static [u8; 725] {
+    &TWO_SEQUENCES
+}
+
+const TWO_SEQUENCES: [u8; 725] = [
     // file header
     0x7f, 0x45, 0x4c, 0x46, 0x02, 0x01, 0x01, 0x00, 0x00, 0x00, 0x00, 0x00, 0x00, 0x00, 0x00, 0x00,
     // e_type to e_version
@@ -193,14 +201,14 @@ pub const TWO_SEQUENCES: [u8; 725] = [
 
 /// A `.debug_abbrev` of two bytes, cut inside its first declaration.
 pub fn cut_abbreviations() -> [u8; 703] {
-    let mut object = INLINED;
+    let mut object = *inlined();
     object[479] = 0x02;
     object
 }
 
 /// Two inlined subroutines, each the abstract origin of the other.
 pub fn circular_origins() -> [u8; 703] {
-    let mut object = INLINED;
+    let mut object = *inlined();
     object[218] = 0x49;
     object[237] = 0x36;
     object
@@ -208,7 +216,7 @@ pub fn circular_origins() -> [u8; 703] {
 
 /// A line header of 2^49 directories without a format for them.
 pub fn many_directories_without_a_format() -> [u8; 703] {
-    let mut object = INLINED;
+    let mut object = *inlined();
     object[289] = 0x00;
     object[290] = 0x80;
     object[291] = 0x80;
@@ -223,35 +231,35 @@ pub fn many_directories_without_a_format() -> [u8; 703] {
 
 /// `leaf` inlined with an empty range.
 pub fn leaf_without_code() -> [u8; 703] {
-    let mut object = INLINED;
+    let mut object = *inlined();
     object[249] = 0x00;
     object
 }
 
 /// A unit of DWARF 4.
 pub fn version_four() -> [u8; 703] {
-    let mut object = INLINED;
+    let mut object = *inlined();
     object[167] = 0x04;
     object
 }
 
 /// A call file past the last file of the line program.
 pub fn call_file_outside() -> [u8; 703] {
-    let mut object = INLINED;
+    let mut object = *inlined();
     object[234] = 0x02;
     object
 }
 
 /// A `.debug_line` one byte shorter than its program.
 pub fn cut_line_program() -> [u8; 703] {
-    let mut object = INLINED;
+    let mut object = *inlined();
     object[607] = 0x4a;
     object
 }
 
 /// An abstract origin that is the offset of no entry.
 pub fn origin_of_no_entry() -> [u8; 703] {
-    let mut object = INLINED;
+    let mut object = *inlined();
     object[218] = 0x1a;
     object
 }

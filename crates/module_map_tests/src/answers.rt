@@ -1,7 +1,7 @@
 //! What an ask tells.
 
 use crate::fixtures::*;
-use dwarf_samples::{INLINED, TWO_SEQUENCES};
+use dwarf_samples::{inlined, two_sequences};
 use module_map::{Asked, Modules};
 use std::test::*;
 
@@ -56,7 +56,7 @@ fn a_module_may_know_nothing_of_an_address(rt: HostRuntime) -> Result<(), Fail> 
 #[test]
 fn each_of_two_modules_answers(rt: HostRuntime) -> Result<(), Fail> {
     let mut modules = one(rt.alloc(), 0x10000, 4)?;
-    modules.load("b", 0x11000, copy(rt.alloc(), &TWO_SEQUENCES)?)?;
+    modules.load("b", 0x11000, copy(rt.alloc(), two_sequences())?)?;
     assert_eq!(rt; line(&mut modules, 0x11000), Some(10));
     assert_eq!(rt; line(&mut modules, 0x12000), Some(12));
     assert_eq!(rt; line(&mut modules, 0x11000), Some(10));
@@ -70,7 +70,7 @@ fn an_old_ask_is_answered_with_something(rt: HostRuntime) -> Result<(), Fail> {
     let asked = modules.ask(0x11004);
     modules.unload("a")?;
     assert!(rt; modules.answer(asked).frames().next().is_none());
-    modules.load("b", 0, copy(rt.alloc(), &INLINED)?)?;
+    modules.load("b", 0, copy(rt.alloc(), inlined())?)?;
     assert_eq!(rt; modules.answer(asked).address(), 0x11004);
     Ok(())
 }

@@ -1,7 +1,7 @@
 //! What the cache has, and that it changes no answer.
 
 use crate::fixtures::*;
-use dwarf_samples::TWO_SEQUENCES;
+use dwarf_samples::two_sequences;
 use module_map::Modules;
 use std::process::Abort;
 use std::test::*;
@@ -82,7 +82,7 @@ fn a_later_load_of_a_name_answers_for_itself(rt: HostRuntime) -> Result<(), Fail
     assert_eq!(rt; line(&mut modules, 0x11000), Some(10));
     modules.unload("a")?;
     assert_eq!(rt; modules.cached(), (1, 16));
-    modules.load("a", 0x10000, copy(rt.alloc(), &TWO_SEQUENCES)?)?;
+    modules.load("a", 0x10000, copy(rt.alloc(), two_sequences())?)?;
     assert_eq!(rt; modules.cached(), (1, 16));
     assert_eq!(rt; line(&mut modules, 0x11000), Some(12));
     assert_eq!(rt; modules.cached(), (2, 16));
@@ -92,7 +92,7 @@ fn a_later_load_of_a_name_answers_for_itself(rt: HostRuntime) -> Result<(), Fail
 #[test]
 fn two_modules_of_one_object(rt: HostRuntime) -> Result<(), Fail> {
     let mut modules = one(rt.alloc(), 0x10000, 16)?;
-    modules.load("b", 0x20000, copy(rt.alloc(), &TWO_SEQUENCES)?)?;
+    modules.load("b", 0x20000, copy(rt.alloc(), two_sequences())?)?;
     assert_eq!(rt; line(&mut modules, 0x11000), Some(10));
     assert_eq!(rt; line(&mut modules, 0x21000), Some(12));
     assert_eq!(rt; line(&mut modules, 0x11000), Some(10));

@@ -2,14 +2,14 @@
 
 use crate::fixtures::*;
 use dwarf_bytes::{Cause, LoadFault, Section};
-use dwarf_samples::{INLINED, TWO_SEQUENCES, cut_abbreviations};
+use dwarf_samples::{cut_abbreviations, inlined, two_sequences};
 use module_map::{Extent, MapFault, Modules};
 use std::test::*;
 
 #[test]
 fn a_name_is_taken_before_all_else(rt: HostRuntime) -> Result<(), Fail> {
     let mut modules = one(rt.alloc(), 0x10000, 0)?;
-    let again = modules.load("a", 0x30000, copy(rt.alloc(), &INLINED)?);
+    let again = modules.load("a", 0x30000, copy(rt.alloc(), inlined())?);
     assert_eq!(rt; again, Err(MapFault::NameTaken));
     let bad = modules.load("a", 0x10000, Vec::new(rt.alloc()));
     assert_eq!(rt; bad, Err(MapFault::NameTaken));
@@ -37,9 +37,9 @@ fn an_object_with_a_fault(rt: HostRuntime) -> Result<(), Fail> {
 #[test]
 fn the_greatest_address(rt: HostRuntime) -> Result<(), Fail> {
     let mut modules = Modules::new(rt.alloc(), 0)?;
-    let past = modules.load("a", 0xffff_ffff_ffff_e000, copy(rt.alloc(), &INLINED)?);
+    let past = modules.load("a", 0xffff_ffff_ffff_e000, copy(rt.alloc(), inlined())?);
     assert_eq!(rt; past, Err(MapFault::Range));
-    let last = modules.load("a", 0xffff_ffff_ffff_dfff, copy(rt.alloc(), &INLINED)?);
+    let last = modules.load("a", 0xffff_ffff_ffff_dfff, copy(rt.alloc(), inlined())?);
     assert_eq!(rt;
         last,
         Ok(Extent {
@@ -62,14 +62,14 @@ fn the_greatest_address(rt: HostRuntime) -> Result<(), Fail> {
 #[test]
 fn an_overlap_tells_the_lowest_module_met(rt: HostRuntime) -> Result<(), Fail> {
     let mut modules = one(rt.alloc(), 0x30000, 0)?;
-    modules.load("b", 0x20800, copy(rt.alloc(), &INLINED)?)?;
-    modules.load("c", 0x1f000, copy(rt.alloc(), &INLINED)?)?;
-    modules.load("d", 0x10000, copy(rt.alloc(), &INLINED)?)?;
+    modules.load("b", 0x20800, copy(rt.alloc(), inlined())?)?;
+    modules.load("c", 0x1f000, copy(rt.alloc(), inlined())?)?;
+    modules.load("d", 0x10000, copy(rt.alloc(), inlined())?)?;
     // meets c, at 0x20000 to 0x21000, and b, at 0x21800 to 0x22800
-    let met = modules.load("e", 0x1ff00, copy(rt.alloc(), &INLINED)?);
+    let met = modules.load("e", 0x1ff00, copy(rt.alloc(), inlined())?);
     assert_eq!(rt; met, Err(MapFault::Overlap(1)));
     assert_eq!(rt; modules.list().nth(1).map(|module| module.0), Some("c"));
-    let met = modules.load("e", 0x20000, copy(rt.alloc(), &INLINED)?);
+    let met = modules.load("e", 0x20000, copy(rt.alloc(), inlined())?);
     assert_eq!(rt; met, Err(MapFault::Overlap(2)));
     lists(
         &rt,
@@ -87,9 +87,9 @@ fn an_overlap_tells_the_lowest_module_met(rt: HostRuntime) -> Result<(), Fail> {
 #[test]
 fn touching_is_no_overlap(rt: HostRuntime) -> Result<(), Fail> {
     let mut modules = one(rt.alloc(), 0x10000, 0)?;
-    let after = modules.load("b", 0x11000, copy(rt.alloc(), &INLINED)?);
+    let after = modules.load("b", 0x11000, copy(rt.alloc(), inlined())?);
     assert_eq!(rt; after, from(0x12000));
-    let before = modules.load("c", 0xf000, copy(rt.alloc(), &INLINED)?);
+    let before = modules.load("c", 0xf000, copy(rt.alloc(), inlined())?);
     assert_eq!(rt; before, from(0x10000));
     assert_eq!(rt; modules.move_to("a", 0x10001), Err(MapFault::Overlap(2)));
     assert_eq!(rt; modules.move_to("a", 0xffff), Err(MapFault::Overlap(0)));
@@ -119,8 +119,8 @@ fn a_move_does_not_meet_its_own_old_place(rt: HostRuntime) -> Result<(), Fail> {
 #[test]
 fn a_move_past_others(rt: HostRuntime) -> Result<(), Fail> {
     let mut modules = one(rt.alloc(), 0x10000, 0)?;
-    modules.load("b", 0x20000, copy(rt.alloc(), &INLINED)?)?;
-    modules.load("c", 0x30000, copy(rt.alloc(), &TWO_SEQUENCES)?)?;
+    modules.load("b", 0x20000, copy(rt.alloc(), inlined())?)?;
+    modules.load("c", 0x30000, copy(rt.alloc(), two_sequences())?)?;
     assert_eq!(rt; modules.move_to("a", 0x40000), from(0x41000));
     assert_eq!(rt; line(&mut modules, 0x31000), Some(12));
     assert_eq!(rt; line(&mut modules, 0x41000), Some(10));

@@ -1,6 +1,6 @@
 //! Modules for the tests, and what is expected of them.
 
-use dwarf_samples::INLINED;
+use dwarf_samples::inlined;
 use module_map::{Extent, MapFault, Modules};
 use std::alloc::{AllocError, Global};
 use std::process::Abort;
@@ -16,7 +16,7 @@ pub fn copy(alloc: Global, object: &[u8]) -> Result<Vec<u8>, AllocError> {
 /// The first sample at a base, alone, with a cache of so many entries.
 pub fn one(alloc: Global, base: u64, cache_entries: usize) -> Result<Modules, Fail> {
     let mut modules = Modules::new(alloc, cache_entries)?;
-    modules.load("a", base, copy(alloc, &INLINED)?)?;
+    modules.load("a", base, copy(alloc, inlined())?)?;
     Ok(modules)
 }
 

@@ -1,7 +1,7 @@
 //! As many modules as may be loaded.
 
 use crate::fixtures::*;
-use dwarf_samples::INLINED;
+use dwarf_samples::inlined;
 use module_map::{MapFault, Modules};
 use std::alloc::Global;
 use std::test::*;
@@ -12,7 +12,7 @@ fn all(alloc: Global) -> Result<Modules, Fail> {
     for number in 0..4096u64 {
         let name = format!(in alloc; "m{number}")?;
         let base = number.saturating_mul(0x1000);
-        modules.load(name.as_str(), base, copy(alloc, &INLINED)?)?;
+        modules.load(name.as_str(), base, copy(alloc, inlined())?)?;
     }
     Ok(modules)
 }
@@ -22,15 +22,15 @@ fn one_more_is_refused(rt: HostRuntime) -> Result<(), Fail> {
     let mut modules = all(rt.alloc())?;
     let decoded = modules.steps().decoded;
     assert_eq!(rt; decoded, 703 * 4096);
-    let more = modules.load("more", 0x2000_0000, copy(rt.alloc(), &INLINED)?);
+    let more = modules.load("more", 0x2000_0000, copy(rt.alloc(), inlined())?);
     assert_eq!(rt; more, Err(MapFault::Full));
-    let again = modules.load("m7", 0x2000_0000, copy(rt.alloc(), &INLINED)?);
+    let again = modules.load("m7", 0x2000_0000, copy(rt.alloc(), inlined())?);
     assert_eq!(rt; again, Err(MapFault::NameTaken));
     assert_eq!(rt; modules.steps().decoded, decoded);
     assert_eq!(rt; modules.list().count(), 4096);
     // an unload makes room for one
     modules.unload("m9")?;
-    let more = modules.load("more", 0x9000, copy(rt.alloc(), &INLINED)?);
+    let more = modules.load("more", 0x9000, copy(rt.alloc(), inlined())?);
     assert_eq!(rt; more, from(0xa000));
     Ok(())
 }

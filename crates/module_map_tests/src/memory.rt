@@ -2,16 +2,16 @@
 //! refuses, the other module answers as before, and no answer is wrong.
 
 use crate::fixtures::*;
-use dwarf_samples::{INLINED, TWO_SEQUENCES};
+use dwarf_samples::{inlined, two_sequences};
 use module_map::{MapFault, Modules};
 use std::test::*;
 
 #[test]
 fn a_load_that_memory_refuses_changes_nothing(rt: HostRuntime) {
-    let Ok(first) = copy(rt.alloc(), &INLINED) else {
+    let Ok(first) = copy(rt.alloc(), inlined()) else {
         return;
     };
-    let Ok(second) = copy(rt.alloc(), &TWO_SEQUENCES) else {
+    let Ok(second) = copy(rt.alloc(), two_sequences()) else {
         return;
     };
     let mut modules = match Modules::new(rt.alloc(), 4) {
