@@ -82,7 +82,7 @@ impl Modules {
     pub fn steps(&self) -> Steps
         ensures { (result.compares ≡ self.now.compares) × (result.decoded ≡ self.now.decoded) }
     {
-        self.steps
+        self.steps // compares of the last ask, bytes of all loads
     }
 
     /// How many answers the cache has, and how many it may have.
