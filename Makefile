@@ -20,7 +20,7 @@ help:
 # Shows the program at work on an object that the compiler makes there and then.
 demo:
 	@tools/needs.sh demo rt awk
-	@echo 'Proves and builds addr2line_live and the crates below it (a quarter of an hour from nothing, then seconds),'
+	@echo 'Proves and builds addr2line_live and the crates below it (some twenty minutes from nothing, then seconds),'
 	@echo 'and asks it addresses of two objects, one of which moves and goes.'
 	@tools/build.sh addr2line_live
 	@tools/demo.sh
@@ -37,7 +37,7 @@ check:
 	cd crates/$(CRATE) && rt check
 
 program:
-	@tools/needs.sh program rt awk
+	@tools/needs.sh program rt
 	@tools/build.sh addr2line_live
 
 install: program
@@ -46,7 +46,7 @@ install: program
 
 # Real processes, perf's text, a library that comes and goes, and the clients of docs/PROTOCOL.md.
 tools-test:
-	@tools/needs.sh tools-test rt awk python3 gcc nm objdump
+	@tools/needs.sh tools-test rt python3 gcc nm objdump
 	@tools/build.sh addr2line_live
 	python3 -m unittest discover -s tools/tests
 
@@ -66,7 +66,7 @@ hostile:
 
 # All figures, with those of the other symbolizers that are installed.
 bench:
-	@tools/needs.sh bench rt python3 awk $(COMPILERS) addr2line
+	@tools/needs.sh bench rt awk python3 $(COMPILERS) addr2line
 	@mkdir -p out
 	bash -c 'set -o pipefail; { bench/run.sh && bench/answers.sh; } | tee out/bench.txt'
 	bench/table.py out/bench.txt > docs/MEASURED.md

@@ -5,11 +5,26 @@ set -euo pipefail
 cd "$(dirname "$0")/.."
 mkdir -p out
 crate=$1 log=$PWD/out/${2:-build.log}
-terminal=0
-[ ! -t 1 ] || terminal=1
-(cd "crates/$crate" && rt run < /dev/null 2>&1) | tee "$log" | awk -v terminal=$terminal '
-    /^rt: chose --jobs/ { if (terminal && counted) print ""; counted = 0; crate = $NF; printf "  proving %s%s", crate, terminal ? "" : "\n" }
-    terminal && /^checked .*, [0-9]+ of [0-9]+/ { counted = 1; printf "\r  proving %s: %s of %s functions", crate, $(NF - 2), $NF }
-    /^rt: chose|^checked/ { fflush() }
-    END { if (terminal && crate) print "" }
-' || { tail -5 "$log"; echo "crates/$crate was not built; all that was said stands in $log"; exit 1; }
+
+# Copies what rt says into the log, and shows how far it is.
+progress() {
+    local line proving='' counted=
+    while IFS= read -r line; do
+        echo "$line" >> "$log"
+        [[ $line =~ ^checked\ ([a-z0-9_]+)::.*,\ ([0-9]+)\ of\ ([0-9]+)$ ]] || continue
+        if [ "${BASH_REMATCH[1]}" != "$proving" ]; then
+            [ -z "$counted" ] || echo
+            proving=${BASH_REMATCH[1]} counted=
+            echo "  proving the ${BASH_REMATCH[3]} functions of $proving"
+        fi
+        [ ! -t 1 ] || { counted=1 && printf '\r    %s' "${BASH_REMATCH[2]}"; }
+    done
+    [ -z "$counted" ] || echo
+}
+
+: > "$log"
+(cd "crates/$crate" && rt run < /dev/null 2>&1) | progress || {
+    tail -5 "$log"
+    echo "crates/$crate was not built; all that was said stands in $log"
+    exit 1
+}
