@@ -11,13 +11,15 @@ progress() {
     local line proving='' counted=
     while IFS= read -r line; do
         echo "$line" >> "$log"
-        [[ $line =~ ^checked\ ([a-z0-9_]+)::.*,\ ([0-9]+)\ of\ ([0-9]+)$ ]] || continue
-        if [ "${BASH_REMATCH[1]}" != "$proving" ]; then
+        if [[ $line =~ ^rt:\ chose\ --jobs\ [0-9]+\ for\ ([a-z0-9_]+)$ || $line =~ ^checked\ ([a-z0-9_]+):: ]] &&
+            [ "${BASH_REMATCH[1]}" != "$proving" ]; then
             [ -z "$counted" ] || echo
             proving=${BASH_REMATCH[1]} counted=
-            echo "  proving the ${BASH_REMATCH[3]} functions of $proving"
+            echo "  proving $proving"
         fi
-        [ ! -t 1 ] || { counted=1 && printf '\r    %s' "${BASH_REMATCH[2]}"; }
+        [ -t 1 ] && [[ $line =~ ^checked\ .*,\ ([0-9]+\ of\ [0-9]+)$ ]] || continue
+        counted=1
+        printf '\r    %s functions' "${BASH_REMATCH[1]}"
     done
     [ -z "$counted" ] || echo
 }
