@@ -1,5 +1,6 @@
 """Loaded objects of real processes: bases, by any way of linking, and a library that comes and goes."""
 import os
+import shutil
 import subprocess
 import sys
 import tempfile
@@ -7,7 +8,10 @@ import unittest
 from pathlib import Path
 
 sys.path.insert(0, str(Path(__file__).resolve().parent))
-from programs import Live, compiled, symbol, tool
+from programs import TOOLS, Live, compiled, symbol, tool
+
+sys.path.insert(0, str(TOOLS))
+from loaded_objects import PAGE, Mapping, Segment, base_of
 
 # A program that loads and unloads libraries as it is told, and says where a function is.
 HOST = r"""
@@ -128,6 +132,30 @@ class LoadsOfProcess(unittest.TestCase):
         saved.write_text(maps)
         self.assertEqual(tool("loads_of_process", saved), f"load plain 0 {path}\n")
         self.assertEqual(tool("loads_of_process", "-", text=maps), f"load plain 0 {path}\n")
+
+    def test_part_of_a_segment(self):
+        """The base is told by any page of a segment, also where a segment begins within a page."""
+        base, segment = 0x7F0000000000, Segment(0x640, 0x1640, 3 * PAGE)
+        for page in range(4):
+            mapping = Mapping(base + PAGE + page * PAGE, base + PAGE * (page + 2), page * PAGE, "object")
+            self.assertEqual(base_of(mapping, [segment]), base)
+        self.assertIsNone(base_of(Mapping(base, base + PAGE, 4 * PAGE, "object"), [segment]))
+
+    @unittest.skipUnless(shutil.which("eu-addr2line"), "eu-addr2line is not installed")
+    def test_beside_eu_addr2line(self):
+        """Addresses of a running process, all over its own objects, are told as eu-addr2line -p tells them."""
+        path, host = self.host()
+        library = self.compile("second.so", SECOND, "-O0", "-shared", "-fPIC")
+        work = host.say(library)
+        live = Live()
+        self.addCleanup(live.end)
+        for line in loads(host.pid).values():
+            live.say(line)
+        asked = [start + byte for start in (host.here, work) for byte in range(24)]
+        told = subprocess.run(["eu-addr2line", "-p", str(host.pid), *map(hex, asked)], capture_output=True, text=True)
+        places = [":".join(line.split(":")[:2]) for line in told.stdout.splitlines()]
+        self.assertEqual([live.say(f"{address:x}")[0] for address in asked], places)
+        self.assertTrue(places[0].startswith(f"{path}.c:") and places[-1].startswith(f"{library.with_suffix('.c')}:"))
 
     def test_whole_process_of_many_objects(self):
         """Each object of a running python is loaded, and none meets another."""
