@@ -1,9 +1,10 @@
 #!/usr/bin/env python3
 """Makes a table of what bench/run.sh and bench/answers.sh print.
 
-table.py PRINTED writes docs/MEASURED.md to standard output: the machine, the versions, the day, and for loads, first
-answers, answers in a batch and in ping-pong, and memory the figures of this program and of each peer that was
-measured. A ratio behind a peer's figure says how many times better this program is: faster, or less memory.
+table.py PRINTED writes docs/MEASURED.md to standard output: the machine, the versions, the day, and
+for loads, first answers, answers in a batch and in ping-pong, and memory the figures of this
+program and of each peer that was measured. A ratio behind a peer's figure says how many times
+better this program is: faster, or less memory.
 """
 import datetime
 import os
@@ -14,7 +15,9 @@ import sys
 OURS = "addr2line_live"
 PLAIN = "plain C"
 FIGURE = re.compile(r"(?P<what>.*?) +(?P<ours>\d+) ms, plain C +(?P<plain>\d+) ms, ratio")
-MEMORY = re.compile(r"memory for its (?P<what>.*): (?P<ours>\d+) MB, plain C(?: and C\+\+)? (?P<plain>\d+) MB")
+MEMORY = re.compile(
+    r"memory for its (?P<what>.*): (?P<ours>\d+) MB, plain C(?: and C\+\+)? (?P<plain>\d+) MB"
+)
 ANSWERS = re.compile(
     r"  (?P<program>.*?) {2,}(?P<rate>\d+) answers a second(?:, [\d.]+ reads and writes an answer)?"
     r", first answer after (?P<first>\d+) ms(?:, peak (?P<peak>\d+) MB)?"
@@ -27,12 +30,12 @@ def column(program):
     """The program of a line of answers, or None for a variant that the table leaves out."""
     name = re.sub(r", (spread|fewer)$", "", program)
     if name.startswith(OURS):
-        return OURS if name in (OURS, f"{OURS} --cache 1024") and not program.endswith("addresses") else None
+        return OURS if name == f"{OURS} --cache 1024" else None
     return name
 
 
 def rows(lines):
-    """What was measured, in which unit, whether more is better, and the figure of each program, in order."""
+    """What was measured, in which unit, whether more is better, and each program's figure."""
     table = {}
 
     def put(what, unit, better, program, figure):
@@ -42,7 +45,8 @@ def rows(lines):
     for line in lines:
         heading, answers = HEADING.fullmatch(line), ANSWERS.match(line)
         if heading:
-            asked = f"{heading['object']}, {WAYS[heading['how']]}{', `%s`' % heading['options'][2:] if heading['options'] else ''}"
+            options = f", `{heading['options'][2:]}`" if heading["options"] else ""
+            asked = f"{heading['object']}, {WAYS[heading['how']]}{options}"
         for form, unit in ((FIGURE, "ms"), (MEMORY, "MB")):
             if found := form.match(line):
                 what = found["what"] if unit == "ms" else f"memory, {found['what']}"
@@ -73,7 +77,8 @@ def said(*command):
     """The first line that a command says, or None where it is not there."""
     try:
         done = subprocess.run(command, stdout=subprocess.PIPE, stderr=subprocess.STDOUT, text=True)
-        return next((line.strip() for line in done.stdout.splitlines() if re.search(r"\d", line)), None)
+        lines = (line.strip() for line in done.stdout.splitlines() if re.search(r"\d", line))
+        return next(lines, None)
     except OSError:
         return None
 
@@ -82,14 +87,16 @@ def machine():
     """The processor, how many of it, and the memory."""
     told = open("/proc/cpuinfo").read()
     model = re.search(r"^model name\s*: (.*)", told, re.MULTILINE)
+    name = model[1] if model else "an unknown processor"
     memory = int(re.search(r"MemTotal: +(\d+)", open("/proc/meminfo").read())[1]) >> 20
-    return f"{os.cpu_count()} × {model[1] if model else 'an unknown processor'}, {memory} GiB, Linux {os.uname().release}"
+    return f"{os.cpu_count()} × {name}, {memory} GiB, Linux {os.uname().release}"
 
 
 def versions():
-    commands = [("rt", "version"), ("gcc", "--version"), ("llvm-symbolizer", "--version"), ("eu-addr2line", "--version"),
-                ("addr2line", "--version"), (os.environ.get("GIMLI_ADDR2LINE", "-"), "--version")]
-    return [told for command in commands if (told := said(*command))]
+    programs = ["gcc", "llvm-symbolizer", "eu-addr2line", "addr2line"]
+    programs.append(os.environ.get("GIMLI_ADDR2LINE", "-"))
+    told = [said("rt", "version"), *(said(program, "--version") for program in programs)]
+    return [version for version in told if version]
 
 
 def main():
@@ -102,13 +109,14 @@ def main():
     print(f"Written by `make bench` on {datetime.date.today()}, on {machine()}. Versions:\n")
     print(*(f"- {version}" for version in versions()), sep="\n")
     print(
-        "\nBehind the figure of another program stands how many times better this one is (× below 1: how many times"
-        " worse).\nPlain C is a loop of this repository that makes the same checks (`bench/*.c`). Others load nothing"
-        " before they\nare asked; this program has then read and judged all.\n"
+        "\nBehind the figure of another program stands how many times better this one is (below 1:"
+        "\nworse). Plain C is a loop of this repository that makes the same checks (`bench/*.c`)."
+        "\nOthers load nothing before they are asked; this program has then read and judged all.\n"
     )
     print(f"| | {' | '.join(programs)} |\n|---|{'---|' * len(programs)}")
     for (what, unit, better), figures in table.items():
-        print(f"| {what} | {' | '.join(cell(figures, program, unit, better) for program in programs)} |")
+        cells = (cell(figures, program, unit, better) for program in programs)
+        print(f"| {what} | {' | '.join(cells)} |")
 
 
 if __name__ == "__main__":

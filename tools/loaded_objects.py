@@ -1,9 +1,10 @@
-"""The ELF objects that a process has loaded: the mappings of its address space, and where each object's
-address 0 stands.
+"""The ELF objects that a process has loaded: the mappings of its address space, and where each
+object's address 0 stands.
 
-An object is mapped segment by segment. A segment whose bytes begin at `offset` in the file and whose first
-address is `address` takes whole pages, so a mapping may begin before the segment's first byte; but a byte at
-an offset of the file always stands at `base + address + (that offset - offset)`. That gives the base.
+An object is mapped segment by segment. A segment whose bytes begin at `offset` in the file and
+whose first address is `address` takes whole pages, so a mapping may begin before the segment's
+first byte; but a byte at an offset of the file always stands at
+`base + address + (that offset - offset)`. That gives the base.
 """
 import functools
 import os
@@ -14,7 +15,8 @@ from typing import NamedTuple
 PAGE = os.sysconf("SC_PAGE_SIZE")
 LOADED, EXECUTABLE = 1, 1  # PT_LOAD among the types of segments, PF_X among their flags
 LINE = re.compile(
-    r"(?P<start>[0-9a-f]+)-(?P<end>[0-9a-f]+) (?P<rights>\S{4}) (?P<offset>[0-9a-f]+) \S+ \d+ +(?P<path>/.*)"
+    r"(?P<start>[0-9a-f]+)-(?P<end>[0-9a-f]+) (?P<rights>\S{4}) (?P<offset>[0-9a-f]+)"
+    r" \S+ \d+ +(?P<path>/.*)"
 )
 
 
@@ -44,7 +46,8 @@ def mapping_of(line):
     found = LINE.fullmatch(line.rstrip("\n"))
     if not found or found["rights"][2] != "x" or found["path"].endswith(" (deleted)"):
         return None
-    return Mapping(int(found["start"], 16), int(found["end"], 16), int(found["offset"], 16), found["path"])
+    start, end, offset = (int(found[key], 16) for key in ("start", "end", "offset"))
+    return Mapping(start, end, offset, found["path"])
 
 
 @functools.cache
@@ -78,7 +81,7 @@ def base_of(mapping, executable):
 
 
 def name_of(path, taken):
-    """A name of at most 64 letters, digits, `_`, `-` and `.` for an object that no other one has."""
+    """A name of at most 64 letters, digits, `_`, `-` and `.` that no other object has."""
     plain = re.sub(r"[^A-Za-z0-9_.-]", "_", os.path.basename(path))[:56] or "object"
     name, number = plain, 1
     while name in taken:
@@ -89,7 +92,7 @@ def name_of(path, taken):
 
 
 def objects_of(lines):
-    """The name, base and path of each object in lines of /proc/PID/maps, and the paths of other files."""
+    """The name, base and path of each object in lines of /proc/PID/maps, and other files' paths."""
     loaded, others, taken = {}, [], set()
     for mapping in filter(None, map(mapping_of, lines)):
         base = base_of(mapping, segments(mapping.path))

@@ -6,15 +6,15 @@ import unittest
 from pathlib import Path
 
 sys.path.insert(0, str(Path(__file__).resolve().parent))
-from programs import TOP
+from programs import TOP, output_of
 
 PRINTED = """LEB128, 100 MB                              165 ms, plain C    190 ms, ratio 1.15
 memory for its whole load: 811 MB, plain C and C++ 767 MB
 large, batch, -f -i
-  addr2line_live --cache 1024, spread          90000 answers a second, first answer after 1000 ms, 7 bytes
-  addr2line_live --cache 0, spread             80000 answers a second, first answer after 1000 ms, 7 bytes
-  addr2line_live, sixteen addresses            300000 answers a second, first answer after 1000 ms, 7 bytes
-  llvm-symbolizer, spread                      22500 answers a second, first answer after 500 ms, 7 bytes
+  addr2line_live --cache 1024, spread  90000 answers a second, first answer after 1000 ms, 7 bytes
+  addr2line_live --cache 0, spread  80000 answers a second, first answer after 1000 ms, 7 bytes
+  addr2line_live, sixteen addresses  300000 answers a second, first answer after 1000 ms, 7 bytes
+  llvm-symbolizer, spread  22500 answers a second, first answer after 500 ms, 7 bytes
   eu-addr2line, fewer                          failed
 """
 ROWS = [
@@ -32,7 +32,7 @@ class Table(unittest.TestCase):
         with tempfile.NamedTemporaryFile("w") as printed:
             printed.write(PRINTED)
             printed.flush()
-            shown = subprocess.run([TOP / "bench/table.py", printed.name], capture_output=True, text=True, check=True).stdout
+            shown = output_of(TOP / "bench/table.py", printed.name)
         self.assertEqual([line for line in shown.splitlines() if line.startswith("|")], ROWS)
 
     def test_no_figures(self):

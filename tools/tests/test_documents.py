@@ -6,12 +6,12 @@ import unittest
 from pathlib import Path
 
 sys.path.insert(0, str(Path(__file__).resolve().parent))
-from programs import PROGRAM, TOP, Live
+from programs import PROGRAM, TOP, Live, output_of
 
 
 class Documents(unittest.TestCase):
     def test_demo_of_the_readme(self):
-        shown = subprocess.run([TOP / "tools/demo.sh", "--stored"], capture_output=True, text=True, check=True).stdout
+        shown = output_of(TOP / "tools/demo.sh", "--stored")
         self.assertIn(f"```\n{shown}```\n", (TOP / "README.md").read_text())
 
     def test_example_of_the_protocol(self):
@@ -25,9 +25,15 @@ class Documents(unittest.TestCase):
         self.assertEqual([f"{number} {frame}" for number, frame in enumerate(frames)], example[1:])
 
     def test_statuses_of_the_manual_page(self):
-        for words, status, said in ((["-e", "/no/file"], 1, "refused file"), (["zz"], 2, "bad address zz"), (["--help"], 0, ""), (["0"], 0, "")):
-            done = subprocess.run([PROGRAM, *words], stdin=subprocess.DEVNULL, capture_output=True, text=True)
-            self.assertEqual((done.returncode, said in done.stderr), (status, True), words)
+        cases = {
+            "-e /no/file": (1, "addr2line_live: refused file\n"),
+            "zz": (2, "addr2line_live: bad address zz\n"),
+            "--help": (0, ""),
+            "0": (0, ""),
+        }
+        for words, wanted in cases.items():
+            done = subprocess.run([PROGRAM, *words.split()], capture_output=True, text=True)
+            self.assertEqual((done.returncode, done.stderr), wanted, words)
 
 
 if __name__ == "__main__":

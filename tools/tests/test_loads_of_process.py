@@ -1,5 +1,4 @@
-"""Loaded objects of real processes: bases, by any way of linking, and a library that comes and goes."""
-import os
+"""Loaded objects of real processes: their bases, and a library that comes and goes."""
 import shutil
 import subprocess
 import sys
@@ -8,7 +7,7 @@ import unittest
 from pathlib import Path
 
 sys.path.insert(0, str(Path(__file__).resolve().parent))
-from programs import TOOLS, Live, compiled, symbol, tool
+from programs import TOOLS, Live, compiled, output_of, symbol, tool
 
 sys.path.insert(0, str(TOOLS))
 from loaded_objects import PAGE, Mapping, Segment, base_of
@@ -36,15 +35,16 @@ int main(void) {
 }
 """
 HOST_LINE = 5  # of `here`
-FIRST = "\n\nint work(int x)\n{\n    return x * 3;\n}\n"  # `work` begins in line 4, that of its brace
-SECOND = "int pad(int x) { return x; }\n\n\n\n\n\nint work(int x) {\n    return pad(x) * 5;\n}\n"  # in line 7
+FIRST = "\n\nint work(int x)\n{\n    return x * 3;\n}\n"  # `work` begins in line 4, its brace
+SECOND = "int pad(int x) { return x; }\n\n\n\n\n\nint work(int x) {\n    return pad(x);\n}\n"  # 7
 
 
 class Host:
     """A process of HOST."""
 
     def __init__(self, path):
-        self.running = subprocess.Popen([path], stdin=subprocess.PIPE, stdout=subprocess.PIPE, text=True)
+        pipe = subprocess.PIPE
+        self.running = subprocess.Popen([path], stdin=pipe, stdout=pipe, text=True)
         self.here = int(self.running.stdout.readline(), 16)
         self.pid = self.running.pid
 
@@ -83,9 +83,14 @@ class LoadsOfProcess(unittest.TestCase):
 
     def test_each_way_of_linking(self):
         """The base is right whether addresses are offsets of the file or not."""
-        ways = {"pie": [], "no-pie": ["-no-pie"], "apart": ["-Wl,-z,separate-code"], "together": ["-Wl,-z,noseparate-code"]}
-        for name, linker in {"lld": "ld.lld", "gold": "ld.gold"}.items():
-            if any((Path(folder) / linker).exists() for folder in os.get_exec_path()):
+        ways = {
+            "pie": [],
+            "no-pie": ["-no-pie"],
+            "apart": ["-Wl,-z,separate-code"],
+            "together": ["-Wl,-z,noseparate-code"],
+        }
+        for name in ("lld", "gold"):
+            if shutil.which(f"ld.{name}"):
                 ways[name] = [f"-fuse-ld={name}"]
         for way, flags in ways.items():
             with self.subTest(way):
@@ -104,15 +109,17 @@ class LoadsOfProcess(unittest.TestCase):
         for line in loads(host.pid).values():
             self.live.say(line)
         for _ in range(3):
-            for library, place in ((first, 4), (second, 7)):
-                work = host.say(library)
+            for library, line in ((first, 4), (second, 7)):
+                work, name = host.say(library), library.name
+                place = f"{library.with_suffix('.c')}:{line}"
                 self.assertEqual(self.live.say(f"{work:x}"), ["??", "??:0"])
                 self.live.say(loads(host.pid)[str(library)])
-                self.assertEqual(self.live.say(f"{work:x}"), ["work", f"{library.with_suffix('.c')}:{place}"])
-                self.assertEqual(self.live.say(f"{host.here:x}"), ["here", f"{path}.c:{HOST_LINE}"])
+                self.assertEqual(self.live.say(f"{work:x}"), ["work", place])
+                here = self.live.say(f"{host.here:x}")
+                self.assertEqual(here, ["here", f"{path}.c:{HOST_LINE}"])
                 self.assertEqual(host.say("close"), 0)
                 self.assertNotIn(str(library), loads(host.pid))
-                self.assertEqual(self.live.say(f"unload {library.name}"), [f"unloaded {library.name}"])
+                self.assertEqual(self.live.say(f"unload {name}"), [f"unloaded {name}"])
                 self.assertEqual(self.live.say(f"{work:x}"), ["??", "??:0"])
 
     def test_what_is_left_out(self):
@@ -137,13 +144,14 @@ class LoadsOfProcess(unittest.TestCase):
         """The base is told by any page of a segment, also where a segment begins within a page."""
         base, segment = 0x7F0000000000, Segment(0x640, 0x1640, 3 * PAGE)
         for page in range(4):
-            mapping = Mapping(base + PAGE + page * PAGE, base + PAGE * (page + 2), page * PAGE, "object")
+            start = base + PAGE + page * PAGE
+            mapping = Mapping(start, start + PAGE, page * PAGE, "object")
             self.assertEqual(base_of(mapping, [segment]), base)
         self.assertIsNone(base_of(Mapping(base, base + PAGE, 4 * PAGE, "object"), [segment]))
 
     @unittest.skipUnless(shutil.which("eu-addr2line"), "eu-addr2line is not installed")
     def test_beside_eu_addr2line(self):
-        """Addresses of a running process, all over its own objects, are told as eu-addr2line -p tells them."""
+        """Addresses of the functions of a running process, as eu-addr2line -p tells them."""
         path, host = self.host()
         library = self.compile("second.so", SECOND, "-O0", "-shared", "-fPIC")
         work = host.say(library)
@@ -152,15 +160,18 @@ class LoadsOfProcess(unittest.TestCase):
         for line in loads(host.pid).values():
             live.say(line)
         asked = [start + byte for start in (host.here, work) for byte in range(24)]
-        told = subprocess.run(["eu-addr2line", "-p", str(host.pid), *map(hex, asked)], capture_output=True, text=True)
-        places = [":".join(line.split(":")[:2]) for line in told.stdout.splitlines()]
+        told = output_of("eu-addr2line", "-p", host.pid, *map(hex, asked)).splitlines()
+        places = [":".join(line.split(":")[:2]) for line in told]
         self.assertEqual([live.say(f"{address:x}")[0] for address in asked], places)
-        self.assertTrue(places[0].startswith(f"{path}.c:") and places[-1].startswith(f"{library.with_suffix('.c')}:"))
+        self.assertTrue(places[0].startswith(f"{path}.c:"))
+        self.assertTrue(places[-1].startswith(f"{library.with_suffix('.c')}:"))
 
     def test_whole_process_of_many_objects(self):
         """Each object of a running python is loaded, and none meets another."""
-        source = "import bz2, ctypes, decimal, lzma, socket, sqlite3, ssl, sys, zlib; print(flush=True); sys.stdin.read()"
-        running = subprocess.Popen([sys.executable, "-c", source], stdin=subprocess.PIPE, stdout=subprocess.PIPE)
+        source = "import bz2, ctypes, decimal, lzma, socket, sqlite3, ssl, sys, zlib\n"
+        source += "print(flush=True)\nsys.stdin.read()\n"
+        pipe = subprocess.PIPE
+        running = subprocess.Popen([sys.executable, "-c", source], stdin=pipe, stdout=pipe)
         running.stdout.readline()
         lines = loads(running.pid).values()
         replies = [self.live.say(line)[0] for line in lines]

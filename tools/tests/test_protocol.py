@@ -1,13 +1,12 @@
 """The clients of docs/PROTOCOL.md, as they stand there, and what it says of where replies end."""
 import re
-import subprocess
 import sys
 import tempfile
 import unittest
 from pathlib import Path
 
 sys.path.insert(0, str(Path(__file__).resolve().parent))
-from programs import PROGRAM, TOP, compiled, symbol
+from programs import PROGRAM, TOP, compiled, instructions, output_of
 
 PAGE = (TOP / "docs/PROTOCOL.md").read_text()
 SOURCE = """
@@ -41,19 +40,23 @@ class Protocol(unittest.TestCase):
         cls.folder = tempfile.TemporaryDirectory()
         cls.addClassCleanup(cls.folder.cleanup)
         cls.path = compiled(cls.folder.name, "inlined", SOURCE, "-O1")
-        shown = subprocess.run(["objdump", "-d", "--disassemble=main", cls.path], capture_output=True, text=True, check=True).stdout
-        store = next(line for line in shown.splitlines() if "$0x7" in line)
-        cls.store = BASE + int(store.split(":")[0], 16)
+        code = instructions(cls.path, "main")
+        cls.store = BASE + next(address for address, text in code if "$0x7" in text)
         cls.nowhere = "1"
 
     def wanted(self):
         """What a client prints after the reply to the load."""
         source = f"{self.path}.c"
-        return [f"0 leaf at {source}:{LEAF}", f"1 middle at {source}:{MIDDLE}", f"2 main at {source}:{MAIN}", "0 ?? ??:0"]
+        return [
+            f"0 leaf at {source}:{LEAF}",
+            f"1 middle at {source}:{MIDDLE}",
+            f"2 main at {source}:{MAIN}",
+            "0 ?? ??:0",
+        ]
 
     def check(self, *client):
         words = [*client, PROGRAM, self.path, f"{BASE:x}", f"{self.store:x}", self.nowhere]
-        lines = subprocess.run(words, capture_output=True, text=True, check=True).stdout.splitlines()
+        lines = output_of(*words).splitlines()
         self.assertTrue(lines[0].startswith(f"loaded object 0x{BASE:016x}-"))
         self.assertEqual(lines[1:], self.wanted())
 
@@ -65,29 +68,34 @@ class Protocol(unittest.TestCase):
     def test_client_in_c(self):
         path = Path(self.folder.name) / "client.c"
         path.write_text(block("c"))
-        subprocess.run(["gcc", "-Wall", "-Werror", "-O1", "-o", path.with_suffix(""), path], check=True)
+        output_of("gcc", "-Wall", "-Werror", "-O1", "-o", path.with_suffix(""), path)
         self.check(path.with_suffix(""))
 
     def ask(self, options, text):
-        return subprocess.run([PROGRAM, *options.split()], input=text, capture_output=True, text=True, check=True).stdout
+        return output_of(PROGRAM, *options.split(), text=text)
 
     def test_lines_of_an_answer(self):
         """The table of the page, for an address with three frames and for one with none."""
         load = f"load a {BASE:x} {self.path}\n"
-        table = {"-p": (1, 1), "-p -f -a": (1, 1), "": (1, 1), "-a": (2, 2), "-f": (2, 2), "-a -f": (3, 3),
-                 "-i": (3, 1), "-i -f": (6, 2), "-i -a": (4, 2), "-i -a -f": (7, 3), "-i -p": (3, 1), "-i -p -a -f": (3, 1)}
+        one_frame = {"-p": 1, "-p -f -a": 1, "": 1, "-a": 2, "-f": 2, "-a -f": 3}
+        table = {options: (count, count) for options, count in one_frame.items()}
+        table |= {"-i": (3, 1), "-i -f": (6, 2), "-i -a": (4, 2), "-i -a -f": (7, 3)}
+        table |= {"-i -p": (3, 1), "-i -p -a -f": (3, 1)}
         for options, wanted in table.items():
-            counts = (self.ask(options, f"{load}{asked}\n").count("\n") - 1 for asked in (f"{self.store:x}", self.nowhere))
-            self.assertEqual(tuple(counts), wanted, options)
+            for asked, count in zip((f"{self.store:x}", self.nowhere), wanted):
+                lines = self.ask(options, f"{load}{asked}\n").splitlines()
+                self.assertEqual(len(lines), 1 + count, options)
 
     def test_how_lines_begin(self):
         """With -a -p each line of an answer begins with 0x or a space, and no other reply does."""
-        text = f"{self.store:x}\n\nload a {BASE:x} {self.path}\n{self.store:x}\n{self.nowhere}\n.\nlist\nmove a 0\nunload a\nunload a\n"
+        text = f"{self.store:x}\n\nload a {BASE:x} {self.path}\n{self.store:x}\n{self.nowhere}\n"
+        text += ".\nlist\nmove a 0\nunload a\nunload a\n"
         lines = self.ask("-a -f -i -p", text).splitlines()
         answers = [line for line in lines if line.startswith(("0x", " "))]
         others = [line.split()[0] for line in lines if not line.startswith(("0x", " "))]
         self.assertEqual(len(answers), 1 + 3 + 1)
-        self.assertEqual(others, ["loaded", "refused", "module", "end", "moved", "unloaded", "refused"])
+        wanted = ["loaded", "refused", "module", "end", "moved", "unloaded", "refused"]
+        self.assertEqual(others, wanted)
 
 
 if __name__ == "__main__":
