@@ -159,7 +159,7 @@ class LoadsOfProcess(unittest.TestCase):
         self.addCleanup(live.end)
         for line in loads(host.pid).values():
             live.say(line)
-        asked = [start + byte for start in (host.here, work) for byte in range(24)]
+        asked = [start + byte for start in (host.here, work) for byte in range(12)]
         told = output_of("eu-addr2line", "-p", host.pid, *map(hex, asked)).splitlines()
         places = [":".join(line.split(":")[:2]) for line in told]
         self.assertEqual([live.say(f"{address:x}")[0] for address in asked], places)
