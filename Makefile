@@ -69,4 +69,4 @@ bench:
 	@tools/needs.sh bench rt awk python3 $(COMPILERS) addr2line
 	@mkdir -p out
 	bash -c 'set -o pipefail; { bench/run.sh && bench/answers.sh; } | tee out/bench.txt'
-	bench/table.py out/bench.txt > docs/MEASURED.md
+	bench/table.py out/bench.txt > out/MEASURED.md && mv out/MEASURED.md docs/MEASURED.md
