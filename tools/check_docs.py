@@ -3,8 +3,8 @@
 
 The manual page must explain each option, each refusal of a line, a load, an unload or a move, and
 each section and cause of a malformed object, and no cause that there is not; it must be formatted
-without a warning. The README must name each option and command, and each `make` target that it or
-another document names must be there.
+without a warning. The README must name each option and command; each definition that
+docs/ARCHITECTURE.md names by its file, and each `make` target that a document names, must be there.
 """
 import re
 import subprocess
@@ -81,6 +81,19 @@ def options_and_commands():
             yield f"{README.name}: the command {word} is not named"
 
 
+def definitions():
+    """Definitions that docs/ARCHITECTURE.md names, as `word` in `crate`, `File`."""
+    named = re.compile(r"((?:`\w+`(?:, | and ))*`\w+`) in `(\w+)`, `(\w+)`")
+    for words, crate, file in named.findall((TOP / "docs/ARCHITECTURE.md").read_text()):
+        specs = TOP / "crates" / crate / "specs"
+        if not specs.is_dir():
+            continue
+        text = (specs / f"{file}.antt").read_text() if (specs / f"{file}.antt").exists() else ""
+        for word in re.findall(r"`(\w+)`", words):
+            if not re.search(rf"^(?:(?:abbrev|unfoldable) pub|pub| ) {word} :", text, re.MULTILINE):
+                yield f"ARCHITECTURE.md: {word} is not in {crate}, {file}"
+
+
 def targets():
     """Targets of make that documents name."""
     known = set(re.findall(r"^([a-z-]+):", (TOP / "Makefile").read_text(), re.MULTILINE))
@@ -98,7 +111,7 @@ def formatting():
 
 
 def main():
-    checks = (causes, refusals, options_and_commands, targets, formatting)
+    checks = (causes, refusals, options_and_commands, definitions, targets, formatting)
     found = [fault for check in checks for fault in check()]
     print(*found, sep="\n", end="\n" if found else "")
     print(f"check-docs: {len(found)} faults")
