@@ -70,7 +70,7 @@ def cell(figures, program, unit, better):
     if program == OURS or not figure or not ours:
         return text
     ratio = ours / figure if better == "more" else figure / ours
-    return f"{text} (×{ratio:.3g})"
+    return f"{text} (×{ratio:,.0f})" if ratio >= 100 else f"{text} (×{ratio:.3g})"
 
 
 def said(*command):

@@ -15,15 +15,17 @@ large, batch, -f -i
   addr2line_live --cache 0, spread  80000 answers a second, first answer after 1000 ms, 7 bytes
   addr2line_live, sixteen addresses  300000 answers a second, first answer after 1000 ms, 7 bytes
   llvm-symbolizer, spread  22500 answers a second, first answer after 500 ms, 7 bytes
-  eu-addr2line, fewer                          failed
+  eu-addr2line, fewer  8 answers a second, first answer after 1500 ms, 7 bytes
+  addr2line of binutils, fewer  failed
 """
+ASKED = "large, a batch over a pipe, `-f -i`"
 ROWS = [
-    "| | addr2line_live | plain C | llvm-symbolizer |",
-    "|---|---|---|---|",
-    "| LEB128, 100 MB | 165 ms | 190 ms (×1.15) |  |",
-    "| memory, whole load | 811 MB | 767 MB (×0.946) |  |",
-    "| answers a second: large, a batch over a pipe, `-f -i` | 90,000 |  | 22,500 (×4) |",
-    "| first answer: large, a batch over a pipe, `-f -i` | 1,000 ms |  | 500 ms (×0.5) |",
+    "| | addr2line_live | plain C | llvm-symbolizer | eu-addr2line |",
+    "|---|---|---|---|---|",
+    "| LEB128, 100 MB | 165 ms | 190 ms (×1.15) |  |  |",
+    "| memory, whole load | 811 MB | 767 MB (×0.946) |  |  |",
+    f"| answers a second: {ASKED} | 90,000 |  | 22,500 (×4) | 8 (×11,250) |",
+    f"| first answer: {ASKED} | 1,000 ms |  | 500 ms (×0.5) | 1,500 ms (×1.5) |",
 ]
 
 
