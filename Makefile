@@ -1,34 +1,72 @@
-.PHONY: help demo test check compare hostile bench
+.PHONY: help demo test check program install compare hostile bench tools-test check-docs
+
+PREFIX ?= /usr/local
+PROGRAM = crates/addr2line_live/out/addr2line_live
+COMPILERS = gcc g++ objcopy
+READERS = readelf objdump nm addr2line llvm-symbolizer llvm-dwarfdump
 
 help:
-	@echo 'make demo      builds the program and shows it at work (some three minutes at first)'
-	@echo 'make test      the whole gate: every proof, edit that must fail, test and program (some 45 minutes)'
+	@echo 'make demo         builds the program and shows it at work'
+	@echo 'make test         the whole gate: every proof, edit that must fail, test and program (some 45 minutes)'
+	@echo 'make program      builds the program, $(PROGRAM)'
+	@echo 'make install      puts it and its manual page under PREFIX ($(PREFIX))'
 	@echo 'make check CRATE=dwarf_lines   one crate, over what earlier checks kept'
-	@echo 'make compare   what is read from objects, beside what other readers show'
-	@echo 'make hostile   the time of objects that are shaped to cost more than their bytes'
-	@echo 'make bench     the speed of the readers and of answers, beside plain C and addr2line'
+	@echo 'make tools-test   tests of tools/ and of the clients in docs/PROTOCOL.md, on real processes'
+	@echo 'make check-docs   the manual page and documents beside the program: options, refusals, causes, targets'
+	@echo 'make compare      what is read from objects, beside what other readers show'
+	@echo 'make hostile      the time of objects that are shaped to cost more than their bytes'
+	@echo 'make bench        the speed beside plain C and other symbolizers, as docs/MEASURED.md (half an hour)'
 
 # Shows the program at work on an object that the compiler makes there and then.
 demo:
-	tools/demo.sh
+	@tools/needs.sh demo rt awk
+	@echo 'Proves and builds addr2line_live and the crates below it (some twenty minutes from nothing, then seconds),'
+	@echo 'and asks it addresses of two objects, one of which moves and goes.'
+	@tools/build.sh addr2line_live
+	@tools/demo.sh
 
 # The whole gate: every proof, every edit that must fail, every test and program, from nothing.
 test:
+	@tools/needs.sh test rt
 	rt ci
 
 # One crate, quickly, over what earlier checks kept: make check CRATE=dwarf_lines
 check:
-	@test -n '$(CRATE)' || { echo 'say which crate: make check CRATE=dwarf_lines'; exit 2; }
+	@tools/needs.sh check rt
+	@test -d 'crates/$(CRATE)/src' || { echo 'say which crate: make check CRATE=dwarf_lines'; exit 2; }
 	cd crates/$(CRATE) && rt check
+
+program:
+	@tools/needs.sh program rt
+	@tools/build.sh addr2line_live
+
+install: program
+	install -D -m 755 $(PROGRAM) $(DESTDIR)$(PREFIX)/bin/addr2line_live
+	install -D -m 644 addr2line_live.1 $(DESTDIR)$(PREFIX)/share/man/man1/addr2line_live.1
+
+# Real processes, perf's text, a library that comes and goes, and the clients of docs/PROTOCOL.md.
+tools-test:
+	@tools/needs.sh tools-test rt python3 gcc nm objdump
+	@tools/build.sh addr2line_live
+	python3 -m unittest discover -s tools/tests
+
+check-docs:
+	@tools/needs.sh check-docs python3 groff
+	@tools/check_docs.py
 
 # What is read from objects, beside what other readers show.
 compare:
+	@tools/needs.sh compare rt python3 $(COMPILERS) $(READERS)
 	tools/compare_objects.sh
 
 # How long objects take that are shaped to cost more than their bytes.
 hostile:
+	@tools/needs.sh hostile rt python3
 	tools/hostile.sh
 
+# All figures, with those of the other symbolizers that are installed.
 bench:
-	bench/run.sh
-	bench/answers.sh
+	@tools/needs.sh bench rt awk python3 $(COMPILERS) addr2line
+	@mkdir -p out
+	bash -c 'set -o pipefail; { bench/run.sh && bench/answers.sh; } | tee out/bench.txt'
+	bench/table.py out/bench.txt > out/MEASURED.md && mv out/MEASURED.md docs/MEASURED.md

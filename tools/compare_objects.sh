@@ -5,9 +5,8 @@
 # anything differs.
 set -euo pipefail
 cd "$(dirname "$0")/.."
-mkdir -p out
-(cd crates/measure && rt run > ../../out/measure.log 2>&1)
-(cd crates/addr2line_live && rt run > ../../out/program.log 2>&1 < /dev/null)
+tools/build.sh measure measure.log
+tools/build.sh addr2line_live
 measure=crates/measure/out/measure
 program=crates/addr2line_live/out/addr2line_live
 [ -f out/objects/large ] || tools/make_objects.sh out/objects

@@ -1,43 +1,44 @@
 #!/usr/bin/env bash
-# Builds the program, and shows it at work on an object that gcc compiles there and then; where there is
-# no gcc, on demo.stored, which is demo.c as gcc compiled it, linked at /src, with its main at 0x1050.
+# Shows the program at work on an object that gcc compiles there and then; with --stored, or where there is no gcc,
+# on demo.stored, which is demo.c as gcc compiled it, linked at /src.
 set -euo pipefail
 cd "$(dirname "$0")/.."
+program=${ADDR2LINE_LIVE:-crates/addr2line_live/out/addr2line_live}
 mkdir -p out
-echo 'Building the program; this takes some minutes at first.'
-(cd crates/addr2line_live && rt run > ../../out/build.log 2>&1 < /dev/null) || { tail -5 out/build.log; exit 1; }
-program=crates/addr2line_live/out/addr2line_live
 object=out/demo
-main=1050
-if command -v gcc > /dev/null; then
+if [ "${1:-}" != --stored ] && command -v gcc > /dev/null; then
     gcc -g -gdwarf-5 -O2 -o "$object" tools/demo.c
-    main=$(nm "$object" | awk '$3 == "main" { print $1 }')
 else
     cp tools/demo.stored "$object"
 fi
 
-# An address of main, so many bytes behind its first one, at a base.
-address() { printf '%x' $(($1 + 0x$main + $2)); }
+# The first address of the object with three frames, and the one before the first of these with one: of the code of
+# main, and of what is inlined into it. Both are looked for among the first bytes of each page of code.
+addresses=$(for ((address = 0x1000; address < 0x1400; address++)); do printf '%x ' $address; done)
+read -r plain inlined < <("$program" -a -f -i -p -e "$object" $addresses | awk '
+    /^0x/ { frames = 1; address = substr($1, 1, 18); name = $2; if (!plain && name == "main") plain = address }
+    /^ / { if (++frames == 3) { print plain, address; exit } }')
 
-echo '$ addr2line_live -f -i -p -s'
-coproc "$program" -f -i -p -s
-while read -r line; do
-    echo "> $line"
-    echo "$line" >&"${COPROC[1]}"
-    IFS= read -r reply <&"${COPROC[0]}"
-    echo "$reply"
-    while IFS= read -t 0.1 -r reply <&"${COPROC[0]}"; do echo "$reply"; done
-done << COMMANDS
-load demo 0x7f0000000000 $object
-$(address 0x7f0000000000 0)
-$(address 0x7f0000000000 16)
-$(address 0x7f0000000000 32)
-load again 0x7f0000000000 $object
-load again 0x7f0000100000 $object
-list
-move demo 0x7f0000200000
-$(address 0x7f0000000000 16)
-$(address 0x7f0000200000 16)
-unload again
-load again 0 no/such/file
-COMMANDS
+coproc "$program" -f -i -p
+# A command, and its reply: the line `.` behind it is no command, and marks where the reply ends.
+say() {
+    echo "> $1"
+    printf '%s\n.\n' "$1" >&"${COPROC[1]}"
+    while IFS= read -r reply <&"${COPROC[0]}" && [ "$reply" != 'refused command' ]; do echo "$reply"; done
+}
+at() { printf '%x' $(($1 + $2)); }
+
+echo '$ addr2line_live -f -i -p'
+say "load app 0x550000000000 $object"
+say "$(at 0x550000000000 "$plain")"
+say "$(at 0x550000000000 "$inlined")"
+say "load plugin 0x7f0000000000 $object"
+say list
+say "$(at 0x7f0000000000 "$inlined")"
+say 'move plugin 0x7f0000200000'
+say "$(at 0x7f0000000000 "$inlined")"
+say "$(at 0x7f0000200000 "$inlined")"
+say 'unload plugin'
+say "$(at 0x7f0000200000 "$inlined")"
+say "load other 0x550000001000 $object"
+say 'load other 0 README.md'

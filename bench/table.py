@@ -1,0 +1,123 @@
+#!/usr/bin/env python3
+"""Makes a table of what bench/run.sh and bench/answers.sh print.
+
+table.py PRINTED writes docs/MEASURED.md to standard output: the machine, the versions, the day, and
+for loads, first answers, answers in a batch and in ping-pong, and memory the figures of this
+program and of each peer that was measured. A ratio behind a peer's figure says how many times
+better this program is: faster, or less memory.
+"""
+import datetime
+import os
+import re
+import subprocess
+import sys
+
+OURS = "addr2line_live"
+PLAIN = "plain C"
+FIGURE = re.compile(r"(?P<what>.*?) +(?P<ours>\d+) ms, plain C +(?P<plain>\d+) ms, ratio")
+MEMORY = re.compile(
+    r"memory for its (?P<what>.*): (?P<ours>\d+) MB, plain C(?: and C\+\+)? (?P<plain>\d+) MB"
+)
+ANSWERS = re.compile(
+    r"  (?P<program>.*?) {2,}(?P<rate>\d+) answers a second(?:, [\d.]+ reads and writes an answer)?"
+    r", first answer after (?P<first>\d+) ms(?:, peak (?P<peak>\d+) MB)?"
+)
+HEADING = re.compile(r"(?P<object>\w+), (?P<how>batch|pingpong)(?P<options>, .*)?")
+WAYS = {"batch": "a batch over a pipe", "pingpong": "ping-pong"}
+
+
+def column(program):
+    """The program of a line of answers, or None for a variant that the table leaves out."""
+    name = re.sub(r", (spread|fewer)$", "", program)
+    if name.startswith(OURS):
+        return OURS if name == f"{OURS} --cache 1024" else None
+    return name
+
+
+def rows(lines):
+    """What was measured, in which unit, whether more is better, and each program's figure."""
+    table = {}
+
+    def put(what, unit, better, program, figure):
+        table.setdefault((what, unit, better), {}).setdefault(program, int(figure))
+
+    asked = ""
+    for line in lines:
+        heading, answers = HEADING.fullmatch(line), ANSWERS.match(line)
+        if heading:
+            options = f", `{heading['options'][2:]}`" if heading["options"] else ""
+            asked = f"{heading['object']}, {WAYS[heading['how']]}{options}"
+        for form, unit in ((FIGURE, "ms"), (MEMORY, "MB")):
+            if found := form.match(line):
+                what = found["what"] if unit == "ms" else f"memory, {found['what']}"
+                put(what, unit, "less", OURS, found["ours"])
+                put(what, unit, "less", PLAIN, found["plain"])
+        if answers and column(answers["program"]):
+            program = column(answers["program"])
+            put(f"answers a second: {asked}", "", "more", program, answers["rate"])
+            put(f"first answer: {asked}", "ms", "less", program, answers["first"])
+            if answers["peak"]:
+                put(f"memory: {asked}", "MB", "less", program, answers["peak"])
+    return table
+
+
+def cell(figures, program, unit, better):
+    """A figure, and how many times better ours is."""
+    if program not in figures:
+        return ""
+    figure, ours = figures[program], figures.get(OURS)
+    text = f"{figure:,}{' ' + unit if unit else ''}"
+    if program == OURS or not figure or not ours:
+        return text
+    ratio = ours / figure if better == "more" else figure / ours
+    return f"{text} (×{ratio:,.0f})" if ratio >= 100 else f"{text} (×{ratio:.3g})"
+
+
+def said(*command):
+    """The first line that a command says, or None where it is not there."""
+    try:
+        done = subprocess.run(command, stdout=subprocess.PIPE, stderr=subprocess.STDOUT, text=True)
+        lines = (line.strip() for line in done.stdout.splitlines() if re.search(r"\d", line))
+        return next(lines, None)
+    except OSError:
+        return None
+
+
+def machine():
+    """The processor, how many of it, and the memory."""
+    told = open("/proc/cpuinfo").read()
+    model = re.search(r"^model name\s*: (.*)", told, re.MULTILINE)
+    name = model[1] if model else "an unknown processor"
+    memory = int(re.search(r"MemTotal: +(\d+)", open("/proc/meminfo").read())[1]) >> 20
+    return f"{os.cpu_count()} × {name}, {memory} GiB, Linux {os.uname().release}"
+
+
+def versions():
+    programs = ["gcc", "llvm-symbolizer", "eu-addr2line", "addr2line"]
+    programs.append(os.environ.get("GIMLI_ADDR2LINE", "-"))
+    told = [said("rt", "version"), *(said(program, "--version") for program in programs)]
+    return [version for version in told if version]
+
+
+def main():
+    with open(sys.argv[1]) as printed:
+        table = rows(printed.read().splitlines())
+    if not table:
+        raise SystemExit(f"{sys.argv[1]} has no figures")
+    programs = list(dict.fromkeys(program for figures in table.values() for program in figures))
+    print("# Measured\n")
+    print(f"Written by `make bench` on {datetime.date.today()}, on {machine()}. Versions:\n")
+    print(*(f"- {version}" for version in versions()), sep="\n")
+    print(
+        "\nBehind the figure of another program stands how many times better this one is (below 1:"
+        "\nworse). Plain C is a loop of this repository that makes the same checks (`bench/*.c`)."
+        "\nOthers load nothing before they are asked; this program has then read and judged all.\n"
+    )
+    print(f"| | {' | '.join(programs)} |\n|---|{'---|' * len(programs)}")
+    for (what, unit, better), figures in table.items():
+        cells = (cell(figures, program, unit, better) for program in programs)
+        print(f"| {what} | {' | '.join(cells)} |")
+
+
+if __name__ == "__main__":
+    main()

@@ -1,0 +1,122 @@
+#!/usr/bin/env python3
+"""Compares what the documents say with what the program says.
+
+The manual page must explain each option, each refusal of a line, a load, an unload or a move, and
+each section and cause of a malformed object, and no cause that there is not; it must be formatted
+without a warning. The README must name each option and command; each definition that
+docs/ARCHITECTURE.md names by its file, and each `make` target that a document names, must be there.
+"""
+import re
+import subprocess
+import sys
+from pathlib import Path
+
+TOP = Path(__file__).resolve().parent.parent
+PAGE = TOP / "addr2line_live.1"
+README = TOP / "README.md"
+
+
+def source(crate, file):
+    return (TOP / "crates" / crate / "src" / file).read_text()
+
+
+def part(title):
+    """The text of a section of the page."""
+    pattern = rf'^\.SH "?{title}"?\n(.*?)(?=^\.SH|\Z)'
+    return re.search(pattern, PAGE.read_text(), re.DOTALL | re.MULTILINE)[1]
+
+
+def entries(text):
+    """The words that entries of the page explain, and what is said of each."""
+    found = {}
+    entry = re.compile(r"^\.TP\n(.*)\n((?:(?!\.TP|\.S[HS]).*\n)*)", re.MULTILINE)
+    for tag, body in entry.findall(text):
+        plain = re.sub(r"\\f[A-Z]|^\.[BIR]+ ", "", tag).replace("\\", "").replace('"', "")
+        for word in re.findall(r"[a-z][a-z-]*", plain)[:1]:
+            found[word] = found.get(word, "") + body
+    return found
+
+
+def causes():
+    """Causes and sections of malformed objects."""
+    fault = source("dwarf_bytes", "fault.rt")
+    words = dict.fromkeys(re.findall(r'Cause::\w+ => "([a-z-]+)"', fault))
+    explained = entries(part("CAUSES"))
+    for cause in words:
+        if len(explained.get(cause, "").split()) < 3:
+            yield f"{PAGE.name}: the cause {cause} is not explained"
+    for cause in explained.keys() - words.keys():
+        yield f"{PAGE.name}: {cause} is no cause"
+    for section in re.findall(r'Section::\w+ => "(\S+?)"', fault):
+        if section not in part("CAUSES"):
+            yield f"{PAGE.name}: the section {section} is not named"
+
+
+def refusals():
+    """Refusals of lines, loads, unloads and moves."""
+    replies = source("command_loop", "replies.rt")
+    words = re.findall(r'(?:BadLine|FetchFault)::\w+ => "([a-z-]+)"', replies)
+    words += re.findall(r'write_refusal\("([a-z-]+)"', replies)
+    words += re.findall(r'b"refused (\w+) "', replies)
+    explained = entries(part("REFUSALS"))
+    for word in dict.fromkeys(words):
+        if word not in explained:
+            yield f"{PAGE.name}: the refusal {word} is not explained"
+
+
+def options_and_commands():
+    """Options and commands, in the page and in the README."""
+    readme, command = README.read_text(), source("command_line", "command.rt")
+    flags = {name: letter for letter, name in re.findall(r"'(\w)',\s+\"([a-z-]+)\"", command)}
+    named = re.findall(r"(?:\.short\('(\w)'\)\s+)?\.long\(\"(\w+)\"\)", command)
+    for option, letter in {**flags, **{name: letter for letter, name in named}}.items():
+        if f"--{option}" not in part("OPTIONS").replace("\\", ""):
+            yield f"{PAGE.name}: the option --{option} is not explained"
+        if f"--{option}" not in readme and not (letter and f"`-{letter}" in readme):
+            yield f"{README.name}: the option --{option} is not named"
+    for word in re.findall(r'word == b"(\w+)"', source("command_loop", "commands.rt")):
+        if word not in entries(part("COMMANDS")):
+            yield f"{PAGE.name}: the command {word} is not explained"
+        if f"`{word}" not in readme:
+            yield f"{README.name}: the command {word} is not named"
+
+
+def definitions():
+    """Definitions that docs/ARCHITECTURE.md names, as `word` in `crate`, `File`."""
+    named = re.compile(r"((?:`\w+`(?:, | and ))*`\w+`) in `(\w+)`, `(\w+)`")
+    for words, crate, file in named.findall((TOP / "docs/ARCHITECTURE.md").read_text()):
+        specs = TOP / "crates" / crate / "specs"
+        if not specs.is_dir():
+            continue
+        text = (specs / f"{file}.antt").read_text() if (specs / f"{file}.antt").exists() else ""
+        for word in re.findall(r"`(\w+)`", words):
+            if not re.search(rf"^(?:(?:abbrev|unfoldable) pub|pub| ) {word} :", text, re.MULTILINE):
+                yield f"ARCHITECTURE.md: {word} is not in {crate}, {file}"
+
+
+def targets():
+    """Targets of make that documents name."""
+    known = set(re.findall(r"^([a-z-]+):", (TOP / "Makefile").read_text(), re.MULTILINE))
+    named = re.compile(r"\bmake ([a-z][a-z-]+)(?=[` ]*(?:[A-Z]+=|`|$| {2,}))", re.MULTILINE)
+    for document in [README, *sorted((TOP / "docs").glob("*.md"))]:
+        for target in named.findall(document.read_text()):
+            if target not in known:
+                yield f"{document.name}: there is no make {target}"
+
+
+def formatting():
+    """What groff warns of."""
+    done = subprocess.run(["groff", "-man", "-Tutf8", "-ww", PAGE], capture_output=True, text=True)
+    yield from done.stderr.splitlines()
+
+
+def main():
+    checks = (causes, refusals, options_and_commands, definitions, targets, formatting)
+    found = [fault for check in checks for fault in check()]
+    print(*found, sep="\n", end="\n" if found else "")
+    print(f"check-docs: {len(found)} faults")
+    sys.exit(bool(found))
+
+
+if __name__ == "__main__":
+    main()

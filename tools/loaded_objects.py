@@ -1,0 +1,103 @@
+"""The ELF objects that a process has loaded: the mappings of its address space, and where each
+object's address 0 stands.
+
+An object is mapped segment by segment. A segment whose bytes begin at `offset` in the file and
+whose first address is `address` takes whole pages, so a mapping may begin before the segment's
+first byte; but a byte at an offset of the file always stands at
+`base + address + (that offset - offset)`. That gives the base.
+"""
+import functools
+import os
+import re
+import struct
+from typing import NamedTuple
+
+PAGE = os.sysconf("SC_PAGE_SIZE")
+LOADED, EXECUTABLE = 1, 1  # PT_LOAD among the types of segments, PF_X among their flags
+LINE = re.compile(
+    r"(?P<start>[0-9a-f]+)-(?P<end>[0-9a-f]+) (?P<rights>\S{4}) (?P<offset>[0-9a-f]+)"
+    r" \S+ \d+ +(?P<path>/.*)"
+)
+
+
+class Segment(NamedTuple):
+    """An executable segment of an object."""
+
+    offset: int  # of its first byte, in the file
+    address: int  # of that byte, in the object
+    size: int  # in the file
+
+    def has(self, offset):
+        """Whether an offset of the file is in the segment, or in the page on which it begins."""
+        return self.offset - self.offset % PAGE <= offset < self.offset + self.size
+
+
+class Mapping(NamedTuple):
+    """A stretch of an address space that shows a file."""
+
+    start: int
+    end: int
+    offset: int  # of the file, at start
+    path: str
+
+
+def mapping_of(line):
+    """The executable mapping of a file that a line of /proc/PID/maps tells of, or None."""
+    found = LINE.fullmatch(line.rstrip("\n"))
+    if not found or found["rights"][2] != "x" or found["path"].endswith(" (deleted)"):
+        return None
+    start, end, offset = (int(found[key], 16) for key in ("start", "end", "offset"))
+    return Mapping(start, end, offset, found["path"])
+
+
+@functools.cache
+def segments(path):
+    """The executable segments of a 64-bit little-endian ELF object; none for any other file."""
+    try:
+        with open(path, "rb") as file:
+            header = file.read(64)
+            if len(header) < 64 or header[:6] != b"\x7fELF\x02\x01":
+                return []
+            file.seek(int.from_bytes(header[32:40], "little"))
+            size, count = struct.unpack_from("<HH", header, 54)
+            table = file.read(size * count)
+    except OSError:
+        return []
+    found = []
+    for at in range(0, len(table) - 55, max(size, 56)):
+        kind, flags, offset, address, _, in_file = struct.unpack_from("<IIQQQQ", table, at)
+        if kind == LOADED and flags & EXECUTABLE:
+            found.append(Segment(offset, address, in_file))
+    return found
+
+
+def base_of(mapping, executable):
+    """Where address 0 of the object stands whose executable segments are given, or None."""
+    for segment in executable:
+        base = mapping.start - mapping.offset + segment.offset - segment.address
+        if segment.has(mapping.offset) and base >= 0 and base % PAGE == 0:
+            return base
+    return None
+
+
+def name_of(path, taken):
+    """A name of at most 64 letters, digits, `_`, `-` and `.` that no other object has."""
+    plain = re.sub(r"[^A-Za-z0-9_.-]", "_", os.path.basename(path))[:56] or "object"
+    name, number = plain, 1
+    while name in taken:
+        number += 1
+        name = f"{plain}.{number}"
+    taken.add(name)
+    return name
+
+
+def objects_of(lines):
+    """The name, base and path of each object in lines of /proc/PID/maps, and other files' paths."""
+    loaded, others, taken = {}, [], set()
+    for mapping in filter(None, map(mapping_of, lines)):
+        base = base_of(mapping, segments(mapping.path))
+        if base is None:
+            others.append(mapping.path)
+        elif (base, mapping.path) not in loaded:
+            loaded[base, mapping.path] = name_of(mapping.path, taken)
+    return [(name, base, path) for (base, path), name in loaded.items()], others

@@ -1,0 +1,68 @@
+"""What the tests of the tools share: the program, and objects that gcc compiles for a test."""
+import os
+import subprocess
+from pathlib import Path
+
+TOP = Path(__file__).resolve().parents[2]
+TOOLS = TOP / "tools"
+PROGRAM = Path(os.environ.get("ADDR2LINE_LIVE", TOP / "crates/addr2line_live/out/addr2line_live"))
+
+
+def output_of(*words, text=""):
+    """What a command prints; it must end well."""
+    words = list(map(str, words))
+    done = subprocess.run(words, input=text, capture_output=True, text=True)
+    if done.returncode:
+        raise AssertionError(f"{words[0]} ended with {done.returncode}: {done.stderr}")
+    return done.stdout
+
+
+def compiled(folder, name, source, *flags):
+    """An object of a C source, with DWARF 5; its source is folder/NAME.c."""
+    path = Path(folder) / name
+    path.with_suffix(".c").write_text(source)
+    output_of("gcc", "-g", "-gdwarf-5", *flags, "-o", path, path.with_suffix(".c"), "-ldl")
+    return path
+
+
+def symbol(path, name):
+    """The link address of a symbol."""
+    told = [line.split() for line in output_of("nm", path).splitlines()]
+    return next(int(words[0], 16) for words in told if words[-1] == name)
+
+
+def instructions(path, function):
+    """The link address and the text of each instruction of a function."""
+    shown = output_of("objdump", "-d", "--no-show-raw-insn", f"--disassemble={function}", path)
+    found = (line.partition(":") for line in shown.splitlines() if line.startswith(" "))
+    return [(int(address, 16), text) for address, _, text in found]
+
+
+def tool(name, *arguments, text=""):
+    """What a tool prints."""
+    return output_of(TOOLS / name, *arguments, text=text)
+
+
+class Live:
+    """An addr2line_live that stays up."""
+
+    def __init__(self, *options):
+        pipe = subprocess.PIPE
+        self.running = subprocess.Popen([PROGRAM, *options], stdin=pipe, stdout=pipe, text=True)
+
+    def say(self, line):
+        """The lines of the reply to a line."""
+        self.running.stdin.write(f"{line}\n.\n")
+        self.running.stdin.flush()
+        lines = []
+        for told in self.running.stdout:
+            if told == "refused command\n":
+                return lines
+            lines.append(told.rstrip("\n"))
+        raise EOFError("addr2line_live has ended")
+
+    def end(self):
+        """The exit status after the end of input."""
+        self.running.stdin.close()
+        self.running.stdout.close()
+        return self.running.wait(10)

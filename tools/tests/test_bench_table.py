@@ -1,0 +1,46 @@
+"""The table that bench/table.py makes of what the measuring scripts print."""
+import subprocess
+import sys
+import tempfile
+import unittest
+from pathlib import Path
+
+sys.path.insert(0, str(Path(__file__).resolve().parent))
+from programs import TOP, output_of
+
+PRINTED = """LEB128, 100 MB                              165 ms, plain C    190 ms, ratio 1.15
+memory for its whole load: 811 MB, plain C and C++ 767 MB
+large, batch, -f -i
+  addr2line_live --cache 1024, spread  90000 answers a second, first answer after 1000 ms, 7 bytes
+  addr2line_live --cache 0, spread  80000 answers a second, first answer after 1000 ms, 7 bytes
+  addr2line_live, sixteen addresses  300000 answers a second, first answer after 1000 ms, 7 bytes
+  llvm-symbolizer, spread  22500 answers a second, first answer after 500 ms, 7 bytes
+  eu-addr2line, fewer  8 answers a second, first answer after 1500 ms, 7 bytes
+  addr2line of binutils, fewer  failed
+"""
+ASKED = "large, a batch over a pipe, `-f -i`"
+ROWS = [
+    "| | addr2line_live | plain C | llvm-symbolizer | eu-addr2line |",
+    "|---|---|---|---|---|",
+    "| LEB128, 100 MB | 165 ms | 190 ms (×1.15) |  |  |",
+    "| memory, whole load | 811 MB | 767 MB (×0.946) |  |  |",
+    f"| answers a second: {ASKED} | 90,000 |  | 22,500 (×4) | 8 (×11,250) |",
+    f"| first answer: {ASKED} | 1,000 ms |  | 500 ms (×0.5) | 1,500 ms (×1.5) |",
+]
+
+
+class Table(unittest.TestCase):
+    def test_rows(self):
+        with tempfile.NamedTemporaryFile("w") as printed:
+            printed.write(PRINTED)
+            printed.flush()
+            shown = output_of(TOP / "bench/table.py", printed.name)
+        self.assertEqual([line for line in shown.splitlines() if line.startswith("|")], ROWS)
+
+    def test_no_figures(self):
+        done = subprocess.run([TOP / "bench/table.py", "/dev/null"], capture_output=True, text=True)
+        self.assertEqual((done.returncode, done.stderr), (1, "/dev/null has no figures\n"))
+
+
+if __name__ == "__main__":
+    unittest.main()

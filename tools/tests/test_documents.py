@@ -1,0 +1,40 @@
+"""What documents show is what the program prints."""
+import re
+import subprocess
+import sys
+import unittest
+from pathlib import Path
+
+sys.path.insert(0, str(Path(__file__).resolve().parent))
+from programs import PROGRAM, TOP, Live, output_of
+
+
+class Documents(unittest.TestCase):
+    def test_demo_of_the_readme(self):
+        shown = output_of(TOP / "tools/demo.sh", "--stored")
+        self.assertIn(f"```\n{shown}```\n", (TOP / "README.md").read_text())
+
+    def test_example_of_the_protocol(self):
+        """The answer to an address of the stored object, as the clients print it."""
+        page = (TOP / "docs/PROTOCOL.md").read_text()
+        example = re.search(r"```\n(loaded object .*?)```", page, re.DOTALL)[1].splitlines()
+        live = Live("-f", "-i", "-p")
+        self.addCleanup(live.end)
+        self.assertEqual(live.say(f"load object 0x10000 {TOP}/tools/demo.stored"), example[:1])
+        frames = [line.replace(" (inlined by) ", "") for line in live.say("11068")]
+        self.assertEqual([f"{number} {frame}" for number, frame in enumerate(frames)], example[1:])
+
+    def test_statuses_of_the_manual_page(self):
+        cases = {
+            "-e /no/file": (1, "addr2line_live: refused file\n"),
+            "zz": (2, "addr2line_live: bad address zz\n"),
+            "--help": (0, ""),
+            "0": (0, ""),
+        }
+        for words, wanted in cases.items():
+            done = subprocess.run([PROGRAM, *words.split()], capture_output=True, text=True)
+            self.assertEqual((done.returncode, done.stderr), wanted, words)
+
+
+if __name__ == "__main__":
+    unittest.main()
