@@ -23,7 +23,7 @@ pub enum BadLine {
     /// Its first field names no command, or it is no number.
     #[error("command")]
     Command = 2,
-    /// It has too few fields.
+    /// It has too few fields, or too many.
     #[error("fields")]
     Fields = 3,
     /// A name is not of 1 to 64 letters, digits, `_`, `-` and `.`.
