@@ -1,4 +1,4 @@
-.PHONY: help demo test check compare hostile bench
+.PHONY: help demo test check compare hostile fuzz memory long-run program bench
 
 help:
 	@echo 'make demo      builds the program and shows it at work (some three minutes at first)'
@@ -6,6 +6,9 @@ help:
 	@echo 'make check CRATE=dwarf_lines   one crate, over what earlier checks kept'
 	@echo 'make compare   what is read from objects, beside what other readers show'
 	@echo 'make hostile   the time of objects that are shaped to cost more than their bytes'
+	@echo 'make fuzz      objects and commands made by chance, beside a plain scan (SEED=1 COUNT=20000)'
+	@echo 'make memory    each growth of memory, each read and write refused in turn (DURATION=60)'
+	@echo 'make long-run  a million commands to one process, then full outputs and odd files'
 	@echo 'make bench     the speed of the readers and of answers, beside plain C and addr2line'
 
 # Shows the program at work on an object that the compiler makes there and then.
@@ -28,6 +31,18 @@ compare:
 # How long objects take that are shaped to cost more than their bytes.
 hostile:
 	tools/hostile.sh
+
+# The program beside a plain reader in Python, with memory and devices that fail, and for long.
+program = crates/addr2line_live/out/addr2line_live
+fuzz: program
+	tools/fuzz.py $(program) tables
+	tools/fuzz.py $(program) $(or $(SEED),1) $(or $(COUNT),20000)
+memory: program
+	tools/memory.py $(program) $(or $(DURATION),60)
+long-run: program
+	tools/long_run.py $(program) $(or $(COMMANDS),1000000)
+program:
+	mkdir -p out && cd crates/addr2line_live && rt run > ../../out/program.log 2>&1 < /dev/null
 
 bench:
 	bench/run.sh
