@@ -37,6 +37,7 @@ program = crates/addr2line_live/out/addr2line_live
 fuzz: program
 	tools/fuzz.py $(program) tables
 	tools/fuzz.py $(program) $(or $(SEED),1) $(or $(COUNT),20000)
+	tools/fuzz_words.py $(program) $(or $(SEED),1) 2000
 memory: program
 	tools/memory.py $(program) $(or $(DURATION),60)
 long-run: program

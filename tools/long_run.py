@@ -62,6 +62,17 @@ def one_command(chance, run, paths):
         run.say(b"list" if how < 0.992 else chance.choice(LINES))
 
 
+def crowd(run, path):
+    """Loads one module more than there may be, asks some of them, and tells the state with all loaded."""
+    for number in range(4097):
+        run.say(b"load c%d %x %s" % (number, number << 12, path))
+    for number in range(0, 4096, 16):
+        run.say(b"%x" % ((number << 12) + 0x1004))
+    run.say(b"list")
+    run.compare()
+    return state(run.process)
+
+
 def empty(run):
     """Unloads all, and tells the state."""
     for name in list(run.session.modules):
@@ -88,12 +99,15 @@ def stay_up(program, commands, folder, named):
             states.append(empty(run))
             print(f"after {run.count} commands: {states[-1][0]} KB resident, {states[-1][1]} KB at the peak, "
                   f"{states[-1][2]} descriptors", flush=True)
+        full = [(crowd(run, paths[0])[0], empty(run)[0]) for _ in range(2)]
+        print(f"4,096 modules, KB resident with them and without them, twice: {full}", flush=True)
         run.end()
     except Differs as differs:
         raise SystemExit(f"{differs}\nlong run: differs after {run.count} commands") from differs
     first, last = states[0], states[-1]
     expect("descriptors at the end, beside those after the first part", last[2], first[2])
     expect("memory at the end is within 10 % and 512 KB of that after the first part", last[0] <= first[0] * 1.1 + 512, True)
+    expect("memory of the second 4,096 modules is that of the first", full[1][0] <= full[0][0] * 1.02, True)
     print(f"{run.count} commands in {time.monotonic() - start:.0f} s, no reply differs", flush=True)
     return run.count
 
