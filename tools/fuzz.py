@@ -57,15 +57,16 @@ class Run:
         return reply
 
     def read(self, size):
+        """So many bytes of replies; or fewer, and why."""
         found = b""
         while len(found) < size:
             if not select.select([self.process.stdout], [], [], 60)[0]:
-                raise Differs("said nothing for a minute")
+                return found, "said nothing for a minute"
             more = os.read(self.process.stdout.fileno(), size - len(found))
             if more == b"":
-                raise Differs(f"ended with {self.process.wait()}")
+                return found, f"ended with {self.process.wait()}"
             found += more
-        return found
+        return found, ""
 
     def compare(self):
         """Compares the replies to what was said since the last compare."""
@@ -74,10 +75,10 @@ class Run:
             self.process.stdin.write(sent)
         except BrokenPipeError as error:
             raise Differs(f"ended with {self.process.wait()}") from error
-        found = self.read(sum(map(len, self.wanted)))
+        found, stopped = self.read(sum(map(len, self.wanted)))
         for line, wanted in zip(self.said, self.wanted):
             if not found.startswith(wanted):
-                raise Differs(f"-{self.told} {line[:99]!r}: {found[:len(wanted) + 60]!r}, plain {wanted!r}")
+                raise Differs(f"-{self.told} {line[:99]!r}: {found[:len(wanted) + 60]!r} {stopped}, plain {wanted!r}")
             found = found[len(wanted):]
         self.said, self.wanted = [], []
 
@@ -112,7 +113,7 @@ def commands(chance, run, path):
     if chance.random() < 0.3:
         run.say(b"move n%d %x" % (chance.randrange(6), chance.choice(BASES)))
     if chance.random() < 0.2:
-        line = chance.choice([b"load n1 1000 " + path, b"move n2 7f0000000000", b"0x7f0000001004", b"unload n3"])
+        line = chance.choice([b"load n1 1000 " + bytes(run.folder / "sample"), b"move n2 7f0000000000", b"0x7f0000001004", b"unload n3"])
         run.say(changed(chance, line).replace(b"\n", b"?"))
         run.say(chance.choice(LINES))
         run.say(b"list")
@@ -129,6 +130,7 @@ def table_commands(run, path):
 
 def feed(run, objects, tell):
     """Writes each object to a file, and says what `tell` says of it."""
+    (run.folder / "sample").write_bytes(SAMPLE.read_bytes())
     for count, data in enumerate(objects):
         if count % 400 == 0:
             run.compare()

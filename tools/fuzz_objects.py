@@ -26,6 +26,9 @@ class Maker:
         self.starts, self.ats = [], []
         self.string = b"".join(name + b"\0" for name in NAMES)
         self.line_string = b"/src\0lib\0a.c\0\0/inc/\0x.c\0"
+        if chance.random() < 0.1:  # texts that do not fit into what is held for a reply
+            long = b"n/" * chance.choice([1020, 1024, 2048, 5000]) + b"\2z\0"
+            self.string, self.line_string = self.string + long, self.line_string + long
 
     def often(self):
         return self.chance.random() < 0.97

@@ -168,7 +168,7 @@ def main():
             runner.each_growth(words, lines, merged(allowed))
         devices(runner)
         chance(runner, folder, seconds - (time.monotonic() - start))
-    for wrong in runner.wrong:
+    for wrong in runner.wrong[:10]:
         print(wrong)
     print(f"memory: {runner.tried} runs in {time.monotonic() - start:.0f} s, {len(runner.wrong)} of them wrong")
     sys.exit(bool(runner.wrong))
