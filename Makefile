@@ -1,4 +1,4 @@
-.PHONY: help demo test check program install compare hostile bench tools-test check-docs
+.PHONY: help demo test check program install compare hostile fuzz memory long-run bench tools-test check-docs
 
 PREFIX ?= /usr/local
 PROGRAM = crates/addr2line_live/out/addr2line_live
@@ -15,6 +15,9 @@ help:
 	@echo 'make check-docs   the manual page and documents beside the program: options, refusals, causes, targets'
 	@echo 'make compare      what is read from objects, beside what other readers show'
 	@echo 'make hostile      the time of objects that are shaped to cost more than their bytes'
+	@echo 'make fuzz         objects and commands made by chance, beside a plain reader in Python (SEED=1 COUNT=20000)'
+	@echo 'make memory       each growth of memory, each read and write refused in turn (DURATION=60, in seconds)'
+	@echo 'make long-run     a million commands to one process, then full outputs and odd files (COMMANDS=1000000)'
 	@echo 'make bench        the speed beside plain C and other symbolizers, as docs/MEASURED.md (half an hour)'
 
 # Shows the program at work on an object that the compiler makes there and then.
@@ -63,6 +66,26 @@ compare:
 hostile:
 	@tools/needs.sh hostile rt python3
 	tools/hostile.sh
+
+# Objects and commands made by chance, beside a plain reader in Python.
+fuzz:
+	@tools/needs.sh fuzz rt python3
+	@tools/build.sh addr2line_live
+	tools/fuzz.py $(PROGRAM) tables
+	tools/fuzz.py $(PROGRAM) $(or $(SEED),1) $(or $(COUNT),20000)
+	tools/fuzz_words.py $(PROGRAM) $(or $(SEED),1) 2000
+
+# Each growth of memory, each read and each write refused in turn, for so many seconds.
+memory:
+	@tools/needs.sh memory rt python3 cc
+	@tools/build.sh addr2line_live
+	tools/memory.py $(PROGRAM) $(or $(DURATION),60)
+
+# One process over many commands; then full and closed outputs, and odd files.
+long-run:
+	@tools/needs.sh long-run rt python3
+	@tools/build.sh addr2line_live
+	tools/long_run.py $(PROGRAM) $(or $(COMMANDS),1000000)
 
 # All figures, with those of the other symbolizers that are installed.
 bench:

@@ -17,6 +17,8 @@ mod refusals;
 #[cfg(test)]
 mod shelf;
 #[cfg(test)]
+mod sources;
+#[cfg(test)]
 mod starts;
 #[cfg(test)]
 mod turns;

@@ -1,0 +1,134 @@
+//! Objects that are cut: whole files, and sections by their sizes.
+
+use addr_table::Module;
+use dwarf_bytes::{Cause, LoadFault, Section};
+use dwarf_samples::{INLINED, TWO_SEQUENCES};
+use std::alloc::{AllocError, Global};
+use std::process::Abort;
+use std::test::*;
+
+/// Where the sizes of the first sample's sections stand in its section headers.
+const ABBREV_SIZE: usize = 479;
+
+const INFO_SIZE: usize = 543;
+
+const LINE_SIZE: usize = 607;
+
+const NAMES_SIZE: usize = 671;
+
+/// The first fault of an object.
+fn fault_of(alloc: Global, object: &[u8]) -> Result<Option<LoadFault>, AllocError> {
+    let mut bytes = Vec::new(alloc);
+    bytes.extend_from_slice(object)?;
+    match Module::decode(alloc, bytes) {
+        Ok(_) => Ok(None),
+        Err((_, fault)) => Ok(Some(fault)),
+    }
+}
+
+/// The first sample with another size of a section.
+fn with_size(place: usize, size: u8) -> [u8; 703] {
+    let mut object = INLINED;
+    if let Some(byte) = object.get_mut(place) {
+        *byte = size;
+    }
+    object
+}
+
+/// Checks the fault of the first sample with each of these sizes of a section.
+fn are_refused(
+    rt: &(impl Abort + AllocGlobal),
+    place: usize,
+    sizes: (u8, u8),
+    fault: LoadFault,
+) -> Result<(), Fail> {
+    for size in sizes.0..sizes.1 {
+        let found = fault_of(rt.alloc(), &with_size(place, size))?;
+        assert_eq!(rt; found, Some(fault), "of size {size}");
+    }
+    Ok(())
+}
+
+#[test]
+fn files_that_end_in_their_header(rt: HostRuntime) -> Result<(), Fail> {
+    let fault = Some(LoadFault::told(Section::Elf, Cause::NotElf, 0));
+    for size in 0..64 {
+        assert_eq!(rt; fault_of(rt.alloc(), &INLINED[..size])?, fault, "of {size}");
+    }
+    Ok(())
+}
+
+#[test]
+fn files_that_end_before_their_section_headers(rt: HostRuntime) -> Result<(), Fail> {
+    let fault = Some(LoadFault::told(Section::Elf, Cause::Table, 0));
+    for size in 64..703 {
+        assert_eq!(rt; fault_of(rt.alloc(), &INLINED[..size])?, fault, "of {size}");
+    }
+    Ok(())
+}
+
+#[test]
+fn longer_files_that_end_before_their_section_headers(rt: HostRuntime) -> Result<(), Fail> {
+    let fault = Some(LoadFault::told(Section::Elf, Cause::Table, 0));
+    for size in 64..725 {
+        assert_eq!(rt;
+            fault_of(rt.alloc(), &TWO_SEQUENCES[..size])?,
+            fault,
+            "of {size}"
+        );
+    }
+    Ok(())
+}
+
+#[test]
+fn cut_line_programs(rt: HostRuntime) -> Result<(), Fail> {
+    let none = LoadFault::told(Section::DebugInfo, Cause::StmtList, 12);
+    are_refused(&rt, LINE_SIZE, (0, 1), none)?;
+    let fault = LoadFault::told(Section::DebugLine, Cause::Short, 0);
+    are_refused(&rt, LINE_SIZE, (1, 75), fault)
+}
+
+#[test]
+fn cut_units(rt: HostRuntime) -> Result<(), Fail> {
+    assert_eq!(rt; fault_of(rt.alloc(), &with_size(INFO_SIZE, 0))?, None);
+    let fault = LoadFault::told(Section::DebugInfo, Cause::Short, 0);
+    are_refused(&rt, INFO_SIZE, (1, 96), fault)
+}
+
+/// The declarations stand at 0, 9, 20 and 35, and the end of the table at 42.
+#[test]
+fn cut_abbreviations_of_a_module(rt: HostRuntime) -> Result<(), Fail> {
+    for at in [0u8, 9, 20, 35, 42] {
+        let fault = LoadFault::told(Section::DebugAbbrev, Cause::Short, at as u64);
+        are_refused(&rt, ABBREV_SIZE, (at, end_of_declaration(at)), fault)?;
+    }
+    Ok(())
+}
+
+/// Where the next item of the table of abbreviations stands.
+fn end_of_declaration(at: u8) -> u8 {
+    match at {
+        0 => 9,
+        9 => 20,
+        20 => 35,
+        35 => 42,
+        _ => 43,
+    }
+}
+
+/// Names begin at 1, 15, 27 and 39, and headers have 64 bytes.
+#[test]
+fn cut_names_of_sections(rt: HostRuntime) -> Result<(), Fail> {
+    let names = [
+        (0, 1, 383),
+        (1, 15, 447),
+        (15, 27, 511),
+        (27, 39, 575),
+        (39, 49, 639),
+    ];
+    for (from, past, header) in names {
+        let fault = LoadFault::told(Section::Elf, Cause::Table, header);
+        are_refused(&rt, NAMES_SIZE, (from, past), fault)?;
+    }
+    Ok(())
+}

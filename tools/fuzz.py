@@ -1,0 +1,183 @@
+#!/usr/bin/env python3
+"""Loads objects that are made by chance, mutants of samples and of real objects, and asks the program of
+them by commands that are made by chance, beside a plain scan in Python (tools/plain_session.py).
+
+fuzz.py PROGRAM SEED COUNT [OBJECT..] tries COUNT objects; fuzz.py PROGRAM tables tries all values of each
+byte of a sample's headers, each of its cuts, and objects at the limits. It fails where a reply is another than the plain one,
+where the program ends, and where it says nothing for a minute; what it was told is then kept in out/fuzz.
+"""
+import os
+import random
+import select
+import shlex
+import shutil
+import subprocess
+import sys
+import tempfile
+import time
+from pathlib import Path
+
+from fuzz_mutants import changed, cut_sections, limits, made, whole_table
+from plain_session import Session
+
+TOP = (1 << 64) - 1
+SAMPLE = Path(__file__).parent / "../crates/measure/data/inlined"
+REAL = Path(__file__).parent / "demo.stored"
+OPTIONS = ["", "fi", "afip", "fil", "s", "fips", "ap", "aflips"]
+BASES = [0, 0, 0x1000, 0x10000, 0x10800, 0x11000, 0x7F0000000000, TOP - 0x2000, TOP - 0x2001, TOP]
+LINES = [b"list", b"list ", b"", b" ", b"x", b"load", b"load a 0", b"load a! 0 x", b"load a zz x", b"move a",
+         b"unload", b"unload zz", b"move zz 0", b"0x", b"12345678901234567", b"1000\r", b"load a 0 ", b"\0",
+         b"load a 0 no/such", b"load a 0 \xff\xfe", b"load a 0 .", b"z" * 4096, b"z" * 4097, b"load  0 x",
+         b"load " + b"n" * 65 + b" 0 x", b"move a 0 1", b"fFfFfFfFfFfFfFfF", b"LOAD a 0 x"]
+
+
+class Differs(Exception):
+    """The program's replies are others than the plain ones."""
+
+
+class Run:
+    """A process, and the plain session that it is compared with."""
+
+    def __init__(self, program, letters, folder, cache=64):
+        options = [f"-{letter}" for letter in letters if letter != "l"]
+        options += ["--linkage"] if "l" in letters else []
+        command = shlex.split(program) + options + ["--cache", str(cache)]
+        self.process = subprocess.Popen(command, stdin=subprocess.PIPE, stdout=subprocess.PIPE, bufsize=0)
+        self.session, self.folder, self.said, self.wanted = Session(letters), folder, [], []
+        self.count, self.told = 0, letters
+
+    def say(self, line):
+        """Gives a line to both; the program gets it with the next `compare`."""
+        reply = self.session.reply(line)
+        self.said.append(line)
+        self.wanted.append(reply)
+        self.count += 1
+        if sum(map(len, self.said[-200:])) > 16384 or len(self.said) > 400:
+            self.compare()
+        return reply
+
+    def read(self, size):
+        """So many bytes of replies; or fewer, and why."""
+        found = b""
+        while len(found) < size:
+            if not select.select([self.process.stdout], [], [], 60)[0]:
+                return found, "said nothing for a minute"
+            more = os.read(self.process.stdout.fileno(), size - len(found))
+            if more == b"":
+                return found, f"ended with {self.process.wait()}"
+            found += more
+        return found, ""
+
+    def compare(self):
+        """Compares the replies to what was said since the last compare."""
+        sent = b"".join(line + b"\n" for line in self.said)
+        try:
+            self.process.stdin.write(sent)
+        except BrokenPipeError as error:
+            raise Differs(f"ended with {self.process.wait()}") from error
+        found, stopped = self.read(sum(map(len, self.wanted)))
+        for line, wanted in zip(self.said, self.wanted):
+            if not found.startswith(wanted):
+                raise Differs(f"-{self.told} {line[:99]!r}: {found[:len(wanted) + 60]!r} {stopped}, plain {wanted!r}")
+            found = found[len(wanted):]
+        self.said, self.wanted = [], []
+
+    def end(self):
+        self.compare()
+        self.process.stdin.close()
+        rest, status = self.process.stdout.read(), self.process.wait()
+        if rest or status:
+            raise Differs(f"ended with {status}, having said {rest[:99]!r}")
+
+
+def links(chance, module, count):
+    """Link addresses near the ends of a module's rows and ranges."""
+    ends = [row.address for row in module.rows] + [end for scope in module.scopes for pair in scope.ranges for end in pair]
+    near = [chance.choice(ends) + chance.choice([-1, 0, 0, 1]) if ends else module.low for _ in range(count)]
+    return [link & TOP for link in near]
+
+
+def commands(chance, run, path):
+    """Loads an object under a name and base of chance, and says more of it and of others."""
+    name = b"n%d" % chance.randrange(6)
+    if chance.random() < 0.8:
+        run.say(b"unload " + name)
+    run.say(b"load %s %x %s" % (name, chance.choice(BASES), path))
+    if name in run.session.modules:
+        base, module = run.session.modules[name]
+        for link in links(chance, module, 6):
+            run.say(b"%x" % (base + link & TOP))
+    else:
+        run.say(b"load other-name %x %s" % (chance.choice(BASES), path))
+        run.say(b"unload other-name")
+    if chance.random() < 0.3:
+        run.say(b"move n%d %x" % (chance.randrange(6), chance.choice(BASES)))
+    if chance.random() < 0.2:
+        line = chance.choice([b"load n1 1000 " + bytes(run.folder / "sample"), b"move n2 7f0000000000", b"0x7f0000001004", b"unload n3"])
+        run.say(changed(chance, line).replace(b"\n", b"?"))
+        run.say(chance.choice(LINES))
+        run.say(b"list")
+
+
+def table_commands(run, path):
+    """Loads an object, and asks each address near the sample's code."""
+    run.say(b"load table 0 " + path)
+    if b"table" in run.session.modules:
+        for link in range(0xFF0, 0x1021):
+            run.say(b"%x" % link)
+        run.say(b"unload table")
+
+
+def feed(run, objects, tell):
+    """Writes each object to a file, and says what `tell` says of it."""
+    (run.folder / "sample").write_bytes(SAMPLE.read_bytes())
+    for count, data in enumerate(objects):
+        if count % 400 == 0:
+            run.compare()
+            run.session.known.clear()
+        path = run.folder / f"o{count % 400}"
+        path.write_bytes(data)
+        tell(run, bytes(path))
+    run.end()
+
+
+def keep(run):
+    """Keeps what the program was told since the last compare, with its objects."""
+    kept = Path("out/fuzz")
+    shutil.rmtree(kept, ignore_errors=True)
+    shutil.copytree(run.folder, kept)
+    (kept / "script").write_bytes(b"".join(line + b"\n" for line in run.said))
+
+
+def all_runs(words):
+    """The runs: the letters of the options, how many objects, the objects, and what is said of each."""
+    sample = SAMPLE.read_bytes()
+    if words[0] == "tables":
+        table = [*limits(), *cut_sections(sample), *whole_table(sample)]
+        return [("fi", len(table), table, table_commands)]
+    count, chance = int(words[1]), random.Random(int(words[0]))
+    reals = [sample, sample, REAL.read_bytes()] + [Path(path).read_bytes() for path in words[2:]]
+    sizes = [2000] * (count // 2000) + [count % 2000] * (count % 2000 > 0)
+    return [(OPTIONS[n % 8], size, made(chance, reals, size), lambda run, path: commands(chance, run, path))
+            for n, size in enumerate(sizes)]
+
+
+def main():
+    program, words = sys.argv[1], sys.argv[2:]
+    print(f"fuzz: objects and commands beside a plain scan; {' '.join(words[:2])}", flush=True)
+    start, tried, said, chance = time.monotonic(), 0, 0, random.Random(0)
+    with tempfile.TemporaryDirectory(dir="/dev/shm" if os.path.isdir("/dev/shm") else None) as folder:
+        for letters, size, objects, tell in all_runs(words):
+            run = Run(program, letters, Path(folder), chance.choice([0, 1, 4, 64, 1024, 65536]))
+            try:
+                feed(run, objects, tell)
+            except Differs as differs:
+                keep(run)
+                raise SystemExit(f"{differs}\nfuzz: {tried} objects tried, the first difference kept in out/fuzz") from differs
+            tried, said = tried + size, said + run.count
+            print(f"{tried} objects, {said} lines, {time.monotonic() - start:.0f} s, options '{letters}'", flush=True)
+    print(f"fuzz: {tried} objects and {said} lines tried in {time.monotonic() - start:.0f} s, none differs")
+
+
+if __name__ == "__main__":
+    main()

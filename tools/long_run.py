@@ -1,0 +1,201 @@
+#!/usr/bin/env python3
+"""Runs one process for long: a day's commands in small, and then outputs and files that are not as wanted.
+
+long_run.py PROGRAM COMMANDS [OBJECT..] gives so many commands, most of them addresses, with loads, moves
+and unloads among them, beside plain answers (tools/plain_session.py), which small OBJECTs may be added to.
+It fails where a reply is another, where memory or descriptors are not back where they were once all is
+unloaded, and where a full or closed output, a folder, a pipe, a device without end, a file at the limit of
+1 GiB, or one that shrinks, is answered otherwise than the README says.
+"""
+import functools
+import os
+import random
+import subprocess
+import sys
+import tempfile
+import threading
+import time
+from pathlib import Path
+
+from fuzz import LINES, REAL, SAMPLE, TOP, Differs, Run, links
+from fuzz_mutants import random_object
+from plain_module import PlainModule
+
+LIMIT = 1 << 30
+LOADED = b"loaded a 0x0000000000001000-0x0000000000002000\n"
+failures = []
+
+
+def expect(what, found, *wanted):
+    is_good = found in wanted
+    print(f"{what}: {found if len(str(found)) < 100 else str(found)[:100]}{'' if is_good else f', WANTED {wanted}'}", flush=True)
+    if not is_good:
+        failures.append(what)
+
+
+def state(process):
+    """Resident memory now and at its peak, in KB, and how many descriptors are open."""
+    lines = Path(f"/proc/{process.pid}/status").read_text().splitlines()
+    status = {line.split(":")[0]: line.split()[1] for line in lines if line.startswith("Vm")}
+    return int(status["VmRSS"]), int(status["VmHWM"]), len(os.listdir(f"/proc/{process.pid}/fd"))
+
+
+def objects(paths):
+    """Samples, the objects named, and ones made by chance: some that load and some that do not."""
+    found = [SAMPLE.read_bytes(), REAL.read_bytes(), SAMPLE.read_bytes()[:500]] + [Path(path).read_bytes() for path in paths]
+    return found + [random_object(random.Random(seed)) for seed in range(60)]
+
+
+def one_command(chance, run, paths):
+    name, how = b"m%d" % chance.randrange(24), chance.random()
+    base = chance.randrange(64) << 20
+    if how < 0.9 and run.session.modules:
+        base, module = run.session.modules[chance.choice(list(run.session.modules))]
+        run.say(b"%x" % (base + links(chance, module, 1)[0] & TOP))
+    elif how < 0.96:
+        run.say(b"load %s %x %s" % (name, base, chance.choice(paths)))
+    elif how < 0.975:
+        run.say(b"unload " + name)
+    elif how < 0.99:
+        run.say(b"move %s %x" % (name, base))
+    else:
+        run.say(b"list" if how < 0.992 else chance.choice(LINES))
+
+
+def crowd(run, path):
+    """Loads one module more than there may be, asks some of them, and tells the state with all loaded."""
+    for number in range(4097):
+        run.say(b"load c%d %x %s" % (number, number << 12, path))
+    for number in range(0, 4096, 16):
+        run.say(b"%x" % ((number << 12) + 0x1004))
+    run.say(b"list")
+    run.compare()
+    return state(run.process)
+
+
+def empty(run):
+    """Unloads all, and tells the state."""
+    for name in list(run.session.modules):
+        run.say(b"unload " + name)
+    run.say(b"list")
+    run.compare()
+    return state(run.process)
+
+
+def stay_up(program, commands, folder, named):
+    """Gives the commands, in ten parts with nothing loaded between them, and compares the states then."""
+    paths = []
+    for number, data in enumerate(objects(named)):
+        paths.append(bytes(folder / f"o{number}"))
+        Path(os.fsdecode(paths[-1])).write_bytes(data)
+    PlainModule.frames = functools.lru_cache(maxsize=100_000)(PlainModule.frames)
+    run, chance, start = Run(program, "fi", folder), random.Random(7), time.monotonic()
+    try:
+        states = []
+        for _ in range(10):
+            until = run.count + commands // 10
+            while run.count < until:
+                one_command(chance, run, paths)
+            states.append(empty(run))
+            print(f"after {run.count} commands: {states[-1][0]} KB resident, {states[-1][1]} KB at the peak, "
+                  f"{states[-1][2]} descriptors", flush=True)
+        full = [(crowd(run, paths[0])[0], empty(run)[0]) for _ in range(2)]
+        print(f"4,096 modules, KB resident with them and without them, twice: {full}", flush=True)
+        run.end()
+    except Differs as differs:
+        raise SystemExit(f"{differs}\nlong run: differs after {run.count} commands") from differs
+    first, last = states[0], states[-1]
+    expect("descriptors at the end, beside those after the first part", last[2], first[2])
+    expect("memory at the end is within 10 % and 512 KB of that after the first part", last[0] <= first[0] * 1.1 + 512, True)
+    expect("memory of the second 4,096 modules is that of the first", full[1][0] <= full[0][0] * 1.02, True)
+    print(f"{run.count} commands in {time.monotonic() - start:.0f} s, no reply differs", flush=True)
+    return run.count
+
+
+def run_with(program, lines, stdout=subprocess.PIPE, words=()):
+    done = subprocess.run([program, *words], input=b"".join(line + b"\n" for line in lines), stdout=stdout,
+                          stderr=subprocess.PIPE, timeout=300, check=False)
+    return done.returncode, done.stdout, done.stderr
+
+
+def outputs(program, sample):
+    """Outputs that are full or closed."""
+    load = [b"load a 0 " + sample, b"1004"]
+    failed = b"addr2line_live: writing failed\n"
+    with open("/dev/full", "wb") as full:
+        expect("a full output", run_with(program, load, full), (1, None, failed))
+        expect("a full output of help", run_with(program, [], full, ["--help"]), (1, None, failed))
+    reading, writing = os.pipe()
+    os.close(reading)
+    expect("an output whose reader is gone", run_with(program, load, writing), (1, None, failed))
+    os.close(writing)
+    for closed, wanted in ((">&-", (1, b"", failed)), ("2>&-", (0, LOADED + b"/src/a.c:11\n", b""))):
+        done = subprocess.run(["sh", "-c", f'"$0" {closed}', program], input=b"\n".join(load), capture_output=True, check=False)
+        expect(f"an output that was never open ({closed})", (done.returncode, done.stdout, done.stderr), wanted)
+    done = subprocess.run(["sh", "-c", '"$0" <&-', program], capture_output=True, check=False)
+    expect("an input that was never open", (done.returncode, done.stderr), (1, b"addr2line_live: reading failed\n"))
+    folder = os.open(os.path.dirname(sample), os.O_RDONLY)
+    done = subprocess.run([program], stdin=folder, capture_output=True, check=False)
+    expect("a folder as input", (done.returncode, done.stderr), (1, b"addr2line_live: reading failed\n"))
+    os.close(folder)
+
+
+def sparse(path, sample, size):
+    """A file that begins as the sample, and has zeros up to its size, which take no room."""
+    path.write_bytes(sample)
+    os.truncate(path, size)
+    return b"load a 0 " + bytes(path)
+
+
+def files(program, folder, sample):
+    """Files that are no files, that are at the limit, and that shrink while they are read."""
+    def reply(line):
+        return run_with(program, [line])[1]
+    expect("a folder", reply(b"load a 0 " + bytes(folder)), b"refused file\n")
+    expect("a device without a byte", reply(b"load a 0 /dev/null"), b"refused object elf not-elf at 0\n")
+    expect("a device without end", reply(b"load a 0 /dev/zero"), b"refused too-large\n")
+    expect("a path through a file", reply(b"load a 0 " + bytes(folder / "o0" / "x")), b"refused file\n")
+    expect("a path that is too long for the system", reply(b"load a 0 " + b"x" * 4000), b"refused file\n")
+    pipe = folder / "pipe"
+    os.mkfifo(pipe)
+    writer = threading.Thread(target=pipe.write_bytes, args=(sample,))
+    writer.start()
+    expect("a pipe that gives an object", reply(b"load a 0 " + bytes(pipe)), LOADED)
+    writer.join()
+    large = folder / "large"
+    expect("a file of 1 GiB", reply(sparse(large, sample, LIMIT)), LOADED)
+    expect("a file of 1 GiB and a byte", reply(sparse(large, sample, LIMIT + 1)), b"refused too-large\n")
+    for size in (1 << 20, 300, 0):
+        shrinking(program, large, sample, size)
+    large.unlink()
+
+
+def shrinking(program, path, sample, size):
+    """A file of 1 GiB that is cut to a size while it is read: what was read of it is an object or none, and
+    the process goes on."""
+    line = sparse(path, sample, LIMIT)
+    process = subprocess.Popen([program], stdin=subprocess.PIPE, stdout=subprocess.PIPE)
+    process.stdin.write(line + b"\nload b 10000 " + bytes(path.parent / "o0") + b"\n11004\n")
+    process.stdin.close()
+    while state(process)[0] < 100_000 and process.poll() is None:
+        time.sleep(0.001)
+    os.truncate(path, size)
+    found = process.stdout.read()
+    after = b"loaded b 0x0000000000011000-0x0000000000012000\n/src/a.c:11\n"
+    expect(f"a file of 1 GiB that is cut to {size} bytes while it is read", found, LOADED + after)
+    expect("the status after it", process.wait(), 0)
+
+
+def main():
+    program, commands = os.path.abspath(sys.argv[1]), int(sys.argv[2])
+    print(f"long run: {commands} commands to one process, and outputs and files that are not as wanted", flush=True)
+    with tempfile.TemporaryDirectory() as folder:
+        count = stay_up(program, commands, Path(folder), sys.argv[3:])
+        outputs(program, bytes(Path(folder) / "o0"))
+        files(program, Path(folder), SAMPLE.read_bytes())
+    print(f"long run: {count} commands and all outputs and files tried, {len(failures)} differ: {', '.join(failures) or 'none'}")
+    sys.exit(bool(failures))
+
+
+if __name__ == "__main__":
+    main()
