@@ -2,7 +2,7 @@
 
 use addr_table::Module;
 use dwarf_bytes::{Cause, LoadFault, Section};
-use dwarf_samples::{INLINED, TWO_SEQUENCES};
+use dwarf_samples::{inlined, two_sequences};
 use std::alloc::{AllocError, Global};
 use std::process::Abort;
 use std::test::*;
@@ -28,7 +28,7 @@ fn fault_of(alloc: Global, object: &[u8]) -> Result<Option<LoadFault>, AllocErro
 
 /// The first sample with another size of a section.
 fn with_size(place: usize, size: u8) -> [u8; 703] {
-    let mut object = INLINED;
+    let mut object = *inlined();
     if let Some(byte) = object.get_mut(place) {
         *byte = size;
     }
@@ -53,7 +53,11 @@ fn are_refused(
 fn files_that_end_in_their_header(rt: HostRuntime) -> Result<(), Fail> {
     let fault = Some(LoadFault::told(Section::Elf, Cause::NotElf, 0));
     for size in 0..64 {
-        assert_eq!(rt; fault_of(rt.alloc(), &INLINED[..size])?, fault, "of {size}");
+        assert_eq!(rt;
+            fault_of(rt.alloc(), &inlined()[..size])?,
+            fault,
+            "of {size}"
+        );
     }
     Ok(())
 }
@@ -62,7 +66,11 @@ fn files_that_end_in_their_header(rt: HostRuntime) -> Result<(), Fail> {
 fn files_that_end_before_their_section_headers(rt: HostRuntime) -> Result<(), Fail> {
     let fault = Some(LoadFault::told(Section::Elf, Cause::Table, 0));
     for size in 64..703 {
-        assert_eq!(rt; fault_of(rt.alloc(), &INLINED[..size])?, fault, "of {size}");
+        assert_eq!(rt;
+            fault_of(rt.alloc(), &inlined()[..size])?,
+            fault,
+            "of {size}"
+        );
     }
     Ok(())
 }
@@ -72,7 +80,7 @@ fn longer_files_that_end_before_their_section_headers(rt: HostRuntime) -> Result
     let fault = Some(LoadFault::told(Section::Elf, Cause::Table, 0));
     for size in 64..725 {
         assert_eq!(rt;
-            fault_of(rt.alloc(), &TWO_SEQUENCES[..size])?,
+            fault_of(rt.alloc(), &two_sequences()[..size])?,
             fault,
             "of {size}"
         );
