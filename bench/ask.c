@@ -85,6 +85,18 @@ static long calls_of(pid_t program) {
     return sum;
 }
 
+// The most memory that a process held, in megabytes.
+static long peak_of(pid_t program) {
+    char path[64], line[128];
+    long kilobytes = 0;
+    snprintf(path, sizeof path, "/proc/%d/status", program);
+    FILE *file = fopen(path, "r");
+    if (!file) return 0;
+    while (fgets(line, sizeof line, file)) sscanf(line, "VmHWM: %ld", &kilobytes);
+    fclose(file);
+    return kilobytes / 1024;
+}
+
 // Sends each address when the one before is answered; gives how many there were.
 static size_t ping_pong(char *line, char *end, FILE *lengths) {
     size_t asked = 0;
@@ -130,9 +142,12 @@ int main(int argc, char **argv) {
     size_t asked = (in_turn ? ping_pong : batch)(rest, end, lengths);
     double done = now();
     calls = in_turn ? calls_of(program) - calls : 0;
+    long peak = peak_of(program);
     printf("%.0f answers a second", asked / (done - loaded));
     if (calls) printf(", %.2f reads and writes an answer", (double)calls / asked);
-    printf(", first answer after %.0f ms, %zu bytes\n", 1000 * (loaded - begun), answered);
+    printf(", first answer after %.0f ms", 1000 * (loaded - begun));
+    if (peak) printf(", peak %ld MB", peak);
+    printf(", %zu bytes\n", answered);
     kill(program, 9);
     return 0;
 }
