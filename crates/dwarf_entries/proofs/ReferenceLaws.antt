@@ -11,15 +11,16 @@ use Rattle.std.proofs.lemmas.Bool.{cases_lt}
 use Rattle.std.proofs.lemmas.Bool.Decides.{nat_tests}
 use Rattle.dwarf_bytes.specs.declared.constants.TheConstants.{DW_FORM_REF_ADDR}
 use Rattle.dwarf_bytes.specs.declared.fault.Cause.TheVariants as causes
-use Rattle.dwarf_entries.specs.declared.units.UnitHeader.{UnitHeader}
-use Rattle.dwarf_entries.specs.declared.attributes.AttributeValue.{AttributeValue}
+use Rattle.dwarf_units.specs.declared.unit_headers.UnitHeader.{UnitHeader}
+use Rattle.dwarf_units.specs.declared.attributes.AttributeValue.{AttributeValue}
 use Rattle.dwarf_entries.specs.declared.kept.NamedEntry.{NamedEntry}
 use Rattle.dwarf_entries.specs.declared.kept.UnitEntries.{UnitEntries}
 use Rattle.dwarf_entries.specs.declared.paths.UnitEntry.{UnitEntry}
-use Rattle.dwarf_entries.specs.Entries.{Die}
+use Rattle.dwarf_units.specs.Entries.{Die}
 use Rattle.dwarf_entries.specs.Bases.{CompilationUnit}
 use Rattle.dwarf_entries.specs.Names.{Member, members_of, member_at, target_of}
-use Rattle.dwarf_entries.specs.Private.Kept.{named_entry, RiseWithin, AreInOrder}
+use Rattle.dwarf_entries.specs.Private.Kept.{named_entry, AreInOrder}
+use Rattle.dwarf_units.specs.Private.Rising.{RiseWithin}
 use Rattle.dwarf_entries.specs.Private.Members.{NamedUnit, named_unit, named_of, AreKept, Finds, member_in}
 
 -- ---- lists of numbers that do not fall

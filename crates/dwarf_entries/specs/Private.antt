@@ -1,6 +1,4 @@
 pub mod Kept
-pub mod Plans
-pub mod Tables
 pub mod Texts
 pub mod Members
 pub mod Readers

@@ -9,7 +9,6 @@ ghost use Rattle.dwarf_entries.specs.Bases.{CompilationUnit, optional};
 ghost use Rattle.dwarf_entries.specs.Names.{Member, target_of, path_of, text_of, names_of};
 ghost use Rattle.dwarf_entries.specs.Private.Members.{AreKept, IsMember, Finds, member_in, AreFirst, FindsFirst, str_offsets_of};
 
-use crate::attributes::AttributeValue;
 use crate::bases::Bases;
 use crate::kept::{NamedEntry, UnitEntries};
 use crate::names::text_of;
@@ -17,6 +16,7 @@ use crate::sections::Sections;
 use crate::texts::Texts;
 use dwarf_bytes::constants::DW_FORM_REF_ADDR;
 use dwarf_bytes::{Cause, Text};
+use dwarf_units::AttributeValue;
 
 /// The hops that a path may have.
 const HOPS_LIMIT: u32 = 16;

@@ -15,11 +15,10 @@ use crate::kept::{Keeping, UnitEntries};
 use crate::passes::{all_bases, all_entries};
 use crate::scope::{Root, Scope};
 use crate::sections::Sections;
-use crate::tables::judge_tables;
 use crate::texts::Texts;
 use crate::unit_scopes::Units;
-use crate::units::{UnitHeader, units};
 use dwarf_bytes::{Cause, LoadFault};
+use dwarf_units::{UnitHeader, judge_tables, units};
 use std::alloc::Global;
 use std::marker::Model;
 
