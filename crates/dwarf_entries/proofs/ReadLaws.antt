@@ -23,6 +23,7 @@ use Rattle.dwarf_units.specs.Units.{units_of, tables_of}
 use Rattle.dwarf_units.specs.Entries.{Die}
 use Rattle.dwarf_entries.specs.Bases.{CompilationUnit}
 use Rattle.dwarf_entries.specs.Scopes.{Tree, Scope, Judged, sites_in, roots_from, scope_of, tree_of}
+use Rattle.dwarf_entries.specs.Private.Packed.{unpacked}
 use Rattle.dwarf_entries.specs.Private.Kept.{KeptUnit, kept_of, scope_count}
 use Rattle.dwarf_entries.specs.Private.Passes.{all_entries, kept_units, all_kept, all_units, bases_of, all_bases, kept_unit_of, AreUnits, judge, all_sites, all_scopes, TablesRead, tree_of_units, tree_of_dies, tree_with}
 use Rattle.dwarf_bytes.proofs.EachPlaces.{each-length}
@@ -185,7 +186,7 @@ sites-counted keeping (unit ∷ units) (u ∷ us) same =
     let here : kept_of unit ≡ kept_unit_of keeping u = cc in
     let rest : map kept_of units ≡ map (kept_unit_of keeping) us = cc in
     let count : length unit.scopes.items ≡ length (sites_in u u.dies) =
-    ap (λ (k : KeptUnit). length k.scopes) here ∙ (ap (λ (es : List ScopeEntry). length es) (entries_are u u.dies) ∙ length-map (sites_in u u.dies) entry_in) in
+    sym (length-map unit.scopes.items unpacked) ∙ ap (λ (k : KeptUnit). length k.scopes) here ∙ (ap (λ (es : List ScopeEntry). length es) (entries_are u u.dies) ∙ length-map (sites_in u u.dies) entry_in) in
     let sum : scope_count (unit ∷ units) ≡ length unit.scopes.items + scope_count units = sum_by-cons (λ unit. length unit.scopes.items) unit units in
     omega (arith, count, sum, sites-counted keeping units us rest, length-append (sites_in u u.dies) (all_sites us))
 

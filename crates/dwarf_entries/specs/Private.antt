@@ -1,3 +1,5 @@
+pub mod Packed
+pub mod Facts
 pub mod Kept
 pub mod Texts
 pub mod Members

@@ -9,6 +9,7 @@ ghost use Rattle.dwarf_entries.specs.Private.Readers.{keeps_attributes, ReadsNod
 ghost use Rattle.dwarf_units.specs.Private.Plans.{Fills};
 
 use crate::kept::{Keeping, NamedEntry, RootEntry, ScopeEntry, UnitEntries, kind_of};
+use crate::packed::{PackedEntry, PackedScope};
 use dwarf_bytes::{Cause, Cursor, LoadFault, Section, Span};
 use dwarf_units::{Attribute, UnitHeader, UnitTable};
 use std::alloc::{AllocError, Global};
@@ -40,8 +41,8 @@ pub(crate) struct Boundary {
 pub(crate) struct Walk {
     pub(crate) depth: u16,
     pub(crate) root: Option<RootEntry>,
-    pub(crate) entries: Vec<NamedEntry>,
-    pub(crate) scopes: Vec<ScopeEntry>,
+    pub(crate) entries: Vec<PackedEntry>,
+    pub(crate) scopes: Vec<PackedScope>,
     pub(crate) levels: Vec<Level>,
 }
 
@@ -136,9 +137,10 @@ impl Walk {
         }
         let entry = NamedEntry::of(offset, attributes);
         if let Some(kind) = kind {
-            self.scopes.push(ScopeEntry::of(entry, kind, attributes))?;
+            let scope = ScopeEntry::of(entry, kind, attributes);
+            self.scopes.push(PackedScope::of(&scope)?)?;
         }
-        self.entries.push(entry)?;
+        self.entries.push(PackedEntry::of(&entry)?)?;
         Ok(())
     }
 }

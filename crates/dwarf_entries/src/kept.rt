@@ -6,6 +6,7 @@ ghost use Rattle.dwarf_entries.specs.Names.{followed, next_of};
 ghost use Rattle.dwarf_entries.specs.Private.Readers.{die_with, keeps_attributes};
 ghost use Rattle.dwarf_entries.specs.Scopes.{kind_of, number_of};
 
+use crate::packed::{PackedEntry, PackedScope};
 use crate::scope::ScopeKind;
 use dwarf_bytes::constants::*;
 use dwarf_units::{Attribute, AttributeValue, UnitHeader, value_of};
@@ -56,8 +57,8 @@ pub(crate) struct RootEntry {
 pub(crate) struct UnitEntries {
     pub(crate) header: UnitHeader,
     pub(crate) root: Option<RootEntry>,
-    pub(crate) entries: Vec<NamedEntry>,
-    pub(crate) scopes: Vec<ScopeEntry>,
+    pub(crate) entries: Vec<PackedEntry>,
+    pub(crate) scopes: Vec<PackedScope>,
     pub(crate) insides: Vec<usize>,
 }
 

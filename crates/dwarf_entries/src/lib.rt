@@ -6,6 +6,7 @@ mod entries;
 mod kept;
 pub mod laws;
 mod names;
+mod packed;
 mod passes;
 mod paths;
 mod range_entries;

@@ -103,9 +103,9 @@ impl Scopes {
     /// The scope that has the number of another one.
     pub(crate) fn get(&self, scope: &Scope) -> Option<&Scope>
         ensures { option_map scope_of (option_copied result)
-            ≡ slice_get self.now.scopes scope.now.number }
+            ≡ slice_get self.now.scopes (own_of scope.now).number }
     {
-        self.scopes.get(scope.number)
+        self.scopes.get(scope.number())
     }
 }
 

@@ -17,6 +17,7 @@ use Rattle.dwarf_units.specs.Private.Rising.{RiseWithin}
 use Rattle.dwarf_units.specs.Entries.{Die, attribute, below, entries_of}
 use Rattle.dwarf_entries.specs.Bases.{CompilationUnit}
 use Rattle.dwarf_entries.specs.Names.{next_of}
+use Rattle.dwarf_entries.specs.Private.Packed.{unpacked_entry, unpacked}
 use Rattle.dwarf_entries.specs.Scopes.{kind_of, is_scope, number_of}
 use Rattle.dwarf_entries.specs.declared.ranges.Covering.{Covering as KeptCovering}
 use Rattle.dwarf_entries.specs.Ranges.{Covering}
@@ -93,7 +94,7 @@ kept_entries keeping info header table = entries_of info header table >>= λ die
 
 -- .. by the program
 abbrev pub kept_of : UnitEntries → KeptUnit
-kept_of unit = record { header = unit.header; root = unit.root; entries = unit.entries.items; scopes = unit.scopes.items; insides = unit.insides.items }
+kept_of unit = record { header = unit.header; root = unit.root; entries = map unpacked_entry unit.entries.items; scopes = map unpacked unit.scopes.items; insides = unit.insides.items }
 
 -- how many scopes the units of the program have
 abbrev pub scope_count : List UnitEntries → ℕ

@@ -22,6 +22,7 @@ use Rattle.dwarf_units.specs.Entries.{Node, Entry, Null, Standing, Die, die_of, 
 use Rattle.dwarf_entries.specs.Private.Kept.{keeps, named_entry, scope_entry_of, root_entry, root_in}
 use Rattle.dwarf_units.specs.Private.Plans.{kept_attributes}
 use Rattle.dwarf_entries.specs.Names.{or_else}
+use Rattle.dwarf_entries.specs.Private.Packed.{unpacked_entry, unpacked}
 use Rattle.dwarf_entries.specs.Scopes.{is_scope}
 
 -- an entry by its offset and its attributes, where neither its tag nor its depth counts
@@ -71,7 +72,7 @@ walked keeping before = walked_by keeping (depth_after before) (filter_map die_o
 
 -- .. by the program
 abbrev pub walked_of : Walk → Walked
-walked_of w = record { depth = w.depth; root = w.root; entries = w.entries.items; scopes = w.scopes.items; levels = w.levels.items }
+walked_of w = record { depth = w.depth; root = w.root; entries = map unpacked_entry w.entries.items; scopes = map unpacked w.scopes.items; levels = w.levels.items }
 
 -- one more entry
 abbrev pub after_die : Keeping → Walked → Die → Walked
