@@ -9,15 +9,15 @@ use Rattle.dwarf_bytes.specs.Items.{At, each_from}
 use Rattle.dwarf_bytes.specs.Refusals.{memory_fault, in_section}
 use Rattle.dwarf_bytes.proofs.EachLaws.{made_front, each-next, each-fault, each-end}
 use Rattle.dwarf_entries.specs.declared.kept.Keeping.{Keeping}
-use Rattle.dwarf_entries.specs.declared.units.UnitHeader.{UnitHeader}
+use Rattle.dwarf_units.specs.declared.unit_headers.UnitHeader.{UnitHeader}
 use Rattle.dwarf_entries.specs.declared.bases.Bases.{Bases}
 use Rattle.dwarf_entries.specs.declared.kept.UnitEntries.{UnitEntries}
 use Rattle.dwarf_entries.specs.Sections.{Sections}
-use Rattle.dwarf_entries.specs.Entries.{Die}
+use Rattle.dwarf_units.specs.Entries.{Die}
 use Rattle.dwarf_entries.specs.Bases.{CompilationUnit, unit_of}
 use Rattle.dwarf_entries.specs.Private.Kept.{KeptUnit, root_in, kept_unit, kept_of}
 use Rattle.dwarf_entries.specs.Private.Passes.{kept_units, bases_in, all_units, bases_of, all_bases}
-use Rattle.dwarf_entries.proofs.TableLaws.{in_section_ok}
+use Rattle.dwarf_units.proofs.TableLaws.{in_section_ok}
 
 abbrev pub unit_for : Sections → List CompilationUnit → UnitHeader × List Die → Result CompilationUnit At
 unit_for s before p = unit_of s p.0 p.1

@@ -13,13 +13,13 @@ use Rattle.dwarf_bytes.proofs.EachLaws.{made_front, each-next, each-fault, each-
 use Rattle.dwarf_forms.specs.Declarations.{Declaration}
 use Rattle.dwarf_forms.specs.Tables.{declarations_of}
 use Rattle.dwarf_entries.specs.declared.kept.Keeping.{Keeping}
-use Rattle.dwarf_entries.specs.declared.units.UnitHeader.{UnitHeader}
-use Rattle.dwarf_entries.specs.Units.{declarations_limit, tables_of}
-use Rattle.dwarf_entries.specs.Entries.{Die, entries_of}
+use Rattle.dwarf_units.specs.declared.unit_headers.UnitHeader.{UnitHeader}
+use Rattle.dwarf_units.specs.Units.{declarations_limit, tables_of}
+use Rattle.dwarf_units.specs.Entries.{Die, entries_of}
 use Rattle.dwarf_entries.specs.Private.Kept.{KeptUnit, kept_unit, kept_entries}
 use Rattle.dwarf_entries.specs.Private.Passes.{all_entries, kept_units, all_kept}
 use Rattle.dwarf_bytes.proofs.EachPlaces.{each-length, each-place}
-use Rattle.dwarf_entries.proofs.TableLaws.{table_for, in_section_ok}
+use Rattle.dwarf_units.proofs.TableLaws.{table_for, in_section_ok}
 
 abbrev pub entries_for : List ℕ → List (List Die) → UnitHeader × List Declaration → Result (List Die) At
 entries_for info before p = entries_of info p.0 p.1

@@ -8,7 +8,7 @@ use Rattle.std.proofs.lemmas.List.Sums.{sum_by-cons, take_while-cons}
 use Rattle.dwarf_entries.specs.declared.entries.Level.{Level}
 use Rattle.dwarf_entries.specs.declared.entries.Boundary.{Boundary}
 use Rattle.dwarf_entries.specs.declared.scope.ScopeKind.{ScopeKind}
-use Rattle.dwarf_entries.specs.Entries.{Die}
+use Rattle.dwarf_units.specs.Entries.{Die}
 use Rattle.dwarf_entries.specs.Private.Kept.{inside_of, insides_in}
 use Rattle.dwarf_entries.specs.Scopes.{kind_of, is_scope}
 use Rattle.dwarf_entries.specs.Private.Readers.{level_of, insides_of, above, scopes_from}

@@ -1,71 +1,25 @@
 -- An entry of which only some attributes are kept.
-use Rattle.std.proofs.Common.{◌≡◌, ℕ, ◌⊎◌, inl, inr, List, [], ◌∷◌, Bool, true, false, cond, refl, ap, sym, ◌∙◌, subst}
-use Rattle.std.specs.Prelude.{Option, Some, None, is_some, option_map, IfSome, Result, Ok, Err, find, filter, not, nat_lt, ◌==◌, ◌&&◌, ◌||◌}
+use Rattle.std.proofs.Common.{◌≡◌, ℕ, List, [], ◌∷◌, Bool, true, false, cond, refl, ap, sym, ◌∙◌, subst}
+use Rattle.std.specs.Prelude.{Option, Some, None, is_some, option_map, Ok, find, filter, not, ◌==◌, ◌||◌}
 use Rattle.std.proofs.lemmas.Bool.{false≢true, eqb-true}
 use Rattle.dwarf_bytes.specs.declared.constants.TheConstants.{DW_AT_ABSTRACT_ORIGIN, DW_AT_ADDR_BASE, DW_AT_CALL_FILE, DW_AT_CALL_LINE, DW_AT_HIGH_PC, DW_AT_LINKAGE_NAME, DW_AT_LOW_PC, DW_AT_NAME, DW_AT_RANGES, DW_AT_RNGLISTS_BASE, DW_AT_SPECIFICATION, DW_AT_STMT_LIST, DW_AT_STR_OFFSETS_BASE}
-use Rattle.dwarf_bytes.specs.declared.fault.Cause.{Cause}
 use Rattle.dwarf_bytes.specs.declared.format.Format.{Format}
-use Rattle.dwarf_bytes.specs.Bind.{◌>>=◌}
-use Rattle.dwarf_bytes.specs.Items.{reading}
-use Rattle.dwarf_bytes.specs.Numbers.{uleb_at}
-use Rattle.dwarf_forms.specs.declared.attribute.AttributeSpecification.{AttributeSpecification}
 use Rattle.dwarf_forms.specs.Declarations.{Declaration}
-use Rattle.dwarf_entries.specs.declared.attributes.Attribute.{Attribute}
-use Rattle.dwarf_entries.specs.declared.attributes.AttributeValue.{AttributeValue}
-use Rattle.dwarf_entries.specs.declared.entries.EntryHead.{EntryHead}
+use Rattle.dwarf_units.specs.declared.attributes.Attribute.{Attribute}
+use Rattle.dwarf_units.specs.declared.attributes.AttributeValue.{AttributeValue}
+use Rattle.dwarf_entries.specs.declared.entries.NodeHead.{NodeHead}
 use Rattle.dwarf_entries.specs.declared.kept.Keeping.{Keeping}
 use Rattle.dwarf_entries.specs.declared.kept.Keeping.TheVariants as keepings
 use Rattle.dwarf_entries.specs.declared.kept.RootEntry.{RootEntry}
 use Rattle.dwarf_entries.specs.declared.kept.ScopeEntry.{ScopeEntry}
 use Rattle.dwarf_entries.specs.declared.scope.ScopeKind.{ScopeKind}
-use Rattle.dwarf_entries.specs.Attributes.{is_used}
-use Rattle.dwarf_entries.specs.Entries.{Entry, Die, value_of, attributes_at, declaration_of, depth_limit, node_behind}
+use Rattle.dwarf_units.specs.Attributes.{is_used}
+use Rattle.dwarf_units.specs.Entries.{Die, value_of, node_behind}
 use Rattle.dwarf_entries.specs.Private.Kept.{keeps, named_entry, scope_entry, root_entry}
 use Rattle.dwarf_entries.specs.Names.{or_else}
 use Rattle.dwarf_entries.specs.Scopes.{kind_of}
 use Rattle.dwarf_entries.specs.Private.Readers.{keeps_attributes, HoldsKept, node_of, Walked, depth_behind, after_die, walked_at}
-use Rattle.dwarf_entries.specs.Private.Plans.{kept_attributes, kept_attributes_at}
-
--- what is kept of attributes that are read
-pub kept_of_all : (keep : Bool) (format : Format) (declared : List AttributeSpecification) (bytes : List ℕ) (at : ℕ) (found : List Attribute) (after : ℕ) → kept_attributes_at keep format declared bytes at ≡ Ok (found, after) →
-    (all : List Attribute) × (attributes_at format declared bytes at ≡ Ok (all, after)) × (found ≡ kept_attributes keep all)
-kept_of_all keep format declared bytes at found after h = by_read (attributes_at format declared bytes at) refl h
-  where
-    by_read : (r : Result (List Attribute × ℕ) Cause) → attributes_at format declared bytes at ≡ r → (r >>= λ all. (let f : List Attribute × ℕ → Result (List Attribute × ℕ) Cause = λ z. Ok z in f (kept_attributes keep all.0, all.1))) ≡ Ok (found, after) →
-        (all : List Attribute) × (attributes_at format declared bytes at ≡ Ok (all, after)) × (found ≡ kept_attributes keep all)
-    by_read (Err e) is h = cc
-    by_read (Ok x) is h =
-        let same = same_pair h in
-        (x.0, subst (λ (k : ℕ). attributes_at format declared bytes at ≡ Ok (x.0, k)) (ap (λ (p : List Attribute × ℕ). p.1) same) is, sym (ap (λ (p : List Attribute × ℕ). p.0) same))
-      where
-        same_pair : {x y : List Attribute × ℕ} → (let f : List Attribute × ℕ → Result (List Attribute × ℕ) Cause = λ z. Ok z in f x ≡ f y) → x ≡ y
-        same_pair h = cc
-
--- an entry is read where its code, its declaration and its attributes are
-pub node_read : (keep : Bool) (format : Format) (table : List Declaration) (depth : ℕ) (rooted : Bool) (unit : List ℕ) (at : ℕ) (code : ℕ × ℕ) (declaration : Declaration) (found : List Attribute) (after : ℕ) →
-    reading (uleb_at unit at) ≡ Ok code → (code.0 == 0) ≡ false → declaration_of table code.0 ≡ Some declaration → ((depth == 0) && rooted) ≡ false → nat_lt depth_limit depth ≡ false →
-    kept_attributes_at keep format declaration.attributes unit code.1 ≡ Ok (found, after) →
-    (all : List Attribute) × (node_behind format table depth rooted unit at ≡ Ok (Entry declaration.tag declaration.children all, after)) × (found ≡ kept_attributes keep all)
-node_read keep format table depth rooted unit at code declaration found after coded some declared rootless shallow kept =
-    let read = kept_of_all keep format declaration.attributes unit code.1 found after kept in
-    (read.0, rw (coded, some, declared, rootless, shallow, read.1) refl, read.2)
-
--- an entry is no second root where it is deeper, or where no root stands before it
-pub not_second_root : (depth : ℕ) (rooted : Bool) → ((depth ≡ 0) × (rooted ≡ false)) ⊎ (depth ≡ 0 → ⊥) → ((depth == 0) && rooted) ≡ false
-not_second_root depth rooted which = by_test (depth == 0) refl which
-  where
-    by_test : (t : Bool) → (depth == 0) ≡ t → ((depth ≡ 0) × (rooted ≡ false)) ⊎ (depth ≡ 0 → ⊥) → (t && rooted) ≡ false
-    by_test false is which = refl
-    by_test true is (inl first) = first.1
-    by_test true is (inr deeper) = absurd (deeper (eqb-true depth 0 is))
-
--- what is told of something that is there
-pub told_some : {X : Type 0} (P : X → Type 0) (found : Option X) (x : X) → found ≡ Some x → IfSome found P → P x
-told_some P None x is told = cc
-told_some P (Some y) x is told = subst P (same_some is) told
-  where
-    same_some : {X : Type 0} {x y : X} → (let f : X → Option X = λ t. Some t in f x ≡ f y) → x ≡ y
-    same_some h = cc
+use Rattle.dwarf_units.specs.Private.Plans.{kept_attributes}
 
 -- the value of a used attribute is kept where used attributes are
 value-kept : (xs : List Attribute) (name : ℕ) → is_used name ≡ true → value_of (filter (λ a. is_used a.name) xs) name ≡ value_of xs name
@@ -146,12 +100,12 @@ after-kept keeping w offset depth tag all found are = by_flag (keeps_attributes 
         rw (both.1, no_scope keeping tag both.1, root-stays w.root (root_entry other) (root_entry die) both.0) refl
 
 -- what a step found is read, and its buffer holds what is kept of the attributes
-abbrev ReadsEntry : Keeping → Format → List Declaration → Walked → Bool → List ℕ → ℕ → ℕ → Option EntryHead → List Attribute → Type 0
+abbrev ReadsEntry : Keeping → Format → List Declaration → Walked → Bool → List ℕ → ℕ → ℕ → Option NodeHead → List Attribute → Type 0
 ReadsEntry keeping format table w rooted unit at after found attributes =
     (all : List Attribute) × (node_behind format table w.depth rooted unit at ≡ Ok (node_of found all, after)) × HoldsKept (keeps_attributes keeping rooted) found attributes all
 
 -- what is kept of an entry that is read
-entry-kept : (keeping : Keeping) (format : Format) (table : List Declaration) (w kept : Walked) (unit : List ℕ) (at after : ℕ) (head : EntryHead) (attributes : List Attribute) →
+entry-kept : (keeping : Keeping) (format : Format) (table : List Declaration) (w kept : Walked) (unit : List ℕ) (at after : ℕ) (head : NodeHead) (attributes : List Attribute) →
     ReadsEntry keeping format table w (is_some w.root) unit at after (Some head) attributes →
     kept ≡ after_die keeping w (record { offset = at; depth = w.depth; tag = head.tag; attributes = attributes }) →
     walked_at keeping format table w unit at ≡ Ok (record kept { depth = depth_behind head.children w.depth }, after)
@@ -160,13 +114,13 @@ entry-kept keeping format table w kept unit at after head attributes read is =
     rw (read.1, all) refl
 
 -- .. by a step, which knows whether the root stands before, where the entry stands, and what its buffer holds
-pub step-kept : (keeping : Keeping) (format : Format) (table : List Declaration) (w kept : Walked) (unit : List ℕ) (at after : ℕ) (found : Option EntryHead) (head : EntryHead) (attributes buffer : List Attribute) (rooted : Bool) (offset : ℕ) →
+pub step-kept : (keeping : Keeping) (format : Format) (table : List Declaration) (w kept : Walked) (unit : List ℕ) (at after : ℕ) (found : Option NodeHead) (head : NodeHead) (attributes buffer : List Attribute) (rooted : Bool) (offset : ℕ) →
     rooted ≡ is_some w.root → offset ≡ at → buffer ≡ attributes → found ≡ Some head → ReadsEntry keeping format table w rooted unit at after found attributes →
     kept ≡ after_die keeping w (record { offset = offset; depth = w.depth; tag = head.tag; attributes = buffer }) →
     walked_at keeping format table w unit at ≡ Ok (record kept { depth = depth_behind head.children w.depth }, after)
 step-kept keeping format table w kept unit at after found head attributes buffer rooted offset known place held is read kept_is =
     let first = subst (λ (r : Bool). ReadsEntry keeping format table w r unit at after found attributes) known read in
-    let second = subst (λ (f : Option EntryHead). ReadsEntry keeping format table w (is_some w.root) unit at after f attributes) is first in
+    let second = subst (λ (f : Option NodeHead). ReadsEntry keeping format table w (is_some w.root) unit at after f attributes) is first in
     entry-kept keeping format table w kept unit at after head attributes second
     (kept_is ∙ (ap (λ (k : ℕ). after_die keeping w (record { offset = k; depth = w.depth; tag = head.tag; attributes = buffer })) place
     ∙ ap (λ (b : List Attribute). after_die keeping w (record { offset = at; depth = w.depth; tag = head.tag; attributes = b })) held))

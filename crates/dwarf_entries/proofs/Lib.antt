@@ -1,5 +1,3 @@
-pub mod UnitLaws
-pub mod TableLaws
 pub mod BaseLaws
 pub mod RangeLaws
 pub mod PassLaws
@@ -11,20 +9,14 @@ pub mod ScopesPass
 pub mod ReferenceLaws
 pub mod PathLaws
 pub mod OnlyLaws
-pub mod NodeLaws
 pub mod KeptNodes
-pub mod EntryOrder
 pub mod OrderLaws
 pub mod BelowLaws
 pub mod BaseInForce
 pub mod RootsPass
-pub mod EntryMoves
 pub mod WalkLaws
-pub mod PlanLaws
-pub mod PlanTurns
 pub mod InsideLaws
 pub mod ScopesOnly
 pub mod ReadLaws
 pub mod ScopeOrder
 pub mod TellLaws
-pub mod CodeLaws

@@ -7,11 +7,12 @@ use Rattle.dwarf_entries.specs.declared.kept.Keeping.{Keeping}
 use Rattle.dwarf_entries.specs.declared.kept.Keeping.TheVariants as keepings
 use Rattle.dwarf_entries.specs.declared.kept.NamedEntry.{NamedEntry}
 use Rattle.dwarf_entries.specs.declared.kept.UnitEntries.{UnitEntries}
-use Rattle.dwarf_entries.specs.Entries.{Die}
+use Rattle.dwarf_units.specs.Entries.{Die}
 use Rattle.dwarf_entries.specs.Bases.{CompilationUnit}
 use Rattle.dwarf_entries.specs.Names.{Member}
 use Rattle.dwarf_entries.specs.Scopes.{is_scope}
-use Rattle.dwarf_entries.specs.Private.Kept.{KeptUnit, named_entry, kept_of, RiseWithin, AreInOrder}
+use Rattle.dwarf_entries.specs.Private.Kept.{KeptUnit, named_entry, kept_of, AreInOrder}
+use Rattle.dwarf_units.specs.Private.Rising.{RiseWithin}
 use Rattle.dwarf_entries.specs.Private.Members.{NamedUnit, named_unit, AreKept, IsMember}
 use Rattle.dwarf_entries.specs.Private.Passes.{bases_of, kept_unit_of, AreUnits, scopes_only, only_units, only_member}
 use Rattle.dwarf_entries.proofs.ReferenceLaws.{map-twice}

@@ -14,17 +14,18 @@ use Rattle.dwarf_bytes.proofs.ItemLaws.{Lists-within}
 use Rattle.dwarf_forms.specs.Declarations.{Declaration}
 use Rattle.dwarf_bytes.proofs.Moves.{same_ok, same_item}
 use Rattle.dwarf_entries.specs.declared.kept.Keeping.{Keeping}
-use Rattle.dwarf_entries.specs.declared.units.UnitHeader.{UnitHeader}
-use Rattle.dwarf_entries.specs.declared.units.UnitType.{UnitType}
+use Rattle.dwarf_units.specs.declared.unit_headers.UnitHeader.{UnitHeader}
+use Rattle.dwarf_units.specs.declared.unit_headers.UnitType.{UnitType}
 use Rattle.dwarf_entries.specs.declared.bases.Bases.{Bases}
 use Rattle.dwarf_entries.specs.Sections.{Sections}
-use Rattle.dwarf_entries.specs.Units.{unit_type_of, is_read_type, is_read, header_in, unit_at, header_at, headers_of, units_of}
-use Rattle.dwarf_entries.specs.Entries.{Die, entries_of}
+use Rattle.dwarf_units.specs.Units.{unit_type_of, is_read_type, is_read, header_in, unit_at, header_at, headers_of, units_of}
+use Rattle.dwarf_units.specs.Entries.{Die, entries_of}
 use Rattle.dwarf_entries.specs.Bases.{CompilationUnit, no_bases, bases_at, unit_of}
-use Rattle.dwarf_entries.specs.Private.Kept.{KeptUnit, kept_unit, RiseWithin, AreInOrder}
+use Rattle.dwarf_entries.specs.Private.Kept.{KeptUnit, kept_unit, AreInOrder}
+use Rattle.dwarf_units.specs.Private.Rising.{RiseWithin}
 use Rattle.dwarf_entries.specs.Private.Passes.{kept_units, kept_unit_of, all_entries, all_units}
-use Rattle.dwarf_entries.proofs.EntryMoves.{fixed-stays, offset-stays}
-pub use Rattle.dwarf_entries.proofs.EntryOrder.{entries-rise}
+use Rattle.dwarf_units.proofs.EntryMoves.{fixed-stays, offset-stays}
+pub use Rattle.dwarf_units.proofs.EntryOrder.{entries-rise}
 use Rattle.dwarf_entries.proofs.EntriesPass.{entries_for}
 use Rattle.dwarf_entries.proofs.BasesPass.{unit_for}
 

@@ -7,7 +7,7 @@ use Rattle.dwarf_bytes.specs.declared.constants.TheConstants.{DW_AT_LINKAGE_NAME
 use Rattle.dwarf_bytes.specs.declared.fault.Cause.{Cause}
 use Rattle.dwarf_bytes.specs.declared.fault.Cause.TheVariants as causes
 use Rattle.dwarf_bytes.specs.Bind.{◌>>=◌}
-use Rattle.dwarf_entries.specs.declared.attributes.AttributeValue.{AttributeValue}
+use Rattle.dwarf_units.specs.declared.attributes.AttributeValue.{AttributeValue}
 use Rattle.dwarf_entries.specs.declared.bases.Bases.{Bases}
 use Rattle.dwarf_entries.specs.declared.bases.Table.{Table}
 use Rattle.dwarf_bytes.specs.declared.text.Text.{Text}
@@ -17,7 +17,7 @@ use Rattle.dwarf_entries.specs.declared.paths.UnitEntry.{UnitEntry}
 use Rattle.dwarf_entries.specs.declared.paths.FirstNames.{FirstNames}
 use Rattle.dwarf_entries.specs.declared.paths.EntryNames.{EntryNames}
 use Rattle.dwarf_entries.specs.Sections.{Sections}
-use Rattle.dwarf_entries.specs.Entries.{attribute}
+use Rattle.dwarf_units.specs.Entries.{attribute}
 use Rattle.dwarf_entries.specs.Bases.{CompilationUnit, optional}
 use Rattle.dwarf_entries.specs.Names.{Member, or_else, next_of, target_of, path_within, path_of, of_member, first_on, text_of, name_on, names_of, hops_limit}
 use Rattle.dwarf_entries.specs.Private.Members.{IsMember, Finds, IsFirst, AreFirst, FindsFirst, str_offsets_of}

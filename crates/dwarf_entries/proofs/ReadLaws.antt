@@ -10,7 +10,7 @@ use Rattle.dwarf_bytes.specs.Bind.{◌>>=◌}
 use Rattle.dwarf_bytes.specs.Items.{At, each}
 use Rattle.dwarf_bytes.specs.Refusals.{memory_fault, in_section}
 use Rattle.dwarf_forms.specs.Declarations.{Declaration}
-use Rattle.dwarf_entries.specs.declared.units.UnitHeader.{UnitHeader}
+use Rattle.dwarf_units.specs.declared.unit_headers.UnitHeader.{UnitHeader}
 use Rattle.dwarf_entries.specs.declared.bases.Bases.{Bases}
 use Rattle.dwarf_entries.specs.declared.scope.Root.{Root}
 use Rattle.dwarf_entries.specs.declared.scope.Scope.{Scope as Kept}
@@ -19,14 +19,15 @@ use Rattle.dwarf_entries.specs.declared.kept.Keeping.TheVariants as keepings
 use Rattle.dwarf_entries.specs.declared.kept.UnitEntries.{UnitEntries}
 use Rattle.dwarf_entries.specs.declared.kept.ScopeEntry.{ScopeEntry}
 use Rattle.dwarf_entries.specs.Sections.{Sections}
-use Rattle.dwarf_entries.specs.Units.{units_of, tables_of}
-use Rattle.dwarf_entries.specs.Entries.{Die}
+use Rattle.dwarf_units.specs.Units.{units_of, tables_of}
+use Rattle.dwarf_units.specs.Entries.{Die}
 use Rattle.dwarf_entries.specs.Bases.{CompilationUnit}
 use Rattle.dwarf_entries.specs.Scopes.{Tree, Scope, Judged, sites_in, roots_from, scope_of, tree_of}
+use Rattle.dwarf_entries.specs.Private.Packed.{unpacked}
 use Rattle.dwarf_entries.specs.Private.Kept.{KeptUnit, kept_of, scope_count}
 use Rattle.dwarf_entries.specs.Private.Passes.{all_entries, kept_units, all_kept, all_units, bases_of, all_bases, kept_unit_of, AreUnits, judge, all_sites, all_scopes, TablesRead, tree_of_units, tree_of_dies, tree_with}
 use Rattle.dwarf_bytes.proofs.EachPlaces.{each-length}
-use Rattle.dwarf_entries.proofs.TableLaws.{in_section_ok}
+use Rattle.dwarf_units.proofs.TableLaws.{in_section_ok}
 use Rattle.dwarf_entries.proofs.SiteLaws.{entries_are, entry_in}
 use Rattle.dwarf_entries.proofs.OrderLaws.{units-in-order}
 use Rattle.dwarf_entries.proofs.ScopesOnly.{TreeAlike, tree-alike}
@@ -185,7 +186,7 @@ sites-counted keeping (unit ∷ units) (u ∷ us) same =
     let here : kept_of unit ≡ kept_unit_of keeping u = cc in
     let rest : map kept_of units ≡ map (kept_unit_of keeping) us = cc in
     let count : length unit.scopes.items ≡ length (sites_in u u.dies) =
-    ap (λ (k : KeptUnit). length k.scopes) here ∙ (ap (λ (es : List ScopeEntry). length es) (entries_are u u.dies) ∙ length-map (sites_in u u.dies) entry_in) in
+    sym (length-map unit.scopes.items unpacked) ∙ ap (λ (k : KeptUnit). length k.scopes) here ∙ (ap (λ (es : List ScopeEntry). length es) (entries_are u u.dies) ∙ length-map (sites_in u u.dies) entry_in) in
     let sum : scope_count (unit ∷ units) ≡ length unit.scopes.items + scope_count units = sum_by-cons (λ unit. length unit.scopes.items) unit units in
     omega (arith, count, sum, sites-counted keeping units us rest, length-append (sites_in u u.dies) (all_sites us))
 

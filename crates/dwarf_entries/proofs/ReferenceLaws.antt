@@ -11,15 +11,18 @@ use Rattle.std.proofs.lemmas.Bool.{cases_lt}
 use Rattle.std.proofs.lemmas.Bool.Decides.{nat_tests}
 use Rattle.dwarf_bytes.specs.declared.constants.TheConstants.{DW_FORM_REF_ADDR}
 use Rattle.dwarf_bytes.specs.declared.fault.Cause.TheVariants as causes
-use Rattle.dwarf_entries.specs.declared.units.UnitHeader.{UnitHeader}
-use Rattle.dwarf_entries.specs.declared.attributes.AttributeValue.{AttributeValue}
+use Rattle.dwarf_units.specs.declared.unit_headers.UnitHeader.{UnitHeader}
+use Rattle.dwarf_units.specs.declared.attributes.AttributeValue.{AttributeValue}
 use Rattle.dwarf_entries.specs.declared.kept.NamedEntry.{NamedEntry}
 use Rattle.dwarf_entries.specs.declared.kept.UnitEntries.{UnitEntries}
 use Rattle.dwarf_entries.specs.declared.paths.UnitEntry.{UnitEntry}
-use Rattle.dwarf_entries.specs.Entries.{Die}
+use Rattle.dwarf_units.specs.Entries.{Die}
 use Rattle.dwarf_entries.specs.Bases.{CompilationUnit}
 use Rattle.dwarf_entries.specs.Names.{Member, members_of, member_at, target_of}
-use Rattle.dwarf_entries.specs.Private.Kept.{named_entry, RiseWithin, AreInOrder}
+use Rattle.dwarf_entries.specs.Private.Kept.{named_entry, AreInOrder}
+use Rattle.dwarf_units.specs.Private.Rising.{RiseWithin}
+use Rattle.dwarf_entries.specs.declared.packed.PackedEntry.{PackedEntry}
+use Rattle.dwarf_entries.specs.Private.Packed.{unpacked_entry}
 use Rattle.dwarf_entries.specs.Private.Members.{NamedUnit, named_unit, named_of, AreKept, Finds, member_in}
 
 -- ---- lists of numbers that do not fall
@@ -175,7 +178,7 @@ pub record UnitAt (units : List CompilationUnit) (n : ℕ) (k : UnitEntries) : T
   pub unit : CompilationUnit
   pub is : slice_get units n ≡ Some unit
   pub header : k.header ≡ unit.header
-  pub entries : k.entries.items ≡ map named_entry unit.dies
+  pub entries : map unpacked_entry k.entries.items ≡ map named_entry unit.dies
   pub within : RiseWithin unit.header.start unit.header.end unit.dies
 
 pub unit-at : (kept : List UnitEntries) (units : List CompilationUnit) → AreKept kept units → (n : ℕ) (k : UnitEntries) → n < length kept → ((d : UnitEntries) → k ≡ get_or kept n d) → UnitAt units n k
@@ -202,11 +205,12 @@ unit-at kept units are n k lt is = by_found (slice_get units n) refl
           within = within-at 0 units are.order n u h;
         }
 
-entries-rise : (units : List CompilationUnit) (n : ℕ) (k : UnitEntries) → UnitAt units n k → IsNonDecreasingBy (λ (e : NamedEntry). e.offset) k.entries.items
+entries-rise : (units : List CompilationUnit) (n : ℕ) (k : UnitEntries) → UnitAt units n k → IsNonDecreasingBy (λ (e : PackedEntry). e.offset) k.entries.items
 entries-rise units n k at =
     let offset : NamedEntry → ℕ = λ e. e.offset in
-    let offsets : map offset k.entries.items ≡ map (λ (d : Die). d.offset) at.unit.dies = ap (λ (es : List NamedEntry). map offset es) at.entries ∙ map-twice offset named_entry at.unit.dies in
-    rising-by offset k.entries.items at.unit.header.start (subst (λ (xs : List ℕ). RiseFrom at.unit.header.start xs) (sym offsets) (dies-rise at.unit.header.start at.unit.header.end at.unit.dies at.within))
+    let packed : PackedEntry → ℕ = λ e. e.offset in
+    let offsets : map packed k.entries.items ≡ map (λ (d : Die). d.offset) at.unit.dies = sym (map-twice offset unpacked_entry k.entries.items) ∙ ap (λ (es : List NamedEntry). map offset es) at.entries ∙ map-twice offset named_entry at.unit.dies in
+    rising-by packed k.entries.items at.unit.header.start (subst (λ (xs : List ℕ). RiseFrom at.unit.header.start xs) (sym offsets) (dies-rise at.unit.header.start at.unit.header.end at.unit.dies at.within))
 
 pub start-kept : (kept : List UnitEntries) (units : List CompilationUnit) → AreKept kept units → (n : ℕ) (k : UnitEntries) → n < length kept → ((d : UnitEntries) → k ≡ get_or kept n d) → (u : CompilationUnit) → slice_get units n ≡ Some u →
     k.header.start ≡ u.header.start
@@ -220,7 +224,7 @@ abbrev in_place : ℕ → Option NamedEntry → Option UnitEntry
 in_place n found = option_map (λ entry. record { unit = n; entry = entry }) found
 
 pub finds-in : (kept : List UnitEntries) (units : List CompilationUnit) → AreKept kept units → (n offset : ℕ) (k : UnitEntries) → n < length kept → ((d : UnitEntries) → k ≡ get_or kept n d) →
-    (items : List NamedEntry) → items ≡ k.entries.items → (found : Option NamedEntry) → (IsNonDecreasingBy (λ (e : NamedEntry). e.offset) items → found ≡ find (λ e. e.offset == offset) items) →
+    (items : List PackedEntry) → items ≡ k.entries.items → (found : Option NamedEntry) → (IsNonDecreasingBy (λ (e : PackedEntry). e.offset) items → found ≡ find (λ e. e.offset == offset) (map unpacked_entry items)) →
     Finds units (in_place n found) (member_in units n offset)
 finds-in kept units are n offset k lt is items items_are found search_is = by_die (find of_die u.dies) found found_is outcome_is
   where
@@ -236,8 +240,8 @@ finds-in kept units are n offset k lt is items items_are found search_is = by_di
     found_is : found ≡ option_map named_entry (find of_die u.dies)
     found_is =
         let p : NamedEntry → Bool = λ e. e.offset == offset in
-        let rise : IsNonDecreasingBy (λ (e : NamedEntry). e.offset) items = subst (λ (es : List NamedEntry). IsNonDecreasingBy (λ (e : NamedEntry). e.offset) es) (sym items_are) (entries-rise units n k at) in
-        search_is rise ∙ (ap (λ (es : List NamedEntry). find p es) (items_are ∙ at.entries) ∙ find-map p named_entry u.dies)
+        let rise : IsNonDecreasingBy (λ (e : PackedEntry). e.offset) items = subst (λ (es : List PackedEntry). IsNonDecreasingBy (λ (e : PackedEntry). e.offset) es) (sym items_are) (entries-rise units n k at) in
+        search_is rise ∙ (ap (λ (es : List NamedEntry). find p es) (ap (λ (es : List PackedEntry). map unpacked_entry es) items_are ∙ at.entries) ∙ find-map p named_entry u.dies)
 
     outcome_is : member_in units n offset ≡ ok_or (option_map (member_of u) (find of_die u.dies)) causes.Reference
     outcome_is =

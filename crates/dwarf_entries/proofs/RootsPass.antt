@@ -9,11 +9,12 @@ use Rattle.dwarf_entries.specs.declared.scope.ScopeKind.{ScopeKind}
 use Rattle.dwarf_entries.specs.declared.kept.Keeping.{Keeping}
 use Rattle.dwarf_entries.specs.declared.kept.RootEntry.{RootEntry}
 use Rattle.dwarf_entries.specs.declared.kept.UnitEntries.{UnitEntries}
-use Rattle.dwarf_entries.specs.Entries.{Die}
+use Rattle.dwarf_units.specs.Entries.{Die}
 use Rattle.dwarf_entries.specs.Bases.{CompilationUnit}
 use Rattle.dwarf_entries.specs.Scopes.{kind_of, is_scope, root_of, roots_from}
 use Rattle.dwarf_entries.specs.Private.Kept.{KeptUnit, scope_entry_of, root_in, kept_of, scope_count}
 use Rattle.dwarf_entries.specs.Private.Passes.{kept_unit_of}
+use Rattle.dwarf_entries.specs.Private.Packed.{unpacked}
 
 -- the roots of the units before the index, in front of those of the rest, are all
 abbrev pub RootsSoFar : List CompilationUnit → ℕ → ℕ → List Root → Type 0
@@ -50,7 +51,7 @@ root_at keeping units us index unit same within is =
       u = u;
       rest = rw (add-one, drop-cons us index d inside) refl;
       root_is = ap (λ (k : KeptUnit). k.root) here;
-      count = ap (λ (k : KeptUnit). length k.scopes) here ∙ scopes-counted u.dies;
+      count = sym (length-map unit.scopes.items unpacked) ∙ ap (λ (k : KeptUnit). length k.scopes) here ∙ scopes-counted u.dies;
     }
 
 -- the numbers stay in the machine's

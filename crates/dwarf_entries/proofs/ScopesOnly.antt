@@ -14,18 +14,19 @@ use Rattle.dwarf_bytes.specs.declared.fault.Section.TheVariants as names
 use Rattle.dwarf_bytes.specs.Bind.{◌>>=◌}
 use Rattle.dwarf_bytes.specs.Items.{At, told_at, each_from}
 use Rattle.dwarf_bytes.specs.Refusals.{in_section}
-use Rattle.dwarf_entries.specs.declared.attributes.AttributeValue.{AttributeValue}
+use Rattle.dwarf_units.specs.declared.attributes.AttributeValue.{AttributeValue}
 use Rattle.dwarf_entries.specs.declared.kept.Keeping.TheVariants as keepings
 use Rattle.dwarf_entries.specs.declared.paths.EntryNames.{EntryNames}
 use Rattle.dwarf_entries.specs.declared.scope.ScopeKind.{ScopeKind}
 use Rattle.dwarf_bytes.specs.declared.text.Text.{Text}
-use Rattle.dwarf_entries.specs.declared.units.UnitHeader.{UnitHeader}
+use Rattle.dwarf_units.specs.declared.unit_headers.UnitHeader.{UnitHeader}
 use Rattle.dwarf_entries.specs.Sections.{Sections}
-use Rattle.dwarf_entries.specs.Entries.{Die, attribute}
+use Rattle.dwarf_units.specs.Entries.{Die, attribute}
 use Rattle.dwarf_entries.specs.Bases.{CompilationUnit, optional}
 use Rattle.dwarf_entries.specs.Names.{Member, members_of, member_at, or_else, next_of, target_of, hops_limit, path_within, path_of, first_on, text_of, name_on, names_of}
 use Rattle.dwarf_entries.specs.Scopes.{Tree, Judged, ScopeSite, kind_of, is_scope, site_of, sites_in, roots_from, scope_by}
-use Rattle.dwarf_entries.specs.Private.Kept.{RiseWithin, AreInOrder}
+use Rattle.dwarf_entries.specs.Private.Kept.{AreInOrder}
+use Rattle.dwarf_units.specs.Private.Rising.{RiseWithin}
 use Rattle.dwarf_entries.specs.Private.Passes.{all_entries, all_units, scopes_only, only_member, judge, all_sites, TablesRead, tree_of_units, tree_of_dies, tree_with}
 use Rattle.dwarf_entries.proofs.ReferenceLaws.{stands_at, member_of, is_not_above, none-outside, none-before, find-map}
 use Rattle.dwarf_entries.proofs.PathLaws.{in_front, stepped, ended, stopped, both_names}

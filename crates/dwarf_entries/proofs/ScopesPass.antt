@@ -1,7 +1,7 @@
 -- The turns of the pass over the scopes of all units.
 use Rattle.std.proofs.Common.{◌≡◌, ℕ, ◌+◌, ◌-◌, ◌^◌, ◌<◌, ◌≤◌, ◌⊎◌, inl, inr, List, [], ◌∷◌, ◌++◌, length, drop, get_or, map, refl, ap, sym, ◌∙◌, subst, arith, append_assoc, drop-cons, add-one}
 use Rattle.std.specs.Prelude.{Result, Ok, Err, Option, Some, None, slice_get, sum_by}
-use Rattle.std.proofs.lemmas.List.{drop_all, map-append, length-map}
+use Rattle.std.proofs.lemmas.List.{drop_all, get_or-map, map-append, length-map}
 use Rattle.std.proofs.lemmas.List.Sums.{sum_by-append}
 use Rattle.std.proofs.lemmas.Option.{slice_get_cases, get_or_from_slice_get}
 use Rattle.std.specs.List.{filter_map}
@@ -24,6 +24,8 @@ use Rattle.dwarf_entries.specs.Private.Passes.{AreUnits, judged_of, IsScopeSite,
 use Rattle.dwarf_bytes.proofs.EachPlaces.{each-append}
 use Rattle.dwarf_entries.proofs.PassLaws.{told_cases}
 use Rattle.dwarf_entries.specs.Private.Kept.{KeptUnit, scope_entry_of, insides_in, kept_of}
+use Rattle.dwarf_entries.specs.Private.Packed.{unpacked}
+use Rattle.dwarf_entries.specs.declared.packed.PackedScope.{PackedScope}
 use Rattle.dwarf_entries.proofs.ScopeLaws.{kept_in, unit_at}
 use Rattle.dwarf_entries.proofs.SiteLaws.{SiteAt, site_at, as_many, few_there, entries_are, entry_in}
 
@@ -39,7 +41,7 @@ known_unit keeping units bases us unit are within = by_case ((slice_get_cases us
 
 -- the scopes of a unit of the program, and the counts below them, of which there is as much room as for numbers
 pub record KeptThere (kept : UnitEntries) (u : CompilationUnit) : Type 0 where
-  pub scopes_are : kept.scopes.items ≡ filter_map scope_entry_of u.dies
+  pub scopes_are : map unpacked kept.scopes.items ≡ filter_map scope_entry_of u.dies
   pub insides_are : kept.insides.items ≡ insides_in u.dies
   pub few : length kept.insides.items < 2 ^ 63
 
@@ -136,26 +138,26 @@ judged_fault keeping s us u before index scopes final left last entry inside cau
 -- ---- what a turn asks
 
 -- the count of the scopes below a scope is there
-pub inside_there : (keeping : Keeping) (units : List UnitEntries) (bases : List Bases) (us : List CompilationUnit) (unit index number first : ℕ) (d : UnitEntries) (list : List ScopeEntry) → AreUnits keeping units bases us → unit < length units → list ≡ (get_or units unit d).scopes.items → index < length list →
+pub inside_there : (keeping : Keeping) (units : List UnitEntries) (bases : List Bases) (us : List CompilationUnit) (unit index number first : ℕ) (d : UnitEntries) (list : List PackedScope) → AreUnits keeping units bases us → unit < length units → list ≡ (get_or units unit d).scopes.items → index < length list →
     number ≡ first + index → number - first < (get_or units unit d).insides.len
 inside_there keeping units bases us unit index number first d list are within list_is inside number_is =
     let kept : UnitEntries = get_or units unit d in
     let u = known_unit keeping units bases us unit are within in
     let there = kept_there keeping units bases us unit u.0 d are u.1 in
-    let many = as_many u.0 kept.scopes.items kept.insides.items there.scopes_are there.insides_are in
-    let sizes : length list ≡ length kept.scopes.items = ap (λ (es : List ScopeEntry). length es) list_is in
-    omega (arith, number_is, inside, many, sizes, kept.insides.ok.0)
+    let many = as_many u.0 (map unpacked kept.scopes.items) kept.insides.items there.scopes_are there.insides_are in
+    let sizes : length list ≡ length kept.scopes.items = ap (λ (es : List PackedScope). length es) list_is in
+    omega (arith, number_is, inside, many, sizes, kept.insides.ok.0, length-map kept.scopes.items unpacked)
 
-pub place_there : (keeping : Keeping) (units : List UnitEntries) (bases : List Bases) (us : List CompilationUnit) (u : CompilationUnit) (unit index number first e : ℕ) (d : UnitEntries) (list : List ScopeEntry) (x entry : ScopeEntry) (inside : ℕ) → AreUnits keeping units bases us → slice_get us unit ≡ Some u →
-    list ≡ (get_or units unit d).scopes.items → index < length list → number ≡ first + index → entry ≡ get_or list index x → inside ≡ get_or (get_or units unit d).insides.items (number - first) e → SiteAt u index entry inside
+pub place_there : (keeping : Keeping) (units : List UnitEntries) (bases : List Bases) (us : List CompilationUnit) (u : CompilationUnit) (unit index number first e : ℕ) (d : UnitEntries) (list : List PackedScope) (x : PackedScope) (entry : ScopeEntry) (inside : ℕ) → AreUnits keeping units bases us → slice_get us unit ≡ Some u →
+    list ≡ (get_or units unit d).scopes.items → index < length list → number ≡ first + index → entry ≡ unpacked (get_or list index x) → inside ≡ get_or (get_or units unit d).insides.items (number - first) e → SiteAt u index entry inside
 place_there keeping units bases us u unit index number first e d list x entry inside are found list_is within number_is entry_is inside_is =
     let kept : UnitEntries = get_or units unit d in
     let there = kept_there keeping units bases us unit u d are found in
     let index_is : number - first ≡ index = omega (arith, number_is) in
-    site_at u list kept.insides.items index e x entry inside (list_is ∙ there.scopes_are) there.insides_are within entry_is (inside_is ∙ ap (λ (k : ℕ). get_or kept.insides.items k e) index_is)
+    site_at u (map unpacked list) kept.insides.items index e (unpacked x) entry inside (ap (λ (es : List PackedScope). map unpacked es) list_is ∙ there.scopes_are) there.insides_are (omega (arith, within, length-map list unpacked)) (entry_is ∙ sym (get_or-map unpacked list index x (unpacked x) within)) (inside_is ∙ ap (λ (k : ℕ). get_or kept.insides.items k e) index_is)
 
 -- the end of a scope is a number of the machine
-pub end_fits : (keeping : Keeping) (units : List UnitEntries) (bases : List Bases) (us : List CompilationUnit) (unit index number first e : ℕ) (d : UnitEntries) (list : List ScopeEntry) (inside : ℕ) → AreUnits keeping units bases us → unit < length units →
+pub end_fits : (keeping : Keeping) (units : List UnitEntries) (bases : List Bases) (us : List CompilationUnit) (unit index number first e : ℕ) (d : UnitEntries) (list : List PackedScope) (inside : ℕ) → AreUnits keeping units bases us → unit < length units →
     list ≡ (get_or units unit d).scopes.items → index < length list → number ≡ first + index → number < 2 ^ 63 → inside ≡ get_or (get_or units unit d).insides.items (number - first) e → number + inside + 1 < 2 ^ 64
 end_fits keeping units bases us unit index number first e d list inside are within list_is inside_list number_is small inside_is =
     let u = known_unit keeping units bases us unit are within in
@@ -166,11 +168,11 @@ end_fits keeping units bases us unit index number first e d list inside are with
     omega (arith, small, there.few, few)
 
 -- all scopes of a unit were looked at
-pub all_there : (keeping : Keeping) (units : List UnitEntries) (bases : List Bases) (us : List CompilationUnit) (u : CompilationUnit) (unit index : ℕ) (d : UnitEntries) (list : List ScopeEntry) → AreUnits keeping units bases us → slice_get us unit ≡ Some u →
+pub all_there : (keeping : Keeping) (units : List UnitEntries) (bases : List Bases) (us : List CompilationUnit) (u : CompilationUnit) (unit index : ℕ) (d : UnitEntries) (list : List PackedScope) → AreUnits keeping units bases us → slice_get us unit ≡ Some u →
     list ≡ (get_or units unit d).scopes.items → length list ≤ index → length (sites_in u u.dies) ≤ index
 all_there keeping units bases us u unit index d list are found list_is past =
     let there = kept_there keeping units bases us unit u d are found in
-    let sizes : length list ≡ length (sites_in u u.dies) = ap (λ (es : List ScopeEntry). length es) (list_is ∙ (there.scopes_are ∙ entries_are u u.dies)) ∙ length-map (sites_in u u.dies) entry_in in
+    let sizes : length list ≡ length (sites_in u u.dies) = sym (length-map list unpacked) ∙ ap (λ (es : List ScopeEntry). length es) (ap (λ (es : List PackedScope). map unpacked es) list_is ∙ (there.scopes_are ∙ entries_are u u.dies)) ∙ length-map (sites_in u u.dies) entry_in in
     omega (arith, sizes, past)
 
 -- ---- the loop over the units

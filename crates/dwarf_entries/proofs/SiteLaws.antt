@@ -7,7 +7,7 @@ use Rattle.std.proofs.lemmas.List.Sums.{sum_by-append, sum_by-cons}
 use Rattle.dwarf_entries.specs.declared.scope.ScopeKind.TheVariants.{Subprogram}
 use Rattle.dwarf_entries.specs.declared.scope.ScopeKind.{ScopeKind}
 use Rattle.dwarf_entries.specs.declared.kept.ScopeEntry.{ScopeEntry}
-use Rattle.dwarf_entries.specs.Entries.{Die, below}
+use Rattle.dwarf_units.specs.Entries.{Die, below}
 use Rattle.dwarf_entries.specs.Bases.{CompilationUnit}
 use Rattle.dwarf_entries.specs.Scopes.{ScopeSite, kind_of, is_scope, site_of, sites_in}
 use Rattle.dwarf_entries.specs.Private.Kept.{scope_entry, scope_entry_of, inside_of, insides_in}

@@ -21,19 +21,20 @@ use Rattle.dwarf_bytes.proofs.Advance.{after_bind}
 use Rattle.dwarf_forms.specs.Declarations.{Declaration}
 use Rattle.dwarf_bytes.proofs.Moves.{same_ok}
 use Rattle.dwarf_bytes.proofs.Turns.{SoFar, so_far-none, so_far-item, so_far-end, so_far-fault}
-use Rattle.dwarf_entries.specs.declared.attributes.Attribute.{Attribute}
+use Rattle.dwarf_units.specs.declared.attributes.Attribute.{Attribute}
 use Rattle.dwarf_entries.specs.declared.entries.Level.{Level}
 use Rattle.dwarf_entries.specs.declared.kept.Keeping.{Keeping}
 use Rattle.dwarf_entries.specs.declared.kept.NamedEntry.{NamedEntry}
 use Rattle.dwarf_entries.specs.declared.kept.ScopeEntry.{ScopeEntry}
 use Rattle.dwarf_entries.specs.declared.kept.RootEntry.{RootEntry}
-use Rattle.dwarf_entries.specs.declared.units.UnitHeader.{UnitHeader}
-use Rattle.dwarf_entries.specs.Entries.{Node, Entry, Null, Standing, Die, die_of, opens, closes, is_root, depth_after, node_behind, node_at, entries_of}
+use Rattle.dwarf_units.specs.declared.unit_headers.UnitHeader.{UnitHeader}
+use Rattle.dwarf_units.specs.Entries.{Node, Entry, Null, Standing, Die, die_of, opens, closes, is_root, depth_after, node_behind, node_at, entries_of}
 use Rattle.dwarf_entries.specs.Private.Kept.{keeps, named_entry, scope_entry_of, root_entry, root_in, insides_in, KeptUnit, kept_unit, kept_entries}
 use Rattle.dwarf_entries.specs.Names.{or_else}
-use Rattle.dwarf_entries.specs.Private.Readers.{Fills, Walked, level_of, walked_by, walked, after_die, depth_behind, after_node, walked_at, walk_of, insides_of}
+use Rattle.dwarf_entries.specs.Private.Readers.{Walked, level_of, walked_by, walked, after_die, depth_behind, after_node, walked_at, walk_of, insides_of}
+use Rattle.dwarf_units.specs.Private.Plans.{Fills}
 use Rattle.dwarf_entries.proofs.InsideLaws.{insides-are}
-use Rattle.dwarf_entries.proofs.EntryMoves.{node_behind-moves, node_at-advances}
+use Rattle.dwarf_units.proofs.EntryMoves.{node_behind-moves, node_at-advances}
 
 -- what stands at a place, behind these
 abbrev pub standing : List Standing → ℕ → Node → Standing

@@ -11,12 +11,12 @@ use Rattle.dwarf_bytes.specs.Bind.{◌>>=◌}
 use Rattle.dwarf_bytes.specs.Items.{At, reading, refuse_if, told_at}
 use Rattle.dwarf_bytes.specs.Numbers.{u64_at, offset_len, offset_at}
 use Rattle.dwarf_bytes.specs.Tables.{table_before}
-use Rattle.dwarf_entries.specs.declared.units.UnitHeader.{UnitHeader}
+use Rattle.dwarf_units.specs.declared.unit_headers.UnitHeader.{UnitHeader}
 use Rattle.dwarf_entries.specs.declared.bases.Table.{Table}
 use Rattle.dwarf_entries.specs.declared.bases.Bases.{Bases}
 use Rattle.dwarf_entries.specs.Sections.{Sections}
-use Rattle.dwarf_entries.specs.declared.attributes.AttributeValue.{AttributeValue}
-use Rattle.dwarf_entries.specs.Entries.{Die, attribute}
+use Rattle.dwarf_units.specs.declared.attributes.AttributeValue.{AttributeValue}
+use Rattle.dwarf_units.specs.Entries.{Die, attribute}
 
 -- a unit without a root
 abbrev pub no_bases : Bases

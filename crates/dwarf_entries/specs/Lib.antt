@@ -1,7 +1,4 @@
 pub mod Sections
-pub mod Attributes
-pub mod Units
-pub mod Entries
 pub mod Bases
 pub mod Names
 pub mod Ranges

@@ -13,8 +13,8 @@ use Rattle.dwarf_bytes.specs.declared.text.Text.{Text}
 use Rattle.dwarf_entries.specs.declared.bases.Table.{Table}
 use Rattle.dwarf_entries.specs.declared.paths.EntryNames.{EntryNames}
 use Rattle.dwarf_entries.specs.Sections.{Sections}
-use Rattle.dwarf_entries.specs.declared.attributes.AttributeValue.{AttributeValue}
-use Rattle.dwarf_entries.specs.Entries.{Die, attribute}
+use Rattle.dwarf_units.specs.declared.attributes.AttributeValue.{AttributeValue}
+use Rattle.dwarf_units.specs.Entries.{Die, attribute}
 use Rattle.dwarf_entries.specs.Bases.{CompilationUnit, item_at, optional}
 
 -- an entry with its unit

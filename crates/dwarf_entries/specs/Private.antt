@@ -1,6 +1,6 @@
+pub mod Packed
+pub mod Facts
 pub mod Kept
-pub mod Plans
-pub mod Tables
 pub mod Texts
 pub mod Members
 pub mod Readers

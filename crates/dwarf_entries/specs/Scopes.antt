@@ -3,6 +3,7 @@ use Rattle.std.specs.Prelude.{ℕ, ◌+◌, ◌-◌, List, [], ◌∷◌, length
 use Rattle.std.specs.Option.{option_map_or}
 use Rattle.dwarf_bytes.specs.declared.constants.TheConstants.{DW_TAG_INLINED_SUBROUTINE, DW_TAG_SUBPROGRAM, DW_AT_CALL_FILE, DW_AT_CALL_LINE, DW_AT_STMT_LIST}
 use Rattle.dwarf_bytes.specs.declared.fault.Cause.{Cause}
+use Rattle.dwarf_bytes.specs.declared.fault.Section.{Section}
 use Rattle.dwarf_bytes.specs.declared.fault.Section.TheVariants as names
 use Rattle.dwarf_bytes.specs.declared.fault.LoadFault.{LoadFault}
 use Rattle.dwarf_bytes.specs.Bind.{◌>>=◌}
@@ -16,8 +17,8 @@ use Rattle.dwarf_entries.specs.declared.scope.Scope.{Scope as Kept}
 use Rattle.dwarf_entries.specs.declared.scope.ScopeKind.{ScopeKind}
 use Rattle.dwarf_entries.specs.declared.scope.ScopeKind.TheVariants.{Subprogram, Inlined}
 use Rattle.dwarf_entries.specs.Sections.{Sections}
-use Rattle.dwarf_entries.specs.Units.{units_of, tables_of}
-use Rattle.dwarf_entries.specs.Entries.{Die, attribute, below, entries_of}
+use Rattle.dwarf_units.specs.Units.{units_of, tables_of}
+use Rattle.dwarf_units.specs.Entries.{Die, attribute, below, entries_of}
 use Rattle.dwarf_entries.specs.Bases.{CompilationUnit, unit_of}
 use Rattle.dwarf_entries.specs.Names.{Member, names_of}
 use Rattle.dwarf_entries.specs.Ranges.{covers_of}
@@ -35,6 +36,14 @@ pub record Scope : Type 0 where
   pub call_file : Option ℕ
   pub call_line : Option ℕ
 
+-- a text by its section, its place and its length
+abbrev pub text_by : Option Section → ℕ → ℕ → Option Text
+text_by section place len = option_map (λ name. record { section = name; span = record { place = place; len = len } }) section
+
+-- a number, if it is there
+abbrev pub number_in : Bool → ℕ → Option ℕ
+number_in is_there number = if is_there then Some number else None
+
 -- a scope of the program
 abbrev pub scope_of : Kept → Scope
 scope_of s = record {
@@ -43,11 +52,11 @@ scope_of s = record {
   number = s.number;
   end = s.«end»;
   ranges = s.ranges.items;
-  name = s.name;
-  linkage_name = s.linkage_name;
-  stmt_list = s.stmt_list;
-  call_file = s.call_file;
-  call_line = s.call_line;
+  name = text_by s.name_section s.name_place s.name_len;
+  linkage_name = text_by s.linkage_name_section s.linkage_name_place s.linkage_name_len;
+  stmt_list = number_in s.has_stmt_list s.stmt_list;
+  call_file = number_in s.has_call_file s.call_file;
+  call_line = number_in s.has_call_line s.call_line;
 }
 
 -- what a scope tells by itself

@@ -3,24 +3,20 @@
 ghost use Rattle.std.specs.Prelude.{◌≡◌, ◌≤◌, [], None, IsSome, IfOk, OnOk, take, reverse};
 ghost use Rattle.dwarf_bytes.specs.declared.fault.Section.TheVariants as sections;
 ghost use Rattle.dwarf_bytes.specs.Refusals.{Decodes, in_section};
-ghost use Rattle.dwarf_entries.specs.Entries.{node_behind};
+ghost use Rattle.dwarf_units.specs.Entries.{depth_limit, node_behind};
 ghost use Rattle.dwarf_entries.specs.Private.Kept.{kept_of, kept_entries};
-ghost use Rattle.dwarf_entries.specs.Private.Readers.{Fills, keeps_attributes, ReadsNode, walked_of, after_die, walked_at, walk_of, insides_of, above, scopes_from};
+ghost use Rattle.dwarf_entries.specs.Private.Readers.{keeps_attributes, ReadsNode, walked_of, after_die, walked_at, walk_of, insides_of, above, scopes_from};
+ghost use Rattle.dwarf_units.specs.Private.Plans.{Fills};
 
-use crate::attributes::Attribute;
 use crate::kept::{Keeping, NamedEntry, RootEntry, ScopeEntry, UnitEntries, kind_of};
-use crate::plans::read_steps;
-use crate::tables::UnitTable;
-use crate::units::UnitHeader;
+use crate::packed::{PackedEntry, PackedScope};
 use dwarf_bytes::{Cause, Cursor, LoadFault, Section, Span};
+use dwarf_units::{Attribute, UnitHeader, UnitTable};
 use std::alloc::{AllocError, Global};
-
-/// The greatest depth of an entry.
-const DEPTH_LIMIT: u16 = 256;
 
 /// What the declaration of an entry tells of it, but its attributes.
 #[derive(Clone, Copy)]
-pub(crate) struct EntryHead {
+pub(crate) struct NodeHead {
     pub(crate) tag: u64,
     pub(crate) children: bool,
 }
@@ -45,8 +41,8 @@ pub(crate) struct Boundary {
 pub(crate) struct Walk {
     pub(crate) depth: u16,
     pub(crate) root: Option<RootEntry>,
-    pub(crate) entries: Vec<NamedEntry>,
-    pub(crate) scopes: Vec<ScopeEntry>,
+    pub(crate) entries: Vec<PackedEntry>,
+    pub(crate) scopes: Vec<PackedScope>,
     pub(crate) levels: Vec<Level>,
 }
 
@@ -141,9 +137,10 @@ impl Walk {
         }
         let entry = NamedEntry::of(offset, attributes);
         if let Some(kind) = kind {
-            self.scopes.push(ScopeEntry::of(entry, kind, attributes))?;
+            let scope = ScopeEntry::of(entry, kind, attributes);
+            self.scopes.push(PackedScope::of(&scope)?)?;
         }
-        self.entries.push(entry)?;
+        self.entries.push(PackedEntry::of(&entry)?)?;
         Ok(())
     }
 }
@@ -189,28 +186,19 @@ fn node(
     rooted: bool,
     cursor: &mut Cursor,
     found: &mut Vec<Attribute>,
-) -> Result<Option<EntryHead>, Cause>
+) -> Result<Option<NodeHead>, Cause>
     ensures reads { ReadsNode (keeps_attributes keeping rooted) result found.new.items
         (node_behind table.now.format table.now.declarations depth rooted) cursor.old cursor.new }
-    ensures limit { IfOk result (λ entry. IsSome entry → depth ≤ DEPTH_LIMIT) }
+    ensures limit { IfOk result (λ entry. IsSome entry → depth ≤ depth_limit) }
 {
-    let code = cursor.uleb()?;
-    if code == 0 {
+    let Some(head) = table.head(depth, rooted, cursor)? else {
         return Ok(None);
-    }
-    let (declaration, plan) = table.find(code).ok_or(Cause::AbbrevCode)?;
-    if depth == 0 && rooted {
-        return Err(Cause::TwoRoots);
-    }
-    if depth > DEPTH_LIMIT {
-        return Err(Cause::TooDeep);
-    }
-    let keep = keeping.keeps_attributes(rooted, declaration.tag());
-    read_steps(table.format(), plan.steps(keep), cursor, found)?;
-    Ok(Some(EntryHead {
-        tag: declaration.tag(),
-        children: declaration.children(),
-    }))
+    };
+    let tag = head.tag();
+    let children = head.children();
+    let keep = keeping.keeps_attributes(rooted, tag);
+    head.read_attributes(keep, cursor, found)?;
+    Ok(Some(NodeHead { tag, children }))
 }
 
 /// How many scopes are below each scope.

@@ -1,16 +1,15 @@
 //! What is kept of the entries of a unit until all units are read.
 
 ghost use Rattle.std.specs.Prelude.{◌≡◌};
-ghost use Rattle.dwarf_entries.specs.Entries.{value_of};
 ghost use Rattle.dwarf_entries.specs.Private.Kept.{keeps, named_entry, scope_entry, root_entry};
 ghost use Rattle.dwarf_entries.specs.Names.{followed, next_of};
 ghost use Rattle.dwarf_entries.specs.Private.Readers.{die_with, keeps_attributes};
 ghost use Rattle.dwarf_entries.specs.Scopes.{kind_of, number_of};
 
-use crate::attributes::{Attribute, AttributeValue};
+use crate::packed::{PackedEntry, PackedScope};
 use crate::scope::ScopeKind;
-use crate::units::UnitHeader;
 use dwarf_bytes::constants::*;
+use dwarf_units::{Attribute, AttributeValue, UnitHeader, value_of};
 
 /// Which entries a walk keeps by their names and references.
 #[derive(Clone, Copy)]
@@ -58,8 +57,8 @@ pub(crate) struct RootEntry {
 pub(crate) struct UnitEntries {
     pub(crate) header: UnitHeader,
     pub(crate) root: Option<RootEntry>,
-    pub(crate) entries: Vec<NamedEntry>,
-    pub(crate) scopes: Vec<ScopeEntry>,
+    pub(crate) entries: Vec<PackedEntry>,
+    pub(crate) scopes: Vec<PackedScope>,
     pub(crate) insides: Vec<usize>,
 }
 
@@ -142,17 +141,7 @@ pub(crate) fn kind_of(tag: u64) -> Option<ScopeKind>
     }
 }
 
-/// The value of an attribute among these.
-fn value_of(attributes: &[Attribute], name: u64) -> Option<AttributeValue>
-    ensures { result ≡ value_of attributes.now name }
-{
-    attributes
-        .iter()
-        .find(|attribute| attribute.name == name)
-        .map(|attribute| attribute.value)
-}
-
-/// Its number.
+/// The number of an attribute among these.
 fn number_of(attributes: &[Attribute], name: u64) -> Option<u64>
     ensures { result ≡ number_of name (die_with 0 attributes.now) }
 {

@@ -1,35 +1,17 @@
 //! What is true of all units and their entries.
 
 ghost use Rattle.std.specs.Prelude.{◌≡◌, ◌<◌, ◌+◌, ◌↔◌, ℕ, List, [], ◌∷◌, ◌++◌, Option, Some, Ok, true, map, take, drop, count_by, slice_get};
-ghost use Rattle.std.specs.List.Sorted.{IsStrictlyIncreasing};
-ghost use Rattle.dwarf_bytes.specs.declared.format.Format.{Format};
-ghost use Rattle.dwarf_bytes.specs.Items.{items_from};
-ghost use Rattle.dwarf_forms.specs.Declarations.{Declaration};
-ghost use Rattle.dwarf_entries.specs.declared.units.UnitHeader.{UnitHeader};
 ghost use Rattle.dwarf_entries.specs.declared.scope.Range.{Range};
 ghost use Rattle.dwarf_entries.specs.declared.range_entries.RangeListEntry.{RangeListEntry};
 ghost use Rattle.dwarf_entries.specs.declared.range_entries.RangeListEntry.TheVariants.{Base, Covers};
-ghost use Rattle.dwarf_entries.specs.Entries.{Standing, Die, AreDepths, node_at, entries_of, below, IsBelow};
+ghost use Rattle.dwarf_units.specs.Entries.{Die, below, IsBelow};
 ghost use Rattle.dwarf_entries.specs.Ranges.{base_after};
 ghost use Rattle.dwarf_entries.specs.declared.scope.Scope.{Scope as Kept};
 ghost use Rattle.dwarf_entries.specs.Scopes.{is_scope, own, own_of, Scope, Tree, tree_of};
 ghost use Rattle.dwarf_entries.specs.Sections.{Sections};
 ghost use Rattle.dwarf_entries.specs.Order.{AreInOrder, TellsOf};
 
-/// Whatever is read of a unit stands at counted depths: behind the entries with children before it,
-/// less the nulls before it that stand at a depth above 0.
-pub fn entries_stand_at_counted_depths()
-    ensures { (format : Format) (table : List Declaration) (unit : List ℕ) (end first : ℕ)
-        (all : List Standing) (after : ℕ)
-        → items_from end (node_at format table unit) [] first ≡ Ok (all, after) → AreDepths all }
-{}
-
-/// Each entry of a unit stands past the one before it.
-pub fn offsets_of_entries_rise()
-    ensures { (info : List ℕ) (header : UnitHeader) (table : List Declaration) (dies : List Die)
-        → entries_of info header table ≡ Ok dies
-        → IsStrictlyIncreasing (map (λ (die : Die). die.offset) dies) }
-{}
+pub use dwarf_units::laws::{entries_stand_at_counted_depths, offsets_of_entries_rise};
 
 /// Of two scopes among the entries of a unit, one is below the other exactly where its number stands
 /// between the other's number and end. A scope's number is how many scopes stand before it, and its

@@ -1,25 +1,22 @@
 //! Units, entries, ranges and names of `.debug_info`: DWARF 5, chapters 2, 3 and 7.5.
 #![tactic(auto)]
 
-mod attributes;
 mod bases;
 mod entries;
 mod kept;
 pub mod laws;
 mod names;
+mod packed;
 mod passes;
 mod paths;
-mod plans;
 mod range_entries;
 mod ranges;
 mod roots;
 mod scope;
 mod scopes;
 mod sections;
-mod tables;
 mod texts;
 mod unit_scopes;
-mod units;
 
 pub use dwarf_bytes::Text;
 pub use scope::{Range, Root, Scope, ScopeKind};

@@ -5,10 +5,10 @@ ghost use Rattle.dwarf_bytes.specs.declared.fault.Section.TheVariants as names;
 ghost use Rattle.dwarf_bytes.specs.Refusals.{Decodes, in_section};
 ghost use Rattle.dwarf_forms.specs.Declarations.{Declaration};
 ghost use Rattle.dwarf_entries.specs.declared.kept.Keeping.{Keeping};
-ghost use Rattle.dwarf_entries.specs.declared.units.UnitHeader.{UnitHeader};
-ghost use Rattle.dwarf_entries.specs.Entries.{Die};
+ghost use Rattle.dwarf_units.specs.declared.unit_headers.UnitHeader.{UnitHeader};
+ghost use Rattle.dwarf_units.specs.Entries.{Die};
 ghost use Rattle.dwarf_entries.specs.Sections.{sections_of};
-ghost use Rattle.dwarf_entries.specs.Units.{tables_of};
+ghost use Rattle.dwarf_units.specs.Units.{tables_of};
 ghost use Rattle.dwarf_entries.specs.Private.Kept.{kept_of};
 ghost use Rattle.dwarf_entries.specs.Private.Passes.{all_kept, kept_units, bases_in, all_bases};
 
@@ -17,9 +17,8 @@ use crate::entries::entries;
 use crate::kept::{Keeping, UnitEntries};
 use crate::roots::bases;
 use crate::sections::Sections;
-use crate::tables::{DECLARATIONS_LIMIT, unit_table};
-use crate::units::UnitHeader;
 use dwarf_bytes::{LoadFault, Section};
+use dwarf_units::{DECLARATIONS_LIMIT, UnitHeader, unit_table};
 use std::alloc::Global;
 
 /// The entries of all units, whose tables are good. A table is read again, and dropped before the next

@@ -7,16 +7,18 @@ ghost use Rattle.dwarf_entries.specs.Sections.{sections_of};
 ghost use Rattle.dwarf_entries.specs.Private.Texts.{AreTexts};
 ghost use Rattle.dwarf_entries.specs.Bases.{CompilationUnit, optional};
 ghost use Rattle.dwarf_entries.specs.Names.{Member, target_of, path_of, text_of, names_of};
+ghost use Rattle.dwarf_entries.specs.Private.Packed.{unpacked_entry};
 ghost use Rattle.dwarf_entries.specs.Private.Members.{AreKept, IsMember, Finds, member_in, AreFirst, FindsFirst, str_offsets_of};
 
-use crate::attributes::AttributeValue;
 use crate::bases::Bases;
 use crate::kept::{NamedEntry, UnitEntries};
 use crate::names::text_of;
+use crate::packed::PackedEntry;
 use crate::sections::Sections;
 use crate::texts::Texts;
 use dwarf_bytes::constants::DW_FORM_REF_ADDR;
 use dwarf_bytes::{Cause, Text};
+use dwarf_units::AttributeValue;
 
 /// The hops that a path may have.
 const HOPS_LIMIT: u32 = 16;
@@ -165,25 +167,25 @@ fn entry_in(units: &[UnitEntries], unit: usize, offset: u128) -> Option<UnitEntr
 }
 
 /// The entry at an offset, among entries in their order.
-fn entry_at(entries: &[NamedEntry], offset: u128) -> Option<NamedEntry>
+fn entry_at(entries: &[PackedEntry], offset: u128) -> Option<NamedEntry>
     ensures { IsNonDecreasingBy (λ entry. entry.offset) entries.now
-        → result ≡ find (λ entry. entry.offset == offset) entries.now }
+        → result ≡ find (λ entry. entry.offset == offset) (map unpacked_entry entries.now) }
 {
     let entry = entries.get(starts_before(entries, offset))?;
-    if entry.offset as u128 == offset {
-        Some(*entry)
+    if u128::from(entry.offset) == offset {
+        Some(entry.unpack())
     } else {
         None
     }
 }
 
 /// How many of the entries start before an offset.
-fn starts_before(entries: &[NamedEntry], offset: u128) -> usize
+fn starts_before(entries: &[PackedEntry], offset: u128) -> usize
     ensures { IsNonDecreasingBy (λ entry. entry.offset) entries.now
         → IsPartitionPoint (λ entry. entry.offset < offset)
         (λ entry. offset ≤ entry.offset) entries.now result }
 {
-    entries.partition_point(|entry| (entry.offset as u128) < offset)
+    entries.partition_point(|entry| u128::from(entry.offset) < offset)
 }
 
 /// How many of the units end before an offset or at it.

@@ -6,13 +6,13 @@ ghost use Rattle.dwarf_entries.specs.Ranges.{list_place, list_at, list_of, high_
 ghost use Rattle.dwarf_entries.specs.Private.Kept.{covering_of};
 ghost use Rattle.dwarf_entries.specs.Sections.{sections_of};
 
-use crate::attributes::{AttributeValue, is_address};
 use crate::bases::{Bases, address_of, item_at};
 use crate::range_entries::{RangeListEntry, covered_from, next_entry};
 use crate::scope::Range;
 use crate::sections::Sections;
 use dwarf_bytes::constants::DW_FORM_RNGLISTX;
 use dwarf_bytes::{Cause, Cursor, TableKind};
+use dwarf_units::{AttributeValue, is_address};
 use smallvec::SmallVec;
 use std::alloc::Global;
 

@@ -1,11 +1,15 @@
 //! What is told of subprograms and inlined subroutines (DWARF 5, 3.3).
 
-ghost use Rattle.std.specs.Prelude.{◌≡◌};
-ghost use Rattle.dwarf_entries.specs.Scopes.{own_of, ranges_at, stmt_list_at, call_file_at, call_line_at};
+ghost use Rattle.std.specs.Prelude.{◌≡◌, IfOk};
+ghost use Rattle.dwarf_entries.specs.Scopes.{scope_of, own_of, ranges_at, stmt_list_at, call_file_at, call_line_at};
+ghost use Rattle.dwarf_entries.specs.Scopes.{text_by};
+ghost use Rattle.dwarf_entries.specs.Private.Facts.{facts_of};
 
+use crate::packed::{narrow, number, number_parts};
 use crate::scopes::Scopes;
-use dwarf_bytes::Text;
+use dwarf_bytes::{Section, Span, Text};
 use smallvec::SmallVec;
+use std::alloc::AllocError;
 
 /// The addresses from one up to another, which is not of them.
 #[derive(Clone, Copy, Debug, Default, PartialEq, Eq)]
@@ -27,11 +31,33 @@ pub enum ScopeKind {
 /// scopes share is told by way of the `Scopes` that it is of.
 #[derive(Debug, Drop)]
 pub struct Scope {
+    stmt_list: u64,
+    call_file: u64,
+    call_line: u64,
+    /// Most scopes have one range.
+    ranges: SmallVec<Range, 1>,
+    offset: u32,
+    number: u32,
+    end: u32,
+    name_place: u32,
+    name_len: u32,
+    linkage_name_place: u32,
+    linkage_name_len: u32,
+    name_section: Option<Section>,
+    linkage_name_section: Option<Section>,
+    has_stmt_list: bool,
+    has_call_file: bool,
+    has_call_line: bool,
+    kind: ScopeKind,
+}
+
+/// What is told of a scope.
+#[derive(Drop)]
+pub(crate) struct ScopeFacts {
     pub(crate) kind: ScopeKind,
     pub(crate) offset: usize,
     pub(crate) number: usize,
     pub(crate) end: usize,
-    /// Most scopes have one range.
     pub(crate) ranges: SmallVec<Range, 1>,
     pub(crate) name: Option<Text>,
     pub(crate) linkage_name: Option<Text>,
@@ -51,6 +77,38 @@ pub struct Root {
 }
 
 impl Scope {
+    /// By what is told of it. Numbers and places from 2^32 on are told as want of memory.
+    pub(crate) fn of(told: ScopeFacts) -> Result<Scope, AllocError>
+        ensures { IfOk result (λ scope. scope_of scope ≡ facts_of told) }
+    {
+        let (name_section, name_place, name_len) = text_parts(told.name)?;
+        let (linkage_name_section, linkage_name_place, linkage_name_len) = text_parts(
+            told.linkage_name,
+        )?;
+        let (has_stmt_list, stmt_list) = number_parts(told.stmt_list);
+        let (has_call_file, call_file) = number_parts(told.call_file);
+        let (has_call_line, call_line) = number_parts(told.call_line);
+        Ok(Scope {
+            stmt_list,
+            call_file,
+            call_line,
+            ranges: told.ranges,
+            offset: narrow(told.offset)?,
+            number: narrow(told.number)?,
+            end: narrow(told.end)?,
+            name_place,
+            name_len,
+            linkage_name_place,
+            linkage_name_len,
+            name_section,
+            linkage_name_section,
+            has_stmt_list,
+            has_call_file,
+            has_call_line,
+            kind: told.kind,
+        })
+    }
+
     pub fn kind(&self) -> ScopeKind
         ensures { result ≡ (own_of self.now).kind }
     {
@@ -61,31 +119,35 @@ impl Scope {
     pub fn offset(&self) -> usize
         ensures { result ≡ (own_of self.now).offset }
     {
-        self.offset
+        self.offset as usize
     }
 
     pub fn number(&self) -> usize
         ensures { result ≡ (own_of self.now).number }
     {
-        self.number
+        self.number as usize
     }
 
     pub fn end(&self) -> usize
         ensures { result ≡ (own_of self.now).«end» }
     {
-        self.end
+        self.end as usize
     }
 
     pub fn name(&self) -> Option<Text>
         ensures { result ≡ (own_of self.now).name }
     {
-        self.name
+        text(self.name_section, self.name_place, self.name_len)
     }
 
     pub fn linkage_name(&self) -> Option<Text>
         ensures { result ≡ (own_of self.now).linkage_name }
     {
-        self.linkage_name
+        text(
+            self.linkage_name_section,
+            self.linkage_name_place,
+            self.linkage_name_len,
+        )
     }
 
     /// What it covers, in the scopes that it is of, without the ranges that cover nothing.
@@ -102,18 +164,47 @@ impl Scope {
     pub fn stmt_list(&self, of: &Scopes) -> Option<u64>
         ensures { result ≡ stmt_list_at of.now.scopes (own_of self.now).number }
     {
-        of.get(self)?.stmt_list
+        let scope = of.get(self)?;
+        number(scope.has_stmt_list, scope.stmt_list)
     }
 
     pub fn call_file(&self, of: &Scopes) -> Option<u64>
         ensures { result ≡ call_file_at of.now.scopes (own_of self.now).number }
     {
-        of.get(self)?.call_file
+        let scope = of.get(self)?;
+        number(scope.has_call_file, scope.call_file)
     }
 
     pub fn call_line(&self, of: &Scopes) -> Option<u64>
         ensures { result ≡ call_line_at of.now.scopes (own_of self.now).number }
     {
-        of.get(self)?.call_line
+        let scope = of.get(self)?;
+        number(scope.has_call_line, scope.call_line)
     }
+}
+
+/// A text by the section that it stands in, its place and its length.
+fn text(section: Option<Section>, place: u32, len: u32) -> Option<Text>
+    ensures { result ≡ text_by section place len }
+{
+    let section = section?;
+    Some(Text {
+        section,
+        span: Span {
+            place: place as usize,
+            len: len as usize,
+        },
+    })
+}
+
+/// The section, the place and the length of a text, if there is one.
+fn text_parts(text: Option<Text>) -> Result<(Option<Section>, u32, u32), AllocError>
+    ensures { IfOk result (λ parts. text_by parts.0 parts.1 parts.2 ≡ text) }
+{
+    let Some(text) = text else {
+        return Ok((None, 0, 0));
+    };
+    let place = narrow(text.span.place)?;
+    let len = narrow(text.span.len)?;
+    Ok((Some(text.section), place, len))
 }

@@ -15,11 +15,10 @@ use crate::kept::{Keeping, UnitEntries};
 use crate::passes::{all_bases, all_entries};
 use crate::scope::{Root, Scope};
 use crate::sections::Sections;
-use crate::tables::judge_tables;
 use crate::texts::Texts;
 use crate::unit_scopes::Units;
-use crate::units::{UnitHeader, units};
 use dwarf_bytes::{Cause, LoadFault};
+use dwarf_units::{UnitHeader, judge_tables, units};
 use std::alloc::Global;
 use std::marker::Model;
 
@@ -104,9 +103,9 @@ impl Scopes {
     /// The scope that has the number of another one.
     pub(crate) fn get(&self, scope: &Scope) -> Option<&Scope>
         ensures { option_map scope_of (option_copied result)
-            ≡ slice_get self.now.scopes scope.now.number }
+            ≡ slice_get self.now.scopes (own_of scope.now).number }
     {
-        self.scopes.get(scope.number)
+        self.scopes.get(scope.number())
     }
 }
 

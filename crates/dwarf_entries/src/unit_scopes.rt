@@ -14,7 +14,7 @@ use crate::bases::Bases;
 use crate::kept::{ScopeEntry, UnitEntries};
 use crate::paths::names;
 use crate::ranges::covers;
-use crate::scope::Scope;
+use crate::scope::{Scope, ScopeFacts};
 use crate::sections::Sections;
 use crate::texts::Texts;
 use dwarf_bytes::{Cause, LoadFault, Section};
@@ -70,7 +70,7 @@ impl<'a> Units<'a> {
             entry.high_pc,
             entry.ranges,
         )?;
-        let scope = Scope {
+        let scope = Scope::of(ScopeFacts {
             kind: entry.kind,
             offset: entry.entry.offset,
             number,
@@ -81,7 +81,7 @@ impl<'a> Units<'a> {
             stmt_list: stmt_list(&self.units[unit]),
             call_file: entry.call_file,
             call_line: entry.call_line,
-        };
+        })?;
         Ok((scope, covering.items))
     }
 
@@ -107,10 +107,11 @@ impl<'a> Units<'a> {
     {
         let kept = &self.units[unit];
         let first = scopes.len();
-        for entry in kept.scopes.as_slice() {
+        for packed in kept.scopes.as_slice() {
+            let entry = packed.unpack();
             let number = scopes.len();
             let inside = kept.insides[number - first];
-            match self.scope(alloc, unit, entry, inside, number, *left) {
+            match self.scope(alloc, unit, &entry, inside, number, *left) {
                 Err(cause) => {
                     let at = entry.entry.offset as u64;
                     return Err(LoadFault::told(Section::DebugInfo, cause, at));

@@ -4,7 +4,7 @@ ghost use Rattle.std.specs.Prelude.{◌≡◌, ◌+◌, length};
 
 use dwarf_bytes::{Cause, LoadFault, Section};
 use dwarf_lines::{LineTables, ProgramNo, Row, Text};
-use dwarf_samples::{inlined, two_sequences};
+use dwarf_samples::{inlined, two_sequences as second_sample};
 use std::alloc::{AllocError, Global};
 
 /// The 75 bytes of the first sample's `.debug_line`.
@@ -17,7 +17,7 @@ pub fn one_sequence() -> [u8; 75] {
 /// The 97 bytes of the second sample's `.debug_line`.
 pub fn two_sequences() -> [u8; 97] {
     let mut line = [0; 97];
-    line.copy_from_slice(&two_sequences()[259..356]);
+    line.copy_from_slice(&second_sample()[259..356]);
     line
 }
 
@@ -25,7 +25,7 @@ pub fn two_sequences() -> [u8; 97] {
 pub fn two_programs() -> [u8; 172] {
     let mut line = [0; 172];
     line[..75].copy_from_slice(&inlined()[259..334]);
-    line[75..].copy_from_slice(&two_sequences()[259..356]);
+    line[75..].copy_from_slice(&second_sample()[259..356]);
     line
 }
 

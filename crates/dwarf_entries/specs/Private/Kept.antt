@@ -1,21 +1,23 @@
 -- What is kept of the entries of a unit, for the contracts of the passes.
-use Rattle.std.specs.Prelude.{ℕ, suc, ◌≤◌, List, [], ◌∷◌, Bool, true, Option, Some, None, is_some, Result, Ok, option_map, map, filter, count_by, sum_by, length}
+use Rattle.std.specs.Prelude.{ℕ, ◌≤◌, List, [], ◌∷◌, Bool, true, Option, Some, None, is_some, Result, Ok, option_map, map, filter, count_by, sum_by, length}
 use Rattle.std.specs.List.{filter_map}
 use Rattle.dwarf_bytes.specs.declared.constants.TheConstants.{DW_AT_ADDR_BASE, DW_AT_CALL_FILE, DW_AT_CALL_LINE, DW_AT_HIGH_PC, DW_AT_LINKAGE_NAME, DW_AT_LOW_PC, DW_AT_NAME, DW_AT_RANGES, DW_AT_RNGLISTS_BASE, DW_AT_STMT_LIST, DW_AT_STR_OFFSETS_BASE}
 use Rattle.dwarf_bytes.specs.Bind.{◌>>=◌}
 use Rattle.dwarf_bytes.specs.Items.{At}
 use Rattle.dwarf_forms.specs.Declarations.{Declaration}
 use Rattle.dwarf_entries.specs.declared.scope.ScopeKind.{ScopeKind}
-use Rattle.dwarf_entries.specs.declared.units.UnitHeader.{UnitHeader}
+use Rattle.dwarf_units.specs.declared.unit_headers.UnitHeader.{UnitHeader}
 use Rattle.dwarf_entries.specs.declared.kept.Keeping.{Keeping}
 use Rattle.dwarf_entries.specs.declared.kept.Keeping.TheVariants as keepings
 use Rattle.dwarf_entries.specs.declared.kept.NamedEntry.{NamedEntry}
 use Rattle.dwarf_entries.specs.declared.kept.ScopeEntry.{ScopeEntry}
 use Rattle.dwarf_entries.specs.declared.kept.RootEntry.{RootEntry}
 use Rattle.dwarf_entries.specs.declared.kept.UnitEntries.{UnitEntries}
-use Rattle.dwarf_entries.specs.Entries.{Die, attribute, below, entries_of}
+use Rattle.dwarf_units.specs.Private.Rising.{RiseWithin}
+use Rattle.dwarf_units.specs.Entries.{Die, attribute, below, entries_of}
 use Rattle.dwarf_entries.specs.Bases.{CompilationUnit}
 use Rattle.dwarf_entries.specs.Names.{next_of}
+use Rattle.dwarf_entries.specs.Private.Packed.{unpacked_entry, unpacked}
 use Rattle.dwarf_entries.specs.Scopes.{kind_of, is_scope, number_of}
 use Rattle.dwarf_entries.specs.declared.ranges.Covering.{Covering as KeptCovering}
 use Rattle.dwarf_entries.specs.Ranges.{Covering}
@@ -92,16 +94,11 @@ kept_entries keeping info header table = entries_of info header table >>= λ die
 
 -- .. by the program
 abbrev pub kept_of : UnitEntries → KeptUnit
-kept_of unit = record { header = unit.header; root = unit.root; entries = unit.entries.items; scopes = unit.scopes.items; insides = unit.insides.items }
+kept_of unit = record { header = unit.header; root = unit.root; entries = map unpacked_entry unit.entries.items; scopes = map unpacked unit.scopes.items; insides = unit.insides.items }
 
 -- how many scopes the units of the program have
 abbrev pub scope_count : List UnitEntries → ℕ
 scope_count units = sum_by (λ unit. length unit.scopes.items) units
-
--- The offsets of entries rise strictly, from a place on and up to an end.
-abbrev pub RiseWithin : ℕ → ℕ → List Die → Type 0
-RiseWithin from end [] = from ≤ end
-RiseWithin from end (die ∷ dies) = (from ≤ die.offset) × RiseWithin (suc die.offset) end dies
 
 -- The units stand one behind another, from a place on, and hold their entries.
 abbrev pub AreInOrder : ℕ → List CompilationUnit → Type 0

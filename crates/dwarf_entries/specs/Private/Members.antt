@@ -4,17 +4,18 @@ use Rattle.std.specs.Option.{option_and_then}
 use Rattle.dwarf_bytes.specs.declared.constants.TheConstants.{DW_AT_LINKAGE_NAME, DW_AT_NAME}
 use Rattle.dwarf_bytes.specs.declared.fault.Cause.{Cause}
 use Rattle.dwarf_bytes.specs.declared.fault.Cause.TheVariants as causes
-use Rattle.dwarf_entries.specs.declared.units.UnitHeader.{UnitHeader}
+use Rattle.dwarf_units.specs.declared.unit_headers.UnitHeader.{UnitHeader}
 use Rattle.dwarf_entries.specs.declared.kept.NamedEntry.{NamedEntry}
 use Rattle.dwarf_entries.specs.declared.kept.UnitEntries.{UnitEntries}
 use Rattle.dwarf_entries.specs.declared.paths.UnitEntry.{UnitEntry}
 use Rattle.dwarf_entries.specs.declared.paths.UnitAttribute.{UnitAttribute}
 use Rattle.dwarf_entries.specs.declared.paths.FirstNames.{FirstNames}
-use Rattle.dwarf_entries.specs.declared.attributes.AttributeValue.{AttributeValue}
+use Rattle.dwarf_units.specs.declared.attributes.AttributeValue.{AttributeValue}
 use Rattle.dwarf_entries.specs.declared.bases.Table.{Table}
 use Rattle.dwarf_entries.specs.declared.bases.Bases.{Bases}
 use Rattle.dwarf_entries.specs.Bases.{CompilationUnit}
 use Rattle.dwarf_entries.specs.Names.{Member, members_of, member_at, first_on}
+use Rattle.dwarf_entries.specs.Private.Packed.{unpacked_entry}
 use Rattle.dwarf_entries.specs.Private.Kept.{named_entry, AreInOrder}
 
 -- the entries of a unit, as far as names go
@@ -27,7 +28,7 @@ named_unit unit = record { header = unit.header; entries = map named_entry unit.
 
 -- .. by the program
 abbrev pub named_of : UnitEntries → NamedUnit
-named_of unit = record { header = unit.header; entries = unit.entries.items }
+named_of unit = record { header = unit.header; entries = map unpacked_entry unit.entries.items }
 
 -- what is kept are the entries of these units, which stand in order
 pub record AreKept (kept : List UnitEntries) (units : List CompilationUnit) : Type 0 where

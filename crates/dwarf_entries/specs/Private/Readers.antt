@@ -8,8 +8,8 @@ use Rattle.dwarf_bytes.specs.Items.{At, items_from}
 use Rattle.dwarf_bytes.specs.Position.{Position}
 use Rattle.dwarf_bytes.specs.Refusals.{Fails}
 use Rattle.dwarf_forms.specs.Declarations.{Declaration}
-use Rattle.dwarf_entries.specs.declared.attributes.Attribute.{Attribute}
-use Rattle.dwarf_entries.specs.declared.entries.EntryHead.{EntryHead}
+use Rattle.dwarf_units.specs.declared.attributes.Attribute.{Attribute}
+use Rattle.dwarf_entries.specs.declared.entries.NodeHead.{NodeHead}
 use Rattle.dwarf_entries.specs.declared.entries.Level.{Level}
 use Rattle.dwarf_entries.specs.declared.entries.Boundary.{Boundary}
 use Rattle.dwarf_entries.specs.declared.entries.Walk.{Walk}
@@ -17,24 +17,20 @@ use Rattle.dwarf_entries.specs.declared.kept.Keeping.{Keeping}
 use Rattle.dwarf_entries.specs.declared.kept.NamedEntry.{NamedEntry}
 use Rattle.dwarf_entries.specs.declared.kept.ScopeEntry.{ScopeEntry}
 use Rattle.dwarf_entries.specs.declared.kept.RootEntry.{RootEntry}
-use Rattle.dwarf_entries.specs.declared.units.UnitHeader.{UnitHeader}
-use Rattle.dwarf_entries.specs.Entries.{Node, Entry, Null, Standing, Die, die_of, depth_after, node_behind, node_at}
+use Rattle.dwarf_units.specs.declared.unit_headers.UnitHeader.{UnitHeader}
+use Rattle.dwarf_units.specs.Entries.{Node, Entry, Null, Standing, Die, die_of, depth_after, node_behind, node_at}
 use Rattle.dwarf_entries.specs.Private.Kept.{keeps, named_entry, scope_entry_of, root_entry, root_in}
-use Rattle.dwarf_entries.specs.Private.Plans.{kept_attributes}
+use Rattle.dwarf_units.specs.Private.Plans.{kept_attributes}
 use Rattle.dwarf_entries.specs.Names.{or_else}
+use Rattle.dwarf_entries.specs.Private.Packed.{unpacked_entry, unpacked}
 use Rattle.dwarf_entries.specs.Scopes.{is_scope}
-
--- What a step left in its place is what is read, and the cursor stands after it, unless memory ran out.
-abbrev pub Fills : {Y : Type 0} → Result (Unit {0}) Cause → Y → (List ℕ → ℕ → Result (Y × ℕ) Cause) → Position → Position → Type 0
-Fills (Ok u) left read old new = (read old.bytes old.place ≡ Ok (left, new.place)) × (new.bytes ≡ old.bytes)
-Fills (Err cause) left read old new = Fails cause (read old.bytes old.place)
 
 -- an entry by its offset and its attributes, where neither its tag nor its depth counts
 abbrev pub die_with : ℕ → List Attribute → Die
 die_with offset attributes = record { offset = offset; depth = 0; tag = 0; attributes = attributes }
 
 -- an entry by what its declaration tells of it and by its attributes, or a null
-abbrev pub node_of : Option EntryHead → List Attribute → Node
+abbrev pub node_of : Option NodeHead → List Attribute → Node
 node_of (Some head) attributes = Entry head.tag head.children attributes
 node_of None attributes = Null
 
@@ -43,13 +39,13 @@ abbrev pub keeps_attributes : Keeping → Bool → ℕ → Bool
 keeps_attributes keeping rooted tag = not rooted || keeps keeping tag
 
 -- What a buffer holds is what is kept of the attributes of an entry; of a null there are none.
-abbrev pub HoldsKept : (ℕ → Bool) → Option EntryHead → List Attribute → List Attribute → Type 0
+abbrev pub HoldsKept : (ℕ → Bool) → Option NodeHead → List Attribute → List Attribute → Type 0
 HoldsKept keep (Some head) attributes all = attributes ≡ kept_attributes (keep head.tag) all
 HoldsKept keep None attributes all = Unit {0}
 
 -- What a step found, with all attributes of which it left some in a buffer, is what is read, and the cursor stands after it, unless
 -- memory ran out.
-abbrev pub ReadsNode : (ℕ → Bool) → Result (Option EntryHead) Cause → List Attribute → (List ℕ → ℕ → Result (Node × ℕ) Cause) → Position → Position → Type 0
+abbrev pub ReadsNode : (ℕ → Bool) → Result (Option NodeHead) Cause → List Attribute → (List ℕ → ℕ → Result (Node × ℕ) Cause) → Position → Position → Type 0
 ReadsNode keep (Ok found) attributes read old new =
     ((all : List Attribute) × (read old.bytes old.place ≡ Ok (node_of found all, new.place)) × HoldsKept keep found attributes all) × (new.bytes ≡ old.bytes)
 ReadsNode keep (Err cause) attributes read old new = Fails cause (read old.bytes old.place)
@@ -76,7 +72,7 @@ walked keeping before = walked_by keeping (depth_after before) (filter_map die_o
 
 -- .. by the program
 abbrev pub walked_of : Walk → Walked
-walked_of w = record { depth = w.depth; root = w.root; entries = w.entries.items; scopes = w.scopes.items; levels = w.levels.items }
+walked_of w = record { depth = w.depth; root = w.root; entries = map unpacked_entry w.entries.items; scopes = map unpacked w.scopes.items; levels = w.levels.items }
 
 -- one more entry
 abbrev pub after_die : Keeping → Walked → Die → Walked

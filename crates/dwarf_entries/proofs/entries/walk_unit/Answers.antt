@@ -3,7 +3,8 @@ use Rattle.std.specs.Prelude.{Ok}
 use Rattle.dwarf_bytes.specs.declared.format.Format.{Format}
 use Rattle.dwarf_bytes.specs.Refusals.{Fails}
 use Rattle.dwarf_bytes.specs.Position.{Position}
-use Rattle.dwarf_entries.specs.Private.Readers.{Fills, walked_of, walked_at}
+use Rattle.dwarf_entries.specs.Private.Readers.{walked_of, walked_at}
+use Rattle.dwarf_units.specs.Private.Plans.{Fills}
 use Rattle.dwarf_entries.proofs.WalkLaws.{walk_item, walk_end, walk_fault, walk_outside, sought_past}
 use Rattle.dwarf_entries.proofs.entries.walk_unit.Goals as goal
 

@@ -3,7 +3,7 @@ use Rattle.std.proofs.lemmas.List.{map-append}
 use Rattle.std.proofs.lemmas.Result.{err_from_is_err_and}
 use Rattle.dwarf_entries.specs.Private.Kept.{kept_of}
 use Rattle.dwarf_entries.proofs.EntriesPass.{entries_none, entries_next, entries_end, entries_table_fault, entries_fault}
-use Rattle.dwarf_entries.proofs.TableLaws.{last_read}
+use Rattle.dwarf_units.proofs.TableLaws.{last_read}
 use Rattle.dwarf_entries.proofs.passes.all_entries.Goals as goal
 
 pub loop-header-init : goal.loop-header-init

@@ -8,9 +8,9 @@ use Rattle.dwarf_entries.specs.Private.Passes.{AreUnits, AreJudged}
 use Rattle.dwarf_entries.proofs.ScopesPass.{JudgedSoFar}
 use Rattle.dwarf_entries.proofs.unit_scopes.Units.unit_scopes.Given as goal
 
-abbrev pub invariant-loop-entry : goal.invariant-loop-entry
-invariant-loop-entry l = record {
-  counted : length l.scopes.items ≡ l.first + l.entry-index;
+abbrev pub invariant-loop-packed : goal.invariant-loop-packed
+invariant-loop-packed l = record {
+  counted : length l.scopes.items ≡ l.first + l.packed-index;
   so_far : (keeping : Keeping) (us : List CompilationUnit) (u : CompilationUnit) (before : List Judged) → AreUnits keeping l.self.units.now l.self.bases.now us → slice_get us l.unit ≡ Some u → AreJudged before l.fn.scopes.items l.fn.left
-      → JudgedSoFar keeping (sections_of l.self.sections.now) us u before l.entry-index l.scopes.items l.left;
+      → JudgedSoFar keeping (sections_of l.self.sections.now) us u before l.packed-index l.scopes.items l.left;
 }

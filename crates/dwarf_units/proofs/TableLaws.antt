@@ -1,0 +1,151 @@
+-- The turns of the loop over the tables of the units.
+use Rattle.std.proofs.Common.{◌≡◌, ℕ, ◌+◌, ◌-◌, ◌<◌, ◌≤◌, ◌⊎◌, inl, inr, List, [], ◌∷◌, ◌++◌, length, drop, get_or, refl, ap, sym, ◌∙◌, subst, arith, drop-cons, add-one}
+use Rattle.std.specs.Prelude.{Option, Some, None, Result, Ok, Err, ◌==◌, map, find, position, option_map, slice_get, sum_by}
+use Rattle.std.proofs.lemmas.Option.{slice_get-map}
+use Rattle.dwarf_bytes.specs.declared.format.Format.{Format}
+use Rattle.dwarf_forms.proofs.Codes.{find-place}
+use Rattle.std.proofs.lemmas.List.Sums.{sum_by-append}
+use Rattle.std.proofs.lemmas.List.{drop_all}
+use Rattle.dwarf_bytes.specs.declared.fault.Section.{Section}
+use Rattle.dwarf_bytes.specs.declared.fault.Section.TheVariants as sections
+use Rattle.dwarf_bytes.specs.declared.fault.LoadFault.{LoadFault}
+use Rattle.dwarf_bytes.specs.Items.{At, each_from, each}
+use Rattle.dwarf_bytes.specs.Refusals.{memory_fault, in_section}
+use Rattle.dwarf_bytes.proofs.EachLaws.{made_front, each-next, each-fault, each-end}
+use Rattle.dwarf_forms.specs.Declarations.{Declaration}
+use Rattle.dwarf_bytes.specs.Bind.{◌>>=◌}
+use Rattle.dwarf_forms.specs.Tables.{table_at, declarations_of}
+use Rattle.dwarf_forms.proofs.TableSpelling.{table_spelled, table_read}
+use Rattle.dwarf_units.specs.declared.unit_headers.UnitHeader.{UnitHeader}
+use Rattle.dwarf_units.specs.declared.tables.JudgedTable.{JudgedTable}
+use Rattle.dwarf_units.specs.Private.Plans.{Planned, plan_of, Table}
+use Rattle.dwarf_units.specs.Private.Tables.{IsJudged, IsLast}
+use Rattle.dwarf_units.specs.Units.{declarations_limit, tables_of}
+
+abbrev pub table_for : List ℕ → List (List Declaration) → UnitHeader → Result (List Declaration) At
+table_for section before header = declarations_of (declarations_limit - sum_by length before) section header.abbreviations
+
+-- the tables of the units before the index, of which there are so many declarations left
+pub record Judged (section : List ℕ) (units : List UnitHeader) (index left : ℕ) : Type 0 where
+  pub made : List (List Declaration)
+  pub counted : left + sum_by length made ≡ declarations_limit
+  pub read : made_front made (each_from (table_for section) made (drop index units)) ≡ each_from (table_for section) [] units
+
+pub judged_none : (section : List ℕ) (units : List UnitHeader) → Judged section units 0 declarations_limit
+judged_none section units = record { made = []; counted = refl; read = same (each_from (table_for section) [] units) }
+  where
+    same : (r : Result (List (List Declaration)) At) → made_front [] r ≡ r
+    same (Ok x) = refl
+    same (Err e) = refl
+
+pub in_section_ok : {X : Type 0} (section : Section) (r : Result X At) (x : X) → in_section section r ≡ Ok x → r ≡ Ok x
+in_section_ok section (Ok y) x h = cc
+in_section_ok section (Err e) x h = cc
+
+pub judged_next : (section : List ℕ) (units : List UnitHeader) (index left after : ℕ) (d : UnitHeader) (table : List Declaration) → Judged section units index left → index < length units →
+    in_section sections.DebugAbbrev (declarations_of left section (get_or units index d).abbreviations) ≡ Ok table → after + length table ≡ left → Judged section units (index + 1) after
+judged_next section units index left after d table so_far within found counted =
+    let unit = get_or units index d in
+    let room : left ≡ declarations_limit - sum_by length so_far.made = omega (arith, so_far.counted) in
+    let here : table_for section so_far.made unit ≡ Ok table =
+    ap (λ (k : ℕ). declarations_of k section unit.abbreviations) (sym room) ∙ in_section_ok sections.DebugAbbrev (declarations_of left section unit.abbreviations) table found in
+    let rest : drop index units ≡ unit ∷ drop (index + 1) units = rw (add-one, drop-cons units index d within) refl in
+    let sum : sum_by length (so_far.made ++ table ∷ []) ≡ sum_by length so_far.made + length table = sum_by-append length so_far.made (table ∷ []) ∙ omega arith in
+    record {
+      made = so_far.made ++ table ∷ [];
+      counted = omega (arith, so_far.counted, counted, sum);
+      read = sym (each-next (table_for section) so_far.made unit (drop (index + 1) units) table here)
+          ∙ (ap (λ (us : List UnitHeader). made_front so_far.made (each_from (table_for section) so_far.made us)) (sym rest) ∙ so_far.read);
+    }
+
+pub judged_end : (section : List ℕ) (units : List UnitHeader) (index left : ℕ) → Judged section units index left → length units ≤ index → (tables : List (List Declaration)) × (in_section sections.DebugAbbrev (tables_of section units) ≡ Ok tables)
+unfolding tables_of
+judged_end section units index left so_far past =
+    let none : drop index units ≡ [] = drop_all index units past in
+    let all : each_from (table_for section) [] units ≡ Ok so_far.made =
+    sym so_far.read ∙ (ap (λ (us : List UnitHeader). made_front so_far.made (each_from (table_for section) so_far.made us)) none ∙ each-end (table_for section) so_far.made) in
+    (so_far.made, rw all refl)
+
+pub judged_fault : (section : List ℕ) (units : List UnitHeader) (index left : ℕ) (d : UnitHeader) (fault : LoadFault) → Judged section units index left → index < length units →
+    (fault ≡ memory_fault) ⊎ (in_section sections.DebugAbbrev (declarations_of left section (get_or units index d).abbreviations) ≡ Err fault) → (fault ≡ memory_fault) ⊎ (in_section sections.DebugAbbrev (tables_of section units) ≡ Err fault)
+unfolding tables_of
+judged_fault section units index left d fault so_far within (inl memory) = inl memory
+judged_fault section units index left d fault so_far within (inr bad) = by_read (declarations_of left section (get_or units index d).abbreviations) refl bad
+  where
+    same_err : {X : Type 0} (x y : LoadFault) → (let f : LoadFault → Result X LoadFault = λ z. Err z in f x ≡ f y) → x ≡ y
+    same_err x y h = cc
+
+    by_read : (r : Result (List Declaration) At) → declarations_of left section (get_or units index d).abbreviations ≡ r → in_section sections.DebugAbbrev r ≡ Err fault → (fault ≡ memory_fault) ⊎ (in_section sections.DebugAbbrev (each (table_for section) units) ≡ Err fault)
+    by_read (Ok x) read h = cc
+    by_read (Err e) read h =
+        let room : left ≡ declarations_limit - sum_by length so_far.made = omega (arith, so_far.counted) in
+        let here : table_for section so_far.made (get_or units index d) ≡ Err e = ap (λ (k : ℕ). declarations_of k section (get_or units index d).abbreviations) (sym room) ∙ read in
+        let rest : drop index units ≡ get_or units index d ∷ drop (index + 1) units = rw (add-one, drop-cons units index d within) refl in
+        let all : each_from (table_for section) [] units ≡ Err e =
+        sym so_far.read ∙ (ap (λ (us : List UnitHeader). made_front so_far.made (each_from (table_for section) so_far.made us)) rest ∙ each-fault (table_for section) so_far.made (get_or units index d) (drop (index + 1) units) e here) in
+        inr (rw all (ap (λ (f : LoadFault). Err f) (same_err {X = List Declaration} (record { section = sections.DebugAbbrev; cause = e.0; at = e.1 }) fault h)))
+
+-- a table that was read is read again where there is room for it
+pub table_again : (room other : ℕ) (section : List ℕ) (offset : ℕ) (table : List Declaration) → declarations_of room section offset ≡ Ok table → length table ≤ other → declarations_of other section offset ≡ Ok table
+unfolding table_at
+table_again room other section offset table read few = by_read (table_at room section offset) refl read
+  where
+    same_table : {x y : List Declaration} → (let f : List Declaration → Result (List Declaration) At = λ z. Ok z in f x ≡ f y) → x ≡ y
+    same_table h = cc
+
+    by_read : (r : Result (List Declaration × ℕ) At) → table_at room section offset ≡ r → (r >>= λ found. Ok found.0) ≡ Ok table → declarations_of other section offset ≡ Ok table
+    by_read (Err e) is h = cc
+    by_read (Ok found) is h =
+        let spelled = table_spelled room section offset found.0 found.1 is in
+        let same = same_table h in
+        let again : table_at other section offset ≡ Ok (found.0, found.1) = table_read other section offset found.0 found.1 spelled.0 spelled.1 (subst (λ (t : List Declaration). length t ≤ other) (sym same) few) in
+        ap (λ (r : Result (List Declaration × ℕ) At). r >>= λ found. (let f : List Declaration → Result (List Declaration) At = λ z. Ok z in f found.0)) again ∙ ap (λ (t : List Declaration). Ok t) same
+
+-- the last table stands where another unit names it
+pub last_again : (section : List ℕ) (last : Option Table) (table : Table) (offset left : ℕ) → IsLast section last → last ≡ Some table → table.offset ≡ offset → length table.declarations ≤ left →
+    in_section sections.DebugAbbrev (declarations_of left section offset) ≡ Ok table.declarations
+last_again section None table offset left known is same few = cc
+last_again section (Some last) table offset left known is same few =
+    let kept = subst (λ (t : Table). (room : ℕ) × (declarations_of room section t.offset ≡ Ok t.declarations)) (same_some is) known in
+    ap (λ (r : Result (List Declaration) At). in_section sections.DebugAbbrev r) (table_again kept.0 left section offset table.declarations (subst (λ (k : ℕ). declarations_of kept.0 section k ≡ Ok table.declarations) same kept.1) few)
+  where
+    same_some : {x y : Table} → (let f : Table → Option Table = λ t. Some t in f x ≡ f y) → x ≡ y
+    same_some h = cc
+
+-- a table that was read is the last one
+pub last_read : (section : List ℕ) (room : ℕ) (table : Table) (offset : ℕ) → table.offset ≡ offset → in_section sections.DebugAbbrev (declarations_of room section offset) ≡ Ok table.declarations → IsLast section (Some table)
+last_read section room table offset same read = (room, in_section_ok sections.DebugAbbrev (declarations_of room section table.offset) table.declarations (subst (λ (k : ℕ). in_section sections.DebugAbbrev (declarations_of room section k) ≡ Ok table.declarations) (sym same) read))
+
+-- the table that was judged last stands where another unit names it
+pub judged_again : (section : List ℕ) (last : Option JudgedTable) (judged : JudgedTable) (offset left : ℕ) → IsJudged section last → last ≡ Some judged → judged.offset ≡ offset → judged.len ≤ left →
+    (table : List Declaration) × (in_section sections.DebugAbbrev (declarations_of left section offset) ≡ Ok table) × ((left - judged.len) + length table ≡ left) × (judged ≡ record { offset = offset; len = length table })
+judged_again section None judged offset left known is same few = cc
+judged_again section (Some last) judged offset left known is same few =
+    let kept = subst (λ (t : JudgedTable). (room : ℕ) × (table : List Declaration) × (declarations_of room section t.offset ≡ Ok table) × (length table ≡ t.len)) (same_some is) known in (
+      kept.1,
+      ap (λ (r : Result (List Declaration) At). in_section sections.DebugAbbrev r) (table_again kept.0 left section offset kept.1 (subst (λ (k : ℕ). declarations_of kept.0 section k ≡ Ok kept.1) same kept.2) (omega (arith, kept.3, few))),
+      omega (arith, kept.3, few),
+      whole judged.offset offset judged.len (length kept.1) same (sym kept.3),
+    )
+  where
+    same_some : {x y : JudgedTable} → (let f : JudgedTable → Option JudgedTable = λ t. Some t in f x ≡ f y) → x ≡ y
+    same_some h = cc
+
+    whole : (a b m n : ℕ) → a ≡ b → m ≡ n → (let t : JudgedTable = record { offset = a; len = m } in t) ≡ record { offset = b; len = n }
+    whole a b m n h1 h2 = cc
+
+-- a table that was judged is the last one
+pub judged_read : (section : List ℕ) (room : ℕ) (table : List Declaration) (judged : JudgedTable) (offset : ℕ) → in_section sections.DebugAbbrev (declarations_of room section offset) ≡ Ok table → judged ≡ record { offset = offset; len = length table } → IsJudged section (Some judged)
+judged_read section room table judged offset read is = rw is (room, table, in_section_ok sections.DebugAbbrev (declarations_of room section offset) table read, refl)
+
+-- the declaration of a code, and how its attributes are read, by its place
+pub planned_at : (code : ℕ) (format : Format) (table : List Declaration) (plans : List Planned) (place : ℕ) (declaration : Declaration) (plan : Planned) → position (λ d. d.code == code) table ≡ Some place →
+    plans ≡ map (λ d. plan_of format d.attributes) table → slice_get table place ≡ Some declaration → slice_get plans place ≡ Some plan →
+    (find (λ d. d.code == code) table ≡ Some declaration) × (plan ≡ plan_of format declaration.attributes)
+planned_at code format table plans place declaration plan at are here planned = (
+  find-place (λ (d : Declaration). d.code == code) table (Some place) at ∙ here,
+  same_some (sym planned ∙ (ap (λ (ps : List Planned). slice_get ps place) are ∙ (slice_get-map (λ (d : Declaration). plan_of format d.attributes) table place ∙ ap (λ (d : Option Declaration). option_map (λ d. plan_of format d.attributes) d) here))),
+)
+  where
+    same_some : {x y : Planned} → (let f : Planned → Option Planned = λ t. Some t in f x ≡ f y) → x ≡ y
+    same_some h = cc

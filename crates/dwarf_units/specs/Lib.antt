@@ -1,0 +1,4 @@
+pub mod Attributes
+pub mod Units
+pub mod Entries
+pub mod Private

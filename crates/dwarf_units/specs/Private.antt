@@ -1,0 +1,4 @@
+pub mod Plans
+pub mod Heads
+pub mod Rising
+pub mod Tables

@@ -1,0 +1,117 @@
+-- How the attributes of a declaration are read where only some are kept: runs of values of a known length are passed over.
+use Rattle.std.specs.Prelude.{◌≡◌, ℕ, ◌+◌, List, [], ◌∷◌, ◌++◌, Bool, true, false, Option, Some, None, Result, Ok, Err, nat_le, ◌&&◌, if◌then◌else◌, filter}
+use Rattle.std.specs.Option.{option_map_or}
+use Rattle.dwarf_bytes.specs.declared.fault.Cause.{Cause}
+use Rattle.dwarf_bytes.specs.declared.format.Format.{Format}
+use Rattle.dwarf_bytes.specs.declared.form.ValueLayout.{ValueLayout}
+use Rattle.dwarf_bytes.specs.declared.form.ValueLayout.TheVariants.{Fixed, Offset, Present, Signed, Unsigned, Text, Sixteen, Block, LongBlock}
+use Rattle.dwarf_bytes.specs.declared.form.Form.TheVariants.{Direct, ImplicitConst, Indirect}
+use Rattle.dwarf_bytes.specs.Bind.{◌>>=◌}
+use Rattle.dwarf_bytes.specs.Contents.{Signed as SignedContent}
+use Rattle.dwarf_bytes.specs.Forms.{form_of, byte_len}
+use Rattle.dwarf_bytes.specs.Items.{reading}
+use Rattle.dwarf_bytes.specs.Numbers.{block_at, offset_len}
+use Rattle.dwarf_bytes.specs.Position.{Position}
+use Rattle.dwarf_bytes.specs.Refusals.{Fails}
+use Rattle.dwarf_forms.specs.declared.attribute.AttributeSpecification.{AttributeSpecification}
+use Rattle.dwarf_forms.specs.Declarations.{Declaration}
+use Rattle.dwarf_units.specs.declared.attributes.Attribute.{Attribute}
+use Rattle.dwarf_units.specs.declared.plans.AttributeStep.{AttributeStep}
+use Rattle.dwarf_units.specs.declared.plans.AttributeStep.TheVariants.{Skip, Pass, Keep}
+use Rattle.dwarf_units.specs.Attributes.{is_used, accepts, is_negative_count}
+use Rattle.dwarf_units.specs.Entries.{attribute_at, attributes_at}
+
+-- the attributes that are kept: those that are used, or none
+abbrev pub kept_attributes : Bool → List Attribute → List Attribute
+kept_attributes keep attributes = if keep then filter (λ a. is_used a.name) attributes else []
+
+-- the attributes of a declaration from a place on, of which these are kept, and the place after them all
+abbrev pub kept_attributes_at : Bool → Format → List AttributeSpecification → List ℕ → ℕ → Result (List Attribute × ℕ) Cause
+kept_attributes_at keep format declared bytes at = attributes_at format declared bytes at >>= λ all. Ok (kept_attributes keep all.0, all.1)
+
+-- the bytes of a value in a layout, where all values have as many and any bytes are a value
+abbrev pub layout_len : Format → ValueLayout → Option ℕ
+layout_len format (Fixed width) = Some (byte_len width)
+layout_len format Offset = Some (offset_len format)
+layout_len format Present = Some 0
+layout_len format Signed = None
+layout_len format Unsigned = None
+layout_len format Text = None
+layout_len format Sixteen = Some 16
+layout_len format (Block width) = None
+layout_len format LongBlock = None
+
+-- .. of one that stands in the declaration and is not refused
+abbrev pub constant_len : AttributeSpecification → Option ℕ
+constant_len s = elim s.constant [
+  | None ↦ None
+  | Some c ↦ if is_negative_count s.name (SignedContent c) then None else Some 0
+]
+
+-- .. of an attribute that may have its form
+unfoldable pub fixed_len : Format → AttributeSpecification → Option ℕ
+fixed_len format s = if accepts s.name s.form then (elim (form_of s.form) [
+  | None ↦ None
+  | Some (Direct layout) ↦ layout_len format layout
+  | Some ImplicitConst ↦ constant_len s
+  | Some Indirect ↦ None
+]) else None
+
+-- an attribute that is not kept
+abbrev pub pass_of : Format → AttributeSpecification → AttributeStep
+pass_of format s = option_map_or (λ n. Skip n) (fixed_len format s) (Pass s)
+
+abbrev pub step_of : Bool → Format → AttributeSpecification → AttributeStep
+step_of keep format s = if keep && is_used s.name then Keep s else pass_of format s
+
+-- the most bytes of one step
+abbrev pub skip_limit : ℕ
+skip_limit = 65535
+
+-- one step in place of two, where both pass over bytes
+abbrev pub joined : AttributeStep → AttributeStep → Option AttributeStep
+joined (Skip n) (Skip m) = if nat_le (n + m) skip_limit then Some (Skip (n + m)) else None
+joined (Skip n) (Pass t) = None
+joined (Skip n) (Keep t) = None
+joined (Pass s) next = None
+joined (Keep s) next = None
+
+-- a step in front of others
+abbrev pub step_before : AttributeStep → List AttributeStep → List AttributeStep
+step_before step [] = step ∷ []
+step_before step (next ∷ rest) = option_map_or (λ both. both ∷ rest) (joined step next) (step ∷ next ∷ rest)
+
+-- the steps of a declaration
+unfoldable pub steps_of : Bool → Format → List AttributeSpecification → List AttributeStep
+steps_of keep format [] = []
+steps_of keep format (s ∷ ss) = step_before (step_of keep format s) (steps_of keep format ss)
+
+-- what a step keeps, and the place after it
+abbrev pub step_at : Format → AttributeStep → List ℕ → ℕ → Result (List Attribute × ℕ) Cause
+step_at format (Skip n) bytes at = reading (block_at n bytes at) >>= λ block. Ok ([], block.1)
+step_at format (Pass s) bytes at = attribute_at format s bytes at >>= λ a. Ok ([], a.1)
+step_at format (Keep s) bytes at = attribute_at format s bytes at >>= λ a. Ok (a.0 ∷ [], a.1)
+
+-- what is kept already, and what a read keeps behind it
+abbrev pub in_front : {X : Type 0} → List X → Result (List X × ℕ) Cause → Result (List X × ℕ) Cause
+in_front front (Ok rest) = Ok (front ++ rest.0, rest.1)
+in_front front (Err cause) = Err cause
+
+-- What a step left in its place is what is read, and the cursor stands after it, unless memory ran out.
+abbrev pub Fills : {Y : Type 0} → Result (Unit {0}) Cause → Y → (List ℕ → ℕ → Result (Y × ℕ) Cause) → Position → Position → Type 0
+Fills (Ok u) left read old new = (read old.bytes old.place ≡ Ok (left, new.place)) × (new.bytes ≡ old.bytes)
+Fills (Err cause) left read old new = Fails cause (read old.bytes old.place)
+
+-- the steps of a declaration, where its attributes are kept and where they are not
+pub record Planned : Type 0 where
+  pub kept : List AttributeStep
+  pub passed : List AttributeStep
+
+abbrev pub plan_of : Format → List AttributeSpecification → Planned
+plan_of format declared = record { kept = steps_of true format declared; passed = steps_of false format declared }
+
+-- a table of declarations that stands at an offset, for units of a format
+pub record Table : Type 0 where
+  pub offset : ℕ
+  pub format : Format
+  pub declarations : List Declaration

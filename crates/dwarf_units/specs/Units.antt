@@ -1,0 +1,70 @@
+-- Unit headers (DWARF 5, 7.5.1) and the abbreviation tables of the units.
+use Rattle.std.specs.Prelude.{ℕ, ◌+◌, ◌-◌, List, [], length, take, Bool, true, false, Option, Some, None, Result, Ok, nat_lt, nat_le, ◌==◌, not, if◌then◌else◌, filter, sum_by, ok_or}
+use Rattle.dwarf_bytes.specs.declared.constants.TheConstants.{DW_UT_COMPILE, DW_UT_TYPE, DW_UT_PARTIAL}
+use Rattle.dwarf_bytes.specs.declared.fault.Cause.{Cause}
+use Rattle.dwarf_bytes.specs.declared.fault.Cause.TheVariants as causes
+use Rattle.dwarf_bytes.specs.declared.format.Format.{Format}
+use Rattle.dwarf_bytes.specs.Bind.{◌>>=◌}
+use Rattle.dwarf_bytes.specs.Items.{Next, Item, End, At, reading, refuse_if, items_from, each}
+use Rattle.dwarf_bytes.specs.Numbers.{u8_at, u16_at, initial_length_at, offset_at}
+use Rattle.dwarf_forms.specs.Declarations.{Declaration}
+use Rattle.dwarf_forms.specs.Tables.{declarations_of}
+use Rattle.dwarf_units.specs.declared.unit_headers.UnitType.{UnitType}
+use Rattle.dwarf_units.specs.declared.unit_headers.UnitType.TheVariants as types
+use Rattle.dwarf_units.specs.declared.unit_headers.UnitHeader.{UnitHeader}
+
+-- the types of units (7.5.1, table 7.2); other units are refused
+abbrev pub unit_type_of : ℕ → Option UnitType
+unit_type_of number =
+    if number == DW_UT_COMPILE then Some types.Compile else (if number == DW_UT_TYPE then Some types.Type else (if number == DW_UT_PARTIAL then Some types.Partial else None))
+
+-- whether a unit is read
+abbrev pub is_read_type : UnitType → Bool
+is_read_type types.Compile = true
+is_read_type types.Type = false
+is_read_type types.Partial = true
+
+abbrev pub is_read : UnitHeader → Bool
+is_read header = is_read_type header.unit_type
+
+-- the header behind a unit's length, where the bytes end with the unit
+abbrev pub header_in : ℕ → Format → List ℕ → ℕ → Result UnitHeader Cause
+header_in start format unit at = do
+  version ← reading (u16_at unit at)
+  _ ← refuse_if (not (version.0 == 5)) causes.Version
+  number ← reading (u8_at unit version.1)
+  unit_type ← ok_or (unit_type_of number.0) causes.UnitType
+  if not (is_read_type unit_type) then Ok (record { start = start; format = format; unit_type = unit_type; abbreviations = 0; first = length unit; end = length unit }) else do
+    size ← reading (u8_at unit number.1)
+    _ ← refuse_if (not (size.0 == 8)) causes.AddressSize
+    abbreviations ← reading (offset_at format unit size.1)
+    Ok (record { start = start; format = format; unit_type = unit_type; abbreviations = abbreviations.0; first = abbreviations.1; end = length unit })
+
+-- the header of the unit at a place of .debug_info
+unfoldable pub unit_at : List ℕ → ℕ → Result UnitHeader Cause
+unit_at info at = do
+  len ← reading (initial_length_at info at)
+  let end = len.1 + len.0.1
+  _ ← refuse_if (nat_lt (length info) end) causes.Short
+  header_in at len.0.0 (take end info) len.1
+
+-- the units stand one after another up to the section's end
+abbrev pub header_at : List ℕ → List UnitHeader → ℕ → Result (Next UnitHeader) Cause
+header_at info before at =
+    if nat_le (length info) at then Ok (End at) else (unit_at info at >>= λ header. Ok (Item header header.end))
+
+-- the headers of all units
+unfoldable pub headers_of : List ℕ → Result (List UnitHeader) At
+headers_of info = items_from (length info) (header_at info) [] 0 >>= λ all. Ok all.0
+
+-- the units that are read
+unfoldable pub units_of : List ℕ → Result (List UnitHeader) At
+units_of info = headers_of info >>= λ all. Ok (filter is_read all)
+
+-- the declarations that may be read for all units of an object
+abbrev pub declarations_limit : ℕ
+declarations_limit = 4194304
+
+-- the table of each unit, where the tables before it have taken their part of the limit
+unfoldable pub tables_of : List ℕ → List UnitHeader → Result (List (List Declaration)) At
+tables_of section headers = each (λ before header. declarations_of (declarations_limit - sum_by length before) section header.abbreviations) headers

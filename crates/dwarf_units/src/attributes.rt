@@ -1,0 +1,223 @@
+//! The attributes of entries (DWARF 5, 2.2 and 7.5.3 to 7.5.6).
+
+ghost use Rattle.std.specs.Prelude.{◌≡◌};
+ghost use Rattle.dwarf_bytes.specs.Contents.{content_of};
+ghost use Rattle.dwarf_bytes.specs.Refusals.{ReadsField};
+ghost use Rattle.dwarf_bytes.specs.Forms.{form_of};
+ghost use Rattle.dwarf_units.specs.Attributes.{is_used, accepts, is_negative_count, number_of, is_among, string_forms, address_forms, count_forms, reference_forms};
+ghost use Rattle.dwarf_forms.specs.Values.{value_of as form_value, value_at};
+ghost use Rattle.dwarf_units.specs.Entries.{is_direct, form_at, reading_value, attribute_at, value_of};
+
+use dwarf_bytes::constants::*;
+use dwarf_bytes::{Cause, Content, Cursor, Form, Format};
+use dwarf_forms::{AttributeSpecification, Value, ValueFault, value};
+
+/// The value of an attribute: its form behind DW_FORM_indirect, and its number. The number of a text
+/// that stands in the entry is its offset in the section.
+#[derive(Clone, Copy)]
+pub struct AttributeValue {
+    pub form: u64,
+    pub number: u64,
+}
+
+/// An attribute of an entry.
+#[derive(Clone, Copy)]
+pub struct Attribute {
+    pub name: u64,
+    pub value: AttributeValue,
+}
+
+/// The value of the first attribute of a name among these.
+pub fn value_of(attributes: &[Attribute], name: u64) -> Option<AttributeValue>
+    ensures { result ≡ value_of attributes.now name }
+{
+    attributes
+        .iter()
+        .find(|attribute| attribute.name == name)
+        .map(|attribute| attribute.value)
+}
+
+/// Whether an attribute is used.
+pub(crate) fn is_used(name: u64) -> bool
+    ensures { result ≡ is_used name }
+{
+    matches!(
+        name,
+        DW_AT_NAME
+            | DW_AT_STMT_LIST
+            | DW_AT_LOW_PC
+            | DW_AT_HIGH_PC
+            | DW_AT_ABSTRACT_ORIGIN
+            | DW_AT_SPECIFICATION
+            | DW_AT_RANGES
+            | DW_AT_CALL_FILE
+            | DW_AT_CALL_LINE
+            | DW_AT_LINKAGE_NAME
+            | DW_AT_STR_OFFSETS_BASE
+            | DW_AT_ADDR_BASE
+            | DW_AT_RNGLISTS_BASE
+    )
+}
+
+/// Whether an attribute may have a form; those that are not used may have any.
+pub(crate) fn accepts(name: u64, form: u64) -> bool
+    ensures { result ≡ accepts name form }
+{
+    match name {
+        DW_AT_NAME | DW_AT_LINKAGE_NAME => is_string(form),
+        DW_AT_LOW_PC => is_address(form),
+        DW_AT_HIGH_PC => is_address(form) || is_count(form),
+        DW_AT_CALL_FILE | DW_AT_CALL_LINE => is_count(form),
+        DW_AT_ABSTRACT_ORIGIN | DW_AT_SPECIFICATION => is_reference(form),
+        DW_AT_RANGES => matches!(form, DW_FORM_SEC_OFFSET | DW_FORM_RNGLISTX),
+        DW_AT_STMT_LIST | DW_AT_STR_OFFSETS_BASE | DW_AT_ADDR_BASE | DW_AT_RNGLISTS_BASE => {
+            form == DW_FORM_SEC_OFFSET
+        }
+        _ => true,
+    }
+}
+
+fn is_string(form: u64) -> bool
+    ensures { result ≡ is_among string_forms form }
+{
+    matches!(
+        form,
+        DW_FORM_STRING
+            | DW_FORM_STRP
+            | DW_FORM_LINE_STRP
+            | DW_FORM_STRX
+            | DW_FORM_STRX1
+            | DW_FORM_STRX2
+            | DW_FORM_STRX3
+            | DW_FORM_STRX4
+    )
+}
+
+pub fn is_address(form: u64) -> bool
+    ensures { result ≡ is_among address_forms form }
+{
+    matches!(
+        form,
+        DW_FORM_ADDR
+            | DW_FORM_ADDRX
+            | DW_FORM_ADDRX1
+            | DW_FORM_ADDRX2
+            | DW_FORM_ADDRX3
+            | DW_FORM_ADDRX4
+    )
+}
+
+fn is_count(form: u64) -> bool
+    ensures { result ≡ is_among count_forms form }
+{
+    matches!(
+        form,
+        DW_FORM_DATA1
+            | DW_FORM_DATA2
+            | DW_FORM_DATA4
+            | DW_FORM_DATA8
+            | DW_FORM_SDATA
+            | DW_FORM_UDATA
+            | DW_FORM_IMPLICIT_CONST
+    )
+}
+
+fn is_reference(form: u64) -> bool
+    ensures { result ≡ is_among reference_forms form }
+{
+    matches!(
+        form,
+        DW_FORM_REF_ADDR
+            | DW_FORM_REF1
+            | DW_FORM_REF2
+            | DW_FORM_REF4
+            | DW_FORM_REF8
+            | DW_FORM_REF_UDATA
+            | DW_FORM_REF_SIG8
+    )
+}
+
+/// Whether the value of a used attribute is a count below 0.
+pub(crate) fn is_negative_count(name: u64, content: Content<'_>) -> bool
+    ensures { result ≡ is_negative_count name (content_of content.entry) }
+{
+    match content {
+        Content::Signed(number) => {
+            matches!(name, DW_AT_HIGH_PC | DW_AT_CALL_FILE | DW_AT_CALL_LINE) && number < 0
+        }
+        _ => false,
+    }
+}
+
+/// The number that a content is, where its bytes end at a place; of a text that stands there, its
+/// place.
+fn number_of(content: Content<'_>, after: usize) -> u64
+    ensures { result ≡ number_of (content_of content.entry) after }
+{
+    match content {
+        Content::Number(number) => number,
+        Content::Signed(number) => u64::try_from(number).unwrap_or(0),
+        Content::Bytes(text) => after.saturating_sub(1).saturating_sub(text.len()) as u64,
+    }
+}
+
+/// The form of a value, which for an indirect one stands before it.
+fn form(form: u64, cursor: &mut Cursor) -> Result<u64, Cause>
+    ensures { ReadsField (λ form. form) result (form_at form) cursor.old cursor.new }
+{
+    if form != DW_FORM_INDIRECT {
+        return Ok(form);
+    }
+    let inner = cursor.uleb()?;
+    if !is_direct(inner) {
+        return Err(Cause::Form);
+    }
+    Ok(inner)
+}
+
+fn is_direct(form: u64) -> bool
+    ensures { result ≡ is_direct (form_of form) }
+{
+    matches!(Form::of(form), Some(Form::Direct(_)))
+}
+
+/// The attribute at the cursor, as its declaration names it.
+pub(crate) fn read_attribute(
+    format: Format,
+    specification: &AttributeSpecification,
+    cursor: &mut Cursor,
+) -> Result<Attribute, Cause>
+    ensures { ReadsField (λ a. a) result
+        (attribute_at format specification.now) cursor.old cursor.new }
+{
+    let form = form(specification.form, cursor)?;
+    if !accepts(specification.name, form) {
+        return Err(Cause::AttrForm);
+    }
+    let value = read_value(form, format, specification.constant, cursor)?;
+    if is_negative_count(specification.name, value.content) {
+        return Err(Cause::AttrForm);
+    }
+    let number = number_of(value.content, cursor.place());
+    Ok(Attribute {
+        name: specification.name,
+        value: AttributeValue { form, number },
+    })
+}
+
+/// The value at the cursor in a form.
+fn read_value<'a>(
+    form: u64,
+    format: Format,
+    constant: Option<i64>,
+    cursor: &mut Cursor<'a>,
+) -> Result<Value<'a>, Cause>
+    ensures { ReadsField form_value result (λ bytes at. reading_value
+        (value_at form format constant bytes at)) cursor.old cursor.new }
+{
+    match value(form, format, constant, cursor) {
+        Ok(value) => Ok(value),
+        Err(ValueFault::Form) => Err(Cause::Form),
+        Err(ValueFault::Read(fault)) => Err(Cause::from(fault)),
+    }
+}

@@ -1,0 +1,99 @@
+//! What stands at a place of a unit (DWARF 5, 2.3, 7.5.2 and 7.5.3).
+
+ghost use Rattle.std.specs.Prelude.{◌≡◌, ◌≤◌, IsSome, IfOk};
+ghost use Rattle.dwarf_bytes.specs.Refusals.{ReadsField};
+ghost use Rattle.dwarf_units.specs.Entries.{depth_limit};
+ghost use Rattle.dwarf_units.specs.Private.Heads.{head_at};
+ghost use Rattle.dwarf_units.specs.Private.Plans.{kept_attributes_at, Fills};
+
+use crate::attributes::Attribute;
+use crate::plans::{Plan, read_steps};
+use crate::tables::UnitTable;
+use dwarf_bytes::{Cause, Cursor, Format};
+use dwarf_forms::Decl;
+use std::marker::Model;
+
+/// The greatest depth of an entry.
+const DEPTH_LIMIT: u16 = 256;
+
+/// The declaration of an entry, in a unit of a format, and how its attributes are read.
+#[derive(Drop)]
+pub struct EntryHead<'a> {
+    format: Format,
+    declaration: &'a Decl,
+    plan: &'a Plan,
+}
+
+impl<'a> Model for EntryHead<'a> {
+    ghost use Rattle.std.specs.Prelude.{◌≡◌};
+    ghost use Rattle.dwarf_units.specs.Entries.{depth_limit};
+    ghost use Rattle.dwarf_units.specs.Private.Heads.{Head};
+    ghost use Rattle.dwarf_units.specs.Private.Plans.{plan_of};
+
+    ghost Value = { Head };
+
+    ghost view = { λ h. record { format = h.format; declaration = h.declaration.now } };
+
+    ghost invariant = { λ h. h.plan.now ≡ plan_of h.format h.declaration.now.attributes };
+}
+
+impl UnitTable {
+    /// The head of the entry at the cursor, at a depth, or none for a null. `rooted` is whether the
+    /// root of the unit stands before it.
+    pub fn head(
+        &self,
+        depth: u16,
+        rooted: bool,
+        cursor: &mut Cursor,
+    ) -> Result<Option<EntryHead<'_>>, Cause>
+        ensures reads { ReadsField (λ head. head) result (head_at self.now depth rooted)
+            cursor.old cursor.new }
+        ensures limit { IfOk result (λ head. IsSome head → depth ≤ depth_limit) }
+    {
+        let code = cursor.uleb()?;
+        if code == 0 {
+            return Ok(None);
+        }
+        let (declaration, plan) = self.find(code).ok_or(Cause::AbbrevCode)?;
+        if depth == 0 && rooted {
+            return Err(Cause::TwoRoots);
+        }
+        if depth > DEPTH_LIMIT {
+            return Err(Cause::TooDeep);
+        }
+        Ok(Some(EntryHead {
+            format: self.format(),
+            declaration,
+            plan,
+        }))
+    }
+}
+
+impl EntryHead<'_> {
+    pub fn tag(&self) -> u64
+        ensures { result ≡ self.now.declaration.tag }
+    {
+        self.declaration.tag()
+    }
+
+    /// Whether its children follow it.
+    pub fn children(&self) -> bool
+        ensures { result ≡ self.now.declaration.children }
+    {
+        self.declaration.children()
+    }
+
+    /// Reads its attributes, which stand behind it: the used ones into `found`, in place of what is
+    /// there, where they are kept, or none.
+    pub fn read_attributes(
+        &self,
+        keep: bool,
+        cursor: &mut Cursor,
+        found: &mut Vec<Attribute>,
+    ) -> Result<(), Cause>
+        ensures { Fills result found.new.items (kept_attributes_at keep self.now.format
+            self.now.declaration.attributes) cursor.old cursor.new }
+    {
+        read_steps(self.format, self.plan.steps(keep), cursor, found)
+    }
+}

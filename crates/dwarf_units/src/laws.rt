@@ -1,0 +1,24 @@
+//! What is true of the entries of all units.
+
+ghost use Rattle.std.specs.Prelude.{◌≡◌, ℕ, List, [], Ok, map};
+ghost use Rattle.std.specs.List.Sorted.{IsStrictlyIncreasing};
+ghost use Rattle.dwarf_bytes.specs.declared.format.Format.{Format};
+ghost use Rattle.dwarf_bytes.specs.Items.{items_from};
+ghost use Rattle.dwarf_forms.specs.Declarations.{Declaration};
+ghost use Rattle.dwarf_units.specs.declared.unit_headers.UnitHeader.{UnitHeader};
+ghost use Rattle.dwarf_units.specs.Entries.{Standing, Die, AreDepths, node_at, entries_of};
+
+/// Whatever is read of a unit stands at counted depths: behind the entries with children before it,
+/// less the nulls before it that stand at a depth above 0.
+pub fn entries_stand_at_counted_depths()
+    ensures { (format : Format) (table : List Declaration) (unit : List ℕ) (end first : ℕ)
+        (all : List Standing) (after : ℕ)
+        → items_from end (node_at format table unit) [] first ≡ Ok (all, after) → AreDepths all }
+{}
+
+/// Each entry of a unit stands past the one before it.
+pub fn offsets_of_entries_rise()
+    ensures { (info : List ℕ) (header : UnitHeader) (table : List Declaration) (dies : List Die)
+        → entries_of info header table ≡ Ok dies
+        → IsStrictlyIncreasing (map (λ (die : Die). die.offset) dies) }
+{}

@@ -1,0 +1,15 @@
+//! Units of `.debug_info`, their abbreviation tables, and the attributes of their entries: DWARF 5,
+//! chapter 7.5.
+#![tactic(auto)]
+
+mod attributes;
+mod entry_head;
+pub mod laws;
+mod plans;
+mod tables;
+mod unit_headers;
+
+pub use attributes::{Attribute, AttributeValue, is_address, value_of};
+pub use entry_head::EntryHead;
+pub use tables::{DECLARATIONS_LIMIT, UnitTable, judge_tables, unit_table};
+pub use unit_headers::{UnitHeader, UnitType, units};

@@ -1,0 +1,229 @@
+//! Plans of reading the attributes of entries, which pass over runs of those that are not kept.
+
+ghost use Rattle.std.specs.Prelude.{◌≡◌, List, Bool, IfOk, OnOk, map, reverse};
+ghost use Rattle.dwarf_bytes.specs.Forms.{byte_len};
+ghost use Rattle.dwarf_forms.specs.declared.attribute.AttributeSpecification.{AttributeSpecification as Specification};
+ghost use Rattle.dwarf_units.specs.Private.Plans.{kept_attributes_at, layout_len, constant_len, fixed_len, step_of, joined, step_before, steps_of, step_at, in_front, Fills, plan_of};
+
+use crate::attributes::{Attribute, accepts, is_negative_count, is_used, read_attribute};
+use dwarf_bytes::{Cause, Content, Cursor, Form, Format, ValueLayout, Width};
+use dwarf_forms::{Abbrevs, AttributeSpecification};
+use std::alloc::{AllocError, Global};
+use std::marker::Model;
+
+/// A step of reading the attributes of an entry.
+#[derive(Clone, Copy)]
+pub(crate) enum AttributeStep {
+    /// So many bytes are passed over.
+    Skip(u16),
+    /// An attribute is read and judged, and not kept.
+    Pass(AttributeSpecification),
+    /// An attribute is read, judged and kept.
+    Keep(AttributeSpecification),
+}
+
+/// The steps of a declaration, where the used attributes of its entry are kept, and where none are.
+#[derive(Drop)]
+pub(crate) struct Plan {
+    kept: Vec<AttributeStep>,
+    passed: Vec<AttributeStep>,
+}
+
+impl Model for Plan {
+    ghost use Rattle.dwarf_units.specs.Private.Plans.{Planned};
+
+    ghost Value = { Planned };
+
+    ghost view = { λ p. record { kept = p.kept.items; passed = p.passed.items } };
+}
+
+impl Plan {
+    fn of(
+        alloc: Global,
+        format: Format,
+        declared: &[AttributeSpecification],
+    ) -> Result<Plan, AllocError>
+        ensures { IfOk result (λ plan. plan ≡ plan_of format declared.now) }
+    {
+        Ok(Plan {
+            kept: steps(alloc, true, format, declared)?,
+            passed: steps(alloc, false, format, declared)?,
+        })
+    }
+
+    /// The steps, by whether the used attributes are kept.
+    pub(crate) fn steps(&self, keep: bool) -> &[AttributeStep]
+        ensures { (format : Format) (declared : List Specification)
+            → self.now ≡ plan_of format declared → result.now ≡ steps_of keep format declared }
+    {
+        if keep { &self.kept } else { &self.passed }
+    }
+}
+
+/// A plan for each declaration of a table, for units of a format.
+pub(crate) fn plans(alloc: Global, format: Format, table: &Abbrevs) -> Result<Vec<Plan>, AllocError>
+    ensures { IfOk result (λ plans. plans.items ≡ map
+        (λ declaration. plan_of format declaration.attributes) table.now) }
+{
+    let mut plans = Vec::new(alloc);
+    for declaration in table.decls() {
+        plans.push(Plan::of(alloc, format, declaration.attributes())?)?;
+    }
+    Ok(plans)
+}
+
+/// Reads the attributes of an entry by the steps of its declaration: those that are kept into `found`,
+/// in place of what is there.
+pub(crate) fn read_steps(
+    format: Format,
+    steps: &[AttributeStep],
+    cursor: &mut Cursor,
+    found: &mut Vec<Attribute>,
+) -> Result<(), Cause>
+    ensures { (keep : Bool) (declared : List Specification)
+        → steps.now ≡ steps_of keep format declared
+        → Fills result found.new.items
+        (kept_attributes_at keep format declared) cursor.old cursor.new }
+{
+    let _ = cursor.place(); // it stands in the bytes or at their end, also where no step reads
+    found.clear();
+    for step in steps {
+        read_step(format, step, cursor, found)?;
+    }
+    Ok(())
+}
+
+/// Takes a step. What it keeps is added to `found`.
+fn read_step(
+    format: Format,
+    step: &AttributeStep,
+    cursor: &mut Cursor,
+    found: &mut Vec<Attribute>,
+) -> Result<(), Cause>
+    ensures { Fills result found.new.items (λ bytes at. in_front found.old.items
+        (step_at format step.now bytes at)) cursor.old cursor.new }
+{
+    match step {
+        AttributeStep::Skip(len) => {
+            cursor.block(u64::from(*len))?;
+        }
+        AttributeStep::Pass(specification) => {
+            read_attribute(format, specification, cursor)?;
+        }
+        AttributeStep::Keep(specification) => {
+            found.push(read_attribute(format, specification, cursor)?)?;
+        }
+    }
+    Ok(())
+}
+
+/// The steps of a declaration. `keep` is whether the used attributes are kept.
+fn steps(
+    alloc: Global,
+    keep: bool,
+    format: Format,
+    declared: &[AttributeSpecification],
+) -> Result<Vec<AttributeStep>, AllocError>
+    ensures { IfOk result (λ steps. steps.items ≡ steps_of keep format declared.now) }
+{
+    let mut steps = Vec::new(alloc);
+    let mut left = declared;
+    while let Some((specification, before)) = left.split_last() {
+        push_before(&mut steps, step_of(keep, format, specification))?;
+        left = before;
+    }
+    steps.reverse();
+    Ok(steps)
+}
+
+/// Adds the step before the last one of a list in reverse, or joins the two.
+fn push_before(steps: &mut Vec<AttributeStep>, step: AttributeStep) -> Result<(), AllocError>
+    ensures { OnOk result (reverse steps.new.items ≡ step_before step (reverse steps.old.items)) }
+{
+    let next = steps.last().copied();
+    match next.and_then(|next| joined(step, next)) {
+        Some(both) => {
+            steps.pop();
+            steps.push(both)?;
+        }
+        None => steps.push(step)?,
+    }
+    Ok(())
+}
+
+/// One step in place of two, where both pass over bytes.
+fn joined(step: AttributeStep, next: AttributeStep) -> Option<AttributeStep>
+    ensures { result ≡ joined step next }
+{
+    match (step, next) {
+        (AttributeStep::Skip(len), AttributeStep::Skip(behind)) => {
+            let both = len.checked_add(behind)?;
+            Some(AttributeStep::Skip(both))
+        }
+        _ => None,
+    }
+}
+
+/// The step of an attribute.
+fn step_of(keep: bool, format: Format, specification: &AttributeSpecification) -> AttributeStep
+    ensures { result ≡ step_of keep format specification.now }
+{
+    if keep && is_used(specification.name) {
+        return AttributeStep::Keep(*specification);
+    }
+    match fixed_len(format, specification) {
+        Some(len) => AttributeStep::Skip(len),
+        None => AttributeStep::Pass(*specification),
+    }
+}
+
+/// The bytes that the value of an attribute takes always, where nothing but a lack of bytes refuses it.
+#[tactic(auto, unfolding(crate::specs::Private::Plans::fixed_len))]
+fn fixed_len(format: Format, specification: &AttributeSpecification) -> Option<u16>
+    ensures { result ≡ fixed_len format specification.now }
+{
+    if !accepts(specification.name, specification.form) {
+        return None;
+    }
+    match Form::of(specification.form)? {
+        Form::Direct(layout) => layout_len(format, layout),
+        Form::ImplicitConst => constant_len(specification),
+        Form::Indirect => None,
+    }
+}
+
+/// The same of a value that stands in the declaration.
+fn constant_len(specification: &AttributeSpecification) -> Option<u16>
+    ensures { result ≡ constant_len specification.now }
+{
+    let constant = Content::Signed(specification.constant?);
+    if is_negative_count(specification.name, constant) {
+        return None;
+    }
+    Some(0)
+}
+
+/// The same of a value in a layout.
+fn layout_len(format: Format, layout: ValueLayout) -> Option<u16>
+    ensures { result ≡ layout_len format layout }
+{
+    match layout {
+        ValueLayout::Fixed(width) => Some(byte_len(width)),
+        ValueLayout::Offset => Some(format.offset_len() as u16),
+        ValueLayout::Present => Some(0),
+        ValueLayout::Sixteen => Some(16),
+        _ => None,
+    }
+}
+
+fn byte_len(width: Width) -> u16
+    ensures { result ≡ byte_len width }
+{
+    match width {
+        Width::One => 1,
+        Width::Two => 2,
+        Width::Three => 3,
+        Width::Four => 4,
+        Width::Eight => 8,
+    }
+}
