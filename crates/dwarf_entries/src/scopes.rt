@@ -19,8 +19,23 @@ use crate::texts::Texts;
 use crate::unit_scopes::Units;
 use dwarf_bytes::{Cause, LoadFault};
 use dwarf_units::{UnitHeader, judge_tables, units};
-use std::alloc::Global;
+use std::alloc::{AllocError, Global};
 use std::marker::Model;
+
+/// Asks for more memory than there can be where a section has places past 32 bits, since scopes are
+/// kept by places of 32 bits.
+fn bound_places(alloc: Global, sections: &Sections<'_>) -> Result<(), AllocError> {
+    let texts = [
+        sections.debug_info,
+        sections.debug_str,
+        sections.debug_line_str,
+    ];
+    if texts.iter().all(|bytes| u32::try_from(bytes.len()).is_ok()) {
+        return Ok(());
+    }
+    let _: Vec<u8> = Vec::with_capacity(alloc, usize::MAX)?;
+    Ok(())
+}
 
 /// The roots of the units of an object, and the scopes among its entries, in file order.
 #[derive(Debug, Drop)]
@@ -44,6 +59,7 @@ impl Scopes {
     pub fn read(alloc: Global, sections: &Sections<'_>) -> Result<Scopes, LoadFault>
         ensures { Decodes (λ scopes. scopes) result (tree_of (sections_of sections.now)) }
     {
+        bound_places(alloc, sections)?;
         let headers = units(alloc, sections.debug_info)?;
         judge_tables(alloc, sections.debug_abbrev, headers.as_slice())?;
         let texts = Texts::of(alloc, sections)?;

@@ -5,7 +5,8 @@ use Rattle.dwarf_entries.proofs.scopes.Scopes.read.Goals as goal
 
 pub returns-in_err-headers : goal.returns-in_err-headers
 returns-in_err-headers c =
-    let p = err_from_is_err_and c.from_residual.result c.from_residual.ensures.1 in
+    let p =
+    err_from_is_err_and c.from_residual-in_err-headers.result c.from_residual-in_err-headers.ensures.1 in
     rw (p.1, p.2) (units_fault (sections_of c.args.sections.now) c.in_err-headers.field-0.0 c.in_err-headers.ensures)
 
 pub returns-in_err-judge_tables : goal.returns-in_err-judge_tables
