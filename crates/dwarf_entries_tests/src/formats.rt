@@ -34,8 +34,8 @@ fn rows(start: usize, before: usize, first: usize, last: usize) -> [Row; 5] {
         subprogram(at(first), end(1), None, mid),
         subprogram(at(first.saturating_add(5)), end(2), None, leaf),
         subprogram(at(first.saturating_add(11)), end(5), main_range, main),
-        inlined(at(last.saturating_sub(19)), end(5), 0x100c, mid, 20),
-        inlined(at(last), end(5), 0x1008, leaf, 5),
+        inlined_row(at(last.saturating_sub(19)), end(5), 0x100c, mid, 20),
+        inlined_row(at(last), end(5), 0x1008, leaf, 5),
     ]
 }
 
@@ -51,7 +51,7 @@ fn subprogram(offset: usize, end: usize, range: Option<Range>, name: Option<Text
 }
 
 /// A subroutine that is inlined from 0x1004 on, called in file 1.
-fn inlined(offset: usize, end: usize, to: u64, name: Option<Text>, line: u64) -> Row {
+fn inlined_row(offset: usize, end: usize, to: u64, name: Option<Text>, line: u64) -> Row {
     Row {
         kind: ScopeKind::Inlined,
         offset,
