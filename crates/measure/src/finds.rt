@@ -56,7 +56,10 @@ pub fn spread(low: u64, high: u64, n: u64) -> u64 {
 fn find_all(module: &Module, steps: &mut Steps) -> u64 {
     let mut places = 0u64;
     for n in 0..ASKED {
-        if module.find(spread(module.low(), module.high(), n), steps).is_some() {
+        if module
+            .find(spread(module.low(), module.high(), n), steps)
+            .is_some()
+        {
             places = places.wrapping_add(1);
         }
     }

@@ -28,7 +28,7 @@ abbrev pub frame_told : List ℕ → Lines → List Scope → Option ℕ → Fra
 frame_told bytes lines scopes number site =
     let scope = option_and_then (slice_get scopes) number in
     frame_at bytes (option_and_then (λ s. s.name) scope)
-        (option_and_then (λ s. s.linkage_name) scope) (site_told bytes lines scopes site)
+    (option_and_then (λ s. s.linkage_name) scope) (site_told bytes lines scopes site)
 
 -- the frame of a row alone
 abbrev pub row_frame : Bool → List ℕ → Site → List Frame
@@ -40,7 +40,7 @@ abbrev pub walk_left : List ℕ → Lines → List Scope → ℕ → ℕ → Fra
 walk_left bytes lines scopes link near site alone =
     let here = site_told bytes lines scopes site in
     row_frame alone bytes here
-        ++ frames_from bytes lines (reverse (chain_around link scopes near)) here
+    ++ frames_from bytes lines (reverse (chain_around link scopes near)) here
 
 -- what is left of a walk, if there is one
 abbrev pub frames_left : Option (List Frame) → List Frame
