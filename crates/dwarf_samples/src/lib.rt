@@ -2,9 +2,13 @@
 //! from the first object by the few bytes in which it differs.
 #![tactic(auto)]
 
+ghost use Rattle.std.specs.Prelude.{◌≡◌, length};
+
 /// An object of 703 bytes: `main` at 0x1000 to 0x1010, into which `mid` was inlined, into which
 /// `leaf` was inlined; two rows, of lines 10 and 11 of `/src/a.c`.
-pub fn inlined() -> &'static [u8; 703] {
+pub fn inlined() -> &'static [u8; 703]
+    ensures { length result.now ≡ 703 }
+{
     &INLINED
 }
 
@@ -101,7 +105,9 @@ const INLINED: [u8; 703] = [
 
 /// The same with two sequences of rows for the same addresses, of which the later never shows. The
 /// first changes its line twice at 0x1000.
-pub fn two_sequences() -> &'static [u8; 725] {
+pub fn two_sequences() -> &'static [u8; 725]
+    ensures { length result.now ≡ 725 }
+{
     &TWO_SEQUENCES
 }
 
