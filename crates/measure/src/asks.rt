@@ -28,11 +28,11 @@ pub fn measure_asks(rt: &HostRuntime, bytes: Vec<u8>) -> Result<()> {
     Ok(())
 }
 
-/// Asks the first so many of the addresses in turn; gives how often a place was known.
+/// Asks the first so many of the addresses in turn, one at least; gives how often a place was known.
 fn ask_all(modules: &mut Modules, extent: Extent, kinds: u64) -> u64 {
     let mut places = 0u64;
     for n in 0..ASKED {
-        let asked = modules.ask(spread(extent.low, extent.high, n % kinds));
+        let asked = modules.ask(spread(extent.low, extent.high, n % kinds.max(1)));
         if asked.found.is_some_and(|found| found.place.is_some()) {
             places = places.wrapping_add(1);
         }
