@@ -10,8 +10,8 @@ tools/build.sh addr2line_live
 measure=crates/measure/out/measure
 program=crates/addr2line_live/out/addr2line_live
 [ -f out/objects/large ] || tools/make_objects.sh out/objects
-objects=(small small.clang small.dwarf64 library.so program program.clang program.dwarf64 program.dead
-    program.lto program.clang.lto large)
+objects=(small small.clang small.dwarf64 library.so program program.types program.dwz program.clang
+    program.dwarf64 program.dead program.lto program.clang.lto large)
 gcc -O2 -o out/plain_scan tools/plain_scan.c
 differ=0
 for object in "${objects[@]}"; do

@@ -2,10 +2,11 @@
 """Compares the scopes that `measure scope-table OBJECT` prints with those that other readers show.
 
 compare_scopes.py OBJECT TABLE, where TABLE holds what was printed. Kinds, names, linkage names, call
-files, call lines and the statement list of the unit are those of readelf; a name that is not at the entry is looked for along its
-references, up to 16 of them. Ranges are those of llvm-dwarfdump, which adds the base in force; empty
-ones, and those that start at 2^64-1, the mark of dropped code, are left out. The end of a scope is found
-by the depths that readelf shows. Fails where anything differs.
+files, call lines, and the offset and the statement list of the root are those of readelf, which leaves
+out the units of types; a name that is not at the entry is looked for along its references, up to 16 of
+them. Ranges are those of llvm-dwarfdump, which adds the base in force; empty ones, and those that start
+at 2^64-1, the mark of dropped code, are left out. A scope's number counts those before it, its end is
+found by the depths that readelf shows. Fails where anything differs.
 """
 import re
 import subprocess
@@ -13,17 +14,21 @@ import sys
 from pathlib import Path
 
 KINDS = {"DW_TAG_subprogram": "subprogram", "DW_TAG_inlined_subroutine": "inlined"}
+UNIT_TYPES = ("compile", "partial")
 HOPS = 16
 DROPPED = 2**64 - 1
-FIELDS = ["kind", "name", "linkage name", "ranges", "call file", "call line", "end", "statement list"]
+FIELDS = ["kind", "name", "linkage name", "ranges", "call file", "call line", "end", "statement list",
+          "number", "root"]
 
+UNIT_TYPE = re.compile(r"^   Unit Type: +DW_UT_(?P<type>\w+)")
 ENTRY = re.compile(r"^ <(?P<depth>[0-9a-f]+)><(?P<offset>[0-9a-f]+)>: Abbrev Number: \d+ \((?P<tag>\w+)")
 ATTRIBUTE = re.compile(r"^    <[0-9a-f]+>   (?P<name>DW_AT_\w+) *: (?P<value>.*)$")
 FORM = re.compile(r"^\((?P<form>\w+)\)\s?")
 ELSEWHERE = re.compile(r"^\([^)]*\): ")
 REFERENCE = re.compile(r"^<(0x[0-9a-f]+)>")
 
-DUMPED_ENTRY = re.compile(r"^(?P<offset>0x[0-9a-f]+): +(?P<tag>DW_TAG_\w+)")
+DUMPED_UNIT_TYPE = re.compile(r"^   Unit Type: +DW_UT_(?P<type>\w+)")
+ENTRY = re.compile(r"^(?P<offset>0x[0-9a-f]+): +(?P<tag>DW_TAG_\w+)")
 DUMPED_ADDRESS = re.compile(r"^ +DW_AT_(?P<name>low_pc|high_pc)\t\((?P<address>0x[0-9a-f]+|dead code)\)")
 DUMPED_RANGES = re.compile(r"^ +DW_AT_ranges\t")
 DUMPED_RANGE = re.compile(r"^ +\[(?P<start>0x[0-9a-f]+), (?P<end>0x[0-9a-f]+)\)")
@@ -48,16 +53,19 @@ def value_of(text):
 def attributes_of(path):
     """The attributes of each scope as readelf shows them, by its offset; its tag stands with them, the
     number of the first later scope that is not below it, and the attributes of its unit's root."""
-    scopes, current, root, around = {}, None, {}, []
-    for text in lines("readelf", "--wide", "--debug-dump=info", path):
-        if found := ENTRY.match(text):
+    scopes, current, root, around, is_read = {}, None, {}, [], True
+    for text in lines("readelf", "--wide", "--debug-dump=info", "--debug-dump=no-follow-links", path):
+        if found := UNIT_TYPE.match(text):
+            is_read = found["type"] in UNIT_TYPES
+        elif found := ENTRY.match(text):
             current, depth = None, int(found["depth"], 16)
             while around and around[-1][0] >= depth:
                 around.pop()[1]["end"] = len(scopes)
             if depth == 0:
-                current = root = {}
-            elif found["tag"] in KINDS:
-                current = scopes[int(found["offset"], 16)] = {"tag": found["tag"], "root": root}
+                current = root = {"offset": int(found["offset"], 16)}
+            elif is_read and found["tag"] in KINDS:
+                current = {"tag": found["tag"], "root": root, "number": len(scopes)}
+                scopes[int(found["offset"], 16)] = current
                 around.append((depth, current))
         elif current is not None and (found := ATTRIBUTE.match(text)):
             current.setdefault(found["name"], value_of(found["value"]))
@@ -128,6 +136,8 @@ def shown(path):
             number(attributes.get("DW_AT_call_line", "-")),
             str(attributes["end"]),
             number(attributes["root"].get("DW_AT_stmt_list", "-")),
+            str(attributes["number"]),
+            f"{attributes['root']['offset']:x}",
         ]
 
 

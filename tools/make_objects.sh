@@ -1,9 +1,10 @@
 #!/usr/bin/env bash
 # Compiles the objects on which the readers are compared and measured, into the folder named: a C
-# program, a C++ program, the same with link-time optimization, a shared library, and a large C++ program
-# of many instantiations. Where there is clang, also a C and a C++ program of its own, and these in the
-# 64-bit format of DWARF; where there is lld too, a C++ program whose dropped code is marked by the address
-# 2^64-1, and one with link-time optimization.
+# program, a C++ program, the same with its types in units of their own, the same with link-time
+# optimization, a shared library, and a large C++ program of many instantiations. Where there is dwz, also
+# a C++ program of two units that share partial units. Where there is clang, also a C and a C++ program of
+# its own, and these in the 64-bit format of DWARF; where there is lld too, a C++ program whose dropped
+# code is marked by the address 2^64-1, and one with link-time optimization.
 set -euo pipefail
 folder=$1
 mkdir -p "$folder"
@@ -52,6 +53,11 @@ echo 'int main(int argc, char **) { return program::run(argc); }' >> "$folder/pr
 gcc "${flags[@]}" -o "$folder/small" "$folder/small.c"
 g++ "${flags[@]}" -shared -fPIC -o "$folder/library.so" "$folder/library.cpp"
 g++ "${flags[@]}" -o "$folder/program" "$folder/program.cpp"
+g++ "${flags[@]}" -fdebug-types-section -o "$folder/program.types" "$folder/program.cpp"
+if command -v dwz > /dev/null; then
+    g++ "${flags[@]}" -o "$folder/program.two" "$folder/program.cpp" "$folder/library.cpp"
+    dwz -o "$folder/program.dwz" "$folder/program.two"
+fi
 g++ "${flags[@]}" -flto=1 -o "$folder/program.lto" "$folder/program.cpp" "$folder/library.cpp"
 if command -v clang > /dev/null; then
     clang "${flags[@]}" -o "$folder/small.clang" "$folder/small.c"

@@ -13,6 +13,8 @@ mod failures;
 #[cfg(test)]
 mod fixtures;
 #[cfg(test)]
+mod formats;
+#[cfg(test)]
 mod refusals;
 #[cfg(test)]
 mod shelf;

@@ -2,6 +2,7 @@
 
 ghost use Rattle.std.specs.Prelude.{None};
 
+use crate::formats::{both_units, reserved_length, wide, wide_unit};
 use answer_text::{FetchFault, Objects};
 use dwarf_samples::*;
 use std::alloc::{AllocError, Global};
@@ -37,6 +38,10 @@ impl Shelf {
             "A8" => origin_of_no_entry(),
             "control" => with_files(b"a.\0\0a\x01.c\0\0"),
             "slash" => with_files(b"a\0\0/src/\0\0"),
+            "dropped main" => dropped_main(),
+            "dropped mid" => dropped_mid(),
+            "dropped rows" => dropped_sequence(),
+            "open rows" => open_dropped_sequence(),
             _ => return None,
         };
         Some(bytes.to_vec(self.alloc))
@@ -59,6 +64,10 @@ impl Objects for Shelf {
             "B" => two_sequences().to_vec(self.alloc),
             "empty" => Ok(Vec::new(self.alloc)),
             "cut" => inlined()[..63].to_vec(self.alloc),
+            "wide" => wide(self.alloc),
+            "wide unit" => wide_unit(self.alloc),
+            "both units" => both_units(self.alloc),
+            "no length" => reserved_length(self.alloc),
             "large" => return Err(FetchFault::TooLarge),
             "short" => return Err(FetchFault::Memory),
             _ => match self.object(path) {

@@ -152,3 +152,11 @@ pub fn is_refused(rt: &(impl Abort + AllocGlobal), sections: &Sections<'_>, caus
         Some(fault(cause, at))
     );
 }
+
+/// Checks the names of scopes.
+pub fn have_names(rt: &impl Abort, read: &Scopes, names: &[Option<Text>]) {
+    assert_eq!(rt; read.scopes().len(), names.len());
+    for (scope, name) in read.scopes().iter().zip(names) {
+        assert_eq!(rt; scope.name(), *name, "scope {}", scope.number());
+    }
+}

@@ -3,23 +3,10 @@
 use crate::fixtures::*;
 use dwarf_bytes::{Cause, Section, Text};
 use dwarf_entries::{Range, Root, ScopeKind, Scopes, Sections};
-use dwarf_samples::inlined;
+use dwarf_samples::{inlined, unit_of_64_bits};
 use std::alloc::{AllocError, Global};
 use std::process::Abort;
 use std::test::*;
-
-/// The unit of the first object in the 64-bit format.
-const WIDE: [u8; 112] = [
-    0xff, 0xff, 0xff, 0xff, 0x64, 0, 0, 0, 0, 0, 0, 0, // unit_length
-    5, 0, 1, 8, 0, 0, 0, 0, 0, 0, 0, 0, // version to debug_abbrev_offset
-    1, 0, 0, 0, 0, 0, 0, 0, 0, 0, 0x10, 0, 0, 0, 0, 0, 0, // 24: unit: stmt_list, low_pc
-    4, 0x6d, 0x69, 0x64, 0, // 41: mid
-    4, 0x6c, 0x65, 0x61, 0x66, 0, // 46: leaf
-    2, 0x6d, 0x61, 0x69, 0x6e, 0, 0, 0x10, 0, 0, 0, 0, 0, 0, 0x10, 0, 0, 0, // 52: main
-    3, 0x29, 0, 0, 0, 4, 0x10, 0, 0, 0, 0, 0, 0, 8, 0, 0, 0, 1, 0x14, // 70: mid in main
-    3, 0x2e, 0, 0, 0, 4, 0x10, 0, 0, 0, 0, 0, 0, 4, 0, 0, 0, 1, 5, // 89: leaf in mid
-    0, 0, 0, 0,
-];
 
 /// The scopes of the first object, where their unit starts at a place, so many scopes stand before it,
 /// its first subprogram stands so many bytes behind its start, and its second inlined one so many.
@@ -72,7 +59,7 @@ fn root_of(offset: usize, first: usize, past: usize) -> Root {
 #[test]
 fn a_unit_of_64_bits(rt: HostRuntime) -> Result<(), Fail> {
     let table = sections_of(inlined())?.debug_abbrev;
-    let read = Scopes::read(rt.alloc(), &sections(&WIDE, table))?;
+    let read = Scopes::read(rt.alloc(), &sections(unit_of_64_bits(), table))?;
     assert_eq!(rt; read.roots(), [root_of(24, 0, 5)].as_slice());
     are_scopes(&rt, &read, Some(0), &rows(0, 0, 41, 89));
     Ok(())
@@ -84,7 +71,7 @@ fn units_of_both_formats(rt: HostRuntime) -> Result<(), Fail> {
     let object = sections_of(inlined())?;
     let mut info = Vec::new(rt.alloc());
     info.extend_from_slice(object.debug_info)?;
-    info.extend_from_slice(&WIDE)?;
+    info.extend_from_slice(unit_of_64_bits())?;
     info.extend_from_slice(object.debug_info)?;
     let read = Scopes::read(rt.alloc(), &sections(&info, object.debug_abbrev))?;
     let roots = [root_of(12, 0, 5), root_of(120, 5, 10), root_of(220, 10, 15)];
@@ -109,17 +96,22 @@ fn refused_lengths(rt: HostRuntime) -> Result<(), Fail> {
         (14, 4, Cause::UnitType),
         (15, 4, Cause::AddressSize),
     ] {
-        let mut info = WIDE;
+        let mut info = *unit_of_64_bits();
         info[place] = byte;
         is_refused(&rt, &sections(&info, table), cause, 0);
     }
     // without the last null
-    let mut info = WIDE;
+    let mut info = *unit_of_64_bits();
     info[4] = 0x63;
     is_refused(&rt, &sections(&info[..111], table), Cause::TreeOpen, 0);
     // the mark of the format with fewer than eight bytes behind it, and a unit that is cut
     for size in 1..24 {
-        is_refused(&rt, &sections(&WIDE[..size], table), Cause::Short, 0);
+        is_refused(
+            &rt,
+            &sections(&unit_of_64_bits()[..size], table),
+            Cause::Short,
+            0,
+        );
     }
     Ok(())
 }

@@ -2,6 +2,10 @@
 #![tactic(auto)]
 
 #[cfg(test)]
+mod attributes;
+#[cfg(test)]
+mod bases;
+#[cfg(test)]
 mod codes;
 #[cfg(test)]
 mod dropped;
@@ -14,9 +18,13 @@ mod limits;
 #[cfg(test)]
 mod names;
 #[cfg(test)]
+mod pairs;
+#[cfg(test)]
 mod passes;
 #[cfg(test)]
 mod ranges;
+#[cfg(test)]
+mod references;
 #[cfg(test)]
 mod samples;
 #[cfg(test)]

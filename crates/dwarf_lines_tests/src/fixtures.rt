@@ -29,17 +29,6 @@ pub fn two_programs() -> [u8; 172] {
     line
 }
 
-/// The first sample's program in the 64-bit format.
-pub fn long_program() -> [u8; 87] {
-    let mut line = [0; 87];
-    line[..4].copy_from_slice(&[0xff, 0xff, 0xff, 0xff]);
-    line[4] = 75;
-    line[12..16].copy_from_slice(&[5, 0, 8, 0]);
-    line[16] = 43;
-    line[24..].copy_from_slice(&inlined()[271..334]);
-    line
-}
-
 /// The first sample's program, whose sequence is dead.
 pub fn dead_program() -> [u8; 75] {
     let mut line = one_sequence();

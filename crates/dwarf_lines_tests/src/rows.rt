@@ -3,7 +3,7 @@
 use crate::fixtures::*;
 use dwarf_bytes::Cause;
 use dwarf_lines::{LineTables, ProgramNo};
-use dwarf_samples::{cut_line_program, many_directories_without_a_format};
+use dwarf_samples::{cut_line_program, many_directories_without_a_format, program_of_64_bits};
 use std::test::Fail;
 
 #[test]
@@ -121,7 +121,7 @@ fn sums_are_judged_where_a_row_is_made(rt: HostRuntime) -> Result<(), Fail> {
 
 #[test]
 fn a_program_of_the_64_bit_format_has_the_same_rows(rt: HostRuntime) -> Result<(), Fail> {
-    let mut line = long_program().to_vec(rt.alloc())?;
+    let mut line = program_of_64_bits().to_vec(rt.alloc())?;
     line.extend_from_slice(&one_sequence())?;
     let tables = LineTables::read(rt.alloc(), line.as_slice(), &[], &[])?;
     assert_eq!(rt;
@@ -145,7 +145,7 @@ fn a_program_of_the_64_bit_format_has_the_same_rows(rt: HostRuntime) -> Result<(
         (23, 1, Cause::Short),
         (16, 6, Cause::Short),
     ] {
-        let mut line = long_program();
+        let mut line = program_of_64_bits();
         if let Some(changed) = line.get_mut(place) {
             *changed = byte;
         }

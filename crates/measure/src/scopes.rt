@@ -2,7 +2,7 @@
 
 use anyhow::{Context, Result};
 use dwarf_bytes::{LoadFault, Object, Section};
-use dwarf_entries::{Range, Scope, ScopeKind, Scopes, Sections, Text};
+use dwarf_entries::{Range, Root, Scope, ScopeKind, Scopes, Sections, Text};
 use std::alloc::Global;
 use std::io::{self, BufWriter, Write};
 
@@ -20,25 +20,29 @@ pub fn count_ranges(scopes: &Scopes) -> u64 {
     count
 }
 
-/// Prints each scope as `OFFSET KIND NAME LINKAGE_NAME RANGES CALL_FILE CALL_LINE END STMT_LIST`,
-/// with tabs between them, ranges as `FROM-TO,..`, and `-` for what is absent. END is the number of
-/// the first later scope that is not below it.
+/// Prints each scope of each root as `OFFSET KIND NAME LINKAGE_NAME RANGES CALL_FILE CALL_LINE END
+/// STMT_LIST NUMBER ROOT`, with tabs between them, ranges as `FROM-TO,..`, and `-` for what is
+/// absent. END is the number of the first later scope that is not below it, ROOT the offset of the
+/// root.
 pub fn print_scopes(rt: &HostRuntime, bytes: &[u8]) -> Result<()> {
     let sections = Sections::of(bytes, &Object::find(bytes)?);
     let scopes = Scopes::read(rt.alloc(), &sections)?;
     let mut out = BufWriter::new(rt.alloc(), io::writer(rt))?;
-    for scope in scopes.scopes() {
-        print_scope(&mut out, &sections, &scopes, scope)?;
+    for root in scopes.roots() {
+        for scope in scopes.scopes().get(root.first..root.past).unwrap_or(&[]) {
+            print_scope(&mut out, &sections, &scopes, root, scope)?;
+        }
     }
     out.flush().context("writing")?;
     Ok(())
 }
 
-/// Prints a scope.
+/// Prints a scope of a root.
 fn print_scope<W: Write>(
     out: &mut W,
     sections: &Sections<'_>,
     scopes: &Scopes,
+    root: &Root,
     scope: &Scope,
 ) -> Result<()> {
     let kind = match scope.kind() {
@@ -57,7 +61,7 @@ fn print_scope<W: Write>(
     print_number(out, scope.call_line(scopes))?;
     write!(out, "\t{}\t", scope.end())?;
     print_number(out, scope.stmt_list(scopes))?;
-    out.write_all(b"\n")?;
+    writeln!(out, "\t{}\t{:x}", scope.number(), root.offset)?;
     Ok(())
 }
 

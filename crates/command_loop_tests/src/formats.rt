@@ -1,0 +1,152 @@
+//! Objects with units and line programs of the 64-bit format, and with dropped code.
+
+use crate::fixtures::*;
+use dwarf_samples::{inlined, program_of_64_bits, unit_of_64_bits};
+use std::alloc::{AllocError, Global};
+use std::test::*;
+
+/// Puts a number of eight bytes behind others.
+fn put(bytes: &mut Vec<u8>, number: usize) -> Result<(), AllocError> {
+    bytes.extend_from_slice(&(number as u64).to_le_bytes())?;
+    Ok(())
+}
+
+/// The first sample object with another `.debug_info` and another `.debug_line`; what stands behind
+/// them moves.
+fn with_sections(alloc: Global, info: &[u8], line: &[u8]) -> Result<Vec<u8>, AllocError> {
+    let sample = inlined();
+    let at_line = info.len().saturating_add(163);
+    let at_names = line.len().saturating_add(at_line);
+    let mut bytes = Vec::new(alloc);
+    bytes.extend_from_slice(&sample[..40])?;
+    // e_shoff
+    put(&mut bytes, at_names.saturating_add(49))?;
+    bytes.extend_from_slice(&sample[48..163])?;
+    bytes.extend_from_slice(info)?;
+    bytes.extend_from_slice(line)?;
+    // up to the size of .debug_info
+    bytes.extend_from_slice(&sample[334..543])?;
+    put(&mut bytes, info.len())?;
+    bytes.extend_from_slice(&sample[551..599])?;
+    put(&mut bytes, at_line)?;
+    put(&mut bytes, line.len())?;
+    bytes.extend_from_slice(&sample[615..663])?;
+    put(&mut bytes, at_names)?;
+    bytes.extend_from_slice(&sample[671..])?;
+    Ok(bytes)
+}
+
+/// The first sample object in the 64-bit format.
+pub fn wide(alloc: Global) -> Result<Vec<u8>, AllocError> {
+    with_sections(alloc, unit_of_64_bits(), &program_of_64_bits())
+}
+
+/// The same with the line program of 32 bits.
+pub fn wide_unit(alloc: Global) -> Result<Vec<u8>, AllocError> {
+    with_sections(alloc, unit_of_64_bits(), &inlined()[259..334])
+}
+
+/// The unit of 32 bits, and behind it that of 64.
+pub fn both_units(alloc: Global) -> Result<Vec<u8>, AllocError> {
+    let mut info = Vec::new(alloc);
+    info.extend_from_slice(&inlined()[163..259])?;
+    info.extend_from_slice(unit_of_64_bits())?;
+    with_sections(alloc, &info, &inlined()[259..334])
+}
+
+/// A reserved length in the place of the mark of the 64-bit format.
+pub fn reserved_length(alloc: Global) -> Result<Vec<u8>, AllocError> {
+    let mut unit = *unit_of_64_bits();
+    unit[0] = 0xf0;
+    with_sections(alloc, &unit, &program_of_64_bits())
+}
+
+/// All frames of `leaf` inlined into `mid` inlined into `main`.
+const FRAMES: &[u8] =
+    b"loaded a 0x0000000000011000-0x0000000000012000\nleaf\n/src/a.c:11\nmid\n/src/a.c:5\nmain\n/src/a.c:20\n";
+
+#[test]
+fn units_and_programs_of_64_bits(rt: HostRuntime) {
+    fresh(
+        &rt,
+        rt.alloc(),
+        b"fi",
+        b"load a 0x10000 wide\n11004\n",
+        FRAMES,
+    );
+}
+
+#[test]
+fn a_unit_of_64_bits_with_a_program_of_32(rt: HostRuntime) {
+    fresh(
+        &rt,
+        rt.alloc(),
+        b"fi",
+        b"load a 0x10000 wide unit\n11004\n",
+        FRAMES,
+    );
+}
+
+#[test]
+fn units_of_both_formats(rt: HostRuntime) {
+    fresh(
+        &rt,
+        rt.alloc(),
+        b"fi",
+        b"load a 0x10000 both units\n11004\n",
+        FRAMES,
+    );
+}
+
+#[test]
+fn a_reserved_length(rt: HostRuntime) -> Result<(), Fail> {
+    refused(
+        &rt,
+        rt.alloc(),
+        b"load c 0 no length\n",
+        b"refused object .debug_info length at 0\n",
+    )
+}
+
+#[test]
+fn dropped_subprogram(rt: HostRuntime) {
+    fresh(
+        &rt,
+        rt.alloc(),
+        b"fi",
+        b"load a 0x10000 dropped main\n11004\n",
+        b"loaded a 0x0000000000011000-0x0000000000012000\n??\n/src/a.c:11\n",
+    );
+}
+
+#[test]
+fn dropped_rows(rt: HostRuntime) {
+    fresh(
+        &rt,
+        rt.alloc(),
+        b"fi",
+        b"load a 0x10000 dropped rows\n11004\n",
+        b"loaded a 0x0000000000011000-0x0000000000012000\nleaf\n??:0\nmid\n/src/a.c:5\nmain\n/src/a.c:20\n",
+    );
+}
+
+#[test]
+fn dropped_inlined_subroutine(rt: HostRuntime) {
+    fresh(
+        &rt,
+        rt.alloc(),
+        b"fi",
+        b"load a 0x10000 dropped mid\n11004\n",
+        b"loaded a 0x0000000000011000-0x0000000000012000\nleaf\n/src/a.c:11\nmain\n/src/a.c:5\n",
+    );
+}
+
+#[test]
+fn dropped_rows_that_do_not_end(rt: HostRuntime) -> Result<(), Fail> {
+    refused(
+        &rt,
+        rt.alloc(),
+        b"load c 0 open rows\n",
+        b"refused object .debug_line sequence-open at 0\n",
+    )
+}

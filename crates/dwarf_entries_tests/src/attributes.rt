@@ -1,0 +1,75 @@
+//! Attributes by their forms.
+
+use crate::fixtures::*;
+use dwarf_bytes::Cause;
+use dwarf_entries::Scopes;
+use std::test::*;
+
+/// Attributes of the subprogram at 13, each by its name and form, and its value.
+#[test]
+fn forms_of_attributes(rt: HostRuntime) -> Result<(), Fail> {
+    let refused: [(&[u8], &[u8], Cause); 19] = [
+        // name as data1, linkage_name as exprloc
+        (&[0x03, 0x0b], &[0], Cause::AttrForm),
+        (&[0x6e, 0x18], &[0], Cause::AttrForm),
+        // low_pc as data8, high_pc as exprloc
+        (&[0x11, 0x07], &[0; 8], Cause::AttrForm),
+        (&[0x12, 0x18], &[0], Cause::AttrForm),
+        // call_file as data16, call_line as flag
+        (&[0x58, 0x1e], &[0; 16], Cause::AttrForm),
+        (&[0x59, 0x0c], &[0], Cause::AttrForm),
+        // abstract_origin as data4, specification as sec_offset
+        (&[0x31, 0x06], &[0; 4], Cause::AttrForm),
+        (&[0x47, 0x17], &[0; 4], Cause::AttrForm),
+        // ranges as data4
+        (&[0x55, 0x06], &[0; 4], Cause::AttrForm),
+        // stmt_list and the bases as data4
+        (&[0x10, 0x06], &[0; 4], Cause::AttrForm),
+        (&[0x72, 0x06], &[0; 4], Cause::AttrForm),
+        (&[0x73, 0x06], &[0; 4], Cause::AttrForm),
+        (&[0x74, 0x06], &[0; 4], Cause::AttrForm),
+        // counts below 0, as sdata and as implicit_const
+        (&[0x58, 0x0d], &[0x7f], Cause::AttrForm),
+        (&[0x12, 0x21, 0x7f], &[], Cause::AttrForm),
+        // name as indirect, of form data1, of form indirect, of no form
+        (&[0x03, 0x16], &[0x0b, 0], Cause::AttrForm),
+        (&[0x03, 0x16], &[0x16, 0x08, 0], Cause::Form),
+        (&[0x03, 0x16], &[0x02, 0], Cause::Form),
+        // an attribute that is not used, cut
+        (&[0x3a, 0x0a], &[9, 0], Cause::Short),
+    ];
+    for (declared, values, cause) in refused {
+        let attributes = (declared, values);
+        let table = declarations(rt.alloc(), (&[], &[]), attributes)?;
+        let info = one_scope(rt.alloc(), (&[], &[]), attributes)?;
+        is_refused(&rt, &sections(&info, &table), cause, 13);
+    }
+    Ok(())
+}
+
+/// Call files and lines in each form of a count.
+#[test]
+fn forms_of_counts(rt: HostRuntime) -> Result<(), Fail> {
+    let counts: [(&[u8], &[u8]); 8] = [
+        (&[0x58, 0x0b], &[7]),
+        (&[0x58, 0x05], &[7, 0]),
+        (&[0x58, 0x06], &[7, 0, 0, 0]),
+        (&[0x58, 0x07], &[7, 0, 0, 0, 0, 0, 0, 0]),
+        (&[0x58, 0x0f], &[0x87, 0]),
+        (&[0x58, 0x0d], &[7]),
+        (&[0x58, 0x21, 7], &[]),
+        (&[0x58, 0x16], &[0x0d, 7]),
+    ];
+    for (declared, values) in counts {
+        let attributes = (declared, values);
+        let table = declarations(rt.alloc(), (&[], &[]), attributes)?;
+        let info = one_scope(rt.alloc(), (&[], &[]), attributes)?;
+        let read = Scopes::read(rt.alloc(), &sections(&info, &table))?;
+        let scope = read.scopes().first().ok_or("no scope")?;
+        assert_eq!(rt;
+            (scope.call_file(&read), scope.call_line(&read)),
+            (Some(7), None)
+        );
+    }
+    Ok(())
+}

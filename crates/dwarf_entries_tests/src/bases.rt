@@ -1,0 +1,146 @@
+//! The tables that a root names by its bases, and indexes into them.
+
+use crate::fixtures::*;
+use crate::ranges::{ADDRESSES, covers};
+use dwarf_bytes::Cause;
+use dwarf_entries::{Scopes, Sections};
+use std::test::*;
+
+/// A list by its index, of entries whose addresses are indexes.
+const INDEXED: [u8; 55] = [
+    51, 0, 0, 0, 5, 0, 8, 0, 1, 0, 0, 0, // a table of one offset, whose base is 12
+    4, 0, 0, 0, // its offset, so that the list stands at 16
+    1, 0, // base_addressx 0, which is 0x1000
+    4, 1, 2, // offset_pair 1 to 2
+    2, 0, 1, // startx_endx 0 and 1
+    3, 1, 0x10, // startx_length 1, 0x10
+    6, 0, 0x30, 0, 0, 0, 0, 0, 0, 1, 0x30, 0, 0, 0, 0, 0, 0, // start_end
+    7, 0, 0x40, 0, 0, 0, 0, 0, 0, 0, // start_length 0x4000, 0
+    0,
+];
+
+#[test]
+fn lists_and_addresses_by_index(rt: HostRuntime) -> Result<(), Fail> {
+    // addr_base and rnglists_base, and ranges as rnglistx
+    let root: Attributes<'_> = (&[0x73, 0x17, 0x74, 0x17], &[8, 0, 0, 0, 12, 0, 0, 0]);
+    for (index, cause) in [(0, None), (1, Some(Cause::Index))] {
+        let index = [index];
+        let scope: Attributes<'_> = (&[0x55, 0x23], &index);
+        let table = declarations(rt.alloc(), root, scope)?;
+        let info = one_scope(rt.alloc(), root, scope)?;
+        let all = Sections {
+            debug_addr: &ADDRESSES,
+            debug_rnglists: &INDEXED,
+            ..sections(&info, &table)
+        };
+        match Scopes::read(rt.alloc(), &all) {
+            Ok(read) => {
+                assert_eq!(rt; cause, None);
+                let ranges = [
+                    range(0x1001, 0x1002),
+                    range(0x1000, 0x2000),
+                    range(0x2000, 0x2010),
+                    range(0x3000, 0x3001),
+                ];
+                covers(&rt, &read, &ranges);
+            }
+            Err(told) => assert_eq!(rt; Some(told), cause.map(|cause| fault(cause, 21))),
+        }
+    }
+    Ok(())
+}
+
+#[test]
+fn indexes_that_find_nothing(rt: HostRuntime) -> Result<(), Fail> {
+    // an index of a list in a unit without a base
+    let scope: Attributes<'_> = (&[0x55, 0x23], &[0]);
+    let table = declarations(rt.alloc(), (&[], &[]), scope)?;
+    let info = one_scope(rt.alloc(), (&[], &[]), scope)?;
+    let all = Sections {
+        debug_rnglists: &INDEXED,
+        ..sections(&info, &table)
+    };
+    is_refused(&rt, &all, Cause::Base, 13);
+    // an index past the table, before the operand that is missing
+    let root: Attributes<'_> = (&[0x73, 0x17], &[8, 0, 0, 0]);
+    let scope: Attributes<'_> = (&[0x55, 0x17], &[0, 0, 0, 0]);
+    let table = declarations(rt.alloc(), root, scope)?;
+    let info = one_scope(rt.alloc(), root, scope)?;
+    let all = Sections {
+        debug_addr: &ADDRESSES,
+        debug_rnglists: &[2, 2],
+        ..sections(&info, &table)
+    };
+    is_refused(&rt, &all, Cause::Index, 17);
+    Ok(())
+}
+
+/// Headers of a table of addresses, each with one byte changed, and what is wrong at the root at 12.
+#[test]
+fn headers_of_addresses(rt: HostRuntime) -> Result<(), Fail> {
+    let changes = [
+        // unit_length up to the base, to one byte before it, past the section, reserved
+        (0, 12, None),
+        (0, 3, Some(Cause::Short)),
+        (0, 21, Some(Cause::Short)),
+        (3, 0xff, Some(Cause::Short)),
+        // version, address_size, segment_selector_size
+        (4, 4, Some(Cause::Version)),
+        (6, 4, Some(Cause::AddressSize)),
+        (7, 1, Some(Cause::SegmentSize)),
+    ];
+    // addr_base
+    let root: Attributes<'_> = (&[0x73, 0x17], &[8, 0, 0, 0]);
+    let table = declarations(rt.alloc(), root, (&[], &[]))?;
+    let info = one_scope(rt.alloc(), root, (&[], &[]))?;
+    for (place, byte, cause) in changes {
+        let mut addresses = ADDRESSES;
+        addresses[place] = byte;
+        let all = Sections {
+            debug_addr: &addresses,
+            ..sections(&info, &table)
+        };
+        let read = Scopes::read(rt.alloc(), &all);
+        assert_eq!(rt; read.err(), cause.map(|cause| fault(cause, 12)));
+    }
+    Ok(())
+}
+
+/// The low_pc of a root at 12 as addrx1, of an index past the table, and without a table.
+#[test]
+fn low_pc_of_no_address(rt: HostRuntime) -> Result<(), Fail> {
+    let indexed: [(&[u8], &[u8], Cause); 2] = [
+        (&[0x73, 0x17, 0x11, 0x29], &[8, 0, 0, 0, 2], Cause::Index),
+        (&[0x11, 0x29], &[0], Cause::Base),
+    ];
+    for (declared, values, cause) in indexed {
+        let root = (declared, values);
+        let table = declarations(rt.alloc(), root, (&[], &[]))?;
+        let info = one_scope(rt.alloc(), root, (&[], &[]))?;
+        let all = Sections {
+            debug_addr: &ADDRESSES,
+            ..sections(&info, &table)
+        };
+        is_refused(&rt, &all, cause, 12);
+    }
+    Ok(())
+}
+
+/// The rnglists_base of a root at 12: the most offsets that the table holds, and one more.
+#[test]
+fn offsets_of_lists(rt: HostRuntime) -> Result<(), Fail> {
+    let root: Attributes<'_> = (&[0x74, 0x17], &[12, 0, 0, 0]);
+    let table = declarations(rt.alloc(), root, (&[], &[]))?;
+    let info = one_scope(rt.alloc(), root, (&[], &[]))?;
+    let mut lists = INDEXED;
+    for (count, cause) in [(10, None), (11, Some(Cause::Short))] {
+        lists[8] = count;
+        let all = Sections {
+            debug_rnglists: &lists,
+            ..sections(&info, &table)
+        };
+        let read = Scopes::read(rt.alloc(), &all);
+        assert_eq!(rt; read.err(), cause.map(|cause| fault(cause, 12)));
+    }
+    Ok(())
+}

@@ -1,0 +1,151 @@
+//! The references between entries.
+
+use crate::fixtures::*;
+use dwarf_bytes::{Cause, Section};
+use dwarf_entries::{Scopes, Text};
+use dwarf_samples::inlined;
+use std::alloc::{AllocError, Global};
+use std::test::*;
+
+/// Subprograms from 13 on, of which each but the last names the next, by so many hops, and the last
+/// is named `z`.
+fn linked(alloc: Global, hops: u8) -> Result<Vec<u8>, AllocError> {
+    let mut entries = Vec::new(alloc);
+    entries.push(1)?;
+    for hop in 1..=hops {
+        entries.push(2)?;
+        entries.push(hop.saturating_mul(5).saturating_add(13))?;
+        entries.extend_from_slice(&[0, 0, 0])?;
+    }
+    entries.extend_from_slice(&[3, 0x7a, 0, 0])?;
+    unit(alloc, &entries)
+}
+
+#[test]
+fn linked_subprograms(rt: HostRuntime) -> Result<(), Fail> {
+    let table = [
+        1, 0x11, 1, 0, 0, // unit
+        2, 0x2e, 0, 0x31, 0x13, 0, 0, // subprogram: abstract_origin as ref4
+        3, 0x2e, 0, 0x03, 0x08, 0, 0, // subprogram: name as string
+        0,
+    ];
+    let info = linked(rt.alloc(), 16)?;
+    let read = Scopes::read(rt.alloc(), &sections(&info, &table))?;
+    assert_eq!(rt; read.scopes().len(), 17);
+    for scope in read.scopes() {
+        assert_eq!(rt; scope.name(), text(Section::DebugInfo, 94, 1));
+    }
+    let info = linked(rt.alloc(), 17)?;
+    is_refused(&rt, &sections(&info, &table), Cause::OriginDepth, 13);
+    // of a bad reference behind the last hop nothing is told
+    let mut info = linked(rt.alloc(), 17)?;
+    assert_eq!(rt; info.len(), 102);
+    assert_eq!(rt; info[94], 98);
+    info[94] = 0;
+    is_refused(&rt, &sections(&info, &table), Cause::OriginDepth, 13);
+    Ok(())
+}
+
+/// Two units whose roots are named `q`, at 12, and `r`, at 28. The abstract origin of the subprogram
+/// at 31 is this value.
+fn referring(alloc: Global, value: &[u8]) -> Result<Vec<u8>, AllocError> {
+    let mut info = unit(alloc, &[1, 0x71, 0, 0])?;
+    let mut entries = Vec::new(alloc);
+    entries.extend_from_slice(&[1, 0x72, 0, 2])?;
+    entries.extend_from_slice(value)?;
+    entries.push(0)?;
+    add_unit(&mut info, 1, 0, &entries)?;
+    Ok(info)
+}
+
+#[test]
+fn forms_of_references(rt: HostRuntime) -> Result<(), Fail> {
+    let q = text(Section::DebugInfo, 13, 1);
+    let r = text(Section::DebugInfo, 29, 1);
+    let references: [(u8, &[u8], Option<Text>); 9] = [
+        // ref1, ref2, ref4, ref8 and ref_udata count from the unit, ref_addr from the section
+        (0x11, &[12], r),
+        (0x12, &[12, 0], r),
+        (0x13, &[12, 0, 0, 0], r),
+        (0x14, &[12, 0, 0, 0, 0, 0, 0, 0], r),
+        (0x15, &[0x8c, 0], r),
+        (0x10, &[12, 0, 0, 0], q),
+        (0x10, &[28, 0, 0, 0], r),
+        // ref_sig8 is not followed
+        (0x20, &[12, 0, 0, 0, 0, 0, 0, 0], None),
+        // indirect
+        (0x16, &[0x11, 12], r),
+    ];
+    for (form, value, name) in references {
+        let declared = [0x31, form];
+        let table = declarations(rt.alloc(), (&[0x03, 0x08], &[]), (&declared, &[]))?;
+        let info = referring(rt.alloc(), value)?;
+        let read = Scopes::read(rt.alloc(), &sections(&info, &table))?;
+        have_names(&rt, &read, &[name]);
+    }
+    Ok(())
+}
+
+#[test]
+fn references_to_no_entry(rt: HostRuntime) -> Result<(), Fail> {
+    let references: [(u8, &[u8]); 11] = [
+        // ref_addr: a header, inside a root, the nulls of both units, past the section
+        (0x10, &[0, 0, 0, 0]),
+        (0x10, &[16, 0, 0, 0]),
+        (0x10, &[13, 0, 0, 0]),
+        (0x10, &[15, 0, 0, 0]),
+        (0x10, &[36, 0, 0, 0]),
+        (0x10, &[37, 0, 0, 0]),
+        // ref1: the unit's header, inside its root, its null, past it
+        (0x11, &[0]),
+        (0x11, &[13]),
+        (0x11, &[17]),
+        (0x11, &[18]),
+        // ref8: past all numbers of 64 bits
+        (0x14, &[0xff; 8]),
+    ];
+    for (form, value) in references {
+        let declared = [0x31, form];
+        let table = declarations(rt.alloc(), (&[0x03, 0x08], &[]), (&declared, &[]))?;
+        let info = referring(rt.alloc(), value)?;
+        is_refused(&rt, &sections(&info, &table), Cause::Reference, 31);
+    }
+    Ok(())
+}
+
+/// Nulls, headers and the inside of entries of the first object.
+#[test]
+fn an_origin_that_is_no_entry(rt: HostRuntime) -> Result<(), Fail> {
+    let whole = sections_of(inlined())?;
+    let mut info = [0; 96];
+    info.copy_from_slice(&inlined()[163..259]);
+    for origin in [0, 11, 13, 26, 91, 92, 93, 94, 95, 96, 255] {
+        info[55] = origin;
+        is_refused(
+            &rt,
+            &sections(&info, whole.debug_abbrev),
+            Cause::Reference,
+            54,
+        );
+    }
+    Ok(())
+}
+
+/// References that count from a unit stay in it, and no entry of a type unit is read.
+#[test]
+fn references_out_of_the_unit(rt: HostRuntime) -> Result<(), Fail> {
+    // ref4 to the root of the next unit
+    let declared = [0x31, 0x13];
+    let table = declarations(rt.alloc(), (&[], &[]), (&declared, &[]))?;
+    let mut info = unit(rt.alloc(), &[1, 2, 31, 0, 0, 0, 0])?;
+    add_unit(&mut info, 1, 0, &[1, 0])?;
+    is_refused(&rt, &sections(&info, &table), Cause::Reference, 13);
+    // ref_addr to what would be the root of the type unit before
+    let declared = [0x31, 0x10];
+    let table = declarations(rt.alloc(), (&[], &[]), (&declared, &[]))?;
+    let mut info = Vec::new(rt.alloc());
+    add_unit(&mut info, 2, 0, &[1, 0])?;
+    add_unit(&mut info, 1, 0, &[1, 2, 12, 0, 0, 0, 0])?;
+    is_refused(&rt, &sections(&info, &table), Cause::Reference, 27);
+    Ok(())
+}
