@@ -8,7 +8,7 @@ ghost use Rattle.dwarf_units.specs.Private.Plans.{kept_attributes_at, Fills};
 
 use crate::attributes::Attribute;
 use crate::plans::{Plan, read_steps};
-use crate::tables::UnitTable;
+use crate::unit_table::UnitTable;
 use dwarf_bytes::{Cause, Cursor, Format};
 use dwarf_forms::Decl;
 use std::marker::Model;
