@@ -182,7 +182,7 @@ fn units_of_one_long_declaration(rt: HostRuntime) -> Result<(), Fail> {
 /// Puts a unit of one entry of three bytes or less behind others, whose abbreviations stand anywhere.
 fn add_unit_at(info: &mut Vec<u8>, abbreviations: usize, entry: &[u8]) -> Result<(), AllocError> {
     let abbreviations = u32::try_from(abbreviations).unwrap_or(0);
-    let unit_length = (entry.len() as u8).saturating_add(8);
+    let unit_length = u8::try_from(entry.len()).unwrap_or(0).saturating_add(8);
     // unit_length, version, unit_type, address_size
     info.extend_from_slice(&[unit_length, 0, 0, 0, 5, 0, 1, 8])?;
     info.extend_from_slice(&abbreviations.to_le_bytes())?;
