@@ -118,6 +118,15 @@ def names_in_one_text(size):
     ])
 
 
+def tables_in_turn(size):
+    """Units of one entry each that name two tables in turn, each of one declaration with many attributes."""
+    flags = b"".join(uleb(0x2000 + number) + bytes([0x19]) for number in range(size // 64))
+    table = bytes([1, 0x11, 0]) + flags + bytes([0, 0, 0])
+    unit = struct.Struct("<IHBBIB")
+    pair = unit.pack(9, 5, 1, 8, 0, 1) + unit.pack(9, 5, 1, 8, len(table), 1)
+    return elf([(".debug_abbrev", table * 2), (".debug_info", pair * ((size - 2 * len(table)) // len(pair)))])
+
+
 SHAPES = [
     ("lines", directories_in_one_text),
     ("lines", files_in_one_text),
@@ -128,6 +137,7 @@ SHAPES = [
     ("lines", programs),
     ("lines", segments),
     ("scopes", names_in_one_text),
+    ("scopes", tables_in_turn),
 ]
 
 

@@ -18,31 +18,30 @@ use crate::kept::{Keeping, UnitEntries};
 use crate::roots::bases;
 use crate::sections::Sections;
 use dwarf_bytes::{LoadFault, Section};
-use dwarf_units::{DECLARATIONS_LIMIT, UnitHeader, unit_table};
+use dwarf_units::{Tables, UnitHeader};
 use std::alloc::Global;
 
-/// The entries of all units, whose tables are good. A table is read again, and dropped before the next
-/// one is read.
+/// The entries of all units, whose tables are good.
 pub(crate) fn all_entries(
     alloc: Global,
     sections: &Sections<'_>,
     headers: &[UnitHeader],
+    tables: &mut Tables<'_>,
     keeping: Keeping,
 ) -> Result<Vec<UnitEntries>, LoadFault>
-    ensures { (tables : List (List Declaration))
-        → tables_of sections.now.debug_abbrev.now headers.now ≡ Ok tables
+    requires { tables.old.section ≡ sections.now.debug_abbrev.now }
+    ensures section { tables.new.section ≡ tables.old.section }
+    ensures decodes { (all : List (List Declaration))
+        → tables_of sections.now.debug_abbrev.now headers.now ≡ Ok all
         → Decodes (λ units. map kept_of units.items) result (in_section names.DebugInfo
-        (all_kept keeping sections.now.debug_info.now headers.now tables)) }
+        (all_kept keeping sections.now.debug_info.now headers.now all)) }
 {
-    let mut left = DECLARATIONS_LIMIT;
-    let mut last = None;
     let mut units = Vec::new(alloc);
     for header in headers {
-        let section = sections.debug_abbrev;
-        let table = unit_table(alloc, section, header, &mut left, last)?;
-        let unit = entries(alloc, sections.debug_info, *header, &table, keeping)?;
+        let number = tables.number_of(alloc, header)?;
+        let table = tables.table(number);
+        let unit = entries(alloc, sections.debug_info, *header, table, keeping)?;
         units.push(unit)?;
-        last = Some(table);
     }
     Ok(units)
 }

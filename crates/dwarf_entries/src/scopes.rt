@@ -18,7 +18,7 @@ use crate::sections::Sections;
 use crate::texts::Texts;
 use crate::unit_scopes::Units;
 use dwarf_bytes::{Cause, LoadFault};
-use dwarf_units::{UnitHeader, judge_tables, units};
+use dwarf_units::{Tables, UnitHeader, units};
 use std::alloc::{AllocError, Global};
 use std::marker::Model;
 
@@ -61,13 +61,14 @@ impl Scopes {
     {
         bound_places(alloc, sections)?;
         let headers = units(alloc, sections.debug_info)?;
-        judge_tables(alloc, sections.debug_abbrev, headers.as_slice())?;
+        let mut tables = Tables::judge(alloc, sections.debug_abbrev, headers.as_slice())?;
         let texts = Texts::of(alloc, sections)?;
-        match Scopes::read_with(alloc, sections, &texts, headers.as_slice(), Keeping::Scopes) {
+        let units = headers.as_slice();
+        match Scopes::read_with(alloc, sections, &texts, units, &mut tables, Keeping::Scopes) {
             Ok(scopes) => Ok(scopes),
             Err(fault) => match fault.cause {
                 Cause::Reference => {
-                    Scopes::read_with(alloc, sections, &texts, headers.as_slice(), Keeping::Every)
+                    Scopes::read_with(alloc, sections, &texts, units, &mut tables, Keeping::Every)
                 }
                 _ => Err(fault),
             },
@@ -81,15 +82,18 @@ impl Scopes {
         sections: &Sections<'_>,
         texts: &Texts<'_>,
         headers: &[UnitHeader],
+        tables: &mut Tables<'_>,
         keeping: Keeping,
     ) -> Result<Scopes, LoadFault>
         requires texts { AreTexts (sections_of sections.now) texts.now }
         requires tables { TablesRead (sections_of sections.now) headers.now }
-        ensures { (read : TablesRead (sections_of sections.now) headers.now)
+        requires section { tables.old.section ≡ sections.now.debug_abbrev.now }
+        ensures section { tables.new.section ≡ tables.old.section }
+        ensures decodes { (read : TablesRead (sections_of sections.now) headers.now)
             → Decodes (λ scopes. scopes) result (tree_with keeping
             (sections_of sections.now) headers.now read.tables) }
     {
-        let kept = all_entries(alloc, sections, headers, keeping)?;
+        let kept = all_entries(alloc, sections, headers, tables, keeping)?;
         let bases = all_bases(alloc, sections, kept.as_slice())?;
         let units = Units {
             sections,

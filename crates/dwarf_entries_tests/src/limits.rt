@@ -145,18 +145,20 @@ fn entries_of_many_flags(rt: HostRuntime) -> Result<(), Fail> {
     Ok(())
 }
 
-/// Checks that so many units of 13 bytes are read, each with a root that is its only scope.
+/// Checks that so many units of 12 bytes and an entry each are read, whose roots are their only scopes.
 fn are_units(
     rt: &(impl Abort + AllocGlobal),
     info: &[u8],
     table: &[u8],
     count: usize,
+    entry_len: usize,
 ) -> Result<(), Fail> {
     let read = Scopes::read(rt.alloc(), &sections(info, table))?;
     assert_eq!(rt; read.scopes().len(), count);
     assert_eq!(rt; read.roots().len(), count);
+    let unit_len = entry_len.saturating_add(12);
     for (number, unit) in read.roots().iter().enumerate() {
-        let offset = number.saturating_mul(13).saturating_add(12);
+        let offset = number.saturating_mul(unit_len).saturating_add(12);
         assert_eq!(rt; *unit, root(offset, number, number.saturating_add(1)));
     }
     Ok(())
@@ -166,7 +168,7 @@ fn are_units(
 fn units_of_one_table(rt: HostRuntime) -> Result<(), Fail> {
     let table = subprograms(rt.alloc(), 1_000)?;
     let info = units(rt.alloc(), 4_000, 1, 1)?;
-    are_units(&rt, &info, &table, 4_000)
+    are_units(&rt, &info, &table, 4_000, 1)
 }
 
 /// The table is read once, not once a unit.
@@ -174,5 +176,70 @@ fn units_of_one_table(rt: HostRuntime) -> Result<(), Fail> {
 fn units_of_one_long_declaration(rt: HostRuntime) -> Result<(), Fail> {
     let table = flags(rt.alloc(), 100_000)?;
     let info = units(rt.alloc(), 20_000, 0, 2)?;
-    are_units(&rt, &info, &table, 20_000)
+    are_units(&rt, &info, &table, 20_000, 1)
+}
+
+/// Puts a unit of one entry of three bytes or less behind others, whose abbreviations stand anywhere.
+fn add_unit_at(info: &mut Vec<u8>, abbreviations: usize, entry: &[u8]) -> Result<(), AllocError> {
+    let abbreviations = u32::try_from(abbreviations).unwrap_or(0);
+    let unit_length = u8::try_from(entry.len()).unwrap_or(0).saturating_add(8);
+    // unit_length, version, unit_type, address_size
+    info.extend_from_slice(&[unit_length, 0, 0, 0, 5, 0, 1, 8])?;
+    info.extend_from_slice(&abbreviations.to_le_bytes())?;
+    info.extend_from_slice(entry)?;
+    Ok(())
+}
+
+/// So many units of one entry of this code, whose abbreviations stand at one of two places in turn.
+fn units_in_turn(
+    alloc: Global,
+    count: usize,
+    places: (usize, usize),
+    code: u8,
+) -> Result<Vec<u8>, AllocError> {
+    let mut info = Vec::new(alloc);
+    for number in 0..count {
+        let place = if number % 2 == 0 { places.0 } else { places.1 };
+        add_unit_at(&mut info, place, &[code])?;
+    }
+    Ok(info)
+}
+
+/// Each of the two tables is read once, not once a unit.
+#[test]
+fn units_of_two_long_tables(rt: HostRuntime) -> Result<(), Fail> {
+    let mut tables = flags(rt.alloc(), 100_000)?;
+    let other = tables.len();
+    tables.extend_from_slice(&flags(rt.alloc(), 100_000)?)?;
+    let info = units_in_turn(rt.alloc(), 2_000, (0, other), 2)?;
+    are_units(&rt, &info, &tables, 2_000, 1)
+}
+
+/// The declarations of both tables count for each unit: 64 units of 65,536 take all 2^22.
+#[test]
+fn declarations_of_two_tables(rt: HostRuntime) -> Result<(), Fail> {
+    let mut tables = subprograms(rt.alloc(), 65_536)?;
+    let other = tables.len().saturating_add(1);
+    tables.extend_from_slice(&subprograms(rt.alloc(), 65_536)?)?;
+    let info = units_in_turn(rt.alloc(), 65, (other, 1), 1)?;
+    let fault = LoadFault {
+        section: Section::DebugAbbrev,
+        cause: Cause::TooMany,
+        at: other as u64,
+    };
+    let read = Scopes::read(rt.alloc(), &sections(&info, &tables));
+    assert_eq!(rt; read.err(), Some(fault));
+    Ok(())
+}
+
+/// The table of each unit begins with another declaration of a thousand. Not all of them are kept.
+#[test]
+fn units_of_overlapping_tables(rt: HostRuntime) -> Result<(), Fail> {
+    let table = subprograms(rt.alloc(), 1_000)?;
+    let mut info = Vec::new(rt.alloc());
+    for number in 0..1_000u32 {
+        let place = (number as usize).saturating_mul(7).saturating_add(1);
+        add_unit_at(&mut info, place, &three_bytes(number.saturating_add(1)))?;
+    }
+    are_units(&rt, &info, &table, 1_000, 3)
 }

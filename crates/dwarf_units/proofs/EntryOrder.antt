@@ -37,7 +37,7 @@ listed-rise format table unit end size before at (x ∷ all) after h from le wit
     by_node offset depth Null is lt rest = rest from (omega (arith, le, lt))
 
 -- what stands at the bottom of a unit, from what is read of it
-listed_in : (info : List ℕ) (header : UnitHeader) (table : List Declaration) (dies : List Die) (P : Type 0) → entries_of info header table ≡ Ok dies →
+pub listed_in : (info : List ℕ) (header : UnitHeader) (table : List Declaration) (dies : List Die) (P : Type 0) → entries_of info header table ≡ Ok dies →
     ((all : List Standing) (after : ℕ) → Lists (node_at header.format table (take header.end info)) [] header.first all after → filter_map die_of all ≡ dies → P) → P
 unfolding entries_of
 listed_in info header table dies P h next =

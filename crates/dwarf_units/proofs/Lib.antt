@@ -4,5 +4,6 @@ pub mod TableLaws
 pub mod EntryMoves
 pub mod NodeLaws
 pub mod EntryOrder
+pub mod AgainLaws
 pub mod PlanLaws
 pub mod PlanTurns

@@ -1,7 +1,10 @@
 -- The turns of the loop over the tables of the units.
-use Rattle.std.proofs.Common.{◌≡◌, ℕ, ◌+◌, ◌-◌, ◌<◌, ◌≤◌, ◌⊎◌, inl, inr, List, [], ◌∷◌, ◌++◌, length, drop, get_or, refl, ap, sym, ◌∙◌, subst, arith, drop-cons, add-one}
-use Rattle.std.specs.Prelude.{Option, Some, None, Result, Ok, Err, ◌==◌, map, find, position, option_map, slice_get, sum_by}
-use Rattle.std.proofs.lemmas.Option.{slice_get-map}
+use Rattle.std.proofs.Common.{◌≡◌, ℕ, ◌+◌, ◌-◌, ◌<◌, ◌≤◌, ◌⊎◌, inl, inr, List, [], ◌∷◌, ◌++◌, length, length-append, take, drop, get_or, refl, ap, sym, ◌∙◌, subst, arith, drop-cons, add-one}
+use Rattle.std.specs.Prelude.{Option, Some, Result, Ok, Err, ◌==◌, map, find, position, option_map, slice_get, sum_by}
+use Rattle.std.specs.List.{All}
+use Rattle.std.proofs.Math.Seq.{get_or-append_seam}
+use Rattle.std.proofs.lemmas.List.Elements.{All-take, All-append, All-cons, All-nil}
+use Rattle.std.proofs.lemmas.Option.{slice_get-map, slice_get-get_or, slice_get_within, get_or_from_slice_get}
 use Rattle.dwarf_bytes.specs.declared.format.Format.{Format}
 use Rattle.dwarf_forms.proofs.Codes.{find-place}
 use Rattle.std.proofs.lemmas.List.Sums.{sum_by-append}
@@ -12,14 +15,14 @@ use Rattle.dwarf_bytes.specs.declared.fault.LoadFault.{LoadFault}
 use Rattle.dwarf_bytes.specs.Items.{At, each_from, each}
 use Rattle.dwarf_bytes.specs.Refusals.{memory_fault, in_section}
 use Rattle.dwarf_bytes.proofs.EachLaws.{made_front, each-next, each-fault, each-end}
+use Rattle.dwarf_bytes.proofs.EachPlaces.{each-place}
 use Rattle.dwarf_forms.specs.Declarations.{Declaration}
 use Rattle.dwarf_bytes.specs.Bind.{◌>>=◌}
 use Rattle.dwarf_forms.specs.Tables.{table_at, declarations_of}
 use Rattle.dwarf_forms.proofs.TableSpelling.{table_spelled, table_read}
 use Rattle.dwarf_units.specs.declared.unit_headers.UnitHeader.{UnitHeader}
-use Rattle.dwarf_units.specs.declared.tables.JudgedTable.{JudgedTable}
 use Rattle.dwarf_units.specs.Private.Plans.{Planned, plan_of, Table}
-use Rattle.dwarf_units.specs.Private.Tables.{IsJudged, IsLast}
+use Rattle.dwarf_units.specs.Private.Tables.{StandsIn}
 use Rattle.dwarf_units.specs.Units.{declarations_limit, tables_of}
 
 abbrev pub table_for : List ℕ → List (List Declaration) → UnitHeader → Result (List Declaration) At
@@ -101,42 +104,60 @@ table_again room other section offset table read few = by_read (table_at room se
         let again : table_at other section offset ≡ Ok (found.0, found.1) = table_read other section offset found.0 found.1 spelled.0 spelled.1 (subst (λ (t : List Declaration). length t ≤ other) (sym same) few) in
         ap (λ (r : Result (List Declaration × ℕ) At). r >>= λ found. (let f : List Declaration → Result (List Declaration) At = λ z. Ok z in f found.0)) again ∙ ap (λ (t : List Declaration). Ok t) same
 
--- the last table stands where another unit names it
-pub last_again : (section : List ℕ) (last : Option Table) (table : Table) (offset left : ℕ) → IsLast section last → last ≡ Some table → table.offset ≡ offset → length table.declarations ≤ left →
+-- .. and has no more declarations than there was room for
+pub table_few : (room : ℕ) (section : List ℕ) (offset : ℕ) (table : List Declaration) → declarations_of room section offset ≡ Ok table → length table ≤ room
+table_few room section offset table read = by_read (table_at room section offset) refl read
+  where
+    same_table : {x y : List Declaration} → (let f : List Declaration → Result (List Declaration) At = λ z. Ok z in f x ≡ f y) → x ≡ y
+    same_table h = cc
+
+    by_read : (r : Result (List Declaration × ℕ) At) → table_at room section offset ≡ r → (r >>= λ found. Ok found.0) ≡ Ok table → length table ≤ room
+    by_read (Err e) is h = cc
+    by_read (Ok found) is h = subst (λ (t : List Declaration). length t ≤ room) (same_table h) (table_spelled room section offset found.0 found.1 is).2
+
+-- the table of a unit, where there is room for as many declarations as units may have in all
+pub table_is : (section : List ℕ) (headers : List UnitHeader) (tables : List (List Declaration)) (index : ℕ) (d : UnitHeader) → tables_of section headers ≡ Ok tables → index < length headers →
+    declarations_of declarations_limit section (get_or headers index d).abbreviations ≡ Ok (get_or tables index [])
+unfolding tables_of
+table_is section headers tables index d all within =
+    let room : ℕ = declarations_limit - sum_by length (take index tables) in
+    let offset : ℕ = (get_or headers index d).abbreviations in
+    let read : declarations_of room section offset ≡ Ok (get_or tables index []) = each-place (table_for section) [] headers tables all index d [] within in
+    let few : length (get_or tables index []) ≤ room = table_few room section offset (get_or tables index []) read in
+    table_again room declarations_limit section offset (get_or tables index []) read (omega (arith, few))
+
+-- a table that was read stands at its offset
+pub stands_read : (section : List ℕ) (room : ℕ) (table : Table) (offset : ℕ) → table.offset ≡ offset → in_section sections.DebugAbbrev (declarations_of room section offset) ≡ Ok table.declarations → length table.declarations ≤ declarations_limit → StandsIn section table
+stands_read section room table offset same read few =
+    table_again room declarations_limit section table.offset table.declarations
+    (in_section_ok sections.DebugAbbrev (declarations_of room section table.offset) table.declarations (subst (λ (k : ℕ). in_section sections.DebugAbbrev (declarations_of room section k) ≡ Ok table.declarations) (sym same) read)) few
+
+-- a table that is known stands where a unit names it
+pub known_stands : (section : List ℕ) (tables : List Table) (number : ℕ) (table : Table) (offset : ℕ) → All (StandsIn section) tables → slice_get tables number ≡ Some table → table.offset ≡ offset → declarations_of declarations_limit section offset ≡ Ok table.declarations
+known_stands section tables number table offset all at same =
+    let here : get_or tables number table ≡ table = get_or_from_slice_get tables number table table at in
+    let stands : StandsIn section (get_or tables number table) = all number table (slice_get_within tables number table at) in
+    subst (λ (k : ℕ). declarations_of declarations_limit section k ≡ Ok table.declarations) same (subst (λ (t : Table). StandsIn section t) here stands)
+
+-- .. and is read again where there is room for it
+pub known_again : (section : List ℕ) (tables : List Table) (number : ℕ) (table : Table) (offset left : ℕ) → All (StandsIn section) tables → slice_get tables number ≡ Some table → table.offset ≡ offset → length table.declarations ≤ left →
     in_section sections.DebugAbbrev (declarations_of left section offset) ≡ Ok table.declarations
-last_again section None table offset left known is same few = cc
-last_again section (Some last) table offset left known is same few =
-    let kept = subst (λ (t : Table). (room : ℕ) × (declarations_of room section t.offset ≡ Ok t.declarations)) (same_some is) known in
-    ap (λ (r : Result (List Declaration) At). in_section sections.DebugAbbrev r) (table_again kept.0 left section offset table.declarations (subst (λ (k : ℕ). declarations_of kept.0 section k ≡ Ok table.declarations) same kept.1) few)
-  where
-    same_some : {x y : Table} → (let f : Table → Option Table = λ t. Some t in f x ≡ f y) → x ≡ y
-    same_some h = cc
+known_again section tables number table offset left all at same few =
+    ap (λ (r : Result (List Declaration) At). in_section sections.DebugAbbrev r) (table_again declarations_limit left section offset table.declarations (known_stands section tables number table offset all at same) few)
 
--- a table that was read is the last one
-pub last_read : (section : List ℕ) (room : ℕ) (table : Table) (offset : ℕ) → table.offset ≡ offset → in_section sections.DebugAbbrev (declarations_of room section offset) ≡ Ok table.declarations → IsLast section (Some table)
-last_read section room table offset same read = (room, in_section_ok sections.DebugAbbrev (declarations_of room section table.offset) table.declarations (subst (λ (k : ℕ). in_section sections.DebugAbbrev (declarations_of room section k) ≡ Ok table.declarations) (sym same) read))
+-- fewer tables stand, and one more behind them
+pub stand_before : (section : List ℕ) (tables after : List Table) (kept : ℕ) → All (StandsIn section) tables → after ≡ take kept tables → All (StandsIn section) after
+stand_before section tables after kept all is = subst (λ (ts : List Table). All (StandsIn section) ts) (sym is) (All-take (StandsIn section) kept tables all)
 
--- the table that was judged last stands where another unit names it
-pub judged_again : (section : List ℕ) (last : Option JudgedTable) (judged : JudgedTable) (offset left : ℕ) → IsJudged section last → last ≡ Some judged → judged.offset ≡ offset → judged.len ≤ left →
-    (table : List Declaration) × (in_section sections.DebugAbbrev (declarations_of left section offset) ≡ Ok table) × ((left - judged.len) + length table ≡ left) × (judged ≡ record { offset = offset; len = length table })
-judged_again section None judged offset left known is same few = cc
-judged_again section (Some last) judged offset left known is same few =
-    let kept = subst (λ (t : JudgedTable). (room : ℕ) × (table : List Declaration) × (declarations_of room section t.offset ≡ Ok table) × (length table ≡ t.len)) (same_some is) known in (
-      kept.1,
-      ap (λ (r : Result (List Declaration) At). in_section sections.DebugAbbrev r) (table_again kept.0 left section offset kept.1 (subst (λ (k : ℕ). declarations_of kept.0 section k ≡ Ok kept.1) same kept.2) (omega (arith, kept.3, few))),
-      omega (arith, kept.3, few),
-      whole judged.offset offset judged.len (length kept.1) same (sym kept.3),
-    )
-  where
-    same_some : {x y : JudgedTable} → (let f : JudgedTable → Option JudgedTable = λ t. Some t in f x ≡ f y) → x ≡ y
-    same_some h = cc
+pub stand_behind : (section : List ℕ) (tables after : List Table) (kept : ℕ) (table : Table) → All (StandsIn section) tables → StandsIn section table → after ≡ take kept tables ++ table ∷ [] → All (StandsIn section) after
+stand_behind section tables after kept table all one is =
+    subst (λ (ts : List Table). All (StandsIn section) ts) (sym is)
+    (All-append (StandsIn section) (take kept tables) (table ∷ []) (All-take (StandsIn section) kept tables all) (All-cons (StandsIn section) table [] one (All-nil (StandsIn section))))
 
-    whole : (a b m n : ℕ) → a ≡ b → m ≡ n → (let t : JudgedTable = record { offset = a; len = m } in t) ≡ record { offset = b; len = n }
-    whole a b m n h1 h2 = cc
-
--- a table that was judged is the last one
-pub judged_read : (section : List ℕ) (room : ℕ) (table : List Declaration) (judged : JudgedTable) (offset : ℕ) → in_section sections.DebugAbbrev (declarations_of room section offset) ≡ Ok table → judged ≡ record { offset = offset; len = length table } → IsJudged section (Some judged)
-judged_read section room table judged offset read is = rw is (room, table, in_section_ok sections.DebugAbbrev (declarations_of room section offset) table read, refl)
+pub behind_at : (before after : List Table) (number : ℕ) (table : Table) → after ≡ before ++ table ∷ [] → number ≡ length before → slice_get after number ≡ Some table
+behind_at before after number table is at =
+    rw (is, at)
+    (slice_get-get_or (before ++ table ∷ []) (length before) table (omega (arith, length-append before (table ∷ []))) ∙ ap (λ (t : Table). Some t) (get_or-append_seam before table [] table))
 
 -- the declaration of a code, and how its attributes are read, by its place
 pub planned_at : (code : ℕ) (format : Format) (table : List Declaration) (plans : List Planned) (place : ℕ) (declaration : Declaration) (plan : Planned) → position (λ d. d.code == code) table ≡ Some place →

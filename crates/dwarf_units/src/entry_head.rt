@@ -3,12 +3,12 @@
 ghost use Rattle.std.specs.Prelude.{◌≡◌, ◌≤◌, IsSome, IfOk};
 ghost use Rattle.dwarf_bytes.specs.Refusals.{ReadsField};
 ghost use Rattle.dwarf_units.specs.Entries.{depth_limit};
-ghost use Rattle.dwarf_units.specs.Private.Heads.{head_at};
+ghost use Rattle.dwarf_units.specs.Private.Heads.{head_at, used_entry_at, TellsAndFills};
 ghost use Rattle.dwarf_units.specs.Private.Plans.{kept_attributes_at, Fills};
 
 use crate::attributes::Attribute;
 use crate::plans::{Plan, read_steps};
-use crate::tables::UnitTable;
+use crate::unit_table::UnitTable;
 use dwarf_bytes::{Cause, Cursor, Format};
 use dwarf_forms::Decl;
 use std::marker::Model;
@@ -66,6 +66,19 @@ impl UnitTable {
             declaration,
             plan,
         }))
+    }
+
+    /// Reads the entry at the cursor again, whatever stands before it: its used attributes into
+    /// `found`, in place of what is there. Tells its tag. A null is no entry: it has no declaration.
+    #[tactic(auto, unfolding(crate::specs::Entries::entry_at))]
+    pub fn read_entry(&self, cursor: &mut Cursor, found: &mut Vec<Attribute>) -> Result<u64, Cause>
+        ensures { TellsAndFills result found.new.items (used_entry_at self.now)
+            cursor.old cursor.new }
+    {
+        let code = cursor.uleb()?;
+        let (declaration, plan) = self.find(code).ok_or(Cause::AbbrevCode)?;
+        read_steps(self.format(), plan.steps(true), cursor, found)?;
+        Ok(declaration.tag())
     }
 }
 

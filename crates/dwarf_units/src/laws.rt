@@ -1,12 +1,12 @@
 //! What is true of the entries of all units.
 
-ghost use Rattle.std.specs.Prelude.{◌≡◌, ℕ, List, [], Ok, map};
+ghost use Rattle.std.specs.Prelude.{◌≡◌, ℕ, List, [], Some, Ok, map, slice_get, take};
 ghost use Rattle.std.specs.List.Sorted.{IsStrictlyIncreasing};
 ghost use Rattle.dwarf_bytes.specs.declared.format.Format.{Format};
 ghost use Rattle.dwarf_bytes.specs.Items.{items_from};
 ghost use Rattle.dwarf_forms.specs.Declarations.{Declaration};
 ghost use Rattle.dwarf_units.specs.declared.unit_headers.UnitHeader.{UnitHeader};
-ghost use Rattle.dwarf_units.specs.Entries.{Standing, Die, AreDepths, node_at, entries_of};
+ghost use Rattle.dwarf_units.specs.Entries.{Standing, Die, AreDepths, node_at, entry_at, entries_of};
 
 /// Whatever is read of a unit stands at counted depths: behind the entries with children before it,
 /// less the nulls before it that stand at a depth above 0.
@@ -21,4 +21,13 @@ pub fn offsets_of_entries_rise()
     ensures { (info : List ℕ) (header : UnitHeader) (table : List Declaration) (dies : List Die)
         → entries_of info header table ≡ Ok dies
         → IsStrictlyIncreasing (map (λ (die : Die). die.offset) dies) }
+{}
+
+/// Each entry of a unit is read again at its offset, whatever stands before it.
+pub fn entries_are_read_again()
+    ensures { (info : List ℕ) (header : UnitHeader) (table : List Declaration) (dies : List Die)
+        → entries_of info header table ≡ Ok dies
+        → (i : ℕ) (die : Die) → slice_get dies i ≡ Some die
+        → (after : ℕ) × (entry_at header.format table (take header.end info) die.offset
+        ≡ Ok ((die.tag, die.attributes), after)) }
 {}

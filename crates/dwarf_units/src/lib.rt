@@ -8,8 +8,10 @@ pub mod laws;
 mod plans;
 mod tables;
 mod unit_headers;
+mod unit_table;
 
 pub use attributes::{Attribute, AttributeValue, is_address, value_of};
 pub use entry_head::EntryHead;
-pub use tables::{DECLARATIONS_LIMIT, UnitTable, judge_tables, unit_table};
+pub use tables::Tables;
 pub use unit_headers::{UnitHeader, UnitType, units};
+pub use unit_table::UnitTable;

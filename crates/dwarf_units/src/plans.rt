@@ -51,6 +51,12 @@ impl Plan {
         })
     }
 
+    /// How many steps it has.
+    pub(crate) fn len(&self) -> u64 {
+        let kept = self.kept.len() as u64;
+        kept.saturating_add(self.passed.len() as u64)
+    }
+
     /// The steps, by whether the used attributes are kept.
     pub(crate) fn steps(&self, keep: bool) -> &[AttributeStep]
         ensures { (format : Format) (declared : List Specification)

@@ -1,224 +1,218 @@
-//! The abbreviation tables of the units (DWARF 5, 7.5.3).
+//! The abbreviation tables of all units (DWARF 5, 7.5.3), each read once.
 
-ghost use Rattle.std.specs.Prelude.{◌≡◌, ◌⊎◌, ◌+◌, ◌==◌, List, Some, None, Ok, Err, length, find, position, AllPairs, ◌≢◌, IsTrue, ◌↔◌, IfOk, IfErr, IfNone, IfSome};
+ghost use Rattle.std.specs.Prelude.{◌≡◌, ◌⊎◌, ◌+◌, ◌<◌, ◌≤◌, ◌++◌, ◌∷◌, [], take, List, Some, Ok, Err, length, slice_get, IfOk, IfErr, OnErr, IfSome};
 ghost use Rattle.dwarf_bytes.specs.declared.fault.Section.TheVariants as sections;
-ghost use Rattle.dwarf_bytes.specs.Refusals.{memory_fault, Decodes, in_section, Judges};
+ghost use Rattle.dwarf_bytes.specs.Refusals.{memory_fault, in_section};
 ghost use Rattle.dwarf_forms.specs.Declarations.{Declaration};
-ghost use Rattle.dwarf_forms.specs.Private.Index.{AreIndexed, has_code_at};
 ghost use Rattle.dwarf_forms.specs.Tables.{declarations_of};
-ghost use Rattle.dwarf_units.specs.Units.{tables_of};
-ghost use Rattle.dwarf_units.specs.Private.Plans.{plan_of};
-ghost use Rattle.dwarf_units.specs.Private.Tables.{IsJudged, IsLast};
+ghost use Rattle.dwarf_units.specs.Units.{declarations_limit, tables_of};
+ghost use Rattle.dwarf_units.specs.Private.Plans.{Table};
+ghost use Rattle.dwarf_units.specs.Private.Tables.{StandsIn};
 
-use crate::plans::{Plan, plans};
 use crate::unit_headers::UnitHeader;
+use crate::unit_table::UnitTable;
 use dwarf_bytes::{Format, LoadFault};
-use dwarf_forms::{Abbrevs, Decl};
 use std::alloc::{AllocError, Global};
 use std::collections::BTreeMap;
 use std::marker::Model;
 
 /// The declarations that may be read for all units of an object.
-pub const DECLARATIONS_LIMIT: u64 = 4_194_304;
+const DECLARATIONS_LIMIT: u64 = 4_194_304;
 
-/// Where a table of `.debug_abbrev` stands, and how many declarations it has.
-#[derive(Clone, Copy)]
-pub(crate) struct JudgedTable {
-    pub(crate) offset: u64,
-    pub(crate) len: u64,
-}
-
-/// A table of `.debug_abbrev`, where it stands, and how attributes are read by it in units of a format.
+/// The tables that the units of an object name, and how attributes are read by them.
 #[derive(Drop)]
-pub struct UnitTable {
-    offset: u64,
-    format: Format,
-    declarations: Abbrevs,
-    plans: Vec<Plan>,
-    /// The places of the declarations whose codes are not their places, counted from 1.
-    moved: BTreeMap<u64, usize>,
+pub struct Tables<'a> {
+    section: &'a [u8],
+    tables: Vec<UnitTable>,
+    /// How many of the tables stay; one behind them is the last that was read and had no room.
+    kept: usize,
+    /// How many more declarations and steps are kept.
+    room: u64,
+    numbers: Numbers,
 }
 
-impl Model for UnitTable {
-    ghost use Rattle.std.specs.Prelude.{◌≡◌, map};
-    ghost use Rattle.dwarf_forms.specs.Private.Index.{AreIndexed};
-    ghost use Rattle.dwarf_units.specs.Private.Plans.{Table, plan_of};
-
-    ghost Value = { Table };
-
-    ghost view = { λ t. record { offset = t.offset; format = t.format; declarations = t.declarations } };
-
-    ghost invariant = { λ t. (t.plans.items ≡ map
-        (λ declaration. plan_of t.format declaration.attributes) t.declarations)
-        × AreIndexed t.declarations t.moved };
+/// The numbers of tables by their offsets, for units of each format. A number may be that of another
+/// table in the meantime.
+#[derive(Drop)]
+struct Numbers {
+    dwarf32: BTreeMap<u64, usize>,
+    dwarf64: BTreeMap<u64, usize>,
 }
 
-impl UnitTable {
-    /// Reads the table at an offset, as `Abbrevs::read` does.
-    fn read(
+impl Numbers {
+    fn new(alloc: Global) -> Numbers {
+        Numbers {
+            dwarf32: BTreeMap::new(alloc),
+            dwarf64: BTreeMap::new(alloc),
+        }
+    }
+
+    fn get(&self, format: Format, offset: u64) -> Option<usize> {
+        match format {
+            Format::Dwarf32 => self.dwarf32.get(&offset).copied(),
+            Format::Dwarf64 => self.dwarf64.get(&offset).copied(),
+        }
+    }
+
+    fn insert(&mut self, format: Format, offset: u64, number: usize) -> Result<(), AllocError> {
+        match format {
+            Format::Dwarf32 => self.dwarf32.insert(offset, number)?,
+            Format::Dwarf64 => self.dwarf64.insert(offset, number)?,
+        };
+        Ok(())
+    }
+}
+
+impl<'a> Model for Tables<'a> {
+    ghost use Rattle.std.specs.List.{All};
+    ghost use Rattle.dwarf_units.specs.Private.Tables.{KeptTables, StandsIn};
+
+    ghost Value = { KeptTables };
+
+    ghost view = { λ t. record { section = t.section.now; tables = t.tables.items } };
+
+    ghost invariant = { λ t. All (StandsIn t.section.now) t.tables.items };
+}
+
+impl<'a> Tables<'a> {
+    /// Reads the table of each unit, those of a place and a format once. A fault is told at its
+    /// declaration. Tables that overlap may be more than are kept: declarations and steps that are
+    /// kept are at most twice the bytes of the section, and 65,536.
+    pub fn judge(
         alloc: Global,
-        section: &[u8],
-        format: Format,
-        offset: u64,
+        section: &'a [u8],
+        units: &[UnitHeader],
+    ) -> Result<Tables<'a>, LoadFault>
+        ensures ok { IfOk result (λ _. (tables : List (List Declaration))
+            × (in_section sections.DebugAbbrev (tables_of section.now units.now) ≡ Ok tables)) }
+        ensures err { IfErr result (λ fault. (fault ≡ memory_fault)
+            ⊎ (in_section sections.DebugAbbrev (tables_of section.now units.now) ≡ Err fault)) }
+        ensures section { IfOk result (λ tables. tables.section ≡ section.now) }
+    {
+        let mut tables = Tables::new(alloc, section);
+        let mut left = DECLARATIONS_LIMIT;
+        for unit in units {
+            tables.judge_unit(alloc, unit, &mut left)?;
+        }
+        Ok(tables)
+    }
+
+    fn new(alloc: Global, section: &'a [u8]) -> Tables<'a>
+        ensures { result.section ≡ section.now }
+    {
+        let len = section.len() as u64;
+        Tables {
+            section,
+            tables: Vec::new(alloc),
+            kept: 0,
+            room: len.saturating_mul(2).saturating_add(65_536),
+            numbers: Numbers::new(alloc),
+        }
+    }
+
+    /// Reads the table of a unit, unless it is known. Its declarations are taken from those that are
+    /// left in both cases.
+    fn judge_unit(
+        &mut self,
+        alloc: Global,
+        unit: &UnitHeader,
         left: &mut u64,
-    ) -> Result<UnitTable, LoadFault>
-        ensures decodes { Decodes (λ table. table.declarations) result
-            (in_section sections.DebugAbbrev (declarations_of left.old section.now offset)) }
-        ensures counted { IfOk result (λ table. left.new + length table.declarations ≡ left.old) }
-        ensures place { IfOk result (λ table. (table.offset ≡ offset) × (table.format ≡ format)) }
+    ) -> Result<(), LoadFault>
+        requires { left.old ≤ declarations_limit }
+        ensures ok { IfOk result (λ _. (table : List Declaration)
+            × (in_section sections.DebugAbbrev
+            (declarations_of left.old self.old.section unit.now.abbreviations) ≡ Ok table)
+            × (left.new + length table ≡ left.old)) }
+        ensures err { IfErr result (λ fault. (fault ≡ memory_fault)
+            ⊎ (in_section sections.DebugAbbrev
+            (declarations_of left.old self.old.section unit.now.abbreviations) ≡ Err fault)) }
+        ensures section { self.new.section ≡ self.old.section }
     {
-        let declarations = Abbrevs::read(alloc, section, offset, left)?;
-        let plans = plans(alloc, format, &declarations)?;
-        let moved = moved_places(alloc, declarations.decls())?;
-        Ok(UnitTable {
-            offset,
-            format,
-            declarations,
-            plans,
-            moved,
-        })
-    }
-
-    /// The format of the units whose entries are read by the table.
-    pub(crate) fn format(&self) -> Format
-        ensures { result ≡ self.now.format }
-    {
-        self.format
-    }
-
-    /// The declaration of a code, and how its attributes are read.
-    pub(crate) fn find(&self, code: u64) -> Option<(&Decl, &Plan)>
-        ensures some { IfSome result (λ found. (find
-            (λ declaration. declaration.code == code) self.now.declarations ≡ Some found.0.now)
-            × (found.1.now ≡ plan_of self.now.format found.0.now.attributes)) }
-        ensures none { IfNone result (find
-            (λ declaration. declaration.code == code) self.now.declarations ≡ None) }
-    {
-        let decls = self.declarations.decls();
-        let place = place_of(decls, &self.moved, code)?;
-        let declaration = decls.get(place)?;
-        let plan = self.plans.get(place)?;
-        Some((declaration, plan))
-    }
-
-    fn len(&self) -> u64
-        ensures { result ≡ length self.now.declarations }
-    {
-        self.declarations.decls().len() as u64
-    }
-
-    /// Whether a unit names the table.
-    fn is_of(&self, header: &UnitHeader) -> bool
-        ensures { IsTrue result ↔ ((self.now.offset ≡ header.now.abbreviations)
-            × (self.now.format ≡ header.now.format)) }
-    {
-        self.offset == header.abbreviations && self.format == header.format
-    }
-}
-
-/// The place of the declaration of a code. It is found in constant time where codes count up from 1,
-/// and by the logarithm of their number otherwise.
-fn place_of(decls: &[Decl], moved: &BTreeMap<u64, usize>, code: u64) -> Option<usize>
-    requires { AreIndexed decls.now moved.now }
-    ensures { result ≡ position (λ declaration. declaration.code == code) decls.now }
-{
-    let own = code.saturating_sub(1) as usize;
-    if has_code_at(decls, own, code) {
-        return Some(own);
-    }
-    let moved = *moved.get(&code)?;
-    if has_code_at(decls, moved, code) {
-        return Some(moved);
-    }
-    None
-}
-
-/// Whether the declaration at a place has the code.
-fn has_code_at(decls: &[Decl], place: usize, code: u64) -> bool
-    ensures { result ≡ has_code_at decls.now place code }
-{
-    decls.get(place).is_some_and(|decl| decl.code() == code)
-}
-
-/// The places of the declarations whose codes are not their places, counted from 1, by their codes.
-fn moved_places(alloc: Global, decls: &[Decl]) -> Result<BTreeMap<u64, usize>, AllocError>
-    requires { AllPairs (λ a b. a.code ≢ b.code) decls.now }
-    ensures { IfOk result (λ moved. AreIndexed decls.now moved) }
-{
-    let mut moved = BTreeMap::new(alloc);
-    for (place, decl) in decls.iter().enumerate() {
-        if decl.code() != place as u64 + 1 {
-            moved.insert(decl.code(), place)?;
+        if let Some(number) = self.known(unit) {
+            let len = self.table(number).len();
+            if len <= *left {
+                *left -= len;
+                return Ok(());
+            }
         }
+        let table = UnitTable::read(alloc, self.section, unit.format, unit.abbreviations, left)?;
+        self.keep(table)?;
+        Ok(())
     }
-    Ok(moved)
-}
 
-/// The table at an offset, judged; its declarations are taken from those that are left. The last one
-/// that was judged is not read again where it stands there too.
-fn judged_table(
-    alloc: Global,
-    section: &[u8],
-    offset: u64,
-    left: &mut u64,
-    last: Option<JudgedTable>,
-) -> Result<JudgedTable, LoadFault>
-    requires { IsJudged section.now last }
-    ensures ok { IfOk result (λ judged. (table : List Declaration)
-        × (in_section sections.DebugAbbrev (declarations_of left.old section.now offset) ≡ Ok table)
-        × (left.new + length table ≡ left.old)
-        × (judged ≡ record { offset = offset; len = length table })) }
-    ensures err { IfErr result (λ fault. (fault ≡ memory_fault)
-        ⊎ (in_section sections.DebugAbbrev (declarations_of left.old section.now offset)
-        ≡ Err fault)) }
-{
-    if let Some(last) = last {
-        if last.offset == offset && last.len <= *left {
-            *left -= last.len;
-            return Ok(last);
+    /// The number of the table of a unit. One that is not kept is read again, in place of the last one
+    /// that was not kept.
+    pub fn number_of(&mut self, alloc: Global, unit: &UnitHeader) -> Result<usize, LoadFault>
+        ensures ok { IfOk result (λ number. (table : Table)
+            × (slice_get self.new.tables number ≡ Some table)
+            × (in_section sections.DebugAbbrev (declarations_of declarations_limit self.old.section
+            unit.now.abbreviations) ≡ Ok table.declarations)
+            × (table.offset ≡ unit.now.abbreviations) × (table.format ≡ unit.now.format)) }
+        ensures err { IfErr result (λ fault. (fault ≡ memory_fault)
+            ⊎ (in_section sections.DebugAbbrev (declarations_of declarations_limit
+            self.old.section unit.now.abbreviations) ≡ Err fault)) }
+        ensures section { self.new.section ≡ self.old.section }
+    {
+        if let Some(number) = self.known(unit) {
+            return Ok(number);
         }
+        let mut left = DECLARATIONS_LIMIT;
+        let place = unit.abbreviations;
+        let table = UnitTable::read(alloc, self.section, unit.format, place, &mut left)?;
+        Ok(self.keep(table)?)
     }
-    let table = Abbrevs::read(alloc, section, offset, left)?;
-    let len = table.decls().len() as u64;
-    Ok(JudgedTable { offset, len })
-}
 
-/// Reads the table of each unit and drops it again. A fault is told at its declaration.
-pub fn judge_tables(alloc: Global, section: &[u8], units: &[UnitHeader]) -> Result<(), LoadFault>
-    ensures { Judges result (in_section sections.DebugAbbrev (tables_of section.now units.now)) }
-{
-    let mut left = DECLARATIONS_LIMIT;
-    let mut last = None;
-    for unit in units {
-        let table = judged_table(alloc, section, unit.abbreviations, &mut left, last)?;
-        last = Some(table);
+    /// The table of a number.
+    pub fn table(&self, number: usize) -> &UnitTable
+        requires { number < length self.now.tables }
+        ensures { slice_get self.now.tables number ≡ Some result.now }
+    {
+        &self.tables[number]
     }
-    Ok(())
-}
 
-/// The table of a unit, read as `Abbrevs::read` does; the last one that was read where the unit names
-/// it too.
-pub fn unit_table(
-    alloc: Global,
-    section: &[u8],
-    header: &UnitHeader,
-    left: &mut u64,
-    last: Option<UnitTable>,
-) -> Result<UnitTable, LoadFault>
-    requires { IsLast section.now last }
-    ensures decodes { Decodes (λ table. table.declarations) result
-        (in_section sections.DebugAbbrev
-        (declarations_of left.old section.now header.now.abbreviations)) }
-    ensures counted { IfOk result (λ table. left.new + length table.declarations ≡ left.old) }
-    ensures place { IfOk result (λ table. (table.offset ≡ header.now.abbreviations)
-        × (table.format ≡ header.now.format)) }
-{
-    if let Some(last) = last {
-        let len = last.len();
-        if last.is_of(header) && len <= *left {
-            *left -= len;
-            return Ok(last);
+    /// The number of the table of a unit, where it is kept.
+    fn known(&self, unit: &UnitHeader) -> Option<usize>
+        ensures { IfSome result (λ number. (table : Table)
+            × (slice_get self.now.tables number ≡ Some table)
+            × (table.offset ≡ unit.now.abbreviations) × (table.format ≡ unit.now.format)) }
+    {
+        let number = self.numbers.get(unit.format, unit.abbreviations)?;
+        if self.tables.get(number)?.is_of(unit) {
+            return Some(number);
         }
+        None
     }
-    UnitTable::read(alloc, section, header.format, header.abbreviations, left)
+
+    /// Keeps a table, and gives its number. One for which there is no room is kept up to the next one.
+    fn keep(&mut self, table: UnitTable) -> Result<usize, AllocError>
+        requires { StandsIn self.old.section table }
+        ensures number { IfOk result (λ number. slice_get self.new.tables number ≡ Some table) }
+        ensures section { self.new.section ≡ self.old.section }
+    {
+        let size = table.size();
+        let (format, offset) = (table.format(), table.offset());
+        let number = put_behind(&mut self.tables, self.kept, table)?;
+        self.numbers.insert(format, offset, number)?;
+        if size <= self.room {
+            self.room -= size;
+            self.kept = self.tables.len();
+        }
+        Ok(number)
+    }
+}
+
+/// Puts a table behind so many others, in place of those that stand there, and gives its number.
+fn put_behind(
+    tables: &mut Vec<UnitTable>,
+    kept: usize,
+    table: UnitTable,
+) -> Result<usize, AllocError>
+    ensures ok { IfOk result (λ number. (tables.new.items ≡ take kept tables.old.items ++ table ∷ [])
+        × (number ≡ length (take kept tables.old.items))) }
+    ensures err { OnErr result (tables.new.items ≡ take kept tables.old.items) }
+{
+    tables.truncate(kept);
+    let number = tables.len();
+    tables.push(table)?;
+    Ok(number)
 }

@@ -1,5 +1,5 @@
--- What stands at a place of a unit, without its attributes.
-use Rattle.std.specs.Prelude.{ℕ, List, Bool, Option, Some, None, Result, Ok, nat_lt, ◌==◌, ◌&&◌, if◌then◌else◌, ok_or}
+-- What stands at a place of a unit, without its attributes, or with those that are used.
+use Rattle.std.specs.Prelude.{◌≡◌, ℕ, List, Bool, true, Option, Some, None, Result, Ok, Err, nat_lt, ◌==◌, ◌&&◌, if◌then◌else◌, ok_or}
 use Rattle.dwarf_bytes.specs.declared.fault.Cause.{Cause}
 use Rattle.dwarf_bytes.specs.declared.fault.Cause.TheVariants as causes
 use Rattle.dwarf_bytes.specs.declared.format.Format.{Format}
@@ -7,8 +7,11 @@ use Rattle.dwarf_bytes.specs.Bind.{◌>>=◌}
 use Rattle.dwarf_bytes.specs.Items.{reading, refuse_if}
 use Rattle.dwarf_bytes.specs.Numbers.{uleb_at}
 use Rattle.dwarf_forms.specs.Declarations.{Declaration}
-use Rattle.dwarf_units.specs.Entries.{depth_limit, declaration_of}
-use Rattle.dwarf_units.specs.Private.Plans.{Table}
+use Rattle.dwarf_bytes.specs.Position.{Position}
+use Rattle.dwarf_bytes.specs.Refusals.{Fails}
+use Rattle.dwarf_units.specs.declared.attributes.Attribute.{Attribute}
+use Rattle.dwarf_units.specs.Entries.{depth_limit, declaration_of, entry_at}
+use Rattle.dwarf_units.specs.Private.Plans.{Table, kept_attributes}
 
 -- the declaration of an entry, in a unit of a format
 pub record Head : Type 0 where
@@ -24,3 +27,12 @@ head_at table depth rooted unit at = do
     _ ← refuse_if ((depth == 0) && rooted) causes.TwoRoots
     _ ← refuse_if (nat_lt depth_limit depth) causes.TooDeep
     Ok (Some (record { format = table.format; declaration = declaration }), code.1)
+
+-- the tag of the entry at a place and its attributes that are used, and the place after it
+abbrev pub used_entry_at : Table → List ℕ → ℕ → Result ((ℕ × List Attribute) × ℕ) Cause
+used_entry_at table unit at = entry_at table.format table.declarations unit at >>= λ entry. Ok ((entry.0.0, kept_attributes true entry.0.1), entry.1)
+
+-- What was read in part is told and in part stands in its place, and the cursor stands after it, unless memory ran out.
+abbrev pub TellsAndFills : {X Y : Type 0} → Result X Cause → Y → (List ℕ → ℕ → Result ((X × Y) × ℕ) Cause) → Position → Position → Type 0
+TellsAndFills (Ok x) left read old new = (read old.bytes old.place ≡ Ok ((x, left), new.place)) × (new.bytes ≡ old.bytes)
+TellsAndFills (Err cause) left read old new = Fails cause (read old.bytes old.place)

@@ -4,16 +4,16 @@ use Rattle.dwarf_entries.specs.Sections.{sections_of}
 use Rattle.dwarf_entries.proofs.ReadLaws.{entries_read, units_read, entries_pass_fault, bases_pass_fault, scopes_pass_fault, tree_read, scopes_counted}
 use Rattle.dwarf_entries.proofs.scopes.Scopes.read_with.Goals as goal
 
-pub returns-in_err-kept : goal.returns-in_err-kept
-returns-in_err-kept c read =
+pub returns-in_err-kept-clause-decodes : goal.returns-in_err-kept-clause-decodes
+returns-in_err-kept-clause-decodes c read =
     let p = err_from_is_err_and c.from_residual.result c.from_residual.ensures.1 in
-    rw (p.1, p.2) (entries_pass_fault c.args.keeping (sections_of c.args.sections.now) c.args.headers.now c.in_err-kept.field-0.0 read (c.in_err-kept.ensures read.tables read.tables_are))
+    rw (p.1, p.2) (entries_pass_fault c.args.keeping (sections_of c.args.sections.now) c.args.headers.now c.in_err-kept.field-0.0 read (c.in_err-kept.ensures.decodes read.tables read.tables_are))
 
-pub returns-in_err-bases : goal.returns-in_err-bases
-returns-in_err-bases c read =
+pub returns-in_err-bases-clause-decodes : goal.returns-in_err-bases-clause-decodes
+returns-in_err-bases-clause-decodes c read =
     let p = err_from_is_err_and c.from_residual-in_err-bases.result c.from_residual-in_err-bases.ensures.1 in
     let s = sections_of c.args.sections.now in
-    let entries = entries_read c.args.keeping s c.args.headers.now c.in_ok-kept.kept.items read (c.in_ok-kept.ensures read.tables read.tables_are) in
+    let entries = entries_read c.args.keeping s c.args.headers.now c.in_ok-kept.kept.items read (c.in_ok-kept.ensures.decodes read.tables read.tables_are) in
     rw (p.1, p.2)
     (bases_pass_fault c.args.keeping s c.args.headers.now read c.in_ok-kept.kept.items c.in_err-bases.field-0.0 entries ((rw c.as_slice.ensures.value at c.in_err-bases.ensures) c.args.keeping c.args.headers.now entries.dies entries.kept_are))
 
@@ -21,15 +21,15 @@ pub scopes-requires-clause-known : goal.scopes-requires-clause-known
 scopes-requires-clause-known c =
     let read = c.requires.tables in
     let s = sections_of c.args.sections.now in
-    let entries = entries_read c.args.keeping s c.args.headers.now c.in_ok-kept.kept.items read (c.in_ok-kept.ensures read.tables read.tables_are) in
+    let entries = entries_read c.args.keeping s c.args.headers.now c.in_ok-kept.kept.items read (c.in_ok-kept.ensures.decodes read.tables read.tables_are) in
     let units = units_read c.args.keeping s c.args.headers.now read c.in_ok-kept.kept.items c.in_ok-bases.bases.items entries ((rw c.as_slice.ensures.value at c.in_ok-bases.ensures) c.args.keeping c.args.headers.now entries.dies entries.kept_are) in
     rw (c.as_slice-2.ensures.value, c.as_slice-3.ensures.value) (c.args.keeping, units.us, units.are)
 
-pub returns-in_err-scopes : goal.returns-in_err-scopes
-returns-in_err-scopes c read =
+pub returns-in_err-scopes-clause-decodes : goal.returns-in_err-scopes-clause-decodes
+returns-in_err-scopes-clause-decodes c read =
     let p = err_from_is_err_and c.from_residual-in_err-scopes.result c.from_residual-in_err-scopes.ensures.1 in
     let s = sections_of c.args.sections.now in
-    let entries = entries_read c.args.keeping s c.args.headers.now c.in_ok-kept.kept.items read (c.in_ok-kept.ensures read.tables read.tables_are) in
+    let entries = entries_read c.args.keeping s c.args.headers.now c.in_ok-kept.kept.items read (c.in_ok-kept.ensures.decodes read.tables read.tables_are) in
     let units = units_read c.args.keeping s c.args.headers.now read c.in_ok-kept.kept.items c.in_ok-bases.bases.items entries ((rw c.as_slice.ensures.value at c.in_ok-bases.ensures) c.args.keeping c.args.headers.now entries.dies entries.kept_are) in
     rw (p.1, p.2)
     (scopes_pass_fault c.args.keeping s c.args.headers.now read c.in_ok-kept.kept.items c.in_ok-bases.bases.items c.in_err-scopes.field-0.0 units ((rw (c.as_slice-2.ensures.value, c.as_slice-3.ensures.value) at c.in_err-scopes.ensures) c.args.keeping units.us units.are))
@@ -38,22 +38,22 @@ pub roots-requires : goal.roots-requires
 roots-requires c =
     let read = c.requires.tables in
     let s = sections_of c.args.sections.now in
-    let entries = entries_read c.args.keeping s c.args.headers.now c.in_ok-kept.kept.items read (c.in_ok-kept.ensures read.tables read.tables_are) in
+    let entries = entries_read c.args.keeping s c.args.headers.now c.in_ok-kept.kept.items read (c.in_ok-kept.ensures.decodes read.tables read.tables_are) in
     let units = units_read c.args.keeping s c.args.headers.now read c.in_ok-kept.kept.items c.in_ok-bases.bases.items entries ((rw c.as_slice.ensures.value at c.in_ok-bases.ensures) c.args.keeping c.args.headers.now entries.dies entries.kept_are) in
     let counted = scopes_counted c.args.keeping s c.args.headers.now read c.in_ok-kept.kept.items c.in_ok-bases.bases.items c.in_ok-scopes.scopes.items units ((rw (c.as_slice-2.ensures.value, c.as_slice-3.ensures.value) at c.in_ok-scopes.ensures) c.args.keeping units.us units.are) in
     rw (c.as_slice-4.ensures.value) (omega (arith, counted, c.in_ok-scopes.scopes.ok.0, c.in_ok-scopes.scopes.ok.1, c.in_ok-scopes.scopes.small))
 
-pub returns-in_err-roots : goal.returns-in_err-roots
-returns-in_err-roots c read =
+pub returns-in_err-roots-clause-decodes : goal.returns-in_err-roots-clause-decodes
+returns-in_err-roots-clause-decodes c read =
     let p = err_from_is_err_and c.from_residual-in_err-roots.result c.from_residual-in_err-roots.ensures.1 in
     let s = sections_of c.args.sections.now in
-    let entries = entries_read c.args.keeping s c.args.headers.now c.in_ok-kept.kept.items read (c.in_ok-kept.ensures read.tables read.tables_are) in
+    let entries = entries_read c.args.keeping s c.args.headers.now c.in_ok-kept.kept.items read (c.in_ok-kept.ensures.decodes read.tables read.tables_are) in
     let units = units_read c.args.keeping s c.args.headers.now read c.in_ok-kept.kept.items c.in_ok-bases.bases.items entries ((rw c.as_slice.ensures.value at c.in_ok-bases.ensures) c.args.keeping c.args.headers.now entries.dies entries.kept_are) in
     rw (p.1, p.2) (inl ((rw c.as_slice-4.ensures.value at c.in_err-roots.ensures) c.args.keeping units.us units.are.same))
 
-pub returns : goal.returns
-returns c read =
+pub returns-clause-decodes : goal.returns-clause-decodes
+returns-clause-decodes c read =
     let s = sections_of c.args.sections.now in
-    let entries = entries_read c.args.keeping s c.args.headers.now c.in_ok-kept.kept.items read (c.in_ok-kept.ensures read.tables read.tables_are) in
+    let entries = entries_read c.args.keeping s c.args.headers.now c.in_ok-kept.kept.items read (c.in_ok-kept.ensures.decodes read.tables read.tables_are) in
     let units = units_read c.args.keeping s c.args.headers.now read c.in_ok-kept.kept.items c.in_ok-bases.bases.items entries ((rw c.as_slice.ensures.value at c.in_ok-bases.ensures) c.args.keeping c.args.headers.now entries.dies entries.kept_are) in
     tree_read c.args.keeping s c.args.headers.now read c.in_ok-kept.kept.items c.in_ok-bases.bases.items c.in_ok-scopes.scopes.items c.in_ok-roots.roots.items units ((rw (c.as_slice-2.ensures.value, c.as_slice-3.ensures.value) at c.in_ok-scopes.ensures) c.args.keeping units.us units.are) ((rw c.as_slice-4.ensures.value at c.in_ok-roots.ensures) c.args.keeping units.us units.are.same)

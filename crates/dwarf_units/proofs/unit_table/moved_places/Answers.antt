@@ -1,7 +1,7 @@
 use Rattle.std.proofs.Common.{refl}
 use Rattle.dwarf_units.proofs.CodeLaws.{indexed_moved, indexed_there}
-use Rattle.dwarf_units.proofs.tables.moved_places.Goals.{then-code-place+in_ok-insert, else-code-place}
-use Rattle.dwarf_units.proofs.tables.moved_places.Goals as goal
+use Rattle.dwarf_units.proofs.unit_table.moved_places.Goals.{then-code-place+in_ok-insert, else-code-place}
+use Rattle.dwarf_units.proofs.unit_table.moved_places.Goals as goal
 
 pub loop-place-preserved : goal.loop-place-preserved
 loop-place-preserved c = elim c.if-code-place.branch [

@@ -4,7 +4,7 @@ use Rattle.dwarf_forms.specs.Declarations.{Declaration}
 use Rattle.dwarf_forms.proofs.Codes.{find-place, got}
 use Rattle.dwarf_units.specs.Private.Plans.{plan_of, Table}
 use Rattle.dwarf_units.proofs.TableLaws.{planned_at}
-use Rattle.dwarf_units.proofs.tables.UnitTable.find.Goals as goal
+use Rattle.dwarf_units.proofs.unit_table.UnitTable.find.Goals as goal
 
 pub returns-in_err-place-clause-none : goal.returns-in_err-place-clause-none
 returns-in_err-place-clause-none c =

@@ -1,7 +1,7 @@
 use Rattle.std.proofs.Common.{refl, sym, ◌∙◌}
 use Rattle.std.proofs.lemmas.Option.{none-some}
 use Rattle.dwarf_forms.proofs.Codes.{place_here, place_nowhere, place_moved}
-use Rattle.dwarf_units.proofs.tables.place_of.Goals as goal
+use Rattle.dwarf_units.proofs.unit_table.place_of.Goals as goal
 
 pub returns-then-has_code_at : goal.returns-then-has_code_at
 returns-then-has_code_at c = place_here c.args.decls.now c.args.decls.now c.args.decls.now c.saturating_sub-own.result c.args.code refl refl c.requires.once (sym c.has_code_at.ensures ∙ c.if-has_code_at.true)

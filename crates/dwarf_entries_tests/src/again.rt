@@ -1,0 +1,33 @@
+//! Entries that are read again at their places.
+
+use crate::fixtures::*;
+use dwarf_bytes::{Cause, Cursor};
+use dwarf_units::{Tables, units};
+use std::test::*;
+
+/// The name and the number of each used attribute, at the place of an entry and at that of a null.
+#[test]
+fn entries_at_their_places(rt: HostRuntime) -> Result<(), Fail> {
+    // subprogram: decl_file as data1, name as string, high_pc as data1
+    let forms = [0x3a, 0x0b, 0x03, 0x08, 0x12, 0x0b];
+    let table = declarations(rt.alloc(), (&[], &[]), (&forms, &[]))?;
+    let info = one_scope(rt.alloc(), (&[], &[]), (&[], &[7, 0x66, 0, 9]))?;
+    let headers = units(rt.alloc(), &info)?;
+    let mut tables = Tables::judge(rt.alloc(), &table, &headers)?;
+    let header = headers.first().ok_or("no unit")?;
+    let number = tables.number_of(rt.alloc(), header)?;
+    let mut cursor = Cursor::new(&info);
+    cursor.seek(13)?;
+    let mut found = Vec::new(rt.alloc());
+    let tag = tables.table(number).read_entry(&mut cursor, &mut found);
+    assert_eq!(rt; tag, Ok(0x2e));
+    let mut read = Vec::new(rt.alloc());
+    for attribute in &found {
+        read.push((attribute.name, attribute.value.number))?;
+    }
+    assert_eq!(rt; read.as_slice(), [(0x03, 15), (0x12, 9)].as_slice());
+    assert_eq!(rt; cursor.place(), 18);
+    let null = tables.table(number).read_entry(&mut cursor, &mut found);
+    assert_eq!(rt; null, Err(Cause::AbbrevCode));
+    Ok(())
+}
