@@ -20,6 +20,8 @@ mod ranges;
 #[cfg(test)]
 mod samples;
 #[cfg(test)]
+mod shared;
+#[cfg(test)]
 mod texts;
 #[cfg(test)]
 mod units;
