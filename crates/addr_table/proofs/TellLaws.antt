@@ -19,21 +19,16 @@ the_same : {X : Type 0} {x y : X} → Some x ≡ Some y → x ≡ y
 the_same e = cc
 
 pub told-item : (scopes : List Scope) (kept : List Kept) (i : ℕ) (r : Kept) → AreInOrder scopes → map own_of kept ≡ map own scopes
-    → i < length scopes → r ≡ get_or kept i r → (d : Scope) → TellsOf scopes r (get_or scopes i d)
-told-item scopes kept i r order same lt is d =
+    → i < length scopes → (d : Scope) → TellsOf scopes (get_or kept i r) (get_or scopes i d)
+told-item scopes kept i r order same lt d =
     let len : length kept ≡ length scopes = own-count kept scopes same in
-    let found : slice_get kept i ≡ Some r = get-there kept i r (omega arith) ∙ ap Some (sym is) in
-    let t = tells-of scopes kept i r order same found in
-    subst (λ (s : Scope). TellsOf scopes r s) (the_same (sym t.1 ∙ get-there scopes i d lt)) t.2
-
-pub own-item : (scopes : List Scope) (kept : List Kept) (i : ℕ) (r : Kept) (d : Scope) → map own_of kept ≡ map own scopes
-    → i < length scopes → r ≡ get_or kept i r → own_of r ≡ own (get_or scopes i d)
-own-item scopes kept i r d same lt is =
-    let len : length kept ≡ length scopes = own-count kept scopes same in
-    ap own_of is
-    ∙ (sym (get_or-map own_of kept i r (own d) (omega arith))
-    ∙ (ap (λ (os : List Own). get_or os i (own d)) same ∙ get_or-map own scopes i d (own d) lt))
+    let t = tells-of scopes kept i (get_or kept i r) order same (get-there kept i r (omega arith)) in
+    subst (λ (s : Scope). TellsOf scopes (get_or kept i r) s) (the_same (sym t.1 ∙ get-there scopes i d lt)) t.2
 
 pub end-item : (scopes : List Scope) (kept : List Kept) (i : ℕ) (r : Kept) (d : Scope) → map own_of kept ≡ map own scopes
-    → i < length scopes → r ≡ get_or kept i r → (own_of r).«end» ≡ (get_or scopes i d).«end»
-end-item scopes kept i r d same lt is = ap (λ (o : Own). o.«end») (own-item scopes kept i r d same lt is)
+    → i < length scopes → (own_of (get_or kept i r)).«end» ≡ (get_or scopes i d).«end»
+end-item scopes kept i r d same lt =
+    let len : length kept ≡ length scopes = own-count kept scopes same in
+    ap (λ (o : Own). o.«end»)
+    (sym (get_or-map own_of kept i r (own d) (omega arith))
+    ∙ (ap (λ (os : List Own). get_or os i (own d)) same ∙ get_or-map own scopes i d (own d) lt))

@@ -5,6 +5,8 @@ pub mod EntriesPass
 pub mod BasesPass
 pub mod ScopeLaws
 pub mod SiteLaws
+pub mod SharedLaws
+pub mod RootNumbers
 pub mod ScopesPass
 pub mod ReferenceLaws
 pub mod PathLaws

@@ -1,5 +1,5 @@
 -- Each entry of a range list takes bytes, and the turns of the loop over a list.
-use Rattle.std.proofs.Common.{◌≡◌, ℕ, ◌+◌, ◌<◌, ◌≤◌, ◌⊎◌, inl, inr, List, [], ◌∷◌, ◌++◌, true, length, refl, ap, sym, ◌∙◌, subst, arith, length-append, append-nil}
+use Rattle.std.proofs.Common.{◌≡◌, ℕ, ◌+◌, ◌<◌, ◌≤◌, ◌⊎◌, inl, inr, List, [], ◌∷◌, ◌++◌, true, length, refl, ap, sym, ◌∙◌, subst, arith, append_assoc, length-append, append-nil}
 use Rattle.std.specs.Prelude.{Option, Some, None, Result, Ok, Err, nat_lt, nat_le, flat_map, ok_or, IsOk, ◌↔◌}
 use Rattle.std.proofs.lemmas.List.Concat.{flat_map-append}
 use Rattle.dwarf_bytes.specs.declared.fault.Cause.{Cause}
@@ -24,6 +24,7 @@ use Rattle.dwarf_entries.specs.declared.range_entries.RangeListKind.TheVariants.
 use Rattle.dwarf_entries.specs.declared.range_entries.RangeListEntry.{RangeListEntry}
 use Rattle.dwarf_entries.specs.declared.range_entries.RangeListEntry.TheVariants.{Base, Covers}
 use Rattle.dwarf_entries.specs.Sections.{Sections}
+use Rattle.dwarf_entries.specs.Private.Shared.{AddsRanges}
 use Rattle.dwarf_entries.specs.Bases.{item_at}
 use Rattle.dwarf_entries.specs.Ranges.{base_after, ranges_in, covered_from, covered_pair, index_at, address_at, number_at, start_and_end, start_and_length, offset_pair, sets_base, covers, entry_at, kind_of, listed_behind, listed_at, list_at, Covering}
 
@@ -122,16 +123,16 @@ listed_at-advances room sections bases lists before at x after h =
 
 -- ---- the loop over a list
 
--- what was read of a list so far, in the numbers that the loop keeps
-pub record ListedSoFar (room : ℕ) (sections : Sections) (bases : Bases) (lists : List ℕ) (first place count : ℕ) (base : Option ℕ) (ranges : List Range) : Type 0 where
+-- what was read of a list so far, in the numbers that the loop keeps, with its ranges behind those that were known
+pub record ListedSoFar (room : ℕ) (sections : Sections) (bases : Bases) (lists : List ℕ) (first place count : ℕ) (base : Option ℕ) (known ranges : List Range) : Type 0 where
   pub before : List RangeListEntry
   pub counted : count ≡ length before
   pub base_is : base ≡ base_after bases.low_pc before
-  pub ranges_are : ranges ≡ flat_map ranges_in before
+  pub ranges_are : ranges ≡ known ++ flat_map ranges_in before
   pub read : SoFar (length lists) (listed_at room sections bases lists) first before place
 
-pub listed_none : (room : ℕ) (sections : Sections) (bases : Bases) (lists : List ℕ) (first : ℕ) → ListedSoFar room sections bases lists first first 0 bases.low_pc []
-listed_none room sections bases lists first = record { before = []; counted = refl; base_is = refl; ranges_are = refl; read = so_far-none (length lists) (listed_at room sections bases lists) first }
+pub listed_none : (room : ℕ) (sections : Sections) (bases : Bases) (lists : List ℕ) (first : ℕ) (known : List Range) → ListedSoFar room sections bases lists first first 0 bases.low_pc known known
+listed_none room sections bases lists first known = record { before = []; counted = refl; base_is = refl; ranges_are = sym (append-nil known); read = so_far-none (length lists) (listed_at room sections bases lists) first }
 
 -- the base behind one more entry
 abbrev pub next_base : RangeListEntry → Option ℕ → Option ℕ
@@ -145,26 +146,26 @@ base_after-push low_pc (Base new ∷ before) x = base_after-push (Some new) befo
 base_after-push low_pc (Covers range ∷ before) x = base_after-push low_pc before x
 
 -- what the step found, by the list before it
-behind-is : (room : ℕ) (sections : Sections) (bases : Bases) (lists : List ℕ) (first place count : ℕ) (base : Option ℕ) (ranges : List Range) (so_far : ListedSoFar room sections bases lists first place count base ranges) (at : ℕ) →
+behind-is : (room : ℕ) (sections : Sections) (bases : Bases) (lists : List ℕ) (first place count : ℕ) (base : Option ℕ) (known ranges : List Range) (so_far : ListedSoFar room sections bases lists first place count base known ranges) (at : ℕ) →
     listed_behind room sections bases count base lists at ≡ listed_at room sections bases lists so_far.before at
-behind-is room sections bases lists first place count base ranges so_far at =
+behind-is room sections bases lists first place count base known ranges so_far at =
     ap (λ (k : ℕ). listed_behind room sections bases k base lists at) so_far.counted ∙ ap (λ (b : Option ℕ). listed_behind room sections bases (length so_far.before) b lists at) so_far.base_is
 
 -- what a turn with an entry leaves
-pub record ListTurn (room : ℕ) (sections : Sections) (bases : Bases) (lists : List ℕ) (first count : ℕ) (base : Option ℕ) (ranges : List Range) (old new : Position) (x : RangeListEntry) : Type 0 where
+pub record ListTurn (room : ℕ) (sections : Sections) (bases : Bases) (lists : List ℕ) (first count : ℕ) (base : Option ℕ) (known ranges : List Range) (old new : Position) (x : RangeListEntry) : Type 0 where
   pub bytes_stay : new.bytes ≡ lists
   pub moves : old.place < new.place
   pub within : new.place ≤ length lists
-  pub listed : ListedSoFar room sections bases lists first new.place (count + 1) (next_base x base) (ranges ++ ranges_in x)
+  pub listed : ListedSoFar room sections bases lists first new.place (count + 1) (next_base x base) known (ranges ++ ranges_in x)
 
-pub list_item : (room : ℕ) (sections : Sections) (bases : Bases) (lists : List ℕ) (first count : ℕ) (base : Option ℕ) (ranges : List Range) (old new : Position) (found : Option RangeListEntry) (x : RangeListEntry) → old.bytes ≡ lists →
-    ListedSoFar room sections bases lists first old.place count base ranges → ReadsNext (Ok found) (listed_behind room sections bases count base) old new → found ≡ Some x → ListTurn room sections bases lists first count base ranges old new x
-list_item room sections bases lists first count base ranges old new None x same so_far read is = cc
-list_item room sections bases lists first count base ranges old new (Some y) x same so_far read is =
+pub list_item : (room : ℕ) (sections : Sections) (bases : Bases) (lists : List ℕ) (first count : ℕ) (base : Option ℕ) (known ranges : List Range) (old new : Position) (found : Option RangeListEntry) (x : RangeListEntry) → old.bytes ≡ lists →
+    ListedSoFar room sections bases lists first old.place count base known ranges → ReadsNext (Ok found) (listed_behind room sections bases count base) old new → found ≡ Some x → ListTurn room sections bases lists first count base known ranges old new x
+list_item room sections bases lists first count base known ranges old new None x same so_far read is = cc
+list_item room sections bases lists first count base known ranges old new (Some y) x same so_far read is =
     let eq : y ≡ x = cc in
     let behind : listed_behind room sections bases count base lists old.place ≡ Ok (Item x new.place) =
     subst (λ (b : List ℕ). listed_behind room sections bases count base b old.place ≡ Ok (Item x new.place)) same (subst (λ (z : RangeListEntry). listed_behind room sections bases count base old.bytes old.place ≡ Ok (Item z new.place)) eq read.0) in
-    let here : listed_at room sections bases lists so_far.before old.place ≡ Ok (Item x new.place) = sym (behind-is room sections bases lists first old.place count base ranges so_far old.place) ∙ behind in
+    let here : listed_at room sections bases lists so_far.before old.place ≡ Ok (Item x new.place) = sym (behind-is room sections bases lists first old.place count base known ranges so_far old.place) ∙ behind in
     let moved = listed_at-advances room sections bases lists so_far.before old.place x new.place here in
     record {
       bytes_stay = read.1 ∙ same;
@@ -174,34 +175,35 @@ list_item room sections bases lists first count base ranges old new (Some y) x s
         before = so_far.before ++ x ∷ [];
         counted = omega (arith, so_far.counted, length-append so_far.before (x ∷ []));
         base_is = ap (λ (b : Option ℕ). next_base x b) so_far.base_is ∙ sym (base_after-push bases.low_pc so_far.before x);
-        ranges_are = ap (λ (r : List Range). r ++ ranges_in x) so_far.ranges_are ∙ sym (flat_map-append ranges_in so_far.before (x ∷ []) ∙ ap (λ (r : List Range). flat_map ranges_in so_far.before ++ r) (append-nil (ranges_in x)));
+        ranges_are = ap (λ (r : List Range). r ++ ranges_in x) so_far.ranges_are
+            ∙ (append_assoc known (flat_map ranges_in so_far.before) (ranges_in x)
+            ∙ ap (λ (r : List Range). known ++ r) (sym (flat_map-append ranges_in so_far.before (x ∷ []) ∙ ap (λ (r : List Range). flat_map ranges_in so_far.before ++ r) (append-nil (ranges_in x)))));
         read = so_far-item (length lists) (listed_at room sections bases lists) (listed_at-advances room sections bases lists) first so_far.before old.place x new.place so_far.read here;
       };
     }
 
-pub list_end : (room : ℕ) (sections : Sections) (bases : Bases) (first count : ℕ) (base : Option ℕ) (ranges : List Range) (old new : Position) (found : Option RangeListEntry) → old.bytes ≡ sections.debug_rnglists →
-    ListedSoFar room sections bases sections.debug_rnglists first old.place count base ranges → ReadsNext (Ok found) (listed_behind room sections bases count base) old new → found ≡ None → list_at room sections bases first ≡ Ok (record { ranges = ranges; items = count })
+pub list_end : (room : ℕ) (sections : Sections) (bases : Bases) (first count : ℕ) (base : Option ℕ) (known ranges : List Range) (old new : Position) (found : Option RangeListEntry) → old.bytes ≡ sections.debug_rnglists →
+    ListedSoFar room sections bases sections.debug_rnglists first old.place count base known ranges → ReadsNext (Ok found) (listed_behind room sections bases count base) old new → found ≡ None → AddsRanges (Ok count) known ranges (list_at room sections bases first)
 unfolding list_at
-list_end room sections bases first count base ranges old new (Some y) same so_far read is = cc
-list_end room sections bases first count base ranges old new None same so_far read is =
+list_end room sections bases first count base known ranges old new (Some y) same so_far read is = cc
+list_end room sections bases first count base known ranges old new None same so_far read is =
     let lists = sections.debug_rnglists in
     let behind : listed_behind room sections bases count base lists old.place ≡ Ok (End new.place) =
     subst (λ (b : List ℕ). listed_behind room sections bases count base b old.place ≡ Ok (End new.place)) same read.0 in
-    let here : listed_at room sections bases lists so_far.before old.place ≡ Ok (End new.place) = sym (behind-is room sections bases lists first old.place count base ranges so_far old.place) ∙ behind in
+    let here : listed_at room sections bases lists so_far.before old.place ≡ Ok (End new.place) = sym (behind-is room sections bases lists first old.place count base known ranges so_far old.place) ∙ behind in
     let all = so_far-end (length lists) (listed_at room sections bases lists) (listed_at-advances room sections bases lists) first so_far.before old.place new.place so_far.read here in
-    rw all (ap (λ (c : Covering). Ok c) (sym (covering so_far.ranges_are so_far.counted)))
-  where
-    covering : {r s : List Range} → {m n : ℕ} → r ≡ s → m ≡ n → (let c : Covering = record { ranges = r; items = m } in c) ≡ (let c : Covering = record { ranges = s; items = n } in c)
-    covering e f = cc
+    let read : list_at room sections bases first ≡ Ok (record { ranges = flat_map ranges_in so_far.before; items = count }) =
+    rw all (ap (λ (k : ℕ). (let f : Covering → Result Covering Cause = λ z. Ok z in f (record { ranges = flat_map ranges_in so_far.before; items = k }))) (sym so_far.counted)) in
+    (flat_map ranges_in so_far.before, read, so_far.ranges_are)
 
-pub list_fault : (room : ℕ) (sections : Sections) (bases : Bases) (first count : ℕ) (base : Option ℕ) (ranges : List Range) (old : Position) (cause : Cause) → old.bytes ≡ sections.debug_rnglists →
-    ListedSoFar room sections bases sections.debug_rnglists first old.place count base ranges → listed_behind room sections bases count base old.bytes old.place ≡ Err cause → list_at room sections bases first ≡ Err cause
+pub list_fault : (room : ℕ) (sections : Sections) (bases : Bases) (first count : ℕ) (base : Option ℕ) (known ranges : List Range) (old : Position) (cause : Cause) → old.bytes ≡ sections.debug_rnglists →
+    ListedSoFar room sections bases sections.debug_rnglists first old.place count base known ranges → listed_behind room sections bases count base old.bytes old.place ≡ Err cause → list_at room sections bases first ≡ Err cause
 unfolding list_at
-list_fault room sections bases first count base ranges old cause same so_far read =
+list_fault room sections bases first count base known ranges old cause same so_far read =
     let lists = sections.debug_rnglists in
     let behind : listed_behind room sections bases count base lists old.place ≡ Err cause =
     subst (λ (b : List ℕ). listed_behind room sections bases count base b old.place ≡ Err cause) same read in
-    let here : listed_at room sections bases lists so_far.before old.place ≡ Err cause = sym (behind-is room sections bases lists first old.place count base ranges so_far old.place) ∙ behind in
+    let here : listed_at room sections bases lists so_far.before old.place ≡ Err cause = sym (behind-is room sections bases lists first old.place count base known ranges so_far old.place) ∙ behind in
     rw (so_far-fault (length lists) (listed_at room sections bases lists) (listed_at-advances room sections bases lists) first so_far.before old.place cause so_far.read here) refl
 
 -- ---- a list outside the section

@@ -13,7 +13,6 @@ use Rattle.dwarf_forms.specs.Declarations.{Declaration}
 use Rattle.dwarf_units.specs.declared.unit_headers.UnitHeader.{UnitHeader}
 use Rattle.dwarf_entries.specs.declared.bases.Bases.{Bases}
 use Rattle.dwarf_entries.specs.declared.scope.Root.{Root}
-use Rattle.dwarf_entries.specs.declared.scope.Scope.{Scope as Kept}
 use Rattle.dwarf_entries.specs.declared.kept.Keeping.{Keeping}
 use Rattle.dwarf_entries.specs.declared.kept.Keeping.TheVariants as keepings
 use Rattle.dwarf_entries.specs.declared.kept.UnitEntries.{UnitEntries}
@@ -22,7 +21,8 @@ use Rattle.dwarf_entries.specs.Sections.{Sections}
 use Rattle.dwarf_units.specs.Units.{units_of, tables_of}
 use Rattle.dwarf_units.specs.Entries.{Die}
 use Rattle.dwarf_entries.specs.Bases.{CompilationUnit}
-use Rattle.dwarf_entries.specs.Scopes.{Tree, Scope, Judged, sites_in, roots_from, scope_of, tree_of}
+use Rattle.dwarf_entries.specs.Scopes.{Tree, Scope, Judged, sites_in, roots_from, scopes_of, tree_of}
+use Rattle.dwarf_entries.specs.declared.scope_lists.ScopeLists.{ScopeLists}
 use Rattle.dwarf_entries.specs.Private.Packed.{unpacked}
 use Rattle.dwarf_entries.specs.Private.Kept.{KeptUnit, kept_of, scope_count}
 use Rattle.dwarf_entries.specs.Private.Passes.{all_entries, kept_units, all_kept, all_units, bases_of, all_bases, kept_unit_of, AreUnits, judge, all_sites, all_scopes, TablesRead, tree_of_units, tree_of_dies, tree_with}
@@ -142,13 +142,13 @@ scopes_pass_fault keeping s headers read units bases fault before (inr bad) =
 
 -- ---- the whole answer
 
-pub tree_read : (keeping : Keeping) (s : Sections) (headers : List UnitHeader) (read : TablesRead s headers) (units : List UnitEntries) (bases : List Bases) (scopes : List Kept) (roots : List Root) (before : UnitsRead keeping s headers read units bases) →
-    in_section names.DebugInfo (all_scopes keeping s before.us) ≡ Ok (map scope_of scopes) → roots ≡ roots_from 0 before.us → tree_with keeping s headers read.tables ≡ Ok (record { roots = roots; scopes = map scope_of scopes })
-tree_read keeping s headers read units bases scopes roots before judged_are roots_are =
-    let parts = bound (λ judged. map (λ j. j.scope) judged) (each (judge keeping s before.us) (all_sites before.us)) (map scope_of scopes) judged_are in
+pub tree_read : (keeping : Keeping) (s : Sections) (headers : List UnitHeader) (read : TablesRead s headers) (units : List UnitEntries) (bases : List Bases) (lists : ScopeLists) (roots : List Root) (before : UnitsRead keeping s headers read units bases) →
+    in_section names.DebugInfo (all_scopes keeping s before.us) ≡ Ok (scopes_of (roots_from 0 before.us) lists) → roots ≡ roots_from 0 before.us → tree_with keeping s headers read.tables ≡ Ok (record { roots = roots; scopes = scopes_of roots lists })
+tree_read keeping s headers read units bases lists roots before judged_are roots_are =
+    let parts = bound (λ judged. map (λ j. j.scope) judged) (each (judge keeping s before.us) (all_sites before.us)) (scopes_of (roots_from 0 before.us) lists) judged_are in
     after_units keeping s headers read units bases before
     ∙ (ap (λ (r : Result (List Judged) At). in_section names.DebugInfo r >>= λ judged. (let g : Tree → Result Tree LoadFault = λ t. Ok t in g (record { roots = roots_from 0 before.us; scopes = map (λ j. j.scope) judged }))) parts.1
-    ∙ ap (λ (t : Tree). Ok t) (tree roots_are parts.2))
+    ∙ ap (λ (t : Tree). Ok t) (tree roots_are (ap (λ (rs : List Root). scopes_of rs lists) roots_are ∙ parts.2)))
   where
     tree : {r q : List Root} {a b : List Scope} → r ≡ q → a ≡ b → (let t : Tree = record { roots = q; scopes = b } in t) ≡ (let t : Tree = record { roots = r; scopes = a } in t)
     tree e f = cc
@@ -190,10 +190,10 @@ sites-counted keeping (unit ∷ units) (u ∷ us) same =
     let sum : scope_count (unit ∷ units) ≡ length unit.scopes.items + scope_count units = sum_by-cons (λ unit. length unit.scopes.items) unit units in
     omega (arith, count, sum, sites-counted keeping units us rest, length-append (sites_in u u.dies) (all_sites us))
 
-pub scopes_counted : (keeping : Keeping) (s : Sections) (headers : List UnitHeader) (read : TablesRead s headers) (units : List UnitEntries) (bases : List Bases) (scopes : List Kept) (before : UnitsRead keeping s headers read units bases) →
-    in_section names.DebugInfo (all_scopes keeping s before.us) ≡ Ok (map scope_of scopes) → scope_count units ≡ length scopes
+pub scopes_counted : (keeping : Keeping) (s : Sections) (headers : List UnitHeader) (read : TablesRead s headers) (units : List UnitEntries) (bases : List Bases) (scopes : List Scope) (before : UnitsRead keeping s headers read units bases) →
+    in_section names.DebugInfo (all_scopes keeping s before.us) ≡ Ok scopes → scope_count units ≡ length scopes
 scopes_counted keeping s headers read units bases scopes before judged_are =
-    let parts = bound (λ judged. map (λ j. j.scope) judged) (each (judge keeping s before.us) (all_sites before.us)) (map scope_of scopes) judged_are in
+    let parts = bound (λ judged. map (λ j. j.scope) judged) (each (judge keeping s before.us) (all_sites before.us)) scopes judged_are in
     let made = each-length (judge keeping s before.us) [] (all_sites before.us) parts.0 parts.1 in
-    let told : length scopes ≡ length parts.0 = sym (length-map scopes scope_of) ∙ (ap (λ (ss : List Scope). length ss) parts.2 ∙ length-map parts.0 (λ j. j.scope)) in
+    let told : length scopes ≡ length parts.0 = ap (λ (ss : List Scope). length ss) parts.2 ∙ length-map parts.0 (λ j. j.scope) in
     omega (arith, sites-counted keeping units before.us before.are.same, made, told)

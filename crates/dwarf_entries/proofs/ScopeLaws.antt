@@ -22,14 +22,15 @@ use Rattle.dwarf_entries.specs.declared.kept.Keeping.{Keeping}
 use Rattle.dwarf_entries.specs.declared.kept.UnitEntries.{UnitEntries}
 use Rattle.dwarf_entries.specs.declared.kept.ScopeEntry.{ScopeEntry}
 use Rattle.dwarf_entries.specs.Sections.{Sections}
-use Rattle.dwarf_units.specs.Entries.{Die}
 use Rattle.dwarf_entries.specs.Bases.{CompilationUnit}
 use Rattle.dwarf_entries.specs.Names.{names_of}
 use Rattle.dwarf_entries.specs.Ranges.{Covering, kind_of, base_after, ranges_in, entry_at, listed_at, list_place, list_at, pair_range, covers_by, covers_of}
-use Rattle.dwarf_entries.specs.Scopes.{Judged, ScopeSite, items_limit, stmt_list_of, number_of}
-use Rattle.dwarf_entries.specs.Private.Kept.{KeptUnit, named_entry, root_in, kept_unit, kept_of}
+use Rattle.dwarf_entries.specs.Scopes.{Judged, ScopeSite, items_limit, stmt_list_of, number_of, roots_from}
+use Rattle.dwarf_entries.specs.declared.scope.Range.{Range}
+use Rattle.dwarf_entries.specs.Private.Kept.{KeptUnit, named_entry, kept_unit, kept_of}
+use Rattle.dwarf_entries.specs.Private.Shared.{AddsRanges, AddsFacts}
 use Rattle.dwarf_entries.specs.Private.Members.{IsMember}
-use Rattle.dwarf_entries.specs.Private.Passes.{AreUnits, stmt_list_in, IsScopeSite, only_units, only_member, scope_with}
+use Rattle.dwarf_entries.specs.Private.Passes.{AreUnits, IsScopeSite, only_units, only_member, scope_with}
 use Rattle.dwarf_entries.proofs.OnlyLaws.{is_member}
 
 abbrev pub kept_in : Keeping → CompilationUnit → KeptUnit
@@ -61,9 +62,9 @@ by_names : (keeping : Keeping) (s : Sections) (us : List CompilationUnit) (befor
 by_names keeping s us before p = refl
 
 -- a name that is not read, or a path that does not end
-pub names_fault : (keeping : Keeping) (s : Sections) (units : List UnitEntries) (bases : List Bases) (us : List CompilationUnit) (before : List Judged) (p : ScopeSite) (unit inside number room : ℕ) (entry : ScopeEntry) (cause : Cause) → IsScopeSite us unit entry inside number room before p →
+pub names_fault : (keeping : Keeping) (s : Sections) (units : List UnitEntries) (bases : List Bases) (us : List CompilationUnit) (before : List Judged) (p : ScopeSite) (unit root inside number room : ℕ) (entry : ScopeEntry) (cause : Cause) → IsScopeSite us unit root entry inside number room before p →
     (IsMember (only_units keeping us) unit entry.entry (only_member keeping p.member) → Err cause ≡ names_of s (only_units keeping us) (only_member keeping p.member)) → Fails cause (scope_with keeping s us before p)
-names_fault keeping s units bases us before p unit inside number room entry cause place read =
+names_fault keeping s units bases us before p unit root inside number room entry cause place read =
     let named : entry.entry ≡ named_entry p.member.die = ap (λ (e : ScopeEntry). e.entry) place.entry_is in
     inr
     (by_names keeping s us before p ∙ ap (λ (r : Result EntryNames Cause). r >>= λ names. covers_of (items_limit - sum_by (λ s. s.items) before) s p.member.unit.bases p.member.die >>= λ covering. Ok (scope_of_place before p names covering)) (sym (read (is_member keeping us unit entry.entry p.member place.unit_is named))))
@@ -92,18 +93,14 @@ unit_at keeping units bases us unit u kept found =
         never : (let f : CompilationUnit → Option CompilationUnit = λ z. Some z in f u) ≡ None → ⊥
         never h = cc
 
-pub stmt_list_is : (dies : List Die) → stmt_list_in (root_in dies) ≡ stmt_list_of dies
-stmt_list_is [] = refl
-stmt_list_is (root ∷ dies) = refl
-
 -- what the entry of the place covers, by what is kept of it
 abbrev covers_there : Sections → List Judged → ScopeSite → Result Covering Cause
 covers_there s before p = covers_of (items_limit - sum_by (λ s. s.items) before) s p.member.unit.bases p.member.die
 
-covers_is : (keeping : Keeping) (s : Sections) (units : List UnitEntries) (bases : List Bases) (us : List CompilationUnit) (before : List Judged) (p : ScopeSite) (unit inside number room : ℕ) (entry : ScopeEntry) (d : Bases) → AreUnits keeping units bases us → IsScopeSite us unit entry inside number room before p →
+covers_is : (keeping : Keeping) (s : Sections) (units : List UnitEntries) (bases : List Bases) (us : List CompilationUnit) (before : List Judged) (p : ScopeSite) (unit root inside number room : ℕ) (entry : ScopeEntry) (d : Bases) → AreUnits keeping units bases us → IsScopeSite us unit root entry inside number room before p →
     covers_there s before p ≡ covers_by room s (get_or bases unit d) entry.low_pc entry.high_pc entry.ranges
 unfolding covers_of
-covers_is keeping s units bases us before p unit inside number room entry d kept place =
+covers_is keeping s units bases us before p unit root inside number room entry d kept place =
     let here = (unit_at keeping units bases us unit p.member.unit kept place.unit_is).bases_are d in
     rw (here, place.entry_is, place.room_is) refl
 
@@ -114,43 +111,30 @@ after_names keeping s us before p names read =
     by_names keeping s us before p ∙ ap (λ (r : Result EntryNames Cause). r >>= λ names. covers_there s before p >>= λ covering. Ok (scope_of_place before p names covering)) (sym read)
 
 -- ranges that are not read
-pub covers_fault : (keeping : Keeping) (s : Sections) (units : List UnitEntries) (bases : List Bases) (us : List CompilationUnit) (before : List Judged) (p : ScopeSite) (unit inside number room : ℕ) (entry : ScopeEntry) (names : EntryNames) (cause : Cause) (d : Bases) →
-    AreUnits keeping units bases us → IsScopeSite us unit entry inside number room before p → (IsMember (only_units keeping us) unit entry.entry (only_member keeping p.member) → Ok names ≡ names_of s (only_units keeping us) (only_member keeping p.member)) →
+pub covers_fault : (keeping : Keeping) (s : Sections) (units : List UnitEntries) (bases : List Bases) (us : List CompilationUnit) (before : List Judged) (p : ScopeSite) (unit root inside number room : ℕ) (entry : ScopeEntry) (names : EntryNames) (cause : Cause) (d : Bases) →
+    AreUnits keeping units bases us → IsScopeSite us unit root entry inside number room before p → (IsMember (only_units keeping us) unit entry.entry (only_member keeping p.member) → Ok names ≡ names_of s (only_units keeping us) (only_member keeping p.member)) →
     Fails cause (covers_by room s (get_or bases unit d) entry.low_pc entry.high_pc entry.ranges) → Fails cause (scope_with keeping s us before p)
-covers_fault keeping s units bases us before p unit inside number room entry names cause d kept place read (inl memory) = inl memory
-covers_fault keeping s units bases us before p unit inside number room entry names cause d kept place read (inr bad) =
+covers_fault keeping s units bases us before p unit root inside number room entry names cause d kept place read (inl memory) = inl memory
+covers_fault keeping s units bases us before p unit root inside number room entry names cause d kept place read (inr bad) =
     let named : entry.entry ≡ named_entry p.member.die = ap (λ (e : ScopeEntry). e.entry) place.entry_is in
     inr
     (after_names keeping s us before p names (read (is_member keeping us unit entry.entry p.member place.unit_is named))
-    ∙ ap (λ (r : Result Covering Cause). r >>= λ covering. Ok (scope_of_place before p names covering)) (covers_is keeping s units bases us before p unit inside number room entry d kept place ∙ bad))
+    ∙ ap (λ (r : Result Covering Cause). r >>= λ covering. Ok (scope_of_place before p names covering)) (covers_is keeping s units bases us before p unit root inside number room entry d kept place ∙ bad))
 
--- the scope of the program
-pub scope_is : (keeping : Keeping) (s : Sections) (units : List UnitEntries) (bases : List Bases) (us : List CompilationUnit) (before : List Judged) (p : ScopeSite) (unit inside number room : ℕ) (entry : ScopeEntry) (names : EntryNames) (covering : Covering) (stmt_list : Option ℕ) (d : Bases) (e : UnitEntries) →
-    AreUnits keeping units bases us → IsScopeSite us unit entry inside number room before p → (IsMember (only_units keeping us) unit entry.entry (only_member keeping p.member) → Ok names ≡ names_of s (only_units keeping us) (only_member keeping p.member)) →
-    covers_by room s (get_or bases unit d) entry.low_pc entry.high_pc entry.ranges ≡ Ok covering → stmt_list ≡ stmt_list_in (get_or units unit e).root →
-    scope_with keeping s us before p ≡ Ok (record {
-      items = covering.items;
-      scope = record {
-        kind = entry.kind;
-        offset = entry.entry.offset;
-        number = number;
-        end = number + inside + 1;
-        ranges = covering.ranges;
-        name = names.name;
-        linkage_name = names.linkage_name;
-        stmt_list = stmt_list;
-        call_file = entry.call_file;
-        call_line = entry.call_line;
-      };
-    })
-scope_is keeping s units bases us before p unit inside number room entry names covering stmt_list d e kept place read covers_read stmt_is =
+-- what is told of the scope
+pub scope_is : (keeping : Keeping) (s : Sections) (units : List UnitEntries) (bases : List Bases) (us : List CompilationUnit) (before : List Judged) (p : ScopeSite) (unit root inside number room : ℕ) (entry : ScopeEntry) (names : EntryNames) (items : ℕ) (old new : List Range) (d : Bases) →
+    AreUnits keeping units bases us → IsScopeSite us unit root entry inside number room before p → (IsMember (only_units keeping us) unit entry.entry (only_member keeping p.member) → Ok names ≡ names_of s (only_units keeping us) (only_member keeping p.member)) →
+    AddsRanges (Ok items) old new (covers_by room s (get_or bases unit d) entry.low_pc entry.high_pc entry.ranges) →
+    AddsFacts (roots_from 0 us) (Ok (record { kind = entry.kind; offset = entry.entry.offset; number = number; end = number + inside + 1; root = root; name = names.name; linkage_name = names.linkage_name; site = record { file = entry.call_file; line = entry.call_line } }, items)) old new (scope_with keeping s us before p)
+scope_is keeping s units bases us before p unit root inside number room entry names items old new d kept place read (found, covers_read, grown) =
     let named : entry.entry ≡ named_entry p.member.die = ap (λ (e : ScopeEntry). e.entry) place.entry_is in
-    let root : (get_or units unit e).root ≡ root_in p.member.unit.dies = ap (λ (k : KeptUnit). k.root) ((unit_at keeping units bases us unit p.member.unit kept place.unit_is).entries_are e) in
-    let stmt : stmt_list ≡ stmt_list_of p.member.unit.dies = stmt_is ∙ (ap stmt_list_in root ∙ stmt_list_is p.member.unit.dies) in
-    let ending : number + inside + 1 ≡ length before + 1 + p.inside = omega (arith, place.number_is, place.inside_is) in
-    after_names keeping s us before p names (read (is_member keeping us unit entry.entry p.member place.unit_is named))
-    ∙ (ap (λ (r : Result Covering Cause). r >>= λ covering. Ok (scope_of_place before p names covering)) (covers_is keeping s units bases us before p unit inside number room entry d kept place ∙ covers_read)
-    ∙ rw (place.entry_is, stmt, ending, place.number_is) refl)
+    let ending : number + inside + 1 ≡ length before + 1 + p.inside = omega (arith, place.number_is, place.inside_is) in (
+      found,
+      after_names keeping s us before p names (read (is_member keeping us unit entry.entry p.member place.unit_is named))
+          ∙ (ap (λ (r : Result Covering Cause). r >>= λ covering. Ok (scope_of_place before p names covering)) (covers_is keeping s units bases us before p unit root inside number room entry d kept place ∙ covers_read)
+          ∙ rw (place.entry_is, place.root_is, ending, place.number_is) refl),
+      grown,
+    )
 
 -- ---- the items that were read for a scope are no more than there was room for
 
@@ -227,3 +211,7 @@ covers-room room s bases None None None c h = none h
       where
         same : {x y : Covering} → (let f : Covering → Result Covering Cause = λ c. Ok c in f x ≡ f y) → x ≡ y
         same h = cc
+
+-- .. as they are told
+pub room-left : (room items : ℕ) (s : Sections) (bases : Bases) (low high ranges : Option AttributeValue) (old new : List Range) → AddsRanges (Ok items) old new (covers_by room s bases low high ranges) → items ≤ room
+room-left room items s bases low high ranges old new (found, read, grown) = covers-room room s bases low high ranges (record { ranges = found; items = items }) read

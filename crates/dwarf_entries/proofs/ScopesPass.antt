@@ -1,9 +1,9 @@
 -- The turns of the pass over the scopes of all units.
-use Rattle.std.proofs.Common.{◌≡◌, ℕ, ◌+◌, ◌-◌, ◌^◌, ◌<◌, ◌≤◌, ◌⊎◌, inl, inr, List, [], ◌∷◌, ◌++◌, length, drop, get_or, map, refl, ap, sym, ◌∙◌, subst, arith, append_assoc, drop-cons, add-one}
-use Rattle.std.specs.Prelude.{Result, Ok, Err, Option, Some, None, slice_get, sum_by}
+use Rattle.std.proofs.Common.{◌≡◌, ℕ, ◌+◌, ◌-◌, ◌^◌, ◌<◌, ◌≤◌, ◌⊎◌, inl, inr, zero, suc, List, [], ◌∷◌, ◌++◌, length, drop, get_or, map, cond, refl, ap, sym, ◌∙◌, subst, arith, append_assoc}
+use Rattle.std.specs.Prelude.{Result, Ok, Err, Option, Some, None, is_some, slice_get, sum_by}
 use Rattle.std.proofs.lemmas.List.{drop_all, get_or-map, map-append, length-map}
 use Rattle.std.proofs.lemmas.List.Sums.{sum_by-append}
-use Rattle.std.proofs.lemmas.Option.{slice_get_cases, get_or_from_slice_get}
+use Rattle.std.proofs.lemmas.Option.{slice_get_cases}
 use Rattle.std.specs.List.{filter_map}
 use Rattle.dwarf_bytes.specs.declared.fault.Cause.{Cause}
 use Rattle.dwarf_bytes.specs.declared.fault.Section.TheVariants as names
@@ -16,14 +16,23 @@ use Rattle.dwarf_entries.specs.declared.bases.Bases.{Bases}
 use Rattle.dwarf_entries.specs.declared.kept.Keeping.{Keeping}
 use Rattle.dwarf_entries.specs.declared.kept.UnitEntries.{UnitEntries}
 use Rattle.dwarf_entries.specs.declared.kept.ScopeEntry.{ScopeEntry}
+use Rattle.dwarf_entries.specs.declared.kept.RootEntry.{RootEntry}
+use Rattle.dwarf_entries.specs.declared.scope.Range.{Range}
+use Rattle.dwarf_entries.specs.declared.scope.Root.{Root}
 use Rattle.dwarf_entries.specs.declared.scope.Scope.{Scope as Kept}
+use Rattle.dwarf_entries.specs.declared.scope.ScopeFacts.{ScopeFacts}
+use Rattle.dwarf_entries.specs.declared.scope_lists.ScopeLists.{ScopeLists}
+use Rattle.dwarf_units.specs.Entries.{Die}
+use Rattle.dwarf_entries.specs.Private.Shared.{AddsFacts, AreHeld, facts_of, IsPushed}
+use Rattle.dwarf_entries.proofs.SharedLaws.{scopes-length, pushed}
+use Rattle.dwarf_entries.proofs.RootNumbers.{RootsFrom, units_from, rooted, roots_behind}
 use Rattle.dwarf_entries.specs.Sections.{Sections}
 use Rattle.dwarf_entries.specs.Bases.{CompilationUnit}
-use Rattle.dwarf_entries.specs.Scopes.{Judged, ScopeSite, Scope, items_limit, sites_in, scope_of}
-use Rattle.dwarf_entries.specs.Private.Passes.{AreUnits, judged_of, IsScopeSite, judge, AreJudged, AddsScopes, all_sites, scope_with, all_scopes}
+use Rattle.dwarf_entries.specs.Scopes.{Judged, ScopeSite, Scope, items_limit, sites_in, stmt_list_of, roots_from, scopes_from, scopes_of}
+use Rattle.dwarf_entries.specs.Private.Passes.{AreUnits, IsRootOf, IsScopeSite, judge, AreJudged, AddsScopes, all_sites, scope_with, all_scopes}
 use Rattle.dwarf_bytes.proofs.EachPlaces.{each-append}
 use Rattle.dwarf_entries.proofs.PassLaws.{told_cases}
-use Rattle.dwarf_entries.specs.Private.Kept.{KeptUnit, scope_entry_of, insides_in, kept_of}
+use Rattle.dwarf_entries.specs.Private.Kept.{KeptUnit, scope_entry_of, insides_in, root_in, kept_of}
 use Rattle.dwarf_entries.specs.Private.Packed.{unpacked}
 use Rattle.dwarf_entries.specs.declared.packed.PackedScope.{PackedScope}
 use Rattle.dwarf_entries.proofs.ScopeLaws.{kept_in, unit_at}
@@ -56,40 +65,58 @@ kept_there keeping units bases us unit u d are found =
     }
 
 -- the scopes of a unit before the index, behind those of the units before it
-pub record JudgedSoFar (keeping : Keeping) (s : Sections) (us : List CompilationUnit) (u : CompilationUnit) (before : List Judged) (index : ℕ) (scopes : List Kept) (left : ℕ) : Type 0 where
+pub record JudgedSoFar (keeping : Keeping) (s : Sections) (us : List CompilationUnit) (u : CompilationUnit) (before : List Judged) (index : ℕ) (lists : ScopeLists) (left : ℕ) : Type 0 where
   pub judged : List Judged
-  pub are_judged : AreJudged judged scopes left
+  pub are_judged : AreJudged (roots_from 0 us) judged lists left
   pub read : made_front judged (each_from (judge keeping s us) judged (drop index (sites_in u u.dies))) ≡ made_front before (each_from (judge keeping s us) before (sites_in u u.dies))
 
-pub judged_none : (keeping : Keeping) (s : Sections) (us : List CompilationUnit) (u : CompilationUnit) (before : List Judged) (scopes : List Kept) (left : ℕ) → AreJudged before scopes left → JudgedSoFar keeping s us u before 0 scopes left
-judged_none keeping s us u before scopes left are = record { judged = before; are_judged = are; read = refl }
+pub judged_none : (keeping : Keeping) (s : Sections) (us : List CompilationUnit) (u : CompilationUnit) (before : List Judged) (lists : ScopeLists) (left : ℕ) → AreJudged (roots_from 0 us) before lists left → JudgedSoFar keeping s us u before 0 lists left
+judged_none keeping s us u before lists left are = record { judged = before; are_judged = are; read = refl }
+
+-- a unit with a scope has entries
+has_entries : (u : CompilationUnit) (dies : List Die) (index : ℕ) (p : ScopeSite) (ps : List ScopeSite) → drop index (sites_in u dies) ≡ p ∷ ps → (die : Die) × (rest : List Die) × (dies ≡ die ∷ rest)
+has_entries u [] zero p ps h = cc
+has_entries u [] (suc index) p ps h = cc
+has_entries u (die ∷ rest) index p ps h = (die, rest, refl)
+
+-- as many scopes as were judged
+judged_count : (roots : List Root) (judged : List Judged) (lists : ScopeLists) (left : ℕ) → AreJudged roots judged lists left → length lists.scopes.items ≡ length judged
+judged_count roots judged lists left are =
+    sym (scopes-length roots lists.wide.items lists.ranges.items 0 lists.scopes.items) ∙ (ap (λ (ss : List Scope). length ss) are.told ∙ length-map judged (λ j. j.scope))
 
 -- the place of a scope, behind those before it
-pub is_place : (keeping : Keeping) (s : Sections) (us : List CompilationUnit) (u : CompilationUnit) (before : List Judged) (unit index : ℕ) (scopes : List Kept) (left number : ℕ) (entry : ScopeEntry) (inside : ℕ) → (so_far : JudgedSoFar keeping s us u before index scopes left) →
-    slice_get us unit ≡ Some u → (p : SiteAt u index entry inside) → number ≡ length scopes → IsScopeSite us unit entry inside number left so_far.judged p.place
-is_place keeping s us u before unit index scopes left number entry inside so_far found p number_is =
-    let judged = so_far.judged in
-    let sizes : length scopes ≡ length judged = sym (length-map scopes scope_of) ∙ (ap (λ (ss : List _). length ss) so_far.are_judged.0 ∙ length-map judged (λ j. j.scope)) in
+pub is_place : (keeping : Keeping) (s : Sections) (us : List CompilationUnit) (u : CompilationUnit) (before : List Judged) (unit root index : ℕ) (lists : ScopeLists) (left number : ℕ) (entry : ScopeEntry) (inside : ℕ) → (so_far : JudgedSoFar keeping s us u before index lists left) →
+    slice_get us unit ≡ Some u → IsRootOf us root u → (p : SiteAt u index entry inside) → number ≡ length lists.scopes.items → IsScopeSite us unit root entry inside number left so_far.judged p.place
+is_place keeping s us u before unit root index lists left number entry inside so_far found rooted p number_is =
+    let sizes = judged_count (roots_from 0 us) so_far.judged lists left so_far.are_judged in
+    let dies = has_entries u u.dies index p.place (drop (index + 1) (sites_in u u.dies)) p.rest in
     record {
       unit_is = found ∙ ap (λ (v : CompilationUnit). Some v) (sym p.unit_is);
+      root_is = rooted dies.0 dies.1 dies.2 ∙ ap (λ (v : CompilationUnit). stmt_list_of v.dies) (sym p.unit_is);
       entry_is = p.entry_is;
       inside_is = p.inside_is;
       number_is = omega (arith, number_is, sizes);
-      room_is = omega (arith, so_far.are_judged.1);
+      room_is = omega (arith, so_far.are_judged.counted);
     }
 
-pub judged_next : (keeping : Keeping) (s : Sections) (us : List CompilationUnit) (u : CompilationUnit) (before : List Judged) (index : ℕ) (scopes : List Kept) (left after : ℕ) (entry : ScopeEntry) (inside items : ℕ) (scope : Kept) →
-    (so_far : JudgedSoFar keeping s us u before index scopes left) (p : SiteAt u index entry inside) → scope_with keeping s us so_far.judged p.place ≡ Ok (judged_of (scope, items)) → after + items ≡ left →
-    JudgedSoFar keeping s us u before (index + 1) (scopes ++ scope ∷ []) after
-judged_next keeping s us u before index scopes left after entry inside items scope so_far p read counted =
+pub judged_next : (keeping : Keeping) (s : Sections) (us : List CompilationUnit) (u : CompilationUnit) (before : List Judged) (index : ℕ) (lists mid new : ScopeLists) (left after : ℕ) (entry : ScopeEntry) (inside items : ℕ) (facts : ScopeFacts) →
+    (so_far : JudgedSoFar keeping s us u before index lists left) (p : SiteAt u index entry inside) → AddsFacts (roots_from 0 us) (Ok (facts, items)) lists.ranges.items mid.ranges.items (scope_with keeping s us so_far.judged p.place) →
+    mid.scopes.items ≡ lists.scopes.items → mid.wide.items ≡ lists.wide.items → IsPushed facts mid new → after + items ≡ left → JudgedSoFar keeping s us u before (index + 1) new after
+judged_next keeping s us u before index lists mid new left after entry inside items facts so_far p (found, read, grown) scopes_stay wide_stays is counted =
     let judged = so_far.judged in
     let places = sites_in u u.dies in
-    let one : Judged = judged_of (scope, items) in
+    let roots : List Root = roots_from 0 us in
+    let one : Judged = record { scope = facts_of roots found facts; items = items } in
     let here : judge keeping s us judged p.place ≡ Ok one = ap (λ (r : Result Judged Cause). told_at p.place.member.die.offset r) read in
     let sum : sum_by (λ j. j.items) (judged ++ one ∷ []) ≡ sum_by (λ j. j.items) judged + items = sum_by-append (λ j. j.items) judged (one ∷ []) ∙ omega arith in
+    let behind = pushed roots lists mid new found facts so_far.are_judged.held scopes_stay wide_stays grown is in
     record {
       judged = judged ++ one ∷ [];
-      are_judged = (map-append scope_of scopes (scope ∷ []) ∙ (ap (λ (ss : List _). ss ++ scope_of scope ∷ []) so_far.are_judged.0 ∙ sym (map-append (λ j. j.scope) judged (one ∷ []))), omega (arith, so_far.are_judged.1, counted, sum));
+      are_judged = record {
+        told = behind.told ∙ (ap (λ (ss : List Scope). ss ++ facts_of roots found facts ∷ []) so_far.are_judged.told ∙ sym (map-append (λ j. j.scope) judged (one ∷ [])));
+        held = behind.held;
+        counted = omega (arith, so_far.are_judged.counted, counted, sum);
+      };
       read = sym (each-next (judge keeping s us) judged p.place (drop (index + 1) places) one here) ∙ (ap (λ (ps : List ScopeSite). made_front judged (each_from (judge keeping s us) judged ps)) (sym p.rest) ∙ so_far.read);
     }
 
@@ -108,21 +135,21 @@ front-err before (Err d) e h = h2 h
     h2 : (let f : At → Result (List Judged) At = λ z. Err z in f d ≡ f e) → (let f : At → Result (List Judged) At = λ z. Err z in f d ≡ f e)
     h2 h = h
 
-pub judged_end : (keeping : Keeping) (s : Sections) (us : List CompilationUnit) (u : CompilationUnit) (before : List Judged) (index : ℕ) (scopes : List Kept) (left : ℕ) → JudgedSoFar keeping s us u before index scopes left → length (sites_in u u.dies) ≤ index →
-    AddsScopes keeping (Ok tt) s us (sites_in u u.dies) before scopes left
-judged_end keeping s us u before index scopes left so_far past =
+pub judged_end : (keeping : Keeping) (s : Sections) (us : List CompilationUnit) (u : CompilationUnit) (before : List Judged) (index : ℕ) (lists : ScopeLists) (left : ℕ) → JudgedSoFar keeping s us u before index lists left → length (sites_in u u.dies) ≤ index →
+    AddsScopes keeping (Ok tt) s us (sites_in u u.dies) before lists left
+judged_end keeping s us u before index lists left so_far past =
     let judged = so_far.judged in
     let none : drop index (sites_in u u.dies) ≡ [] = drop_all index (sites_in u u.dies) past in
     let all : made_front before (each_from (judge keeping s us) before (sites_in u u.dies)) ≡ Ok judged =
     sym so_far.read ∙ (ap (λ (ps : List ScopeSite). made_front judged (each_from (judge keeping s us) judged ps)) none ∙ each-end (judge keeping s us) judged) in
     let parts = front-ok before judged (each_from (judge keeping s us) before (sites_in u u.dies)) all in
-    (parts.0, parts.1, subst (λ (js : List Judged). AreJudged js scopes left) (sym parts.2) so_far.are_judged)
+    (parts.0, parts.1, subst (λ (js : List Judged). AreJudged (roots_from 0 us) js lists left) (sym parts.2) so_far.are_judged)
 
-pub judged_fault : (keeping : Keeping) (s : Sections) (us : List CompilationUnit) (u : CompilationUnit) (before : List Judged) (index : ℕ) (scopes final : List Kept) (left last : ℕ) (entry : ScopeEntry) (inside : ℕ) (cause : Cause) (fault : LoadFault) →
-    (so_far : JudgedSoFar keeping s us u before index scopes left) (p : SiteAt u index entry inside) → Fails cause (scope_with keeping s us so_far.judged p.place) → fault ≡ told names.DebugInfo cause entry.entry.offset →
+pub judged_fault : (keeping : Keeping) (s : Sections) (us : List CompilationUnit) (u : CompilationUnit) (before : List Judged) (index : ℕ) (lists final : ScopeLists) (left last : ℕ) (entry : ScopeEntry) (inside : ℕ) (cause : Cause) (fault : LoadFault) →
+    (so_far : JudgedSoFar keeping s us u before index lists left) (p : SiteAt u index entry inside) → Fails cause (scope_with keeping s us so_far.judged p.place) → fault ≡ told names.DebugInfo cause entry.entry.offset →
     AddsScopes keeping (Err fault) s us (sites_in u u.dies) before final last
-judged_fault keeping s us u before index scopes final left last entry inside cause fault so_far p (inl memory) told_is = inl (told_is ∙ ap (λ (c : Cause). told names.DebugInfo c entry.entry.offset) memory)
-judged_fault keeping s us u before index scopes final left last entry inside cause fault so_far p (inr bad) told_is = by_cause (told_cases cause entry.entry.offset)
+judged_fault keeping s us u before index lists final left last entry inside cause fault so_far p (inl memory) told_is = inl (told_is ∙ ap (λ (c : Cause). told names.DebugInfo c entry.entry.offset) memory)
+judged_fault keeping s us u before index lists final left last entry inside cause fault so_far p (inr bad) told_is = by_cause (told_cases cause entry.entry.offset)
   where
     by_cause : (told names.DebugInfo cause entry.entry.offset ≡ memory_fault) ⊎ (told names.DebugInfo cause entry.entry.offset ≡ record { section = names.DebugInfo; cause = cause; at = entry.entry.offset }) →
         (fault ≡ memory_fault) ⊎ (in_section names.DebugInfo (each_from (judge keeping s us) before (sites_in u u.dies)) ≡ Err fault)
@@ -178,32 +205,29 @@ all_there keeping units bases us u unit index d list are found list_is past =
 -- ---- the loop over the units
 
 -- the scopes of the units before the index
-pub record ScopesSoFar (keeping : Keeping) (s : Sections) (us : List CompilationUnit) (index : ℕ) (scopes : List Kept) (left : ℕ) : Type 0 where
+pub record ScopesSoFar (keeping : Keeping) (s : Sections) (us : List CompilationUnit) (index root : ℕ) (lists : ScopeLists) (left : ℕ) : Type 0 where
   pub judged : List Judged
-  pub are_judged : AreJudged judged scopes left
+  pub are_judged : AreJudged (roots_from 0 us) judged lists left
+  pub roots : RootsFrom us index root
   pub read : made_front judged (each_from (judge keeping s us) judged (all_sites (drop index us))) ≡ each (judge keeping s us) (all_sites us)
 
-pub scopes_none : (keeping : Keeping) (s : Sections) (us : List CompilationUnit) → ScopesSoFar keeping s us 0 [] items_limit
-scopes_none keeping s us = record { judged = []; are_judged = (refl, refl); read = no_front (each (judge keeping s us) (all_sites us)) }
+pub scopes_none : (keeping : Keeping) (s : Sections) (us : List CompilationUnit) (lists : ScopeLists) → lists.scopes.items ≡ [] → lists.ranges.items ≡ [] → ScopesSoFar keeping s us 0 0 lists items_limit
+scopes_none keeping s us lists scopes_are ranges_are = record { judged = []; are_judged = none; roots = record { number = 0; left = refl }; read = no_front (each (judge keeping s us) (all_sites us)) }
   where
+    none : AreJudged (roots_from 0 us) [] lists items_limit
+    none = record {
+      told = ap (λ (ss : List Kept). scopes_from (roots_from 0 us) lists.wide.items lists.ranges.items 0 ss) scopes_are;
+      held = subst (λ (ss : List Kept). AreHeld (length lists.wide.items) 0 (length lists.ranges.items) ss) (sym scopes_are) (ap (λ (rs : List Range). length rs) (sym ranges_are));
+      counted = refl;
+    }
+
     no_front : (r : Result (List Judged) At) → made_front [] r ≡ r
     no_front (Ok x) = refl
     no_front (Err e) = refl
 
 -- the places from a unit on are its own, and those of the units behind it
 places_from : (us : List CompilationUnit) (u : CompilationUnit) (index : ℕ) → slice_get us index ≡ Some u → all_sites (drop index us) ≡ sites_in u u.dies ++ all_sites (drop (index + 1) us)
-places_from us u index found =
-    let within : index < length us = inside ((slice_get_cases us index).1) in
-    let here : get_or us index u ≡ u = get_or_from_slice_get us index u u found in
-    let rest : drop index us ≡ u ∷ drop (index + 1) us = rw (add-one, drop-cons us index u within, here) refl in
-    ap (λ (vs : List CompilationUnit). all_sites vs) rest
-  where
-    inside : ((x : CompilationUnit) × (index < length us) × (slice_get us index ≡ Some x) × (get_or us index x ≡ x)) ⊎ ((length us ≤ index) × (slice_get us index ≡ None)) → index < length us
-    inside (inl there) = there.1
-    inside (inr past) = absurd (never (sym found ∙ past.1))
-      where
-        never : (let f : CompilationUnit → Option CompilationUnit = λ z. Some z in f u) ≡ None → ⊥
-        never h = cc
+places_from us u index found = ap (λ (vs : List CompilationUnit). all_sites vs) (units_from us u index found)
 
 -- what is made of two lists, from what is made of the first
 stretch : (keeping : Keeping) (s : Sections) (us : List CompilationUnit) (judged after : List Judged) (places more : List ScopeSite) → each_from (judge keeping s us) judged places ≡ Ok after →
@@ -216,25 +240,29 @@ stretch keeping s us judged after places more is =
     behind (Ok zs) = ap (λ (js : List Judged). Ok js) (sym (append_assoc judged after zs))
     behind (Err e) = refl
 
-pub scopes_next : (keeping : Keeping) (s : Sections) (units : List UnitEntries) (bases : List Bases) (us : List CompilationUnit) (index : ℕ) (old scopes : List Kept) (left after : ℕ) → AreUnits keeping units bases us → index < length units → (so_far : ScopesSoFar keeping s us index old left) →
-    ((u : CompilationUnit) (before : List Judged) → slice_get us index ≡ Some u → AreJudged before old left → AddsScopes keeping (Ok tt) s us (sites_in u u.dies) before scopes after) → ScopesSoFar keeping s us (index + 1) scopes after
-scopes_next keeping s units bases us index old scopes left after are within so_far adds =
+pub scopes_next : (keeping : Keeping) (s : Sections) (units : List UnitEntries) (bases : List Bases) (us : List CompilationUnit) (index root next : ℕ) (d : UnitEntries) (old lists : ScopeLists) (left after : ℕ) → AreUnits keeping units bases us → index < length units →
+    (so_far : ScopesSoFar keeping s us index root old left) → next ≡ root + cond (is_some (get_or units index d).root) 1 0 →
+    ((u : CompilationUnit) (before : List Judged) → slice_get us index ≡ Some u → IsRootOf us root u → AreJudged (roots_from 0 us) before old left → AddsScopes keeping (Ok tt) s us (sites_in u u.dies) before lists after) →
+    ScopesSoFar keeping s us (index + 1) next lists after
+scopes_next keeping s units bases us index root next d old lists left after are within so_far next_is adds =
     let u = known_unit keeping units bases us index are within in
     let judged = so_far.judged in
-    let added = adds u.0 judged u.1 so_far.are_judged in
+    let added = adds u.0 judged u.1 (rooted us u.0 index root so_far.roots u.1) so_far.are_judged in
+    let root_is : (get_or units index d).root ≡ root_in u.0.dies = ap (λ (k : KeptUnit). k.root) ((unit_at keeping units bases us index u.0 are u.1).entries_are d) in
     record {
       judged = judged ++ added.0;
       are_judged = added.2;
+      roots = roots_behind us u.0 index root next so_far.roots u.1 (next_is ∙ ap (λ (r : Option RootEntry). root + cond (is_some r) 1 0) root_is);
       read = sym (stretch keeping s us judged added.0 (sites_in u.0 u.0.dies) (all_sites (drop (index + 1) us)) added.1)
           ∙ (ap (λ (ps : List ScopeSite). made_front judged (each_from (judge keeping s us) judged ps)) (sym (places_from us u.0 index u.1)) ∙ so_far.read);
     }
 
-pub scopes_fault : (keeping : Keeping) (s : Sections) (units : List UnitEntries) (bases : List Bases) (us : List CompilationUnit) (index : ℕ) (old scopes : List Kept) (left after : ℕ) (fault : LoadFault) → AreUnits keeping units bases us → index < length units → (so_far : ScopesSoFar keeping s us index old left) →
-    ((u : CompilationUnit) (before : List Judged) → slice_get us index ≡ Some u → AreJudged before old left → AddsScopes keeping (Err fault) s us (sites_in u u.dies) before scopes after) →
+pub scopes_fault : (keeping : Keeping) (s : Sections) (units : List UnitEntries) (bases : List Bases) (us : List CompilationUnit) (index root : ℕ) (old lists : ScopeLists) (left after : ℕ) (fault : LoadFault) → AreUnits keeping units bases us → index < length units → (so_far : ScopesSoFar keeping s us index root old left) →
+    ((u : CompilationUnit) (before : List Judged) → slice_get us index ≡ Some u → IsRootOf us root u → AreJudged (roots_from 0 us) before old left → AddsScopes keeping (Err fault) s us (sites_in u u.dies) before lists after) →
     (fault ≡ memory_fault) ⊎ (in_section names.DebugInfo (all_scopes keeping s us) ≡ Err fault)
-scopes_fault keeping s units bases us index old scopes left after fault are within so_far adds =
+scopes_fault keeping s units bases us index root old lists left after fault are within so_far adds =
     let u = known_unit keeping units bases us index are within in
-    by_fault u.0 u.1 (adds u.0 so_far.judged u.1 so_far.are_judged)
+    by_fault u.0 u.1 (adds u.0 so_far.judged u.1 (rooted us u.0 index root so_far.roots u.1) so_far.are_judged)
   where
     judged : List Judged
     judged = so_far.judged
@@ -255,12 +283,12 @@ scopes_fault keeping s units bases us index old scopes left after fault are with
     by_fault u found (inl memory) = inl memory
     by_fault u found (inr bad) = inr (by_read u found (each_from (judge keeping s us) judged (sites_in u u.dies)) refl bad)
 
-pub scopes_end : (keeping : Keeping) (s : Sections) (units : List UnitEntries) (bases : List Bases) (us : List CompilationUnit) (index : ℕ) (scopes : List Kept) (left : ℕ) → AreUnits keeping units bases us → length units ≤ index → ScopesSoFar keeping s us index scopes left →
-    in_section names.DebugInfo (all_scopes keeping s us) ≡ Ok (map scope_of scopes)
-scopes_end keeping s units bases us index scopes left are past so_far =
+pub scopes_end : (keeping : Keeping) (s : Sections) (units : List UnitEntries) (bases : List Bases) (us : List CompilationUnit) (index root : ℕ) (lists : ScopeLists) (left : ℕ) → AreUnits keeping units bases us → length units ≤ index → ScopesSoFar keeping s us index root lists left →
+    in_section names.DebugInfo (all_scopes keeping s us) ≡ Ok (scopes_of (roots_from 0 us) lists)
+scopes_end keeping s units bases us index root lists left are past so_far =
     let judged = so_far.judged in
     let sizes : length units ≡ length us = sym (length-map units kept_of) ∙ (ap (λ (ks : List KeptUnit). length ks) are.same ∙ length-map us (kept_in keeping)) in
     let none : drop index us ≡ [] = drop_all index us (omega (arith, sizes, past)) in
     let all : each (judge keeping s us) (all_sites us) ≡ Ok judged =
     sym so_far.read ∙ (ap (λ (vs : List CompilationUnit). made_front judged (each_from (judge keeping s us) judged (all_sites vs))) none ∙ each-end (judge keeping s us) judged) in
-    rw all (ap (λ (ss : List Scope). Ok ss) (sym so_far.are_judged.0))
+    rw all (ap (λ (ss : List Scope). Ok ss) (sym so_far.are_judged.told))

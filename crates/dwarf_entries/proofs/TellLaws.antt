@@ -3,13 +3,16 @@ use Rattle.std.proofs.Common.{◌≡◌, ℕ, zero, suc, ◌+◌, List, [], ◌�
 use Rattle.std.specs.Prelude.{Option, Some, None, length, slice_get, option_map}
 use Rattle.std.specs.Option.{option_map_or, option_and_then}
 use Rattle.std.proofs.lemmas.Option.{slice_get-map}
+use Rattle.dwarf_entries.specs.declared.calls.CallSite.{CallSite}
+use Rattle.dwarf_entries.specs.declared.scope.Range.{Range}
+use Rattle.dwarf_entries.specs.declared.scope.Root.{Root}
 use Rattle.dwarf_entries.specs.declared.scope.Scope.{Scope as Kept}
-use Rattle.dwarf_entries.specs.Scopes.{Scope, Own, own, own_of, scope_of}
+use Rattle.dwarf_entries.specs.Scopes.{Scope, Own, own, own_of, scopes_from}
 use Rattle.dwarf_entries.specs.Order.{AreNumbered, AreInOrder, TellsOf}
 
-pub own-kept : (ss : List Kept) → map own_of ss ≡ map own (map scope_of ss)
-own-kept [] = refl
-own-kept (s ∷ ss) = ap (λ (os : List Own). own (scope_of s) ∷ os) (own-kept ss)
+pub own-kept : (roots : List Root) (wide : List CallSite) (ranges : List Range) (first : ℕ) (ss : List Kept) → map own_of ss ≡ map own (scopes_from roots wide ranges first ss)
+own-kept roots wide ranges first [] = refl
+own-kept roots wide ranges first (s ∷ ss) = ap (λ (os : List Own). own_of s ∷ os) (own-kept roots wide ranges s.ranges_end ss)
 
 -- the number of the scope at a place
 number-at : (first total i : ℕ) (ss : List Scope) (s : Scope) → AreNumbered first total ss → slice_get ss i ≡ Some s → s.number ≡ first + i

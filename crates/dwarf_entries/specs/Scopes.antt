@@ -1,6 +1,6 @@
 -- The subprograms and inlined subroutines of all units (DWARF 5, 3.3), and the faults of .debug_info.
-use Rattle.std.specs.Prelude.{ℕ, ◌+◌, ◌-◌, List, [], ◌∷◌, length, Bool, Option, Some, None, Result, Ok, ◌==◌, if◌then◌else◌, is_some, option_map, option_and_then, map, flat_map, count_by, sum_by, slice_get, zip}
-use Rattle.std.specs.Option.{option_map_or}
+use Rattle.std.specs.Prelude.{ℕ, ◌+◌, ◌-◌, List, [], ◌∷◌, length, Bool, Option, Some, None, Result, Ok, ◌==◌, if◌then◌else◌, is_some, option_map, option_and_then, map, flat_map, count_by, sum_by, slice_get, zip, take, drop}
+use Rattle.std.specs.Option.{option_map_or, unwrap_or}
 use Rattle.dwarf_bytes.specs.declared.constants.TheConstants.{DW_TAG_INLINED_SUBROUTINE, DW_TAG_SUBPROGRAM, DW_AT_CALL_FILE, DW_AT_CALL_LINE, DW_AT_STMT_LIST}
 use Rattle.dwarf_bytes.specs.declared.fault.Cause.{Cause}
 use Rattle.dwarf_bytes.specs.declared.fault.Section.{Section}
@@ -11,6 +11,10 @@ use Rattle.dwarf_bytes.specs.Items.{told_at, each}
 use Rattle.dwarf_bytes.specs.Refusals.{in_section}
 use Rattle.dwarf_entries.specs.declared.paths.EntryNames.{EntryNames}
 use Rattle.dwarf_bytes.specs.declared.text.Text.{Text}
+use Rattle.dwarf_entries.specs.declared.calls.CallSite.{CallSite}
+use Rattle.dwarf_entries.specs.declared.calls.Calls.{Calls}
+use Rattle.dwarf_entries.specs.declared.calls.Calls.TheVariants as calls
+use Rattle.dwarf_entries.specs.declared.scope_lists.ScopeLists.{ScopeLists}
 use Rattle.dwarf_entries.specs.declared.scope.Range.{Range}
 use Rattle.dwarf_entries.specs.declared.scope.Root.{Root}
 use Rattle.dwarf_entries.specs.declared.scope.Scope.{Scope as Kept}
@@ -40,24 +44,45 @@ pub record Scope : Type 0 where
 abbrev pub text_by : Option Section → ℕ → ℕ → Option Text
 text_by section place len = option_map (λ name. record { section = name; span = record { place = place; len = len } }) section
 
--- a number, if it is there
-abbrev pub number_in : Bool → ℕ → Option ℕ
-number_in is_there number = if is_there then Some number else None
+-- the file and the line of a call, by which of them there are; where one has more than 32 bits, both stand at a place of a list
+abbrev pub call_site : List CallSite → Calls → ℕ → ℕ → CallSite
+call_site wide calls.Missing file line = record { file = None; line = None }
+call_site wide calls.File file line = record { file = Some file; line = None }
+call_site wide calls.Line file line = record { file = None; line = Some line }
+call_site wide calls.Both file line = record { file = Some file; line = Some line }
+call_site wide calls.Wide file line = unwrap_or (slice_get wide file) (record { file = None; line = None })
 
--- a scope of the program
-abbrev pub scope_of : Kept → Scope
-scope_of s = record {
+-- the stmt_list of the root of a number
+abbrev pub root_stmt_list : List Root → ℕ → Option ℕ
+root_stmt_list roots number = option_and_then (λ r. r.stmt_list) (slice_get roots number)
+
+-- a scope of the program, by what it covers and by where it was called
+abbrev pub scope_by_parts : List Root → CallSite → List Range → Kept → Scope
+scope_by_parts roots site ranges s = record {
   kind = s.kind;
   offset = s.offset;
   number = s.number;
   end = s.«end»;
-  ranges = s.ranges.items;
+  ranges = ranges;
   name = text_by s.name_section s.name_place s.name_len;
   linkage_name = text_by s.linkage_name_section s.linkage_name_place s.linkage_name_len;
-  stmt_list = number_in s.has_stmt_list s.stmt_list;
-  call_file = number_in s.has_call_file s.call_file;
-  call_line = number_in s.has_call_line s.call_line;
+  stmt_list = root_stmt_list roots s.root;
+  call_file = site.file;
+  call_line = site.line;
 }
+
+-- .. by the lists that scopes share
+abbrev pub scope_of : List Root → List CallSite → List Range → Kept → Scope
+scope_of roots wide ranges s = scope_by_parts roots (call_site wide s.calls s.call_file s.call_line) ranges s
+
+-- the scopes of the program, whose ranges stand one behind another in a list, from a place on
+abbrev pub scopes_from : List Root → List CallSite → List Range → ℕ → List Kept → List Scope
+scopes_from roots wide ranges first [] = []
+scopes_from roots wide ranges first (s ∷ ss) =
+    scope_of roots wide (take (s.ranges_end - first) (drop first ranges)) s ∷ scopes_from roots wide ranges s.ranges_end ss
+
+abbrev pub scopes_of : List Root → ScopeLists → List Scope
+scopes_of roots lists = scopes_from roots lists.wide.items lists.ranges.items 0 lists.scopes.items
 
 -- what a scope tells by itself
 pub record Own : Type 0 where
@@ -79,7 +104,7 @@ own s = record {
 }
 
 abbrev pub own_of : Kept → Own
-own_of s = own (scope_of s)
+own_of s = own (scope_of [] [] [] s)
 
 -- what is told of the scope of a number by way of the scopes that it is of
 abbrev pub ranges_at : List Scope → ℕ → List Range

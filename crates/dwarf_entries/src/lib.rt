@@ -2,6 +2,7 @@
 #![tactic(auto)]
 
 mod bases;
+mod calls;
 mod entries;
 mod kept;
 pub mod laws;
@@ -13,6 +14,7 @@ mod range_entries;
 mod ranges;
 mod roots;
 mod scope;
+mod scope_lists;
 mod scopes;
 mod sections;
 mod texts;

@@ -1,8 +1,7 @@
 //! What is kept of entries until all units are read, in few bytes.
 
 ghost use Rattle.std.specs.Prelude.{◌≡◌, IfOk};
-ghost use Rattle.dwarf_entries.specs.Private.Packed.{value_in, unpacked_entry, unpacked};
-ghost use Rattle.dwarf_entries.specs.Scopes.{number_in};
+ghost use Rattle.dwarf_entries.specs.Private.Packed.{value_in, number_in, unpacked_entry, unpacked};
 
 use crate::kept::{NamedEntry, ScopeEntry};
 use crate::scope::ScopeKind;
@@ -139,7 +138,7 @@ fn value(form: u8, number: u64) -> Option<AttributeValue>
 }
 
 /// Whether a number is there, and the number.
-pub(crate) fn number_parts(number: Option<u64>) -> (bool, u64)
+fn number_parts(number: Option<u64>) -> (bool, u64)
     ensures { number_in result.0 result.1 ≡ number }
 {
     match number {
@@ -148,7 +147,7 @@ pub(crate) fn number_parts(number: Option<u64>) -> (bool, u64)
     }
 }
 
-pub(crate) fn number(is_there: bool, number: u64) -> Option<u64>
+fn number(is_there: bool, number: u64) -> Option<u64>
     ensures { result ≡ number_in is_there number }
 {
     if is_there { Some(number) } else { None }

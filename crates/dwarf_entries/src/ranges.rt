@@ -1,9 +1,8 @@
 //! The addresses of a scope (DWARF 5, 2.17 and 7.25).
 
 ghost use Rattle.std.specs.Prelude.{◌≡◌};
-ghost use Rattle.dwarf_bytes.specs.Refusals.{Gives};
 ghost use Rattle.dwarf_entries.specs.Ranges.{list_place, list_at, list_of, high_of, pair_range, pair_at, covers_by};
-ghost use Rattle.dwarf_entries.specs.Private.Kept.{covering_of};
+ghost use Rattle.dwarf_entries.specs.Private.Shared.{AddsRanges};
 ghost use Rattle.dwarf_entries.specs.Sections.{sections_of};
 
 use crate::bases::{Bases, address_of, item_at};
@@ -13,60 +12,48 @@ use crate::sections::Sections;
 use dwarf_bytes::constants::DW_FORM_RNGLISTX;
 use dwarf_bytes::{Cause, Cursor, TableKind};
 use dwarf_units::{AttributeValue, is_address};
-use smallvec::SmallVec;
-use std::alloc::Global;
 
-/// The ranges of a scope, and how many items they were read from.
-#[derive(Drop)]
-pub(crate) struct Covering {
-    pub(crate) ranges: SmallVec<Range, 1>,
-    pub(crate) items: u64,
-}
-
-/// What an entry covers, by its low_pc, high_pc and ranges. `room` is how many items it may be read
-/// from.
+/// Adds what an entry covers, by its low_pc, high_pc and ranges, to the ranges of all, and tells how
+/// many items it was read from. `room` is how many these may be.
 pub(crate) fn covers(
-    alloc: Global,
     room: u64,
     sections: &Sections<'_>,
     bases: &Bases,
     low_pc: Option<AttributeValue>,
     high_pc: Option<AttributeValue>,
     ranges: Option<AttributeValue>,
-) -> Result<Covering, Cause>
-    ensures { Gives (λ covering. covering_of covering) result (covers_by room
+    all: &mut Vec<Range>,
+) -> Result<u64, Cause>
+    ensures { AddsRanges result all.old.items all.new.items (covers_by room
         (sections_of sections.now) bases.now low_pc high_pc ranges) }
 {
     match (low_pc, high_pc, ranges) {
-        (None, None, Some(ranges)) => listed(alloc, room, sections, bases, ranges),
+        (None, None, Some(ranges)) => listed(room, sections, bases, ranges, all),
         (_, _, Some(_)) | (None, Some(_), None) => Err(Cause::PcAndRanges),
         (Some(low_pc), Some(high_pc), None) => {
-            paired(alloc, room, sections, bases, low_pc, high_pc)
+            paired(room, sections, bases, low_pc, high_pc, all)
         }
-        (_, None, None) => Ok(Covering {
-            ranges: SmallVec::new(alloc),
-            items: 0,
-        }),
+        (_, None, None) => Ok(0),
     }
 }
 
 /// What the range list of an attribute covers.
 #[tactic(auto, using(crate::proofs::RangeLaws::list_outside))]
 fn listed(
-    alloc: Global,
     room: u64,
     sections: &Sections<'_>,
     bases: &Bases,
     value: AttributeValue,
-) -> Result<Covering, Cause>
-    ensures { Gives (λ covering. covering_of covering) result (list_of room
+    all: &mut Vec<Range>,
+) -> Result<u64, Cause>
+    ensures { AddsRanges result all.old.items all.new.items (list_of room
         (sections_of sections.now) bases.now value) }
 {
     let place = list_place(sections, bases, value)?;
     if place > sections.debug_rnglists.len() as u128 {
         return Err(Cause::Short);
     }
-    list(alloc, room, sections, bases, place as u64)
+    list(room, sections, bases, place as u64, all)
 }
 
 /// Where the range list of an attribute stands.
@@ -86,18 +73,17 @@ fn list_place(sections: &Sections<'_>, bases: &Bases, value: AttributeValue) -> 
 /// What the range list at a place of `.debug_rnglists` covers. `room` is how many of its entries
 /// may be counted.
 pub(crate) fn list(
-    alloc: Global,
     room: u64,
     sections: &Sections<'_>,
     bases: &Bases,
     place: u64,
-) -> Result<Covering, Cause>
-    ensures { Gives (λ covering. covering_of covering) result (list_at room
+    all: &mut Vec<Range>,
+) -> Result<u64, Cause>
+    ensures { AddsRanges result all.old.items all.new.items (list_at room
         (sections_of sections.now) bases.now place) }
 {
     let mut cursor = Cursor::new(sections.debug_rnglists);
     cursor.seek(place as usize)?;
-    let mut ranges = SmallVec::new(alloc);
     let mut items = 0;
     let mut base = bases.low_pc;
     while let Some(entry) = next_entry(room, items, base, sections, bases, &mut cursor)? {
@@ -106,12 +92,12 @@ pub(crate) fn list(
             RangeListEntry::Base(new) => base = Some(new),
             RangeListEntry::Covers(covered) => {
                 if let Some(range) = covered {
-                    ranges.push(range)?;
+                    all.push(range)?;
                 }
             }
         }
     }
-    Ok(Covering { ranges, items })
+    Ok(items)
 }
 
 /// The end of a pair: an address, or a count from the start.
@@ -145,22 +131,21 @@ pub(crate) fn pair(
 
 /// What a pair covers, where there is room for one more item.
 fn paired(
-    alloc: Global,
     room: u64,
     sections: &Sections<'_>,
     bases: &Bases,
     low_pc: AttributeValue,
     high_pc: AttributeValue,
-) -> Result<Covering, Cause>
-    ensures { Gives (λ covering. covering_of covering) result (pair_at room
+    all: &mut Vec<Range>,
+) -> Result<u64, Cause>
+    ensures { AddsRanges result all.old.items all.new.items (pair_at room
         (sections_of sections.now) bases.now low_pc high_pc) }
 {
     if room == 0 {
         return Err(Cause::TooMany);
     }
-    let mut ranges = SmallVec::new(alloc);
     if let Some(range) = pair(sections, bases, low_pc, high_pc)? {
-        ranges.push(range)?;
+        all.push(range)?;
     }
-    Ok(Covering { ranges, items: 1 })
+    Ok(1)
 }

@@ -1,14 +1,14 @@
 //! What is told of subprograms and inlined subroutines (DWARF 5, 3.3).
 
 ghost use Rattle.std.specs.Prelude.{◌≡◌, IfOk};
-ghost use Rattle.dwarf_entries.specs.Scopes.{scope_of, own_of, ranges_at, stmt_list_at, call_file_at, call_line_at};
+ghost use Rattle.dwarf_entries.specs.Scopes.{own_of, ranges_at, stmt_list_at, call_file_at, call_line_at};
 ghost use Rattle.dwarf_entries.specs.Scopes.{text_by};
-ghost use Rattle.dwarf_entries.specs.Private.Facts.{facts_of};
+ghost use Rattle.dwarf_entries.specs.Private.Shared.{Packs};
 
-use crate::packed::{narrow, number, number_parts};
+use crate::calls::{CallSite, Calls};
+use crate::packed::narrow;
 use crate::scopes::Scopes;
 use dwarf_bytes::{Section, Span, Text};
-use smallvec::SmallVec;
 use std::alloc::AllocError;
 
 /// The addresses from one up to another, which is not of them.
@@ -31,39 +31,36 @@ pub enum ScopeKind {
 /// scopes share is told by way of the `Scopes` that it is of.
 #[derive(Debug, Drop)]
 pub struct Scope {
-    stmt_list: u64,
-    call_file: u64,
-    call_line: u64,
-    /// Most scopes have one range.
-    ranges: SmallVec<Range, 1>,
     offset: u32,
     number: u32,
     end: u32,
+    /// Where its ranges end in the list of all; they begin where those of the scope before it end.
+    pub(crate) ranges_end: u32,
+    /// The number of the root of its unit.
+    pub(crate) root: u32,
     name_place: u32,
     name_len: u32,
     linkage_name_place: u32,
     linkage_name_len: u32,
+    pub(crate) call_file: u32,
+    pub(crate) call_line: u32,
     name_section: Option<Section>,
     linkage_name_section: Option<Section>,
-    has_stmt_list: bool,
-    has_call_file: bool,
-    has_call_line: bool,
+    pub(crate) calls: Calls,
     kind: ScopeKind,
 }
 
-/// What is told of a scope.
-#[derive(Drop)]
+/// What is told of a scope but its ranges. Its stmt_list is that of a root, by the root's number.
+#[derive(Clone, Copy)]
 pub(crate) struct ScopeFacts {
     pub(crate) kind: ScopeKind,
     pub(crate) offset: usize,
     pub(crate) number: usize,
     pub(crate) end: usize,
-    pub(crate) ranges: SmallVec<Range, 1>,
+    pub(crate) root: usize,
     pub(crate) name: Option<Text>,
     pub(crate) linkage_name: Option<Text>,
-    pub(crate) stmt_list: Option<u64>,
-    pub(crate) call_file: Option<u64>,
-    pub(crate) call_line: Option<u64>,
+    pub(crate) site: CallSite,
 }
 
 /// The root of a unit, by its offset in `.debug_info`. The scopes of the unit are those from the number
@@ -77,34 +74,35 @@ pub struct Root {
 }
 
 impl Scope {
-    /// By what is told of it. Numbers and places from 2^32 on are told as want of memory.
-    pub(crate) fn of(told: ScopeFacts) -> Result<Scope, AllocError>
-        ensures { IfOk result (λ scope. scope_of scope ≡ facts_of told) }
+    /// By what is told of it, and by where its ranges end in the list of all; `wide` are the calls with
+    /// numbers of more than 32 bits. Other numbers and places from 2^32 on are told as want of memory.
+    pub(crate) fn of(
+        told: ScopeFacts,
+        ranges_end: usize,
+        wide: &mut Vec<CallSite>,
+    ) -> Result<Scope, AllocError>
+        ensures { IfOk result (Packs told ranges_end wide.old.items wide.new.items) }
     {
         let (name_section, name_place, name_len) = text_parts(told.name)?;
         let (linkage_name_section, linkage_name_place, linkage_name_len) = text_parts(
             told.linkage_name,
         )?;
-        let (has_stmt_list, stmt_list) = number_parts(told.stmt_list);
-        let (has_call_file, call_file) = number_parts(told.call_file);
-        let (has_call_line, call_line) = number_parts(told.call_line);
+        let (calls, call_file, call_line) = told.site.pack(wide)?;
         Ok(Scope {
-            stmt_list,
-            call_file,
-            call_line,
-            ranges: told.ranges,
             offset: narrow(told.offset)?,
             number: narrow(told.number)?,
             end: narrow(told.end)?,
+            ranges_end: narrow(ranges_end)?,
+            root: narrow(told.root)?,
             name_place,
             name_len,
             linkage_name_place,
             linkage_name_len,
+            call_file,
+            call_line,
             name_section,
             linkage_name_section,
-            has_stmt_list,
-            has_call_file,
-            has_call_line,
+            calls,
             kind: told.kind,
         })
     }
@@ -154,32 +152,26 @@ impl Scope {
     pub fn ranges<'a>(&self, of: &'a Scopes) -> &'a [Range]
         ensures { result.now ≡ ranges_at of.now.scopes (own_of self.now).number }
     {
-        match of.get(self) {
-            Some(scope) => scope.ranges.as_slice(),
-            None => &[],
-        }
+        of.ranges_of(self.number())
     }
 
     /// Where the line program of its unit starts in `.debug_line`.
     pub fn stmt_list(&self, of: &Scopes) -> Option<u64>
         ensures { result ≡ stmt_list_at of.now.scopes (own_of self.now).number }
     {
-        let scope = of.get(self)?;
-        number(scope.has_stmt_list, scope.stmt_list)
+        of.stmt_list_of(self.number())
     }
 
     pub fn call_file(&self, of: &Scopes) -> Option<u64>
         ensures { result ≡ call_file_at of.now.scopes (own_of self.now).number }
     {
-        let scope = of.get(self)?;
-        number(scope.has_call_file, scope.call_file)
+        of.call_of(self.number()).file
     }
 
     pub fn call_line(&self, of: &Scopes) -> Option<u64>
         ensures { result ≡ call_line_at of.now.scopes (own_of self.now).number }
     {
-        let scope = of.get(self)?;
-        number(scope.has_call_line, scope.call_line)
+        of.call_of(self.number()).line
     }
 }
 

@@ -1,19 +1,20 @@
 //! The subprograms and inlined subroutines of an object (DWARF 5, 3.3).
 
-ghost use Rattle.std.specs.Prelude.{◌≡◌, ◌<◌, ◌^◌, map, List, option_map, slice_get};
-ghost use Rattle.std.specs.Option.{option_copied};
+ghost use Rattle.std.specs.Prelude.{◌≡◌, ◌<◌, ◌^◌, map, List};
 ghost use Rattle.dwarf_entries.specs.declared.kept.Keeping.{Keeping};
 ghost use Rattle.dwarf_bytes.specs.Refusals.{Decodes, Builds};
 ghost use Rattle.dwarf_entries.specs.Sections.{sections_of};
 ghost use Rattle.dwarf_entries.specs.Bases.{CompilationUnit};
-ghost use Rattle.dwarf_entries.specs.Scopes.{scope_of, own, own_of, roots_from, tree_of};
+ghost use Rattle.dwarf_entries.specs.Scopes.{own, own_of, ranges_at, stmt_list_at, call_file_at, call_line_at, roots_from, tree_of};
 ghost use Rattle.dwarf_entries.specs.Private.Texts.{AreTexts};
 ghost use Rattle.dwarf_entries.specs.Private.Passes.{kept_unit_of, TablesRead, tree_with};
 ghost use Rattle.dwarf_entries.specs.Private.Kept.{kept_of, scope_count};
 
+use crate::calls::CallSite;
 use crate::kept::{Keeping, UnitEntries};
 use crate::passes::{all_bases, all_entries};
-use crate::scope::{Root, Scope};
+use crate::scope::{Range, Root, Scope};
+use crate::scope_lists::ScopeLists;
 use crate::sections::Sections;
 use crate::texts::Texts;
 use crate::unit_scopes::Units;
@@ -41,16 +42,15 @@ fn bound_places(alloc: Global, sections: &Sections<'_>) -> Result<(), AllocError
 #[derive(Debug, Drop)]
 pub struct Scopes {
     roots: Vec<Root>,
-    scopes: Vec<Scope>,
+    lists: ScopeLists,
 }
 
 impl Model for Scopes {
-    ghost use Rattle.std.specs.Prelude.{map};
-    ghost use Rattle.dwarf_entries.specs.Scopes.{Tree, scope_of};
+    ghost use Rattle.dwarf_entries.specs.Scopes.{Tree, scopes_of};
 
     ghost Value = { Tree };
 
-    ghost view = { λ s. record { roots = s.roots.items; scopes = map scope_of s.scopes.items } };
+    ghost view = { λ s. record { roots = s.roots.items; scopes = scopes_of s.roots.items s.lists } };
 }
 
 impl Scopes {
@@ -101,9 +101,9 @@ impl Scopes {
             units: kept.as_slice(),
             bases: bases.as_slice(),
         };
-        let scopes = units.scopes(alloc)?;
+        let lists = units.scopes(alloc)?;
         let roots = roots(alloc, kept.as_slice())?;
-        Ok(Scopes { roots, scopes })
+        Ok(Scopes { roots, lists })
     }
 
     /// The roots of all units that are read and have entries.
@@ -117,15 +117,37 @@ impl Scopes {
     pub fn scopes(&self) -> &[Scope]
         ensures { map own_of result.now ≡ map own self.now.scopes }
     {
-        self.scopes.as_slice()
+        self.lists.scopes.as_slice()
     }
 
-    /// The scope that has the number of another one.
-    pub(crate) fn get(&self, scope: &Scope) -> Option<&Scope>
-        ensures { option_map scope_of (option_copied result)
-            ≡ slice_get self.now.scopes (own_of scope.now).number }
+    /// What the scope of a number covers.
+    pub(crate) fn ranges_of(&self, number: usize) -> &[Range]
+        ensures { result.now ≡ ranges_at self.now.scopes number }
     {
-        self.scopes.get(scope.number())
+        self.lists.ranges_of(number)
+    }
+
+    /// Where the line program of the unit of the scope of a number starts.
+    pub(crate) fn stmt_list_of(&self, number: usize) -> Option<u64>
+        ensures { result ≡ stmt_list_at self.now.scopes number }
+    {
+        let scope = self.lists.scopes.get(number)?;
+        self.roots.get(scope.root as usize)?.stmt_list
+    }
+
+    /// Where the scope of a number was called.
+    pub(crate) fn call_of(&self, number: usize) -> CallSite
+        ensures file { result.file ≡ call_file_at self.now.scopes number }
+        ensures line { result.line ≡ call_line_at self.now.scopes number }
+    {
+        let wide = self.lists.wide.as_slice();
+        match self.lists.scopes.get(number) {
+            Some(scope) => CallSite::unpack(scope.calls, scope.call_file, scope.call_line, wide),
+            None => CallSite {
+                file: None,
+                line: None,
+            },
+        }
     }
 }
 

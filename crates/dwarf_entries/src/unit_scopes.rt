@@ -1,20 +1,23 @@
 //! The pass over the scopes of all units (DWARF 5, 3.3): their names, then their ranges.
 
-ghost use Rattle.std.specs.Prelude.{◌≡◌, ◌≤◌, ◌<◌, ◌+◌, ◌^◌, List, Some, length, map, slice_get, IfOk};
+ghost use Rattle.std.specs.Prelude.{◌≡◌, ◌≤◌, ◌<◌, ◌+◌, ◌^◌, List, Some, length, slice_get, IfOk};
 ghost use Rattle.dwarf_bytes.specs.declared.fault.Section.TheVariants as names;
-ghost use Rattle.dwarf_bytes.specs.Refusals.{Decodes, in_section, Gives};
+ghost use Rattle.dwarf_bytes.specs.Refusals.{Decodes, in_section};
 ghost use Rattle.dwarf_entries.specs.Sections.{sections_of};
 ghost use Rattle.dwarf_entries.specs.Private.Texts.{AreTexts};
 ghost use Rattle.dwarf_entries.specs.declared.kept.Keeping.{Keeping};
 ghost use Rattle.dwarf_entries.specs.Bases.{CompilationUnit};
-ghost use Rattle.dwarf_entries.specs.Scopes.{Judged, ScopeSite, sites_in, scope_of};
-ghost use Rattle.dwarf_entries.specs.Private.Passes.{AreUnits, stmt_list_in, judged_of, IsScopeSite, AreJudged, AddsScopes, scope_with, all_scopes};
+ghost use Rattle.dwarf_entries.specs.Scopes.{Judged, ScopeSite, sites_in, roots_from, scopes_of};
+ghost use Rattle.dwarf_entries.specs.Private.Passes.{AreUnits, IsRootOf, IsScopeSite, AreJudged, AddsScopes, scope_with, all_scopes};
+ghost use Rattle.dwarf_entries.specs.Private.Shared.{AddsFacts};
 
 use crate::bases::Bases;
+use crate::calls::CallSite;
 use crate::kept::{ScopeEntry, UnitEntries};
 use crate::paths::names;
 use crate::ranges::covers;
-use crate::scope::{Scope, ScopeFacts};
+use crate::scope::{Range, ScopeFacts};
+use crate::scope_lists::ScopeLists;
 use crate::sections::Sections;
 use crate::texts::Texts;
 use dwarf_bytes::{Cause, LoadFault, Section};
@@ -33,24 +36,27 @@ pub(crate) struct Units<'a> {
 }
 
 impl<'a> Units<'a> {
-    /// The scope of an entry, and how many range items it was read from. `room` is how many it may be.
+    /// What is told of the scope of an entry of a unit, whose root has the number `root`, and how many
+    /// range items it was read from; `room` is how many these may be. What it covers is added to the
+    /// ranges of all.
     fn scope(
         self,
-        alloc: Global,
         unit: usize,
+        root: usize,
         entry: &ScopeEntry,
         inside: usize,
         number: usize,
         room: u64,
-    ) -> Result<(Scope, u64), Cause>
+        ranges: &mut Vec<Range>,
+    ) -> Result<(ScopeFacts, u64), Cause>
         requires texts { AreTexts (sections_of self.sections.now) self.texts.now }
         requires unit { (unit < length self.units.now) × (unit < length self.bases.now) }
         requires end { number + inside + 1 < 2 ^ 64 }
         ensures judged { (keeping : Keeping) (us : List CompilationUnit) (before : List Judged)
             (p : ScopeSite) → AreUnits keeping self.entry.units.now self.entry.bases.now us
-            → IsScopeSite us unit entry.now inside number room before p
-            → Gives (λ found. judged_of found) result (scope_with keeping
-            (sections_of self.entry.sections.now) us before p) }
+            → IsScopeSite us unit root entry.now inside number room before p
+            → AddsFacts (roots_from 0 us) result ranges.old.items ranges.new.items (scope_with
+            keeping (sections_of self.entry.sections.now) us before p) }
         ensures room { IfOk result (λ found. found.1 ≤ room) }
     {
         let names = names(
@@ -61,38 +67,39 @@ impl<'a> Units<'a> {
             unit,
             &entry.entry,
         )?;
-        let covering = covers(
-            alloc,
+        let items = covers(
             room,
             self.sections,
             &self.bases[unit],
             entry.low_pc,
             entry.high_pc,
             entry.ranges,
+            ranges,
         )?;
-        let scope = Scope::of(ScopeFacts {
+        let facts = ScopeFacts {
             kind: entry.kind,
             offset: entry.entry.offset,
             number,
             end: number + inside + 1,
-            ranges: covering.ranges,
+            root,
             name: names.name,
             linkage_name: names.linkage_name,
-            stmt_list: stmt_list(&self.units[unit]),
-            call_file: entry.call_file,
-            call_line: entry.call_line,
-        })?;
-        Ok((scope, covering.items))
+            site: CallSite {
+                file: entry.call_file,
+                line: entry.call_line,
+            },
+        };
+        Ok((facts, items))
     }
 
-    /// Puts the scopes of a unit behind those before it. `left` is how many range items may still be
-    /// read.
+    /// Puts the scopes of a unit, whose root has the number `root`, behind those before it. `left` is
+    /// how many range items may still be read.
     fn unit_scopes(
         self,
-        alloc: Global,
         unit: usize,
+        root: usize,
         left: &mut u64,
-        scopes: &mut Vec<Scope>,
+        lists: &mut ScopeLists,
     ) -> Result<(), LoadFault>
         requires texts { AreTexts (sections_of self.sections.now) self.texts.now }
         requires unit { unit < length self.units.now }
@@ -101,24 +108,26 @@ impl<'a> Units<'a> {
         ensures { (keeping : Keeping) (us : List CompilationUnit) (u : CompilationUnit)
             (before : List Judged)
             → AreUnits keeping self.entry.units.now self.entry.bases.now us
-            → slice_get us unit ≡ Some u → AreJudged before scopes.old.items left.old
+            → slice_get us unit ≡ Some u → IsRootOf us root u
+            → AreJudged (roots_from 0 us) before lists.old left.old
             → AddsScopes keeping result (sections_of self.entry.sections.now) us
-            (sites_in u u.dies) before scopes.new.items left.new }
+            (sites_in u u.dies) before lists.new left.new }
     {
         let kept = &self.units[unit];
-        let first = scopes.len();
+        let first = lists.scopes.len();
         for packed in kept.scopes.as_slice() {
             let entry = packed.unpack();
-            let number = scopes.len();
+            let number = lists.scopes.len();
             let inside = kept.insides[number - first];
-            match self.scope(alloc, unit, &entry, inside, number, *left) {
+            let ranges = &mut lists.ranges;
+            match self.scope(unit, root, &entry, inside, number, *left, ranges) {
                 Err(cause) => {
                     let at = entry.entry.offset as u64;
                     return Err(LoadFault::told(Section::DebugInfo, cause, at));
                 }
-                Ok((scope, items)) => {
+                Ok((facts, items)) => {
                     *left -= items;
-                    scopes.push(scope)?;
+                    lists.push(facts)?;
                 }
             }
         }
@@ -126,30 +135,33 @@ impl<'a> Units<'a> {
     }
 
     /// The scopes of all units.
-    pub(crate) fn scopes(self, alloc: Global) -> Result<Vec<Scope>, LoadFault>
+    pub(crate) fn scopes(self, alloc: Global) -> Result<ScopeLists, LoadFault>
         requires texts { AreTexts (sections_of self.sections.now) self.texts.now }
         requires known { (keeping : Keeping) × (us : List CompilationUnit)
             × AreUnits keeping self.units.now self.bases.now us }
         ensures { (keeping : Keeping) (us : List CompilationUnit)
             → AreUnits keeping self.entry.units.now self.entry.bases.now us
-            → Decodes (λ scopes. map scope_of scopes.items) result (in_section names.DebugInfo
-            (all_scopes keeping (sections_of self.entry.sections.now) us)) }
+            → Decodes (λ lists. scopes_of (roots_from 0 us) lists) result (in_section
+            names.DebugInfo (all_scopes keeping (sections_of self.entry.sections.now) us)) }
     {
         let mut left = ITEMS_LIMIT;
-        let mut scopes = Vec::new(alloc);
+        let mut root = 0;
+        let mut lists = ScopeLists::new(alloc, scope_count(self.units))?;
         for unit in 0..self.units.len() {
-            self.unit_scopes(alloc, unit, &mut left, &mut scopes)?;
+            self.unit_scopes(unit, root, &mut left, &mut lists)?;
+            if self.units[unit].root.is_some() {
+                root += 1;
+            }
         }
-        Ok(scopes)
+        Ok(lists)
     }
 }
 
-/// Where the line program of a unit starts.
-fn stmt_list(unit: &UnitEntries) -> Option<u64>
-    ensures { result ≡ stmt_list_in unit.now.root }
-{
-    match &unit.root {
-        Some(root) => root.stmt_list,
-        None => None,
+/// How many scopes the units have, as far as the machine counts.
+fn scope_count(units: &[UnitEntries]) -> usize {
+    let mut count: usize = 0;
+    for unit in units {
+        count = count.saturating_add(unit.scopes.len());
     }
+    count
 }

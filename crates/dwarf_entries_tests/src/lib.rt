@@ -30,6 +30,8 @@ mod references;
 #[cfg(test)]
 mod samples;
 #[cfg(test)]
+mod shared;
+#[cfg(test)]
 mod texts;
 #[cfg(test)]
 mod units;

@@ -19,8 +19,6 @@ use Rattle.dwarf_entries.specs.Bases.{CompilationUnit}
 use Rattle.dwarf_entries.specs.Names.{next_of}
 use Rattle.dwarf_entries.specs.Private.Packed.{unpacked_entry, unpacked}
 use Rattle.dwarf_entries.specs.Scopes.{kind_of, is_scope, number_of}
-use Rattle.dwarf_entries.specs.declared.ranges.Covering.{Covering as KeptCovering}
-use Rattle.dwarf_entries.specs.Ranges.{Covering}
 
 -- whether the names and the reference of an entry with the tag are kept
 abbrev pub keeps : Keeping → ℕ → Bool
@@ -104,7 +102,3 @@ scope_count units = sum_by (λ unit. length unit.scopes.items) units
 abbrev pub AreInOrder : ℕ → List CompilationUnit → Type 0
 AreInOrder from [] = Unit {0}
 AreInOrder from (unit ∷ units) = (from ≤ unit.header.start) × RiseWithin unit.header.start unit.header.end unit.dies × AreInOrder unit.header.end units
-
--- the ranges of the program, as a list
-abbrev pub covering_of : KeptCovering → Covering
-covering_of c = record { ranges = c.ranges.items; items = c.items }

@@ -1,15 +1,18 @@
 -- What is kept of entries in few bytes, for the contracts of the walk and of the passes.
-use Rattle.std.specs.Prelude.{ℕ, Option, Some, None, ◌==◌, if◌then◌else◌}
+use Rattle.std.specs.Prelude.{ℕ, Bool, Option, Some, None, ◌==◌, if◌then◌else◌}
 use Rattle.dwarf_units.specs.declared.attributes.AttributeValue.{AttributeValue}
 use Rattle.dwarf_entries.specs.declared.kept.NamedEntry.{NamedEntry}
 use Rattle.dwarf_entries.specs.declared.kept.ScopeEntry.{ScopeEntry}
 use Rattle.dwarf_entries.specs.declared.packed.PackedEntry.{PackedEntry}
 use Rattle.dwarf_entries.specs.declared.packed.PackedScope.{PackedScope}
-use Rattle.dwarf_entries.specs.Scopes.{number_in}
 
 -- a value by its form and its number; no form is 0
 abbrev pub value_in : ℕ → ℕ → Option AttributeValue
 value_in form number = if form == 0 then None else Some (record { form = form; number = number })
+
+-- a number, if it is there
+abbrev pub number_in : Bool → ℕ → Option ℕ
+number_in is_there number = if is_there then Some number else None
 
 -- the entry that was packed
 abbrev pub unpacked_entry : PackedEntry → NamedEntry

@@ -1,5 +1,5 @@
 -- What the passes over all units leave, for their contracts.
-use Rattle.std.specs.Prelude.{◌≡◌, ◌⊎◌, ◌++◌, ◌+◌, ◌-◌, ℕ, List, length, Option, Some, None, Result, Ok, Err, map, filter, flat_map, slice_get, sum_by, zip}
+use Rattle.std.specs.Prelude.{◌≡◌, ◌⊎◌, ◌++◌, ◌+◌, ◌-◌, ℕ, List, ◌∷◌, length, Option, Some, None, Result, Ok, Err, map, filter, flat_map, slice_get, sum_by, zip}
 use Rattle.dwarf_bytes.specs.declared.fault.Section.TheVariants as names
 use Rattle.dwarf_bytes.specs.declared.fault.Cause.{Cause}
 use Rattle.dwarf_bytes.specs.declared.fault.LoadFault.{LoadFault}
@@ -14,15 +14,17 @@ use Rattle.dwarf_entries.specs.declared.kept.Keeping.{Keeping}
 use Rattle.dwarf_entries.specs.declared.kept.Keeping.TheVariants as keepings
 use Rattle.dwarf_entries.specs.declared.kept.RootEntry.{RootEntry}
 use Rattle.dwarf_entries.specs.declared.kept.UnitEntries.{UnitEntries}
-use Rattle.dwarf_entries.specs.declared.scope.Scope.{Scope as Kept}
+use Rattle.dwarf_entries.specs.declared.scope.Root.{Root}
+use Rattle.dwarf_entries.specs.declared.scope_lists.ScopeLists.{ScopeLists}
 use Rattle.dwarf_entries.specs.Sections.{Sections}
 use Rattle.dwarf_units.specs.Entries.{Die, entries_of}
 use Rattle.dwarf_entries.specs.Bases.{CompilationUnit, no_bases, bases_by, unit_of}
 use Rattle.dwarf_entries.specs.Names.{Member, names_of}
-use Rattle.dwarf_entries.specs.Scopes.{Tree, Judged, ScopeSite, Scope, items_limit, is_scope, sites_in, roots_from, scope_of, scope_by}
+use Rattle.dwarf_entries.specs.Scopes.{Tree, Judged, ScopeSite, Scope, items_limit, is_scope, sites_in, roots_from, root_stmt_list, scopes_of, scope_by, stmt_list_of}
 use Rattle.dwarf_entries.specs.declared.kept.ScopeEntry.{ScopeEntry}
 use Rattle.dwarf_units.specs.Units.{units_of, tables_of}
 use Rattle.dwarf_entries.specs.Private.Kept.{KeptUnit, scope_entry, kept_unit, kept_of, AreInOrder}
+use Rattle.dwarf_entries.specs.Private.Shared.{AreHeld}
 
 -- the entries of each unit
 abbrev pub all_entries : List ℕ → List UnitHeader → List (List Declaration) → Result (List (List Die)) At
@@ -62,18 +64,14 @@ pub record AreUnits (keeping : Keeping) (units : List UnitEntries) (bases : List
   pub order : AreInOrder 0 us
   pub bases_are : bases ≡ map bases_of us
 
--- the stmt_list of a root, if there is one
-abbrev pub stmt_list_in : Option RootEntry → Option ℕ
-stmt_list_in None = None
-stmt_list_in (Some root) = root.stmt_list
-
--- a scope of the program, with the range items that it was read from
-abbrev pub judged_of : Kept × ℕ → Judged
-judged_of r = record { scope = scope_of r.0; items = r.1 }
+-- the number of the root of a unit, which has entries
+abbrev pub IsRootOf : List CompilationUnit → ℕ → CompilationUnit → Type 0
+IsRootOf us root u = (die : Die) (rest : List Die) → u.dies ≡ die ∷ rest → root_stmt_list (roots_from 0 us) root ≡ stmt_list_of u.dies
 
 -- a place is that of a scope of a unit of the program, behind so many scopes with so many range items to come
-pub record IsScopeSite (us : List CompilationUnit) (unit : ℕ) (entry : ScopeEntry) (inside number room : ℕ) (before : List Judged) (p : ScopeSite) : Type 0 where
+pub record IsScopeSite (us : List CompilationUnit) (unit root : ℕ) (entry : ScopeEntry) (inside number room : ℕ) (before : List Judged) (p : ScopeSite) : Type 0 where
   pub unit_is : slice_get us unit ≡ Some p.member.unit
+  pub root_is : root_stmt_list (roots_from 0 us) root ≡ stmt_list_of p.member.unit.dies
   pub entry_is : entry ≡ scope_entry p.member.die p.kind
   pub inside_is : inside ≡ p.inside
   pub number_is : number ≡ length before
@@ -104,14 +102,16 @@ scope_with keeping s us before p = scope_by (names_of s (only_units keeping us) 
 abbrev pub judge : Keeping → Sections → List CompilationUnit → List Judged → ScopeSite → Result Judged At
 judge keeping s units before p = told_at p.member.die.offset (scope_with keeping s units before p)
 
--- the scopes of the program, and how many range items may still be read, behind the scopes before
-abbrev pub AreJudged : List Judged → List Kept → ℕ → Type 0
-AreJudged before scopes left = (map scope_of scopes ≡ map (λ j. j.scope) before) × (left + sum_by (λ s. s.items) before ≡ items_limit)
+-- the scopes of the program, by the roots, and how many range items may still be read, behind the scopes before
+pub record AreJudged (roots : List Root) (before : List Judged) (lists : ScopeLists) (left : ℕ) : Type 0 where
+  pub told : scopes_of roots lists ≡ map (λ j. j.scope) before
+  pub held : AreHeld (length lists.wide.items) 0 (length lists.ranges.items) lists.scopes.items
+  pub counted : left + sum_by (λ s. s.items) before ≡ items_limit
 
 -- The scopes at some places were put behind those before; or the fault is theirs, unless memory ran out.
-abbrev pub AddsScopes : Keeping → Result (Unit {0}) LoadFault → Sections → List CompilationUnit → List ScopeSite → List Judged → List Kept → ℕ → Type 0
-AddsScopes keeping (Ok _) s units places before scopes left = (after : List Judged) × (each_from (judge keeping s units) before places ≡ Ok after) × AreJudged (before ++ after) scopes left
-AddsScopes keeping (Err fault) s units places before scopes left = (fault ≡ memory_fault) ⊎ (in_section names.DebugInfo (each_from (judge keeping s units) before places) ≡ Err fault)
+abbrev pub AddsScopes : Keeping → Result (Unit {0}) LoadFault → Sections → List CompilationUnit → List ScopeSite → List Judged → ScopeLists → ℕ → Type 0
+AddsScopes keeping (Ok _) s us places before lists left = (after : List Judged) × (each_from (judge keeping s us) before places ≡ Ok after) × AreJudged (roots_from 0 us) (before ++ after) lists left
+AddsScopes keeping (Err fault) s us places before lists left = (fault ≡ memory_fault) ⊎ (in_section names.DebugInfo (each_from (judge keeping s us) before places) ≡ Err fault)
 
 -- the scopes of all units
 abbrev pub all_scopes : Keeping → Sections → List CompilationUnit → Result (List Scope) At

@@ -3,4 +3,4 @@ use Rattle.addr_table.proofs.TellLaws.{end-item}
 use Rattle.addr_table.proofs.scopes.end_at.Goals as goal
 
 pub returns : goal.returns
-returns c = λ d. c.end.ensures ∙ end-item _ _ _ _ d c.scopes.ensures c.requires c.index-scopes-number.is
+returns c = λ d. c.end.ensures ∙ end-item _ _ _ _ d c.scopes.ensures c.requires

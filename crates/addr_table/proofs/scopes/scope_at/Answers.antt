@@ -2,4 +2,4 @@ use Rattle.addr_table.proofs.TellLaws.{told-item}
 use Rattle.addr_table.proofs.scopes.scope_at.Goals as goal
 
 pub returns : goal.returns
-returns c = λ d. told-item _ _ _ _ c.requires.order c.scopes.ensures c.requires.within c.index-scopes-number.is d
+returns c = λ d. told-item _ _ _ _ c.requires.order c.scopes.ensures c.requires.within d

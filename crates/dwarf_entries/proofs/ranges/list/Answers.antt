@@ -21,49 +21,49 @@ pub returns-in_err-entry : goal.returns-in_err-entry
 returns-in_err-entry c =
     let p = err_from_is_err_and c.from_residual-in_err-entry.result c.from_residual-in_err-entry.ensures.1 in
     rw (p.1, p.2)
-    (inr (list_fault c.args.room (sections_of c.args.sections.now) c.args.bases.now c.args.place c.loop-ranges.items c.loop-ranges.base c.loop-ranges.ranges.items c.loop-ranges.cursor c.in_err-entry.field-0.0 c.loop-ranges.invariant.bytes c.loop-ranges.invariant.listed c.in_err-entry.ensures.reads))
+    (inr (list_fault c.args.room (sections_of c.args.sections.now) c.args.bases.now c.args.place c.loop-entry.items c.loop-entry.base c.args.all.now.items c.loop-entry.all.items c.loop-entry.cursor c.in_err-entry.field-0.0 c.loop-entry.invariant.bytes c.loop-entry.invariant.listed c.in_err-entry.ensures.reads))
 
-pub loop-ranges-smaller-in-Base : goal.loop-ranges-smaller-in-Base
-loop-ranges-smaller-in-Base c =
-    let turn = list_item c.args.room (sections_of c.args.sections.now) c.args.bases.now c.args.sections.now.debug_rnglists.now c.args.place c.loop-ranges.items c.loop-ranges.base c.loop-ranges.ranges.items c.loop-ranges.cursor c.next_entry.new.cursor _ (Base c.in-Base.new) c.loop-ranges.invariant.bytes c.loop-ranges.invariant.listed c.in_ok-entry.ensures.reads (c.in-Some.is ∙ ap (λ (e : RangeListEntry). Some e) (c.in-Base.is)) in
-    rw (turn.bytes_stay, c.loop-ranges.invariant.bytes) (omega (arith, turn.moves, turn.within))
+pub loop-entry-smaller-in-Base : goal.loop-entry-smaller-in-Base
+loop-entry-smaller-in-Base c =
+    let turn = list_item c.args.room (sections_of c.args.sections.now) c.args.bases.now c.args.sections.now.debug_rnglists.now c.args.place c.loop-entry.items c.loop-entry.base c.args.all.now.items c.loop-entry.all.items c.loop-entry.cursor c.next_entry.new.cursor _ (Base c.in-Base.new) c.loop-entry.invariant.bytes c.loop-entry.invariant.listed c.in_ok-entry.ensures.reads (c.in-Some.is ∙ ap (λ (e : RangeListEntry). Some e) (c.in-Base.is)) in
+    rw (turn.bytes_stay, c.loop-entry.invariant.bytes) (omega (arith, turn.moves, turn.within))
 
-pub loop-ranges-preserved-in-Base : goal.loop-ranges-preserved-in-Base
-loop-ranges-preserved-in-Base c =
-    let turn = list_item c.args.room (sections_of c.args.sections.now) c.args.bases.now c.args.sections.now.debug_rnglists.now c.args.place c.loop-ranges.items c.loop-ranges.base c.loop-ranges.ranges.items c.loop-ranges.cursor c.next_entry.new.cursor _ (Base c.in-Base.new) c.loop-ranges.invariant.bytes c.loop-ranges.invariant.listed c.in_ok-entry.ensures.reads (c.in-Some.is ∙ ap (λ (e : RangeListEntry). Some e) (c.in-Base.is)) in
+pub loop-entry-preserved-in-Base : goal.loop-entry-preserved-in-Base
+loop-entry-preserved-in-Base c =
+    let turn = list_item c.args.room (sections_of c.args.sections.now) c.args.bases.now c.args.sections.now.debug_rnglists.now c.args.place c.loop-entry.items c.loop-entry.base c.args.all.now.items c.loop-entry.all.items c.loop-entry.cursor c.next_entry.new.cursor _ (Base c.in-Base.new) c.loop-entry.invariant.bytes c.loop-entry.invariant.listed c.in_ok-entry.ensures.reads (c.in-Some.is ∙ ap (λ (e : RangeListEntry). Some e) (c.in-Base.is)) in
     record {
       bytes = turn.bytes_stay;
       listed =
-          subst (λ (r : List Range). ListedSoFar c.args.room (sections_of c.args.sections.now) c.args.bases.now c.args.sections.now.debug_rnglists.now c.args.place c.next_entry.new.cursor.place (c.loop-ranges.items + 1) (Some c.in-Base.new) r)
-          (append-nil c.loop-ranges.ranges.items) turn.listed;
+          subst (λ (r : List Range). ListedSoFar c.args.room (sections_of c.args.sections.now) c.args.bases.now c.args.sections.now.debug_rnglists.now c.args.place c.next_entry.new.cursor.place (c.loop-entry.items + 1) (Some c.in-Base.new) c.args.all.now.items r)
+          (append-nil c.loop-entry.all.items) turn.listed;
     }
 
-pub loop-ranges-smaller-in-Continue-branch-4 : goal.loop-ranges-smaller-in-Continue-branch-4
-loop-ranges-smaller-in-Continue-branch-4 c =
-    let turn = list_item c.args.room (sections_of c.args.sections.now) c.args.bases.now c.args.sections.now.debug_rnglists.now c.args.place c.loop-ranges.items c.loop-ranges.base c.loop-ranges.ranges.items c.loop-ranges.cursor c.next_entry.new.cursor _ (Covers (Some c.in-Some-covered.range)) c.loop-ranges.invariant.bytes c.loop-ranges.invariant.listed c.in_ok-entry.ensures.reads (c.in-Some.is ∙ ap (λ (e : RangeListEntry). Some e) (c.in-Covers.is ∙ ap (λ (r : Option Range). Covers r) c.in-Some-covered.is)) in
-    rw (turn.bytes_stay, c.loop-ranges.invariant.bytes) (omega (arith, turn.moves, turn.within))
+pub loop-entry-smaller-in-Continue-branch-4 : goal.loop-entry-smaller-in-Continue-branch-4
+loop-entry-smaller-in-Continue-branch-4 c =
+    let turn = list_item c.args.room (sections_of c.args.sections.now) c.args.bases.now c.args.sections.now.debug_rnglists.now c.args.place c.loop-entry.items c.loop-entry.base c.args.all.now.items c.loop-entry.all.items c.loop-entry.cursor c.next_entry.new.cursor _ (Covers (Some c.in-Some-covered.range)) c.loop-entry.invariant.bytes c.loop-entry.invariant.listed c.in_ok-entry.ensures.reads (c.in-Some.is ∙ ap (λ (e : RangeListEntry). Some e) (c.in-Covers.is ∙ ap (λ (r : Option Range). Covers r) c.in-Some-covered.is)) in
+    rw (turn.bytes_stay, c.loop-entry.invariant.bytes) (omega (arith, turn.moves, turn.within))
 
-pub loop-ranges-preserved-in-Continue-branch-4 : goal.loop-ranges-preserved-in-Continue-branch-4
-loop-ranges-preserved-in-Continue-branch-4 c =
-    let turn = list_item c.args.room (sections_of c.args.sections.now) c.args.bases.now c.args.sections.now.debug_rnglists.now c.args.place c.loop-ranges.items c.loop-ranges.base c.loop-ranges.ranges.items c.loop-ranges.cursor c.next_entry.new.cursor _ (Covers (Some c.in-Some-covered.range)) c.loop-ranges.invariant.bytes c.loop-ranges.invariant.listed c.in_ok-entry.ensures.reads (c.in-Some.is ∙ ap (λ (e : RangeListEntry). Some e) (c.in-Covers.is ∙ ap (λ (r : Option Range). Covers r) c.in-Some-covered.is)) in
-    record { bytes = turn.bytes_stay; listed = rw c.in_ok-push-in-Covers.ensures.ok turn.listed }
+pub loop-entry-preserved-in-Continue-branch-4 : goal.loop-entry-preserved-in-Continue-branch-4
+loop-entry-preserved-in-Continue-branch-4 c =
+    let turn = list_item c.args.room (sections_of c.args.sections.now) c.args.bases.now c.args.sections.now.debug_rnglists.now c.args.place c.loop-entry.items c.loop-entry.base c.args.all.now.items c.loop-entry.all.items c.loop-entry.cursor c.next_entry.new.cursor _ (Covers (Some c.in-Some-covered.range)) c.loop-entry.invariant.bytes c.loop-entry.invariant.listed c.in_ok-entry.ensures.reads (c.in-Some.is ∙ ap (λ (e : RangeListEntry). Some e) (c.in-Covers.is ∙ ap (λ (r : Option Range). Covers r) c.in-Some-covered.is)) in
+    record { bytes = turn.bytes_stay; listed = rw c.in_ok-push-in-Covers.ensures.items turn.listed }
 
-pub loop-ranges-smaller : goal.loop-ranges-smaller
-loop-ranges-smaller c =
-    let turn = list_item c.args.room (sections_of c.args.sections.now) c.args.bases.now c.args.sections.now.debug_rnglists.now c.args.place c.loop-ranges.items c.loop-ranges.base c.loop-ranges.ranges.items c.loop-ranges.cursor c.next_entry.new.cursor _ (Covers None) c.loop-ranges.invariant.bytes c.loop-ranges.invariant.listed c.in_ok-entry.ensures.reads (c.in-Some.is ∙ ap (λ (e : RangeListEntry). Some e) (c.in-Covers.is ∙ ap (λ (r : Option Range). Covers r) (None-from_no_Some _ c.in_default-covered.not-Some))) in
-    rw (turn.bytes_stay, c.loop-ranges.invariant.bytes) (omega (arith, turn.moves, turn.within))
+pub loop-entry-smaller : goal.loop-entry-smaller
+loop-entry-smaller c =
+    let turn = list_item c.args.room (sections_of c.args.sections.now) c.args.bases.now c.args.sections.now.debug_rnglists.now c.args.place c.loop-entry.items c.loop-entry.base c.args.all.now.items c.loop-entry.all.items c.loop-entry.cursor c.next_entry.new.cursor _ (Covers None) c.loop-entry.invariant.bytes c.loop-entry.invariant.listed c.in_ok-entry.ensures.reads (c.in-Some.is ∙ ap (λ (e : RangeListEntry). Some e) (c.in-Covers.is ∙ ap (λ (r : Option Range). Covers r) (None-from_no_Some _ c.in_default-covered.not-Some))) in
+    rw (turn.bytes_stay, c.loop-entry.invariant.bytes) (omega (arith, turn.moves, turn.within))
 
-pub loop-ranges-preserved : goal.loop-ranges-preserved
-loop-ranges-preserved c =
-    let turn = list_item c.args.room (sections_of c.args.sections.now) c.args.bases.now c.args.sections.now.debug_rnglists.now c.args.place c.loop-ranges.items c.loop-ranges.base c.loop-ranges.ranges.items c.loop-ranges.cursor c.next_entry.new.cursor _ (Covers None) c.loop-ranges.invariant.bytes c.loop-ranges.invariant.listed c.in_ok-entry.ensures.reads (c.in-Some.is ∙ ap (λ (e : RangeListEntry). Some e) (c.in-Covers.is ∙ ap (λ (r : Option Range). Covers r) (None-from_no_Some _ c.in_default-covered.not-Some))) in
+pub loop-entry-preserved : goal.loop-entry-preserved
+loop-entry-preserved c =
+    let turn = list_item c.args.room (sections_of c.args.sections.now) c.args.bases.now c.args.sections.now.debug_rnglists.now c.args.place c.loop-entry.items c.loop-entry.base c.args.all.now.items c.loop-entry.all.items c.loop-entry.cursor c.next_entry.new.cursor _ (Covers None) c.loop-entry.invariant.bytes c.loop-entry.invariant.listed c.in_ok-entry.ensures.reads (c.in-Some.is ∙ ap (λ (e : RangeListEntry). Some e) (c.in-Covers.is ∙ ap (λ (r : Option Range). Covers r) (None-from_no_Some _ c.in_default-covered.not-Some))) in
     record {
       bytes = turn.bytes_stay;
       listed =
-          subst (λ (r : List Range). ListedSoFar c.args.room (sections_of c.args.sections.now) c.args.bases.now c.args.sections.now.debug_rnglists.now c.args.place c.next_entry.new.cursor.place (c.loop-ranges.items + 1) c.loop-ranges.base r)
-          (append-nil c.loop-ranges.ranges.items) turn.listed;
+          subst (λ (r : List Range). ListedSoFar c.args.room (sections_of c.args.sections.now) c.args.bases.now c.args.sections.now.debug_rnglists.now c.args.place c.next_entry.new.cursor.place (c.loop-entry.items + 1) c.loop-entry.base c.args.all.now.items r)
+          (append-nil c.loop-entry.all.items) turn.listed;
     }
 
 pub returns : goal.returns
 returns c =
-    list_end c.args.room (sections_of c.args.sections.now) c.args.bases.now c.args.place c.loop-ranges.items c.loop-ranges.base c.loop-ranges.ranges.items c.loop-ranges.cursor c.next_entry.new.cursor _ c.loop-ranges.invariant.bytes c.loop-ranges.invariant.listed c.in_ok-entry.ensures.reads
+    list_end c.args.room (sections_of c.args.sections.now) c.args.bases.now c.args.place c.loop-entry.items c.loop-entry.base c.args.all.now.items c.loop-entry.all.items c.loop-entry.cursor c.next_entry.new.cursor _ c.loop-entry.invariant.bytes c.loop-entry.invariant.listed c.in_ok-entry.ensures.reads
     (None-from_no_Some _ c.in_default.not-Some)

@@ -3,11 +3,11 @@ use Rattle.dwarf_entries.specs.Sections.{sections_of}
 use Rattle.dwarf_entries.proofs.RangeLaws.{ListedSoFar}
 use Rattle.dwarf_entries.proofs.ranges.list.Given as goal
 
-abbrev pub invariant-loop-ranges : goal.invariant-loop-ranges
-invariant-loop-ranges l = record {
+abbrev pub invariant-loop-entry : goal.invariant-loop-entry
+invariant-loop-entry l = record {
   bytes : l.cursor.bytes ≡ l.sections.debug_rnglists.now;
-  listed : ListedSoFar l.room (sections_of l.sections) l.bases l.sections.debug_rnglists.now l.place l.cursor.place l.items l.base l.ranges.items;
+  listed : ListedSoFar l.room (sections_of l.sections) l.bases l.sections.debug_rnglists.now l.place l.cursor.place l.items l.base l.fn.all.items l.all.items;
 }
 
-abbrev pub decreases-loop-ranges : goal.decreases-loop-ranges
-decreases-loop-ranges l = length l.cursor.bytes - l.cursor.place
+abbrev pub decreases-loop-entry : goal.decreases-loop-entry
+decreases-loop-entry l = length l.cursor.bytes - l.cursor.place

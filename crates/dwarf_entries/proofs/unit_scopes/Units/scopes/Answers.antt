@@ -1,21 +1,40 @@
-use Rattle.std.proofs.Common.{[]}
+use Rattle.std.proofs.Common.{◌≡◌, ◌+◌, ◌≤◌, cond, sym, ap, ◌∙◌, arith}
+use Rattle.std.specs.Prelude.{Bool, true, false}
 use Rattle.std.proofs.lemmas.Result.{err_from_is_err_and}
 use Rattle.dwarf_entries.specs.Sections.{sections_of}
 use Rattle.dwarf_entries.proofs.ScopesPass.{scopes_none, scopes_next, scopes_fault, scopes_end}
 use Rattle.dwarf_entries.proofs.unit_scopes.Units.scopes.Goals as goal
+use Rattle.dwarf_entries.proofs.unit_scopes.Units.scopes.Goals.{then-is_some, else-is_some}
+
+one_at_most : (b : Bool) → cond b 1 0 ≤ 1
+one_at_most true = omega arith
+one_at_most false = omega arith
 
 pub loop-unit-init : goal.loop-unit-init
-loop-unit-init c keeping us are = rw (c.new-scopes.ensures.items) (scopes_none keeping (sections_of c.args.self.sections.now) us)
+loop-unit-init c = record {
+  few = omega arith;
+  so_far = λ keeping us are. scopes_none keeping (sections_of c.args.self.sections.now) us c.in_ok-lists.lists c.in_ok-lists.ensures.scopes c.in_ok-lists.ensures.ranges;
+}
 
 pub returns-in_err-unit_scopes : goal.returns-in_err-unit_scopes
 returns-in_err-unit_scopes c keeping us are =
-    let p = err_from_is_err_and c.from_residual.result c.from_residual.ensures.1 in
+    let p = err_from_is_err_and c.from_residual-in_err-unit_scopes.result c.from_residual-in_err-unit_scopes.ensures.1 in
     rw (p.1, p.2)
-    (scopes_fault keeping (sections_of c.args.self.sections.now) c.args.self.units.now c.args.self.bases.now us c.loop-unit.unit c.loop-unit.scopes.items [] c.loop-unit.left 0 c.in_err-unit_scopes.field-0.0 are c.loop-unit-test.true (c.loop-unit.invariant keeping us are) (λ u before. c.in_err-unit_scopes.ensures keeping us u before are))
+    (scopes_fault keeping (sections_of c.args.self.sections.now) c.args.self.units.now c.args.self.bases.now us c.loop-unit.unit c.loop-unit.root c.loop-unit.lists c.loop-unit.lists c.loop-unit.left 0 c.in_err-unit_scopes.field-0.0 are c.loop-unit-test.true (c.loop-unit.invariant.so_far keeping us are) (λ u before. c.in_err-unit_scopes.ensures keeping us u before are))
 
 pub loop-unit-preserved : goal.loop-unit-preserved
-loop-unit-preserved c keeping us are =
-    scopes_next keeping (sections_of c.args.self.sections.now) c.args.self.units.now c.args.self.bases.now us c.loop-unit.unit c.loop-unit.scopes.items _ c.loop-unit.left _ are c.loop-unit-test.true (c.loop-unit.invariant keeping us are) (λ u before. c.in_ok-unit_scopes.ensures keeping us u before are)
+loop-unit-preserved c =
+    let next : c.if-is_some.root ≡ c.loop-unit.root + cond c.is_some.result 1 0 =
+    elim c.if-is_some.branch [
+      | then-is_some w ↦ w.root-is ∙ sym (ap (λ (b : Bool). c.loop-unit.root + cond b 1 0) w.if-is_some.true)
+      | else-is_some w ↦ w.root-is ∙ (omega arith ∙ sym (ap (λ (b : Bool). c.loop-unit.root + cond b 1 0) w.if-is_some.false))
+    ] in
+    let few : cond c.is_some.result 1 0 ≤ 1 = one_at_most c.is_some.result in
+    record {
+      few = omega (arith, next, few, c.loop-unit.invariant.few);
+      so_far = λ keeping us are.
+          scopes_next keeping (sections_of c.args.self.sections.now) c.args.self.units.now c.args.self.bases.now us c.loop-unit.unit c.loop-unit.root c.if-is_some.root _ c.loop-unit.lists _ c.loop-unit.left _ are c.loop-unit-test.true (c.loop-unit.invariant.so_far keeping us are) (next ∙ ap (λ (b : Bool). c.loop-unit.root + cond b 1 0) c.is_some.ensures) (λ u before. c.in_ok-unit_scopes.ensures keeping us u before are);
+    }
 
 pub returns : goal.returns
-returns c keeping us are = scopes_end keeping (sections_of c.args.self.sections.now) c.args.self.units.now c.args.self.bases.now us c.loop-unit.unit c.loop-unit.scopes.items c.loop-unit.left are c.loop-unit-test.false (c.loop-unit.invariant keeping us are)
+returns c keeping us are = scopes_end keeping (sections_of c.args.self.sections.now) c.args.self.units.now c.args.self.bases.now us c.loop-unit.unit c.loop-unit.root c.loop-unit.lists c.loop-unit.left are c.loop-unit-test.false (c.loop-unit.invariant.so_far keeping us are)

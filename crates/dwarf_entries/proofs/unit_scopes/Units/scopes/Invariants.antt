@@ -1,4 +1,4 @@
-use Rattle.std.proofs.Common.{List}
+use Rattle.std.proofs.Common.{◌≤◌, List}
 use Rattle.dwarf_entries.specs.Sections.{sections_of}
 use Rattle.dwarf_entries.specs.declared.kept.Keeping.{Keeping}
 use Rattle.dwarf_entries.specs.Bases.{CompilationUnit}
@@ -7,5 +7,7 @@ use Rattle.dwarf_entries.proofs.ScopesPass.{ScopesSoFar}
 use Rattle.dwarf_entries.proofs.unit_scopes.Units.scopes.Given as goal
 
 abbrev pub invariant-loop-unit : goal.invariant-loop-unit
-invariant-loop-unit l =
-    (keeping : Keeping) (us : List CompilationUnit) → AreUnits keeping l.self.units.now l.self.bases.now us → ScopesSoFar keeping (sections_of l.self.sections.now) us l.unit l.scopes.items l.left
+invariant-loop-unit l = record {
+  few : l.root ≤ l.unit;
+  so_far : (keeping : Keeping) (us : List CompilationUnit) → AreUnits keeping l.self.units.now l.self.bases.now us → ScopesSoFar keeping (sections_of l.self.sections.now) us l.unit l.root l.lists l.left;
+}

@@ -1,0 +1,73 @@
+-- What scopes share, for the contracts of the pass over scopes.
+use Rattle.std.specs.Prelude.{◌≡◌, ℕ, ◌-◌, ◌≤◌, ◌<◌, List, [], ◌∷◌, ◌++◌, length, Result, Ok, Err, ◌==◌, if◌then◌else◌, slice_get}
+use Rattle.std.specs.Option.{option_map_or}
+use Rattle.dwarf_bytes.specs.declared.fault.Cause.{Cause}
+use Rattle.dwarf_bytes.specs.Refusals.{Fails}
+use Rattle.dwarf_entries.specs.declared.calls.CallSite.{CallSite}
+use Rattle.dwarf_entries.specs.declared.calls.Calls.{Calls}
+use Rattle.dwarf_entries.specs.declared.calls.Calls.TheVariants as calls
+use Rattle.dwarf_entries.specs.declared.scope.Range.{Range}
+use Rattle.dwarf_entries.specs.declared.scope.Root.{Root}
+use Rattle.dwarf_entries.specs.declared.scope.Scope.{Scope as Kept}
+use Rattle.dwarf_entries.specs.declared.scope.ScopeFacts.{ScopeFacts}
+use Rattle.dwarf_entries.specs.declared.scope_lists.ScopeLists.{ScopeLists}
+use Rattle.dwarf_entries.specs.Ranges.{Covering}
+use Rattle.dwarf_entries.specs.Scopes.{Scope, scope_of, root_stmt_list, Judged}
+
+-- What an entry covers was put behind the ranges before, and is told by how many items it was read from.
+abbrev pub AddsRanges : Result ℕ Cause → List Range → List Range → Result Covering Cause → Type 0
+AddsRanges (Ok items) old new outcome = (found : List Range) × (outcome ≡ Ok (record { ranges = found; items = items })) × (new ≡ old ++ found)
+AddsRanges (Err cause) old new outcome = Fails cause outcome
+
+-- what is told of a scope before it is packed, by the roots and by what it covers
+abbrev pub facts_of : List Root → List Range → ScopeFacts → Scope
+facts_of roots ranges s = record {
+  kind = s.kind;
+  offset = s.offset;
+  number = s.number;
+  end = s.«end»;
+  ranges = ranges;
+  name = s.name;
+  linkage_name = s.linkage_name;
+  stmt_list = root_stmt_list roots s.root;
+  call_file = s.site.file;
+  call_line = s.site.line;
+}
+
+-- .. whose ranges were put behind those before
+abbrev pub AddsFacts : List Root → Result (ScopeFacts × ℕ) Cause → List Range → List Range → Result Judged Cause → Type 0
+AddsFacts roots (Ok told) old new outcome = (found : List Range) × (outcome ≡ Ok (record { scope = facts_of roots found told.0; items = told.1 })) × (new ≡ old ++ found)
+AddsFacts roots (Err cause) old new outcome = Fails cause outcome
+
+-- A call that stands in a list of so many has a place in it.
+abbrev pub IsHeldIn : ℕ → Calls → ℕ → Type 0
+IsHeldIn many calls.Missing place = Unit {0}
+IsHeldIn many calls.File place = Unit {0}
+IsHeldIn many calls.Line place = Unit {0}
+IsHeldIn many calls.Both place = Unit {0}
+IsHeldIn many calls.Wide place = place < many
+
+-- The ranges of the scopes stand one behind another, from a place to another, and their calls in a list of so many.
+abbrev pub AreHeld : ℕ → ℕ → ℕ → List Kept → Type 0
+AreHeld many first past [] = first ≡ past
+AreHeld many first past (s ∷ ss) = (first ≤ s.ranges_end) × IsHeldIn many s.calls s.call_file × AreHeld many s.ranges_end past ss
+
+-- where the ranges of the scope of a number begin
+abbrev pub ranges_start : ℕ → List Kept → ℕ → ℕ
+ranges_start first scopes number = if number == 0 then first else option_map_or (λ s. s.ranges_end) (slice_get scopes (number - 1)) 0
+
+-- A scope that ends the ranges at a place tells the facts, by the roots, by its ranges and by the wide calls, to which its own may have
+-- been added.
+pub record Packs (facts : ScopeFacts) (ranges_end : ℕ) (old new : List CallSite) (s : Kept) : Type 0 where
+  pub more : List CallSite
+  pub added : new ≡ old ++ more
+  pub held : IsHeldIn (length new) s.calls s.call_file
+  pub ends : s.ranges_end ≡ ranges_end
+  pub tells : (roots : List Root) (ranges : List Range) → scope_of roots new ranges s ≡ facts_of roots ranges facts
+
+-- It was put behind the scopes before.
+pub record IsPushed (facts : ScopeFacts) (old new : ScopeLists) : Type 0 where
+  pub s : Kept
+  pub packs : Packs facts (length old.ranges.items) old.wide.items new.wide.items s
+  pub scopes : new.scopes.items ≡ old.scopes.items ++ s ∷ []
+  pub ranges : new.ranges.items ≡ old.ranges.items

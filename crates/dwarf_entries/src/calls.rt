@@ -1,0 +1,88 @@
+//! The file and the line of a call, in few bytes (DWARF 5, 3.3.8.1).
+
+ghost use Rattle.std.specs.Prelude.{◌≡◌, ◌++◌, ℕ, List, length, IfOk, IfSome};
+ghost use Rattle.dwarf_entries.specs.declared.calls.CallSite.{CallSite as Site};
+ghost use Rattle.dwarf_entries.specs.Scopes.{call_site};
+ghost use Rattle.dwarf_entries.specs.Private.Shared.{IsHeldIn};
+
+use crate::packed::narrow;
+use std::alloc::AllocError;
+
+/// The file and the line that a subroutine was called from, by the numbers that its entry gives.
+#[derive(Clone, Copy, Debug)]
+pub(crate) struct CallSite {
+    pub(crate) file: Option<u64>,
+    pub(crate) line: Option<u64>,
+}
+
+/// Which numbers of a call there are. Where one of them has more than 32 bits, both stand in a list.
+#[derive(Clone, Copy, Debug)]
+pub(crate) enum Calls {
+    Missing,
+    File,
+    Line,
+    Both,
+    Wide,
+}
+
+impl CallSite {
+    /// The call that was packed as a file and a line, by the list of the wide ones.
+    pub(crate) fn unpack(calls: Calls, file: u32, line: u32, wide: &[CallSite]) -> CallSite
+        ensures { result ≡ call_site wide.now calls file line }
+    {
+        let (file_too, line_too) = (u64::from(file), u64::from(line));
+        let (file, line) = match calls {
+            Calls::Missing => (None, None),
+            Calls::File => (Some(file_too), None),
+            Calls::Line => (None, Some(line_too)),
+            Calls::Both => (Some(file_too), Some(line_too)),
+            Calls::Wide => match wide.get(file as usize) {
+                Some(site) => (site.file, site.line),
+                None => (None, None),
+            },
+        };
+        CallSite { file, line }
+    }
+
+    /// Which numbers there are, the file and the line. A call with a number of more than 32 bits goes to
+    /// the end of the list of the wide ones, and its place there is told as the file.
+    pub(crate) fn pack(self, wide: &mut Vec<CallSite>) -> Result<(Calls, u32, u32), AllocError>
+        ensures told { IfOk result (λ parts. call_site wide.new.items parts.0 parts.1 parts.2
+            ≡ self) }
+        ensures held { IfOk result (λ parts. IsHeldIn (length wide.new.items) parts.0 parts.1) }
+        ensures added { IfOk result (λ parts. (more : List Site)
+            × (wide.new.items ≡ wide.old.items ++ more)) }
+    {
+        if let Some(parts) = self.narrow_parts() {
+            return Ok(parts);
+        }
+        let place = narrow(wide.len())?;
+        wide.push(self)?;
+        Ok((Calls::Wide, place, 0))
+    }
+
+    /// .. of a call without a number of more than 32 bits.
+    fn narrow_parts(self) -> Option<(Calls, u32, u32)>
+        ensures told { IfSome result (λ parts. (wide : List Site)
+            → call_site wide parts.0 parts.1 parts.2 ≡ self) }
+        ensures held { IfSome result (λ parts. (many : ℕ) → IsHeldIn many parts.0 parts.1) }
+    {
+        match (self.file, self.line) {
+            (None, None) => Some((Calls::Missing, 0, 0)),
+            (Some(file), None) => Some((Calls::File, narrow_number(file)?, 0)),
+            (None, Some(line)) => Some((Calls::Line, 0, narrow_number(line)?)),
+            (Some(file), Some(line)) => {
+                Some((Calls::Both, narrow_number(file)?, narrow_number(line)?))
+            }
+        }
+    }
+}
+
+fn narrow_number(number: u64) -> Option<u32>
+    ensures { IfSome result (λ narrow. narrow ≡ number) }
+{
+    match u32::try_from(number) {
+        Ok(narrow) => Some(narrow),
+        Err(_) => None,
+    }
+}

@@ -1,0 +1,79 @@
+//! The scopes of an object, with the lists that they share.
+
+ghost use Rattle.std.specs.Prelude.{◌≡◌, ◌-◌, ℕ, [], List, length, take, drop, IfOk};
+ghost use Rattle.dwarf_entries.specs.declared.scope.Root.{Root};
+ghost use Rattle.dwarf_entries.specs.Scopes.{scopes_of, ranges_at};
+ghost use Rattle.dwarf_entries.specs.Private.Shared.{ranges_start, IsPushed};
+
+use crate::calls::CallSite;
+use crate::scope::{Range, Scope, ScopeFacts};
+use std::alloc::{AllocError, Global};
+
+/// The ranges of a scope end where it tells, and begin where those of the scope before it end.
+#[derive(Debug, Drop)]
+pub(crate) struct ScopeLists {
+    pub(crate) scopes: Vec<Scope>,
+    pub(crate) ranges: Vec<Range>,
+    /// The calls with numbers of more than 32 bits.
+    pub(crate) wide: Vec<CallSite>,
+}
+
+impl ScopeLists {
+    /// With room for so many scopes.
+    pub(crate) fn new(alloc: Global, count: usize) -> Result<ScopeLists, AllocError>
+        ensures scopes { IfOk result (λ lists. lists.scopes.items ≡ []) }
+        ensures ranges { IfOk result (λ lists. lists.ranges.items ≡ []) }
+        ensures wide { IfOk result (λ lists. lists.wide.items ≡ []) }
+    {
+        Ok(ScopeLists {
+            scopes: Vec::with_capacity(alloc, count)?,
+            ranges: Vec::new(alloc),
+            wide: Vec::new(alloc),
+        })
+    }
+
+    /// Puts a scope behind the others. Its ranges are those behind theirs.
+    pub(crate) fn push(&mut self, facts: ScopeFacts) -> Result<(), AllocError>
+        ensures { IfOk result (λ _. IsPushed facts self.old self.new) }
+    {
+        let scope = Scope::of(facts, self.ranges.len(), &mut self.wide)?;
+        self.scopes.push(scope)?;
+        Ok(())
+    }
+
+    /// What the scope of a number covers.
+    pub(crate) fn ranges_of(&self, number: usize) -> &[Range]
+        ensures { (roots : List Root)
+            → result.now ≡ ranges_at (scopes_of roots self.now) number }
+    {
+        match self.scopes.get(number) {
+            Some(scope) => {
+                let start = ranges_start(self.scopes.as_slice(), number);
+                stretch(self.ranges.as_slice(), start, scope.ranges_end as usize)
+            }
+            None => &[],
+        }
+    }
+}
+
+/// Where the ranges of the scope of a number begin.
+fn ranges_start(scopes: &[Scope], number: usize) -> usize
+    ensures { result ≡ ranges_start 0 scopes.now number }
+{
+    if number == 0 {
+        return 0;
+    }
+    match scopes.get(number - 1) {
+        Some(scope) => scope.ranges_end as usize,
+        None => 0,
+    }
+}
+
+/// Those from one place up to another, as far as they go.
+fn stretch(ranges: &[Range], start: usize, end: usize) -> &[Range]
+    ensures { result.now ≡ take (end - start) (drop start ranges.now) }
+{
+    let from = start.min(ranges.len());
+    let len = end.saturating_sub(start).min(ranges.len() - from);
+    &ranges[from..from + len]
+}

@@ -1,0 +1,144 @@
+//! What scopes share: a list of ranges, a list of large calls, and the roots of their units.
+
+use crate::fixtures::*;
+use dwarf_entries::{Range, Scopes, Sections};
+use std::alloc::{AllocError, Global};
+use std::process::Abort;
+use std::test::*;
+
+/// Three ranges, each with a length.
+const LIST: [u8; 31] = [
+    7, 0, 0x30, 0, 0, 0, 0, 0, 0, 5, // start_length 0x3000, 5
+    7, 0, 0x40, 0, 0, 0, 0, 0, 0, 6, // start_length 0x4000, 6
+    7, 0, 0x50, 0, 0, 0, 0, 0, 0, 7, // start_length 0x5000, 7
+    0, // end_of_list
+];
+
+/// A unit, and subprograms without a range, with a pair of addresses and with a range list.
+const COVERING: [u8; 26] = [
+    1, 0x11, 1, 0, 0, // unit
+    2, 0x2e, 0, 0, 0, // subprogram
+    3, 0x2e, 0, 0x11, 0x01, 0x12, 0x0b, 0, 0, // .. of low_pc as addr, high_pc as data1
+    4, 0x2e, 0, 0x55, 0x17, 0, 0, // .. of ranges as sec_offset
+];
+
+/// A unit, and subprograms with a file and a line, without, with a file, and with a line of a call.
+const CALLED: [u8; 33] = [
+    1, 0x11, 1, 0, 0, // unit
+    2, 0x2e, 0, 0x58, 0x07, 0x59, 0x07, 0, 0, // call_file and call_line as data8
+    3, 0x2e, 0, 0, 0, // neither
+    4, 0x2e, 0, 0x58, 0x07, 0, 0, // call_file
+    5, 0x2e, 0, 0x59, 0x07, 0, 0, // call_line
+];
+
+/// Units with and without a line program, and a subprogram.
+const UNITS: [u8; 17] = [
+    1, 0x11, 1, 0x10, 0x17, 0, 0, // stmt_list as sec_offset
+    2, 0x11, 1, 0, 0, // none
+    3, 0x2e, 0, 0, 0, // subprogram
+];
+
+/// These declarations, and the end of their table.
+fn table(alloc: Global, declarations: &[u8]) -> Result<Vec<u8>, AllocError> {
+    let mut bytes = Vec::new(alloc);
+    bytes.extend_from_slice(declarations)?;
+    bytes.push(0)?;
+    Ok(bytes)
+}
+
+/// Checks the ranges of the scope of a number.
+fn covers(rt: &impl Abort, read: &Scopes, number: usize, ranges: &[Range]) {
+    let found = read.scopes().get(number).map(|scope| scope.ranges(read));
+    assert_eq!(rt; found, Some(ranges), "scope {number}");
+}
+
+#[test]
+fn ranges_of_neighbours(rt: HostRuntime) -> Result<(), Fail> {
+    let table = table(rt.alloc(), &COVERING)?;
+    let entries = [
+        1, // unit
+        2, // no range
+        3, 0, 0x10, 0, 0, 0, 0, 0, 0, 8, // 0x1000 to 0x1008
+        4, 0, 0, 0, 0, // the list
+        2, // no range
+        4, 0, 0, 0, 0, // the list again
+        3, 0, 0x20, 0, 0, 0, 0, 0, 0, 0, // 0x2000 to 0x2000, which is empty
+        3, 0, 0x20, 0, 0, 0, 0, 0, 0, 4, // 0x2000 to 0x2004
+        2, // no range
+        0,
+    ];
+    let info = unit(rt.alloc(), &entries)?;
+    let all = Sections {
+        debug_rnglists: &LIST,
+        ..sections(&info, &table)
+    };
+    let read = Scopes::read(rt.alloc(), &all)?;
+    let three = [
+        range(0x3000, 0x3005),
+        range(0x4000, 0x4006),
+        range(0x5000, 0x5007),
+    ];
+    assert_eq!(rt; read.scopes().len(), 8);
+    covers(&rt, &read, 0, &[]);
+    covers(&rt, &read, 1, &[range(0x1000, 0x1008)]);
+    covers(&rt, &read, 2, &three);
+    covers(&rt, &read, 3, &[]);
+    covers(&rt, &read, 4, &three);
+    covers(&rt, &read, 5, &[]);
+    covers(&rt, &read, 6, &[range(0x2000, 0x2004)]);
+    covers(&rt, &read, 7, &[]);
+    Ok(())
+}
+
+#[test]
+fn calls_of_neighbours(rt: HostRuntime) -> Result<(), Fail> {
+    let table = table(rt.alloc(), &CALLED)?;
+    let entries = [
+        1, // unit
+        2, 7, 0, 0, 0, 0, 0, 0, 0, 9, 0, 0, 0, 0, 0, 0, 0, // 7 and 9
+        2, 0, 0, 0, 0, 0, 1, 0, 0, 5, 0, 0, 0, 1, 0, 0, 0, // 2^40 and 2^32 + 5
+        3, // neither
+        2, 3, 0, 0, 0, 0, 0, 0, 0, 4, 0, 0, 0, 1, 0, 0, 0, // 3 and 2^32 + 4
+        4, 0xff, 0xff, 0xff, 0xff, 0, 0, 0, 0, // file 2^32 - 1
+        4, 0, 0, 0, 0, 1, 0, 0, 0, // file 2^32
+        5, 6, 0, 0, 0, 1, 0, 0, 0, // line 2^32 + 6
+        5, 8, 0, 0, 0, 0, 0, 0, 0, // line 8
+        0,
+    ];
+    let info = unit(rt.alloc(), &entries)?;
+    let read = Scopes::read(rt.alloc(), &sections(&info, &table))?;
+    let calls = [
+        (Some(7), Some(9)),
+        (Some(0x100_0000_0000), Some(0x1_0000_0005)),
+        (None, None),
+        (Some(3), Some(0x1_0000_0004)),
+        (Some(0xffff_ffff), None),
+        (Some(0x1_0000_0000), None),
+        (None, Some(0x1_0000_0006)),
+        (None, Some(8)),
+    ];
+    assert_eq!(rt; read.scopes().len(), calls.len());
+    for (number, (scope, call)) in read.scopes().iter().zip(&calls).enumerate() {
+        let told = (scope.call_file(&read), scope.call_line(&read));
+        assert_eq!(rt; told, *call, "scope {number}");
+    }
+    Ok(())
+}
+
+#[test]
+fn line_programs_of_units(rt: HostRuntime) -> Result<(), Fail> {
+    let table = table(rt.alloc(), &UNITS)?;
+    let mut info = Vec::new(rt.alloc());
+    add_unit(&mut info, 1, 0, &[1, 0x10, 0, 0, 0, 3, 0])?;
+    add_unit(&mut info, 1, 0, &[])?;
+    add_unit(&mut info, 1, 0, &[2, 3, 3, 0])?;
+    add_unit(&mut info, 1, 0, &[1, 0x30, 0, 0, 0, 3, 3, 0])?;
+    let read = Scopes::read(rt.alloc(), &sections(&info, &table))?;
+    let wanted = [Some(0x10), None, None, Some(0x30), Some(0x30)];
+    assert_eq!(rt; read.roots().len(), 3);
+    assert_eq!(rt; read.scopes().len(), wanted.len());
+    for (number, (scope, stmt_list)) in read.scopes().iter().zip(&wanted).enumerate() {
+        assert_eq!(rt; scope.stmt_list(&read), *stmt_list, "scope {number}");
+    }
+    Ok(())
+}
