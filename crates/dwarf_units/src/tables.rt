@@ -140,8 +140,8 @@ impl<'a> Tables<'a> {
         Ok(())
     }
 
-    /// The number of the table of a unit. One that is not kept is read again, in place of the last one
-    /// that was not kept.
+    /// The number of the table of a unit, good up to the next call. A table that is not kept is read
+    /// again, in place of the last one that was not kept.
     pub fn number_of(&mut self, alloc: Global, unit: &UnitHeader) -> Result<usize, LoadFault>
         ensures ok { IfOk result (λ number. (table : Table)
             × (slice_get self.new.tables number ≡ Some table)
