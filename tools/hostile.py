@@ -119,7 +119,7 @@ def names_in_one_text(size):
 
 
 def tables_in_turn(size):
-    """Units of one entry each that name two tables in turn, each of one declaration with many attributes."""
+    """Units of one entry each that name two tables in turn, each of one long declaration."""
     flags = b"".join(uleb(0x2000 + number) + bytes([0x19]) for number in range(size // 64))
     table = bytes([1, 0x11, 0]) + flags + bytes([0, 0, 0])
     unit = struct.Struct("<IHBBIB")

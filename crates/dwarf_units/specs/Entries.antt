@@ -123,7 +123,7 @@ node_at format table unit before at = if nat_le (length unit) at then Ok (End at
   node ← node_behind format table (depth_after before) (list_any is_root before) unit at
   Ok (Item (record { offset = at; depth = depth_after before; node = node.0 }) node.1)
 
--- the entry at a place of a unit, whatever stands before it: its tag and its attributes, and the place after it
+-- the entry at a place of a unit, whatever stands before it: its tag and attributes, and the place after it
 unfoldable pub entry_at : Format → List Declaration → List ℕ → ℕ → Result ((ℕ × List Attribute) × ℕ) Cause
 entry_at format table unit at = do
   code ← reading (uleb_at unit at)

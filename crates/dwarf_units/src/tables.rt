@@ -26,7 +26,7 @@ pub struct Tables<'a> {
     tables: Vec<UnitTable>,
     /// How many of the tables stay; one behind them is the last that was read and had no room.
     kept: usize,
-    /// How many more declarations and steps are kept.
+    /// How many more declarations, attributes and steps are kept.
     room: u64,
     numbers: Numbers,
 }
@@ -76,8 +76,8 @@ impl<'a> Model for Tables<'a> {
 
 impl<'a> Tables<'a> {
     /// Reads the table of each unit, those of a place and a format once. A fault is told at its
-    /// declaration. Tables that overlap may be more than are kept: declarations and steps that are
-    /// kept are at most twice the bytes of the section, and 65,536.
+    /// declaration. Tables that overlap may be more than are kept: the declarations, attributes and
+    /// steps that are kept are at most three times the bytes of the section, and 65,536.
     pub fn judge(
         alloc: Global,
         section: &'a [u8],
@@ -105,7 +105,7 @@ impl<'a> Tables<'a> {
             section,
             tables: Vec::new(alloc),
             kept: 0,
-            room: len.saturating_mul(2).saturating_add(65_536),
+            room: len.saturating_mul(3).saturating_add(65_536),
             numbers: Numbers::new(alloc),
         }
     }
@@ -140,8 +140,8 @@ impl<'a> Tables<'a> {
         Ok(())
     }
 
-    /// The number of the table of a unit. One that is not kept is read again, in place of the last one
-    /// that was not kept.
+    /// The number of the table of a unit, good up to the next call. A table that is not kept is read
+    /// again, in place of the last one that was not kept.
     pub fn number_of(&mut self, alloc: Global, unit: &UnitHeader) -> Result<usize, LoadFault>
         ensures ok { IfOk result (λ number. (table : Table)
             × (slice_get self.new.tables number ≡ Some table)

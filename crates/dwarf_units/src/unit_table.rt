@@ -101,13 +101,11 @@ impl UnitTable {
         self.declarations.decls().len() as u64
     }
 
-    /// Its declarations and their steps.
+    /// Its declarations, their attributes, and the steps of their plans.
     pub(crate) fn size(&self) -> u64 {
-        let mut size = self.len();
-        for plan in &self.plans {
-            size = size.saturating_add(plan.len());
-        }
-        size
+        let attributes = attribute_count(self.declarations.decls());
+        let steps = step_count(&self.plans);
+        self.len().saturating_add(attributes).saturating_add(steps)
     }
 
     /// Whether a unit names the table.
@@ -117,6 +115,24 @@ impl UnitTable {
     {
         self.offset == header.abbreviations && self.format == header.format
     }
+}
+
+/// How many attributes declarations have.
+fn attribute_count(decls: &[Decl]) -> u64 {
+    let mut count = 0u64;
+    for declaration in decls {
+        count = count.saturating_add(declaration.attributes().len() as u64);
+    }
+    count
+}
+
+/// How many steps plans have.
+fn step_count(plans: &[Plan]) -> u64 {
+    let mut count = 0u64;
+    for plan in plans {
+        count = count.saturating_add(plan.len());
+    }
+    count
 }
 
 /// The place of the declaration of a code. It is found in constant time where codes count up from 1,

@@ -32,7 +32,8 @@ head_at table depth rooted unit at = do
 abbrev pub used_entry_at : Table → List ℕ → ℕ → Result ((ℕ × List Attribute) × ℕ) Cause
 used_entry_at table unit at = entry_at table.format table.declarations unit at >>= λ entry. Ok ((entry.0.0, kept_attributes true entry.0.1), entry.1)
 
--- What was read in part is told and in part stands in its place, and the cursor stands after it, unless memory ran out.
+-- What was read is told in part, and in part stands in its place; the cursor stands after it, unless
+-- memory ran out.
 abbrev pub TellsAndFills : {X Y : Type 0} → Result X Cause → Y → (List ℕ → ℕ → Result ((X × Y) × ℕ) Cause) → Position → Position → Type 0
 TellsAndFills (Ok x) left read old new = (read old.bytes old.place ≡ Ok ((x, left), new.place)) × (new.bytes ≡ old.bytes)
 TellsAndFills (Err cause) left read old new = Fails cause (read old.bytes old.place)

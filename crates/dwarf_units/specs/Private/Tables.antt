@@ -11,4 +11,5 @@ pub record KeptTables : Type 0 where
 
 -- A table is what is read at its offset.
 abbrev pub StandsIn : List ℕ → Table → Type 0
-StandsIn section table = declarations_of declarations_limit section table.offset ≡ Ok table.declarations
+StandsIn section table =
+    declarations_of declarations_limit section table.offset ≡ Ok table.declarations
