@@ -27,16 +27,16 @@ FORM = re.compile(r"^\((?P<form>\w+)\)\s?")
 ELSEWHERE = re.compile(r"^\([^)]*\): ")
 REFERENCE = re.compile(r"^<(0x[0-9a-f]+)>")
 
-DUMPED_UNIT_TYPE = re.compile(r"^   Unit Type: +DW_UT_(?P<type>\w+)")
-ENTRY = re.compile(r"^(?P<offset>0x[0-9a-f]+): +(?P<tag>DW_TAG_\w+)")
+DUMPED_ENTRY = re.compile(r"^(?P<offset>0x[0-9a-f]+): +(?P<tag>DW_TAG_\w+)")
 DUMPED_ADDRESS = re.compile(r"^ +DW_AT_(?P<name>low_pc|high_pc)\t\((?P<address>0x[0-9a-f]+|dead code)\)")
 DUMPED_RANGES = re.compile(r"^ +DW_AT_ranges\t")
 DUMPED_RANGE = re.compile(r"^ +\[(?P<start>0x[0-9a-f]+), (?P<end>0x[0-9a-f]+)\)")
 
 
 def lines(*command):
-    """The lines that a command prints, without their ends."""
-    with subprocess.Popen(command, stdout=subprocess.PIPE, text=True, errors="surrogateescape") as running:
+    """The lines that a command prints, without their ends; its warnings are left out."""
+    with subprocess.Popen(command, stdout=subprocess.PIPE, stderr=subprocess.DEVNULL, text=True,
+                          errors="surrogateescape") as running:
         for text in running.stdout:
             yield text.rstrip("\n")
     if running.returncode != 0:
