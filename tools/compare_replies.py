@@ -5,7 +5,8 @@ compare_replies.py PROGRAM COUNT OBJECT.. asks each for COUNT addresses, spread 
 sections, with -a -f -i -p -s and linkage names. Of the others' text is taken away what ours never has: a
 discriminator, and what a compiler puts behind the symbol of a copy of a function. Where this program tells no
 function, names of the symbol table agree, and where it knows nothing, all that tells no line, for it reads no
-symbols. Fails where a reply is neither that of addr2line nor that of llvm-symbolizer.
+symbols; of symbols with one value, as those of a destructor, others may tell another one. Fails where a reply
+is neither that of addr2line nor that of llvm-symbolizer.
 """
 import re
 import subprocess
@@ -39,13 +40,22 @@ def replies(command, asked):
     return found
 
 
-def agree(ours, theirs):
+def values(path):
+    """The value of each symbol."""
+    listed = subprocess.run(["nm", "--defined-only", path], capture_output=True, text=True, check=True).stdout
+    return {name: value for value, _, name in (line.split(maxsplit=2) for line in listed.splitlines())}
+
+
+def agree(ours, theirs, symbols):
     """Whether two replies say the same, but for what this one does not know."""
     if ours == [("??", "??", 0)]:
         return all(line == 0 for _, _, line in theirs)
     if len(ours) != len(theirs):
         return False
-    return all(a[1:] == b[1:] and a[0] in ("??", b[0]) for a, b in zip(ours, theirs))
+    return all(
+        a[1:] == b[1:] and (a[0] in ("??", b[0]) or symbols.get(a[0], 0) == symbols.get(b[0]))
+        for a, b in zip(ours, theirs)
+    )
 
 
 def main():
@@ -56,8 +66,9 @@ def main():
         ours = replies([program, "-e", path, "--linkage", *OPTIONS], asked)
         binutils = replies(["addr2line", "-e", path, *OPTIONS], asked)
         llvm = replies(["llvm-symbolizer", "--output-style=GNU", "--no-demangle", f"--obj={path}", *OPTIONS], asked)
-        with_binutils = {a for a in asked if agree(ours[a], binutils[a])}
-        with_llvm = {a for a in asked if agree(ours[a], llvm[a])}
+        symbols = values(path)
+        with_binutils = {a for a in asked if agree(ours[a], binutils[a], symbols)}
+        with_llvm = {a for a in asked if agree(ours[a], llvm[a], symbols)}
         alone = [a for a in asked if a not in with_binutils and a not in with_llvm]
         print(
             f"{Path(path).name}: {len(asked)} replies, {len(with_binutils & with_llvm)} as both others,"
