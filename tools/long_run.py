@@ -99,15 +99,16 @@ def stay_up(program, commands, folder, named):
             states.append(empty(run))
             print(f"after {run.count} commands: {states[-1][0]} KB resident, {states[-1][1]} KB at the peak, "
                   f"{states[-1][2]} descriptors", flush=True)
-        full = [(crowd(run, paths[0])[0], empty(run)[0]) for _ in range(2)]
-        print(f"4,096 modules, KB resident with them and without them, twice: {full}", flush=True)
+        full = [(crowd(run, paths[0])[0], empty(run)[0]) for _ in range(3)]
+        print(f"4,096 modules, KB resident with them and without them, three times: {full}", flush=True)
         run.end()
     except Differs as differs:
         raise SystemExit(f"{differs}\nlong run: differs after {run.count} commands") from differs
     first, last = states[0], states[-1]
     expect("descriptors at the end, beside those after the first part", last[2], first[2])
     expect("memory at the end is within 10 % and 512 KB of that after the first part", last[0] <= first[0] * 1.1 + 512, True)
-    expect("memory of the second 4,096 modules is that of the first", full[1][0] <= full[0][0] * 1.02, True)
+    # the first ones stand between what was freed before them, so the second may take other places
+    expect("memory of the third 4,096 modules is that of the second", full[2][0] <= full[1][0] * 1.02, True)
     print(f"{run.count} commands in {time.monotonic() - start:.0f} s, no reply differs", flush=True)
     return run.count
 
