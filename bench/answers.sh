@@ -7,7 +7,7 @@ set -euo pipefail
 cd "$(dirname "$0")/.."
 program=crates/addr2line_live/out/addr2line_live
 many=${1:-200000}
-few=${2:-2000}
+few=${2:-200}
 mkdir -p out
 [ -x $program ] || (cd crates/addr2line_live && rt run > ../../out/program.log 2>&1 < /dev/null)
 [ -f out/objects/large ] || tools/make_objects.sh out/objects

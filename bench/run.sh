@@ -13,6 +13,7 @@ gcc -O2 -DWHOLE -c -o out/entries.o bench/entries.c
 g++ -O2 -o out/load bench/load.cpp out/lines.o out/entries.o
 [ -f out/leb.bin ] || out/leb make out/leb.bin 100000000
 [ -f out/objects/large ] || tools/make_objects.sh out/objects
+[ -f out/objects/huge ] || tools/make_large.sh out/objects/huge 150
 [ -f out/objects/hundred ] || tools/repeat_lines.sh out/objects/large out/objects/hundred
 
 # The least of five times in milliseconds that a command prints last, as `.., N ms`.
@@ -26,11 +27,12 @@ compare() {
     awk -v w="$what" -v a="$ours" -v b="$plain" 'BEGIN { printf "%-40s %6d ms, plain C %6d ms, ratio %.2f\n", w, a, b, b / (a > 0 ? a : 1) }'
 }
 
-# The most memory that a command holds, in megabytes.
+# The most memory that a command holds, in megabytes, and how many page faults it takes.
 peak() {
     python3 -c 'import resource, subprocess, sys
 subprocess.run(sys.argv[1:], stdout=subprocess.DEVNULL, check=True)
-print(resource.getrusage(resource.RUSAGE_CHILDREN).ru_maxrss // 1024)' "$@"
+used = resource.getrusage(resource.RUSAGE_CHILDREN)
+print(used.ru_maxrss // 1024, used.ru_minflt)' "$@"
 }
 
 # How long a command takes that prints no time, in milliseconds.
@@ -41,23 +43,52 @@ duration() {
     echo $((($(date +%s%N) - start) / 1000000))
 }
 
+# Prints the memory that both take for something, and their page faults.
+compare_peaks() {
+    local what=$1 ours plain
+    read -r -a ours <<< "$2"
+    read -r -a plain <<< "$3"
+    echo "memory for $what: ${ours[0]} MB, plain C ${plain[0]} MB"
+    echo "page faults for $what: ${ours[1]}, plain C ${plain[1]}"
+}
+
+# The number before a word of what a command printed.
+count_of() {
+    sed -n "s/.*\\b\\([0-9]*\\) $1\\b.*/\\1/p" <<< "$2"
+}
+
+# The scopes and the whole load of a program.
+measure_program() {
+    local name=$1 object=$2 ours plain told
+    told=$(out/entries "$object")
+    ours=$(best $measure scopes "$object")
+    plain=$(best out/entries "$object")
+    compare "scopes of $name" "$ours" "$plain"
+    for what in entries scopes; do
+        awk -v n="$(count_of $what "$told")" -v w="$what a second: $name" -v a="$ours" -v b="$plain" \
+            'BEGIN { printf "%s: %d, plain C %d\n", w, n * 1000 / a, n * 1000 / b }'
+    done
+    $measure scopes "$object"
+    echo "$told"
+    compare_peaks "scopes of $name" "$(peak $measure scopes "$object")" "$(peak out/entries "$object")"
+    compare "whole load of $name" "$(best $measure module "$object")" "$(best out/load "$object")"
+    $measure module "$object"
+    out/load "$object"
+    compare_peaks "whole load of $name" "$(peak $measure module "$object")" "$(peak out/load "$object")"
+}
+
 compare 'LEB128, 100 MB' "$(best $measure leb out/leb.bin)" "$(best out/leb out/leb.bin)"
 compare 'line programs of a C++ program' "$(best $measure lines out/objects/large)" "$(best out/lines out/objects/large)"
 compare 'line programs, 100 MB' "$(best $measure lines out/objects/hundred)" "$(best out/lines out/objects/hundred)"
-compare 'scopes of a C++ program' "$(best $measure scopes out/objects/large)" "$(best out/entries out/objects/large)"
-$measure scopes out/objects/large
-out/entries out/objects/large
-echo "memory for its scopes: $(peak $measure scopes out/objects/large) MB, plain C $(peak out/entries out/objects/large) MB"
+measure_program 'a C++ program' out/objects/large
+measure_program 'a C++ program of 162 MB' out/objects/huge
 for peer in 'llvm-dwarfdump --debug-info' 'readelf --debug-dump=info'; do
     if command -v "${peer%% *}" > /dev/null; then
-        echo "$peer of it: $(duration $peer out/objects/large) ms, $(peak $peer out/objects/large) MB"
+        read -r memory _ <<< "$(peak $peer out/objects/large)"
+        echo "$peer of a C++ program: $(duration $peer out/objects/large) ms, $memory MB"
     fi
 done
 $measure declarations out/objects/large
 $measure values out/objects/large
-compare 'whole load of a C++ program' "$(best $measure module out/objects/large)" "$(best out/load out/objects/large)"
-$measure module out/objects/large
-out/load out/objects/large
-echo "memory for its whole load: $(peak $measure module out/objects/large) MB, plain C and C++ $(peak out/load out/objects/large) MB"
 $measure finds out/objects/large
 $measure asks out/objects/large

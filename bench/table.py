@@ -15,9 +15,17 @@ import sys
 OURS = "addr2line_live"
 PLAIN = "plain C"
 FIGURE = re.compile(r"(?P<what>.*?) +(?P<ours>\d+) ms, plain C +(?P<plain>\d+) ms, ratio")
-MEMORY = re.compile(
-    r"memory for its (?P<what>.*): (?P<ours>\d+) MB, plain C(?: and C\+\+)? (?P<plain>\d+) MB"
+MEMORY = re.compile(r"memory for (?P<what>.*): (?P<ours>\d+) MB, plain C (?P<plain>\d+) MB")
+FAULTS = re.compile(r"(?P<what>page faults for .*): (?P<ours>\d+), plain C (?P<plain>\d+)")
+RATE = re.compile(
+    r"(?P<what>(?:entries|scopes) a second: .*): (?P<ours>\d+), plain C (?P<plain>\d+)"
 )
+BESIDE_PLAIN = [
+    (FIGURE, "{}", "ms", "less"),
+    (MEMORY, "memory, {}", "MB", "less"),
+    (FAULTS, "{}", "", "less"),
+    (RATE, "{}", "", "more"),
+]
 ANSWERS = re.compile(
     r"  (?P<program>.*?) {2,}(?P<rate>\d+) answers a second(?:, [\d.]+ reads and writes an answer)?"
     r", first answer after (?P<first>\d+) ms(?:, peak (?P<peak>\d+) MB)?"
@@ -47,11 +55,11 @@ def rows(lines):
         if heading:
             options = f", `{heading['options'][2:]}`" if heading["options"] else ""
             asked = f"{heading['object']}, {WAYS[heading['how']]}{options}"
-        for form, unit in ((FIGURE, "ms"), (MEMORY, "MB")):
+        for form, named, unit, better in BESIDE_PLAIN:
             if found := form.match(line):
-                what = found["what"] if unit == "ms" else f"memory, {found['what']}"
-                put(what, unit, "less", OURS, found["ours"])
-                put(what, unit, "less", PLAIN, found["plain"])
+                what = named.format(found["what"])
+                put(what, unit, better, OURS, found["ours"])
+                put(what, unit, better, PLAIN, found["plain"])
         if answers and column(answers["program"]):
             program = column(answers["program"])
             put(f"answers a second: {asked}", "", "more", program, answers["rate"])

@@ -29,26 +29,10 @@ int main(int argc, char **argv) {
 }
 C
 
-# A source file of $1 instantiations of containers, sorting and streams, in the namespace $2.
-instantiate() {
-    local count=$1 name=$2
-    {
-        for header in algorithm functional map regex sstream string unordered_map vector; do
-            echo "#include <$header>"
-        done
-        echo "namespace $name {"
-        cat "$(dirname "$0")/instantiated.hpp"
-        echo 'int run(int seed) {'
-        echo '    int sum = 0;'
-        for ((n = 0; n < count; n++)); do echo "    sum += work<$n>(seed);"; done
-        echo '    return sum + (int)std::regex_match(std::to_string(seed), std::regex("[0-9]+"));'
-        echo '}'
-        echo '}'
-    } > "$folder/$name.cpp"
-}
 flags=(-O2 -g -gdwarf-5)
-instantiate 2 library
-instantiate 3 program
+tools=$(dirname "$0")
+"$tools/instantiate.sh" 2 library > "$folder/library.cpp"
+"$tools/instantiate.sh" 3 program > "$folder/program.cpp"
 echo 'int main(int argc, char **) { return program::run(argc); }' >> "$folder/program.cpp"
 gcc "${flags[@]}" -o "$folder/small" "$folder/small.c"
 g++ "${flags[@]}" -shared -fPIC -o "$folder/library.so" "$folder/library.cpp"
@@ -75,20 +59,4 @@ if command -v clang++ > /dev/null; then
     fi
 fi
 
-# The large program: parts compiled side by side.
-parts=(one two three four)
-{
-    for part in "${parts[@]}"; do echo "namespace $part { int run(int seed); }"; done
-    echo 'int main(int argc, char **) { return 0'
-    for part in "${parts[@]}"; do echo "    + $part::run(argc)"; done
-    echo ';}'
-} > "$folder/large.cpp"
-compiling=()
-for part in "${parts[@]}"; do
-    instantiate "${2:-60}" "$part"
-    g++ "${flags[@]}" -c -o "$folder/$part.o" "$folder/$part.cpp" &
-    compiling+=($!)
-done
-for compiler in "${compiling[@]}"; do wait "$compiler"; done
-g++ "${flags[@]}" -o "$folder/large" "$folder/large.cpp" "$folder"/*.o
-rm -f "$folder"/*.o
+"$tools/make_large.sh" "$folder/large" 60

@@ -9,7 +9,9 @@ sys.path.insert(0, str(Path(__file__).resolve().parent))
 from programs import TOP, output_of
 
 PRINTED = """LEB128, 100 MB                              165 ms, plain C    190 ms, ratio 1.15
-memory for its whole load: 811 MB, plain C and C++ 767 MB
+memory for whole load of a C++ program: 811 MB, plain C 767 MB
+page faults for whole load of a C++ program: 20000, plain C 19000
+entries a second: a C++ program: 9000000, plain C 12000000
 large, batch, -f -i
   addr2line_live --cache 1024, spread  90000 answers a second, first answer after 1000 ms, 7 bytes
   addr2line_live --cache 0, spread  80000 answers a second, first answer after 1000 ms, 7 bytes
@@ -23,7 +25,9 @@ ROWS = [
     "| | addr2line_live | plain C | llvm-symbolizer | eu-addr2line |",
     "|---|---|---|---|---|",
     "| LEB128, 100 MB | 165 ms | 190 ms (×1.15) |  |  |",
-    "| memory, whole load | 811 MB | 767 MB (×0.946) |  |  |",
+    "| memory, whole load of a C++ program | 811 MB | 767 MB (×0.946) |  |  |",
+    "| page faults for whole load of a C++ program | 20,000 | 19,000 (×0.95) |  |  |",
+    "| entries a second: a C++ program | 9,000,000 | 12,000,000 (×0.75) |  |  |",
     f"| answers a second: {ASKED} | 90,000 |  | 22,500 (×4) | 8 (×11,250) |",
     f"| first answer: {ASKED} | 1,000 ms |  | 500 ms (×0.5) | 1,500 ms (×1.5) |",
 ]

@@ -4,8 +4,8 @@ ghost use Rattle.std.specs.Prelude.{◌≡◌, length};
 
 use crate::inlined;
 
-/// Its `.debug_info`: the entries with eight bytes for the place of the line program, and references
-/// that count from the first byte of the unit.
+/// Its `.debug_info`: the entries with eight bytes for the place of the line program, and
+/// references that count from the first byte of the unit.
 pub fn unit_of_64_bits() -> &'static [u8; 112]
     ensures { length result.now ≡ 112 }
 {

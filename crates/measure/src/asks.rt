@@ -28,7 +28,8 @@ pub fn measure_asks(rt: &HostRuntime, bytes: Vec<u8>) -> Result<()> {
     Ok(())
 }
 
-/// Asks the first so many of the addresses in turn, one at least; gives how often a place was known.
+/// Asks the first so many of the addresses in turn, one at least; gives how often a place was
+/// known.
 fn ask_all(modules: &mut Modules, extent: Extent, kinds: u64) -> u64 {
     let mut places = 0u64;
     for n in 0..ASKED {

@@ -7,6 +7,7 @@ use Rattle.std.specs.Option.{option_map_or}
 use Rattle.std.specs.Map.{lookup, lookup_entry, remove_entry}
 use Rattle.lru.specs.LruCache.{LruCache, promoted, put_entries}
 use Rattle.lru.proofs.CallerLemmas.{Contains-lookup, Contains-put_entries, IsPut}
+use Rattle.module_map.specs.Private.Cached.{is_key}
 
 module _ {K V : Type 0} (test : K → Bool) where
   pub length-remove_entry : (es : List (K × V)) (e : K × V) → lookup_entry test es ≡ Some e →
@@ -42,35 +43,31 @@ module _ {K V : Type 0} (eq : K → K → Bool) (c : LruCache K V) (k : K) (v : 
   pub Grows-put_entries : 0 < c.cap → length c.entries ≤ c.cap → Grows (put_entries eq c k v)
   Grows-put_entries = grown (lookup_entry (eq k) c.entries) refl
 
--- keys are pairs of numbers
-abbrev pub key_eq : ℕ × ℕ → ℕ × ℕ → Bool
-key_eq x y = eqb x.0 y.0 && eqb x.1 y.1
-
 both : (a b : Bool) → (a && b) ≡ true → (a ≡ true) × (b ≡ true)
 both true b h = (refl, h)
 both false b h = absurd (false≢true h)
 
-same_key : (x y : ℕ × ℕ) → key_eq x y ≡ true → y ≡ x
+same_key : (x y : ℕ × ℕ) → is_key x y ≡ true → y ≡ x
 same_key x y h = let p = both (eqb x.0 y.0) (eqb x.1 y.1) h in
     let p0 : x.0 ≡ y.0 = eqb-true x.0 y.0 p.0 in let p1 : x.1 ≡ y.1 = eqb-true x.1 y.1 p.1 in sym (ap₂ (λ (a b : ℕ). (a, b)) p0 p1)
 
 module _ {V : Type 0} (key : ℕ × ℕ) where
   -- what a look-up finds is cached under the very key
-  pub found_key : (es : List ((ℕ × ℕ) × V)) (o : Option V) → o ≡ lookup (key_eq key) es → IfSome o (λ v. Contains es (key, v))
+  pub found_key : (es : List ((ℕ × ℕ) × V)) (o : Option V) → o ≡ lookup (is_key key) es → IfSome o (λ v. Contains es (key, v))
   found_key es None h = tt
   found_key es (Some v) h =
-      let it = Contains-lookup (key_eq key) es v (sym h) in subst (λ k. Contains es (k, v)) (same_key key it.0 it.2) it.1
+      let it = Contains-lookup (is_key key) es v (sym h) in subst (λ k. Contains es (k, v)) (same_key key it.0 it.2) it.1
 
-  put_key : (c : LruCache (ℕ × ℕ) V) (v : V) (e : (ℕ × ℕ) × V) → IsPut key_eq c key v e → e ≡ (key, v)
+  put_key : (c : LruCache (ℕ × ℕ) V) (v : V) (e : (ℕ × ℕ) × V) → IsPut is_key c key v e → e ≡ (key, v)
   put_key c v e h = elim h.1 [
     | inl same ↦ ap₂ (λ (k : ℕ × ℕ) (w : V). (k, w)) same h.0
     | inr was ↦ ap₂ (λ (k : ℕ × ℕ) (w : V). (k, w)) (same_key key e.0 was.2) h.0
   ]
 
   -- each entry after a put was there, or is the one that was put
-  pub put_or_was : (c : LruCache (ℕ × ℕ) V) (v : V) (e : (ℕ × ℕ) × V) → Contains (put_entries key_eq c key v) e →
+  pub put_or_was : (c : LruCache (ℕ × ℕ) V) (v : V) (e : (ℕ × ℕ) × V) → Contains (put_entries is_key c key v) e →
       Contains c.entries e ⊎ (e ≡ (key, v))
-  put_or_was c v e h = elim (Contains-put_entries key_eq c key v e h) [
+  put_or_was c v e h = elim (Contains-put_entries is_key c key v e h) [
     | inl was ↦ inl was
     | inr is ↦ inr (put_key c v e is)
   ]

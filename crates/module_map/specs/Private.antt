@@ -1,3 +1,4 @@
+pub mod Cached
 pub mod Serials
 pub mod Rising
 pub mod Refusals

@@ -1,6 +1,7 @@
 //! Answers for the next time that they are asked.
 
 ghost use Rattle.std.specs.Prelude.{◌≡◌, ◌≤◌, ◌⊎◌, ◌+◌, [], length, IfOk, IfSome, Contains};
+ghost use Rattle.module_map.specs.Private.Cached.{kept_under, asked_for, with_answer};
 ghost use Rattle.module_map.specs.Private.Serials.{CacheEntry};
 
 use addr_table::Place;
@@ -37,6 +38,8 @@ fn recall(
     answers: &mut LruCache<(u64, u64), Option<Place>>,
     key: (u64, u64),
 ) -> Option<Option<Place>>
+    ensures value { result ≡ kept_under key answers.old.entries }
+    ensures order { answers.new.entries ≡ asked_for key answers.old.entries }
     ensures found { IfSome result (λ place. Contains answers.old.entries (key, place)) }
     ensures cached { (e : CacheEntry) → Contains answers.new.entries e →
         Contains answers.old.entries e }
@@ -53,6 +56,8 @@ fn remember(
     key: (u64, u64),
     place: Option<Place>,
 )
+    ensures kept { (answers.new.entries ≡ answers.old.entries) ⊎ (answers.new.entries ≡ with_answer
+        key place (record { entries = answers.old.entries; capacity = answers.old.cap })) }
     ensures cached { (e : CacheEntry) → Contains answers.new.entries e →
         Contains answers.old.entries e ⊎ (e ≡ (key, place)) }
     ensures grows { (length answers.old.entries ≤ length answers.new.entries)
@@ -95,6 +100,8 @@ impl Cache {
 
     /// The answer that is remembered, which becomes the last one to be dropped.
     pub fn get(&mut self, key: (u64, u64)) -> Option<Option<Place>>
+        ensures value { result ≡ kept_under key self.old.entries }
+        ensures order { self.new.entries ≡ asked_for key self.old.entries }
         ensures found { IfSome result (λ place. Contains self.old.entries (key, place)) }
         ensures cached { (e : CacheEntry) → Contains self.new.entries e →
             Contains self.old.entries e }
@@ -111,6 +118,8 @@ impl Cache {
     /// Remembers an answer, if there is memory for it; if need be in place of the one asked longest
     /// ago.
     pub fn put(&mut self, key: (u64, u64), place: Option<Place>)
+        ensures kept { (self.new.entries ≡ self.old.entries)
+            ⊎ (self.new.entries ≡ with_answer key place self.old) }
         ensures cached { (e : CacheEntry) → Contains self.new.entries e →
             Contains self.old.entries e ⊎ (e ≡ (key, place)) }
         ensures grows { (length self.old.entries ≤ length self.new.entries)

@@ -1,0 +1,16 @@
+#!/usr/bin/env bash
+# Prints a C++ source of so many instantiations of containers, sorting and streams, in the namespace
+# named: instantiate.sh COUNT NAME
+set -euo pipefail
+count=$1 name=$2
+for header in algorithm functional map regex sstream string unordered_map vector; do
+    echo "#include <$header>"
+done
+echo "namespace $name {"
+cat "$(dirname "$0")/instantiated.hpp"
+echo 'int run(int seed) {'
+echo '    int sum = 0;'
+for ((n = 0; n < count; n++)); do echo "    sum += work<$n>(seed);"; done
+echo '    return sum + (int)std::regex_match(std::to_string(seed), std::regex("[0-9]+"));'
+echo '}'
+echo '}'

@@ -1,0 +1,24 @@
+#!/usr/bin/env bash
+# Compiles a large C++ program of four parts, side by side, each of so many instantiations:
+# make_large.sh OBJECT COUNT. With 60 it has 69 MB, with 150 162 MB.
+set -euo pipefail
+object=$1 count=$2
+tools=$(dirname "$0")
+folder=$(mktemp -d "$object.parts.XXXXXX")
+trap 'rm -rf "$folder"' EXIT
+flags=(-O2 -g -gdwarf-5)
+parts=(one two three four)
+{
+    for part in "${parts[@]}"; do echo "namespace $part { int run(int seed); }"; done
+    echo 'int main(int argc, char **) { return 0'
+    for part in "${parts[@]}"; do echo "    + $part::run(argc)"; done
+    echo ';}'
+} > "$folder/main.cpp"
+compiling=()
+for part in "${parts[@]}"; do
+    "$tools/instantiate.sh" "$count" "$part" > "$folder/$part.cpp"
+    g++ "${flags[@]}" -c -o "$folder/$part.o" "$folder/$part.cpp" &
+    compiling+=($!)
+done
+for compiler in "${compiling[@]}"; do wait "$compiler"; done
+g++ "${flags[@]}" -o "$object" "$folder/main.cpp" "$folder"/*.o
