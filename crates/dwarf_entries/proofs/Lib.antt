@@ -22,3 +22,5 @@ pub mod ScopesOnly
 pub mod ReadLaws
 pub mod ScopeOrder
 pub mod TellLaws
+pub mod TreeParts
+pub mod OffsetLaws
