@@ -24,3 +24,4 @@ pub mod ScopeOrder
 pub mod TellLaws
 pub mod TreeParts
 pub mod OffsetLaws
+pub mod CoveringLaws

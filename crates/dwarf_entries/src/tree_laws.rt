@@ -1,10 +1,10 @@
 //! What is true of the answer to a whole object.
 
-ghost use Rattle.std.specs.Prelude.{◌≡◌, Ok, map, length};
+ghost use Rattle.std.specs.Prelude.{◌≡◌, ◌≤◌, Ok, All, map, length, sum_by};
 ghost use Rattle.dwarf_entries.specs.declared.scope.Root.{Root};
-ghost use Rattle.dwarf_entries.specs.Scopes.{Scope, Tree, tree_of};
+ghost use Rattle.dwarf_entries.specs.Scopes.{Scope, Tree, items_limit, tree_of};
 ghost use Rattle.dwarf_entries.specs.Sections.{Sections};
-ghost use Rattle.dwarf_entries.specs.TreeLaws.{RiseBelow};
+ghost use Rattle.dwarf_entries.specs.TreeLaws.{RiseBelow, HoldsAddresses};
 
 /// The offsets of the scopes rise strictly, and those of the roots, and all stand in `.debug_info`.
 pub fn offsets_rise()
@@ -12,4 +12,13 @@ pub fn offsets_rise()
         → RiseBelow (length s.debug_info) (map (λ (scope : Scope). scope.offset) tree.scopes) }
     ensures roots { (s : Sections) (tree : Tree) → tree_of s ≡ Ok tree
         → RiseBelow (length s.debug_info) (map (λ (root : Root). root.offset) tree.roots) }
+{}
+
+/// Each range of a scope has addresses in it, and all scopes together have no more ranges than range
+/// items may be read.
+pub fn ranges_are_nonempty()
+    ensures ranges { (s : Sections) (tree : Tree) → tree_of s ≡ Ok tree
+        → All (λ (scope : Scope). All HoldsAddresses scope.ranges) tree.scopes }
+    ensures count { (s : Sections) (tree : Tree) → tree_of s ≡ Ok tree
+        → sum_by (λ (scope : Scope). length scope.ranges) tree.scopes ≤ items_limit }
 {}
