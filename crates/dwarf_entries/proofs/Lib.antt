@@ -25,3 +25,4 @@ pub mod TellLaws
 pub mod TreeParts
 pub mod OffsetLaws
 pub mod CoveringLaws
+pub mod RootParts
