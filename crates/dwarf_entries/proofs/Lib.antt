@@ -26,3 +26,4 @@ pub mod TreeParts
 pub mod OffsetLaws
 pub mod CoveringLaws
 pub mod RootParts
+pub mod EntryScopes

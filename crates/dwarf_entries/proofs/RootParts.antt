@@ -86,7 +86,7 @@ numbers-between s units before (p ∷ ps) (j ∷ js) h low high after until =
 
 -- ---- the scopes of a unit
 
-few-below : (die : Die) (dies : List Die) → count_by is_scope (below die dies) ≤ count_by is_scope dies
+pub few-below : (die : Die) (dies : List Die) → count_by is_scope (below die dies) ≤ count_by is_scope dies
 few-below die dies = sum_by-take-le (λ x. cond (is_scope x) 1 0) dies (prefix_len (λ (d : Die). nat_lt die.depth d.depth) dies)
 
 of-unit : (s : Sections) (units : List CompilationUnit) (unit : CompilationUnit) (root : Root) (from end : ℕ) (dies : List Die) (before js : List Judged) → AreJudged s units before (sites_in unit dies) js → length before + count_by is_scope dies ≤ root.past →

@@ -1,9 +1,18 @@
 -- What is true of the answer to a whole object.
-use Rattle.std.specs.Prelude.{◌≡◌, ℕ, ◌<◌, ◌≤◌, ◌^◌, List, [], ◌∷◌, All}
+use Rattle.std.specs.Prelude.{◌≡◌, ℕ, ◌<◌, ◌≤◌, ◌^◌, List, [], ◌∷◌, Some, Result, All, slice_get, zip}
 use Rattle.std.specs.List.Sorted.{IsStrictlyIncreasing}
+use Rattle.dwarf_bytes.specs.declared.fault.LoadFault.{LoadFault}
+use Rattle.dwarf_bytes.specs.declared.fault.Section.TheVariants as names
+use Rattle.dwarf_bytes.specs.Bind.{◌>>=◌}
+use Rattle.dwarf_bytes.specs.Items.{each}
+use Rattle.dwarf_bytes.specs.Refusals.{in_section}
+use Rattle.dwarf_units.specs.Units.{units_of, tables_of}
+use Rattle.dwarf_units.specs.Entries.{Die, entries_of}
 use Rattle.dwarf_entries.specs.declared.scope.Range.{Range}
 use Rattle.dwarf_entries.specs.declared.scope.Root.{Root}
-use Rattle.dwarf_entries.specs.Scopes.{Scope}
+use Rattle.dwarf_entries.specs.Sections.{Sections}
+use Rattle.dwarf_entries.specs.Bases.{CompilationUnit, unit_of}
+use Rattle.dwarf_entries.specs.Scopes.{Scope, kind_of}
 
 -- Offsets rise strictly, and stand before an end.
 abbrev pub RiseBelow : ℕ → List ℕ → Type 0
@@ -24,3 +33,20 @@ pub record IsOfUnit (root : Root) (scope : Scope) : Type 0 where
   pub stmt_list_is : scope.stmt_list ≡ root.stmt_list
   pub ends : scope.«end» ≤ root.past
   pub stands : root.offset ≤ scope.offset
+
+-- The units with their entries and tables, of which the scopes are told.
+unfoldable pub units_read : Sections → Result (List CompilationUnit) LoadFault
+units_read s = do
+  headers ← in_section names.DebugInfo (units_of s.debug_info)
+  tables ← in_section names.DebugAbbrev (tables_of s.debug_abbrev headers)
+  dies ← in_section names.DebugInfo (each (λ _ p. entries_of s.debug_info p.0 p.1) (zip headers tables))
+  in_section names.DebugInfo (each (λ _ p. unit_of s p.0 p.1) (zip headers dies))
+
+-- A scope is the entry at a place of a unit.
+pub record IsEntry (units : List CompilationUnit) (unit place : ℕ) (scope : Scope) : Type 0 where
+  pub of : CompilationUnit
+  pub of_is : slice_get units unit ≡ Some of
+  pub die : Die
+  pub die_is : slice_get of.dies place ≡ Some die
+  pub offset_is : scope.offset ≡ die.offset
+  pub kind_is : kind_of die.tag ≡ Some scope.kind

@@ -1,10 +1,12 @@
 //! What is true of the answer to a whole object.
 
-ghost use Rattle.std.specs.Prelude.{◌≡◌, ◌<◌, ◌≤◌, Ok, All, Contains, map, length, sum_by};
+ghost use Rattle.std.specs.Prelude.{◌≡◌, ◌<◌, ◌≤◌, ◌↔◌, ℕ, List, Some, Ok, true, All, Contains, map, length, slice_get, sum_by};
+ghost use Rattle.dwarf_units.specs.Entries.{Die, IsBelow};
 ghost use Rattle.dwarf_entries.specs.declared.scope.Root.{Root};
-ghost use Rattle.dwarf_entries.specs.Scopes.{Scope, Tree, items_limit, tree_of};
+ghost use Rattle.dwarf_entries.specs.Bases.{CompilationUnit};
+ghost use Rattle.dwarf_entries.specs.Scopes.{Scope, Tree, is_scope, items_limit, tree_of};
 ghost use Rattle.dwarf_entries.specs.Sections.{Sections};
-ghost use Rattle.dwarf_entries.specs.TreeLaws.{RiseBelow, HoldsAddresses, ArePartsFrom, IsOfUnit};
+ghost use Rattle.dwarf_entries.specs.TreeLaws.{RiseBelow, HoldsAddresses, ArePartsFrom, IsOfUnit, IsEntry, units_read};
 
 /// The offsets of the scopes rise strictly, and those of the roots, and all stand in `.debug_info`.
 pub fn offsets_rise()
@@ -31,4 +33,27 @@ pub fn roots_part_scopes()
     ensures scopes { (s : Sections) (tree : Tree) (root : Root) (scope : Scope) → tree_of s ≡ Ok tree
         → Contains tree.roots root → Contains tree.scopes scope
         → root.first ≤ scope.number → scope.number < root.past → IsOfUnit root scope }
+{}
+
+/// Each scope is an entry of a unit, and each entry of a unit that is a subprogram or an inlined
+/// subroutine is a scope.
+pub fn scopes_are_entries()
+    ensures entries { (s : Sections) (tree : Tree) (units : List CompilationUnit) (scope : Scope)
+        → tree_of s ≡ Ok tree → units_read s ≡ Ok units → Contains tree.scopes scope
+        → (unit place : ℕ) × IsEntry units unit place scope }
+    ensures scopes { (s : Sections) (tree : Tree) (units : List CompilationUnit) (unit place : ℕ)
+        (of : CompilationUnit) (die : Die) → tree_of s ≡ Ok tree → units_read s ≡ Ok units
+        → slice_get units unit ≡ Some of → slice_get of.dies place ≡ Some die → is_scope die ≡ true
+        → (scope : Scope) × Contains tree.scopes scope × IsEntry units unit place scope }
+{}
+
+/// One scope is below another, in the same unit, exactly where its number stands between the
+/// other's number and end.
+pub fn ends_are_of_what_is_below()
+    ensures { (s : Sections) (tree : Tree) (units : List CompilationUnit) (outer inner : Scope)
+        (i j p q : ℕ) → tree_of s ≡ Ok tree → units_read s ≡ Ok units
+        → Contains tree.scopes outer → Contains tree.scopes inner
+        → (outer_at : IsEntry units i p outer) → IsEntry units j q inner
+        → ((i ≡ j) × IsBelow outer_at.of.dies q p)
+        ↔ ((outer.number < inner.number) × (inner.number < outer.«end»)) }
 {}
