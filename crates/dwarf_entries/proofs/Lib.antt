@@ -27,3 +27,4 @@ pub mod OffsetLaws
 pub mod CoveringLaws
 pub mod RootParts
 pub mod EntryScopes
+pub mod NameTexts

@@ -1,8 +1,11 @@
 -- What is true of the answer to a whole object.
-use Rattle.std.specs.Prelude.{◌≡◌, ℕ, ◌<◌, ◌≤◌, ◌^◌, List, [], ◌∷◌, Some, Result, All, slice_get, zip}
+use Rattle.std.specs.Prelude.{◌≡◌, ◌≢◌, ℕ, ◌+◌, ◌<◌, ◌≤◌, ◌^◌, List, [], ◌∷◌, take, drop, Some, Result, All, slice_get, zip}
 use Rattle.std.specs.List.Sorted.{IsStrictlyIncreasing}
 use Rattle.dwarf_bytes.specs.declared.fault.LoadFault.{LoadFault}
+use Rattle.dwarf_bytes.specs.declared.fault.Section.{Section}
 use Rattle.dwarf_bytes.specs.declared.fault.Section.TheVariants as names
+use Rattle.dwarf_bytes.specs.declared.layout.Span.{Span}
+use Rattle.dwarf_bytes.specs.declared.text.Text.{Text}
 use Rattle.dwarf_bytes.specs.Bind.{◌>>=◌}
 use Rattle.dwarf_bytes.specs.Items.{each}
 use Rattle.dwarf_bytes.specs.Refusals.{in_section}
@@ -50,3 +53,22 @@ pub record IsEntry (units : List CompilationUnit) (unit place : ℕ) (scope : Sc
   pub die_is : slice_get of.dies place ≡ Some die
   pub offset_is : scope.offset ≡ die.offset
   pub kind_is : kind_of die.tag ≡ Some scope.kind
+
+-- the bytes of a section; the file's own tables are none of these
+abbrev pub section_bytes : Sections → Section → List ℕ
+section_bytes s names.Elf = []
+section_bytes s names.DebugInfo = s.debug_info
+section_bytes s names.DebugAbbrev = s.debug_abbrev
+section_bytes s names.DebugLine = s.debug_line
+section_bytes s names.DebugLineStr = s.debug_line_str
+section_bytes s names.DebugStr = s.debug_str
+section_bytes s names.DebugStrOffsets = s.debug_str_offsets
+section_bytes s names.DebugAddr = s.debug_addr
+section_bytes s names.DebugRnglists = s.debug_rnglists
+
+-- A text stands in its section: a NUL stands behind it there, and none in it.
+abbrev pub IsTextIn : List ℕ → Span → Type 0
+IsTextIn bytes span = (slice_get bytes (span.place + span.len) ≡ Some 0) × All (λ byte. byte ≢ 0) (take span.len (drop span.place bytes))
+
+abbrev pub IsTextOf : Sections → Text → Type 0
+IsTextOf s text = IsTextIn (section_bytes s text.section) text.span

@@ -1,12 +1,12 @@
 //! What is true of the answer to a whole object.
 
-ghost use Rattle.std.specs.Prelude.{◌≡◌, ◌<◌, ◌≤◌, ◌↔◌, ℕ, List, Some, Ok, true, All, Contains, map, length, slice_get, sum_by};
+ghost use Rattle.std.specs.Prelude.{◌≡◌, ◌<◌, ◌≤◌, ◌↔◌, ℕ, List, Some, Ok, IfSome, true, All, Contains, map, length, slice_get, sum_by};
 ghost use Rattle.dwarf_units.specs.Entries.{Die, IsBelow};
 ghost use Rattle.dwarf_entries.specs.declared.scope.Root.{Root};
 ghost use Rattle.dwarf_entries.specs.Bases.{CompilationUnit};
 ghost use Rattle.dwarf_entries.specs.Scopes.{Scope, Tree, is_scope, items_limit, tree_of};
 ghost use Rattle.dwarf_entries.specs.Sections.{Sections};
-ghost use Rattle.dwarf_entries.specs.TreeLaws.{RiseBelow, HoldsAddresses, ArePartsFrom, IsOfUnit, IsEntry, units_read};
+ghost use Rattle.dwarf_entries.specs.TreeLaws.{RiseBelow, HoldsAddresses, ArePartsFrom, IsOfUnit, IsEntry, IsTextOf, units_read};
 
 /// The offsets of the scopes rise strictly, and those of the roots, and all stand in `.debug_info`.
 pub fn offsets_rise()
@@ -56,4 +56,12 @@ pub fn ends_are_of_what_is_below()
         → (outer_at : IsEntry units i p outer) → IsEntry units j q inner
         → ((i ≡ j) × IsBelow outer_at.of.dies q p)
         ↔ ((outer.number < inner.number) × (inner.number < outer.«end»)) }
+{}
+
+/// The names of a scope are texts of their sections: a NUL stands behind each, and none in it.
+pub fn names_are_texts()
+    ensures names { (s : Sections) (tree : Tree) → tree_of s ≡ Ok tree
+        → All (λ (scope : Scope). IfSome scope.name (IsTextOf s)) tree.scopes }
+    ensures linkage_names { (s : Sections) (tree : Tree) → tree_of s ≡ Ok tree
+        → All (λ (scope : Scope). IfSome scope.linkage_name (IsTextOf s)) tree.scopes }
 {}
