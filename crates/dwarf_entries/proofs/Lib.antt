@@ -28,3 +28,4 @@ pub mod CoveringLaws
 pub mod RootParts
 pub mod EntryScopes
 pub mod NameTexts
+pub mod ListedUnits

@@ -1,5 +1,5 @@
 -- What is true of the answer to a whole object.
-use Rattle.std.specs.Prelude.{◌≡◌, ◌≢◌, ℕ, ◌+◌, ◌<◌, ◌≤◌, ◌^◌, List, [], ◌∷◌, take, drop, Some, Result, All, slice_get, zip}
+use Rattle.std.specs.Prelude.{◌≡◌, ◌≢◌, ℕ, ◌+◌, ◌<◌, ◌≤◌, ◌^◌, List, [], ◌∷◌, length, take, drop, Some, Result, Ok, All, slice_get, zip}
 use Rattle.std.specs.List.Sorted.{IsStrictlyIncreasing}
 use Rattle.dwarf_bytes.specs.declared.fault.LoadFault.{LoadFault}
 use Rattle.dwarf_bytes.specs.declared.fault.Section.{Section}
@@ -7,10 +7,12 @@ use Rattle.dwarf_bytes.specs.declared.fault.Section.TheVariants as names
 use Rattle.dwarf_bytes.specs.declared.layout.Span.{Span}
 use Rattle.dwarf_bytes.specs.declared.text.Text.{Text}
 use Rattle.dwarf_bytes.specs.Bind.{◌>>=◌}
-use Rattle.dwarf_bytes.specs.Items.{each}
+use Rattle.dwarf_bytes.specs.Items.{Lists, each}
 use Rattle.dwarf_bytes.specs.Refusals.{in_section}
-use Rattle.dwarf_units.specs.Units.{units_of, tables_of}
-use Rattle.dwarf_units.specs.Entries.{Die, entries_of}
+use Rattle.dwarf_forms.specs.Declarations.{Declaration}
+use Rattle.dwarf_units.specs.declared.unit_headers.UnitHeader.{UnitHeader}
+use Rattle.dwarf_units.specs.Units.{unit_at, units_of, tables_of}
+use Rattle.dwarf_units.specs.Entries.{Standing, Die, node_at, entries_of}
 use Rattle.dwarf_entries.specs.declared.scope.Range.{Range}
 use Rattle.dwarf_entries.specs.declared.scope.Root.{Root}
 use Rattle.dwarf_entries.specs.Sections.{Sections}
@@ -72,3 +74,12 @@ IsTextIn bytes span = (slice_get bytes (span.place + span.len) ≡ Some 0) × Al
 
 abbrev pub IsTextOf : Sections → Text → Type 0
 IsTextOf s text = IsTextIn (section_bytes s text.section) text.span
+
+-- Units stand end to end in .debug_info, from a place up to its end, each as its header tells.
+abbrev pub StandEndToEnd : List ℕ → ℕ → List UnitHeader → Type 0
+StandEndToEnd info at [] = at ≡ length info
+StandEndToEnd info at (header ∷ headers) = (unit_at info at ≡ Ok header) × (header.start ≡ at) × (at < header.end) × StandEndToEnd info header.end headers
+
+-- What stands in a unit, its entries and nulls, stands end to end from its first entry up to its end.
+abbrev pub FillsUnit : List ℕ → UnitHeader → List Declaration → List Standing → Type 0
+FillsUnit info header table all = Lists (node_at header.format table (take header.end info)) [] header.first all header.end

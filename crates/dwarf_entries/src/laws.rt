@@ -12,8 +12,8 @@ ghost use Rattle.dwarf_entries.specs.Sections.{Sections};
 ghost use Rattle.dwarf_entries.specs.Order.{AreInOrder, TellsOf};
 
 pub use crate::tree_laws::{
-    ends_are_of_what_is_below, names_are_texts, offsets_rise, ranges_are_nonempty,
-    roots_part_scopes, scopes_are_entries,
+    ends_are_of_what_is_below, entries_are_listed, names_are_texts, offsets_rise,
+    ranges_are_nonempty, roots_part_scopes, scopes_are_entries, units_are_listed,
 };
 pub use dwarf_units::laws::{entries_stand_at_counted_depths, offsets_of_entries_rise};
 

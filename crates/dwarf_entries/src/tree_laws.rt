@@ -1,12 +1,18 @@
 //! What is true of the answer to a whole object.
 
-ghost use Rattle.std.specs.Prelude.{◌≡◌, ◌<◌, ◌≤◌, ◌↔◌, ℕ, List, Some, Ok, IfSome, true, All, Contains, map, length, slice_get, sum_by};
-ghost use Rattle.dwarf_units.specs.Entries.{Die, IsBelow};
+ghost use Rattle.std.specs.Prelude.{◌≡◌, ◌<◌, ◌≤◌, ◌↔◌, ℕ, List, Some, Ok, IfSome, true, All, Contains};
+ghost use Rattle.std.specs.Prelude.{map, length, slice_get, sum_by};
+ghost use Rattle.std.specs.List.{filter_map};
+ghost use Rattle.dwarf_forms.specs.Declarations.{Declaration};
+ghost use Rattle.dwarf_units.specs.declared.unit_headers.UnitHeader.{UnitHeader};
+ghost use Rattle.dwarf_units.specs.Units.{headers_of, units_of};
+ghost use Rattle.dwarf_units.specs.Entries.{Standing, Die, IsBelow, die_of, entries_of};
 ghost use Rattle.dwarf_entries.specs.declared.scope.Root.{Root};
 ghost use Rattle.dwarf_entries.specs.Bases.{CompilationUnit};
 ghost use Rattle.dwarf_entries.specs.Scopes.{Scope, Tree, is_scope, items_limit, tree_of};
 ghost use Rattle.dwarf_entries.specs.Sections.{Sections};
-ghost use Rattle.dwarf_entries.specs.TreeLaws.{RiseBelow, HoldsAddresses, ArePartsFrom, IsOfUnit, IsEntry, IsTextOf, units_read};
+ghost use Rattle.dwarf_entries.specs.TreeLaws.{RiseBelow, HoldsAddresses, ArePartsFrom, IsOfUnit, IsEntry, IsTextOf};
+ghost use Rattle.dwarf_entries.specs.TreeLaws.{StandEndToEnd, FillsUnit, units_read};
 
 /// The offsets of the scopes rise strictly, and those of the roots, and all stand in `.debug_info`.
 pub fn offsets_rise()
@@ -64,4 +70,19 @@ pub fn names_are_texts()
         → All (λ (scope : Scope). IfSome scope.name (IsTextOf s)) tree.scopes }
     ensures linkage_names { (s : Sections) (tree : Tree) → tree_of s ≡ Ok tree
         → All (λ (scope : Scope). IfSome scope.linkage_name (IsTextOf s)) tree.scopes }
+{}
+
+/// The units stand end to end in `.debug_info`, each as its header tells.
+pub fn units_are_listed()
+    ensures { (info : List ℕ) (headers : List UnitHeader) → headers_of info ≡ Ok headers
+        → StandEndToEnd info 0 headers }
+{}
+
+/// What stands in a unit stands end to end from its first entry up to the unit's end, and the
+/// unit's entries are those of it that are no nulls.
+pub fn entries_are_listed()
+    ensures { (info : List ℕ) (headers : List UnitHeader) (header : UnitHeader)
+        (table : List Declaration) (dies : List Die)
+        → units_of info ≡ Ok headers → Contains headers header → entries_of info header table ≡ Ok dies
+        → (all : List Standing) × FillsUnit info header table all × (filter_map die_of all ≡ dies) }
 {}
