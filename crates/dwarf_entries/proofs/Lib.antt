@@ -27,5 +27,6 @@ pub mod OffsetLaws
 pub mod CoveringLaws
 pub mod RootParts
 pub mod EntryScopes
+pub mod BelowEnds
 pub mod NameTexts
 pub mod ListedUnits

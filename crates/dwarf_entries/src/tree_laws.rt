@@ -1,7 +1,7 @@
 //! What is true of the answer to a whole object.
 
-ghost use Rattle.std.specs.Prelude.{◌≡◌, ◌<◌, ◌≤◌, ◌↔◌, ℕ, List, Some, Ok, IfSome, true, All, Contains};
-ghost use Rattle.std.specs.Prelude.{map, length, slice_get, sum_by};
+ghost use Rattle.std.specs.Prelude.{◌≡◌, ◌<◌, ◌≤◌, ◌↔◌, ℕ, List, Some, Ok, true, IfSome};
+ghost use Rattle.std.specs.Prelude.{All, Contains, map, length, slice_get, sum_by};
 ghost use Rattle.std.specs.List.{filter_map};
 ghost use Rattle.dwarf_forms.specs.Declarations.{Declaration};
 ghost use Rattle.dwarf_units.specs.declared.unit_headers.UnitHeader.{UnitHeader};
@@ -9,10 +9,11 @@ ghost use Rattle.dwarf_units.specs.Units.{headers_of, units_of};
 ghost use Rattle.dwarf_units.specs.Entries.{Standing, Die, IsBelow, die_of, entries_of};
 ghost use Rattle.dwarf_entries.specs.declared.scope.Root.{Root};
 ghost use Rattle.dwarf_entries.specs.Bases.{CompilationUnit};
-ghost use Rattle.dwarf_entries.specs.Scopes.{Scope, Tree, is_scope, items_limit, tree_of};
+ghost use Rattle.dwarf_entries.specs.Scopes.{Scope, Tree, is_scope, items_limit, roots_from, tree_of};
 ghost use Rattle.dwarf_entries.specs.Sections.{Sections};
-ghost use Rattle.dwarf_entries.specs.TreeLaws.{RiseBelow, HoldsAddresses, ArePartsFrom, IsOfUnit, IsEntry, IsTextOf};
-ghost use Rattle.dwarf_entries.specs.TreeLaws.{StandEndToEnd, FillsUnit, units_read};
+ghost use Rattle.dwarf_entries.specs.TreeLaws.{RiseBelow, HoldsAddresses, ArePartsFrom, IsOfUnit};
+ghost use Rattle.dwarf_entries.specs.TreeLaws.{units_read, IsEntry, IsTextOf};
+ghost use Rattle.dwarf_entries.specs.TreeLaws.{StandEndToEnd, FillsUnit};
 
 /// The offsets of the scopes rise strictly, and those of the roots, and all stand in `.debug_info`.
 pub fn offsets_rise()
@@ -22,8 +23,8 @@ pub fn offsets_rise()
         → RiseBelow (length s.debug_info) (map (λ (root : Root). root.offset) tree.roots) }
 {}
 
-/// Each range of a scope has addresses in it, and all scopes together have no more ranges than range
-/// items may be read.
+/// Each range of a scope has addresses in it, and all scopes together have no more ranges than
+/// range items may be read.
 pub fn ranges_are_nonempty()
     ensures ranges { (s : Sections) (tree : Tree) → tree_of s ≡ Ok tree
         → All (λ (scope : Scope). All HoldsAddresses scope.ranges) tree.scopes }
@@ -36,14 +37,17 @@ pub fn ranges_are_nonempty()
 pub fn roots_part_scopes()
     ensures parts { (s : Sections) (tree : Tree) → tree_of s ≡ Ok tree
         → ArePartsFrom 0 (length tree.scopes) tree.roots }
-    ensures scopes { (s : Sections) (tree : Tree) (root : Root) (scope : Scope) → tree_of s ≡ Ok tree
-        → Contains tree.roots root → Contains tree.scopes scope
+    ensures scopes { (s : Sections) (tree : Tree) (root : Root) (scope : Scope)
+        → tree_of s ≡ Ok tree → Contains tree.roots root → Contains tree.scopes scope
         → root.first ≤ scope.number → scope.number < root.past → IsOfUnit root scope }
 {}
 
-/// Each scope is an entry of a unit, and each entry of a unit that is a subprogram or an inlined
-/// subroutine is a scope.
+/// The roots and scopes are those of the units that were read: each scope is an entry of a unit,
+/// and each entry of a unit that is a subprogram or an inlined subroutine is a scope.
 pub fn scopes_are_entries()
+    ensures units { (s : Sections) (tree : Tree) → tree_of s ≡ Ok tree
+        → (units : List CompilationUnit) × (units_read s ≡ Ok units)
+        × (roots_from 0 units ≡ tree.roots) }
     ensures entries { (s : Sections) (tree : Tree) (units : List CompilationUnit) (scope : Scope)
         → tree_of s ≡ Ok tree → units_read s ≡ Ok units → Contains tree.scopes scope
         → (unit place : ℕ) × IsEntry units unit place scope }
@@ -83,6 +87,7 @@ pub fn units_are_listed()
 pub fn entries_are_listed()
     ensures { (info : List ℕ) (headers : List UnitHeader) (header : UnitHeader)
         (table : List Declaration) (dies : List Die)
-        → units_of info ≡ Ok headers → Contains headers header → entries_of info header table ≡ Ok dies
+        → units_of info ≡ Ok headers → Contains headers header
+        → entries_of info header table ≡ Ok dies
         → (all : List Standing) × FillsUnit info header table all × (filter_map die_of all ≡ dies) }
 {}

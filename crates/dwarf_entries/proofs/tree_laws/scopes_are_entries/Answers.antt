@@ -1,5 +1,5 @@
-use Rattle.dwarf_entries.proofs.EntryScopes.{scopes-enter, entries-told}
+use Rattle.dwarf_entries.proofs.EntryScopes.{units-were-read, scopes-enter, entries-told}
 use Rattle.dwarf_entries.proofs.tree_laws.scopes_are_entries.Goals as goal
 
 pub returns : goal.returns
-returns c = record { entries = scopes-enter; scopes = entries-told }
+returns c = record { units = units-were-read; entries = scopes-enter; scopes = entries-told }
