@@ -27,7 +27,7 @@ RiseBelow end offsets = IsStrictlyIncreasing offsets × All (λ offset. offset <
 abbrev pub HoldsAddresses : Range → Type 0
 HoldsAddresses range = (range.from < range.to) × (range.to < 2 ^ 64)
 
--- The numbers from one up to an end are parted among roots, in order: those of each root begin where those of the root before end.
+-- The numbers from one up to an end are parted among roots, in order: those of each begin where those of the one before it end.
 abbrev pub ArePartsFrom : ℕ → ℕ → List Root → Type 0
 ArePartsFrom number end [] = number ≡ end
 ArePartsFrom number end (root ∷ roots) = (root.first ≡ number) × (number ≤ root.past) × ArePartsFrom root.past end roots
@@ -47,7 +47,7 @@ units_read s = do
   dies ← in_section names.DebugInfo (each (λ _ p. entries_of s.debug_info p.0 p.1) (zip headers tables))
   in_section names.DebugInfo (each (λ _ p. unit_of s p.0 p.1) (zip headers dies))
 
--- A scope is the entry at a place of a unit.
+-- A scope is the entry at a place among those of the unit of a number.
 pub record IsEntry (units : List CompilationUnit) (unit place : ℕ) (scope : Scope) : Type 0 where
   pub of : CompilationUnit
   pub of_is : slice_get units unit ≡ Some of
