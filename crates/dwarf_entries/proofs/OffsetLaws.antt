@@ -22,11 +22,11 @@ use Rattle.dwarf_entries.proofs.TreeParts.{each-cons, each-past, read_entries, r
 -- ---- numbers that rise
 
 -- they rise strictly, from a place on and up to an end
-abbrev pub Rise : ℕ → ℕ → List ℕ → Type 0
+abbrev Rise : ℕ → ℕ → List ℕ → Type 0
 Rise from end [] = from ≤ end
 Rise from end (x ∷ xs) = (from ≤ x) × Rise (suc x) end xs
 
-pub rise-from : (low from end : ℕ) (xs : List ℕ) → low ≤ from → Rise from end xs → Rise low end xs
+rise-from : (low from end : ℕ) (xs : List ℕ) → low ≤ from → Rise from end xs → Rise low end xs
 rise-from low from end [] le h = omega (arith, le, h)
 rise-from low from end (x ∷ xs) le h = let first = h.0 in (omega (arith, le, first), h.1)
 
@@ -34,7 +34,7 @@ rise-fits : (from end : ℕ) (xs : List ℕ) → Rise from end xs → from ≤ e
 rise-fits from end [] h = h
 rise-fits from end (x ∷ xs) h = let first = h.0 in let rest = rise-fits (suc x) end xs h.1 in omega (arith, first, rest)
 
-pub rise-joined : (from mid end : ℕ) (xs ys : List ℕ) → Rise from mid xs → Rise mid end ys → Rise from end (xs ++ ys)
+rise-joined : (from mid end : ℕ) (xs ys : List ℕ) → Rise from mid xs → Rise mid end ys → Rise from end (xs ++ ys)
 rise-joined from mid end [] ys a b = rise-from from mid end ys a b
 rise-joined from mid end (x ∷ xs) ys a b = (a.0, rise-joined (suc x) mid end xs ys a.1 b)
 
@@ -82,17 +82,17 @@ units-rise s tree read = listed-rise s (length s.debug_info) 0 read.headers read
 
 -- ---- scopes
 
-abbrev pub site_offsets : List ScopeSite → List ℕ
+abbrev site_offsets : List ScopeSite → List ℕ
 site_offsets ps = map (λ (p : ScopeSite). p.member.die.offset) ps
 
-abbrev pub scope_offsets : List Scope → List ℕ
+abbrev scope_offsets : List Scope → List ℕ
 scope_offsets ss = map (λ (scope : Scope). scope.offset) ss
 
 site-offsets-joined : (ps qs : List ScopeSite) → site_offsets (ps ++ qs) ≡ site_offsets ps ++ site_offsets qs
 site-offsets-joined [] qs = refl
 site-offsets-joined (p ∷ ps) qs = ap (λ (ks : List ℕ). p.member.die.offset ∷ ks) (site-offsets-joined ps qs)
 
-pub sites-rise : (unit : CompilationUnit) (from end : ℕ) (dies : List Die) → RiseWithin from end dies → Rise from end (site_offsets (sites_in unit dies))
+sites-rise : (unit : CompilationUnit) (from end : ℕ) (dies : List Die) → RiseWithin from end dies → Rise from end (site_offsets (sites_in unit dies))
 sites-rise unit from end [] h = h
 sites-rise unit from end (die ∷ dies) h = by_kind (kind_of die.tag) (sites-rise unit (suc die.offset) end dies h.1)
   where
@@ -123,7 +123,7 @@ scopes-rise s tree h =
 
 -- ---- roots
 
-abbrev pub root_offsets : List Root → List ℕ
+abbrev root_offsets : List Root → List ℕ
 root_offsets rs = map (λ (root : Root). root.offset) rs
 
 within-fits : (from end : ℕ) (dies : List Die) → RiseWithin from end dies → from ≤ end

@@ -37,7 +37,7 @@ each-cons {Y = Y} make before x xs y ys h =
           subst (λ (z : Y). each_from make (before ++ z ∷ []) xs ≡ Ok ys) first_is (subst (λ (zs : List Y). each_from make (before ++ first ∷ []) xs ≡ Ok zs) rest_is b),
         )
 
-pub each-none : {X Y : Type 0} (make : List Y → X → Result Y At) (before : List Y) (x : X) (xs : List X) → each_from make before (x ∷ xs) ≡ Ok [] → ⊥
+each-none : {X Y : Type 0} (make : List Y → X → Result Y At) (before : List Y) (x : X) (xs : List X) → each_from make before (x ∷ xs) ≡ Ok [] → ⊥
 unfolding each_from
 each-none make before x xs h =
     after_bind (make before x) _ [] h ⊥ (λ first _ h1.
