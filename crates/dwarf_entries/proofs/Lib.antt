@@ -22,3 +22,11 @@ pub mod ScopesOnly
 pub mod ReadLaws
 pub mod ScopeOrder
 pub mod TellLaws
+pub mod TreeParts
+pub mod OffsetLaws
+pub mod CoveringLaws
+pub mod RootParts
+pub mod EntryScopes
+pub mod BelowEnds
+pub mod NameTexts
+pub mod ListedUnits

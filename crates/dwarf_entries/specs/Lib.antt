@@ -4,4 +4,5 @@ pub mod Names
 pub mod Ranges
 pub mod Scopes
 pub mod Order
+pub mod TreeLaws
 pub mod Private

@@ -11,6 +11,10 @@ ghost use Rattle.dwarf_entries.specs.Scopes.{is_scope, own, own_of, Scope, Tree,
 ghost use Rattle.dwarf_entries.specs.Sections.{Sections};
 ghost use Rattle.dwarf_entries.specs.Order.{AreInOrder, TellsOf};
 
+pub use crate::tree_laws::{
+    ends_are_of_what_is_below, entries_are_listed, names_are_texts, offsets_rise,
+    ranges_are_nonempty, roots_part_scopes, scopes_are_entries, units_are_listed,
+};
 pub use dwarf_units::laws::{entries_stand_at_counted_depths, offsets_of_entries_rise};
 
 /// Of two scopes among the entries of a unit, one is below the other exactly where its number stands

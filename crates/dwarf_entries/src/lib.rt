@@ -18,6 +18,7 @@ mod scope_lists;
 mod scopes;
 mod sections;
 mod texts;
+mod tree_laws;
 mod unit_scopes;
 
 pub use dwarf_bytes::Text;

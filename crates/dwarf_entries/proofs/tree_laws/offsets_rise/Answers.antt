@@ -1,0 +1,5 @@
+use Rattle.dwarf_entries.proofs.OffsetLaws.{scopes-rise, roots-rise}
+use Rattle.dwarf_entries.proofs.tree_laws.offsets_rise.Goals as goal
+
+pub returns : goal.returns
+returns c = record { scopes = scopes-rise; roots = roots-rise }

@@ -1,0 +1,5 @@
+use Rattle.dwarf_entries.proofs.CoveringLaws.{scopes-hold, ranges-limited}
+use Rattle.dwarf_entries.proofs.tree_laws.ranges_are_nonempty.Goals as goal
+
+pub returns : goal.returns
+returns c = record { ranges = scopes-hold; count = ranges-limited }

@@ -1,0 +1,5 @@
+use Rattle.dwarf_entries.proofs.EntryScopes.{units-were-read, scopes-enter, entries-told}
+use Rattle.dwarf_entries.proofs.tree_laws.scopes_are_entries.Goals as goal
+
+pub returns : goal.returns
+returns c = record { units = units-were-read; entries = scopes-enter; scopes = entries-told }

@@ -1,0 +1,85 @@
+-- What is true of the answer to a whole object.
+use Rattle.std.specs.Prelude.{◌≡◌, ◌≢◌, ℕ, ◌+◌, ◌<◌, ◌≤◌, ◌^◌, List, [], ◌∷◌, length, take, drop, Some, Result, Ok, All, slice_get, zip}
+use Rattle.std.specs.List.Sorted.{IsStrictlyIncreasing}
+use Rattle.dwarf_bytes.specs.declared.fault.LoadFault.{LoadFault}
+use Rattle.dwarf_bytes.specs.declared.fault.Section.{Section}
+use Rattle.dwarf_bytes.specs.declared.fault.Section.TheVariants as names
+use Rattle.dwarf_bytes.specs.declared.layout.Span.{Span}
+use Rattle.dwarf_bytes.specs.declared.text.Text.{Text}
+use Rattle.dwarf_bytes.specs.Bind.{◌>>=◌}
+use Rattle.dwarf_bytes.specs.Items.{Lists, each}
+use Rattle.dwarf_bytes.specs.Refusals.{in_section}
+use Rattle.dwarf_forms.specs.Declarations.{Declaration}
+use Rattle.dwarf_units.specs.declared.unit_headers.UnitHeader.{UnitHeader}
+use Rattle.dwarf_units.specs.Units.{unit_at, units_of, tables_of}
+use Rattle.dwarf_units.specs.Entries.{Standing, Die, node_at, entries_of}
+use Rattle.dwarf_entries.specs.declared.scope.Range.{Range}
+use Rattle.dwarf_entries.specs.declared.scope.Root.{Root}
+use Rattle.dwarf_entries.specs.Sections.{Sections}
+use Rattle.dwarf_entries.specs.Bases.{CompilationUnit, unit_of}
+use Rattle.dwarf_entries.specs.Scopes.{Scope, kind_of}
+
+-- Offsets rise strictly, and stand before an end.
+abbrev pub RiseBelow : ℕ → List ℕ → Type 0
+RiseBelow end offsets = IsStrictlyIncreasing offsets × All (λ offset. offset < end) offsets
+
+-- A range has addresses in it, which have 64 bits.
+abbrev pub HoldsAddresses : Range → Type 0
+HoldsAddresses range = (range.from < range.to) × (range.to < 2 ^ 64)
+
+-- The numbers from one up to an end are parted among roots, in order: those of each begin where those of the one before it end.
+abbrev pub ArePartsFrom : ℕ → ℕ → List Root → Type 0
+ArePartsFrom number end [] = number ≡ end
+ArePartsFrom number end (root ∷ roots) = (root.first ≡ number) × (number ≤ root.past) × ArePartsFrom root.past end roots
+
+-- A scope is of the unit of a root: its line program is the root's, it ends within the root's scopes, and stands at the root or
+-- behind it.
+pub record IsOfUnit (root : Root) (scope : Scope) : Type 0 where
+  pub stmt_list_is : scope.stmt_list ≡ root.stmt_list
+  pub ends : scope.«end» ≤ root.past
+  pub stands : root.offset ≤ scope.offset
+
+-- The units with their entries and tables, of which the scopes are told.
+unfoldable pub units_read : Sections → Result (List CompilationUnit) LoadFault
+units_read s = do
+  headers ← in_section names.DebugInfo (units_of s.debug_info)
+  tables ← in_section names.DebugAbbrev (tables_of s.debug_abbrev headers)
+  dies ← in_section names.DebugInfo (each (λ _ p. entries_of s.debug_info p.0 p.1) (zip headers tables))
+  in_section names.DebugInfo (each (λ _ p. unit_of s p.0 p.1) (zip headers dies))
+
+-- A scope is the entry at a place among those of the unit of a number.
+pub record IsEntry (units : List CompilationUnit) (unit place : ℕ) (scope : Scope) : Type 0 where
+  pub of : CompilationUnit
+  pub of_is : slice_get units unit ≡ Some of
+  pub die : Die
+  pub die_is : slice_get of.dies place ≡ Some die
+  pub offset_is : scope.offset ≡ die.offset
+  pub kind_is : kind_of die.tag ≡ Some scope.kind
+
+-- the bytes of a section; the file's own tables are none of these
+abbrev pub section_bytes : Sections → Section → List ℕ
+section_bytes s names.Elf = []
+section_bytes s names.DebugInfo = s.debug_info
+section_bytes s names.DebugAbbrev = s.debug_abbrev
+section_bytes s names.DebugLine = s.debug_line
+section_bytes s names.DebugLineStr = s.debug_line_str
+section_bytes s names.DebugStr = s.debug_str
+section_bytes s names.DebugStrOffsets = s.debug_str_offsets
+section_bytes s names.DebugAddr = s.debug_addr
+section_bytes s names.DebugRnglists = s.debug_rnglists
+
+-- A text stands in its section: a NUL stands behind it there, and none in it.
+abbrev pub IsTextIn : List ℕ → Span → Type 0
+IsTextIn bytes span = (slice_get bytes (span.place + span.len) ≡ Some 0) × All (λ byte. byte ≢ 0) (take span.len (drop span.place bytes))
+
+abbrev pub IsTextOf : Sections → Text → Type 0
+IsTextOf s text = IsTextIn (section_bytes s text.section) text.span
+
+-- Units stand end to end in .debug_info, from a place up to its end, each as its header tells.
+abbrev pub StandEndToEnd : List ℕ → ℕ → List UnitHeader → Type 0
+StandEndToEnd info at [] = at ≡ length info
+StandEndToEnd info at (header ∷ headers) = (unit_at info at ≡ Ok header) × (header.start ≡ at) × (at < header.end) × StandEndToEnd info header.end headers
+
+-- What stands in a unit, its entries and nulls, stands end to end from its first entry up to its end.
+abbrev pub FillsUnit : List ℕ → UnitHeader → List Declaration → List Standing → Type 0
+FillsUnit info header table all = Lists (node_at header.format table (take header.end info)) [] header.first all header.end

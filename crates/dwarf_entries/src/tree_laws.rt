@@ -1,0 +1,93 @@
+//! What is true of the answer to a whole object.
+
+ghost use Rattle.std.specs.Prelude.{◌≡◌, ◌<◌, ◌≤◌, ◌↔◌, ℕ, List, Some, Ok, true, IfSome};
+ghost use Rattle.std.specs.Prelude.{All, Contains, map, length, slice_get, sum_by};
+ghost use Rattle.std.specs.List.{filter_map};
+ghost use Rattle.dwarf_forms.specs.Declarations.{Declaration};
+ghost use Rattle.dwarf_units.specs.declared.unit_headers.UnitHeader.{UnitHeader};
+ghost use Rattle.dwarf_units.specs.Units.{headers_of, units_of};
+ghost use Rattle.dwarf_units.specs.Entries.{Standing, Die, IsBelow, die_of, entries_of};
+ghost use Rattle.dwarf_entries.specs.declared.scope.Root.{Root};
+ghost use Rattle.dwarf_entries.specs.Bases.{CompilationUnit};
+ghost use Rattle.dwarf_entries.specs.Scopes.{Scope, Tree, is_scope, items_limit, roots_from, tree_of};
+ghost use Rattle.dwarf_entries.specs.Sections.{Sections};
+ghost use Rattle.dwarf_entries.specs.TreeLaws.{RiseBelow, HoldsAddresses, ArePartsFrom, IsOfUnit};
+ghost use Rattle.dwarf_entries.specs.TreeLaws.{units_read, IsEntry, IsTextOf};
+ghost use Rattle.dwarf_entries.specs.TreeLaws.{StandEndToEnd, FillsUnit};
+
+/// The offsets of the scopes rise strictly, and those of the roots, and all stand in `.debug_info`.
+pub fn offsets_rise()
+    ensures scopes { (s : Sections) (tree : Tree) → tree_of s ≡ Ok tree
+        → RiseBelow (length s.debug_info) (map (λ (scope : Scope). scope.offset) tree.scopes) }
+    ensures roots { (s : Sections) (tree : Tree) → tree_of s ≡ Ok tree
+        → RiseBelow (length s.debug_info) (map (λ (root : Root). root.offset) tree.roots) }
+{}
+
+/// Each range of a scope has addresses in it, and all scopes together have no more ranges than
+/// range items may be read.
+pub fn ranges_are_nonempty()
+    ensures ranges { (s : Sections) (tree : Tree) → tree_of s ≡ Ok tree
+        → All (λ (scope : Scope). All HoldsAddresses scope.ranges) tree.scopes }
+    ensures count { (s : Sections) (tree : Tree) → tree_of s ≡ Ok tree
+        → sum_by (λ (scope : Scope). length scope.ranges) tree.scopes ≤ items_limit }
+{}
+
+/// The roots part the numbers of the scopes, in order and without a gap, and a scope is of the unit
+/// of the root that has its number.
+pub fn roots_part_scopes()
+    ensures parts { (s : Sections) (tree : Tree) → tree_of s ≡ Ok tree
+        → ArePartsFrom 0 (length tree.scopes) tree.roots }
+    ensures scopes { (s : Sections) (tree : Tree) (root : Root) (scope : Scope)
+        → tree_of s ≡ Ok tree → Contains tree.roots root → Contains tree.scopes scope
+        → root.first ≤ scope.number → scope.number < root.past → IsOfUnit root scope }
+{}
+
+/// The roots and scopes are those of the units that were read: each scope is an entry of a unit,
+/// and each entry of a unit that is a subprogram or an inlined subroutine is a scope.
+pub fn scopes_are_entries()
+    ensures units { (s : Sections) (tree : Tree) → tree_of s ≡ Ok tree
+        → (units : List CompilationUnit) × (units_read s ≡ Ok units)
+        × (roots_from 0 units ≡ tree.roots) }
+    ensures entries { (s : Sections) (tree : Tree) (units : List CompilationUnit) (scope : Scope)
+        → tree_of s ≡ Ok tree → units_read s ≡ Ok units → Contains tree.scopes scope
+        → (unit place : ℕ) × IsEntry units unit place scope }
+    ensures scopes { (s : Sections) (tree : Tree) (units : List CompilationUnit) (unit place : ℕ)
+        (of : CompilationUnit) (die : Die) → tree_of s ≡ Ok tree → units_read s ≡ Ok units
+        → slice_get units unit ≡ Some of → slice_get of.dies place ≡ Some die → is_scope die ≡ true
+        → (scope : Scope) × Contains tree.scopes scope × IsEntry units unit place scope }
+{}
+
+/// One scope is below another, in the same unit, exactly where its number stands between the
+/// other's number and end.
+pub fn ends_are_of_what_is_below()
+    ensures { (s : Sections) (tree : Tree) (units : List CompilationUnit) (outer inner : Scope)
+        (i j p q : ℕ) → tree_of s ≡ Ok tree → units_read s ≡ Ok units
+        → Contains tree.scopes outer → Contains tree.scopes inner
+        → (outer_at : IsEntry units i p outer) → IsEntry units j q inner
+        → ((i ≡ j) × IsBelow outer_at.of.dies q p)
+        ↔ ((outer.number < inner.number) × (inner.number < outer.«end»)) }
+{}
+
+/// The names of a scope are texts of their sections: a NUL stands behind each, and none in it.
+pub fn names_are_texts()
+    ensures names { (s : Sections) (tree : Tree) → tree_of s ≡ Ok tree
+        → All (λ (scope : Scope). IfSome scope.name (IsTextOf s)) tree.scopes }
+    ensures linkage_names { (s : Sections) (tree : Tree) → tree_of s ≡ Ok tree
+        → All (λ (scope : Scope). IfSome scope.linkage_name (IsTextOf s)) tree.scopes }
+{}
+
+/// The units stand end to end in `.debug_info`, each as its header tells.
+pub fn units_are_listed()
+    ensures { (info : List ℕ) (headers : List UnitHeader) → headers_of info ≡ Ok headers
+        → StandEndToEnd info 0 headers }
+{}
+
+/// What stands in a unit stands end to end from its first entry up to the unit's end, and the
+/// unit's entries are those of it that are no nulls.
+pub fn entries_are_listed()
+    ensures { (info : List ℕ) (headers : List UnitHeader) (header : UnitHeader)
+        (table : List Declaration) (dies : List Die)
+        → units_of info ≡ Ok headers → Contains headers header
+        → entries_of info header table ≡ Ok dies
+        → (all : List Standing) × FillsUnit info header table all × (filter_map die_of all ≡ dies) }
+{}
