@@ -16,6 +16,7 @@ loop-unit-preserved c =
     record {
       judged = judged_next c.args.section.now c.args.units.now c.loop-unit.unit-index c.loop-unit.left c.judge_unit.new.left _ told.0 c.loop-unit.invariant.judged c.loop-unit-test.true told.1 told.2;
       section = c.in_ok-judge_unit.ensures.section ∙ c.loop-unit.invariant.section;
+      limit = c.in_ok-judge_unit.ensures.limit;
     }
 
 pub returns-clause-ok : goal.returns-clause-ok
