@@ -1,24 +1,26 @@
 -- The tables that are kept, as one more is put behind those that stay.
-use Rattle.std.proofs.Common.{◌≡◌, ℕ, suc, zero, ◌+◌, ◌-◌, ◌<◌, ◌≤◌, List, [], ◌∷◌, ◌++◌, length, length-append, take, length-take-le, true, false, refl, ap, sym, ◌∙◌, subst, arith}
-use Rattle.std.specs.Prelude.{Some, Result, Ok, slice_get, sum_by, nat_le, ◌==◌}
+use Rattle.std.proofs.Common.{◌≡◌, ◌⊎◌, inl, inr, Bool, get_or, ℕ, suc, zero, ◌+◌, ◌-◌, ◌<◌, ◌≤◌, List, [], ◌∷◌, ◌++◌, length, length-append, take, length-take-le, true, false, refl, ap, sym, ◌∙◌, subst, arith}
+use Rattle.std.specs.Prelude.{Some, Result, Ok, slice_get, sum_by, nat_le, ◌==◌, if◌then◌else◌}
 use Rattle.std.specs.List.{All}
 use Rattle.std.proofs.lemmas.Grind.{common_steps}
-use Rattle.std.proofs.lemmas.List.{get_or-take}
-use Rattle.std.proofs.lemmas.List.Sums.{sum_by_push}
+use Rattle.std.proofs.lemmas.List.{get_or-take, take_more, length-take}
+use Rattle.std.proofs.lemmas.List.Elements.{All-append, All-cons, All-nil}
+use Rattle.std.proofs.lemmas.List.Sums.{sum_by_push, sum_by-append}
 use Rattle.std.proofs.lemmas.Option.{same_Some, slice_get-get_or, slice_get_within, get_or_from_slice_get}
 use Rattle.dwarf_bytes.specs.declared.format.Format.{Format}
 use Rattle.dwarf_bytes.specs.declared.format.Format.TheVariants.{Dwarf32, Dwarf64}
+use Rattle.dwarf_units.specs.declared.unit_headers.UnitHeader.{UnitHeader}
 use Rattle.dwarf_units.specs.declared.numbers.Numbers.{Numbers}
 use Rattle.dwarf_units.specs.Private.Numbers.{number_at, with_number}
 use Rattle.dwarf_units.specs.Private.Plans.{Table, table_size}
-use Rattle.dwarf_units.specs.Private.Tables.{StandsIn, IsAt, AreElsewhere, AreKept, KeptTables, with_table, size_limit}
+use Rattle.dwarf_units.specs.Private.Tables.{StandsIn, IsAt, AreElsewhere, AreKept, KeptTables, StaysOrIsTooLarge, with_table, size_limit}
 use Rattle.dwarf_bytes.specs.declared.fault.Section.TheVariants as sections
 use Rattle.dwarf_bytes.specs.Items.{At}
 use Rattle.dwarf_bytes.specs.Refusals.{in_section}
 use Rattle.dwarf_forms.specs.Declarations.{Declaration}
 use Rattle.dwarf_forms.specs.Tables.{declarations_of}
 use Rattle.dwarf_units.specs.Units.{declarations_limit}
-use Rattle.dwarf_units.proofs.TableLaws.{in_section_ok, table_again, table_few, known_stands, stand_before, stand_behind}
+use Rattle.dwarf_units.proofs.TableLaws.{in_section_ok, table_again, table_few, known_stands, stand_before, stand_behind, behind_at}
 
 -- one number was set
 abbrev pub Sets : Numbers → Numbers → Format → ℕ → ℕ → Type 0
@@ -90,39 +92,45 @@ kept_short section tables after kept room numbers next format offset elsewhere s
       counted = ap (λ (ts : List Table). room + sum_by table_size ts) again ∙ all.counted;
       within = omega (arith, len);
       one = omega (arith, len);
+      past = λ t at. absurd (omega (arith, slice_get_within (take kept tables) kept t at, len));
     })
 
 -- .. with one behind them that does not stay
-pub kept_more : (section : List ℕ) (tables after : List Table) (kept room : ℕ) (numbers next : Numbers) (table : Table) → AreElsewhere table.format table.offset tables → Sets numbers next table.format table.offset kept → StandsIn section table →
-    after ≡ take kept tables ++ table ∷ [] → AreKept section tables kept room numbers → AreKept section after kept room next
-kept_more section tables after kept room numbers next table elsewhere sets stands is all =
+pub kept_more : (section : List ℕ) (tables after : List Table) (kept room size : ℕ) (numbers next : Numbers) (table : Table) → AreElsewhere table.format table.offset tables → Sets numbers next table.format table.offset kept → StandsIn section table →
+    after ≡ take kept tables ++ table ∷ [] → size ≡ table_size table → room < size → AreKept section tables kept room numbers → AreKept section after kept room next
+kept_more section tables after kept room size numbers next table elsewhere sets stands is size_is past all =
     let before : List Table = take kept tables in
     let len : length before ≡ kept = length-take-le kept tables all.within in
     let more : length (before ++ table ∷ []) ≡ kept + 1 = length-append before (table ∷ []) ∙ ap (λ (k : ℕ). k + 1) len in
     let front : take kept (before ++ table ∷ []) ≡ before = subst (λ (k : ℕ). take k (before ++ table ∷ []) ≡ before) len (take_front before (table ∷ [])) in
     let here : number_at next table.format table.offset ≡ Some (length before) =
     sets table.format table.offset ∙ (with_here numbers table.format table.offset kept ∙ ap (λ (k : ℕ). Some k) (sym len)) in
+    let last : slice_get (before ++ table ∷ []) kept ≡ Some table = behind_at before (before ++ table ∷ []) kept table refl (sym len) in
     subst (λ (ts : List Table). AreKept section ts kept room next) (sym is) (record {
       stand = stand_behind section tables (before ++ table ∷ []) kept table all.stand stands refl;
       found = found_push before next table here (found_short tables kept numbers next table.format table.offset kept all.within elsewhere sets all.found);
       counted = ap (λ (ts : List Table). room + sum_by table_size ts) front ∙ all.counted;
       within = omega (arith, more);
       one = omega (arith, more);
+      past = λ t at. subst (λ (e : Table). room < table_size e) (same_Some table t (sym last ∙ at)) (omega (arith, past, size_is));
     })
 
 -- .. and with one that stays
 pub kept_all : (section : List ℕ) (tables after : List Table) (kept room now size : ℕ) (numbers next : Numbers) (table : Table) → AreElsewhere table.format table.offset tables → Sets numbers next table.format table.offset kept → StandsIn section table →
     after ≡ take kept tables ++ table ∷ [] → size ≡ table_size table → size ≤ room → now ≡ length after → AreKept section tables kept room numbers → AreKept section after now (room - size) next
 kept_all section tables after kept room now size numbers next table elsewhere sets stands is size_is fits now_is all =
-    let more = kept_more section tables after kept room numbers next table elsewhere sets stands is all in
+    let before : List Table = take kept tables in
+    let here : number_at next table.format table.offset ≡ Some (length before) =
+    sets table.format table.offset ∙ (with_here numbers table.format table.offset kept ∙ ap (λ (k : ℕ). Some k) (sym (length-take-le kept tables all.within))) in
     let whole : take now after ≡ after = subst (λ (k : ℕ). take k after ≡ after) (sym now_is) (take_all after) in
     let sum : sum_by table_size after ≡ sum_by table_size (take kept tables) + table_size table = ap (λ (ts : List Table). sum_by table_size ts) is ∙ sum_by_push table_size (take kept tables) table in
     record {
-      stand = more.stand;
-      found = more.found;
+      stand = stand_behind section tables after kept table all.stand stands is;
+      found = subst (λ (ts : List Table). AreFound next ts) (sym is) (found_push before next table here (found_short tables kept numbers next table.format table.offset kept all.within elsewhere sets all.found));
       counted = ap (λ (ts : List Table). room - size + sum_by table_size ts) whole ∙ omega (arith, sum, size_is, fits, all.counted);
       within = omega (arith, now_is);
       one = omega (arith, now_is);
+      past = λ t at. absurd (omega (arith, slice_get_within after now t at, now_is));
     }
 
 -- what is kept then, as the tables with one more
@@ -175,3 +183,73 @@ known_once numbers tables view format offset i j same found t at is u at_other i
     number_of t i at is =
         subst (λ (f : Format). number_at numbers f offset ≡ Some i) is.1
         (subst (λ (k : ℕ). number_at numbers t.format k ≡ Some i) is.0 (found i t (ap (λ (ts : List Table). slice_get ts i) same ∙ at)))
+
+-- ---- what stays
+
+-- those that stay are followed by more
+abbrev pub Grows : KeptTables → KeptTables → Type 0
+Grows old new = (rest : List Table) × (take new.kept new.tables ≡ take old.kept old.tables ++ rest)
+
+append_none : (xs : List Table) → xs ≡ xs ++ []
+append_none [] = refl
+append_none (x ∷ xs) = ap (λ (ys : List Table). x ∷ ys) (append_none xs)
+
+got_before : (xs ys : List Table) (i : ℕ) (t : Table) → slice_get xs i ≡ Some t → slice_get (xs ++ ys) i ≡ Some t
+got_before [] ys i t at = cc
+got_before (x ∷ xs) ys zero t at = at
+got_before (x ∷ xs) ys (suc i) t at = got_before xs ys i t at
+
+-- what is true of a unit stays so
+pub stays_on : (old new : KeptTables) (unit : UnitHeader) → Grows old new → new.section ≡ old.section → StaysOrIsTooLarge old unit → StaysOrIsTooLarge new unit
+stays_on old new unit grows same (table, at, stands, is) = (table, at, subst (λ (s : List ℕ). StandsIn s table) (sym same) stands, by_case is)
+  where
+    by_case : ((number : ℕ) × (slice_get (take old.kept old.tables) number ≡ Some table)) ⊎ (size_limit old.section < sum_by table_size (take old.kept old.tables) + table_size table) →
+        ((number : ℕ) × (slice_get (take new.kept new.tables) number ≡ Some table)) ⊎ (size_limit new.section < sum_by table_size (take new.kept new.tables) + table_size table)
+    by_case (inl there) = inl (there.0, ap (λ (ts : List Table). slice_get ts there.0) grows.1 ∙ got_before (take old.kept old.tables) grows.0 there.0 table there.1)
+    by_case (inr large) =
+        let sum : sum_by table_size (take new.kept new.tables) ≡ sum_by table_size (take old.kept old.tables) + sum_by table_size grows.0 =
+        ap (λ (ts : List Table). sum_by table_size ts) grows.1 ∙ sum_by-append table_size (take old.kept old.tables) grows.0 in
+        let limit : size_limit new.section ≡ size_limit old.section = ap (λ (s : List ℕ). size_limit s) same in
+        inr (omega (arith, large, sum, limit))
+
+-- the table of a unit that is put behind those that stay stays too, or has no room
+pub stays_with : (old : KeptTables) (unit : UnitHeader) (table : Table) → old.kept ≤ length old.tables → IsAt unit.format unit.abbreviations table → StandsIn old.section table → StaysOrIsTooLarge (with_table old table) unit × Grows old (with_table old table)
+stays_with old unit table within at stands =
+    let before : List Table = take old.kept old.tables in
+    by_test before (length-take-le old.kept old.tables within) refl (nat_le (sum_by table_size (before ++ table ∷ [])) (size_limit old.section)) refl
+  where
+    gt : (a b : ℕ) → nat_le a b ≡ false → b < a
+    gt a b h = grind (arith, common_steps)
+
+    by_test : (before : List Table) → length before ≡ old.kept → before ≡ take old.kept old.tables → (b : Bool) → nat_le (sum_by table_size (before ++ table ∷ [])) (size_limit old.section) ≡ b →
+        (let new : KeptTables = record { section = old.section; tables = before ++ table ∷ []; kept = if b then length (before ++ table ∷ []) else old.kept } in StaysOrIsTooLarge new unit × Grows old new)
+    by_test before len is true fits =
+        let tables : List Table = before ++ table ∷ [] in
+        let whole : take (length tables) tables ≡ tables = take_all tables in (
+          (table, at, stands, inl (length before, ap (λ (ts : List Table). slice_get ts (length before)) whole ∙ behind_at before tables (length before) table refl refl)),
+          (table ∷ [], whole ∙ ap (λ (ts : List Table). ts ++ table ∷ []) is),
+        )
+    by_test before len is false past =
+        let tables : List Table = before ++ table ∷ [] in
+        let front : take old.kept tables ≡ before = subst (λ (k : ℕ). take k tables ≡ before) len (take_front before (table ∷ [])) in
+        let sum : sum_by table_size (take old.kept tables) ≡ sum_by table_size before = ap (λ (ts : List Table). sum_by table_size ts) front in
+        let large : size_limit old.section < sum_by table_size tables = gt (sum_by table_size tables) (size_limit old.section) past in (
+          (table, at, stands, inr (omega (arith, sum, large, sum_by_push table_size before table))),
+          ([], front ∙ (is ∙ append_none (take old.kept old.tables))),
+        )
+
+-- .. so it is of each unit
+pub stays_next : (old new : KeptTables) (units : List UnitHeader) (index : ℕ) (d : UnitHeader) → Grows old new → new.section ≡ old.section → index < length units → StaysOrIsTooLarge new (get_or units index d) → All (StaysOrIsTooLarge old) (take index units) →
+    All (StaysOrIsTooLarge new) (take (index + 1) units)
+stays_next old new units index d grows same within here all =
+    subst (λ (us : List UnitHeader). All (StaysOrIsTooLarge new) us) (sym (take_more units index d within))
+    (All-append (StaysOrIsTooLarge new) (take index units) (get_or units index d ∷ []) (λ k u lt. stays_on old new (get_or (take index units) k u) grows same (all k u lt))
+    (All-cons (StaysOrIsTooLarge new) (get_or units index d) [] here (All-nil (StaysOrIsTooLarge new))))
+
+pub stays_end : (tables : KeptTables) (units : List UnitHeader) (index : ℕ) → length units ≤ index → All (StaysOrIsTooLarge tables) (take index units) → All (StaysOrIsTooLarge tables) units
+stays_end tables units index past all = λ k u lt.
+    let here : get_or (take index units) k u ≡ get_or units k u = get_or-take index units k u (omega (arith, past, lt)) in
+    subst (λ (unit : UnitHeader). StaysOrIsTooLarge tables unit) here (all k u (long k lt))
+  where
+    long : (k : ℕ) → k < length units → k < length (take index units)
+    long k lt = omega (arith, past, lt, length-take index units)

@@ -1,13 +1,14 @@
 //! The abbreviation tables of all units (DWARF 5, 7.5.3), each read once.
 
-ghost use Rattle.std.specs.Prelude.{◌≡◌, ℕ, ◌⊎◌, ◌+◌, ◌<◌, ◌≤◌, ◌++◌, ◌∷◌, [], take, List, Some, Ok, Err, length, slice_get, IfOk, IfErr, OnErr, IfSome, IfNone};
+ghost use Rattle.std.specs.Prelude.{◌≡◌, ℕ, ◌⊎◌, ◌+◌, ◌<◌, ◌≤◌, ◌++◌, ◌∷◌, [], take, List, Some, Ok, Err, length, slice_get, IfOk, IfErr, OnOk, OnErr, IfSome, IfNone};
+ghost use Rattle.std.specs.List.{All};
 ghost use Rattle.dwarf_bytes.specs.declared.fault.Section.TheVariants as sections;
 ghost use Rattle.dwarf_bytes.specs.Refusals.{memory_fault, in_section};
 ghost use Rattle.dwarf_forms.specs.Declarations.{Declaration};
 ghost use Rattle.dwarf_forms.specs.Tables.{declarations_of};
 ghost use Rattle.dwarf_units.specs.Units.{declarations_limit, tables_of};
 ghost use Rattle.dwarf_units.specs.Private.Plans.{Table};
-ghost use Rattle.dwarf_units.specs.Private.Tables.{StandsIn, IsAt, AreElsewhere, IsWithinLimit, with_table};
+ghost use Rattle.dwarf_units.specs.Private.Tables.{StandsIn, IsAt, AreElsewhere, IsWithinLimit, StaysOrIsTooLarge, with_table};
 
 use crate::numbers::Numbers;
 use crate::unit_headers::UnitHeader;
@@ -56,6 +57,7 @@ impl<'a> Tables<'a> {
             ⊎ (in_section sections.DebugAbbrev (tables_of section.now units.now) ≡ Err fault)) }
         ensures section { IfOk result (λ tables. tables.section ≡ section.now) }
         ensures limit { IfOk result (λ tables. IsWithinLimit tables) }
+        ensures stays { IfOk result (λ tables. All (StaysOrIsTooLarge tables) units.now) }
     {
         let mut tables = Tables::new(alloc, section);
         let mut left = DECLARATIONS_LIMIT;
@@ -97,6 +99,9 @@ impl<'a> Tables<'a> {
         ensures known { (number : ℕ) (table : Table) → slice_get self.old.tables number ≡ Some table
             → IsAt unit.now.format unit.now.abbreviations table → self.new ≡ self.old }
         ensures limit { IsWithinLimit self.new }
+        ensures stays { OnOk result (StaysOrIsTooLarge self.new unit.now) }
+        ensures grows { OnOk result ((rest : List Table) × (take self.new.kept self.new.tables
+            ≡ take self.old.kept self.old.tables ++ rest)) }
     {
         if let Some(number) = self.known(unit) {
             let len = self.table(number).len();

@@ -1,5 +1,6 @@
-use Rattle.std.proofs.Common.{◌≡◌}
-use Rattle.dwarf_units.specs.Private.Tables.{IsWithinLimit}
+use Rattle.std.specs.List.{All}
+use Rattle.std.proofs.Common.{◌≡◌, take}
+use Rattle.dwarf_units.specs.Private.Tables.{IsWithinLimit, StaysOrIsTooLarge}
 use Rattle.dwarf_units.proofs.TableLaws.{Judged}
 use Rattle.dwarf_units.proofs.tables.Tables.judge.Given as goal
 
@@ -8,4 +9,5 @@ invariant-loop-unit l = record {
   judged : Judged l.section l.units l.unit-index l.left;
   section : l.tables.section ≡ l.section;
   limit : IsWithinLimit l.tables;
+  stays : All (StaysOrIsTooLarge l.tables) (take l.unit-index l.units);
 }

@@ -1,10 +1,10 @@
-use Rattle.std.proofs.Common.{◌≡◌, ap, sym, ◌∙◌, subst, arith}
+use Rattle.std.proofs.Common.{◌≤◌, length, ◌≡◌, ap, sym, ◌∙◌, subst, arith}
 use Rattle.std.specs.List.{All}
 use Rattle.std.proofs.lemmas.Option.{same_Some}
 use Rattle.dwarf_units.specs.Private.Plans.{Table}
-use Rattle.dwarf_units.specs.Private.Tables.{KeptTables, StandsIn}
+use Rattle.dwarf_units.specs.Private.Tables.{KeptTables, StandsIn, StaysOrIsTooLarge}
 use Rattle.dwarf_units.proofs.TableLaws.{known_again, stands_read}
-use Rattle.dwarf_units.proofs.KeptLaws.{known_too_long, elsewhere_as}
+use Rattle.dwarf_units.proofs.KeptLaws.{Grows, known_too_long, elsewhere_as, stays_with}
 use Rattle.dwarf_units.proofs.tables.Tables.judge_unit.Goals.{in-Some+else-len-left, in_default}
 use Rattle.dwarf_units.proofs.tables.Tables.judge_unit.Goals as goal
 
@@ -52,3 +52,19 @@ returns-clause-known c =
           w.table.ensures w.in-Some.ensures.some.1 w.in-Some.ensures.some.2.0 decodes c.requires w.len-len.ensures w.if-len-left.false
       | in_default w ↦ λ number table at is. absurd (w.in_default.ensures.none number table at is)
     ]
+
+pub returns-clause-stays : goal.returns-clause-stays
+returns-clause-stays c =
+    let decodes = rw (ap (λ (k : KeptTables). k.section) c.self.view_is) at c.in_ok-table.ensures.decodes in
+    let within = subst (λ (k : KeptTables). k.kept ≤ length k.tables) c.self.view_is c.self.invariant.within in
+    let stands = stands_read c.args.self.now.section c.args.left.now c.in_ok-table.table c.args.unit.now.abbreviations c.in_ok-table.ensures.place.0 decodes (omega (arith, c.in_ok-table.ensures.counted, c.requires)) in
+    subst (λ (k : KeptTables). StaysOrIsTooLarge k c.args.unit.now) (sym c.in_ok-keep.ensures.ok.0)
+    (stays_with c.args.self.now c.args.unit.now c.in_ok-table.table within c.in_ok-table.ensures.place stands).0
+
+pub returns-clause-grows : goal.returns-clause-grows
+returns-clause-grows c =
+    let decodes = rw (ap (λ (k : KeptTables). k.section) c.self.view_is) at c.in_ok-table.ensures.decodes in
+    let within = subst (λ (k : KeptTables). k.kept ≤ length k.tables) c.self.view_is c.self.invariant.within in
+    let stands = stands_read c.args.self.now.section c.args.left.now c.in_ok-table.table c.args.unit.now.abbreviations c.in_ok-table.ensures.place.0 decodes (omega (arith, c.in_ok-table.ensures.counted, c.requires)) in
+    subst (λ (k : KeptTables). Grows c.args.self.now k) (sym c.in_ok-keep.ensures.ok.0)
+    (stays_with c.args.self.now c.args.unit.now c.in_ok-table.table within c.in_ok-table.ensures.place stands).1

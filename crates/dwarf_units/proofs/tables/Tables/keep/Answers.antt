@@ -24,7 +24,7 @@ invariant_of-self-else-size-self c =
     let elsewhere = subst (λ (k : KeptTables). AreElsewhere c.args.table.format c.args.table.offset k.tables) (sym c.self.view_is) c.requires.fresh in
     let stands = subst (λ (k : KeptTables). StandsIn k.section c.args.table) (sym c.self.view_is) c.requires.stands in
     let sets = sets_as c.self.inside.numbers c.insert.new.self c.format.result c.args.table.format c.offset.result c.args.table.offset c.self.inside.kept c.format.ensures c.offset.ensures c.in_ok-insert.ensures.ok in
-    kept_more c.self.inside.section.now c.self.inside.tables.items c.put_behind.new.tables.items c.self.inside.kept c.self.inside.room c.self.inside.numbers c.insert.new.self c.args.table elsewhere sets stands c.in_ok-number.ensures.ok.0 c.self.invariant
+    kept_more c.self.inside.section.now c.self.inside.tables.items c.put_behind.new.tables.items c.self.inside.kept c.self.inside.room c.size-size.result c.self.inside.numbers c.insert.new.self c.args.table elsewhere sets stands c.in_ok-number.ensures.ok.0 c.size-size.ensures c.if-size-self.false c.self.invariant
 
 pub returns-then-size-self-clause-ok : goal.returns-then-size-self-clause-ok
 returns-then-size-self-clause-ok c = (
