@@ -1,6 +1,7 @@
 pub mod UnitLaws
 pub mod CodeLaws
 pub mod TableLaws
+pub mod KeptLaws
 pub mod EntryMoves
 pub mod NodeLaws
 pub mod EntryOrder

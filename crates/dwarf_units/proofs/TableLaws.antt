@@ -21,7 +21,8 @@ use Rattle.dwarf_bytes.specs.Bind.{◌>>=◌}
 use Rattle.dwarf_forms.specs.Tables.{table_at, declarations_of}
 use Rattle.dwarf_forms.proofs.TableSpelling.{table_spelled, table_read}
 use Rattle.dwarf_units.specs.declared.unit_headers.UnitHeader.{UnitHeader}
-use Rattle.dwarf_units.specs.Private.Plans.{Planned, plan_of, Table}
+use Rattle.std.proofs.lemmas.List.Folds.{fold-map}
+use Rattle.dwarf_units.specs.Private.Plans.{Planned, plan_of, plan_len, Table, table_size}
 use Rattle.dwarf_units.specs.Private.Tables.{StandsIn}
 use Rattle.dwarf_units.specs.Units.{declarations_limit, tables_of}
 
@@ -170,3 +171,15 @@ planned_at code format table plans place declaration plan at are here planned = 
   where
     same_some : {x y : Planned} → (let f : Planned → Option Planned = λ t. Some t in f x ≡ f y) → x ≡ y
     same_some h = cc
+
+-- the size of a table by what its declarations and plans are
+pub size_sum : (inner table : Table) (ds : List Declaration) (plans : List Planned) (len attributes steps : ℕ) → inner ≡ table → ds ≡ inner.declarations → plans ≡ map (λ d. plan_of inner.format d.attributes) inner.declarations →
+    len ≡ length table.declarations → attributes ≡ sum_by (λ d. length d.attributes) ds → steps ≡ sum_by plan_len plans → len + attributes + steps ≡ table_size table
+size_sum inner table ds plans len attributes steps view same planned len_is attributes_are steps_are =
+    let a : attributes ≡ sum_by (λ (d : Declaration). length d.attributes) table.declarations =
+    attributes_are ∙ ap (λ (xs : List Declaration). sum_by (λ (d : Declaration). length d.attributes) xs) (same ∙ ap (λ (t : Table). t.declarations) view) in
+    let s : steps ≡ sum_by (λ (d : Declaration). plan_len (plan_of table.format d.attributes)) table.declarations =
+    steps_are ∙ (ap (λ (ps : List Planned). sum_by plan_len ps) planned
+    ∙ (fold-map (λ (a : ℕ) (p : Planned). a + plan_len p) (λ (d : Declaration). plan_of inner.format d.attributes) 0 inner.declarations
+    ∙ ap (λ (t : Table). sum_by (λ (d : Declaration). plan_len (plan_of t.format d.attributes)) t.declarations) view)) in
+    omega (arith, len_is, a, s)

@@ -5,6 +5,7 @@
 mod attributes;
 mod entry_head;
 pub mod laws;
+mod numbers;
 mod plans;
 mod tables;
 mod unit_headers;

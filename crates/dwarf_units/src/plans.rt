@@ -1,9 +1,9 @@
 //! Plans of reading the attributes of entries, which pass over runs of those that are not kept.
 
-ghost use Rattle.std.specs.Prelude.{◌≡◌, List, Bool, IfOk, OnOk, map, reverse};
+ghost use Rattle.std.specs.Prelude.{◌≡◌, ◌≤◌, ◌-◌, ◌^◌, List, Bool, IfOk, OnOk, map, reverse};
 ghost use Rattle.dwarf_bytes.specs.Forms.{byte_len};
 ghost use Rattle.dwarf_forms.specs.declared.attribute.AttributeSpecification.{AttributeSpecification as Specification};
-ghost use Rattle.dwarf_units.specs.Private.Plans.{kept_attributes_at, layout_len, constant_len, fixed_len, step_of, joined, step_before, steps_of, step_at, in_front, Fills, plan_of};
+ghost use Rattle.dwarf_units.specs.Private.Plans.{kept_attributes_at, layout_len, constant_len, fixed_len, step_of, joined, step_before, steps_of, step_at, in_front, Fills, plan_of, plan_len};
 
 use crate::attributes::{Attribute, accepts, is_negative_count, is_used, read_attribute};
 use dwarf_bytes::{Cause, Content, Cursor, Form, Format, ValueLayout, Width};
@@ -52,9 +52,11 @@ impl Plan {
     }
 
     /// How many steps it has.
-    pub(crate) fn len(&self) -> u64 {
-        let kept = self.kept.len() as u64;
-        kept.saturating_add(self.passed.len() as u64)
+    pub(crate) fn len(&self) -> u128
+        ensures small { result ≤ 2 ^ 64 - 2 }
+        ensures sum { result ≡ plan_len self.now }
+    {
+        self.kept.len() as u128 + self.passed.len() as u128
     }
 
     /// The steps, by whether the used attributes are kept.

@@ -1,19 +1,20 @@
 //! The abbreviation tables of all units (DWARF 5, 7.5.3), each read once.
 
-ghost use Rattle.std.specs.Prelude.{◌≡◌, ◌⊎◌, ◌+◌, ◌<◌, ◌≤◌, ◌++◌, ◌∷◌, [], take, List, Some, Ok, Err, length, slice_get, IfOk, IfErr, OnErr, IfSome};
+ghost use Rattle.std.specs.Prelude.{◌≡◌, ℕ, ◌⊎◌, ◌+◌, ◌<◌, ◌≤◌, ◌++◌, ◌∷◌, [], take, List, Some, Ok, Err, length, slice_get, IfOk, IfErr, OnOk, OnErr, IfSome, IfNone};
+ghost use Rattle.std.specs.List.{All};
 ghost use Rattle.dwarf_bytes.specs.declared.fault.Section.TheVariants as sections;
 ghost use Rattle.dwarf_bytes.specs.Refusals.{memory_fault, in_section};
 ghost use Rattle.dwarf_forms.specs.Declarations.{Declaration};
 ghost use Rattle.dwarf_forms.specs.Tables.{declarations_of};
 ghost use Rattle.dwarf_units.specs.Units.{declarations_limit, tables_of};
 ghost use Rattle.dwarf_units.specs.Private.Plans.{Table};
-ghost use Rattle.dwarf_units.specs.Private.Tables.{StandsIn};
+ghost use Rattle.dwarf_units.specs.Private.Tables.{StandsIn, IsAt, AreElsewhere, IsWithinLimit, StaysOrIsTooLarge, with_table};
 
+use crate::numbers::Numbers;
 use crate::unit_headers::UnitHeader;
 use crate::unit_table::UnitTable;
 use dwarf_bytes::{Format, LoadFault};
 use std::alloc::{AllocError, Global};
-use std::collections::BTreeMap;
 use std::marker::Model;
 
 /// The declarations that may be read for all units of an object.
@@ -26,52 +27,19 @@ pub struct Tables<'a> {
     tables: Vec<UnitTable>,
     /// How many of the tables stay; one behind them is the last that was read and had no room.
     kept: usize,
-    /// How many more declarations, attributes and steps are kept.
-    room: u64,
+    /// How many more declarations, attributes and steps may stay.
+    room: u128,
     numbers: Numbers,
 }
 
-/// The numbers of tables by their offsets, for units of each format. A number may be that of another
-/// table in the meantime.
-#[derive(Drop)]
-struct Numbers {
-    dwarf32: BTreeMap<u64, usize>,
-    dwarf64: BTreeMap<u64, usize>,
-}
-
-impl Numbers {
-    fn new(alloc: Global) -> Numbers {
-        Numbers {
-            dwarf32: BTreeMap::new(alloc),
-            dwarf64: BTreeMap::new(alloc),
-        }
-    }
-
-    fn get(&self, format: Format, offset: u64) -> Option<usize> {
-        match format {
-            Format::Dwarf32 => self.dwarf32.get(&offset).copied(),
-            Format::Dwarf64 => self.dwarf64.get(&offset).copied(),
-        }
-    }
-
-    fn insert(&mut self, format: Format, offset: u64, number: usize) -> Result<(), AllocError> {
-        match format {
-            Format::Dwarf32 => self.dwarf32.insert(offset, number)?,
-            Format::Dwarf64 => self.dwarf64.insert(offset, number)?,
-        };
-        Ok(())
-    }
-}
-
 impl<'a> Model for Tables<'a> {
-    ghost use Rattle.std.specs.List.{All};
-    ghost use Rattle.dwarf_units.specs.Private.Tables.{KeptTables, StandsIn};
+    ghost use Rattle.dwarf_units.specs.Private.Tables.{KeptTables, AreKept};
 
     ghost Value = { KeptTables };
 
-    ghost view = { λ t. record { section = t.section.now; tables = t.tables.items } };
+    ghost view = { λ t. record { section = t.section.now; tables = t.tables.items; kept = t.kept } };
 
-    ghost invariant = { λ t. All (StandsIn t.section.now) t.tables.items };
+    ghost invariant = { λ t. AreKept t.section.now t.tables.items t.kept t.room t.numbers };
 }
 
 impl<'a> Tables<'a> {
@@ -88,6 +56,8 @@ impl<'a> Tables<'a> {
         ensures err { IfErr result (λ fault. (fault ≡ memory_fault)
             ⊎ (in_section sections.DebugAbbrev (tables_of section.now units.now) ≡ Err fault)) }
         ensures section { IfOk result (λ tables. tables.section ≡ section.now) }
+        ensures limit { IfOk result (λ tables. IsWithinLimit tables) }
+        ensures stays { IfOk result (λ tables. All (StaysOrIsTooLarge tables) units.now) }
     {
         let mut tables = Tables::new(alloc, section);
         let mut left = DECLARATIONS_LIMIT;
@@ -98,14 +68,13 @@ impl<'a> Tables<'a> {
     }
 
     fn new(alloc: Global, section: &'a [u8]) -> Tables<'a>
-        ensures { result.section ≡ section.now }
+        ensures { result ≡ record { section = section.now; tables = []; kept = 0 } }
     {
-        let len = section.len() as u64;
         Tables {
             section,
             tables: Vec::new(alloc),
             kept: 0,
-            room: len.saturating_mul(3).saturating_add(65_536),
+            room: 3 * section.len() as u128 + 65_536,
             numbers: Numbers::new(alloc),
         }
     }
@@ -127,6 +96,12 @@ impl<'a> Tables<'a> {
             ⊎ (in_section sections.DebugAbbrev
             (declarations_of left.old self.old.section unit.now.abbreviations) ≡ Err fault)) }
         ensures section { self.new.section ≡ self.old.section }
+        ensures known { (number : ℕ) (table : Table) → slice_get self.old.tables number ≡ Some table
+            → IsAt unit.now.format unit.now.abbreviations table → self.new ≡ self.old }
+        ensures limit { IsWithinLimit self.new }
+        ensures stays { OnOk result (StaysOrIsTooLarge self.new unit.now) }
+        ensures grows { OnOk result ((rest : List Table) × (take self.new.kept self.new.tables
+            ≡ take self.old.kept self.old.tables ++ rest)) }
     {
         if let Some(number) = self.known(unit) {
             let len = self.table(number).len();
@@ -152,6 +127,13 @@ impl<'a> Tables<'a> {
             ⊎ (in_section sections.DebugAbbrev (declarations_of declarations_limit
             self.old.section unit.now.abbreviations) ≡ Err fault)) }
         ensures section { self.new.section ≡ self.old.section }
+        ensures known { (number : ℕ) (table : Table) → slice_get self.old.tables number ≡ Some table
+            → IsAt unit.now.format unit.now.abbreviations table
+            → (result ≡ Ok number) × (self.new ≡ self.old) }
+        ensures added { AreElsewhere unit.now.format unit.now.abbreviations self.old.tables
+            → IfOk result (λ number. (table : Table) × (slice_get self.new.tables number ≡ Some table)
+            × (self.new ≡ with_table self.old table)) }
+        ensures limit { IsWithinLimit self.new }
     {
         if let Some(number) = self.known(unit) {
             return Ok(number);
@@ -172,9 +154,11 @@ impl<'a> Tables<'a> {
 
     /// The number of the table of a unit, where it is kept.
     fn known(&self, unit: &UnitHeader) -> Option<usize>
-        ensures { IfSome result (λ number. (table : Table)
+        ensures none { IfNone result (AreElsewhere unit.now.format unit.now.abbreviations
+            self.now.tables) }
+        ensures some { IfSome result (λ number. (table : Table)
             × (slice_get self.now.tables number ≡ Some table)
-            × (table.offset ≡ unit.now.abbreviations) × (table.format ≡ unit.now.format)) }
+            × IsAt unit.now.format unit.now.abbreviations table) }
     {
         let number = self.numbers.get(unit.format, unit.abbreviations)?;
         if self.tables.get(number)?.is_of(unit) {
@@ -185,14 +169,17 @@ impl<'a> Tables<'a> {
 
     /// Keeps a table, and gives its number. One for which there is no room is kept up to the next one.
     fn keep(&mut self, table: UnitTable) -> Result<usize, AllocError>
-        requires { StandsIn self.old.section table }
-        ensures number { IfOk result (λ number. slice_get self.new.tables number ≡ Some table) }
+        requires stands { StandsIn self.old.section table }
+        requires fresh { AreElsewhere table.format table.offset self.old.tables }
+        ensures ok { IfOk result (λ number. (self.new ≡ with_table self.old table)
+            × (slice_get self.new.tables number ≡ Some table)) }
         ensures section { self.new.section ≡ self.old.section }
+        ensures limit { IsWithinLimit self.new }
     {
         let size = table.size();
-        let (format, offset) = (table.format(), table.offset());
+        self.numbers
+            .insert(table.format(), table.offset(), self.kept)?;
         let number = put_behind(&mut self.tables, self.kept, table)?;
-        self.numbers.insert(format, offset, number)?;
         if size <= self.room {
             self.room -= size;
             self.kept = self.tables.len();

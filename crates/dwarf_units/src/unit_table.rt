@@ -1,11 +1,11 @@
 //! The abbreviation table of a unit (DWARF 5, 7.5.3).
 
-ghost use Rattle.std.specs.Prelude.{◌≡◌, ◌+◌, ◌==◌, Some, None, length, find, position, AllPairs, ◌≢◌, IsTrue, ◌↔◌, IfOk, IfNone, IfSome};
+ghost use Rattle.std.specs.Prelude.{◌≡◌, ◌≤◌, ◌+◌, ◌-◌, ◌*◌, ◌^◌, ◌==◌, Some, None, length, sum_by, find, position, AllPairs, ◌≢◌, IsTrue, ◌↔◌, IfOk, IfNone, IfSome};
 ghost use Rattle.dwarf_bytes.specs.declared.fault.Section.TheVariants as sections;
 ghost use Rattle.dwarf_bytes.specs.Refusals.{Decodes, in_section};
 ghost use Rattle.dwarf_forms.specs.Private.Index.{AreIndexed, has_code_at};
 ghost use Rattle.dwarf_forms.specs.Tables.{declarations_of};
-ghost use Rattle.dwarf_units.specs.Private.Plans.{plan_of};
+ghost use Rattle.dwarf_units.specs.Private.Plans.{plan_of, plan_len, table_size};
 
 use crate::plans::{Plan, plans};
 use crate::unit_headers::UnitHeader;
@@ -102,10 +102,11 @@ impl UnitTable {
     }
 
     /// Its declarations, their attributes, and the steps of their plans.
-    pub(crate) fn size(&self) -> u64 {
+    pub(crate) fn size(&self) -> u128
+        ensures { result ≡ table_size self.now }
+    {
         let attributes = attribute_count(self.declarations.decls());
-        let steps = step_count(&self.plans);
-        self.len().saturating_add(attributes).saturating_add(steps)
+        u128::from(self.len()) + attributes + step_count(&self.plans)
     }
 
     /// Whether a unit names the table.
@@ -118,19 +119,25 @@ impl UnitTable {
 }
 
 /// How many attributes declarations have.
-fn attribute_count(decls: &[Decl]) -> u64 {
-    let mut count = 0u64;
+fn attribute_count(decls: &[Decl]) -> u128
+    ensures small { result ≤ length decls.now * (2 ^ 64 - 1) }
+    ensures sum { result ≡ sum_by (λ declaration. length declaration.attributes) decls.now }
+{
+    let mut count = 0u128;
     for declaration in decls {
-        count = count.saturating_add(declaration.attributes().len() as u64);
+        count += declaration.attributes().len() as u128;
     }
     count
 }
 
 /// How many steps plans have.
-fn step_count(plans: &[Plan]) -> u64 {
-    let mut count = 0u64;
+fn step_count(plans: &[Plan]) -> u128
+    ensures small { result ≤ length plans.now * (2 ^ 64 - 2) }
+    ensures sum { result ≡ sum_by plan_len plans.now }
+{
+    let mut count = 0u128;
     for plan in plans {
-        count = count.saturating_add(plan.len());
+        count += plan.len();
     }
     count
 }

@@ -1,5 +1,5 @@
 -- How the attributes of a declaration are read where only some are kept: runs of values of a known length are passed over.
-use Rattle.std.specs.Prelude.{◌≡◌, ℕ, ◌+◌, List, [], ◌∷◌, ◌++◌, Bool, true, false, Option, Some, None, Result, Ok, Err, nat_le, ◌&&◌, if◌then◌else◌, filter}
+use Rattle.std.specs.Prelude.{◌≡◌, ℕ, ◌+◌, List, [], ◌∷◌, ◌++◌, length, Bool, true, false, Option, Some, None, Result, Ok, Err, nat_le, ◌&&◌, if◌then◌else◌, filter, sum_by}
 use Rattle.std.specs.Option.{option_map_or}
 use Rattle.dwarf_bytes.specs.declared.fault.Cause.{Cause}
 use Rattle.dwarf_bytes.specs.declared.format.Format.{Format}
@@ -110,8 +110,17 @@ pub record Planned : Type 0 where
 abbrev pub plan_of : Format → List AttributeSpecification → Planned
 plan_of format declared = record { kept = steps_of true format declared; passed = steps_of false format declared }
 
+-- how many steps a plan has
+abbrev pub plan_len : Planned → ℕ
+plan_len plan = length plan.kept + length plan.passed
+
 -- a table of declarations that stands at an offset, for units of a format
 pub record Table : Type 0 where
   pub offset : ℕ
   pub format : Format
   pub declarations : List Declaration
+
+-- the declarations of a table, their attributes, and the steps of their plans
+abbrev pub table_size : Table → ℕ
+table_size table = length table.declarations + sum_by (λ d. length d.attributes) table.declarations
+    + sum_by (λ d. plan_len (plan_of table.format d.attributes)) table.declarations

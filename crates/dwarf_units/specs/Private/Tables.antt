@@ -1,15 +1,58 @@
 -- The tables of units that are kept, for the contracts of what reads by them.
-use Rattle.std.specs.Prelude.{◌≡◌, ℕ, List, Ok}
+use Rattle.std.specs.Prelude.{◌≡◌, ℕ, ◌⊎◌, ◌+◌, ◌*◌, ◌<◌, ◌≤◌, List, [], ◌∷◌, ◌++◌, length, take, Some, Ok, nat_le, if◌then◌else◌, slice_get, sum_by}
+use Rattle.std.specs.List.{All}
+use Rattle.dwarf_bytes.specs.declared.format.Format.{Format}
 use Rattle.dwarf_forms.specs.Tables.{declarations_of}
+use Rattle.dwarf_units.specs.declared.unit_headers.UnitHeader.{UnitHeader}
+use Rattle.dwarf_units.specs.declared.numbers.Numbers.{Numbers}
 use Rattle.dwarf_units.specs.Units.{declarations_limit}
-use Rattle.dwarf_units.specs.Private.Plans.{Table}
+use Rattle.dwarf_units.specs.Private.Numbers.{number_at}
+use Rattle.dwarf_units.specs.Private.Plans.{Table, table_size}
 
--- tables of a section, by their numbers
+-- tables of a section, by their numbers, and how many of them stay: one behind these is the last that was read
 pub record KeptTables : Type 0 where
   pub section : List ℕ
   pub tables : List Table
+  pub kept : ℕ
 
 -- A table is what is read at its offset.
 abbrev pub StandsIn : List ℕ → Table → Type 0
 StandsIn section table =
     declarations_of declarations_limit section table.offset ≡ Ok table.declarations
+
+-- A table is that at an offset, for units of a format.
+abbrev pub IsAt : Format → ℕ → Table → Type 0
+IsAt format offset table = (table.offset ≡ offset) × (table.format ≡ format)
+
+-- None of the tables is.
+abbrev pub AreElsewhere : Format → ℕ → List Table → Type 0
+AreElsewhere format offset tables = (i : ℕ) (table : Table) → slice_get tables i ≡ Some table → IsAt format offset table → ⊥
+
+-- the most that stays of all tables of a section: declarations, attributes and steps
+abbrev pub size_limit : List ℕ → ℕ
+size_limit section = 3 * length section + 65536
+
+-- What stays is within the limit, and at most one table does not stay.
+abbrev pub IsWithinLimit : KeptTables → Type 0
+IsWithinLimit k = (sum_by table_size (take k.kept k.tables) ≤ size_limit k.section) × (length k.tables ≤ k.kept + 1)
+
+-- The table of a unit stays, or would not be within the limit beside those that stay.
+abbrev pub StaysOrIsTooLarge : KeptTables → UnitHeader → Type 0
+StaysOrIsTooLarge k unit = (table : Table) × IsAt unit.format unit.abbreviations table × StandsIn k.section table
+    × (((number : ℕ) × (slice_get (take k.kept k.tables) number ≡ Some table)) ⊎ (size_limit k.section < sum_by table_size (take k.kept k.tables) + table_size table))
+
+-- One more table, behind those that stay. It stays too if all of them are within the limit.
+abbrev pub with_table : KeptTables → Table → KeptTables
+with_table k table =
+    let tables = take k.kept k.tables ++ table ∷ [] in
+    record { section = k.section; tables = tables; kept = if nat_le (sum_by table_size tables) (size_limit k.section) then length tables else k.kept }
+
+-- Each table stands in the section and is found by its format and offset. There is room for so much more, and for the
+-- one behind those that stay there was none.
+pub record AreKept (section : List ℕ) (tables : List Table) (kept room : ℕ) (numbers : Numbers) : Type 0 where
+  pub stand : All (StandsIn section) tables
+  pub found : (i : ℕ) (table : Table) → slice_get tables i ≡ Some table → number_at numbers table.format table.offset ≡ Some i
+  pub counted : room + sum_by table_size (take kept tables) ≡ size_limit section
+  pub within : kept ≤ length tables
+  pub one : length tables ≤ kept + 1
+  pub past : (table : Table) → slice_get tables kept ≡ Some table → room < table_size table

@@ -1,4 +1,6 @@
-use Rattle.std.proofs.Common.{◌≡◌}
+use Rattle.std.specs.List.{All}
+use Rattle.std.proofs.Common.{◌≡◌, take}
+use Rattle.dwarf_units.specs.Private.Tables.{IsWithinLimit, StaysOrIsTooLarge}
 use Rattle.dwarf_units.proofs.TableLaws.{Judged}
 use Rattle.dwarf_units.proofs.tables.Tables.judge.Given as goal
 
@@ -6,4 +8,6 @@ abbrev pub invariant-loop-unit : goal.invariant-loop-unit
 invariant-loop-unit l = record {
   judged : Judged l.section l.units l.unit-index l.left;
   section : l.tables.section ≡ l.section;
+  limit : IsWithinLimit l.tables;
+  stays : All (StaysOrIsTooLarge l.tables) (take l.unit-index l.units);
 }
