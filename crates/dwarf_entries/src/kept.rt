@@ -6,7 +6,7 @@ ghost use Rattle.dwarf_entries.specs.Names.{followed, next_of};
 ghost use Rattle.dwarf_entries.specs.Private.Readers.{die_with, keeps_attributes};
 ghost use Rattle.dwarf_entries.specs.Scopes.{kind_of, number_of};
 
-use crate::packed::{PackedEntry, PackedScope};
+use crate::packed::PackedEntry;
 use crate::scope::ScopeKind;
 use dwarf_bytes::constants::*;
 use dwarf_units::{Attribute, AttributeValue, UnitHeader, value_of};
@@ -40,6 +40,13 @@ pub(crate) struct ScopeEntry {
     pub(crate) call_line: Option<u64>,
 }
 
+/// A scope until it is told: where its entry stands, and how many scopes are below it.
+#[derive(Clone, Copy)]
+pub(crate) struct ScopePlace {
+    pub(crate) offset: u32,
+    pub(crate) inside: u32,
+}
+
 /// The root of a unit: its offset in the section, and the attributes that tell of the unit.
 #[derive(Clone, Copy)]
 pub(crate) struct RootEntry {
@@ -51,15 +58,14 @@ pub(crate) struct RootEntry {
     pub(crate) low_pc: Option<AttributeValue>,
 }
 
-/// What is kept of a unit: its root, the entries to which a reference may lead, its scopes, and how
-/// many scopes are below each of these.
+/// What is kept of a unit: its root, the entries to which a reference may lead, and the places of its
+/// scopes, which are read again when they are told.
 #[derive(Drop)]
 pub(crate) struct UnitEntries {
     pub(crate) header: UnitHeader,
     pub(crate) root: Option<RootEntry>,
     pub(crate) entries: Vec<PackedEntry>,
-    pub(crate) scopes: Vec<PackedScope>,
-    pub(crate) insides: Vec<usize>,
+    pub(crate) scopes: Vec<ScopePlace>,
 }
 
 impl Keeping {

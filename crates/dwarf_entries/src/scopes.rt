@@ -101,7 +101,7 @@ impl Scopes {
             units: kept.as_slice(),
             bases: bases.as_slice(),
         };
-        let lists = units.scopes(alloc)?;
+        let lists = units.scopes(alloc, tables)?;
         let roots = roots(alloc, kept.as_slice())?;
         Ok(Scopes { roots, lists })
     }

@@ -9,10 +9,13 @@ ghost use Rattle.dwarf_entries.specs.declared.kept.Keeping.{Keeping};
 ghost use Rattle.dwarf_entries.specs.Bases.{CompilationUnit};
 ghost use Rattle.dwarf_entries.specs.Scopes.{Judged, ScopeSite, sites_in, roots_from, scopes_of};
 ghost use Rattle.dwarf_entries.specs.Private.Passes.{AreUnits, IsRootOf, IsScopeSite, AreJudged, AddsScopes, scope_with, all_scopes};
+ghost use Rattle.dwarf_entries.specs.Private.Again.{IsTableOf, AreReadIn};
 ghost use Rattle.dwarf_entries.specs.Private.Shared.{AddsFacts};
 
+use crate::again::scope_entry;
 use crate::bases::Bases;
 use crate::calls::CallSite;
+use crate::entries::unit_bytes;
 use crate::kept::{ScopeEntry, UnitEntries};
 use crate::paths::names;
 use crate::ranges::covers;
@@ -21,6 +24,7 @@ use crate::scope_lists::ScopeLists;
 use crate::sections::Sections;
 use crate::texts::Texts;
 use dwarf_bytes::{Cause, LoadFault, Section};
+use dwarf_units::{Attribute, Tables, UnitTable};
 use std::alloc::Global;
 
 /// The range items that may be read for an object.
@@ -92,39 +96,43 @@ impl<'a> Units<'a> {
         Ok((facts, items))
     }
 
-    /// Puts the scopes of a unit, whose root has the number `root`, behind those before it. `left` is
-    /// how many range items may still be read.
+    /// Puts the scopes of a unit, whose root has the number `root`, behind those before it. Each is
+    /// read again by the unit's table; `found` is a buffer for its attributes. `left` is how many range
+    /// items may still be read.
     fn unit_scopes(
         self,
+        table: &UnitTable,
         unit: usize,
         root: usize,
         left: &mut u64,
         lists: &mut ScopeLists,
+        found: &mut Vec<Attribute>,
     ) -> Result<(), LoadFault>
         requires texts { AreTexts (sections_of self.sections.now) self.texts.now }
-        requires unit { unit < length self.units.now }
-        requires known { (keeping : Keeping) × (us : List CompilationUnit)
-            × AreUnits keeping self.units.now self.bases.now us }
+        requires unit { (unit < length self.units.now) × (unit < length self.bases.now) }
         ensures { (keeping : Keeping) (us : List CompilationUnit) (u : CompilationUnit)
             (before : List Judged)
             → AreUnits keeping self.entry.units.now self.entry.bases.now us
+            → AreReadIn (sections_of self.entry.sections.now) us
             → slice_get us unit ≡ Some u → IsRootOf us root u
+            → IsTableOf self.entry.sections.now.debug_abbrev.now u.header table.now
             → AreJudged (roots_from 0 us) before lists.old left.old
             → AddsScopes keeping result (sections_of self.entry.sections.now) us
             (sites_in u u.dies) before lists.new left.new }
     {
         let kept = &self.units[unit];
-        let first = lists.scopes.len();
-        for packed in kept.scopes.as_slice() {
-            let entry = packed.unpack();
+        let bytes = unit_bytes(self.sections.debug_info, &kept.header);
+        for place in kept.scopes.as_slice() {
+            let at = u64::from(place.offset);
+            let entry = match scope_entry(table, bytes, place.offset as usize, found) {
+                Err(cause) => return Err(LoadFault::told(Section::DebugInfo, cause, at)),
+                Ok(entry) => entry,
+            };
+            let inside = place.inside as usize;
             let number = lists.scopes.len();
-            let inside = kept.insides[number - first];
             let ranges = &mut lists.ranges;
             match self.scope(unit, root, &entry, inside, number, *left, ranges) {
-                Err(cause) => {
-                    let at = entry.entry.offset as u64;
-                    return Err(LoadFault::told(Section::DebugInfo, cause, at));
-                }
+                Err(cause) => return Err(LoadFault::told(Section::DebugInfo, cause, at)),
                 Ok((facts, items)) => {
                     *left -= items;
                     lists.push(facts)?;
@@ -134,22 +142,32 @@ impl<'a> Units<'a> {
         Ok(())
     }
 
-    /// The scopes of all units.
-    pub(crate) fn scopes(self, alloc: Global) -> Result<ScopeLists, LoadFault>
+    /// The scopes of all units, whose tables are good.
+    pub(crate) fn scopes(
+        self,
+        alloc: Global,
+        tables: &mut Tables<'_>,
+    ) -> Result<ScopeLists, LoadFault>
         requires texts { AreTexts (sections_of self.sections.now) self.texts.now }
-        requires known { (keeping : Keeping) × (us : List CompilationUnit)
-            × AreUnits keeping self.units.now self.bases.now us }
-        ensures { (keeping : Keeping) (us : List CompilationUnit)
+        requires bases { length self.bases.now ≡ length self.units.now }
+        requires section { tables.old.section ≡ self.sections.now.debug_abbrev.now }
+        ensures section { tables.new.section ≡ tables.old.section }
+        ensures decodes { (keeping : Keeping) (us : List CompilationUnit)
             → AreUnits keeping self.entry.units.now self.entry.bases.now us
+            → AreReadIn (sections_of self.entry.sections.now) us
             → Decodes (λ lists. scopes_of (roots_from 0 us) lists) result (in_section
             names.DebugInfo (all_scopes keeping (sections_of self.entry.sections.now) us)) }
     {
         let mut left = ITEMS_LIMIT;
         let mut root = 0;
         let mut lists = ScopeLists::new(alloc, scope_count(self.units))?;
+        let mut found = Vec::new(alloc);
         for unit in 0..self.units.len() {
-            self.unit_scopes(unit, root, &mut left, &mut lists)?;
-            if self.units[unit].root.is_some() {
+            let kept = &self.units[unit];
+            let number = tables.number_of(alloc, &kept.header)?;
+            let table = tables.table(number);
+            self.unit_scopes(table, unit, root, &mut left, &mut lists, &mut found)?;
+            if kept.root.is_some() {
                 root += 1;
             }
         }
