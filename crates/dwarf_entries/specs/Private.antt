@@ -1,4 +1,3 @@
-pub mod Packed
 pub mod Kept
 pub mod Again
 pub mod Texts
