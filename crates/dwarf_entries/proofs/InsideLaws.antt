@@ -1,4 +1,4 @@
--- How many scopes are below each scope, from the last entry to the first.
+-- The places of the scopes of a unit, from the last entry to the first.
 use Rattle.std.proofs.Common.{◌≡◌, ℕ, suc, ◌+◌, ◌-◌, ◌≤◌, List, [], ◌∷◌, ◌++◌, Bool, true, false, cond, length, reverse, take, get_or, refl, ap, sym, ◌∙◌, subst, arith, append_assoc, add-one}
 use Rattle.std.specs.Prelude.{Option, Some, None, is_some, nat_lt, nat_le, count_by, map, take_while, slice_get}
 use Rattle.std.proofs.lemmas.Bool.{ltb-false, ltb-true, le-leb, lt-leb, leb-true}
@@ -7,11 +7,12 @@ use Rattle.std.proofs.lemmas.Option.{slice_get_within, get_or_from_slice_get}
 use Rattle.std.proofs.lemmas.List.Sums.{sum_by-cons, take_while-cons}
 use Rattle.dwarf_entries.specs.declared.entries.Level.{Level}
 use Rattle.dwarf_entries.specs.declared.entries.Boundary.{Boundary}
+use Rattle.dwarf_entries.specs.declared.kept.ScopePlace.{ScopePlace}
 use Rattle.dwarf_entries.specs.declared.scope.ScopeKind.{ScopeKind}
 use Rattle.dwarf_units.specs.Entries.{Die}
-use Rattle.dwarf_entries.specs.Private.Kept.{inside_of, insides_in}
+use Rattle.dwarf_entries.specs.Private.Kept.{scope_place, scope_places}
 use Rattle.dwarf_entries.specs.Scopes.{kind_of, is_scope}
-use Rattle.dwarf_entries.specs.Private.Readers.{level_of, insides_of, above, scopes_from}
+use Rattle.dwarf_entries.specs.Private.Readers.{level_of, level_places, above, scopes_from}
 
 -- the levels below one, and how many scopes there are
 abbrev pub deeper : ℕ → List Level → List Level
@@ -82,25 +83,25 @@ above-pop depth items seen front len b same size found left le =
 
 -- ---- the loop from the last level to the first
 
-pub record InsidesSoFar (all front : List Level) (insides : List ℕ) (behind : List Boundary) (count : ℕ) : Type 0 where
+pub record PlacesSoFar (all front : List Level) (places : List ScopePlace) (behind : List Boundary) (count : ℕ) : Type 0 where
   pub rest : List Level
   pub parts : front ++ rest ≡ all
-  pub insides_are : reverse insides ≡ insides_of rest
+  pub places_are : reverse places ≡ level_places rest
   pub behind_are : reverse behind ≡ boundaries rest
   pub counted : count ≡ scopes_in rest
 
 -- the count of a scope, by the boundaries above it
-pub inside_here : (all front : List Level) (insides : List ℕ) (behind behind1 : List Boundary) (count from depth : ℕ) (so_far : InsidesSoFar all front insides behind count) → reverse behind1 ≡ above (depth + 1) (reverse behind) → from ≡ scopes_from (reverse behind1) →
+pub inside_here : (all front : List Level) (places : List ScopePlace) (behind behind1 : List Boundary) (count from depth : ℕ) (so_far : PlacesSoFar all front places behind count) → reverse behind1 ≡ above (depth + 1) (reverse behind) → from ≡ scopes_from (reverse behind1) →
     (scopes_in (deeper depth so_far.rest) + from ≡ count)
-inside_here all front insides behind behind1 count from depth so_far popped is =
+inside_here all front places behind behind1 count from depth so_far popped is =
     let behind_is : reverse behind1 ≡ above (suc depth) (boundaries so_far.rest) = popped ∙ (ap (λ (k : ℕ). above k (reverse behind)) (add-one depth) ∙ ap (λ (bs : List Boundary). above (suc depth) bs) so_far.behind_are) in
     let from_is : from ≡ scopes_from (above (suc depth) (boundaries so_far.rest)) = is ∙ ap scopes_from behind_is in
     omega (arith, from_is, inside-is depth so_far.rest, so_far.counted)
 
 -- the boundaries behind one more level
-behind-push : (all front : List Level) (insides : List ℕ) (behind behind1 behind2 : List Boundary) (count : ℕ) (l : Level) (b : Boundary) (so_far : InsidesSoFar all front insides behind count) → reverse behind1 ≡ above (l.depth + 1) (reverse behind) → reverse behind2 ≡ above l.depth (reverse behind1) →
+behind-push : (all front : List Level) (places : List ScopePlace) (behind behind1 behind2 : List Boundary) (count : ℕ) (l : Level) (b : Boundary) (so_far : PlacesSoFar all front places behind count) → reverse behind1 ≡ above (l.depth + 1) (reverse behind) → reverse behind2 ≡ above l.depth (reverse behind1) →
     b ≡ record { depth = l.depth; scopes = scopes_in (l ∷ so_far.rest) } → reverse (behind2 ++ b ∷ []) ≡ boundaries (l ∷ so_far.rest)
-behind-push all front insides behind behind1 behind2 count l b so_far popped again is =
+behind-push all front places behind behind1 behind2 count l b so_far popped again is =
     let rest_is : reverse behind2 ≡ above l.depth (boundaries so_far.rest) = again ∙ (ap (λ (bs : List Boundary). above l.depth bs) popped ∙ (above-above l.depth (l.depth + 1) (reverse behind) (omega arith) ∙ ap (λ (bs : List Boundary). above l.depth bs) so_far.behind_are)) in
     reverse-push behind2 b ∙ consed is rest_is
   where
@@ -108,33 +109,34 @@ behind-push all front insides behind behind1 behind2 count l b so_far popped aga
     consed e f = cc
 
 -- a level that is a scope, and one that is not
-pub insides_scope : (all front0 front : List Level) (insides : List ℕ) (behind behind1 behind2 : List Boundary) (count from : ℕ) (l : Level) → InsidesSoFar all front0 insides behind count → front0 ≡ front ++ l ∷ [] → l.is_scope ≡ true →
-    reverse behind1 ≡ above (l.depth + 1) (reverse behind) → reverse behind2 ≡ above l.depth (reverse behind1) → from ≡ scopes_from (reverse behind1) →
-    InsidesSoFar all front (insides ++ (count - from) ∷ []) (behind2 ++ record { depth = l.depth; scopes = count + 1 } ∷ []) (count + 1)
-insides_scope all front0 front insides behind behind1 behind2 count from l so_far split scope popped again from_is =
-    let here = inside_here all front0 insides behind behind1 count from l.depth so_far popped from_is in
+pub places_scope : (all front0 front : List Level) (places : List ScopePlace) (behind behind1 behind2 : List Boundary) (count from inside : ℕ) (l : Level) → PlacesSoFar all front0 places behind count → front0 ≡ front ++ l ∷ [] → l.is_scope ≡ true →
+    reverse behind1 ≡ above (l.depth + 1) (reverse behind) → reverse behind2 ≡ above l.depth (reverse behind1) → from ≡ scopes_from (reverse behind1) → inside ≡ count - from →
+    PlacesSoFar all front (places ++ record { offset = l.offset; inside = inside } ∷ []) (behind2 ++ record { depth = l.depth; scopes = count + 1 } ∷ []) (count + 1)
+places_scope all front0 front places behind behind1 behind2 count from inside l so_far split scope popped again from_is inside_is =
+    let here = inside_here all front0 places behind behind1 count from l.depth so_far popped from_is in
     let counted : count + 1 ≡ scopes_in (l ∷ so_far.rest) = sym (count-cons l so_far.rest ∙ rw scope (omega (arith, so_far.counted))) in
+    let below : inside ≡ scopes_in (deeper l.depth so_far.rest) = omega (arith, here, inside_is) in
     record {
       rest = l ∷ so_far.rest;
       parts = sym (append_assoc front (l ∷ []) so_far.rest) ∙ (ap (λ (f : List Level). f ++ so_far.rest) (sym split) ∙ so_far.parts);
-      insides_are = reverse-push insides (count - from) ∙ (consed (let same : count - from ≡ scopes_in (deeper l.depth so_far.rest) = omega (arith, here) in same) so_far.insides_are ∙ sym (rw scope refl));
-      behind_are = behind-push all front0 insides behind behind1 behind2 count l (record { depth = l.depth; scopes = count + 1 }) so_far popped again (ap (λ (k : ℕ). (let b : Boundary = record { depth = l.depth; scopes = k } in b)) counted);
+      places_are = reverse-push places (record { offset = l.offset; inside = inside }) ∙ (consed (ap (λ (k : ℕ). (let p : ScopePlace = record { offset = l.offset; inside = k } in p)) below) so_far.places_are ∙ sym (rw scope refl));
+      behind_are = behind-push all front0 places behind behind1 behind2 count l (record { depth = l.depth; scopes = count + 1 }) so_far popped again (ap (λ (k : ℕ). (let b : Boundary = record { depth = l.depth; scopes = k } in b)) counted);
       counted = counted;
     }
   where
-    consed : {x y : ℕ} → {xs ys : List ℕ} → x ≡ y → xs ≡ ys → x ∷ xs ≡ y ∷ ys
+    consed : {x y : ScopePlace} → {xs ys : List ScopePlace} → x ≡ y → xs ≡ ys → x ∷ xs ≡ y ∷ ys
     consed e f = cc
 
-pub insides_other : (all front0 front : List Level) (insides : List ℕ) (behind behind1 behind2 : List Boundary) (count : ℕ) (l : Level) → InsidesSoFar all front0 insides behind count → front0 ≡ front ++ l ∷ [] → l.is_scope ≡ false →
+pub places_other : (all front0 front : List Level) (places : List ScopePlace) (behind behind1 behind2 : List Boundary) (count : ℕ) (l : Level) → PlacesSoFar all front0 places behind count → front0 ≡ front ++ l ∷ [] → l.is_scope ≡ false →
     reverse behind1 ≡ above (l.depth + 1) (reverse behind) → reverse behind2 ≡ above l.depth (reverse behind1) →
-    InsidesSoFar all front insides (behind2 ++ record { depth = l.depth; scopes = count } ∷ []) count
-insides_other all front0 front insides behind behind1 behind2 count l so_far split scope popped again =
+    PlacesSoFar all front places (behind2 ++ record { depth = l.depth; scopes = count } ∷ []) count
+places_other all front0 front places behind behind1 behind2 count l so_far split scope popped again =
     let counted : count ≡ scopes_in (l ∷ so_far.rest) = sym (count-cons l so_far.rest ∙ rw scope (omega (arith, so_far.counted))) in
     record {
       rest = l ∷ so_far.rest;
       parts = sym (append_assoc front (l ∷ []) so_far.rest) ∙ (ap (λ (f : List Level). f ++ so_far.rest) (sym split) ∙ so_far.parts);
-      insides_are = so_far.insides_are ∙ sym (rw scope refl);
-      behind_are = behind-push all front0 insides behind behind1 behind2 count l (record { depth = l.depth; scopes = count }) so_far popped again (ap (λ (k : ℕ). (let b : Boundary = record { depth = l.depth; scopes = k } in b)) counted);
+      places_are = so_far.places_are ∙ sym (rw scope refl);
+      behind_are = behind-push all front0 places behind behind1 behind2 count l (record { depth = l.depth; scopes = count }) so_far popped again (ap (λ (k : ℕ). (let b : Boundary = record { depth = l.depth; scopes = k } in b)) counted);
       counted = counted;
     }
 
@@ -156,13 +158,16 @@ below-levels depth (die ∷ dies) = by_test (below-levels depth dies) (nat_lt de
         let right : take_while (λ (d : Die). nat_lt depth d.depth) (die ∷ dies) ≡ [] = take_while-cons (λ d. nat_lt depth d.depth) die dies ∙ rw is refl in
         rw (left, right) refl
 
-pub insides-are : (dies : List Die) → insides_of (map level_of dies) ≡ insides_in dies
-insides-are [] = refl
-insides-are (die ∷ dies) = by_kind (insides-are dies) (kind_of die.tag) refl
+pub places-are : (dies : List Die) → level_places (map level_of dies) ≡ scope_places dies
+places-are [] = refl
+places-are (die ∷ dies) = by_kind (places-are dies) (kind_of die.tag) refl
   where
-    by_kind : insides_of (map level_of dies) ≡ insides_in dies → (kind : Option ScopeKind) → kind_of die.tag ≡ kind → cond (is_some kind) (scopes_in (deeper die.depth (map level_of dies)) ∷ insides_of (map level_of dies)) (insides_of (map level_of dies)) ≡ inside_of die dies kind (insides_in dies)
+    here : ScopePlace
+    here = record { offset = die.offset; inside = scopes_in (deeper die.depth (map level_of dies)) }
+
+    by_kind : level_places (map level_of dies) ≡ scope_places dies → (kind : Option ScopeKind) → kind_of die.tag ≡ kind → cond (is_some kind) (here ∷ level_places (map level_of dies)) (level_places (map level_of dies)) ≡ scope_place die dies kind (scope_places dies)
     by_kind further None is = further
-    by_kind further (Some kind) is = consed (below-levels die.depth dies) further
+    by_kind further (Some kind) is = consed (ap (λ (k : ℕ). (let p : ScopePlace = record { offset = die.offset; inside = k } in p)) (below-levels die.depth dies)) further
       where
-        consed : {x y : ℕ} → {xs ys : List ℕ} → x ≡ y → xs ≡ ys → x ∷ xs ≡ y ∷ ys
+        consed : {x y : ScopePlace} → {xs ys : List ScopePlace} → x ≡ y → xs ≡ ys → x ∷ xs ≡ y ∷ ys
         consed e f = cc

@@ -1,3 +1,4 @@
+mod AgainLaws
 pub mod BaseLaws
 pub mod RangeLaws
 pub mod PassLaws

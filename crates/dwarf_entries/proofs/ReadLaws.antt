@@ -16,20 +16,20 @@ use Rattle.dwarf_entries.specs.declared.scope.Root.{Root}
 use Rattle.dwarf_entries.specs.declared.kept.Keeping.{Keeping}
 use Rattle.dwarf_entries.specs.declared.kept.Keeping.TheVariants as keepings
 use Rattle.dwarf_entries.specs.declared.kept.UnitEntries.{UnitEntries}
-use Rattle.dwarf_entries.specs.declared.kept.ScopeEntry.{ScopeEntry}
+use Rattle.dwarf_entries.specs.declared.kept.ScopePlace.{ScopePlace}
 use Rattle.dwarf_entries.specs.Sections.{Sections}
 use Rattle.dwarf_units.specs.Units.{units_of, tables_of}
 use Rattle.dwarf_units.specs.Entries.{Die}
 use Rattle.dwarf_entries.specs.Bases.{CompilationUnit}
 use Rattle.dwarf_entries.specs.Scopes.{Tree, Scope, Judged, sites_in, roots_from, scopes_of, tree_of}
 use Rattle.dwarf_entries.specs.declared.scope_lists.ScopeLists.{ScopeLists}
-use Rattle.dwarf_entries.specs.Private.Packed.{unpacked}
 use Rattle.dwarf_entries.specs.Private.Kept.{KeptUnit, kept_of, scope_count}
 use Rattle.dwarf_entries.specs.Private.Passes.{all_entries, kept_units, all_kept, all_units, bases_of, all_bases, kept_unit_of, AreUnits, judge, all_sites, all_scopes, TablesRead, tree_of_units, tree_of_dies, tree_with}
 use Rattle.dwarf_bytes.proofs.EachPlaces.{each-length}
 use Rattle.dwarf_units.proofs.TableLaws.{in_section_ok}
-use Rattle.dwarf_entries.proofs.SiteLaws.{entries_are, entry_in}
-use Rattle.dwarf_entries.proofs.OrderLaws.{units-in-order}
+use Rattle.dwarf_entries.proofs.SiteLaws.{places_are, place_in}
+use Rattle.dwarf_entries.specs.Private.Again.{AreReadIn}
+use Rattle.dwarf_entries.proofs.OrderLaws.{units-in-order, read-in}
 use Rattle.dwarf_entries.proofs.ScopesOnly.{TreeAlike, tree-alike}
 
 -- ---- the whole answer, from each pass on
@@ -53,6 +53,7 @@ pub record UnitsRead (keeping : Keeping) (s : Sections) (headers : List UnitHead
   pub us : List CompilationUnit
   pub us_are : all_units s headers before.dies ≡ Ok us
   pub are : AreUnits keeping units bases us
+  pub read_in : AreReadIn s us
 
 -- what two steps gave, from what the first gave
 bound : {X Y : Type 0} (f : X → Y) (r : Result X At) (y : Y) → in_section names.DebugInfo (r >>= λ x. (let g : Y → Result Y At = λ z. Ok z in g (f x))) ≡ Ok y → (x : X) × (r ≡ Ok x) × (y ≡ f x)
@@ -78,8 +79,19 @@ pub units_read : (keeping : Keeping) (s : Sections) (headers : List UnitHeader) 
     UnitsRead keeping s headers tables units bases
 units_read keeping s headers tables units bases before read =
     let parts = bound (λ us. map bases_of us) (all_units s headers before.dies) bases read in
-    let ordered = units-in-order keeping s headers tables.tables before.dies parts.0 tables.units_are before.dies_are parts.1 in
-    record { before = before; us = parts.0; us_are = parts.1; are = record { same = before.kept_are ∙ ordered.1; order = ordered.0; bases_are = parts.2 } }
+    let ordered = units-in-order keeping s headers tables.tables before.dies parts.0 tables.units_are tables.tables_are before.dies_are parts.1 in
+    record {
+      before = before;
+      us = parts.0;
+      us_are = parts.1;
+      are = record { same = before.kept_are ∙ ordered.1; order = ordered.0; bases_are = parts.2 };
+      read_in = read-in s parts.0 ordered.2;
+    }
+
+-- as many bases as units
+pub as_many : (keeping : Keeping) (units : List UnitEntries) (bases : List Bases) (us : List CompilationUnit) → AreUnits keeping units bases us → length bases ≡ length units
+as_many keeping units bases us are =
+    ap (λ (bs : List Bases). length bs) are.bases_are ∙ (length-map us bases_of ∙ (sym (length-map us (kept_unit_of keeping)) ∙ (sym (ap (λ (ks : List KeptUnit). length ks) are.same) ∙ length-map units kept_of)))
 
 -- ---- the fault of each pass
 
@@ -186,7 +198,7 @@ sites-counted keeping (unit ∷ units) (u ∷ us) same =
     let here : kept_of unit ≡ kept_unit_of keeping u = cc in
     let rest : map kept_of units ≡ map (kept_unit_of keeping) us = cc in
     let count : length unit.scopes.items ≡ length (sites_in u u.dies) =
-    sym (length-map unit.scopes.items unpacked) ∙ ap (λ (k : KeptUnit). length k.scopes) here ∙ (ap (λ (es : List ScopeEntry). length es) (entries_are u u.dies) ∙ length-map (sites_in u u.dies) entry_in) in
+    ap (λ (k : KeptUnit). length k.scopes) here ∙ (ap (λ (ps : List ScopePlace). length ps) (places_are u u.dies) ∙ length-map (sites_in u u.dies) place_in) in
     let sum : scope_count (unit ∷ units) ≡ length unit.scopes.items + scope_count units = sum_by-cons (λ unit. length unit.scopes.items) unit units in
     omega (arith, count, sum, sites-counted keeping units us rest, length-append (sites_in u u.dies) (all_sites us))
 

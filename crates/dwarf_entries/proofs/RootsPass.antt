@@ -1,36 +1,22 @@
 -- The turns of the loop that tells the roots.
-use Rattle.std.proofs.Common.{◌≡◌, ℕ, suc, ◌+◌, ◌<◌, ◌≤◌, List, [], ◌∷◌, ◌++◌, length, take, drop, get_or, map, refl, ap, sym, ◌∙◌, subst, arith, append_assoc, append-nil, drop-cons, add-one, cond}
-use Rattle.std.specs.Prelude.{Option, Some, None, is_some, count_by, sum_by}
-use Rattle.std.specs.List.{filter_map}
+use Rattle.std.proofs.Common.{◌≡◌, ℕ, ◌+◌, ◌<◌, ◌≤◌, List, [], ◌∷◌, ◌++◌, length, take, drop, get_or, map, refl, ap, sym, ◌∙◌, subst, arith, append_assoc, append-nil, drop-cons, add-one}
+use Rattle.std.specs.Prelude.{Option, Some, None, count_by, sum_by}
 use Rattle.std.proofs.lemmas.List.{drop_all, get_or-map, length-map, take_more, take-append-drop}
-use Rattle.std.proofs.lemmas.List.Sums.{sum_by-append, sum_by-cons}
+use Rattle.std.proofs.lemmas.List.Sums.{sum_by-append}
 use Rattle.dwarf_entries.specs.declared.scope.Root.{Root}
-use Rattle.dwarf_entries.specs.declared.scope.ScopeKind.{ScopeKind}
 use Rattle.dwarf_entries.specs.declared.kept.Keeping.{Keeping}
 use Rattle.dwarf_entries.specs.declared.kept.RootEntry.{RootEntry}
 use Rattle.dwarf_entries.specs.declared.kept.UnitEntries.{UnitEntries}
 use Rattle.dwarf_units.specs.Entries.{Die}
 use Rattle.dwarf_entries.specs.Bases.{CompilationUnit}
-use Rattle.dwarf_entries.specs.Scopes.{kind_of, is_scope, root_of, roots_from}
-use Rattle.dwarf_entries.specs.Private.Kept.{KeptUnit, scope_entry_of, root_in, kept_of, scope_count}
+use Rattle.dwarf_entries.specs.Scopes.{is_scope, root_of, roots_from}
+use Rattle.dwarf_entries.specs.Private.Kept.{KeptUnit, root_in, kept_of, scope_count}
 use Rattle.dwarf_entries.specs.Private.Passes.{kept_unit_of}
-use Rattle.dwarf_entries.specs.Private.Packed.{unpacked}
+use Rattle.dwarf_entries.proofs.SiteLaws.{places-counted}
 
 -- the roots of the units before the index, in front of those of the rest, are all
 abbrev pub RootsSoFar : List CompilationUnit → ℕ → ℕ → List Root → Type 0
 RootsSoFar us index first roots = roots ++ roots_from first (drop index us) ≡ roots_from 0 us
-
-scopes-counted : (dies : List Die) → length (filter_map scope_entry_of dies) ≡ count_by is_scope dies
-scopes-counted [] = refl
-scopes-counted (die ∷ rest) = by_kind (kind_of die.tag) refl (scopes-counted rest)
-  where
-    by_kind : (kind : Option ScopeKind) → kind_of die.tag ≡ kind → length (filter_map scope_entry_of rest) ≡ count_by is_scope rest → length (filter_map scope_entry_of (die ∷ rest)) ≡ count_by is_scope (die ∷ rest)
-    by_kind None is later = rw is later
-    by_kind (Some kind) is later =
-        let f : Die → ℕ = λ d. cond (is_scope d) 1 0 in
-        let counted : count_by is_scope (die ∷ rest) ≡ 1 + count_by is_scope rest = sum_by-cons f die rest ∙ ap (λ (k : Option ScopeKind). cond (is_some k) 1 0 + sum_by f rest) is in
-        let longer : length (filter_map scope_entry_of (die ∷ rest)) ≡ suc (length (filter_map scope_entry_of rest)) = rw is refl in
-        omega (arith, counted, longer, later)
 
 -- the unit of the definitions at an index
 record RootAt (us : List CompilationUnit) (index : ℕ) (unit : UnitEntries) : Type 0 where
@@ -51,7 +37,7 @@ root_at keeping units us index unit same within is =
       u = u;
       rest = rw (add-one, drop-cons us index d inside) refl;
       root_is = ap (λ (k : KeptUnit). k.root) here;
-      count = sym (length-map unit.scopes.items unpacked) ∙ ap (λ (k : KeptUnit). length k.scopes) here ∙ scopes-counted u.dies;
+      count = ap (λ (k : KeptUnit). length k.scopes) here ∙ places-counted u.dies;
     }
 
 -- the numbers stay in the machine's

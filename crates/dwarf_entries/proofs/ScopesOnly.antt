@@ -318,7 +318,7 @@ tree-alike s headers read = by_dies (all_entries s.debug_info headers read.table
     by_units : (dies : List (List Die)) → all_entries s.debug_info headers read.tables ≡ Ok dies → (r : Result (List CompilationUnit) At) → all_units s headers dies ≡ r →
         TreeAlike (in_section names.DebugInfo r >>= tree_of_units keepings.Scopes s) (in_section names.DebugInfo r >>= tree_of_units keepings.Every s)
     by_units dies dies_are (Err e) is = inr refl
-    by_units dies dies_are (Ok us) is = units-alike s us (units-in-order keepings.Every s headers read.tables dies us read.units_are dies_are is).0
+    by_units dies dies_are (Ok us) is = units-alike s us (units-in-order keepings.Every s headers read.tables dies us read.units_are read.tables_are dies_are is).0
 
     by_dies : (r : Result (List (List Die)) At) → all_entries s.debug_info headers read.tables ≡ r →
         TreeAlike (in_section names.DebugInfo r >>= tree_of_dies keepings.Scopes s headers) (in_section names.DebugInfo r >>= tree_of_dies keepings.Every s headers)

@@ -1,21 +1,25 @@
 -- The turns of the pass over the scopes of all units.
-use Rattle.std.proofs.Common.{◌≡◌, ℕ, ◌+◌, ◌-◌, ◌^◌, ◌<◌, ◌≤◌, ◌⊎◌, inl, inr, zero, suc, List, [], ◌∷◌, ◌++◌, length, drop, get_or, map, cond, refl, ap, sym, ◌∙◌, subst, arith, append_assoc}
+use Rattle.std.proofs.Common.{◌≡◌, ℕ, ◌+◌, ◌<◌, ◌≤◌, ◌⊎◌, inl, inr, zero, suc, List, [], ◌∷◌, ◌++◌, length, drop, get_or, cond, refl, ap, sym, ◌∙◌, subst, arith, append_assoc}
 use Rattle.std.specs.Prelude.{Result, Ok, Err, Option, Some, None, is_some, slice_get, sum_by}
-use Rattle.std.proofs.lemmas.List.{drop_all, get_or-map, map-append, length-map}
+use Rattle.std.proofs.lemmas.List.{drop_all, map-append, length-map}
 use Rattle.std.proofs.lemmas.List.Sums.{sum_by-append}
 use Rattle.std.proofs.lemmas.Option.{slice_get_cases}
-use Rattle.std.specs.List.{filter_map}
 use Rattle.dwarf_bytes.specs.declared.fault.Cause.{Cause}
 use Rattle.dwarf_bytes.specs.declared.fault.Section.TheVariants as names
 use Rattle.dwarf_bytes.specs.declared.fault.LoadFault.{LoadFault}
 use Rattle.dwarf_bytes.specs.Bind.{◌>>=◌}
 use Rattle.dwarf_bytes.specs.Items.{At, told_at, each, each_from}
 use Rattle.dwarf_bytes.specs.Refusals.{Fails, memory_fault, told, in_section}
+use Rattle.dwarf_bytes.proofs.Moves.{same_ok}
+use Rattle.dwarf_units.specs.declared.unit_headers.UnitHeader.{UnitHeader}
+use Rattle.dwarf_entries.specs.Private.Again.{scope_entry_at, IsReadIn}
+use Rattle.dwarf_entries.proofs.AgainLaws.{bytes_in, scope-there, again-memory}
 use Rattle.dwarf_bytes.proofs.EachLaws.{made_front, each-next, each-fault, each-end}
 use Rattle.dwarf_entries.specs.declared.bases.Bases.{Bases}
 use Rattle.dwarf_entries.specs.declared.kept.Keeping.{Keeping}
 use Rattle.dwarf_entries.specs.declared.kept.UnitEntries.{UnitEntries}
 use Rattle.dwarf_entries.specs.declared.kept.ScopeEntry.{ScopeEntry}
+use Rattle.dwarf_entries.specs.declared.kept.ScopePlace.{ScopePlace}
 use Rattle.dwarf_entries.specs.declared.kept.RootEntry.{RootEntry}
 use Rattle.dwarf_entries.specs.declared.scope.Range.{Range}
 use Rattle.dwarf_entries.specs.declared.scope.Root.{Root}
@@ -32,11 +36,9 @@ use Rattle.dwarf_entries.specs.Scopes.{Judged, ScopeSite, Scope, items_limit, si
 use Rattle.dwarf_entries.specs.Private.Passes.{AreUnits, IsRootOf, IsScopeSite, judge, AreJudged, AddsScopes, all_sites, scope_with, all_scopes}
 use Rattle.dwarf_bytes.proofs.EachPlaces.{each-append}
 use Rattle.dwarf_entries.proofs.PassLaws.{told_cases}
-use Rattle.dwarf_entries.specs.Private.Kept.{KeptUnit, scope_entry_of, insides_in, root_in, kept_of}
-use Rattle.dwarf_entries.specs.Private.Packed.{unpacked}
-use Rattle.dwarf_entries.specs.declared.packed.PackedScope.{PackedScope}
+use Rattle.dwarf_entries.specs.Private.Kept.{KeptUnit, scope_entry, scope_places, root_in, kept_of}
 use Rattle.dwarf_entries.proofs.ScopeLaws.{kept_in, unit_at}
-use Rattle.dwarf_entries.proofs.SiteLaws.{SiteAt, site_at, as_many, few_there, entries_are, entry_in}
+use Rattle.dwarf_entries.proofs.SiteLaws.{SiteAt, site_at, places_are, place_in}
 
 -- a unit of the program is one of the definitions
 pub known_unit : (keeping : Keeping) (units : List UnitEntries) (bases : List Bases) (us : List CompilationUnit) (unit : ℕ) → AreUnits keeping units bases us → unit < length units → (u : CompilationUnit) × (slice_get us unit ≡ Some u)
@@ -48,21 +50,8 @@ known_unit keeping units bases us unit are within = by_case ((slice_get_cases us
         let sizes : length units ≡ length us = sym (length-map units kept_of) ∙ (ap (λ (ks : List KeptUnit). length ks) are.same ∙ length-map us (kept_in keeping)) in
         absurd (omega (arith, sizes, within, past))
 
--- the scopes of a unit of the program, and the counts below them, of which there is as much room as for numbers
-pub record KeptThere (kept : UnitEntries) (u : CompilationUnit) : Type 0 where
-  pub scopes_are : map unpacked kept.scopes.items ≡ filter_map scope_entry_of u.dies
-  pub insides_are : kept.insides.items ≡ insides_in u.dies
-  pub few : length kept.insides.items < 2 ^ 63
-
-pub kept_there : (keeping : Keeping) (units : List UnitEntries) (bases : List Bases) (us : List CompilationUnit) (unit : ℕ) (u : CompilationUnit) (d : UnitEntries) → AreUnits keeping units bases us → slice_get us unit ≡ Some u → KeptThere (get_or units unit d) u
-kept_there keeping units bases us unit u d are found =
-    let kept : UnitEntries = get_or units unit d in
-    let same : kept_of kept ≡ kept_in keeping u = (unit_at keeping units bases us unit u are found).entries_are d in
-    record {
-      scopes_are = ap (λ (k : KeptUnit). k.scopes) same;
-      insides_are = ap (λ (k : KeptUnit). k.insides) same;
-      few = omega (arith, kept.insides.ok.0, kept.insides.ok.1, kept.insides.small);
-    }
+pub kept_there : (keeping : Keeping) (units : List UnitEntries) (bases : List Bases) (us : List CompilationUnit) (unit : ℕ) (u : CompilationUnit) (d : UnitEntries) → AreUnits keeping units bases us → slice_get us unit ≡ Some u → (get_or units unit d).scopes.items ≡ scope_places u.dies
+kept_there keeping units bases us unit u d are found = ap (λ (k : KeptUnit). k.scopes) ((unit_at keeping units bases us unit u are found).entries_are d)
 
 -- the scopes of a unit before the index, behind those of the units before it
 pub record JudgedSoFar (keeping : Keeping) (s : Sections) (us : List CompilationUnit) (u : CompilationUnit) (before : List Judged) (index : ℕ) (lists : ScopeLists) (left : ℕ) : Type 0 where
@@ -79,30 +68,38 @@ has_entries u [] zero p ps h = cc
 has_entries u [] (suc index) p ps h = cc
 has_entries u (die ∷ rest) index p ps h = (die, rest, refl)
 
+-- the scope at a place, read again by what is kept of its unit
+entry_there : (s : Sections) (u : CompilationUnit) (index : ℕ) (kept : ScopePlace) (header : UnitHeader) (read : IsReadIn s u) → header ≡ u.header → (p : SiteAt u index kept) →
+    scope_entry_at header.format read.table (bytes_in s header) kept.offset ≡ Ok (scope_entry p.place.member.die p.place.kind)
+entry_there s u index kept header read same p =
+    ap (λ (h : UnitHeader). scope_entry_at h.format read.table (bytes_in s h) kept.offset) same
+    ∙ (ap (λ (k : ℕ). scope_entry_at u.header.format read.table (bytes_in s u.header) k) p.offset_is ∙ scope-there s u p.stands.index p.place.member.die p.place.kind read p.stands.there p.stands.kind_is)
+
 -- as many scopes as were judged
 judged_count : (roots : List Root) (judged : List Judged) (lists : ScopeLists) (left : ℕ) → AreJudged roots judged lists left → length lists.scopes.items ≡ length judged
 judged_count roots judged lists left are =
     sym (scopes-length roots lists.wide.items lists.ranges.items 0 lists.scopes.items) ∙ (ap (λ (ss : List Scope). length ss) are.told ∙ length-map judged (λ j. j.scope))
 
 -- the place of a scope, behind those before it
-pub is_place : (keeping : Keeping) (s : Sections) (us : List CompilationUnit) (u : CompilationUnit) (before : List Judged) (unit root index : ℕ) (lists : ScopeLists) (left number : ℕ) (entry : ScopeEntry) (inside : ℕ) → (so_far : JudgedSoFar keeping s us u before index lists left) →
-    slice_get us unit ≡ Some u → IsRootOf us root u → (p : SiteAt u index entry inside) → number ≡ length lists.scopes.items → IsScopeSite us unit root entry inside number left so_far.judged p.place
-is_place keeping s us u before unit root index lists left number entry inside so_far found rooted p number_is =
+pub is_place : (keeping : Keeping) (s : Sections) (us : List CompilationUnit) (u : CompilationUnit) (before : List Judged) (unit root index : ℕ) (lists : ScopeLists) (left number : ℕ) (kept : ScopePlace) (header : UnitHeader) (entry : ScopeEntry) → (so_far : JudgedSoFar keeping s us u before index lists left) →
+    slice_get us unit ≡ Some u → IsRootOf us root u → (read : IsReadIn s u) → header ≡ u.header → (p : SiteAt u index kept) → number ≡ length lists.scopes.items →
+    scope_entry_at header.format read.table (bytes_in s header) kept.offset ≡ Ok entry → IsScopeSite us unit root entry kept.inside number left so_far.judged p.place
+is_place keeping s us u before unit root index lists left number kept header entry so_far found rooted read same p number_is again =
     let sizes = judged_count (roots_from 0 us) so_far.judged lists left so_far.are_judged in
     let dies = has_entries u u.dies index p.place (drop (index + 1) (sites_in u u.dies)) p.rest in
     record {
-      unit_is = found ∙ ap (λ (v : CompilationUnit). Some v) (sym p.unit_is);
-      root_is = rooted dies.0 dies.1 dies.2 ∙ ap (λ (v : CompilationUnit). stmt_list_of v.dies) (sym p.unit_is);
-      entry_is = p.entry_is;
+      unit_is = found ∙ ap (λ (v : CompilationUnit). Some v) (sym p.stands.unit_is);
+      root_is = rooted dies.0 dies.1 dies.2 ∙ ap (λ (v : CompilationUnit). stmt_list_of v.dies) (sym p.stands.unit_is);
+      entry_is = same_ok entry (scope_entry p.place.member.die p.place.kind) (sym again ∙ entry_there s u index kept header read same p);
       inside_is = p.inside_is;
       number_is = omega (arith, number_is, sizes);
       room_is = omega (arith, so_far.are_judged.counted);
     }
 
-pub judged_next : (keeping : Keeping) (s : Sections) (us : List CompilationUnit) (u : CompilationUnit) (before : List Judged) (index : ℕ) (lists mid new : ScopeLists) (left after : ℕ) (entry : ScopeEntry) (inside items : ℕ) (facts : ScopeFacts) →
-    (so_far : JudgedSoFar keeping s us u before index lists left) (p : SiteAt u index entry inside) → AddsFacts (roots_from 0 us) (Ok (facts, items)) lists.ranges.items mid.ranges.items (scope_with keeping s us so_far.judged p.place) →
+pub judged_next : (keeping : Keeping) (s : Sections) (us : List CompilationUnit) (u : CompilationUnit) (before : List Judged) (index : ℕ) (lists mid new : ScopeLists) (left after : ℕ) (kept : ScopePlace) (items : ℕ) (facts : ScopeFacts) →
+    (so_far : JudgedSoFar keeping s us u before index lists left) (p : SiteAt u index kept) → AddsFacts (roots_from 0 us) (Ok (facts, items)) lists.ranges.items mid.ranges.items (scope_with keeping s us so_far.judged p.place) →
     mid.scopes.items ≡ lists.scopes.items → mid.wide.items ≡ lists.wide.items → IsPushed facts mid new → after + items ≡ left → JudgedSoFar keeping s us u before (index + 1) new after
-judged_next keeping s us u before index lists mid new left after entry inside items facts so_far p (found, read, grown) scopes_stay wide_stays is counted =
+judged_next keeping s us u before index lists mid new left after kept items facts so_far p (found, read, grown) scopes_stay wide_stays is counted =
     let judged = so_far.judged in
     let places = sites_in u u.dies in
     let roots : List Root = roots_from 0 us in
@@ -145,61 +142,46 @@ judged_end keeping s us u before index lists left so_far past =
     let parts = front-ok before judged (each_from (judge keeping s us) before (sites_in u u.dies)) all in
     (parts.0, parts.1, subst (λ (js : List Judged). AreJudged (roots_from 0 us) js lists left) (sym parts.2) so_far.are_judged)
 
-pub judged_fault : (keeping : Keeping) (s : Sections) (us : List CompilationUnit) (u : CompilationUnit) (before : List Judged) (index : ℕ) (lists final : ScopeLists) (left last : ℕ) (entry : ScopeEntry) (inside : ℕ) (cause : Cause) (fault : LoadFault) →
-    (so_far : JudgedSoFar keeping s us u before index lists left) (p : SiteAt u index entry inside) → Fails cause (scope_with keeping s us so_far.judged p.place) → fault ≡ told names.DebugInfo cause entry.entry.offset →
+pub judged_fault : (keeping : Keeping) (s : Sections) (us : List CompilationUnit) (u : CompilationUnit) (before : List Judged) (index : ℕ) (lists final : ScopeLists) (left last : ℕ) (kept : ScopePlace) (cause : Cause) (fault : LoadFault) →
+    (so_far : JudgedSoFar keeping s us u before index lists left) (p : SiteAt u index kept) → Fails cause (scope_with keeping s us so_far.judged p.place) → fault ≡ told names.DebugInfo cause kept.offset →
     AddsScopes keeping (Err fault) s us (sites_in u u.dies) before final last
-judged_fault keeping s us u before index lists final left last entry inside cause fault so_far p (inl memory) told_is = inl (told_is ∙ ap (λ (c : Cause). told names.DebugInfo c entry.entry.offset) memory)
-judged_fault keeping s us u before index lists final left last entry inside cause fault so_far p (inr bad) told_is = by_cause (told_cases cause entry.entry.offset)
+judged_fault keeping s us u before index lists final left last kept cause fault so_far p (inl memory) told_is = inl (told_is ∙ ap (λ (c : Cause). told names.DebugInfo c kept.offset) memory)
+judged_fault keeping s us u before index lists final left last kept cause fault so_far p (inr bad) told_is = by_cause (told_cases cause kept.offset)
   where
-    by_cause : (told names.DebugInfo cause entry.entry.offset ≡ memory_fault) ⊎ (told names.DebugInfo cause entry.entry.offset ≡ record { section = names.DebugInfo; cause = cause; at = entry.entry.offset }) →
+    by_cause : (told names.DebugInfo cause kept.offset ≡ memory_fault) ⊎ (told names.DebugInfo cause kept.offset ≡ record { section = names.DebugInfo; cause = cause; at = kept.offset }) →
         (fault ≡ memory_fault) ⊎ (in_section names.DebugInfo (each_from (judge keeping s us) before (sites_in u u.dies)) ≡ Err fault)
     by_cause (inl memory) = inl (told_is ∙ memory)
     by_cause (inr itself) =
         let judged = so_far.judged in
-        let offset : entry.entry.offset ≡ p.place.member.die.offset = ap (λ (e : ScopeEntry). e.entry.offset) p.entry_is in
         let here : judge keeping s us judged p.place ≡ Err (cause, p.place.member.die.offset) = ap (λ (r : Result Judged Cause). told_at p.place.member.die.offset r) bad in
         let all : made_front before (each_from (judge keeping s us) before (sites_in u u.dies)) ≡ Err (cause, p.place.member.die.offset) =
         sym so_far.read ∙ (ap (λ (ps : List ScopeSite). made_front judged (each_from (judge keeping s us) judged ps)) p.rest ∙ each-fault (judge keeping s us) judged p.place (drop (index + 1) (sites_in u u.dies)) (cause, p.place.member.die.offset) here) in
-        inr (rw (front-err before (each_from (judge keeping s us) before (sites_in u u.dies)) (cause, p.place.member.die.offset) all, told_is, itself, offset) refl)
+        inr (rw (front-err before (each_from (judge keeping s us) before (sites_in u u.dies)) (cause, p.place.member.die.offset) all, told_is, itself, p.offset_is) refl)
+
+-- want of memory where a scope is read again
+pub again_fault : (keeping : Keeping) (s : Sections) (us : List CompilationUnit) (u : CompilationUnit) (before : List Judged) (index : ℕ) (final : ScopeLists) (last : ℕ) (kept : ScopePlace) (header : UnitHeader) (cause : Cause) (fault : LoadFault) →
+    (read : IsReadIn s u) → header ≡ u.header → (p : SiteAt u index kept) → Fails cause (scope_entry_at header.format read.table (bytes_in s header) kept.offset) → fault ≡ told names.DebugInfo cause kept.offset →
+    AddsScopes keeping (Err fault) s us (sites_in u u.dies) before final last
+again_fault keeping s us u before index final last kept header cause fault read same p bad told_is =
+    let memory = again-memory cause (scope_entry_at header.format read.table (bytes_in s header) kept.offset) (scope_entry p.place.member.die p.place.kind) (entry_there s u index kept header read same p) bad in
+    inl (told_is ∙ ap (λ (c : Cause). told names.DebugInfo c kept.offset) memory)
 
 -- ---- what a turn asks
 
--- the count of the scopes below a scope is there
-pub inside_there : (keeping : Keeping) (units : List UnitEntries) (bases : List Bases) (us : List CompilationUnit) (unit index number first : ℕ) (d : UnitEntries) (list : List PackedScope) → AreUnits keeping units bases us → unit < length units → list ≡ (get_or units unit d).scopes.items → index < length list →
-    number ≡ first + index → number - first < (get_or units unit d).insides.len
-inside_there keeping units bases us unit index number first d list are within list_is inside number_is =
-    let kept : UnitEntries = get_or units unit d in
-    let u = known_unit keeping units bases us unit are within in
-    let there = kept_there keeping units bases us unit u.0 d are u.1 in
-    let many = as_many u.0 (map unpacked kept.scopes.items) kept.insides.items there.scopes_are there.insides_are in
-    let sizes : length list ≡ length kept.scopes.items = ap (λ (es : List PackedScope). length es) list_is in
-    omega (arith, number_is, inside, many, sizes, kept.insides.ok.0, length-map kept.scopes.items unpacked)
+pub place_there : (keeping : Keeping) (units : List UnitEntries) (bases : List Bases) (us : List CompilationUnit) (u : CompilationUnit) (unit index : ℕ) (d : UnitEntries) (list : List ScopePlace) (x kept : ScopePlace) → AreUnits keeping units bases us → slice_get us unit ≡ Some u →
+    list ≡ (get_or units unit d).scopes.items → index < length list → kept ≡ get_or list index x → SiteAt u index kept
+place_there keeping units bases us u unit index d list x kept are found list_is within is =
+    site_at u list index x kept (list_is ∙ kept_there keeping units bases us unit u d are found) within is
 
-pub place_there : (keeping : Keeping) (units : List UnitEntries) (bases : List Bases) (us : List CompilationUnit) (u : CompilationUnit) (unit index number first e : ℕ) (d : UnitEntries) (list : List PackedScope) (x : PackedScope) (entry : ScopeEntry) (inside : ℕ) → AreUnits keeping units bases us → slice_get us unit ≡ Some u →
-    list ≡ (get_or units unit d).scopes.items → index < length list → number ≡ first + index → entry ≡ unpacked (get_or list index x) → inside ≡ get_or (get_or units unit d).insides.items (number - first) e → SiteAt u index entry inside
-place_there keeping units bases us u unit index number first e d list x entry inside are found list_is within number_is entry_is inside_is =
-    let kept : UnitEntries = get_or units unit d in
-    let there = kept_there keeping units bases us unit u d are found in
-    let index_is : number - first ≡ index = omega (arith, number_is) in
-    site_at u (map unpacked list) kept.insides.items index e (unpacked x) entry inside (ap (λ (es : List PackedScope). map unpacked es) list_is ∙ there.scopes_are) there.insides_are (omega (arith, within, length-map list unpacked)) (entry_is ∙ sym (get_or-map unpacked list index x (unpacked x) within)) (inside_is ∙ ap (λ (k : ℕ). get_or kept.insides.items k e) index_is)
-
--- the end of a scope is a number of the machine
-pub end_fits : (keeping : Keeping) (units : List UnitEntries) (bases : List Bases) (us : List CompilationUnit) (unit index number first e : ℕ) (d : UnitEntries) (list : List PackedScope) (inside : ℕ) → AreUnits keeping units bases us → unit < length units →
-    list ≡ (get_or units unit d).scopes.items → index < length list → number ≡ first + index → number < 2 ^ 63 → inside ≡ get_or (get_or units unit d).insides.items (number - first) e → number + inside + 1 < 2 ^ 64
-end_fits keeping units bases us unit index number first e d list inside are within list_is inside_list number_is small inside_is =
-    let u = known_unit keeping units bases us unit are within in
-    let there = kept_there keeping units bases us unit u.0 d are u.1 in
-    let found = inside_there keeping units bases us unit index number first d list are within list_is inside_list number_is in
-    let kept : UnitEntries = get_or units unit d in
-    let few = few_there u.0 kept.insides.items (number - first) e inside there.insides_are (omega (arith, found, kept.insides.ok.0)) inside_is in
-    omega (arith, small, there.few, few)
+-- the header of a unit
+pub header_there : (keeping : Keeping) (units : List UnitEntries) (bases : List Bases) (us : List CompilationUnit) (u : CompilationUnit) (unit : ℕ) (d : UnitEntries) → AreUnits keeping units bases us → slice_get us unit ≡ Some u → (get_or units unit d).header ≡ u.header
+header_there keeping units bases us u unit d are found = ap (λ (k : KeptUnit). k.header) ((unit_at keeping units bases us unit u are found).entries_are d)
 
 -- all scopes of a unit were looked at
-pub all_there : (keeping : Keeping) (units : List UnitEntries) (bases : List Bases) (us : List CompilationUnit) (u : CompilationUnit) (unit index : ℕ) (d : UnitEntries) (list : List PackedScope) → AreUnits keeping units bases us → slice_get us unit ≡ Some u →
+pub all_there : (keeping : Keeping) (units : List UnitEntries) (bases : List Bases) (us : List CompilationUnit) (u : CompilationUnit) (unit index : ℕ) (d : UnitEntries) (list : List ScopePlace) → AreUnits keeping units bases us → slice_get us unit ≡ Some u →
     list ≡ (get_or units unit d).scopes.items → length list ≤ index → length (sites_in u u.dies) ≤ index
 all_there keeping units bases us u unit index d list are found list_is past =
-    let there = kept_there keeping units bases us unit u d are found in
-    let sizes : length list ≡ length (sites_in u u.dies) = sym (length-map list unpacked) ∙ ap (λ (es : List ScopeEntry). length es) (ap (λ (es : List PackedScope). map unpacked es) list_is ∙ (there.scopes_are ∙ entries_are u u.dies)) ∙ length-map (sites_in u u.dies) entry_in in
+    let sizes : length list ≡ length (sites_in u u.dies) = ap (λ (ps : List ScopePlace). length ps) (list_is ∙ (kept_there keeping units bases us unit u d are found ∙ places_are u u.dies)) ∙ length-map (sites_in u u.dies) place_in in
     omega (arith, sizes, past)
 
 -- ---- the loop over the units

@@ -1,6 +1,6 @@
 -- The turns of the loop over the entries of a unit.
 use Rattle.std.proofs.Common.{◌≡◌, ℕ, ◌+◌, ◌-◌, ◌<◌, ◌≤◌, ◌⊎◌, inl, inr, List, [], ◌∷◌, ◌++◌, Bool, true, false, length, take, refl, ap, sym, ◌∙◌, cond, zero-add, subst, arith, length-take, append-nil}
-use Rattle.std.specs.Prelude.{Option, Some, None, is_some, option_to_list, Result, Ok, Err, IsOk, is_err, ◌↔◌, if◌then◌else◌, nat_lt, nat_le, ◌==◌, ◌&&◌, ◌||◌, count_by, map, filter}
+use Rattle.std.specs.Prelude.{Option, Some, None, is_some, Result, Ok, Err, IsOk, is_err, ◌↔◌, if◌then◌else◌, nat_lt, nat_le, ◌==◌, ◌&&◌, ◌||◌, count_by, map, filter}
 use Rattle.std.specs.List.{filter_map, list_any}
 use Rattle.std.proofs.lemmas.Bool.{ltb-false, ltb-true, lt-ltb, le-ltb, lt-leb, le-leb, cases_lt}
 use Rattle.std.proofs.lemmas.List.{map-append}
@@ -24,16 +24,15 @@ use Rattle.dwarf_bytes.proofs.Turns.{SoFar, so_far-none, so_far-item, so_far-end
 use Rattle.dwarf_units.specs.declared.attributes.Attribute.{Attribute}
 use Rattle.dwarf_entries.specs.declared.entries.Level.{Level}
 use Rattle.dwarf_entries.specs.declared.kept.Keeping.{Keeping}
-use Rattle.dwarf_entries.specs.declared.kept.NamedEntry.{NamedEntry}
-use Rattle.dwarf_entries.specs.declared.kept.ScopeEntry.{ScopeEntry}
+use Rattle.dwarf_entries.specs.declared.kept.ScopePlace.{ScopePlace}
 use Rattle.dwarf_entries.specs.declared.kept.RootEntry.{RootEntry}
 use Rattle.dwarf_units.specs.declared.unit_headers.UnitHeader.{UnitHeader}
 use Rattle.dwarf_units.specs.Entries.{Node, Entry, Null, Standing, Die, die_of, opens, closes, is_root, depth_after, node_behind, node_at, entries_of}
-use Rattle.dwarf_entries.specs.Private.Kept.{keeps, named_entry, scope_entry_of, root_entry, root_in, insides_in, KeptUnit, kept_unit, kept_entries}
+use Rattle.dwarf_entries.specs.Private.Kept.{keeps, root_entry, root_in, scope_places, KeptUnit, kept_unit, kept_entries}
 use Rattle.dwarf_entries.specs.Names.{or_else}
-use Rattle.dwarf_entries.specs.Private.Readers.{Walked, level_of, walked_by, walked, after_die, depth_behind, after_node, walked_at, walk_of, insides_of}
+use Rattle.dwarf_entries.specs.Private.Readers.{Walked, level_of, walked_by, walked, after_die, depth_behind, after_node, walked_at, walk_of, level_places}
 use Rattle.dwarf_units.specs.Private.Plans.{Fills}
-use Rattle.dwarf_entries.proofs.InsideLaws.{insides-are}
+use Rattle.dwarf_entries.proofs.InsideLaws.{places-are}
 use Rattle.dwarf_units.proofs.EntryMoves.{node_behind-moves, node_at-advances}
 
 -- what stands at a place, behind these
@@ -42,39 +41,34 @@ standing before at node = record { offset = at; depth = depth_after before; node
 
 -- ---- one more entry or null
 
-walked-same : (d e : ℕ) (r s : Option RootEntry) (n m : List NamedEntry) (p q : List ScopeEntry) (k l : List Level) → d ≡ e → r ≡ s → n ≡ m → p ≡ q → k ≡ l →
-    (let x : Walked = record { depth = d; root = r; entries = n; scopes = p; levels = k } in x) ≡ record { depth = e; root = s; entries = m; scopes = q; levels = l }
-walked-same d e r s n m p q k l h1 h2 h3 h4 h5 = cc
+walked-same : (d e : ℕ) (r s : Option RootEntry) (n m : List ℕ) (k l : List Level) → d ≡ e → r ≡ s → n ≡ m → k ≡ l →
+    (let x : Walked = record { depth = d; root = r; entries = n; levels = k } in x) ≡ record { depth = e; root = s; entries = m; levels = l }
+walked-same d e r s n m k l h1 h2 h3 h4 = cc
 
 root_in-push : (dies : List Die) (die : Die) → root_in (dies ++ die ∷ []) ≡ or_else (root_in dies) (Some (root_entry die))
 root_in-push [] die = refl
 root_in-push (root ∷ dies) die = refl
 
-filter_map-one : {X Y : Type 0} (f : X → Option Y) (x : X) → filter_map f (x ∷ []) ≡ option_to_list (f x)
-filter_map-one {Y = Y} f x = by_found (f x) refl
-  where
-    by_found : (found : Option Y) → f x ≡ found → filter_map f (x ∷ []) ≡ option_to_list found
-    by_found None is = rw is refl
-    by_found (Some y) is = rw is refl
+abbrev offset_of : Die → ℕ
+offset_of die = die.offset
 
--- the names that are kept, with one more entry
-entries-push : (keeping : Keeping) (dies : List Die) (die : Die) (entries : List NamedEntry) → entries ≡ map named_entry (filter (λ d. keeps keeping d.tag) dies) →
-    map named_entry (filter (λ d. keeps keeping d.tag) (dies ++ die ∷ [])) ≡ (if keeps keeping die.tag then entries ++ named_entry die ∷ [] else entries)
+-- the entries that are kept, with one more
+entries-push : (keeping : Keeping) (dies : List Die) (die : Die) (entries : List ℕ) → entries ≡ map (λ d. d.offset) (filter (λ d. keeps keeping d.tag) dies) →
+    map (λ d. d.offset) (filter (λ d. keeps keeping d.tag) (dies ++ die ∷ [])) ≡ (if keeps keeping die.tag then entries ++ die.offset ∷ [] else entries)
 entries-push keeping dies die entries are =
-    ap (λ (ds : List Die). map named_entry ds) (filter-append (λ d. keeps keeping d.tag) dies (die ∷ [])) ∙ by_test (keeps keeping die.tag)
+    ap (λ (ds : List Die). map offset_of ds) (filter-append (λ d. keeps keeping d.tag) dies (die ∷ [])) ∙ by_test (keeps keeping die.tag)
   where
     kept : List Die
     kept = filter (λ d. keeps keeping d.tag) dies
 
-    by_test : (b : Bool) → map named_entry (kept ++ cond b (die ∷ []) []) ≡ (if b then entries ++ named_entry die ∷ [] else entries)
-    by_test true = map-append named_entry kept (die ∷ []) ∙ ap (λ (es : List NamedEntry). es ++ named_entry die ∷ []) (sym are)
-    by_test false = ap (λ (ds : List Die). map named_entry ds) (append-nil kept) ∙ sym are
+    by_test : (b : Bool) → map offset_of (kept ++ cond b (die ∷ []) []) ≡ (if b then entries ++ die.offset ∷ [] else entries)
+    by_test true = map-append offset_of kept (die ∷ []) ∙ ap (λ (es : List ℕ). es ++ die.offset ∷ []) (sym are)
+    by_test false = ap (λ (ds : List Die). map offset_of ds) (append-nil kept) ∙ sym are
 
 -- what is kept of one more entry, at whatever depth behind it
 pub walked_by-push : (keeping : Keeping) (depth behind : ℕ) (dies : List Die) (die : Die) → walked_by keeping behind (dies ++ die ∷ []) ≡ record (after_die keeping (walked_by keeping depth dies) die) { depth = behind }
 walked_by-push keeping depth behind dies die =
-    walked-same _ _ _ _ _ _ _ _ _ _ refl (root_in-push dies die) (entries-push keeping dies die (map named_entry (filter (λ d. keeps keeping d.tag) dies)) refl)
-    (filter_map-append scope_entry_of dies (die ∷ []) ∙ ap (λ (s : List ScopeEntry). filter_map scope_entry_of dies ++ s) (filter_map-one scope_entry_of die))
+    walked-same _ _ _ _ _ _ _ _ refl (root_in-push dies die) (entries-push keeping dies die (map offset_of (filter (λ d. keeps keeping d.tag) dies)) refl)
     (map-append level_of dies (die ∷ []))
 
 count_push : {X : Type 0} (p : X → Bool) (xs : List X) (x : X) (t : Bool) → p x ≡ t → count_by p (xs ++ x ∷ []) ≡ count_by p xs + cond t 1 0
@@ -293,18 +287,18 @@ dies_in header all = all >>= λ all. told_at header.start (refuse_if (nat_lt 0 (
 abbrev unit_in : Keeping → UnitHeader → Result (List Standing × ℕ) At → Result KeptUnit LoadFault
 unit_in keeping header all = in_section sections.DebugInfo (dies_in header all >>= λ dies. Ok (kept_unit keeping header dies))
 
-kept-same : (h : UnitHeader) (r s : Option RootEntry) (n m : List NamedEntry) (p q : List ScopeEntry) (i j : List ℕ) → r ≡ s → n ≡ m → p ≡ q → i ≡ j →
-    (let x : KeptUnit = record { header = h; root = r; entries = n; scopes = p; insides = i } in x) ≡ record { header = h; root = s; entries = m; scopes = q; insides = j }
-kept-same h r s n m p q i j h1 h2 h3 h4 = cc
+kept-same : (h : UnitHeader) (r s : Option RootEntry) (n m : List ℕ) (p q : List ScopePlace) → r ≡ s → n ≡ m → p ≡ q →
+    (let x : KeptUnit = record { header = h; root = r; entries = n; scopes = p } in x) ≡ record { header = h; root = s; entries = m; scopes = q }
+kept-same h r s n m p q h1 h2 h3 = cc
 
-unit_end : (keeping : Keeping) (header : UnitHeader) (all : Result (List Standing × ℕ) At) (w : Walked) (insides : List ℕ) → in_section sections.DebugInfo (walk_in keeping all) ≡ Ok w → w.depth ≡ 0 → insides ≡ insides_of w.levels →
-    unit_in keeping header all ≡ Ok (record { header = header; root = w.root; entries = w.entries; scopes = w.scopes; insides = insides })
-unit_end keeping header (Err e) w insides h none are = cc
-unit_end keeping header (Ok all) w insides h none are =
+unit_end : (keeping : Keeping) (header : UnitHeader) (all : Result (List Standing × ℕ) At) (w : Walked) (places : List ScopePlace) → in_section sections.DebugInfo (walk_in keeping all) ≡ Ok w → w.depth ≡ 0 → places ≡ level_places w.levels →
+    unit_in keeping header all ≡ Ok (record { header = header; root = w.root; entries = w.entries; scopes = places })
+unit_end keeping header (Err e) w places h none are = cc
+unit_end keeping header (Ok all) w places h none are =
     let same : walked keeping all.0 ≡ w = same_ok (walked keeping all.0) w h in
     let closed : nat_lt 0 (depth_after all.0) ≡ false = le-ltb 0 (depth_after all.0) (let depth = ap (λ (x : Walked). x.depth) same in omega (arith, depth, none)) in
-    let counted : insides_in (filter_map die_of all.0) ≡ insides = sym (insides-are (filter_map die_of all.0)) ∙ (ap (λ (x : Walked). insides_of x.levels) same ∙ sym are) in
-    rw closed (ap (λ (k : KeptUnit). Ok k) (kept-same header _ _ _ _ _ _ _ _ (ap (λ (x : Walked). x.root) same) (ap (λ (x : Walked). x.entries) same) (ap (λ (x : Walked). x.scopes) same) counted))
+    let placed : scope_places (filter_map die_of all.0) ≡ places = sym (places-are (filter_map die_of all.0)) ∙ (ap (λ (x : Walked). level_places x.levels) same ∙ sym are) in
+    rw closed (ap (λ (k : KeptUnit). Ok k) (kept-same header _ _ _ _ _ _ (ap (λ (x : Walked). x.root) same) (ap (λ (x : Walked). x.entries) same) placed))
 
 unit_open : (keeping : Keeping) (header : UnitHeader) (all : Result (List Standing × ℕ) At) (w : Walked) (fault : LoadFault) → in_section sections.DebugInfo (walk_in keeping all) ≡ Ok w → 0 < w.depth → fault ≡ record { section = sections.DebugInfo; cause = causes.TreeOpen; at = header.start } →
     unit_in keeping header all ≡ Err fault
@@ -318,10 +312,10 @@ unit_fault : (keeping : Keeping) (header : UnitHeader) (all : Result (List Stand
 unit_fault keeping header (Err e) fault h = cc
 unit_fault keeping header (Ok all) fault h = cc
 
-pub entries_end : (keeping : Keeping) (info : List ℕ) (header : UnitHeader) (table : List Declaration) (w : Walked) (insides : List ℕ) → in_section sections.DebugInfo (walk_of keeping info header table) ≡ Ok w → w.depth ≡ 0 → insides ≡ insides_of w.levels →
-    in_section sections.DebugInfo (kept_entries keeping info header table) ≡ Ok (record { header = header; root = w.root; entries = w.entries; scopes = w.scopes; insides = insides })
+pub entries_end : (keeping : Keeping) (info : List ℕ) (header : UnitHeader) (table : List Declaration) (w : Walked) (places : List ScopePlace) → in_section sections.DebugInfo (walk_of keeping info header table) ≡ Ok w → w.depth ≡ 0 → places ≡ level_places w.levels →
+    in_section sections.DebugInfo (kept_entries keeping info header table) ≡ Ok (record { header = header; root = w.root; entries = w.entries; scopes = places })
 unfolding walk_of entries_of
-entries_end keeping info header table w insides h none are = unit_end keeping header (items_from header.end (node_at header.format table (take header.end info)) [] header.first) w insides h none are
+entries_end keeping info header table w places h none are = unit_end keeping header (items_from header.end (node_at header.format table (take header.end info)) [] header.first) w places h none are
 
 pub entries_open : (keeping : Keeping) (info : List ℕ) (header : UnitHeader) (table : List Declaration) (w : Walked) (fault : LoadFault) → in_section sections.DebugInfo (walk_of keeping info header table) ≡ Ok w → 0 < w.depth → fault ≡ record { section = sections.DebugInfo; cause = causes.TreeOpen; at = header.start } →
     in_section sections.DebugInfo (kept_entries keeping info header table) ≡ Err fault

@@ -1,5 +1,5 @@
-pub mod Packed
 pub mod Kept
+pub mod Again
 pub mod Texts
 pub mod Members
 pub mod Readers

@@ -1,15 +1,15 @@
 //! The entries of a unit (DWARF 5, 2.3, 7.5.2 and 7.5.3).
 
-ghost use Rattle.std.specs.Prelude.{◌≡◌, ◌≤◌, [], None, IsSome, IfOk, OnOk, take, reverse};
+ghost use Rattle.std.specs.Prelude.{◌≡◌, ◌≤◌, [], None, IsSome, IfOk, OnOk, not, take, reverse};
 ghost use Rattle.dwarf_bytes.specs.declared.fault.Section.TheVariants as sections;
 ghost use Rattle.dwarf_bytes.specs.Refusals.{Decodes, in_section};
 ghost use Rattle.dwarf_units.specs.Entries.{depth_limit, node_behind};
 ghost use Rattle.dwarf_entries.specs.Private.Kept.{kept_of, kept_entries};
-ghost use Rattle.dwarf_entries.specs.Private.Readers.{keeps_attributes, ReadsNode, walked_of, after_die, walked_at, walk_of, insides_of, above, scopes_from};
+ghost use Rattle.dwarf_entries.specs.Private.Readers.{ReadsNode, walked_of, after_die, walked_at, walk_of, level_places, above, scopes_from};
 ghost use Rattle.dwarf_units.specs.Private.Plans.{Fills};
 
-use crate::kept::{Keeping, NamedEntry, RootEntry, ScopeEntry, UnitEntries, kind_of};
-use crate::packed::{PackedEntry, PackedScope};
+use crate::kept::{Keeping, RootEntry, ScopePlace, UnitEntries, kind_of};
+use crate::packed::narrow;
 use dwarf_bytes::{Cause, Cursor, LoadFault, Section, Span};
 use dwarf_units::{Attribute, UnitHeader, UnitTable};
 use std::alloc::{AllocError, Global};
@@ -21,9 +21,10 @@ pub(crate) struct NodeHead {
     pub(crate) children: bool,
 }
 
-/// How deep an entry stands, and whether it is a scope.
+/// Where an entry stands and how deep, and whether it is a scope.
 #[derive(Clone, Copy)]
 pub(crate) struct Level {
+    pub(crate) offset: u32,
     pub(crate) depth: u16,
     pub(crate) is_scope: bool,
 }
@@ -41,8 +42,7 @@ pub(crate) struct Boundary {
 pub(crate) struct Walk {
     pub(crate) depth: u16,
     pub(crate) root: Option<RootEntry>,
-    pub(crate) entries: Vec<PackedEntry>,
-    pub(crate) scopes: Vec<PackedScope>,
+    pub(crate) entries: Vec<u32>,
     pub(crate) levels: Vec<Level>,
 }
 
@@ -64,26 +64,24 @@ pub(crate) fn entries(
         let at = header.start as u64;
         return Err(LoadFault::told(Section::DebugInfo, Cause::TreeOpen, at));
     }
-    let insides = insides(alloc, walk.levels)?;
+    let scopes = scope_places(alloc, walk.levels)?;
     Ok(UnitEntries {
         header,
         root: walk.root,
         entries: walk.entries,
-        scopes: walk.scopes,
-        insides,
+        scopes,
     })
 }
 
 impl Walk {
     fn new(alloc: Global) -> Walk
         ensures { walked_of result
-            ≡ record { depth = 0; root = None; entries = []; scopes = []; levels = [] } }
+            ≡ record { depth = 0; root = None; entries = []; levels = [] } }
     {
         Walk {
             depth: 0,
             root: None,
             entries: Vec::new(alloc),
-            scopes: Vec::new(alloc),
             levels: Vec::new(alloc),
         }
     }
@@ -102,7 +100,7 @@ impl Walk {
     {
         let offset = cursor.place();
         let rooted = self.root.is_some();
-        match node(table, keeping, self.depth, rooted, cursor, found)? {
+        match node(table, self.depth, rooted, cursor, found)? {
             None => self.depth = self.depth.saturating_sub(1),
             Some(head) => {
                 self.keep(keeping, offset, head.tag, found)?;
@@ -124,23 +122,18 @@ impl Walk {
     ) -> Result<(), AllocError>
         ensures { OnOk result (walked_of self.new ≡ after_die keeping (walked_of self.old) (record { offset = offset; depth = self.old.depth; tag = tag; attributes = attributes.now })) }
     {
-        let kind = kind_of(tag);
         if self.root.is_none() {
             self.root = Some(RootEntry::of(offset, attributes));
         }
+        let place = narrow(offset)?;
         self.levels.push(Level {
+            offset: place,
             depth: self.depth,
-            is_scope: kind.is_some(),
+            is_scope: kind_of(tag).is_some(),
         })?;
-        if !keeping.keeps(tag) {
-            return Ok(());
+        if keeping.keeps(tag) {
+            self.entries.push(place)?;
         }
-        let entry = NamedEntry::of(offset, attributes);
-        if let Some(kind) = kind {
-            let scope = ScopeEntry::of(entry, kind, attributes);
-            self.scopes.push(PackedScope::of(&scope)?)?;
-        }
-        self.entries.push(PackedEntry::of(&entry)?)?;
         Ok(())
     }
 }
@@ -157,11 +150,7 @@ fn walk_unit(
     ensures { Decodes (λ walk. walked_of walk) result (in_section sections.DebugInfo
         (walk_of keeping info.now header table.now.declarations)) }
 {
-    let unit = Span {
-        place: 0,
-        len: header.end,
-    }
-    .of(info);
+    let unit = unit_bytes(info, &header);
     let mut cursor = Cursor::new(unit);
     let mut walk = Walk::new(alloc);
     let mut found = Vec::new(alloc);
@@ -177,17 +166,27 @@ fn walk_unit(
     Ok(walk)
 }
 
-/// The entry at the cursor, at a depth, or none for a null. Its attributes come into `found`, where any
-/// are kept. `rooted` is whether the root of the unit stands before it.
+/// The section up to the end of a unit.
+pub(crate) fn unit_bytes<'a>(info: &'a [u8], header: &UnitHeader) -> &'a [u8]
+    ensures { result.now ≡ take header.now.«end» info.now }
+{
+    Span {
+        place: 0,
+        len: header.end,
+    }
+    .of(info)
+}
+
+/// The entry at the cursor, at a depth, or none for a null. `rooted` is whether the root of the unit
+/// stands before it. If not, its used attributes come into `found`.
 fn node(
     table: &UnitTable,
-    keeping: Keeping,
     depth: u16,
     rooted: bool,
     cursor: &mut Cursor,
     found: &mut Vec<Attribute>,
 ) -> Result<Option<NodeHead>, Cause>
-    ensures reads { ReadsNode (keeps_attributes keeping rooted) result found.new.items
+    ensures reads { ReadsNode (not rooted) result found.new.items
         (node_behind table.now.format table.now.declarations depth rooted) cursor.old cursor.new }
     ensures limit { IfOk result (λ entry. IsSome entry → depth ≤ depth_limit) }
 {
@@ -196,22 +195,25 @@ fn node(
     };
     let tag = head.tag();
     let children = head.children();
-    let keep = keeping.keeps_attributes(rooted, tag);
-    head.read_attributes(keep, cursor, found)?;
+    head.read_attributes(!rooted, cursor, found)?;
     Ok(Some(NodeHead { tag, children }))
 }
 
-/// How many scopes are below each scope.
-fn insides(alloc: Global, mut levels: Vec<Level>) -> Result<Vec<usize>, AllocError>
-    ensures { IfOk result (λ insides. insides.items ≡ insides_of levels.items) }
+/// The places of the scopes among entries.
+fn scope_places(alloc: Global, mut levels: Vec<Level>) -> Result<Vec<ScopePlace>, AllocError>
+    ensures { IfOk result (λ places. places.items ≡ level_places levels.items) }
 {
-    let mut insides = Vec::new(alloc);
+    let mut places = Vec::new(alloc);
     let mut boundaries = Vec::new(alloc);
     let mut count = 0;
     while let Some(level) = levels.pop() {
         pop_from(&mut boundaries, u32::from(level.depth) + 1);
         if level.is_scope {
-            insides.push(count - scopes_from(&boundaries))?;
+            let inside = narrow(count - scopes_from(&boundaries))?;
+            places.push(ScopePlace {
+                offset: level.offset,
+                inside,
+            })?;
             count += 1;
         }
         pop_from(&mut boundaries, u32::from(level.depth));
@@ -220,8 +222,8 @@ fn insides(alloc: Global, mut levels: Vec<Level>) -> Result<Vec<usize>, AllocErr
             scopes: count,
         })?;
     }
-    insides.reverse();
-    Ok(insides)
+    places.reverse();
+    Ok(places)
 }
 
 /// Removes the last boundaries, up to the last that is above a depth.

@@ -1,6 +1,7 @@
 //! Units, entries, ranges and names of `.debug_info`: DWARF 5, chapters 2, 3 and 7.5.
 #![tactic(auto)]
 
+mod again;
 mod bases;
 mod calls;
 mod entries;

@@ -3,18 +3,20 @@
 ghost use Rattle.std.specs.Prelude.{◌≡◌, ◌≤◌, ◌<◌, ◌+◌, ◌^◌, List, Some, length, slice_get, IfOk};
 ghost use Rattle.dwarf_bytes.specs.declared.fault.Section.TheVariants as names;
 ghost use Rattle.dwarf_bytes.specs.Refusals.{Decodes, in_section};
-ghost use Rattle.dwarf_entries.specs.Sections.{sections_of};
+ghost use Rattle.dwarf_entries.specs.Sections.{Sections as SectionBytes, sections_of};
 ghost use Rattle.dwarf_entries.specs.Private.Texts.{AreTexts};
 ghost use Rattle.dwarf_entries.specs.declared.kept.Keeping.{Keeping};
 ghost use Rattle.dwarf_entries.specs.Bases.{CompilationUnit};
 ghost use Rattle.dwarf_entries.specs.Scopes.{Judged, ScopeSite, sites_in, roots_from, scopes_of};
 ghost use Rattle.dwarf_entries.specs.Private.Passes.{AreUnits, IsRootOf, IsScopeSite, AreJudged, AddsScopes, scope_with, all_scopes};
+ghost use Rattle.dwarf_entries.specs.Private.Again.{AreReadIn, IsReaderOf};
 ghost use Rattle.dwarf_entries.specs.Private.Shared.{AddsFacts};
 
+use crate::again::EntryReader;
 use crate::bases::Bases;
 use crate::calls::CallSite;
 use crate::kept::{ScopeEntry, UnitEntries};
-use crate::paths::names;
+use crate::paths::{UnitEntry, names};
 use crate::ranges::covers;
 use crate::scope::{Range, ScopeFacts};
 use crate::scope_lists::ScopeLists;
@@ -41,6 +43,7 @@ impl<'a> Units<'a> {
     /// ranges of all.
     fn scope(
         self,
+        reader: &mut EntryReader<'_>,
         unit: usize,
         root: usize,
         entry: &ScopeEntry,
@@ -55,17 +58,24 @@ impl<'a> Units<'a> {
         ensures judged { (keeping : Keeping) (us : List CompilationUnit) (before : List Judged)
             (p : ScopeSite) → AreUnits keeping self.entry.units.now self.entry.bases.now us
             → IsScopeSite us unit root entry.now inside number room before p
+            → AreReadIn (sections_of self.entry.sections.now) us
+            → IsReaderOf (sections_of self.entry.sections.now) reader.old
             → AddsFacts (roots_from 0 us) result ranges.old.items ranges.new.items (scope_with
             keeping (sections_of self.entry.sections.now) us before p) }
         ensures room { IfOk result (λ found. found.1 ≤ room) }
+        ensures reader { (s : SectionBytes) → IsReaderOf s reader.old → IsReaderOf s reader.new }
     {
+        let entry_of_unit = UnitEntry {
+            unit,
+            entry: entry.entry,
+        };
         let names = names(
             self.sections,
             self.texts,
             self.units,
             self.bases,
-            unit,
-            &entry.entry,
+            reader,
+            entry_of_unit,
         )?;
         let items = covers(
             room,
@@ -92,39 +102,41 @@ impl<'a> Units<'a> {
         Ok((facts, items))
     }
 
-    /// Puts the scopes of a unit, whose root has the number `root`, behind those before it. `left` is
-    /// how many range items may still be read.
+    /// Puts the scopes of a unit, whose root has the number `root`, behind those before it. Each is
+    /// read again. `left` is how many range items may still be read.
     fn unit_scopes(
         self,
+        reader: &mut EntryReader<'_>,
         unit: usize,
         root: usize,
         left: &mut u64,
         lists: &mut ScopeLists,
     ) -> Result<(), LoadFault>
         requires texts { AreTexts (sections_of self.sections.now) self.texts.now }
-        requires unit { unit < length self.units.now }
-        requires known { (keeping : Keeping) × (us : List CompilationUnit)
-            × AreUnits keeping self.units.now self.bases.now us }
-        ensures { (keeping : Keeping) (us : List CompilationUnit) (u : CompilationUnit)
+        requires unit { (unit < length self.units.now) × (unit < length self.bases.now) }
+        ensures scopes { (keeping : Keeping) (us : List CompilationUnit) (u : CompilationUnit)
             (before : List Judged)
             → AreUnits keeping self.entry.units.now self.entry.bases.now us
+            → AreReadIn (sections_of self.entry.sections.now) us
+            → IsReaderOf (sections_of self.entry.sections.now) reader.old
             → slice_get us unit ≡ Some u → IsRootOf us root u
             → AreJudged (roots_from 0 us) before lists.old left.old
             → AddsScopes keeping result (sections_of self.entry.sections.now) us
             (sites_in u u.dies) before lists.new left.new }
+        ensures reader { (s : SectionBytes) → IsReaderOf s reader.old → IsReaderOf s reader.new }
     {
         let kept = &self.units[unit];
-        let first = lists.scopes.len();
-        for packed in kept.scopes.as_slice() {
-            let entry = packed.unpack();
+        for place in kept.scopes.as_slice() {
+            let at = u64::from(place.offset);
+            let entry = match reader.scope(&kept.header, place.offset as usize) {
+                Err(cause) => return Err(LoadFault::told(Section::DebugInfo, cause, at)),
+                Ok(entry) => entry,
+            };
+            let inside = place.inside as usize;
             let number = lists.scopes.len();
-            let inside = kept.insides[number - first];
             let ranges = &mut lists.ranges;
-            match self.scope(unit, root, &entry, inside, number, *left, ranges) {
-                Err(cause) => {
-                    let at = entry.entry.offset as u64;
-                    return Err(LoadFault::told(Section::DebugInfo, cause, at));
-                }
+            match self.scope(reader, unit, root, &entry, inside, number, *left, ranges) {
+                Err(cause) => return Err(LoadFault::told(Section::DebugInfo, cause, at)),
                 Ok((facts, items)) => {
                     *left -= items;
                     lists.push(facts)?;
@@ -135,20 +147,26 @@ impl<'a> Units<'a> {
     }
 
     /// The scopes of all units.
-    pub(crate) fn scopes(self, alloc: Global) -> Result<ScopeLists, LoadFault>
+    pub(crate) fn scopes(
+        self,
+        alloc: Global,
+        reader: &mut EntryReader<'_>,
+    ) -> Result<ScopeLists, LoadFault>
         requires texts { AreTexts (sections_of self.sections.now) self.texts.now }
-        requires known { (keeping : Keeping) × (us : List CompilationUnit)
-            × AreUnits keeping self.units.now self.bases.now us }
-        ensures { (keeping : Keeping) (us : List CompilationUnit)
+        requires bases { length self.bases.now ≡ length self.units.now }
+        ensures scopes { (keeping : Keeping) (us : List CompilationUnit)
             → AreUnits keeping self.entry.units.now self.entry.bases.now us
+            → AreReadIn (sections_of self.entry.sections.now) us
+            → IsReaderOf (sections_of self.entry.sections.now) reader.old
             → Decodes (λ lists. scopes_of (roots_from 0 us) lists) result (in_section
             names.DebugInfo (all_scopes keeping (sections_of self.entry.sections.now) us)) }
+        ensures reader { (s : SectionBytes) → IsReaderOf s reader.old → IsReaderOf s reader.new }
     {
         let mut left = ITEMS_LIMIT;
         let mut root = 0;
         let mut lists = ScopeLists::new(alloc, scope_count(self.units))?;
         for unit in 0..self.units.len() {
-            self.unit_scopes(unit, root, &mut left, &mut lists)?;
+            self.unit_scopes(reader, unit, root, &mut left, &mut lists)?;
             if self.units[unit].root.is_some() {
                 root += 1;
             }

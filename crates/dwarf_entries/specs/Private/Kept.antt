@@ -1,6 +1,5 @@
 -- What is kept of the entries of a unit, for the contracts of the passes.
 use Rattle.std.specs.Prelude.{ℕ, ◌≤◌, List, [], ◌∷◌, Bool, true, Option, Some, None, is_some, Result, Ok, option_map, map, filter, count_by, sum_by, length}
-use Rattle.std.specs.List.{filter_map}
 use Rattle.dwarf_bytes.specs.declared.constants.TheConstants.{DW_AT_ADDR_BASE, DW_AT_CALL_FILE, DW_AT_CALL_LINE, DW_AT_HIGH_PC, DW_AT_LINKAGE_NAME, DW_AT_LOW_PC, DW_AT_NAME, DW_AT_RANGES, DW_AT_RNGLISTS_BASE, DW_AT_STMT_LIST, DW_AT_STR_OFFSETS_BASE}
 use Rattle.dwarf_bytes.specs.Bind.{◌>>=◌}
 use Rattle.dwarf_bytes.specs.Items.{At}
@@ -11,16 +10,16 @@ use Rattle.dwarf_entries.specs.declared.kept.Keeping.{Keeping}
 use Rattle.dwarf_entries.specs.declared.kept.Keeping.TheVariants as keepings
 use Rattle.dwarf_entries.specs.declared.kept.NamedEntry.{NamedEntry}
 use Rattle.dwarf_entries.specs.declared.kept.ScopeEntry.{ScopeEntry}
+use Rattle.dwarf_entries.specs.declared.kept.ScopePlace.{ScopePlace}
 use Rattle.dwarf_entries.specs.declared.kept.RootEntry.{RootEntry}
 use Rattle.dwarf_entries.specs.declared.kept.UnitEntries.{UnitEntries}
 use Rattle.dwarf_units.specs.Private.Rising.{RiseWithin}
 use Rattle.dwarf_units.specs.Entries.{Die, attribute, below, entries_of}
 use Rattle.dwarf_entries.specs.Bases.{CompilationUnit}
 use Rattle.dwarf_entries.specs.Names.{next_of}
-use Rattle.dwarf_entries.specs.Private.Packed.{unpacked_entry, unpacked}
 use Rattle.dwarf_entries.specs.Scopes.{kind_of, is_scope, number_of}
 
--- whether the names and the reference of an entry with the tag are kept
+-- whether references may lead to an entry with the tag
 abbrev pub keeps : Keeping → ℕ → Bool
 keeps keepings.Scopes tag = is_some (kind_of tag)
 keeps keepings.Every tag = true
@@ -58,32 +57,30 @@ abbrev pub root_in : List Die → Option RootEntry
 root_in [] = None
 root_in (root ∷ dies) = Some (root_entry root)
 
--- how many scopes are below an entry, in front of the counts behind it, if it is a scope
-abbrev pub inside_of : Die → List Die → Option ScopeKind → List ℕ → List ℕ
-inside_of die rest None insides = insides
-inside_of die rest (Some kind) insides = count_by is_scope (below die rest) ∷ insides
+-- where an entry stands and how many scopes are below it, in front of the places behind it, if it is a scope
+abbrev pub scope_place : Die → List Die → Option ScopeKind → List ScopePlace → List ScopePlace
+scope_place die rest None places = places
+scope_place die rest (Some kind) places = record { offset = die.offset; inside = count_by is_scope (below die rest) } ∷ places
 
--- how many scopes are below each scope
-abbrev pub insides_in : List Die → List ℕ
-insides_in [] = []
-insides_in (die ∷ rest) = inside_of die rest (kind_of die.tag) (insides_in rest)
+-- .. of each scope
+abbrev pub scope_places : List Die → List ScopePlace
+scope_places [] = []
+scope_places (die ∷ rest) = scope_place die rest (kind_of die.tag) (scope_places rest)
 
 -- what is kept of a unit
 pub record KeptUnit : Type 0 where
   pub header : UnitHeader
   pub root : Option RootEntry
-  pub entries : List NamedEntry
-  pub scopes : List ScopeEntry
-  pub insides : List ℕ
+  pub entries : List ℕ
+  pub scopes : List ScopePlace
 
 -- .. of these entries
 abbrev pub kept_unit : Keeping → UnitHeader → List Die → KeptUnit
 kept_unit keeping header dies = record {
   header = header;
   root = root_in dies;
-  entries = map named_entry (filter (λ die. keeps keeping die.tag) dies);
-  scopes = filter_map scope_entry_of dies;
-  insides = insides_in dies;
+  entries = map (λ die. die.offset) (filter (λ die. keeps keeping die.tag) dies);
+  scopes = scope_places dies;
 }
 
 -- .. of those that stand in it, by the declarations of its table
@@ -92,7 +89,7 @@ kept_entries keeping info header table = entries_of info header table >>= λ die
 
 -- .. by the program
 abbrev pub kept_of : UnitEntries → KeptUnit
-kept_of unit = record { header = unit.header; root = unit.root; entries = map unpacked_entry unit.entries.items; scopes = map unpacked unit.scopes.items; insides = unit.insides.items }
+kept_of unit = record { header = unit.header; root = unit.root; entries = unit.entries.items; scopes = unit.scopes.items }
 
 -- how many scopes the units of the program have
 abbrev pub scope_count : List UnitEntries → ℕ
