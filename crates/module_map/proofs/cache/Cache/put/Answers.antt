@@ -16,6 +16,6 @@ returns-clause-kept c = let was : c.in-Some.answers.entries ≡ c.args.self.now.
     let room : c.in-Some.answers.cap ≡ c.args.self.now.capacity = rw (← c.self.view_is) (c.self.invariant c.in-Some.answers c.in-Some.is).0 in
     let new : List CacheEntry = c.remember.new.answers.entries in
     let Kept : List CacheEntry → ℕ → Type 0 =
-        λ es cap. (new ≡ es) ⊎ (new ≡ with_answer c.args.key c.args.place (record { entries = es; capacity = cap })) in
+    λ es cap. (new ≡ es) ⊎ (new ≡ with_answer c.args.key c.args.place (record { entries = es; capacity = cap })) in
     subst (λ es. Kept es c.args.self.now.capacity) was
-        (subst (λ cap. Kept c.in-Some.answers.entries cap) room c.remember.ensures.kept)
+    (subst (λ cap. Kept c.in-Some.answers.entries cap) room c.remember.ensures.kept)
