@@ -1,3 +1,4 @@
+pub mod Packed
 pub mod Kept
 pub mod Again
 pub mod Texts
