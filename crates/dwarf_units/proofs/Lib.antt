@@ -6,5 +6,6 @@ pub mod EntryMoves
 pub mod NodeLaws
 pub mod EntryOrder
 pub mod AgainLaws
+pub mod PlainLaws
 pub mod PlanLaws
 pub mod PlanTurns

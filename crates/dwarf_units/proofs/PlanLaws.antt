@@ -28,11 +28,12 @@ use Rattle.dwarf_forms.specs.declared.attribute.AttributeSpecification.{Attribut
 use Rattle.dwarf_forms.specs.Values.{Value, reading_value as of_value, direct_at, value_at}
 use Rattle.dwarf_units.specs.declared.attributes.Attribute.{Attribute}
 use Rattle.dwarf_units.specs.declared.plans.AttributeStep.{AttributeStep}
-use Rattle.dwarf_units.specs.declared.plans.AttributeStep.TheVariants.{Skip, Pass, Keep}
+use Rattle.dwarf_units.specs.declared.plans.AttributeStep.TheVariants.{Skip, Pass, Take, Keep}
 use Rattle.dwarf_units.specs.Attributes.{is_used, accepts, is_negative, is_negative_count, number_of, forms_of, is_among}
 use Rattle.dwarf_units.specs.Entries.{reading_value, is_direct, form_at, attribute_at, attributes_at}
-use Rattle.dwarf_units.specs.Private.Plans.{kept_attributes, kept_attributes_at, layout_len, constant_len, fixed_len, pass_of, step_of, step_before, steps_of, step_at, skip_limit, in_front}
+use Rattle.dwarf_units.specs.Private.Plans.{kept_attributes, kept_attributes_at, layout_len, constant_len, fixed_len, plain_layout, take_of, pass_of, step_of, step_before, steps_of, step_at, skip_limit, in_front}
 use Rattle.dwarf_units.proofs.EntryMoves.{attribute-stays}
+use Rattle.dwarf_units.proofs.PlainLaws.{never_count, not_indirect, direct_chain, taken-is}
 
 -- ---- reads of a known length
 
@@ -97,15 +98,6 @@ reading_value-fixed Good n bytes at (Err (values.Read fault)) h =
     let same : fault ≡ faults.Short = cc in
     (ap cause_of same, h.1)
 
-and_false : (b : Bool) → (b && false) ≡ false
-and_false true = refl
-and_false false = refl
-
-never_count : (name : ℕ) (c : Content) → is_negative c ≡ false → is_negative_count name c ≡ false
-never_count name c h =
-    let counts : Bool = option_map_or (λ allowed. is_among allowed DW_FORM_SDATA) (forms_of name) false in
-    subst (λ (b : Bool). (counts && b) ≡ false) (sym h) (and_false counts)
-
 -- a value in a form of a known length
 direct-fixed : (name form : ℕ) (layout : ValueLayout) (format : Format) (n : ℕ) (bytes : List ℕ) (at : ℕ) → form_of form ≡ Some (Direct layout) → layout_len format layout ≡ Some n → at ≤ length bytes →
     ReadsFixed (λ v. is_negative_count name v.content ≡ false) (values.Read faults.Short) n bytes at (direct_at form format bytes at)
@@ -145,24 +137,6 @@ constant-fixed name form constant c format bytes at is there fine le =
     ])) (sym is)
     (subst (λ (o : Option ℤ). P (elim o as (λ _. Result (Value × ℕ) ValueFault) [ None ↦ Err values.Form | Some c ↦ Ok (record { form = form; content = Signed c }, at) ])) (sym there)
     (fine, omega arith, omega (arith, le)))
-
-same_form : (f g : Form) → (let some : Form → Option Form = λ k. Some k in some f ≡ some g) → f ≡ g
-same_form f g h = cc
-
-not_indirect : (form : ℕ) (found : Form) → form_of form ≡ Some found → (found ≡ Indirect → ⊥) → (form == DW_FORM_INDIRECT) ≡ false
-not_indirect form found is apart = by_test (form == DW_FORM_INDIRECT) refl
-  where
-    by_test : (b : Bool) → (form == DW_FORM_INDIRECT) ≡ b → b ≡ false
-    by_test true same =
-        let number : form ≡ DW_FORM_INDIRECT = eqb-true form DW_FORM_INDIRECT same in
-        let here : form_of form ≡ Some Indirect = ap form_of number in
-        absurd (apart (same_form found Indirect (sym is ∙ here)))
-    by_test false same = refl
-
--- the steps of reading an attribute before its value
-direct_chain : {A : Type 0} (test : Bool) (inner : Result (ℕ × ℕ) Cause) (form at : ℕ) (accepted : ℕ → Bool) (read : ℕ × ℕ → Result A Cause) → test ≡ false → accepted form ≡ true →
-    (cond test inner (Ok (form, at)) >>= λ f. refuse_if (not (accepted f.0)) causes.AttrForm >>= λ _. read f) ≡ read (form, at)
-direct_chain test inner form at accepted read plain fine = rw (plain, fine) refl
 
 judged-fixed : (n : ℕ) (bytes : List ℕ) (at name : ℕ) (make : Value × ℕ → Attribute) (r : Result (Value × ℕ) Cause) → ReadsFixed (λ v. is_negative_count name v.content ≡ false) causes.Short n bytes at r →
     ReadsFixed (λ _. Unit {0}) causes.Short n bytes at (r >>= λ value. refuse_if (is_negative_count name value.0.content) causes.AttrForm >>= λ _. Ok (make value, value.1))
@@ -239,8 +213,12 @@ step-is keep format s bytes at le = by_test (keep && is_used s.name)
     by_len None is = refl
     by_len (Some n) is = sym (same-place (λ _. Unit {0}) (λ _. Unit {0}) n bytes at (attribute_at format s bytes at) (reading (block_at n bytes at)) (fixed-attribute format s n bytes at is le) (skip-fixed n bytes at))
 
-    by_test : (b : Bool) → step_at format (cond b (Keep s) (pass_of format s)) bytes at ≡ (attribute_at format s bytes at >>= λ a. Ok (cond b (a.0 ∷ []) [], a.1))
-    by_test true = refl
+    by_layout : (layout : Option ValueLayout) → plain_layout s ≡ layout → step_at format (option_map_or (λ l. Take s l) layout (Keep s)) bytes at ≡ (attribute_at format s bytes at >>= λ a. Ok (a.0 ∷ [], a.1))
+    by_layout None is = refl
+    by_layout (Some layout) is = ap (λ (r : Result (Attribute × ℕ) Cause). r >>= λ a. Ok (a.0 ∷ [], a.1)) (taken-is format s layout bytes at is)
+
+    by_test : (b : Bool) → step_at format (cond b (take_of s) (pass_of format s)) bytes at ≡ (attribute_at format s bytes at >>= λ a. Ok (cond b (a.0 ∷ []) [], a.1))
+    by_test true = by_layout (plain_layout s) refl
     by_test false = by_len (fixed_len format s) refl
 
 -- ---- the steps of a declaration, one after another
@@ -295,8 +273,10 @@ before-is format (Skip n) (Skip m ∷ steps) bytes at = by_test (nat_le (n + m) 
     by_test true = joined-is format n m steps bytes at
     by_test false = refl
 before-is format (Skip n) (Pass t ∷ steps) bytes at = refl
+before-is format (Skip n) (Take t layout ∷ steps) bytes at = refl
 before-is format (Skip n) (Keep t ∷ steps) bytes at = refl
 before-is format (Pass s) (next ∷ steps) bytes at = refl
+before-is format (Take s layout) (next ∷ steps) bytes at = refl
 before-is format (Keep s) (next ∷ steps) bytes at = refl
 
 -- ---- the attributes that are kept

@@ -151,7 +151,7 @@ pub(crate) fn is_negative_count(name: u64, content: Content<'_>) -> bool
 
 /// The number that a content is, where its bytes end at a place; of a text that stands there, its
 /// place.
-fn number_of(content: Content<'_>, after: usize) -> u64
+pub(crate) fn number_of(content: Content<'_>, after: usize) -> u64
     ensures { result ≡ number_of (content_of content.entry) after }
 {
     match content {

@@ -3,9 +3,11 @@
 ghost use Rattle.std.specs.Prelude.{◌≡◌, ◌≤◌, ◌-◌, ◌^◌, List, Bool, IfOk, OnOk, map, reverse};
 ghost use Rattle.dwarf_bytes.specs.Forms.{byte_len};
 ghost use Rattle.dwarf_forms.specs.declared.attribute.AttributeSpecification.{AttributeSpecification as Specification};
-ghost use Rattle.dwarf_units.specs.Private.Plans.{kept_attributes_at, layout_len, constant_len, fixed_len, step_of, joined, step_before, steps_of, step_at, in_front, Fills, plan_of, plan_len};
+ghost use Rattle.dwarf_units.specs.Private.Plans.{kept_attributes_at, layout_len, constant_len, fixed_len, step_of, joined, step_before, steps_of, step_at, in_front, Fills, plan_of, plan_len, is_plain, plain_layout, taken_at};
+ghost use Rattle.dwarf_bytes.specs.Refusals.{ReadsField};
 
-use crate::attributes::{Attribute, accepts, is_negative_count, is_used, read_attribute};
+use crate::attributes::{Attribute, AttributeValue};
+use crate::attributes::{accepts, is_negative_count, is_used, number_of, read_attribute};
 use dwarf_bytes::{Cause, Content, Cursor, Form, Format, ValueLayout, Width};
 use dwarf_forms::{Abbrevs, AttributeSpecification};
 use std::alloc::{AllocError, Global};
@@ -18,6 +20,8 @@ pub(crate) enum AttributeStep {
     Skip(u16),
     /// An attribute is read and judged, and not kept.
     Pass(AttributeSpecification),
+    /// An attribute is read in a layout and kept: none of its values is refused.
+    Take(AttributeSpecification, ValueLayout),
     /// An attribute is read, judged and kept.
     Keep(AttributeSpecification),
 }
@@ -118,11 +122,35 @@ fn read_step(
         AttributeStep::Pass(specification) => {
             read_attribute(format, specification, cursor)?;
         }
+        AttributeStep::Take(specification, layout) => {
+            found.push(take_attribute(format, specification, *layout, cursor)?)?;
+        }
         AttributeStep::Keep(specification) => {
             found.push(read_attribute(format, specification, cursor)?)?;
         }
     }
     Ok(())
+}
+
+/// The attribute at the cursor, whose value stands there in a layout.
+fn take_attribute(
+    format: Format,
+    specification: &AttributeSpecification,
+    layout: ValueLayout,
+    cursor: &mut Cursor,
+) -> Result<Attribute, Cause>
+    ensures { ReadsField (λ a. a) result (taken_at format specification.now layout)
+        cursor.old cursor.new }
+{
+    let content = Content::read(layout, format, cursor)?;
+    let number = number_of(content, cursor.place());
+    Ok(Attribute {
+        name: specification.name,
+        value: AttributeValue {
+            form: specification.form,
+            number,
+        },
+    })
 }
 
 /// The steps of a declaration. `keep` is whether the used attributes are kept.
@@ -177,12 +205,38 @@ fn step_of(keep: bool, format: Format, specification: &AttributeSpecification) -
     ensures { result ≡ step_of keep format specification.now }
 {
     if keep && is_used(specification.name) {
-        return AttributeStep::Keep(*specification);
+        return match plain_layout(specification) {
+            Some(layout) => AttributeStep::Take(*specification, layout),
+            None => AttributeStep::Keep(*specification),
+        };
     }
     match fixed_len(format, specification) {
         Some(len) => AttributeStep::Skip(len),
         None => AttributeStep::Pass(*specification),
     }
+}
+
+/// The layout of the values of an attribute, where none of them is refused.
+fn plain_layout(specification: &AttributeSpecification) -> Option<ValueLayout>
+    ensures { result ≡ plain_layout specification.now }
+{
+    if !accepts(specification.name, specification.form) {
+        return None;
+    }
+    match Form::of(specification.form)? {
+        Form::Direct(layout) if is_plain(layout) => Some(layout),
+        _ => None,
+    }
+}
+
+/// Whether the values of a layout are numbers from 0 up, or texts.
+fn is_plain(layout: ValueLayout) -> bool
+    ensures { result ≡ is_plain layout }
+{
+    matches!(
+        layout,
+        ValueLayout::Fixed(_) | ValueLayout::Offset | ValueLayout::Unsigned | ValueLayout::Text
+    )
 }
 
 /// The bytes that the value of an attribute takes always, where nothing but a lack of bytes refuses it.

@@ -7,7 +7,7 @@ use Rattle.dwarf_bytes.specs.declared.form.ValueLayout.{ValueLayout}
 use Rattle.dwarf_bytes.specs.declared.form.ValueLayout.TheVariants.{Fixed, Offset, Present, Signed, Unsigned, Text, Sixteen, Block, LongBlock}
 use Rattle.dwarf_bytes.specs.declared.form.Form.TheVariants.{Direct, ImplicitConst, Indirect}
 use Rattle.dwarf_bytes.specs.Bind.{◌>>=◌}
-use Rattle.dwarf_bytes.specs.Contents.{Signed as SignedContent}
+use Rattle.dwarf_bytes.specs.Contents.{Signed as SignedContent, content_at}
 use Rattle.dwarf_bytes.specs.Forms.{form_of, byte_len}
 use Rattle.dwarf_bytes.specs.Items.{reading}
 use Rattle.dwarf_bytes.specs.Numbers.{block_at, offset_len}
@@ -17,8 +17,8 @@ use Rattle.dwarf_forms.specs.declared.attribute.AttributeSpecification.{Attribut
 use Rattle.dwarf_forms.specs.Declarations.{Declaration}
 use Rattle.dwarf_units.specs.declared.attributes.Attribute.{Attribute}
 use Rattle.dwarf_units.specs.declared.plans.AttributeStep.{AttributeStep}
-use Rattle.dwarf_units.specs.declared.plans.AttributeStep.TheVariants.{Skip, Pass, Keep}
-use Rattle.dwarf_units.specs.Attributes.{is_used, accepts, is_negative_count}
+use Rattle.dwarf_units.specs.declared.plans.AttributeStep.TheVariants.{Skip, Pass, Take, Keep}
+use Rattle.dwarf_units.specs.Attributes.{is_used, accepts, is_negative_count, number_of}
 use Rattle.dwarf_units.specs.Entries.{attribute_at, attributes_at}
 
 -- the attributes that are kept: those that are used, or none
@@ -61,8 +61,33 @@ fixed_len format s = if accepts s.name s.form then (elim (form_of s.form) [
 abbrev pub pass_of : Format → AttributeSpecification → AttributeStep
 pass_of format s = option_map_or (λ n. Skip n) (fixed_len format s) (Pass s)
 
+-- whether the values of a layout are numbers from 0 up, or texts
+abbrev pub is_plain : ValueLayout → Bool
+is_plain (Fixed width) = true
+is_plain Offset = true
+is_plain Present = false
+is_plain Signed = false
+is_plain Unsigned = true
+is_plain Text = true
+is_plain Sixteen = false
+is_plain (Block width) = false
+is_plain LongBlock = false
+
+-- the layout of the values of an attribute, where none of them is refused
+abbrev pub plain_layout : AttributeSpecification → Option ValueLayout
+plain_layout s = if accepts s.name s.form then (elim (form_of s.form) [
+  | None ↦ None
+  | Some (Direct layout) ↦ if is_plain layout then Some layout else None
+  | Some ImplicitConst ↦ None
+  | Some Indirect ↦ None
+]) else None
+
+-- an attribute that is kept
+abbrev pub take_of : AttributeSpecification → AttributeStep
+take_of s = option_map_or (λ layout. Take s layout) (plain_layout s) (Keep s)
+
 abbrev pub step_of : Bool → Format → AttributeSpecification → AttributeStep
-step_of keep format s = if keep && is_used s.name then Keep s else pass_of format s
+step_of keep format s = if keep && is_used s.name then take_of s else pass_of format s
 
 -- the most bytes of one step
 abbrev pub skip_limit : ℕ
@@ -72,8 +97,10 @@ skip_limit = 65535
 abbrev pub joined : AttributeStep → AttributeStep → Option AttributeStep
 joined (Skip n) (Skip m) = if nat_le (n + m) skip_limit then Some (Skip (n + m)) else None
 joined (Skip n) (Pass t) = None
+joined (Skip n) (Take t layout) = None
 joined (Skip n) (Keep t) = None
 joined (Pass s) next = None
+joined (Take s layout) next = None
 joined (Keep s) next = None
 
 -- a step in front of others
@@ -86,10 +113,15 @@ unfoldable pub steps_of : Bool → Format → List AttributeSpecification → Li
 steps_of keep format [] = []
 steps_of keep format (s ∷ ss) = step_before (step_of keep format s) (steps_of keep format ss)
 
+-- the attribute whose value stands at a place in a layout
+abbrev pub taken_at : Format → AttributeSpecification → ValueLayout → List ℕ → ℕ → Result (Attribute × ℕ) Cause
+taken_at format s layout bytes at = reading (content_at layout format bytes at) >>= λ c. Ok (record { name = s.name; value = record { form = s.form; number = number_of c.0 c.1 } }, c.1)
+
 -- what a step keeps, and the place after it
 abbrev pub step_at : Format → AttributeStep → List ℕ → ℕ → Result (List Attribute × ℕ) Cause
 step_at format (Skip n) bytes at = reading (block_at n bytes at) >>= λ block. Ok ([], block.1)
 step_at format (Pass s) bytes at = attribute_at format s bytes at >>= λ a. Ok ([], a.1)
+step_at format (Take s layout) bytes at = taken_at format s layout bytes at >>= λ a. Ok (a.0 ∷ [], a.1)
 step_at format (Keep s) bytes at = attribute_at format s bytes at >>= λ a. Ok (a.0 ∷ [], a.1)
 
 -- what is kept already, and what a read keeps behind it
