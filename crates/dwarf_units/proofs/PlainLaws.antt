@@ -125,7 +125,7 @@ plain-is format s layout bytes at fine is plain =
     let inner : Result (ℕ × ℕ) Cause = reading (uleb_at bytes at) >>= λ inner. refuse_if (not (is_direct (form_of inner.0))) causes.Form >>= λ _. Ok inner in
     let chain = direct_chain (s.form == DW_FORM_INDIRECT) inner s.form at (λ form. accepts s.name form) rest (not_indirect s.form (Direct layout) is (λ e. cc)) fine in
     let read : value_at s.form format s.constant bytes at ≡ (of_value (content_at layout format bytes at) >>= as_value s) =
-        value-direct s.form layout format s.constant bytes at is ∙ direct-content s.form layout format bytes at is in
+    value-direct s.form layout format s.constant bytes at is ∙ direct-content s.form layout format bytes at is in
     not-judged s (content_at layout format bytes at) (content-fine layout format bytes at plain)
     ∙ sym (ap (λ (r : Result (Value × ℕ) ValueFault). reading_value r >>= judged s s.form) read) ∙ sym chain
 

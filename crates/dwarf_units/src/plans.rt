@@ -6,8 +6,9 @@ ghost use Rattle.dwarf_forms.specs.declared.attribute.AttributeSpecification.{At
 ghost use Rattle.dwarf_units.specs.Private.Plans.{kept_attributes_at, layout_len, constant_len, fixed_len, step_of, joined, step_before, steps_of, step_at, in_front, Fills, plan_of, plan_len, is_plain, plain_layout, taken_at};
 ghost use Rattle.dwarf_bytes.specs.Refusals.{ReadsField};
 
-use crate::attributes::{Attribute, AttributeValue};
-use crate::attributes::{accepts, is_negative_count, is_used, number_of, read_attribute};
+use crate::attributes::{
+    Attribute, AttributeValue, accepts, is_negative_count, is_used, number_of, read_attribute,
+};
 use dwarf_bytes::{Cause, Content, Cursor, Form, Format, ValueLayout, Width};
 use dwarf_forms::{Abbrevs, AttributeSpecification};
 use std::alloc::{AllocError, Global};
