@@ -23,7 +23,7 @@ use Rattle.dwarf_forms.specs.declared.attribute.AttributeSpecification.{Attribut
 use Rattle.dwarf_forms.specs.Values.{Value, reading_value as of_value, direct_at, value_at}
 use Rattle.dwarf_units.specs.declared.attributes.Attribute.{Attribute}
 use Rattle.dwarf_units.specs.Attributes.{accepts, is_negative, is_negative_count, number_of, forms_of, is_among}
-use Rattle.dwarf_units.specs.Entries.{reading_value, is_direct, form_at, attribute_at}
+use Rattle.dwarf_units.specs.Entries.{reading_value, is_direct, attribute_at}
 use Rattle.dwarf_units.specs.Private.Plans.{is_plain, plain_layout, taken_at}
 
 and_false : (b : Bool) → (b && false) ≡ false

@@ -2,8 +2,8 @@
 use Rattle.std.proofs.Common.{◌≡◌, ℕ, ◌+◌, ◌<◌, ◌≤◌, ℤ, ◌⊎◌, inl, inr, List, [], ◌∷◌, ◌++◌, Bool, true, false, cond, length, refl, ap, sym, ◌∙◌, subst, arith, append_assoc}
 use Rattle.std.specs.Prelude.{Option, Some, None, Result, Ok, Err, nat_lt, nat_le, not, ◌==◌, ◌&&◌, filter, take, drop}
 use Rattle.std.specs.Option.{option_map_or}
-use Rattle.std.proofs.lemmas.Bool.{ltb-false, ltb-true, cases_lt, eqb-true}
-use Rattle.dwarf_bytes.specs.declared.constants.TheConstants.{DW_FORM_INDIRECT, DW_FORM_SDATA}
+use Rattle.std.proofs.lemmas.Bool.{ltb-false, ltb-true, cases_lt}
+use Rattle.dwarf_bytes.specs.declared.constants.TheConstants.{DW_FORM_INDIRECT}
 use Rattle.dwarf_bytes.specs.declared.fault.ReadFault.{ReadFault}
 use Rattle.dwarf_bytes.specs.declared.fault.ReadFault.TheVariants as faults
 use Rattle.dwarf_bytes.specs.declared.fault.Cause.{Cause}
@@ -16,7 +16,7 @@ use Rattle.dwarf_bytes.specs.declared.form.ValueLayout.{ValueLayout}
 use Rattle.dwarf_bytes.specs.declared.form.ValueLayout.TheVariants as layouts
 use Rattle.dwarf_bytes.specs.Bind.{◌>>=◌}
 use Rattle.dwarf_bytes.specs.Forms.{form_of, byte_len}
-use Rattle.dwarf_bytes.specs.Contents.{Content, Number, Signed, Bytes, read_as, content_at}
+use Rattle.dwarf_bytes.specs.Contents.{Number, Signed, Bytes, read_as, content_at}
 use Rattle.dwarf_bytes.specs.Items.{reading, refuse_if}
 use Rattle.dwarf_bytes.specs.Words.{cause_of}
 use Rattle.dwarf_bytes.specs.Numbers.{block_at, fixed_at, little_endian, offset_len, offset_at, uleb_at}
@@ -28,10 +28,10 @@ use Rattle.dwarf_forms.specs.declared.attribute.AttributeSpecification.{Attribut
 use Rattle.dwarf_forms.specs.Values.{Value, reading_value as of_value, direct_at, value_at}
 use Rattle.dwarf_units.specs.declared.attributes.Attribute.{Attribute}
 use Rattle.dwarf_units.specs.declared.plans.AttributeStep.{AttributeStep}
-use Rattle.dwarf_units.specs.declared.plans.AttributeStep.TheVariants.{Skip, Pass, Take, Keep}
-use Rattle.dwarf_units.specs.Attributes.{is_used, accepts, is_negative, is_negative_count, number_of, forms_of, is_among}
+use Rattle.dwarf_units.specs.declared.plans.AttributeStep.TheVariants.{Skip, Pass, Keep}
+use Rattle.dwarf_units.specs.Attributes.{is_used, accepts, is_negative, is_negative_count, number_of}
 use Rattle.dwarf_units.specs.Entries.{reading_value, is_direct, form_at, attribute_at, attributes_at}
-use Rattle.dwarf_units.specs.Private.Plans.{kept_attributes, kept_attributes_at, layout_len, constant_len, fixed_len, plain_layout, take_of, pass_of, step_of, step_before, steps_of, step_at, skip_limit, in_front}
+use Rattle.dwarf_units.specs.Private.Plans.{kept_attributes, kept_attributes_at, layout_len, constant_len, fixed_len, plain_layout, pass_of, step_of, step_before, steps_of, step_at, skip_limit, in_front}
 use Rattle.dwarf_units.proofs.EntryMoves.{attribute-stays}
 use Rattle.dwarf_units.proofs.PlainLaws.{never_count, not_indirect, direct_chain, taken-is}
 
@@ -213,11 +213,11 @@ step-is keep format s bytes at le = by_test (keep && is_used s.name)
     by_len None is = refl
     by_len (Some n) is = sym (same-place (λ _. Unit {0}) (λ _. Unit {0}) n bytes at (attribute_at format s bytes at) (reading (block_at n bytes at)) (fixed-attribute format s n bytes at is le) (skip-fixed n bytes at))
 
-    by_layout : (layout : Option ValueLayout) → plain_layout s ≡ layout → step_at format (option_map_or (λ l. Take s l) layout (Keep s)) bytes at ≡ (attribute_at format s bytes at >>= λ a. Ok (a.0 ∷ [], a.1))
+    by_layout : (layout : Option ValueLayout) → plain_layout s ≡ layout → step_at format (Keep s layout) bytes at ≡ (attribute_at format s bytes at >>= λ a. Ok (a.0 ∷ [], a.1))
     by_layout None is = refl
     by_layout (Some layout) is = ap (λ (r : Result (Attribute × ℕ) Cause). r >>= λ a. Ok (a.0 ∷ [], a.1)) (taken-is format s layout bytes at is)
 
-    by_test : (b : Bool) → step_at format (cond b (take_of s) (pass_of format s)) bytes at ≡ (attribute_at format s bytes at >>= λ a. Ok (cond b (a.0 ∷ []) [], a.1))
+    by_test : (b : Bool) → step_at format (cond b (Keep s (plain_layout s)) (pass_of format s)) bytes at ≡ (attribute_at format s bytes at >>= λ a. Ok (cond b (a.0 ∷ []) [], a.1))
     by_test true = by_layout (plain_layout s) refl
     by_test false = by_len (fixed_len format s) refl
 
@@ -273,11 +273,9 @@ before-is format (Skip n) (Skip m ∷ steps) bytes at = by_test (nat_le (n + m) 
     by_test true = joined-is format n m steps bytes at
     by_test false = refl
 before-is format (Skip n) (Pass t ∷ steps) bytes at = refl
-before-is format (Skip n) (Take t layout ∷ steps) bytes at = refl
-before-is format (Skip n) (Keep t ∷ steps) bytes at = refl
+before-is format (Skip n) (Keep t layout ∷ steps) bytes at = refl
 before-is format (Pass s) (next ∷ steps) bytes at = refl
-before-is format (Take s layout) (next ∷ steps) bytes at = refl
-before-is format (Keep s) (next ∷ steps) bytes at = refl
+before-is format (Keep s layout) (next ∷ steps) bytes at = refl
 
 -- ---- the attributes that are kept
 

@@ -21,10 +21,9 @@ pub(crate) enum AttributeStep {
     Skip(u16),
     /// An attribute is read and judged, and not kept.
     Pass(AttributeSpecification),
-    /// An attribute is read in a layout and kept: none of its values is refused.
-    Take(AttributeSpecification, ValueLayout),
-    /// An attribute is read, judged and kept.
-    Keep(AttributeSpecification),
+    /// An attribute is read and kept. It is judged, unless a layout is known in which none of its
+    /// values is refused.
+    Keep(AttributeSpecification, Option<ValueLayout>),
 }
 
 /// The steps of a declaration, where the used attributes of its entry are kept, and where none are.
@@ -123,11 +122,11 @@ fn read_step(
         AttributeStep::Pass(specification) => {
             read_attribute(format, specification, cursor)?;
         }
-        AttributeStep::Take(specification, layout) => {
-            found.push(take_attribute(format, specification, *layout, cursor)?)?;
-        }
-        AttributeStep::Keep(specification) => {
+        AttributeStep::Keep(specification, None) => {
             found.push(read_attribute(format, specification, cursor)?)?;
+        }
+        AttributeStep::Keep(specification, Some(layout)) => {
+            found.push(take_attribute(format, specification, *layout, cursor)?)?;
         }
     }
     Ok(())
@@ -177,14 +176,14 @@ fn steps(
 fn push_before(steps: &mut Vec<AttributeStep>, step: AttributeStep) -> Result<(), AllocError>
     ensures { OnOk result (reverse steps.new.items ≡ step_before step (reverse steps.old.items)) }
 {
-    let next = steps.last().copied();
-    match next.and_then(|next| joined(step, next)) {
-        Some(both) => {
+    if let Some(next) = steps.last().copied() {
+        if let Some(both) = joined(step, next) {
             steps.pop();
             steps.push(both)?;
+            return Ok(());
         }
-        None => steps.push(step)?,
     }
+    steps.push(step)?;
     Ok(())
 }
 
@@ -206,10 +205,7 @@ fn step_of(keep: bool, format: Format, specification: &AttributeSpecification) -
     ensures { result ≡ step_of keep format specification.now }
 {
     if keep && is_used(specification.name) {
-        return match plain_layout(specification) {
-            Some(layout) => AttributeStep::Take(*specification, layout),
-            None => AttributeStep::Keep(*specification),
-        };
+        return AttributeStep::Keep(*specification, plain_layout(specification));
     }
     match fixed_len(format, specification) {
         Some(len) => AttributeStep::Skip(len),

@@ -17,7 +17,7 @@ use Rattle.dwarf_forms.specs.declared.attribute.AttributeSpecification.{Attribut
 use Rattle.dwarf_forms.specs.Declarations.{Declaration}
 use Rattle.dwarf_units.specs.declared.attributes.Attribute.{Attribute}
 use Rattle.dwarf_units.specs.declared.plans.AttributeStep.{AttributeStep}
-use Rattle.dwarf_units.specs.declared.plans.AttributeStep.TheVariants.{Skip, Pass, Take, Keep}
+use Rattle.dwarf_units.specs.declared.plans.AttributeStep.TheVariants.{Skip, Pass, Keep}
 use Rattle.dwarf_units.specs.Attributes.{is_used, accepts, is_negative_count, number_of}
 use Rattle.dwarf_units.specs.Entries.{attribute_at, attributes_at}
 
@@ -82,12 +82,8 @@ plain_layout s = if accepts s.name s.form then (elim (form_of s.form) [
   | Some Indirect ↦ None
 ]) else None
 
--- an attribute that is kept
-abbrev pub take_of : AttributeSpecification → AttributeStep
-take_of s = option_map_or (λ layout. Take s layout) (plain_layout s) (Keep s)
-
 abbrev pub step_of : Bool → Format → AttributeSpecification → AttributeStep
-step_of keep format s = if keep && is_used s.name then take_of s else pass_of format s
+step_of keep format s = if keep && is_used s.name then Keep s (plain_layout s) else pass_of format s
 
 -- the most bytes of one step
 abbrev pub skip_limit : ℕ
@@ -97,11 +93,9 @@ skip_limit = 65535
 abbrev pub joined : AttributeStep → AttributeStep → Option AttributeStep
 joined (Skip n) (Skip m) = if nat_le (n + m) skip_limit then Some (Skip (n + m)) else None
 joined (Skip n) (Pass t) = None
-joined (Skip n) (Take t layout) = None
-joined (Skip n) (Keep t) = None
+joined (Skip n) (Keep t layout) = None
 joined (Pass s) next = None
-joined (Take s layout) next = None
-joined (Keep s) next = None
+joined (Keep s layout) next = None
 
 -- a step in front of others
 abbrev pub step_before : AttributeStep → List AttributeStep → List AttributeStep
@@ -121,8 +115,8 @@ taken_at format s layout bytes at = reading (content_at layout format bytes at) 
 abbrev pub step_at : Format → AttributeStep → List ℕ → ℕ → Result (List Attribute × ℕ) Cause
 step_at format (Skip n) bytes at = reading (block_at n bytes at) >>= λ block. Ok ([], block.1)
 step_at format (Pass s) bytes at = attribute_at format s bytes at >>= λ a. Ok ([], a.1)
-step_at format (Take s layout) bytes at = taken_at format s layout bytes at >>= λ a. Ok (a.0 ∷ [], a.1)
-step_at format (Keep s) bytes at = attribute_at format s bytes at >>= λ a. Ok (a.0 ∷ [], a.1)
+step_at format (Keep s (Some layout)) bytes at = taken_at format s layout bytes at >>= λ a. Ok (a.0 ∷ [], a.1)
+step_at format (Keep s None) bytes at = attribute_at format s bytes at >>= λ a. Ok (a.0 ∷ [], a.1)
 
 -- what is kept already, and what a read keeps behind it
 abbrev pub in_front : {X : Type 0} → List X → Result (List X × ℕ) Cause → Result (List X × ℕ) Cause
