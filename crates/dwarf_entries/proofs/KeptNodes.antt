@@ -1,6 +1,6 @@
 -- An entry of which only some attributes are kept.
 use Rattle.std.proofs.Common.{◌≡◌, ℕ, List, [], ◌∷◌, Bool, true, false, cond, refl, ap, sym, ◌∙◌, subst}
-use Rattle.std.specs.Prelude.{Option, Some, None, is_some, option_map, Ok, find, filter, not, ◌==◌, ◌||◌}
+use Rattle.std.specs.Prelude.{Option, Some, None, is_some, option_map, Ok, find, filter, not, ◌==◌}
 use Rattle.std.proofs.lemmas.Bool.{false≢true, eqb-true}
 use Rattle.dwarf_bytes.specs.declared.constants.TheConstants.{DW_AT_ABSTRACT_ORIGIN, DW_AT_ADDR_BASE, DW_AT_LINKAGE_NAME, DW_AT_LOW_PC, DW_AT_NAME, DW_AT_RNGLISTS_BASE, DW_AT_SPECIFICATION, DW_AT_STMT_LIST, DW_AT_STR_OFFSETS_BASE}
 use Rattle.dwarf_bytes.specs.declared.format.Format.{Format}
@@ -12,9 +12,9 @@ use Rattle.dwarf_entries.specs.declared.kept.Keeping.{Keeping}
 use Rattle.dwarf_entries.specs.declared.kept.RootEntry.{RootEntry}
 use Rattle.dwarf_units.specs.Attributes.{is_used}
 use Rattle.dwarf_units.specs.Entries.{Die, value_of, node_behind}
-use Rattle.dwarf_entries.specs.Private.Kept.{keeps, named_entry, root_entry}
+use Rattle.dwarf_entries.specs.Private.Kept.{named_entry, root_entry}
 use Rattle.dwarf_entries.specs.Names.{or_else}
-use Rattle.dwarf_entries.specs.Private.Readers.{keeps_attributes, HoldsKept, node_of, Walked, depth_behind, after_die, walked_at}
+use Rattle.dwarf_entries.specs.Private.Readers.{HoldsKept, node_of, Walked, depth_behind, after_die, walked_at}
 use Rattle.dwarf_units.specs.Private.Plans.{kept_attributes}
 
 -- the value of a used attribute is kept where used attributes are
@@ -52,19 +52,15 @@ pub named-kept : (die : Die) → named_entry (die_of_kept die) ≡ named_entry d
 named-kept die =
     rw (value-kept die.attributes DW_AT_ABSTRACT_ORIGIN refl, value-kept die.attributes DW_AT_SPECIFICATION refl, value-kept die.attributes DW_AT_NAME refl, value-kept die.attributes DW_AT_LINKAGE_NAME refl) refl
 
-or_false : (a b : Bool) → (a || b) ≡ false → (a ≡ false) × (b ≡ false)
-or_false true b h = absurd (false≢true (sym h))
-or_false false b h = (refl, h)
-
 -- where a root stands before, a later entry is none
 root-stays : (root : Option RootEntry) (x y : RootEntry) → not (is_some root) ≡ false → or_else root (Some x) ≡ or_else root (Some y)
 root-stays (Some r) x y rooted = refl
 root-stays None x y rooted = absurd (false≢true (sym rooted))
 
 -- what is kept of an entry is kept of those of its attributes that are
-pub after-kept : (keeping : Keeping) (w : Walked) (offset depth tag : ℕ) (all found : List Attribute) → found ≡ kept_attributes (keeps_attributes keeping (is_some w.root) tag) all →
+pub after-kept : (keeping : Keeping) (w : Walked) (offset depth tag : ℕ) (all found : List Attribute) → found ≡ kept_attributes (not (is_some w.root)) all →
     after_die keeping w (record { offset = offset; depth = depth; tag = tag; attributes = found }) ≡ after_die keeping w (record { offset = offset; depth = depth; tag = tag; attributes = all })
-after-kept keeping w offset depth tag all found are = by_flag (keeps_attributes keeping (is_some w.root) tag) refl are
+after-kept keeping w offset depth tag all found are = by_flag (not (is_some w.root)) refl are
   where
     die : Die
     die = record { offset = offset; depth = depth; tag = tag; attributes = all }
@@ -72,20 +68,18 @@ after-kept keeping w offset depth tag all found are = by_flag (keeps_attributes 
     other : Die
     other = record { offset = offset; depth = depth; tag = tag; attributes = found }
 
-    by_flag : (f : Bool) → keeps_attributes keeping (is_some w.root) tag ≡ f → found ≡ kept_attributes f all → after_die keeping w other ≡ after_die keeping w die
-    by_flag true is are = rw are (rw (root-kept die, named-kept die) refl)
-    by_flag false is are =
-        let both = or_false (not (is_some w.root)) (keeps keeping tag) is in
-        rw (both.1, root-stays w.root (root_entry other) (root_entry die) both.0) refl
+    by_flag : (f : Bool) → not (is_some w.root) ≡ f → found ≡ kept_attributes f all → after_die keeping w other ≡ after_die keeping w die
+    by_flag true is are = rw are (rw (root-kept die) refl)
+    by_flag false is are = rw (root-stays w.root (root_entry other) (root_entry die) is) refl
 
 -- what a step found is read, and its buffer holds what is kept of the attributes
-abbrev ReadsEntry : Keeping → Format → List Declaration → Walked → Bool → List ℕ → ℕ → ℕ → Option NodeHead → List Attribute → Type 0
-ReadsEntry keeping format table w rooted unit at after found attributes =
-    (all : List Attribute) × (node_behind format table w.depth rooted unit at ≡ Ok (node_of found all, after)) × HoldsKept (keeps_attributes keeping rooted) found attributes all
+abbrev ReadsEntry : Format → List Declaration → Walked → Bool → List ℕ → ℕ → ℕ → Option NodeHead → List Attribute → Type 0
+ReadsEntry format table w rooted unit at after found attributes =
+    (all : List Attribute) × (node_behind format table w.depth rooted unit at ≡ Ok (node_of found all, after)) × HoldsKept (not rooted) found attributes all
 
 -- what is kept of an entry that is read
 entry-kept : (keeping : Keeping) (format : Format) (table : List Declaration) (w kept : Walked) (unit : List ℕ) (at after : ℕ) (head : NodeHead) (attributes : List Attribute) →
-    ReadsEntry keeping format table w (is_some w.root) unit at after (Some head) attributes →
+    ReadsEntry format table w (is_some w.root) unit at after (Some head) attributes →
     kept ≡ after_die keeping w (record { offset = at; depth = w.depth; tag = head.tag; attributes = attributes }) →
     walked_at keeping format table w unit at ≡ Ok (record kept { depth = depth_behind head.children w.depth }, after)
 entry-kept keeping format table w kept unit at after head attributes read is =
@@ -94,12 +88,12 @@ entry-kept keeping format table w kept unit at after head attributes read is =
 
 -- .. by a step, which knows whether the root stands before, where the entry stands, and what its buffer holds
 pub step-kept : (keeping : Keeping) (format : Format) (table : List Declaration) (w kept : Walked) (unit : List ℕ) (at after : ℕ) (found : Option NodeHead) (head : NodeHead) (attributes buffer : List Attribute) (rooted : Bool) (offset : ℕ) →
-    rooted ≡ is_some w.root → offset ≡ at → buffer ≡ attributes → found ≡ Some head → ReadsEntry keeping format table w rooted unit at after found attributes →
+    rooted ≡ is_some w.root → offset ≡ at → buffer ≡ attributes → found ≡ Some head → ReadsEntry format table w rooted unit at after found attributes →
     kept ≡ after_die keeping w (record { offset = offset; depth = w.depth; tag = head.tag; attributes = buffer }) →
     walked_at keeping format table w unit at ≡ Ok (record kept { depth = depth_behind head.children w.depth }, after)
 step-kept keeping format table w kept unit at after found head attributes buffer rooted offset known place held is read kept_is =
-    let first = subst (λ (r : Bool). ReadsEntry keeping format table w r unit at after found attributes) known read in
-    let second = subst (λ (f : Option NodeHead). ReadsEntry keeping format table w (is_some w.root) unit at after f attributes) is first in
+    let first = subst (λ (r : Bool). ReadsEntry format table w r unit at after found attributes) known read in
+    let second = subst (λ (f : Option NodeHead). ReadsEntry format table w (is_some w.root) unit at after f attributes) is first in
     entry-kept keeping format table w kept unit at after head attributes second
     (kept_is ∙ (ap (λ (k : ℕ). after_die keeping w (record { offset = k; depth = w.depth; tag = head.tag; attributes = buffer })) place
     ∙ ap (λ (b : List Attribute). after_die keeping w (record { offset = at; depth = w.depth; tag = head.tag; attributes = b })) held))

@@ -14,6 +14,7 @@ use Rattle.dwarf_bytes.proofs.Advance.{after_bind, after_test, chosen, reading_o
 use Rattle.dwarf_bytes.proofs.ItemLaws.{Lists-within}
 use Rattle.dwarf_forms.specs.Declarations.{Declaration}
 use Rattle.dwarf_forms.specs.Tables.{declarations_of}
+use Rattle.dwarf_units.proofs.AgainLaws.{entries-again}
 use Rattle.dwarf_units.proofs.TableLaws.{table_for, table_few, table_again}
 use Rattle.dwarf_entries.specs.Private.Again.{IsReadIn, AreReadIn}
 use Rattle.dwarf_bytes.proofs.Moves.{same_ok, same_item}
@@ -233,7 +234,7 @@ in-order keeping s size from (header ∷ headers) (table ∷ tables) before dies
         put_front : (h : UnitHeader) (ds : List Die) (bases : Bases) (others : List CompilationUnit) → entries_of s.debug_info header table ≡ Ok first → h ≡ header → ds ≡ first → RiseWithin header.start header.end first → Ordered keeping s header.end headers rest others →
             Ordered keeping s from (header ∷ headers) (first ∷ rest) (record { header = h; dies = ds; bases = bases } ∷ others)
         put_front h ds bases others first_is h_is ds_are rises later =
-            rw (h_is, ds_are) ((order.0, rises, later.0), ap (λ (us : List KeptUnit). kept_unit keeping header first ∷ us) later.1, (record { table = table; table_is = stand.0; dies_are = first_is }, later.2))
+            rw (h_is, ds_are) ((order.0, rises, later.0), ap (λ (us : List KeptUnit). kept_unit keeping header first ∷ us) later.1, (record { table = table; table_is = stand.0; again = entries-again s.debug_info header table first first_is }, later.2))
 
 -- the units of .debug_info with their entries stand in order, what is kept of them is what is kept of their headers and entries, and
 -- their entries are those that stand in them

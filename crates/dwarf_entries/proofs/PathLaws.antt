@@ -1,5 +1,5 @@
 -- The turns of the loop along a path, and the texts of what it kept.
-use Rattle.std.proofs.Common.{◌≡◌, ℕ, zero, suc, ◌+◌, List, [], ◌∷◌, ◌++◌, refl, sym, ap, ◌∙◌, subst, arith, append_assoc}
+use Rattle.std.proofs.Common.{◌≡◌, inl, inr, ℕ, zero, suc, ◌+◌, List, [], ◌∷◌, ◌++◌, refl, sym, ap, ◌∙◌, subst, arith, append_assoc}
 use Rattle.std.specs.Prelude.{Option, Some, None, Result, Ok, Err, map, slice_get, option_map, ok_or}
 use Rattle.std.specs.Option.{option_or, option_and_then}
 use Rattle.std.proofs.lemmas.Option.{slice_get-map}
@@ -7,6 +7,7 @@ use Rattle.dwarf_bytes.specs.declared.constants.TheConstants.{DW_AT_LINKAGE_NAME
 use Rattle.dwarf_bytes.specs.declared.fault.Cause.{Cause}
 use Rattle.dwarf_bytes.specs.declared.fault.Cause.TheVariants as causes
 use Rattle.dwarf_bytes.specs.Bind.{◌>>=◌}
+use Rattle.dwarf_bytes.specs.Refusals.{Fails}
 use Rattle.dwarf_units.specs.declared.attributes.AttributeValue.{AttributeValue}
 use Rattle.dwarf_entries.specs.declared.bases.Bases.{Bases}
 use Rattle.dwarf_entries.specs.declared.bases.Table.{Table}
@@ -14,13 +15,14 @@ use Rattle.dwarf_bytes.specs.declared.text.Text.{Text}
 use Rattle.dwarf_entries.specs.declared.kept.NamedEntry.{NamedEntry}
 use Rattle.dwarf_entries.specs.declared.paths.UnitAttribute.{UnitAttribute}
 use Rattle.dwarf_entries.specs.declared.paths.UnitEntry.{UnitEntry}
+use Rattle.dwarf_entries.specs.declared.paths.UnitPlace.{UnitPlace}
 use Rattle.dwarf_entries.specs.declared.paths.FirstNames.{FirstNames}
 use Rattle.dwarf_entries.specs.declared.paths.EntryNames.{EntryNames}
 use Rattle.dwarf_entries.specs.Sections.{Sections}
 use Rattle.dwarf_units.specs.Entries.{attribute}
 use Rattle.dwarf_entries.specs.Bases.{CompilationUnit, optional}
 use Rattle.dwarf_entries.specs.Names.{Member, or_else, next_of, target_of, path_within, path_of, of_member, first_on, text_of, name_on, names_of, hops_limit}
-use Rattle.dwarf_entries.specs.Private.Members.{IsMember, Finds, IsFirst, AreFirst, FindsFirst, str_offsets_of}
+use Rattle.dwarf_entries.specs.Private.Members.{IsMember, IsPlaceOf, Finds, IsFirst, AreFirst, FindsFirst, str_offsets_of}
 
 -- ---- the first attribute of a name
 
@@ -111,18 +113,18 @@ pub stopped : (units : List CompilationUnit) (last : Member) (reference : Attrib
 unfolding path_within
 stopped units last reference is = rw (is, path_within) refl
 
-pub followed-next : (units : List CompilationUnit) (m : Member) (left after : ℕ) (found next : UnitEntry) (firsts firsts_after : FirstNames) (reference : AttributeValue) → Followed units m left found firsts → after + 1 ≡ left → found.entry.next ≡ Some reference →
-    ((u : CompilationUnit) → slice_get units found.unit ≡ Some u → Finds units (Some next) (target_of units u reference)) →
+pub followed-next : (units : List CompilationUnit) (m : Member) (left after : ℕ) (found next : UnitEntry) (place : UnitPlace) (firsts firsts_after : FirstNames) (reference : AttributeValue) → Followed units m left found firsts → after + 1 ≡ left → found.entry.next ≡ Some reference →
+    ((u : CompilationUnit) → slice_get units found.unit ≡ Some u → Finds units (Some place) (target_of units u reference)) → ((n : Member) → IsPlaceOf units place n → IsMember units next.unit next.entry n) →
     ((path : List Member) (n : Member) → AreFirst units firsts path → IsMember units next.unit next.entry n → AreFirst units firsts_after (path ++ n ∷ [])) → Followed units m after next firsts_after
-followed-next units m left after found next firsts firsts_after reference so_far left_is is finds more =
+followed-next units m left after found next place firsts firsts_after reference so_far left_is is finds again more =
     let to = finds so_far.last.unit so_far.at.unit_is in
     let hop = next-is units found so_far.last (Some reference) so_far.at is in
     record {
       before = so_far.before ++ so_far.last ∷ [];
       last = to.0;
-      at = to.2;
+      at = again to.0 to.2;
       rest = so_far.rest ∙ (followed-on units so_far.before left after so_far.last reference left_is hop (Ok to.0) to.1 ∙ joined so_far.before so_far.last (path_within after units to.0));
-      kept = more (so_far.before ++ so_far.last ∷ []) to.0 so_far.kept to.2;
+      kept = more (so_far.before ++ so_far.last ∷ []) to.0 so_far.kept (again to.0 to.2);
     }
 
 pub followed-end : (units : List CompilationUnit) (m : Member) (left : ℕ) (found : UnitEntry) (firsts : FirstNames) → Followed units m left found firsts → found.entry.next ≡ None → FindsFirst units (Ok firsts) (path_of units m)
@@ -136,16 +138,21 @@ followed-deep units m left found firsts reference so_far none is =
     so_far.rest ∙ (ap (λ (k : ℕ). behind so_far.before (path_within k units so_far.last)) none ∙ ap (λ (r : Result (List Member) Cause). behind so_far.before r) (stopped units so_far.last reference hop))
 
 pub followed-lost : (units : List CompilationUnit) (m : Member) (left after : ℕ) (found : UnitEntry) (firsts : FirstNames) (reference : AttributeValue) → Followed units m left found firsts → after + 1 ≡ left → found.entry.next ≡ Some reference →
-    (next : Option UnitEntry) (cause : Cause) → (let refused : Result UnitEntry Cause = Err cause in refused ≡ ok_or next causes.Reference) → ((u : CompilationUnit) → slice_get units found.unit ≡ Some u → Finds units next (target_of units u reference)) → path_of units m ≡ Err cause
+    (next : Option UnitPlace) (cause : Cause) → (let refused : Result UnitPlace Cause = Err cause in refused ≡ ok_or next causes.Reference) → ((u : CompilationUnit) → slice_get units found.unit ≡ Some u → Finds units next (target_of units u reference)) → path_of units m ≡ Err cause
 followed-lost units m left after found firsts reference so_far left_is is (Some next) cause refused finds = cc
 followed-lost units m left after found firsts reference so_far left_is is None cause refused finds =
     let lost = finds so_far.last.unit so_far.at.unit_is in
     let hop = next-is units found so_far.last (Some reference) so_far.at is in
-    let same : causes.Reference ≡ cause = same_err {X = UnitEntry} cause causes.Reference refused in
+    let same : causes.Reference ≡ cause = same_err {X = UnitPlace} cause causes.Reference refused in
     so_far.rest ∙ (followed-on units so_far.before left after so_far.last reference left_is hop (Err causes.Reference) lost ∙ ap (λ (c : Cause). Err c) same)
   where
     same_err : {X : Type 0} (x y : Cause) → (let f : Cause → Result X Cause = λ z. Err z in f x ≡ f y) → y ≡ x
     same_err x y h = cc
+
+-- where the entry at the end of a hop is not read again, memory is wanting
+pub followed-again : (units : List CompilationUnit) (m : Member) (left : ℕ) (found : UnitEntry) (place : UnitPlace) (firsts : FirstNames) (reference : AttributeValue) (cause : Cause) → Followed units m left found firsts →
+    ((u : CompilationUnit) → slice_get units found.unit ≡ Some u → Finds units (Some place) (target_of units u reference)) → ((n : Member) → IsPlaceOf units place n → cause ≡ causes.Memory) → cause ≡ causes.Memory
+followed-again units m left found place firsts reference cause so_far finds again = let to = finds so_far.last.unit so_far.at.unit_is in again to.0 to.2
 
 -- ---- the texts
 
@@ -177,3 +184,9 @@ names-found s bases units m firsts are found name linkage_name name_is linkage_i
     ap (λ (r : Result (Option Text) Cause). both_names r linkage_name) first
     ∙ (ap (λ (r : Result (Option Text) Cause). both_names (name_on DW_AT_NAME s path) r) second
     ∙ ap (λ (p : Result (List Member) Cause). p >>= λ path. both_names (name_on DW_AT_NAME s path) (name_on DW_AT_LINKAGE_NAME s path)) (sym found.1))
+
+-- a path that is not followed has no names
+pub path-fails : (s : Sections) (units : List CompilationUnit) (m : Member) (cause : Cause) → Fails cause (path_of units m) → Fails cause (names_of s units m)
+path-fails s units m cause (inl memory) = inl memory
+path-fails s units m cause (inr bad) =
+    inr (ap (λ (p : Result (List Member) Cause). p >>= λ path. both_names (name_on DW_AT_NAME s path) (name_on DW_AT_LINKAGE_NAME s path)) bad)

@@ -13,17 +13,14 @@ use Rattle.dwarf_bytes.specs.declared.constants.TheConstants.{DW_FORM_REF_ADDR}
 use Rattle.dwarf_bytes.specs.declared.fault.Cause.TheVariants as causes
 use Rattle.dwarf_units.specs.declared.unit_headers.UnitHeader.{UnitHeader}
 use Rattle.dwarf_units.specs.declared.attributes.AttributeValue.{AttributeValue}
-use Rattle.dwarf_entries.specs.declared.kept.NamedEntry.{NamedEntry}
 use Rattle.dwarf_entries.specs.declared.kept.UnitEntries.{UnitEntries}
-use Rattle.dwarf_entries.specs.declared.paths.UnitEntry.{UnitEntry}
+use Rattle.dwarf_entries.specs.declared.paths.UnitPlace.{UnitPlace}
 use Rattle.dwarf_units.specs.Entries.{Die}
 use Rattle.dwarf_entries.specs.Bases.{CompilationUnit}
 use Rattle.dwarf_entries.specs.Names.{Member, members_of, member_at, target_of}
-use Rattle.dwarf_entries.specs.Private.Kept.{named_entry, AreInOrder}
+use Rattle.dwarf_entries.specs.Private.Kept.{AreInOrder}
 use Rattle.dwarf_units.specs.Private.Rising.{RiseWithin}
-use Rattle.dwarf_entries.specs.declared.packed.PackedEntry.{PackedEntry}
-use Rattle.dwarf_entries.specs.Private.Packed.{unpacked_entry}
-use Rattle.dwarf_entries.specs.Private.Members.{NamedUnit, named_unit, named_of, AreKept, Finds, member_in}
+use Rattle.dwarf_entries.specs.Private.Members.{PlacedUnit, placed_unit, placed_of, AreKept, Finds, member_in}
 
 -- ---- lists of numbers that do not fall
 
@@ -158,12 +155,12 @@ map-twice f g [] = refl
 map-twice f g (x ∷ xs) = ap (λ (zs : List _). f (g x) ∷ zs) (map-twice f g xs)
 
 pub kept-length : (kept : List UnitEntries) (units : List CompilationUnit) → AreKept kept units → length kept ≡ length units
-kept-length kept units are = sym (length-map kept named_of) ∙ (ap length are.same ∙ length-map units named_unit)
+kept-length kept units are = sym (length-map kept placed_of) ∙ (ap length are.same ∙ length-map units placed_unit)
 
 ends-kept : (kept : List UnitEntries) (units : List CompilationUnit) → AreKept kept units → map (λ (k : UnitEntries). k.header.end) kept ≡ map (λ (u : CompilationUnit). u.header.end) units
 ends-kept kept units are =
-    let end : NamedUnit → ℕ = λ r. r.header.end in
-    sym (map-twice end named_of kept) ∙ (ap (λ (rs : List NamedUnit). map end rs) are.same ∙ map-twice end named_unit units)
+    let end : PlacedUnit → ℕ = λ r. r.header.end in
+    sym (map-twice end placed_of kept) ∙ (ap (λ (rs : List PlacedUnit). map end rs) are.same ∙ map-twice end placed_unit units)
 
 pub ends-rise : (kept : List UnitEntries) (units : List CompilationUnit) → AreKept kept units → IsNonDecreasingBy (λ (k : UnitEntries). k.header.end) kept
 ends-rise kept units are = rising-by (λ (k : UnitEntries). k.header.end) kept 0 (subst (λ (xs : List ℕ). RiseFrom 0 xs) (sym (ends-kept kept units are)) (units-rise 0 units are.order))
@@ -178,39 +175,40 @@ pub record UnitAt (units : List CompilationUnit) (n : ℕ) (k : UnitEntries) : T
   pub unit : CompilationUnit
   pub is : slice_get units n ≡ Some unit
   pub header : k.header ≡ unit.header
-  pub entries : map unpacked_entry k.entries.items ≡ map named_entry unit.dies
+  pub entries : k.entries.items ≡ map (λ (d : Die). d.offset) unit.dies
   pub within : RiseWithin unit.header.start unit.header.end unit.dies
 
 pub unit-at : (kept : List UnitEntries) (units : List CompilationUnit) → AreKept kept units → (n : ℕ) (k : UnitEntries) → n < length kept → ((d : UnitEntries) → k ≡ get_or kept n d) → UnitAt units n k
 unit-at kept units are n k lt is = by_found (slice_get units n) refl
   where
-    same : Some (named_of k) ≡ option_map named_unit (slice_get units n)
+    same : Some (placed_of k) ≡ option_map placed_unit (slice_get units n)
     same =
         let here : slice_get kept n ≡ Some k = slice_get-get_or kept n k lt ∙ ap (λ (x : UnitEntries). Some x) (sym (is k)) in
-        ap (λ (o : Option UnitEntries). option_map named_of o) (sym here)
-        ∙ (sym (slice_get-map named_of kept n) ∙ (ap (λ (rs : List NamedUnit). slice_get rs n) are.same ∙ slice_get-map named_unit units n))
+        ap (λ (o : Option UnitEntries). option_map placed_of o) (sym here)
+        ∙ (sym (slice_get-map placed_of kept n) ∙ (ap (λ (rs : List PlacedUnit). slice_get rs n) are.same ∙ slice_get-map placed_unit units n))
 
     by_found : (found : Option CompilationUnit) → slice_get units n ≡ found → UnitAt units n k
-    by_found None h = absurd (never (same ∙ ap (λ (o : Option CompilationUnit). option_map named_unit o) h))
+    by_found None h = absurd (never (same ∙ ap (λ (o : Option CompilationUnit). option_map placed_unit o) h))
       where
-        never : Some (named_of k) ≡ None → ⊥
+        never : Some (placed_of k) ≡ None → ⊥
         never e = cc
     by_found (Some u) h =
-        let e : named_of k ≡ named_unit u = same_Some (named_of k) (named_unit u) (same ∙ ap (λ (o : Option CompilationUnit). option_map named_unit o) h) in
+        let e : placed_of k ≡ placed_unit u = same_Some (placed_of k) (placed_unit u) (same ∙ ap (λ (o : Option CompilationUnit). option_map placed_unit o) h) in
         record {
           unit = u;
           is = h;
-          header = ap (λ (r : NamedUnit). r.header) e;
-          entries = ap (λ (r : NamedUnit). r.entries) e;
+          header = ap (λ (r : PlacedUnit). r.header) e;
+          entries = ap (λ (r : PlacedUnit). r.entries) e;
           within = within-at 0 units are.order n u h;
         }
 
-entries-rise : (units : List CompilationUnit) (n : ℕ) (k : UnitEntries) → UnitAt units n k → IsNonDecreasingBy (λ (e : PackedEntry). e.offset) k.entries.items
+self-map : (xs : List ℕ) → map (λ (x : ℕ). x) xs ≡ xs
+self-map [] = refl
+self-map (x ∷ xs) = ap (λ (ys : List ℕ). x ∷ ys) (self-map xs)
+
+entries-rise : (units : List CompilationUnit) (n : ℕ) (k : UnitEntries) → UnitAt units n k → IsNonDecreasingBy (λ (e : ℕ). e) k.entries.items
 entries-rise units n k at =
-    let offset : NamedEntry → ℕ = λ e. e.offset in
-    let packed : PackedEntry → ℕ = λ e. e.offset in
-    let offsets : map packed k.entries.items ≡ map (λ (d : Die). d.offset) at.unit.dies = sym (map-twice offset unpacked_entry k.entries.items) ∙ ap (λ (es : List NamedEntry). map offset es) at.entries ∙ map-twice offset named_entry at.unit.dies in
-    rising-by packed k.entries.items at.unit.header.start (subst (λ (xs : List ℕ). RiseFrom at.unit.header.start xs) (sym offsets) (dies-rise at.unit.header.start at.unit.header.end at.unit.dies at.within))
+    rising-by (λ (e : ℕ). e) k.entries.items at.unit.header.start (subst (λ (xs : List ℕ). RiseFrom at.unit.header.start xs) (sym (self-map k.entries.items ∙ at.entries)) (dies-rise at.unit.header.start at.unit.header.end at.unit.dies at.within))
 
 pub start-kept : (kept : List UnitEntries) (units : List CompilationUnit) → AreKept kept units → (n : ℕ) (k : UnitEntries) → n < length kept → ((d : UnitEntries) → k ≡ get_or kept n d) → (u : CompilationUnit) → slice_get units n ≡ Some u →
     k.header.start ≡ u.header.start
@@ -220,13 +218,22 @@ start-kept kept units are n k lt is u at =
 
 -- ---- the entry at an offset, of one unit
 
-abbrev in_place : ℕ → Option NamedEntry → Option UnitEntry
-in_place n found = option_map (λ entry. record { unit = n; entry = entry }) found
+abbrev in_place : ℕ → Option ℕ → Option UnitPlace
+in_place n found = option_map (λ offset. record { unit = n; offset = offset }) found
+
+-- what is found stands in the list
+find-index : (p : Die → Bool) (dies : List Die) (die : Die) → find p dies ≡ Some die → (i : ℕ) × (slice_get dies i ≡ Some die)
+find-index p [] die h = cc
+find-index p (d ∷ dies) die h = by_test (p d) h (λ later. find-index p dies die later)
+  where
+    by_test : (b : Bool) → cond b (Some d) (find p dies) ≡ Some die → (find p dies ≡ Some die → (i : ℕ) × (slice_get dies i ≡ Some die)) → (i : ℕ) × (slice_get (d ∷ dies) i ≡ Some die)
+    by_test true h later = (0, h)
+    by_test false h later = let behind = later h in (suc behind.0, behind.1)
 
 pub finds-in : (kept : List UnitEntries) (units : List CompilationUnit) → AreKept kept units → (n offset : ℕ) (k : UnitEntries) → n < length kept → ((d : UnitEntries) → k ≡ get_or kept n d) →
-    (items : List PackedEntry) → items ≡ k.entries.items → (found : Option NamedEntry) → (IsNonDecreasingBy (λ (e : PackedEntry). e.offset) items → found ≡ find (λ e. e.offset == offset) (map unpacked_entry items)) →
+    (items : List ℕ) → items ≡ k.entries.items → (found : Option ℕ) → (IsNonDecreasingBy (λ (e : ℕ). e) items → found ≡ find (λ e. e == offset) items) →
     Finds units (in_place n found) (member_in units n offset)
-finds-in kept units are n offset k lt is items items_are found search_is = by_die (find of_die u.dies) found found_is outcome_is
+finds-in kept units are n offset k lt is items items_are found search_is = by_die (find of_die u.dies) refl found found_is outcome_is
   where
     at : UnitAt units n k
     at = unit-at kept units are n k lt is
@@ -237,22 +244,26 @@ finds-in kept units are n offset k lt is items items_are found search_is = by_di
     of_die : Die → Bool
     of_die d = d.offset == offset
 
-    found_is : found ≡ option_map named_entry (find of_die u.dies)
+    offset_of : Die → ℕ
+    offset_of d = d.offset
+
+    found_is : found ≡ option_map offset_of (find of_die u.dies)
     found_is =
-        let p : NamedEntry → Bool = λ e. e.offset == offset in
-        let rise : IsNonDecreasingBy (λ (e : PackedEntry). e.offset) items = subst (λ (es : List PackedEntry). IsNonDecreasingBy (λ (e : PackedEntry). e.offset) es) (sym items_are) (entries-rise units n k at) in
-        search_is rise ∙ (ap (λ (es : List NamedEntry). find p es) (ap (λ (es : List PackedEntry). map unpacked_entry es) items_are ∙ at.entries) ∙ find-map p named_entry u.dies)
+        let rise : IsNonDecreasingBy (λ (e : ℕ). e) items = subst (λ (es : List ℕ). IsNonDecreasingBy (λ (e : ℕ). e) es) (sym items_are) (entries-rise units n k at) in
+        search_is rise ∙ (ap (λ (es : List ℕ). find (λ e. e == offset) es) (items_are ∙ at.entries) ∙ find-map (λ e. e == offset) offset_of u.dies)
 
     outcome_is : member_in units n offset ≡ ok_or (option_map (member_of u) (find of_die u.dies)) causes.Reference
     outcome_is =
         let all = ap (λ (ms : List Member). find (stands_at offset) ms) (append-nil (map (member_of u) u.dies)) ∙ find-map (stands_at offset) (member_of u) u.dies in
         ap (λ (o : Option CompilationUnit). member_at (members_of (option_to_list o)) offset) at.is ∙ ap (λ (o : Option Member). ok_or o causes.Reference) all
 
-    by_die : (die : Option Die) (found : Option NamedEntry) → found ≡ option_map named_entry die → member_in units n offset ≡ ok_or (option_map (member_of u) die) causes.Reference → Finds units (in_place n found) (member_in units n offset)
-    by_die None None same outcome = outcome
-    by_die None (Some e) same outcome = cc
-    by_die (Some d) None same outcome = cc
-    by_die (Some d) (Some e) same outcome = (member_of u d, outcome, record { unit_is = at.is; entry_is = same_Some e (named_entry d) same })
+    by_die : (die : Option Die) → find of_die u.dies ≡ die → (found : Option ℕ) → found ≡ option_map offset_of die → member_in units n offset ≡ ok_or (option_map (member_of u) die) causes.Reference → Finds units (in_place n found) (member_in units n offset)
+    by_die None here None same outcome = outcome
+    by_die None here (Some e) same outcome = cc
+    by_die (Some d) here None same outcome = cc
+    by_die (Some d) here (Some e) same outcome =
+        let there = find-index of_die u.dies d here in
+        (member_of u d, outcome, record { unit_is = at.is; offset_is = sym (same_Some e d.offset same); index = there.0; there = there.1 })
 
 -- ---- the entry that a reference names
 

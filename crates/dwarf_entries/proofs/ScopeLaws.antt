@@ -62,12 +62,18 @@ by_names : (keeping : Keeping) (s : Sections) (us : List CompilationUnit) (befor
 by_names keeping s us before p = refl
 
 -- a name that is not read, or a path that does not end
-pub names_fault : (keeping : Keeping) (s : Sections) (units : List UnitEntries) (bases : List Bases) (us : List CompilationUnit) (before : List Judged) (p : ScopeSite) (unit root inside number room : ℕ) (entry : ScopeEntry) (cause : Cause) → IsScopeSite us unit root entry inside number room before p →
-    (IsMember (only_units keeping us) unit entry.entry (only_member keeping p.member) → Err cause ≡ names_of s (only_units keeping us) (only_member keeping p.member)) → Fails cause (scope_with keeping s us before p)
-names_fault keeping s units bases us before p unit root inside number room entry cause place read =
+pub names_fault : (keeping : Keeping) (s : Sections) (us : List CompilationUnit) (before : List Judged) (p : ScopeSite) (unit root inside number room : ℕ) (entry : ScopeEntry) (cause : Cause) → IsScopeSite us unit root entry inside number room before p →
+    (IsMember (only_units keeping us) unit entry.entry (only_member keeping p.member) → Fails cause (names_of s (only_units keeping us) (only_member keeping p.member))) → Fails cause (scope_with keeping s us before p)
+names_fault keeping s us before p unit root inside number room entry cause place read =
     let named : entry.entry ≡ named_entry p.member.die = ap (λ (e : ScopeEntry). e.entry) place.entry_is in
-    inr
-    (by_names keeping s us before p ∙ ap (λ (r : Result EntryNames Cause). r >>= λ names. covers_of (items_limit - sum_by (λ s. s.items) before) s p.member.unit.bases p.member.die >>= λ covering. Ok (scope_of_place before p names covering)) (sym (read (is_member keeping us unit entry.entry p.member place.unit_is named))))
+    by_fault (read (is_member keeping us unit entry.entry p.member place.unit_is named))
+  where
+    by_fault : Fails cause (names_of s (only_units keeping us) (only_member keeping p.member)) → Fails cause (scope_with keeping s us before p)
+    by_fault (inl memory) = inl memory
+    by_fault (inr bad) =
+        inr
+        (by_names keeping s us before p
+        ∙ ap (λ (r : Result EntryNames Cause). r >>= λ names. covers_of (items_limit - sum_by (λ s. s.items) before) s p.member.unit.bases p.member.die >>= λ covering. Ok (scope_of_place before p names covering)) bad)
 
 -- the root and the bases of the place's unit
 pub record UnitAt (keeping : Keeping) (units : List UnitEntries) (bases : List Bases) (unit : ℕ) (u : CompilationUnit) : Type 0 where
@@ -105,14 +111,14 @@ covers_is keeping s units bases us before p unit root inside number room entry d
     rw (here, place.entry_is, place.room_is) refl
 
 -- the scope behind its names
-after_names : (keeping : Keeping) (s : Sections) (us : List CompilationUnit) (before : List Judged) (p : ScopeSite) (names : EntryNames) → Ok names ≡ names_of s (only_units keeping us) (only_member keeping p.member) →
+after_names : (keeping : Keeping) (s : Sections) (us : List CompilationUnit) (before : List Judged) (p : ScopeSite) (names : EntryNames) → names_of s (only_units keeping us) (only_member keeping p.member) ≡ Ok names →
     scope_with keeping s us before p ≡ (covers_there s before p >>= λ covering. Ok (scope_of_place before p names covering))
 after_names keeping s us before p names read =
-    by_names keeping s us before p ∙ ap (λ (r : Result EntryNames Cause). r >>= λ names. covers_there s before p >>= λ covering. Ok (scope_of_place before p names covering)) (sym read)
+    by_names keeping s us before p ∙ ap (λ (r : Result EntryNames Cause). r >>= λ names. covers_there s before p >>= λ covering. Ok (scope_of_place before p names covering)) read
 
 -- ranges that are not read
 pub covers_fault : (keeping : Keeping) (s : Sections) (units : List UnitEntries) (bases : List Bases) (us : List CompilationUnit) (before : List Judged) (p : ScopeSite) (unit root inside number room : ℕ) (entry : ScopeEntry) (names : EntryNames) (cause : Cause) (d : Bases) →
-    AreUnits keeping units bases us → IsScopeSite us unit root entry inside number room before p → (IsMember (only_units keeping us) unit entry.entry (only_member keeping p.member) → Ok names ≡ names_of s (only_units keeping us) (only_member keeping p.member)) →
+    AreUnits keeping units bases us → IsScopeSite us unit root entry inside number room before p → (IsMember (only_units keeping us) unit entry.entry (only_member keeping p.member) → names_of s (only_units keeping us) (only_member keeping p.member) ≡ Ok names) →
     Fails cause (covers_by room s (get_or bases unit d) entry.low_pc entry.high_pc entry.ranges) → Fails cause (scope_with keeping s us before p)
 covers_fault keeping s units bases us before p unit root inside number room entry names cause d kept place read (inl memory) = inl memory
 covers_fault keeping s units bases us before p unit root inside number room entry names cause d kept place read (inr bad) =
@@ -123,7 +129,7 @@ covers_fault keeping s units bases us before p unit root inside number room entr
 
 -- what is told of the scope
 pub scope_is : (keeping : Keeping) (s : Sections) (units : List UnitEntries) (bases : List Bases) (us : List CompilationUnit) (before : List Judged) (p : ScopeSite) (unit root inside number room : ℕ) (entry : ScopeEntry) (names : EntryNames) (items : ℕ) (old new : List Range) (d : Bases) →
-    AreUnits keeping units bases us → IsScopeSite us unit root entry inside number room before p → (IsMember (only_units keeping us) unit entry.entry (only_member keeping p.member) → Ok names ≡ names_of s (only_units keeping us) (only_member keeping p.member)) →
+    AreUnits keeping units bases us → IsScopeSite us unit root entry inside number room before p → (IsMember (only_units keeping us) unit entry.entry (only_member keeping p.member) → names_of s (only_units keeping us) (only_member keeping p.member) ≡ Ok names) →
     AddsRanges (Ok items) old new (covers_by room s (get_or bases unit d) entry.low_pc entry.high_pc entry.ranges) →
     AddsFacts (roots_from 0 us) (Ok (record { kind = entry.kind; offset = entry.entry.offset; number = number; end = number + inside + 1; root = root; name = names.name; linkage_name = names.linkage_name; site = record { file = entry.call_file; line = entry.call_line } }, items)) old new (scope_with keeping s us before p)
 scope_is keeping s units bases us before p unit root inside number room entry names items old new d kept place read (found, covers_read, grown) =

@@ -1,5 +1,5 @@
 -- The turns of the pass over the scopes of all units.
-use Rattle.std.proofs.Common.{◌≡◌, ℕ, ◌+◌, ◌<◌, ◌≤◌, ◌⊎◌, inl, inr, zero, suc, List, [], ◌∷◌, ◌++◌, length, take, drop, get_or, cond, refl, ap, sym, ◌∙◌, subst, arith, append_assoc}
+use Rattle.std.proofs.Common.{◌≡◌, ℕ, ◌+◌, ◌<◌, ◌≤◌, ◌⊎◌, inl, inr, zero, suc, List, [], ◌∷◌, ◌++◌, length, drop, get_or, cond, refl, ap, sym, ◌∙◌, subst, arith, append_assoc}
 use Rattle.std.specs.Prelude.{Result, Ok, Err, Option, Some, None, is_some, slice_get, sum_by}
 use Rattle.std.proofs.lemmas.List.{drop_all, map-append, length-map}
 use Rattle.std.proofs.lemmas.List.Sums.{sum_by-append}
@@ -11,14 +11,9 @@ use Rattle.dwarf_bytes.specs.Bind.{◌>>=◌}
 use Rattle.dwarf_bytes.specs.Items.{At, told_at, each, each_from}
 use Rattle.dwarf_bytes.specs.Refusals.{Fails, memory_fault, told, in_section}
 use Rattle.dwarf_bytes.proofs.Moves.{same_ok}
-use Rattle.dwarf_forms.specs.Declarations.{Declaration}
-use Rattle.dwarf_forms.specs.Tables.{declarations_of}
 use Rattle.dwarf_units.specs.declared.unit_headers.UnitHeader.{UnitHeader}
-use Rattle.dwarf_units.specs.Units.{declarations_limit}
-use Rattle.dwarf_units.specs.Private.Plans.{Table}
-use Rattle.dwarf_units.proofs.TableLaws.{in_section_ok}
-use Rattle.dwarf_entries.specs.Private.Again.{scope_entry_at, IsTableOf, IsReadIn, AreReadIn}
-use Rattle.dwarf_entries.proofs.AgainLaws.{scope-there, again-memory}
+use Rattle.dwarf_entries.specs.Private.Again.{scope_entry_at, IsReadIn}
+use Rattle.dwarf_entries.proofs.AgainLaws.{bytes_in, scope-there, again-memory}
 use Rattle.dwarf_bytes.proofs.EachLaws.{made_front, each-next, each-fault, each-end}
 use Rattle.dwarf_entries.specs.declared.bases.Bases.{Bases}
 use Rattle.dwarf_entries.specs.declared.kept.Keeping.{Keeping}
@@ -73,11 +68,12 @@ has_entries u [] zero p ps h = cc
 has_entries u [] (suc index) p ps h = cc
 has_entries u (die ∷ rest) index p ps h = (die, rest, refl)
 
--- the scope at a place, read again
-entry_there : (s : Sections) (u : CompilationUnit) (index : ℕ) (kept : ScopePlace) (table : Table) → IsReadIn s u → IsTableOf s.debug_abbrev u.header table → (p : SiteAt u index kept) →
-    scope_entry_at table.format table.declarations (take u.header.end s.debug_info) kept.offset ≡ Ok (scope_entry p.place.member.die p.place.kind)
-entry_there s u index kept table read is p =
-    ap (λ (k : ℕ). scope_entry_at table.format table.declarations (take u.header.end s.debug_info) k) p.offset_is ∙ scope-there s u table p.stands.index p.place.member.die p.place.kind read is p.stands.there p.stands.kind_is
+-- the scope at a place, read again by what is kept of its unit
+entry_there : (s : Sections) (u : CompilationUnit) (index : ℕ) (kept : ScopePlace) (header : UnitHeader) (read : IsReadIn s u) → header ≡ u.header → (p : SiteAt u index kept) →
+    scope_entry_at header.format read.table (bytes_in s header) kept.offset ≡ Ok (scope_entry p.place.member.die p.place.kind)
+entry_there s u index kept header read same p =
+    ap (λ (h : UnitHeader). scope_entry_at h.format read.table (bytes_in s h) kept.offset) same
+    ∙ (ap (λ (k : ℕ). scope_entry_at u.header.format read.table (bytes_in s u.header) k) p.offset_is ∙ scope-there s u p.stands.index p.place.member.die p.place.kind read p.stands.there p.stands.kind_is)
 
 -- as many scopes as were judged
 judged_count : (roots : List Root) (judged : List Judged) (lists : ScopeLists) (left : ℕ) → AreJudged roots judged lists left → length lists.scopes.items ≡ length judged
@@ -85,16 +81,16 @@ judged_count roots judged lists left are =
     sym (scopes-length roots lists.wide.items lists.ranges.items 0 lists.scopes.items) ∙ (ap (λ (ss : List Scope). length ss) are.told ∙ length-map judged (λ j. j.scope))
 
 -- the place of a scope, behind those before it
-pub is_place : (keeping : Keeping) (s : Sections) (us : List CompilationUnit) (u : CompilationUnit) (before : List Judged) (unit root index : ℕ) (lists : ScopeLists) (left number : ℕ) (kept : ScopePlace) (table : Table) (entry : ScopeEntry) → (so_far : JudgedSoFar keeping s us u before index lists left) →
-    slice_get us unit ≡ Some u → IsRootOf us root u → IsReadIn s u → IsTableOf s.debug_abbrev u.header table → (p : SiteAt u index kept) → number ≡ length lists.scopes.items →
-    scope_entry_at table.format table.declarations (take u.header.end s.debug_info) kept.offset ≡ Ok entry → IsScopeSite us unit root entry kept.inside number left so_far.judged p.place
-is_place keeping s us u before unit root index lists left number kept table entry so_far found rooted read is p number_is again =
+pub is_place : (keeping : Keeping) (s : Sections) (us : List CompilationUnit) (u : CompilationUnit) (before : List Judged) (unit root index : ℕ) (lists : ScopeLists) (left number : ℕ) (kept : ScopePlace) (header : UnitHeader) (entry : ScopeEntry) → (so_far : JudgedSoFar keeping s us u before index lists left) →
+    slice_get us unit ≡ Some u → IsRootOf us root u → (read : IsReadIn s u) → header ≡ u.header → (p : SiteAt u index kept) → number ≡ length lists.scopes.items →
+    scope_entry_at header.format read.table (bytes_in s header) kept.offset ≡ Ok entry → IsScopeSite us unit root entry kept.inside number left so_far.judged p.place
+is_place keeping s us u before unit root index lists left number kept header entry so_far found rooted read same p number_is again =
     let sizes = judged_count (roots_from 0 us) so_far.judged lists left so_far.are_judged in
     let dies = has_entries u u.dies index p.place (drop (index + 1) (sites_in u u.dies)) p.rest in
     record {
       unit_is = found ∙ ap (λ (v : CompilationUnit). Some v) (sym p.stands.unit_is);
       root_is = rooted dies.0 dies.1 dies.2 ∙ ap (λ (v : CompilationUnit). stmt_list_of v.dies) (sym p.stands.unit_is);
-      entry_is = same_ok entry (scope_entry p.place.member.die p.place.kind) (sym again ∙ entry_there s u index kept table read is p);
+      entry_is = same_ok entry (scope_entry p.place.member.die p.place.kind) (sym again ∙ entry_there s u index kept header read same p);
       inside_is = p.inside_is;
       number_is = omega (arith, number_is, sizes);
       room_is = omega (arith, so_far.are_judged.counted);
@@ -163,12 +159,11 @@ judged_fault keeping s us u before index lists final left last kept cause fault 
         inr (rw (front-err before (each_from (judge keeping s us) before (sites_in u u.dies)) (cause, p.place.member.die.offset) all, told_is, itself, p.offset_is) refl)
 
 -- want of memory where a scope is read again
-pub again_fault : (keeping : Keeping) (s : Sections) (us : List CompilationUnit) (u : CompilationUnit) (before : List Judged) (index : ℕ) (final : ScopeLists) (last : ℕ) (kept : ScopePlace) (table : Table) (cause : Cause) (fault : LoadFault) →
-    IsReadIn s u → IsTableOf s.debug_abbrev u.header table → (p : SiteAt u index kept) → Fails cause (scope_entry_at table.format table.declarations (take u.header.end s.debug_info) kept.offset) → fault ≡ told names.DebugInfo cause kept.offset →
+pub again_fault : (keeping : Keeping) (s : Sections) (us : List CompilationUnit) (u : CompilationUnit) (before : List Judged) (index : ℕ) (final : ScopeLists) (last : ℕ) (kept : ScopePlace) (header : UnitHeader) (cause : Cause) (fault : LoadFault) →
+    (read : IsReadIn s u) → header ≡ u.header → (p : SiteAt u index kept) → Fails cause (scope_entry_at header.format read.table (bytes_in s header) kept.offset) → fault ≡ told names.DebugInfo cause kept.offset →
     AddsScopes keeping (Err fault) s us (sites_in u u.dies) before final last
-again_fault keeping s us u before index final last kept table cause fault read is p bad told_is =
-    let unit : List ℕ = take u.header.end s.debug_info in
-    let memory = again-memory cause (scope_entry_at table.format table.declarations unit kept.offset) (scope_entry p.place.member.die p.place.kind) (entry_there s u index kept table read is p) bad in
+again_fault keeping s us u before index final last kept header cause fault read same p bad told_is =
+    let memory = again-memory cause (scope_entry_at header.format read.table (bytes_in s header) kept.offset) (scope_entry p.place.member.die p.place.kind) (entry_there s u index kept header read same p) bad in
     inl (told_is ∙ ap (λ (c : Cause). told names.DebugInfo c kept.offset) memory)
 
 -- ---- what a turn asks
@@ -178,10 +173,9 @@ pub place_there : (keeping : Keeping) (units : List UnitEntries) (bases : List B
 place_there keeping units bases us u unit index d list x kept are found list_is within is =
     site_at u list index x kept (list_is ∙ kept_there keeping units bases us unit u d are found) within is
 
--- the bytes of a unit
-pub bytes_there : (keeping : Keeping) (units : List UnitEntries) (bases : List Bases) (us : List CompilationUnit) (u : CompilationUnit) (unit : ℕ) (d : UnitEntries) (info : List ℕ) → AreUnits keeping units bases us → slice_get us unit ≡ Some u →
-    take (get_or units unit d).header.end info ≡ take u.header.end info
-bytes_there keeping units bases us u unit d info are found = ap (λ (k : KeptUnit). take k.header.end info) ((unit_at keeping units bases us unit u are found).entries_are d)
+-- the header of a unit
+pub header_there : (keeping : Keeping) (units : List UnitEntries) (bases : List Bases) (us : List CompilationUnit) (u : CompilationUnit) (unit : ℕ) (d : UnitEntries) → AreUnits keeping units bases us → slice_get us unit ≡ Some u → (get_or units unit d).header ≡ u.header
+header_there keeping units bases us u unit d are found = ap (λ (k : KeptUnit). k.header) ((unit_at keeping units bases us unit u are found).entries_are d)
 
 -- all scopes of a unit were looked at
 pub all_there : (keeping : Keeping) (units : List UnitEntries) (bases : List Bases) (us : List CompilationUnit) (u : CompilationUnit) (unit index : ℕ) (d : UnitEntries) (list : List ScopePlace) → AreUnits keeping units bases us → slice_get us unit ≡ Some u →
@@ -189,28 +183,6 @@ pub all_there : (keeping : Keeping) (units : List UnitEntries) (bases : List Bas
 all_there keeping units bases us u unit index d list are found list_is past =
     let sizes : length list ≡ length (sites_in u u.dies) = ap (λ (ps : List ScopePlace). length ps) (list_is ∙ (kept_there keeping units bases us unit u d are found ∙ places_are u u.dies)) ∙ length-map (sites_in u u.dies) place_in in
     omega (arith, sizes, past)
-
--- the table of a unit, by the header that is kept
-pub table_there : (keeping : Keeping) (units : List UnitEntries) (bases : List Bases) (us : List CompilationUnit) (u : CompilationUnit) (unit : ℕ) (d : UnitEntries) (section : List ℕ) (table : Table) → AreUnits keeping units bases us → slice_get us unit ≡ Some u →
-    in_section names.DebugAbbrev (declarations_of declarations_limit section (get_or units unit d).header.abbreviations) ≡ Ok table.declarations → table.format ≡ (get_or units unit d).header.format → IsTableOf section u.header table
-table_there keeping units bases us u unit d section table are found read format_is =
-    let same : (get_or units unit d).header ≡ u.header = ap (λ (k : KeptUnit). k.header) ((unit_at keeping units bases us unit u are found).entries_are d) in (
-      ap (λ (h : UnitHeader). declarations_of declarations_limit section h.abbreviations) (sym same) ∙ in_section_ok names.DebugAbbrev (declarations_of declarations_limit section (get_or units unit d).header.abbreviations) table.declarations read,
-      format_is ∙ ap (λ (h : UnitHeader). h.format) same,
-    )
-
--- .. which is good, so that only memory may be wanting
-pub table_memory : (keeping : Keeping) (s : Sections) (units : List UnitEntries) (bases : List Bases) (us : List CompilationUnit) (unit : ℕ) (d : UnitEntries) (fault : LoadFault) → AreUnits keeping units bases us → AreReadIn s us → unit < length units →
-    (fault ≡ memory_fault) ⊎ (in_section names.DebugAbbrev (declarations_of declarations_limit s.debug_abbrev (get_or units unit d).header.abbreviations) ≡ Err fault) → fault ≡ memory_fault
-table_memory keeping s units bases us unit d fault are read within (inl memory) = memory
-table_memory keeping s units bases us unit d fault are read within (inr bad) =
-    let u = known_unit keeping units bases us unit are within in
-    let good = read unit u.0 u.1 in
-    let same : (get_or units unit d).header ≡ u.0.header = ap (λ (k : KeptUnit). k.header) ((unit_at keeping units bases us unit u.0 are u.1).entries_are d) in
-    absurd (never (sym (ap (λ (r : Result (List Declaration) At). in_section names.DebugAbbrev r) (ap (λ (h : UnitHeader). declarations_of declarations_limit s.debug_abbrev h.abbreviations) same ∙ good.table_is)) ∙ bad))
-  where
-    never : {x : List Declaration} → (let f : List Declaration → Result (List Declaration) LoadFault = λ z. Ok z in f x ≡ Err fault) → ⊥
-    never h = cc
 
 -- ---- the loop over the units
 

@@ -24,12 +24,11 @@ use Rattle.dwarf_bytes.proofs.Turns.{SoFar, so_far-none, so_far-item, so_far-end
 use Rattle.dwarf_units.specs.declared.attributes.Attribute.{Attribute}
 use Rattle.dwarf_entries.specs.declared.entries.Level.{Level}
 use Rattle.dwarf_entries.specs.declared.kept.Keeping.{Keeping}
-use Rattle.dwarf_entries.specs.declared.kept.NamedEntry.{NamedEntry}
 use Rattle.dwarf_entries.specs.declared.kept.ScopePlace.{ScopePlace}
 use Rattle.dwarf_entries.specs.declared.kept.RootEntry.{RootEntry}
 use Rattle.dwarf_units.specs.declared.unit_headers.UnitHeader.{UnitHeader}
 use Rattle.dwarf_units.specs.Entries.{Node, Entry, Null, Standing, Die, die_of, opens, closes, is_root, depth_after, node_behind, node_at, entries_of}
-use Rattle.dwarf_entries.specs.Private.Kept.{keeps, named_entry, root_entry, root_in, scope_places, KeptUnit, kept_unit, kept_entries}
+use Rattle.dwarf_entries.specs.Private.Kept.{keeps, root_entry, root_in, scope_places, KeptUnit, kept_unit, kept_entries}
 use Rattle.dwarf_entries.specs.Names.{or_else}
 use Rattle.dwarf_entries.specs.Private.Readers.{Walked, level_of, walked_by, walked, after_die, depth_behind, after_node, walked_at, walk_of, level_places}
 use Rattle.dwarf_units.specs.Private.Plans.{Fills}
@@ -42,7 +41,7 @@ standing before at node = record { offset = at; depth = depth_after before; node
 
 -- ---- one more entry or null
 
-walked-same : (d e : ℕ) (r s : Option RootEntry) (n m : List NamedEntry) (k l : List Level) → d ≡ e → r ≡ s → n ≡ m → k ≡ l →
+walked-same : (d e : ℕ) (r s : Option RootEntry) (n m : List ℕ) (k l : List Level) → d ≡ e → r ≡ s → n ≡ m → k ≡ l →
     (let x : Walked = record { depth = d; root = r; entries = n; levels = k } in x) ≡ record { depth = e; root = s; entries = m; levels = l }
 walked-same d e r s n m k l h1 h2 h3 h4 = cc
 
@@ -50,23 +49,26 @@ root_in-push : (dies : List Die) (die : Die) → root_in (dies ++ die ∷ []) �
 root_in-push [] die = refl
 root_in-push (root ∷ dies) die = refl
 
--- the names that are kept, with one more entry
-entries-push : (keeping : Keeping) (dies : List Die) (die : Die) (entries : List NamedEntry) → entries ≡ map named_entry (filter (λ d. keeps keeping d.tag) dies) →
-    map named_entry (filter (λ d. keeps keeping d.tag) (dies ++ die ∷ [])) ≡ (if keeps keeping die.tag then entries ++ named_entry die ∷ [] else entries)
+abbrev offset_of : Die → ℕ
+offset_of die = die.offset
+
+-- the entries that are kept, with one more
+entries-push : (keeping : Keeping) (dies : List Die) (die : Die) (entries : List ℕ) → entries ≡ map (λ d. d.offset) (filter (λ d. keeps keeping d.tag) dies) →
+    map (λ d. d.offset) (filter (λ d. keeps keeping d.tag) (dies ++ die ∷ [])) ≡ (if keeps keeping die.tag then entries ++ die.offset ∷ [] else entries)
 entries-push keeping dies die entries are =
-    ap (λ (ds : List Die). map named_entry ds) (filter-append (λ d. keeps keeping d.tag) dies (die ∷ [])) ∙ by_test (keeps keeping die.tag)
+    ap (λ (ds : List Die). map offset_of ds) (filter-append (λ d. keeps keeping d.tag) dies (die ∷ [])) ∙ by_test (keeps keeping die.tag)
   where
     kept : List Die
     kept = filter (λ d. keeps keeping d.tag) dies
 
-    by_test : (b : Bool) → map named_entry (kept ++ cond b (die ∷ []) []) ≡ (if b then entries ++ named_entry die ∷ [] else entries)
-    by_test true = map-append named_entry kept (die ∷ []) ∙ ap (λ (es : List NamedEntry). es ++ named_entry die ∷ []) (sym are)
-    by_test false = ap (λ (ds : List Die). map named_entry ds) (append-nil kept) ∙ sym are
+    by_test : (b : Bool) → map offset_of (kept ++ cond b (die ∷ []) []) ≡ (if b then entries ++ die.offset ∷ [] else entries)
+    by_test true = map-append offset_of kept (die ∷ []) ∙ ap (λ (es : List ℕ). es ++ die.offset ∷ []) (sym are)
+    by_test false = ap (λ (ds : List Die). map offset_of ds) (append-nil kept) ∙ sym are
 
 -- what is kept of one more entry, at whatever depth behind it
 pub walked_by-push : (keeping : Keeping) (depth behind : ℕ) (dies : List Die) (die : Die) → walked_by keeping behind (dies ++ die ∷ []) ≡ record (after_die keeping (walked_by keeping depth dies) die) { depth = behind }
 walked_by-push keeping depth behind dies die =
-    walked-same _ _ _ _ _ _ _ _ refl (root_in-push dies die) (entries-push keeping dies die (map named_entry (filter (λ d. keeps keeping d.tag) dies)) refl)
+    walked-same _ _ _ _ _ _ _ _ refl (root_in-push dies die) (entries-push keeping dies die (map offset_of (filter (λ d. keeps keeping d.tag) dies)) refl)
     (map-append level_of dies (die ∷ []))
 
 count_push : {X : Type 0} (p : X → Bool) (xs : List X) (x : X) (t : Bool) → p x ≡ t → count_by p (xs ++ x ∷ []) ≡ count_by p xs + cond t 1 0
@@ -285,7 +287,7 @@ dies_in header all = all >>= λ all. told_at header.start (refuse_if (nat_lt 0 (
 abbrev unit_in : Keeping → UnitHeader → Result (List Standing × ℕ) At → Result KeptUnit LoadFault
 unit_in keeping header all = in_section sections.DebugInfo (dies_in header all >>= λ dies. Ok (kept_unit keeping header dies))
 
-kept-same : (h : UnitHeader) (r s : Option RootEntry) (n m : List NamedEntry) (p q : List ScopePlace) → r ≡ s → n ≡ m → p ≡ q →
+kept-same : (h : UnitHeader) (r s : Option RootEntry) (n m : List ℕ) (p q : List ScopePlace) → r ≡ s → n ≡ m → p ≡ q →
     (let x : KeptUnit = record { header = h; root = r; entries = n; scopes = p } in x) ≡ record { header = h; root = s; entries = m; scopes = q }
 kept-same h r s n m p q h1 h2 h3 = cc
 

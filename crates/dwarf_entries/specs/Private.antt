@@ -1,6 +1,7 @@
-pub mod Packed
 pub mod Kept
 pub mod Again
+pub mod Long
+pub mod Named
 pub mod Texts
 pub mod Members
 pub mod Readers

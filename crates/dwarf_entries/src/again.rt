@@ -1,26 +1,124 @@
 //! The entries of units, read again at their places.
 
+ghost use Rattle.std.specs.Prelude.{◌≡◌, List, Ok, take};
 ghost use Rattle.dwarf_bytes.specs.Refusals.{Gives};
-ghost use Rattle.dwarf_entries.specs.Private.Again.{scope_entry_at};
+ghost use Rattle.dwarf_forms.specs.Declarations.{Declaration};
+ghost use Rattle.dwarf_forms.specs.Tables.{declarations_of};
+ghost use Rattle.dwarf_units.specs.Units.{declarations_limit};
+ghost use Rattle.dwarf_entries.specs.Sections.{Sections as SectionBytes, sections_of};
+ghost use Rattle.dwarf_entries.specs.Private.Again.{TellsAndLeaves, scope_entry_at, IsReaderOf};
+ghost use Rattle.dwarf_entries.specs.Private.Named.{used_at, named_entry_at};
 
+use crate::entries::unit_bytes;
 use crate::kept::{NamedEntry, ScopeEntry, kind_of};
+use crate::long_entries::LongEntries;
+use crate::sections::Sections;
 use dwarf_bytes::{Cause, Cursor};
-use dwarf_units::{Attribute, UnitTable};
+use dwarf_units::{Attribute, Tables, UnitHeader};
+use std::alloc::Global;
 
-/// The scope whose entry stands at an offset of a unit, whose bytes end with it. `found` is a buffer
-/// for attributes.
-pub(crate) fn scope_entry(
-    table: &UnitTable,
-    unit: &[u8],
-    offset: usize,
-    found: &mut Vec<Attribute>,
-) -> Result<ScopeEntry, Cause>
-    ensures { Gives (λ entry. entry) result (scope_entry_at table.now.format
-        table.now.declarations unit.now offset) }
-{
-    let mut cursor = Cursor::new(unit);
-    cursor.seek(offset)?;
-    let tag = table.read_entry(&mut cursor, found)?;
-    let kind = kind_of(tag).ok_or(Cause::Reference)?;
-    Ok(ScopeEntry::of(NamedEntry::of(offset, found), kind, found))
+/// The bytes of an entry past which it is not read again for each reference to it.
+const LONG: usize = 256;
+
+/// Reads entries of units again, by the tables of the units.
+#[derive(Drop)]
+pub(crate) struct EntryReader<'a> {
+    alloc: Global,
+    info: &'a [u8],
+    pub(crate) tables: Tables<'a>,
+    /// The number of the table that was used last.
+    number: usize,
+    /// The used attributes of the entry that was read last.
+    found: Vec<Attribute>,
+    /// How many bytes that entry has.
+    len: usize,
+    /// What paths need of long entries that were read.
+    pub(crate) long: LongEntries,
+}
+
+impl<'a> EntryReader<'a> {
+    pub(crate) fn new(alloc: Global, sections: &Sections<'a>, tables: Tables<'a>) -> EntryReader<'a>
+        requires { tables.section ≡ sections.now.debug_abbrev.now }
+        ensures { IsReaderOf (sections_of sections.now) result }
+    {
+        EntryReader {
+            alloc,
+            info: sections.debug_info,
+            tables,
+            number: 0,
+            found: Vec::new(alloc),
+            len: 0,
+            long: LongEntries::new(alloc),
+        }
+    }
+
+    /// Reads the entry at an offset, in the unit of the header, and tells its tag.
+    fn entry(&mut self, header: &UnitHeader, offset: usize) -> Result<u64, Cause>
+        ensures entry { (table : List Declaration) → declarations_of declarations_limit
+            self.old.tables.section header.now.abbreviations ≡ Ok table
+            → TellsAndLeaves result self.new.found.items (used_at header.now.format table
+            (take header.now.«end» self.old.info.now) offset) }
+        ensures section { self.new.tables.section ≡ self.old.tables.section }
+        ensures info { self.new.info.now ≡ self.old.info.now }
+        ensures long { self.new.long ≡ self.old.long }
+    {
+        let number = match self.tables.number_by(self.alloc, header, self.number) {
+            Ok(number) => number,
+            Err(fault) => return Err(fault.cause),
+        };
+        self.number = number;
+        let mut cursor = Cursor::new(unit_bytes(self.info, header));
+        cursor.seek(offset)?;
+        let table = self.tables.table(number);
+        let tag = table.read_entry(&mut cursor, &mut self.found)?;
+        self.len = cursor.place().saturating_sub(offset);
+        Ok(tag)
+    }
+
+    /// The scope whose entry stands at an offset, in the unit of the header.
+    pub(crate) fn scope(&mut self, header: &UnitHeader, offset: usize) -> Result<ScopeEntry, Cause>
+        ensures scope { (s : SectionBytes) (table : List Declaration) → IsReaderOf s self.old
+            → declarations_of declarations_limit s.debug_abbrev header.now.abbreviations ≡ Ok table
+            → Gives (λ entry. entry) result (scope_entry_at header.now.format table
+            (take header.now.«end» s.debug_info) offset) }
+        ensures reader { (s : SectionBytes) → IsReaderOf s self.old → IsReaderOf s self.new }
+    {
+        let tag = self.entry(header, offset)?;
+        let kind = kind_of(tag).ok_or(Cause::Reference)?;
+        let entry = NamedEntry::of(offset, &self.found);
+        Ok(ScopeEntry::of(entry, kind, &self.found))
+    }
+
+    /// What a path needs of the entry at an offset, in the unit of the header. A long entry is read
+    /// once.
+    pub(crate) fn named(&mut self, header: &UnitHeader, offset: usize) -> Result<NamedEntry, Cause>
+        ensures named { (s : SectionBytes) (table : List Declaration) → IsReaderOf s self.old
+            → declarations_of declarations_limit s.debug_abbrev header.now.abbreviations ≡ Ok table
+            → Gives (λ entry. entry) result (named_entry_at header.now.format table
+            (take header.now.«end» s.debug_info) offset) }
+        ensures reader { (s : SectionBytes) → IsReaderOf s self.old → IsReaderOf s self.new }
+    {
+        if let Some(entry) = self.long.get(header, offset) {
+            return Ok(entry);
+        }
+        let entry = self.named_again(header, offset)?;
+        if self.len > LONG {
+            self.long.insert(header, offset, entry)?;
+        }
+        Ok(entry)
+    }
+
+    /// The same, read at its place.
+    fn named_again(&mut self, header: &UnitHeader, offset: usize) -> Result<NamedEntry, Cause>
+        ensures named { (table : List Declaration) → declarations_of declarations_limit
+            self.old.tables.section header.now.abbreviations ≡ Ok table
+            → Gives (λ entry. entry) result (named_entry_at header.now.format table
+            (take header.now.«end» self.old.info.now) offset) }
+        ensures section { self.new.tables.section ≡ self.old.tables.section }
+        ensures info { self.new.info.now ≡ self.old.info.now }
+        ensures long { self.new.long ≡ self.old.long }
+    {
+        self.entry(header, offset)?;
+        Ok(NamedEntry::of(offset, &self.found))
+    }
 }

@@ -1,15 +1,15 @@
 //! The entries of a unit (DWARF 5, 2.3, 7.5.2 and 7.5.3).
 
-ghost use Rattle.std.specs.Prelude.{◌≡◌, ◌≤◌, [], None, IsSome, IfOk, OnOk, take, reverse};
+ghost use Rattle.std.specs.Prelude.{◌≡◌, ◌≤◌, [], None, IsSome, IfOk, OnOk, not, take, reverse};
 ghost use Rattle.dwarf_bytes.specs.declared.fault.Section.TheVariants as sections;
 ghost use Rattle.dwarf_bytes.specs.Refusals.{Decodes, in_section};
 ghost use Rattle.dwarf_units.specs.Entries.{depth_limit, node_behind};
 ghost use Rattle.dwarf_entries.specs.Private.Kept.{kept_of, kept_entries};
-ghost use Rattle.dwarf_entries.specs.Private.Readers.{keeps_attributes, ReadsNode, walked_of, after_die, walked_at, walk_of, level_places, above, scopes_from};
+ghost use Rattle.dwarf_entries.specs.Private.Readers.{ReadsNode, walked_of, after_die, walked_at, walk_of, level_places, above, scopes_from};
 ghost use Rattle.dwarf_units.specs.Private.Plans.{Fills};
 
-use crate::kept::{Keeping, NamedEntry, RootEntry, ScopePlace, UnitEntries, kind_of};
-use crate::packed::{PackedEntry, narrow};
+use crate::kept::{Keeping, RootEntry, ScopePlace, UnitEntries, kind_of};
+use crate::packed::narrow;
 use dwarf_bytes::{Cause, Cursor, LoadFault, Section, Span};
 use dwarf_units::{Attribute, UnitHeader, UnitTable};
 use std::alloc::{AllocError, Global};
@@ -42,7 +42,7 @@ pub(crate) struct Boundary {
 pub(crate) struct Walk {
     pub(crate) depth: u16,
     pub(crate) root: Option<RootEntry>,
-    pub(crate) entries: Vec<PackedEntry>,
+    pub(crate) entries: Vec<u32>,
     pub(crate) levels: Vec<Level>,
 }
 
@@ -100,7 +100,7 @@ impl Walk {
     {
         let offset = cursor.place();
         let rooted = self.root.is_some();
-        match node(table, keeping, self.depth, rooted, cursor, found)? {
+        match node(table, self.depth, rooted, cursor, found)? {
             None => self.depth = self.depth.saturating_sub(1),
             Some(head) => {
                 self.keep(keeping, offset, head.tag, found)?;
@@ -125,14 +125,14 @@ impl Walk {
         if self.root.is_none() {
             self.root = Some(RootEntry::of(offset, attributes));
         }
+        let place = narrow(offset)?;
         self.levels.push(Level {
-            offset: narrow(offset)?,
+            offset: place,
             depth: self.depth,
             is_scope: kind_of(tag).is_some(),
         })?;
         if keeping.keeps(tag) {
-            let entry = NamedEntry::of(offset, attributes);
-            self.entries.push(PackedEntry::of(&entry)?)?;
+            self.entries.push(place)?;
         }
         Ok(())
     }
@@ -177,17 +177,16 @@ pub(crate) fn unit_bytes<'a>(info: &'a [u8], header: &UnitHeader) -> &'a [u8]
     .of(info)
 }
 
-/// The entry at the cursor, at a depth, or none for a null. Its attributes come into `found`, where any
-/// are kept. `rooted` is whether the root of the unit stands before it.
+/// The entry at the cursor, at a depth, or none for a null. `rooted` is whether the root of the unit
+/// stands before it. If not, its used attributes come into `found`.
 fn node(
     table: &UnitTable,
-    keeping: Keeping,
     depth: u16,
     rooted: bool,
     cursor: &mut Cursor,
     found: &mut Vec<Attribute>,
 ) -> Result<Option<NodeHead>, Cause>
-    ensures reads { ReadsNode (keeps_attributes keeping rooted) result found.new.items
+    ensures reads { ReadsNode (not rooted) result found.new.items
         (node_behind table.now.format table.now.declarations depth rooted) cursor.old cursor.new }
     ensures limit { IfOk result (λ entry. IsSome entry → depth ≤ depth_limit) }
 {
@@ -196,8 +195,7 @@ fn node(
     };
     let tag = head.tag();
     let children = head.children();
-    let keep = keeping.keeps_attributes(rooted, tag);
-    head.read_attributes(keep, cursor, found)?;
+    head.read_attributes(!rooted, cursor, found)?;
     Ok(Some(NodeHead { tag, children }))
 }
 

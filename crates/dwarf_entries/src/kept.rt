@@ -3,15 +3,14 @@
 ghost use Rattle.std.specs.Prelude.{◌≡◌};
 ghost use Rattle.dwarf_entries.specs.Private.Kept.{keeps, named_entry, scope_entry, root_entry};
 ghost use Rattle.dwarf_entries.specs.Names.{followed, next_of};
-ghost use Rattle.dwarf_entries.specs.Private.Readers.{die_with, keeps_attributes};
+ghost use Rattle.dwarf_entries.specs.Private.Readers.{die_with};
 ghost use Rattle.dwarf_entries.specs.Scopes.{kind_of, number_of};
 
-use crate::packed::PackedEntry;
 use crate::scope::ScopeKind;
 use dwarf_bytes::constants::*;
 use dwarf_units::{Attribute, AttributeValue, UnitHeader, value_of};
 
-/// Which entries a walk keeps by their names and references.
+/// Which entries a walk keeps, so that references may lead to them.
 #[derive(Clone, Copy)]
 pub(crate) enum Keeping {
     Scopes,
@@ -58,13 +57,13 @@ pub(crate) struct RootEntry {
     pub(crate) low_pc: Option<AttributeValue>,
 }
 
-/// What is kept of a unit: its root, the entries to which a reference may lead, and the places of its
-/// scopes, which are read again when they are told.
+/// What is kept of a unit: its root, the offsets of the entries to which a reference may lead, and the
+/// places of its scopes. Entries and scopes are read again when they are asked for.
 #[derive(Drop)]
 pub(crate) struct UnitEntries {
     pub(crate) header: UnitHeader,
     pub(crate) root: Option<RootEntry>,
-    pub(crate) entries: Vec<PackedEntry>,
+    pub(crate) entries: Vec<u32>,
     pub(crate) scopes: Vec<ScopePlace>,
 }
 
@@ -77,14 +76,6 @@ impl Keeping {
             Keeping::Scopes => kind_of(tag).is_some(),
             Keeping::Every => true,
         }
-    }
-
-    /// Whether the attributes of an entry with the tag are kept: those of a root, which has none before
-    /// it, are.
-    pub(crate) fn keeps_attributes(self, rooted: bool, tag: u64) -> bool
-        ensures { result ≡ keeps_attributes self rooted tag }
-    {
-        !rooted || self.keeps(tag)
     }
 }
 

@@ -7,6 +7,7 @@ mod calls;
 mod entries;
 mod kept;
 pub mod laws;
+mod long_entries;
 mod names;
 mod packed;
 mod passes;

@@ -3,17 +3,18 @@
 ghost use Rattle.std.specs.Prelude.{◌≡◌, ◌<◌, ◌≤◌, ◌==◌, ◌++◌, ◌∷◌, [], List, Some, length, map, find, slice_get, option_map};
 ghost use Rattle.std.specs.Option.{option_or};
 ghost use Rattle.std.specs.List.Sorted.{IsNonDecreasingBy, IsPartitionPoint};
-ghost use Rattle.dwarf_entries.specs.Sections.{sections_of};
+ghost use Rattle.dwarf_entries.specs.Sections.{Sections as SectionBytes, sections_of};
 ghost use Rattle.dwarf_entries.specs.Private.Texts.{AreTexts};
 ghost use Rattle.dwarf_entries.specs.Bases.{CompilationUnit, optional};
 ghost use Rattle.dwarf_entries.specs.Names.{Member, target_of, path_of, text_of, names_of};
-ghost use Rattle.dwarf_entries.specs.Private.Packed.{unpacked_entry};
-ghost use Rattle.dwarf_entries.specs.Private.Members.{AreKept, IsMember, Finds, member_in, AreFirst, FindsFirst, str_offsets_of};
+ghost use Rattle.dwarf_bytes.specs.Refusals.{Gives};
+ghost use Rattle.dwarf_entries.specs.Private.Again.{AreReadIn, IsReaderOf};
+ghost use Rattle.dwarf_entries.specs.Private.Members.{AreKept, IsMember, IsPlaceOf, Finds, TellsMember, member_in, AreFirst, FindsFirst, str_offsets_of};
 
+use crate::again::EntryReader;
 use crate::bases::Bases;
 use crate::kept::{NamedEntry, UnitEntries};
 use crate::names::text_of;
-use crate::packed::PackedEntry;
 use crate::sections::Sections;
 use crate::texts::Texts;
 use dwarf_bytes::constants::DW_FORM_REF_ADDR;
@@ -28,6 +29,13 @@ const HOPS_LIMIT: u32 = 16;
 pub(crate) struct UnitEntry {
     pub(crate) unit: usize,
     pub(crate) entry: NamedEntry,
+}
+
+/// Where an entry stands, with the number of its unit.
+#[derive(Clone, Copy)]
+pub(crate) struct UnitPlace {
+    pub(crate) unit: usize,
+    pub(crate) offset: usize,
 }
 
 /// The value of an attribute, with the number of the unit in which it stands.
@@ -72,16 +80,18 @@ pub(crate) fn names(
     texts: &Texts<'_>,
     units: &[UnitEntries],
     bases: &[Bases],
-    unit: usize,
-    entry: &NamedEntry,
+    reader: &mut EntryReader<'_>,
+    start: UnitEntry,
 ) -> Result<EntryNames, Cause>
     requires { AreTexts (sections_of sections.now) texts.now }
-    ensures { (us : List CompilationUnit) → AreKept units.now us → bases.now ≡ map (λ u. u.bases) us
-        → (m : Member) → IsMember us unit entry.now m
-        → result ≡ names_of (sections_of sections.now) us m }
+    ensures names { (us : List CompilationUnit) → AreKept units.now us
+        → bases.now ≡ map (λ u. u.bases) us → AreReadIn (sections_of sections.now) us
+        → IsReaderOf (sections_of sections.now) reader.old
+        → (m : Member) → IsMember us start.unit start.entry m
+        → Gives (λ names. names) result (names_of (sections_of sections.now) us m) }
+    ensures reader { (s : SectionBytes) → IsReaderOf s reader.old → IsReaderOf s reader.new }
 {
-    let entry = *entry;
-    let firsts = first_names(units, UnitEntry { unit, entry })?;
+    let firsts = first_names(units, reader, start)?;
     let name = text(sections, texts, bases, firsts.name)?;
     let linkage_name = text(sections, texts, bases, firsts.linkage_name)?;
     Ok(EntryNames { name, linkage_name })
@@ -106,10 +116,16 @@ fn text(
 }
 
 /// The first names on the path of an entry.
-fn first_names(units: &[UnitEntries], start: UnitEntry) -> Result<FirstNames, Cause>
-    ensures { (us : List CompilationUnit) → AreKept units.now us → (m : Member)
-        → IsMember us start.unit start.entry m
+fn first_names(
+    units: &[UnitEntries],
+    reader: &mut EntryReader<'_>,
+    start: UnitEntry,
+) -> Result<FirstNames, Cause>
+    ensures names { (s : SectionBytes) (us : List CompilationUnit) → AreKept units.now us
+        → AreReadIn s us → IsReaderOf s reader.old
+        → (m : Member) → IsMember us start.unit start.entry m
         → FindsFirst us result (path_of us m) }
+    ensures reader { (s : SectionBytes) → IsReaderOf s reader.old → IsReaderOf s reader.new }
 {
     let none = FirstNames {
         name: None,
@@ -123,10 +139,32 @@ fn first_names(units: &[UnitEntries], start: UnitEntry) -> Result<FirstNames, Ca
             return Err(Cause::OriginDepth);
         }
         left -= 1;
-        last = target(units, last.unit, reference).ok_or(Cause::Reference)?;
+        let place = target(units, last.unit, reference).ok_or(Cause::Reference)?;
+        last = entry_again(units, reader, place)?;
         firsts = firsts.or(last);
     }
     Ok(firsts)
+}
+
+/// The entry at a place, read again.
+fn entry_again(
+    units: &[UnitEntries],
+    reader: &mut EntryReader<'_>,
+    place: UnitPlace,
+) -> Result<UnitEntry, Cause>
+    ensures member { (s : SectionBytes) (us : List CompilationUnit) → AreKept units.now us
+        → AreReadIn s us → IsReaderOf s reader.old
+        → (m : Member) → IsPlaceOf us place m → TellsMember us result m }
+    ensures reader { (s : SectionBytes) → IsReaderOf s reader.old → IsReaderOf s reader.new }
+{
+    let Some(kept) = units.get(place.unit) else {
+        return Err(Cause::Reference);
+    };
+    let entry = reader.named(&kept.header, place.offset)?;
+    Ok(UnitEntry {
+        unit: place.unit,
+        entry,
+    })
 }
 
 /// The attribute that is known, or else its value in a unit.
@@ -141,9 +179,9 @@ fn first(
     known.or(value.map(|value| UnitAttribute { unit, value }))
 }
 
-/// The entry that a reference in a unit names, if it names one: an offset into `.debug_info`, or one
+/// Where the entry stands that a reference in a unit names, if it names one: an offset into `.debug_info`, or one
 /// that counts from the first byte of the unit.
-fn target(units: &[UnitEntries], unit: usize, reference: AttributeValue) -> Option<UnitEntry>
+fn target(units: &[UnitEntries], unit: usize, reference: AttributeValue) -> Option<UnitPlace>
     ensures { (us : List CompilationUnit) → AreKept units.now us → (u : CompilationUnit)
         → slice_get us unit ≡ Some u
         → Finds us result (target_of us u reference) }
@@ -156,36 +194,39 @@ fn target(units: &[UnitEntries], unit: usize, reference: AttributeValue) -> Opti
     entry_in(units, unit, start as u128 + number)
 }
 
-/// The entry of a unit at an offset of the section.
-fn entry_in(units: &[UnitEntries], unit: usize, offset: u128) -> Option<UnitEntry>
+/// The place of the entry of a unit at an offset of the section.
+fn entry_in(units: &[UnitEntries], unit: usize, offset: u128) -> Option<UnitPlace>
     ensures { (us : List CompilationUnit) → AreKept units.now us
         → Finds us result (member_in us unit offset) }
 {
     let kept = units.get(unit)?;
     let entry = entry_at(kept.entries.as_slice(), offset)?;
-    Some(UnitEntry { unit, entry })
+    Some(UnitPlace {
+        unit,
+        offset: entry as usize,
+    })
 }
 
-/// The entry at an offset, among entries in their order.
-fn entry_at(entries: &[PackedEntry], offset: u128) -> Option<NamedEntry>
-    ensures { IsNonDecreasingBy (λ entry. entry.offset) entries.now
-        → result ≡ find (λ entry. entry.offset == offset) (map unpacked_entry entries.now) }
+/// The entry at an offset, among those at these offsets, which rise.
+fn entry_at(entries: &[u32], offset: u128) -> Option<u32>
+    ensures { IsNonDecreasingBy (λ entry. entry) entries.now
+        → result ≡ find (λ entry. entry == offset) entries.now }
 {
-    let entry = entries.get(starts_before(entries, offset))?;
-    if u128::from(entry.offset) == offset {
-        Some(entry.unpack())
+    let entry = *entries.get(starts_before(entries, offset))?;
+    if u128::from(entry) == offset {
+        Some(entry)
     } else {
         None
     }
 }
 
 /// How many of the entries start before an offset.
-fn starts_before(entries: &[PackedEntry], offset: u128) -> usize
-    ensures { IsNonDecreasingBy (λ entry. entry.offset) entries.now
-        → IsPartitionPoint (λ entry. entry.offset < offset)
-        (λ entry. offset ≤ entry.offset) entries.now result }
+fn starts_before(entries: &[u32], offset: u128) -> usize
+    ensures { IsNonDecreasingBy (λ entry. entry) entries.now
+        → IsPartitionPoint (λ entry. entry < offset)
+        (λ entry. offset ≤ entry) entries.now result }
 {
-    entries.partition_point(|entry| u128::from(entry.offset) < offset)
+    entries.partition_point(|entry| u128::from(*entry) < offset)
 }
 
 /// How many of the units end before an offset or at it.

@@ -7,9 +7,11 @@ ghost use Rattle.dwarf_entries.specs.Sections.{sections_of};
 ghost use Rattle.dwarf_entries.specs.Bases.{CompilationUnit};
 ghost use Rattle.dwarf_entries.specs.Scopes.{own, own_of, ranges_at, stmt_list_at, call_file_at, call_line_at, roots_from, tree_of};
 ghost use Rattle.dwarf_entries.specs.Private.Texts.{AreTexts};
+ghost use Rattle.dwarf_entries.specs.Private.Again.{IsReaderOf};
 ghost use Rattle.dwarf_entries.specs.Private.Passes.{kept_unit_of, TablesRead, tree_with};
 ghost use Rattle.dwarf_entries.specs.Private.Kept.{kept_of, scope_count};
 
+use crate::again::EntryReader;
 use crate::calls::CallSite;
 use crate::kept::{Keeping, UnitEntries};
 use crate::passes::{all_bases, all_entries};
@@ -61,14 +63,15 @@ impl Scopes {
     {
         bound_places(alloc, sections)?;
         let headers = units(alloc, sections.debug_info)?;
-        let mut tables = Tables::judge(alloc, sections.debug_abbrev, headers.as_slice())?;
+        let tables = Tables::judge(alloc, sections.debug_abbrev, headers.as_slice())?;
+        let mut reader = EntryReader::new(alloc, sections, tables);
         let texts = Texts::of(alloc, sections)?;
         let units = headers.as_slice();
-        match Scopes::read_with(alloc, sections, &texts, units, &mut tables, Keeping::Scopes) {
+        match Scopes::read_with(alloc, sections, &texts, units, &mut reader, Keeping::Scopes) {
             Ok(scopes) => Ok(scopes),
             Err(fault) => match fault.cause {
                 Cause::Reference => {
-                    Scopes::read_with(alloc, sections, &texts, units, &mut tables, Keeping::Every)
+                    Scopes::read_with(alloc, sections, &texts, units, &mut reader, Keeping::Every)
                 }
                 _ => Err(fault),
             },
@@ -82,18 +85,18 @@ impl Scopes {
         sections: &Sections<'_>,
         texts: &Texts<'_>,
         headers: &[UnitHeader],
-        tables: &mut Tables<'_>,
+        reader: &mut EntryReader<'_>,
         keeping: Keeping,
     ) -> Result<Scopes, LoadFault>
         requires texts { AreTexts (sections_of sections.now) texts.now }
         requires tables { TablesRead (sections_of sections.now) headers.now }
-        requires section { tables.old.section ≡ sections.now.debug_abbrev.now }
-        ensures section { tables.new.section ≡ tables.old.section }
+        requires reader { IsReaderOf (sections_of sections.now) reader.old }
+        ensures reader { IsReaderOf (sections_of sections.now) reader.new }
         ensures decodes { (read : TablesRead (sections_of sections.now) headers.now)
             → Decodes (λ scopes. scopes) result (tree_with keeping
             (sections_of sections.now) headers.now read.tables) }
     {
-        let kept = all_entries(alloc, sections, headers, tables, keeping)?;
+        let kept = all_entries(alloc, sections, headers, &mut reader.tables, keeping)?;
         let bases = all_bases(alloc, sections, kept.as_slice())?;
         let units = Units {
             sections,
@@ -101,7 +104,7 @@ impl Scopes {
             units: kept.as_slice(),
             bases: bases.as_slice(),
         };
-        let lists = units.scopes(alloc, tables)?;
+        let lists = units.scopes(alloc, reader)?;
         let roots = roots(alloc, kept.as_slice())?;
         Ok(Scopes { roots, lists })
     }

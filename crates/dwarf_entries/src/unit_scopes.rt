@@ -3,28 +3,26 @@
 ghost use Rattle.std.specs.Prelude.{◌≡◌, ◌≤◌, ◌<◌, ◌+◌, ◌^◌, List, Some, length, slice_get, IfOk};
 ghost use Rattle.dwarf_bytes.specs.declared.fault.Section.TheVariants as names;
 ghost use Rattle.dwarf_bytes.specs.Refusals.{Decodes, in_section};
-ghost use Rattle.dwarf_entries.specs.Sections.{sections_of};
+ghost use Rattle.dwarf_entries.specs.Sections.{Sections as SectionBytes, sections_of};
 ghost use Rattle.dwarf_entries.specs.Private.Texts.{AreTexts};
 ghost use Rattle.dwarf_entries.specs.declared.kept.Keeping.{Keeping};
 ghost use Rattle.dwarf_entries.specs.Bases.{CompilationUnit};
 ghost use Rattle.dwarf_entries.specs.Scopes.{Judged, ScopeSite, sites_in, roots_from, scopes_of};
 ghost use Rattle.dwarf_entries.specs.Private.Passes.{AreUnits, IsRootOf, IsScopeSite, AreJudged, AddsScopes, scope_with, all_scopes};
-ghost use Rattle.dwarf_entries.specs.Private.Again.{IsTableOf, AreReadIn};
+ghost use Rattle.dwarf_entries.specs.Private.Again.{AreReadIn, IsReaderOf};
 ghost use Rattle.dwarf_entries.specs.Private.Shared.{AddsFacts};
 
-use crate::again::scope_entry;
+use crate::again::EntryReader;
 use crate::bases::Bases;
 use crate::calls::CallSite;
-use crate::entries::unit_bytes;
 use crate::kept::{ScopeEntry, UnitEntries};
-use crate::paths::names;
+use crate::paths::{UnitEntry, names};
 use crate::ranges::covers;
 use crate::scope::{Range, ScopeFacts};
 use crate::scope_lists::ScopeLists;
 use crate::sections::Sections;
 use crate::texts::Texts;
 use dwarf_bytes::{Cause, LoadFault, Section};
-use dwarf_units::{Attribute, Tables, UnitTable};
 use std::alloc::Global;
 
 /// The range items that may be read for an object.
@@ -45,6 +43,7 @@ impl<'a> Units<'a> {
     /// ranges of all.
     fn scope(
         self,
+        reader: &mut EntryReader<'_>,
         unit: usize,
         root: usize,
         entry: &ScopeEntry,
@@ -59,17 +58,24 @@ impl<'a> Units<'a> {
         ensures judged { (keeping : Keeping) (us : List CompilationUnit) (before : List Judged)
             (p : ScopeSite) → AreUnits keeping self.entry.units.now self.entry.bases.now us
             → IsScopeSite us unit root entry.now inside number room before p
+            → AreReadIn (sections_of self.entry.sections.now) us
+            → IsReaderOf (sections_of self.entry.sections.now) reader.old
             → AddsFacts (roots_from 0 us) result ranges.old.items ranges.new.items (scope_with
             keeping (sections_of self.entry.sections.now) us before p) }
         ensures room { IfOk result (λ found. found.1 ≤ room) }
+        ensures reader { (s : SectionBytes) → IsReaderOf s reader.old → IsReaderOf s reader.new }
     {
+        let entry_of_unit = UnitEntry {
+            unit,
+            entry: entry.entry,
+        };
         let names = names(
             self.sections,
             self.texts,
             self.units,
             self.bases,
-            unit,
-            &entry.entry,
+            reader,
+            entry_of_unit,
         )?;
         let items = covers(
             room,
@@ -97,41 +103,39 @@ impl<'a> Units<'a> {
     }
 
     /// Puts the scopes of a unit, whose root has the number `root`, behind those before it. Each is
-    /// read again by the unit's table; `found` is a buffer for its attributes. `left` is how many range
-    /// items may still be read.
+    /// read again. `left` is how many range items may still be read.
     fn unit_scopes(
         self,
-        table: &UnitTable,
+        reader: &mut EntryReader<'_>,
         unit: usize,
         root: usize,
         left: &mut u64,
         lists: &mut ScopeLists,
-        found: &mut Vec<Attribute>,
     ) -> Result<(), LoadFault>
         requires texts { AreTexts (sections_of self.sections.now) self.texts.now }
         requires unit { (unit < length self.units.now) × (unit < length self.bases.now) }
-        ensures { (keeping : Keeping) (us : List CompilationUnit) (u : CompilationUnit)
+        ensures scopes { (keeping : Keeping) (us : List CompilationUnit) (u : CompilationUnit)
             (before : List Judged)
             → AreUnits keeping self.entry.units.now self.entry.bases.now us
             → AreReadIn (sections_of self.entry.sections.now) us
+            → IsReaderOf (sections_of self.entry.sections.now) reader.old
             → slice_get us unit ≡ Some u → IsRootOf us root u
-            → IsTableOf self.entry.sections.now.debug_abbrev.now u.header table.now
             → AreJudged (roots_from 0 us) before lists.old left.old
             → AddsScopes keeping result (sections_of self.entry.sections.now) us
             (sites_in u u.dies) before lists.new left.new }
+        ensures reader { (s : SectionBytes) → IsReaderOf s reader.old → IsReaderOf s reader.new }
     {
         let kept = &self.units[unit];
-        let bytes = unit_bytes(self.sections.debug_info, &kept.header);
         for place in kept.scopes.as_slice() {
             let at = u64::from(place.offset);
-            let entry = match scope_entry(table, bytes, place.offset as usize, found) {
+            let entry = match reader.scope(&kept.header, place.offset as usize) {
                 Err(cause) => return Err(LoadFault::told(Section::DebugInfo, cause, at)),
                 Ok(entry) => entry,
             };
             let inside = place.inside as usize;
             let number = lists.scopes.len();
             let ranges = &mut lists.ranges;
-            match self.scope(unit, root, &entry, inside, number, *left, ranges) {
+            match self.scope(reader, unit, root, &entry, inside, number, *left, ranges) {
                 Err(cause) => return Err(LoadFault::told(Section::DebugInfo, cause, at)),
                 Ok((facts, items)) => {
                     *left -= items;
@@ -142,32 +146,28 @@ impl<'a> Units<'a> {
         Ok(())
     }
 
-    /// The scopes of all units, whose tables are good.
+    /// The scopes of all units.
     pub(crate) fn scopes(
         self,
         alloc: Global,
-        tables: &mut Tables<'_>,
+        reader: &mut EntryReader<'_>,
     ) -> Result<ScopeLists, LoadFault>
         requires texts { AreTexts (sections_of self.sections.now) self.texts.now }
         requires bases { length self.bases.now ≡ length self.units.now }
-        requires section { tables.old.section ≡ self.sections.now.debug_abbrev.now }
-        ensures section { tables.new.section ≡ tables.old.section }
-        ensures decodes { (keeping : Keeping) (us : List CompilationUnit)
+        ensures scopes { (keeping : Keeping) (us : List CompilationUnit)
             → AreUnits keeping self.entry.units.now self.entry.bases.now us
             → AreReadIn (sections_of self.entry.sections.now) us
+            → IsReaderOf (sections_of self.entry.sections.now) reader.old
             → Decodes (λ lists. scopes_of (roots_from 0 us) lists) result (in_section
             names.DebugInfo (all_scopes keeping (sections_of self.entry.sections.now) us)) }
+        ensures reader { (s : SectionBytes) → IsReaderOf s reader.old → IsReaderOf s reader.new }
     {
         let mut left = ITEMS_LIMIT;
         let mut root = 0;
         let mut lists = ScopeLists::new(alloc, scope_count(self.units))?;
-        let mut found = Vec::new(alloc);
         for unit in 0..self.units.len() {
-            let kept = &self.units[unit];
-            let number = tables.number_of(alloc, &kept.header)?;
-            let table = tables.table(number);
-            self.unit_scopes(table, unit, root, &mut left, &mut lists, &mut found)?;
-            if kept.root.is_some() {
+            self.unit_scopes(reader, unit, root, &mut left, &mut lists)?;
+            if self.units[unit].root.is_some() {
                 root += 1;
             }
         }

@@ -18,6 +18,8 @@ mod formats;
 #[cfg(test)]
 mod limits;
 #[cfg(test)]
+mod long_entries;
+#[cfg(test)]
 mod names;
 #[cfg(test)]
 mod pairs;

@@ -144,6 +144,29 @@ impl<'a> Tables<'a> {
         Ok(self.keep(table)?)
     }
 
+    /// The same, where the table of a number may be that of the unit.
+    pub fn number_by(
+        &mut self,
+        alloc: Global,
+        unit: &UnitHeader,
+        guess: usize,
+    ) -> Result<usize, LoadFault>
+        ensures ok { IfOk result (λ number. (table : Table)
+            × (slice_get self.new.tables number ≡ Some table)
+            × (in_section sections.DebugAbbrev (declarations_of declarations_limit self.old.section
+            unit.now.abbreviations) ≡ Ok table.declarations)
+            × (table.offset ≡ unit.now.abbreviations) × (table.format ≡ unit.now.format)) }
+        ensures err { IfErr result (λ fault. (fault ≡ memory_fault)
+            ⊎ (in_section sections.DebugAbbrev (declarations_of declarations_limit
+            self.old.section unit.now.abbreviations) ≡ Err fault)) }
+        ensures section { self.new.section ≡ self.old.section }
+    {
+        match self.tables.get(guess) {
+            Some(table) if table.is_of(unit) => Ok(guess),
+            _ => self.number_of(alloc, unit),
+        }
+    }
+
     /// The table of a number.
     pub fn table(&self, number: usize) -> &UnitTable
         requires { number < length self.now.tables }

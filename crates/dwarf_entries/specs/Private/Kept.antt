@@ -17,10 +17,9 @@ use Rattle.dwarf_units.specs.Private.Rising.{RiseWithin}
 use Rattle.dwarf_units.specs.Entries.{Die, attribute, below, entries_of}
 use Rattle.dwarf_entries.specs.Bases.{CompilationUnit}
 use Rattle.dwarf_entries.specs.Names.{next_of}
-use Rattle.dwarf_entries.specs.Private.Packed.{unpacked_entry}
 use Rattle.dwarf_entries.specs.Scopes.{kind_of, is_scope, number_of}
 
--- whether the names and the reference of an entry with the tag are kept
+-- whether references may lead to an entry with the tag
 abbrev pub keeps : Keeping → ℕ → Bool
 keeps keepings.Scopes tag = is_some (kind_of tag)
 keeps keepings.Every tag = true
@@ -72,7 +71,7 @@ scope_places (die ∷ rest) = scope_place die rest (kind_of die.tag) (scope_plac
 pub record KeptUnit : Type 0 where
   pub header : UnitHeader
   pub root : Option RootEntry
-  pub entries : List NamedEntry
+  pub entries : List ℕ
   pub scopes : List ScopePlace
 
 -- .. of these entries
@@ -80,7 +79,7 @@ abbrev pub kept_unit : Keeping → UnitHeader → List Die → KeptUnit
 kept_unit keeping header dies = record {
   header = header;
   root = root_in dies;
-  entries = map named_entry (filter (λ die. keeps keeping die.tag) dies);
+  entries = map (λ die. die.offset) (filter (λ die. keeps keeping die.tag) dies);
   scopes = scope_places dies;
 }
 
@@ -90,7 +89,7 @@ kept_entries keeping info header table = entries_of info header table >>= λ die
 
 -- .. by the program
 abbrev pub kept_of : UnitEntries → KeptUnit
-kept_of unit = record { header = unit.header; root = unit.root; entries = map unpacked_entry unit.entries.items; scopes = unit.scopes.items }
+kept_of unit = record { header = unit.header; root = unit.root; entries = unit.entries.items; scopes = unit.scopes.items }
 
 -- how many scopes the units of the program have
 abbrev pub scope_count : List UnitEntries → ℕ

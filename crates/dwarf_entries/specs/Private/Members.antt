@@ -8,6 +8,7 @@ use Rattle.dwarf_units.specs.declared.unit_headers.UnitHeader.{UnitHeader}
 use Rattle.dwarf_entries.specs.declared.kept.NamedEntry.{NamedEntry}
 use Rattle.dwarf_entries.specs.declared.kept.UnitEntries.{UnitEntries}
 use Rattle.dwarf_entries.specs.declared.paths.UnitEntry.{UnitEntry}
+use Rattle.dwarf_entries.specs.declared.paths.UnitPlace.{UnitPlace}
 use Rattle.dwarf_entries.specs.declared.paths.UnitAttribute.{UnitAttribute}
 use Rattle.dwarf_entries.specs.declared.paths.FirstNames.{FirstNames}
 use Rattle.dwarf_units.specs.declared.attributes.AttributeValue.{AttributeValue}
@@ -15,24 +16,24 @@ use Rattle.dwarf_entries.specs.declared.bases.Table.{Table}
 use Rattle.dwarf_entries.specs.declared.bases.Bases.{Bases}
 use Rattle.dwarf_entries.specs.Bases.{CompilationUnit}
 use Rattle.dwarf_entries.specs.Names.{Member, members_of, member_at, first_on}
-use Rattle.dwarf_entries.specs.Private.Packed.{unpacked_entry}
+use Rattle.dwarf_bytes.specs.Refusals.{Fails}
 use Rattle.dwarf_entries.specs.Private.Kept.{named_entry, AreInOrder}
 
--- the entries of a unit, as far as names go
-pub record NamedUnit : Type 0 where
+-- where the entries of a unit stand
+pub record PlacedUnit : Type 0 where
   pub header : UnitHeader
-  pub entries : List NamedEntry
+  pub entries : List ℕ
 
-abbrev pub named_unit : CompilationUnit → NamedUnit
-named_unit unit = record { header = unit.header; entries = map named_entry unit.dies }
+abbrev pub placed_unit : CompilationUnit → PlacedUnit
+placed_unit unit = record { header = unit.header; entries = map (λ die. die.offset) unit.dies }
 
 -- .. by the program
-abbrev pub named_of : UnitEntries → NamedUnit
-named_of unit = record { header = unit.header; entries = map unpacked_entry unit.entries.items }
+abbrev pub placed_of : UnitEntries → PlacedUnit
+placed_of unit = record { header = unit.header; entries = unit.entries.items }
 
 -- what is kept are the entries of these units, which stand in order
 pub record AreKept (kept : List UnitEntries) (units : List CompilationUnit) : Type 0 where
-  pub same : map named_of kept ≡ map named_unit units
+  pub same : map placed_of kept ≡ map placed_unit units
   pub order : AreInOrder 0 units
 
 -- the entry, in the unit of the number, is what is kept of the member
@@ -40,9 +41,21 @@ pub record IsMember (units : List CompilationUnit) (number : ℕ) (entry : Named
   pub unit_is : slice_get units number ≡ Some m.unit
   pub entry_is : entry ≡ named_entry m.die
 
--- what is found is the member of the outcome
-abbrev pub Finds : List CompilationUnit → Option UnitEntry → Result Member Cause → Type 0
-Finds units (Some found) outcome = (m : Member) × (outcome ≡ Ok m) × IsMember units found.unit found.entry m
+-- the member stands at the place
+pub record IsPlaceOf (units : List CompilationUnit) (place : UnitPlace) (m : Member) : Type 0 where
+  pub unit_is : slice_get units place.unit ≡ Some m.unit
+  pub offset_is : m.die.offset ≡ place.offset
+  pub index : ℕ
+  pub there : slice_get m.unit.dies index ≡ Some m.die
+
+-- what is read again is what is kept of the member, unless memory ran out
+abbrev pub TellsMember : List CompilationUnit → Result UnitEntry Cause → Member → Type 0
+TellsMember units (Ok found) m = IsMember units found.unit found.entry m
+TellsMember units (Err cause) m = cause ≡ causes.Memory
+
+-- what is found is the place of the member of the outcome
+abbrev pub Finds : List CompilationUnit → Option UnitPlace → Result Member Cause → Type 0
+Finds units (Some place) outcome = (m : Member) × (outcome ≡ Ok m) × IsPlaceOf units place m
 Finds units None outcome = outcome ≡ Err causes.Reference
 
 -- the entry at an offset of .debug_info, among those of the unit of the number, if there is one
@@ -60,10 +73,10 @@ pub record AreFirst (units : List CompilationUnit) (kept : FirstNames) (path : L
   pub name : IsFirst units kept.name (first_on DW_AT_NAME path)
   pub linkage_name : IsFirst units kept.linkage_name (first_on DW_AT_LINKAGE_NAME path)
 
--- what is found is of the path of the outcome
+-- what is found is of the path of the outcome, unless memory ran out
 abbrev pub FindsFirst : List CompilationUnit → Result FirstNames Cause → Result (List Member) Cause → Type 0
 FindsFirst units (Ok kept) outcome = (path : List Member) × (outcome ≡ Ok path) × AreFirst units kept path
-FindsFirst units (Err cause) outcome = outcome ≡ Err cause
+FindsFirst units (Err cause) outcome = Fails cause outcome
 
 -- the table of string offsets of the unit of the number
 abbrev pub str_offsets_of : List Bases → ℕ → Option Table

@@ -1,5 +1,5 @@
 -- What the steps of the pass over entries leave, for the contracts of its parts.
-use Rattle.std.specs.Prelude.{◌≡◌, ℕ, ◌+◌, ◌-◌, List, [], ◌∷◌, ◌++◌, Bool, Option, Some, None, is_some, Result, Ok, Err, if◌then◌else◌, nat_lt, nat_le, map, filter, take, take_while, count_by, not, ◌||◌}
+use Rattle.std.specs.Prelude.{◌≡◌, ℕ, ◌+◌, ◌-◌, List, [], ◌∷◌, ◌++◌, Bool, Option, Some, None, is_some, Result, Ok, Err, if◌then◌else◌, nat_lt, nat_le, map, filter, take, take_while, count_by}
 use Rattle.std.specs.List.{filter_map}
 use Rattle.dwarf_bytes.specs.declared.fault.Cause.{Cause}
 use Rattle.dwarf_bytes.specs.declared.format.Format.{Format}
@@ -14,15 +14,13 @@ use Rattle.dwarf_entries.specs.declared.entries.Level.{Level}
 use Rattle.dwarf_entries.specs.declared.entries.Boundary.{Boundary}
 use Rattle.dwarf_entries.specs.declared.entries.Walk.{Walk}
 use Rattle.dwarf_entries.specs.declared.kept.Keeping.{Keeping}
-use Rattle.dwarf_entries.specs.declared.kept.NamedEntry.{NamedEntry}
 use Rattle.dwarf_entries.specs.declared.kept.ScopePlace.{ScopePlace}
 use Rattle.dwarf_entries.specs.declared.kept.RootEntry.{RootEntry}
 use Rattle.dwarf_units.specs.declared.unit_headers.UnitHeader.{UnitHeader}
 use Rattle.dwarf_units.specs.Entries.{Node, Entry, Null, Standing, Die, die_of, depth_after, node_behind, node_at}
-use Rattle.dwarf_entries.specs.Private.Kept.{keeps, named_entry, root_entry, root_in}
+use Rattle.dwarf_entries.specs.Private.Kept.{keeps, root_entry, root_in}
 use Rattle.dwarf_units.specs.Private.Plans.{kept_attributes}
 use Rattle.dwarf_entries.specs.Names.{or_else}
-use Rattle.dwarf_entries.specs.Private.Packed.{unpacked_entry}
 use Rattle.dwarf_entries.specs.Scopes.{is_scope}
 
 -- an entry by its offset and its attributes, where neither its tag nor its depth counts
@@ -34,18 +32,14 @@ abbrev pub node_of : Option NodeHead → List Attribute → Node
 node_of (Some head) attributes = Entry head.tag head.children attributes
 node_of None attributes = Null
 
--- whether attributes of an entry with a tag are kept: those of a root, and where its names are
-abbrev pub keeps_attributes : Keeping → Bool → ℕ → Bool
-keeps_attributes keeping rooted tag = not rooted || keeps keeping tag
-
 -- What a buffer holds is what is kept of the attributes of an entry; of a null there are none.
-abbrev pub HoldsKept : (ℕ → Bool) → Option NodeHead → List Attribute → List Attribute → Type 0
-HoldsKept keep (Some head) attributes all = attributes ≡ kept_attributes (keep head.tag) all
+abbrev pub HoldsKept : Bool → Option NodeHead → List Attribute → List Attribute → Type 0
+HoldsKept keep (Some head) attributes all = attributes ≡ kept_attributes keep all
 HoldsKept keep None attributes all = Unit {0}
 
 -- What a step found, with all attributes of which it left some in a buffer, is what is read, and the cursor stands after it, unless
 -- memory ran out.
-abbrev pub ReadsNode : (ℕ → Bool) → Result (Option NodeHead) Cause → List Attribute → (List ℕ → ℕ → Result (Node × ℕ) Cause) → Position → Position → Type 0
+abbrev pub ReadsNode : Bool → Result (Option NodeHead) Cause → List Attribute → (List ℕ → ℕ → Result (Node × ℕ) Cause) → Position → Position → Type 0
 ReadsNode keep (Ok found) attributes read old new =
     ((all : List Attribute) × (read old.bytes old.place ≡ Ok (node_of found all, new.place)) × HoldsKept keep found attributes all) × (new.bytes ≡ old.bytes)
 ReadsNode keep (Err cause) attributes read old new = Fails cause (read old.bytes old.place)
@@ -58,12 +52,12 @@ level_of die = record { offset = die.offset; depth = die.depth; is_scope = is_sc
 pub record Walked : Type 0 where
   pub depth : ℕ
   pub root : Option RootEntry
-  pub entries : List NamedEntry
+  pub entries : List ℕ
   pub levels : List Level
 
 -- .. of these
 abbrev pub walked_by : Keeping → ℕ → List Die → Walked
-walked_by keeping depth dies = record { depth = depth; root = root_in dies; entries = map named_entry (filter (λ die. keeps keeping die.tag) dies); levels = map level_of dies }
+walked_by keeping depth dies = record { depth = depth; root = root_in dies; entries = map (λ die. die.offset) (filter (λ die. keeps keeping die.tag) dies); levels = map level_of dies }
 
 -- .. behind what stands before
 abbrev pub walked : Keeping → List Standing → Walked
@@ -71,14 +65,14 @@ walked keeping before = walked_by keeping (depth_after before) (filter_map die_o
 
 -- .. by the program
 abbrev pub walked_of : Walk → Walked
-walked_of w = record { depth = w.depth; root = w.root; entries = map unpacked_entry w.entries.items; levels = w.levels.items }
+walked_of w = record { depth = w.depth; root = w.root; entries = w.entries.items; levels = w.levels.items }
 
 -- one more entry
 abbrev pub after_die : Keeping → Walked → Die → Walked
 after_die keeping w die = record {
   depth = w.depth;
   root = or_else w.root (Some (root_entry die));
-  entries = if keeps keeping die.tag then w.entries ++ named_entry die ∷ [] else w.entries;
+  entries = if keeps keeping die.tag then w.entries ++ die.offset ∷ [] else w.entries;
   levels = w.levels ++ level_of die ∷ [];
 }
 
