@@ -1,20 +1,20 @@
 -- Units stand end to end in .debug_info, and what stands in a unit up to its end.
 use Rattle.std.proofs.Common.{◌≡◌, ℕ, ◌+◌, ◌≤◌, true, List, [], ◌∷◌, ◌++◌, length, take, ap, sym, ◌∙◌, subst, arith, length-take}
-use Rattle.std.specs.Prelude.{Ok, All, Contains, nat_lt, nat_le, ◌==◌, not, ok_or}
+use Rattle.std.specs.Prelude.{Ok, All, Contains, nat_lt, nat_le}
 use Rattle.std.specs.List.{filter_map, list_any}
 use Rattle.std.proofs.lemmas.List.Elements.{All-nil, All-cons, All-contains}
 use Rattle.dwarf_bytes.specs.declared.fault.Cause.TheVariants as causes
 use Rattle.dwarf_bytes.specs.declared.format.Format.{Format}
-use Rattle.dwarf_bytes.specs.Numbers.{u8_at, u16_at, initial_length_at, offset_at}
+use Rattle.dwarf_bytes.specs.Numbers.{initial_length_at}
 use Rattle.dwarf_bytes.specs.Items.{Item, End, Lists, reading, items_from}
 use Rattle.dwarf_bytes.proofs.Advance.{after_bind, after_test, chosen}
 use Rattle.dwarf_bytes.proofs.ItemLaws.{Lists-within}
 use Rattle.dwarf_bytes.proofs.Moves.{same_ok, same_item, same_end}
 use Rattle.dwarf_forms.specs.Declarations.{Declaration}
 use Rattle.dwarf_units.specs.declared.unit_headers.UnitHeader.{UnitHeader}
-use Rattle.dwarf_units.specs.Units.{unit_type_of, is_read_type, header_in, unit_at, header_at, headers_of, units_of}
+use Rattle.dwarf_units.specs.Units.{unit_at, header_at, headers_of, units_of}
 use Rattle.dwarf_units.specs.Entries.{Standing, Die, is_root, depth_after, node_behind, node_at, die_of, entries_of}
-use Rattle.dwarf_units.proofs.UnitLaws.{unit_at-moves}
+use Rattle.dwarf_units.proofs.UnitLaws.{header_in-places, unit_at-moves}
 use Rattle.dwarf_units.proofs.NodeLaws.{node_at-facts}
 use Rattle.dwarf_units.proofs.EntryOrder.{listed_in}
 use Rattle.dwarf_entries.specs.TreeLaws.{StandEndToEnd, FillsUnit}
@@ -25,29 +25,13 @@ ge-from m n h = grind arith
 
 -- ---- units
 
--- a header tells where its unit starts
-start-told : (start : ℕ) (format : Format) (unit : List ℕ) (at : ℕ) (header : UnitHeader) → header_in start format unit at ≡ Ok header → header.start ≡ start
-start-told start format unit at header h =
-    let P : Type 0 = header.start ≡ start in
-    after_bind (reading (u16_at unit at)) _ header h P (λ version _ h1.
-    after_test (not (version.0 == 5)) causes.Version _ header h1 P (λ _ h2.
-    after_bind (reading (u8_at unit version.1)) _ header h2 P (λ number _ h3.
-    after_bind (ok_or (unit_type_of number.0) causes.UnitType) _ header h3 P (λ unit_type _ h4.
-    chosen (not (is_read_type unit_type)) _ _ (Ok header) h4 P
-    (λ _ last. sym (ap (λ (u : UnitHeader). u.start) (same_ok (record { start = start; format = format; unit_type = unit_type; abbreviations = 0; first = length unit; end = length unit }) header last)))
-    (λ _ h5.
-    after_bind (reading (u8_at unit number.1)) _ header h5 P (λ size _ h6.
-    after_test (not (size.0 == 8)) causes.AddressSize _ header h6 P (λ _ h7.
-    after_bind (reading (offset_at format unit size.1)) _ header h7 P (λ abbreviations _ last.
-    sym (ap (λ (u : UnitHeader). u.start) (same_ok (record { start = start; format = format; unit_type = unit_type; abbreviations = abbreviations.0; first = abbreviations.1; end = length unit }) header last))))))))))
-
 unit-start : (info : List ℕ) (at : ℕ) (header : UnitHeader) → unit_at info at ≡ Ok header → header.start ≡ at
 unfolding unit_at
 unit-start info at header h =
     let P : Type 0 = header.start ≡ at in
     after_bind (reading (initial_length_at info at)) _ header h P (λ len _ h1.
     after_test (nat_lt (length info) (len.1 + len.0.1)) causes.Short _ header h1 P (λ _ h2.
-    start-told at len.0.0 (take (len.1 + len.0.1) info) len.1 header h2))
+    (header_in-places at len.0.0 (take (len.1 + len.0.1) info) len.1 header h2).0))
 
 listed : (info : List ℕ) (before : List UnitHeader) (at : ℕ) (headers : List UnitHeader) (after : ℕ) → Lists (header_at info) before at headers after → at ≤ length info → StandEndToEnd info at headers
 listed info before at [] after h le =

@@ -21,6 +21,7 @@ use Rattle.dwarf_entries.specs.declared.paths.EntryNames.{EntryNames}
 use Rattle.dwarf_entries.specs.declared.kept.Keeping.{Keeping}
 use Rattle.dwarf_entries.specs.declared.kept.UnitEntries.{UnitEntries}
 use Rattle.dwarf_entries.specs.declared.kept.ScopeEntry.{ScopeEntry}
+use Rattle.dwarf_entries.specs.declared.unit_scopes.ScopeNumbers.{ScopeNumbers}
 use Rattle.dwarf_entries.specs.Sections.{Sections}
 use Rattle.dwarf_entries.specs.Bases.{CompilationUnit}
 use Rattle.dwarf_entries.specs.Names.{names_of}
@@ -30,7 +31,7 @@ use Rattle.dwarf_entries.specs.declared.scope.Range.{Range}
 use Rattle.dwarf_entries.specs.Private.Kept.{KeptUnit, named_entry, kept_unit, kept_of}
 use Rattle.dwarf_entries.specs.Private.Shared.{AddsRanges, AddsFacts}
 use Rattle.dwarf_entries.specs.Private.Members.{IsMember}
-use Rattle.dwarf_entries.specs.Private.Passes.{AreUnits, IsScopeSite, only_units, only_member, scope_with}
+use Rattle.dwarf_entries.specs.Private.Passes.{AreUnits, IsScopeSite, only_units, only_member, scope_facts, scope_with}
 use Rattle.dwarf_entries.proofs.OnlyLaws.{is_member}
 
 abbrev pub kept_in : Keeping → CompilationUnit → KeptUnit
@@ -62,11 +63,11 @@ by_names : (keeping : Keeping) (s : Sections) (us : List CompilationUnit) (befor
 by_names keeping s us before p = refl
 
 -- a name that is not read, or a path that does not end
-pub names_fault : (keeping : Keeping) (s : Sections) (us : List CompilationUnit) (before : List Judged) (p : ScopeSite) (unit root inside number room : ℕ) (entry : ScopeEntry) (cause : Cause) → IsScopeSite us unit root entry inside number room before p →
-    (IsMember (only_units keeping us) unit entry.entry (only_member keeping p.member) → Fails cause (names_of s (only_units keeping us) (only_member keeping p.member))) → Fails cause (scope_with keeping s us before p)
-names_fault keeping s us before p unit root inside number room entry cause place read =
+pub names_fault : (keeping : Keeping) (s : Sections) (us : List CompilationUnit) (before : List Judged) (p : ScopeSite) (numbers : ScopeNumbers) (room : ℕ) (entry : ScopeEntry) (cause : Cause) → IsScopeSite us numbers entry room before p →
+    (IsMember (only_units keeping us) numbers.unit entry.entry (only_member keeping p.member) → Fails cause (names_of s (only_units keeping us) (only_member keeping p.member))) → Fails cause (scope_with keeping s us before p)
+names_fault keeping s us before p numbers room entry cause place read =
     let named : entry.entry ≡ named_entry p.member.die = ap (λ (e : ScopeEntry). e.entry) place.entry_is in
-    by_fault (read (is_member keeping us unit entry.entry p.member place.unit_is named))
+    by_fault (read (is_member keeping us numbers.unit entry.entry p.member place.unit_is named))
   where
     by_fault : Fails cause (names_of s (only_units keeping us) (only_member keeping p.member)) → Fails cause (scope_with keeping s us before p)
     by_fault (inl memory) = inl memory
@@ -103,11 +104,11 @@ unit_at keeping units bases us unit u kept found =
 abbrev covers_there : Sections → List Judged → ScopeSite → Result Covering Cause
 covers_there s before p = covers_of (items_limit - sum_by (λ s. s.items) before) s p.member.unit.bases p.member.die
 
-covers_is : (keeping : Keeping) (s : Sections) (units : List UnitEntries) (bases : List Bases) (us : List CompilationUnit) (before : List Judged) (p : ScopeSite) (unit root inside number room : ℕ) (entry : ScopeEntry) (d : Bases) → AreUnits keeping units bases us → IsScopeSite us unit root entry inside number room before p →
-    covers_there s before p ≡ covers_by room s (get_or bases unit d) entry.low_pc entry.high_pc entry.ranges
+covers_is : (keeping : Keeping) (s : Sections) (units : List UnitEntries) (bases : List Bases) (us : List CompilationUnit) (before : List Judged) (p : ScopeSite) (numbers : ScopeNumbers) (room : ℕ) (entry : ScopeEntry) (d : Bases) → AreUnits keeping units bases us → IsScopeSite us numbers entry room before p →
+    covers_there s before p ≡ covers_by room s (get_or bases numbers.unit d) entry.low_pc entry.high_pc entry.ranges
 unfolding covers_of
-covers_is keeping s units bases us before p unit root inside number room entry d kept place =
-    let here = (unit_at keeping units bases us unit p.member.unit kept place.unit_is).bases_are d in
+covers_is keeping s units bases us before p numbers room entry d kept place =
+    let here = (unit_at keeping units bases us numbers.unit p.member.unit kept place.unit_is).bases_are d in
     rw (here, place.entry_is, place.room_is) refl
 
 -- the scope behind its names
@@ -117,27 +118,27 @@ after_names keeping s us before p names read =
     by_names keeping s us before p ∙ ap (λ (r : Result EntryNames Cause). r >>= λ names. covers_there s before p >>= λ covering. Ok (scope_of_place before p names covering)) read
 
 -- ranges that are not read
-pub covers_fault : (keeping : Keeping) (s : Sections) (units : List UnitEntries) (bases : List Bases) (us : List CompilationUnit) (before : List Judged) (p : ScopeSite) (unit root inside number room : ℕ) (entry : ScopeEntry) (names : EntryNames) (cause : Cause) (d : Bases) →
-    AreUnits keeping units bases us → IsScopeSite us unit root entry inside number room before p → (IsMember (only_units keeping us) unit entry.entry (only_member keeping p.member) → names_of s (only_units keeping us) (only_member keeping p.member) ≡ Ok names) →
-    Fails cause (covers_by room s (get_or bases unit d) entry.low_pc entry.high_pc entry.ranges) → Fails cause (scope_with keeping s us before p)
-covers_fault keeping s units bases us before p unit root inside number room entry names cause d kept place read (inl memory) = inl memory
-covers_fault keeping s units bases us before p unit root inside number room entry names cause d kept place read (inr bad) =
+pub covers_fault : (keeping : Keeping) (s : Sections) (units : List UnitEntries) (bases : List Bases) (us : List CompilationUnit) (before : List Judged) (p : ScopeSite) (numbers : ScopeNumbers) (room : ℕ) (entry : ScopeEntry) (names : EntryNames) (cause : Cause) (d : Bases) →
+    AreUnits keeping units bases us → IsScopeSite us numbers entry room before p → (IsMember (only_units keeping us) numbers.unit entry.entry (only_member keeping p.member) → names_of s (only_units keeping us) (only_member keeping p.member) ≡ Ok names) →
+    Fails cause (covers_by room s (get_or bases numbers.unit d) entry.low_pc entry.high_pc entry.ranges) → Fails cause (scope_with keeping s us before p)
+covers_fault keeping s units bases us before p numbers room entry names cause d kept place read (inl memory) = inl memory
+covers_fault keeping s units bases us before p numbers room entry names cause d kept place read (inr bad) =
     let named : entry.entry ≡ named_entry p.member.die = ap (λ (e : ScopeEntry). e.entry) place.entry_is in
     inr
-    (after_names keeping s us before p names (read (is_member keeping us unit entry.entry p.member place.unit_is named))
-    ∙ ap (λ (r : Result Covering Cause). r >>= λ covering. Ok (scope_of_place before p names covering)) (covers_is keeping s units bases us before p unit root inside number room entry d kept place ∙ bad))
+    (after_names keeping s us before p names (read (is_member keeping us numbers.unit entry.entry p.member place.unit_is named))
+    ∙ ap (λ (r : Result Covering Cause). r >>= λ covering. Ok (scope_of_place before p names covering)) (covers_is keeping s units bases us before p numbers room entry d kept place ∙ bad))
 
 -- what is told of the scope
-pub scope_is : (keeping : Keeping) (s : Sections) (units : List UnitEntries) (bases : List Bases) (us : List CompilationUnit) (before : List Judged) (p : ScopeSite) (unit root inside number room : ℕ) (entry : ScopeEntry) (names : EntryNames) (items : ℕ) (old new : List Range) (d : Bases) →
-    AreUnits keeping units bases us → IsScopeSite us unit root entry inside number room before p → (IsMember (only_units keeping us) unit entry.entry (only_member keeping p.member) → names_of s (only_units keeping us) (only_member keeping p.member) ≡ Ok names) →
-    AddsRanges (Ok items) old new (covers_by room s (get_or bases unit d) entry.low_pc entry.high_pc entry.ranges) →
-    AddsFacts (roots_from 0 us) (Ok (record { kind = entry.kind; offset = entry.entry.offset; number = number; end = number + inside + 1; root = root; name = names.name; linkage_name = names.linkage_name; site = record { file = entry.call_file; line = entry.call_line } }, items)) old new (scope_with keeping s us before p)
-scope_is keeping s units bases us before p unit root inside number room entry names items old new d kept place read (found, covers_read, grown) =
+pub scope_is : (keeping : Keeping) (s : Sections) (units : List UnitEntries) (bases : List Bases) (us : List CompilationUnit) (before : List Judged) (p : ScopeSite) (numbers : ScopeNumbers) (room : ℕ) (entry : ScopeEntry) (names : EntryNames) (items : ℕ) (old new : List Range) (d : Bases) →
+    AreUnits keeping units bases us → IsScopeSite us numbers entry room before p → (IsMember (only_units keeping us) numbers.unit entry.entry (only_member keeping p.member) → names_of s (only_units keeping us) (only_member keeping p.member) ≡ Ok names) →
+    AddsRanges (Ok items) old new (covers_by room s (get_or bases numbers.unit d) entry.low_pc entry.high_pc entry.ranges) →
+    AddsFacts (roots_from 0 us) (Ok (scope_facts numbers entry names, items)) old new (scope_with keeping s us before p)
+scope_is keeping s units bases us before p numbers room entry names items old new d kept place read (found, covers_read, grown) =
     let named : entry.entry ≡ named_entry p.member.die = ap (λ (e : ScopeEntry). e.entry) place.entry_is in
-    let ending : number + inside + 1 ≡ length before + 1 + p.inside = omega (arith, place.number_is, place.inside_is) in (
+    let ending : numbers.number + numbers.inside + 1 ≡ length before + 1 + p.inside = omega (arith, place.number_is, place.inside_is) in (
       found,
-      after_names keeping s us before p names (read (is_member keeping us unit entry.entry p.member place.unit_is named))
-          ∙ (ap (λ (r : Result Covering Cause). r >>= λ covering. Ok (scope_of_place before p names covering)) (covers_is keeping s units bases us before p unit root inside number room entry d kept place ∙ covers_read)
+      after_names keeping s us before p names (read (is_member keeping us numbers.unit entry.entry p.member place.unit_is named))
+          ∙ (ap (λ (r : Result Covering Cause). r >>= λ covering. Ok (scope_of_place before p names covering)) (covers_is keeping s units bases us before p numbers room entry d kept place ∙ covers_read)
           ∙ rw (place.entry_is, place.root_is, ending, place.number_is) refl),
       grown,
     )

@@ -12,7 +12,9 @@ use Rattle.dwarf_bytes.specs.Items.{At, told_at, each, each_from}
 use Rattle.dwarf_bytes.specs.Refusals.{Fails, memory_fault, told, in_section}
 use Rattle.dwarf_bytes.proofs.Moves.{same_ok}
 use Rattle.dwarf_units.specs.declared.unit_headers.UnitHeader.{UnitHeader}
-use Rattle.dwarf_entries.specs.Private.Again.{scope_entry_at, IsReadIn}
+use Rattle.dwarf_forms.specs.Tables.{declarations_of}
+use Rattle.dwarf_units.specs.Units.{declarations_limit}
+use Rattle.dwarf_entries.specs.Private.Again.{scope_entry_at, IsReadIn, AreReadIn}
 use Rattle.dwarf_entries.proofs.AgainLaws.{bytes_in, scope-there, again-memory}
 use Rattle.dwarf_bytes.proofs.EachLaws.{made_front, each-next, each-fault, each-end}
 use Rattle.dwarf_entries.specs.declared.bases.Bases.{Bases}
@@ -26,6 +28,7 @@ use Rattle.dwarf_entries.specs.declared.scope.Root.{Root}
 use Rattle.dwarf_entries.specs.declared.scope.Scope.{Scope as Kept}
 use Rattle.dwarf_entries.specs.declared.scope.ScopeFacts.{ScopeFacts}
 use Rattle.dwarf_entries.specs.declared.scope_lists.ScopeLists.{ScopeLists}
+use Rattle.dwarf_entries.specs.declared.unit_scopes.ScopeNumbers.{ScopeNumbers}
 use Rattle.dwarf_units.specs.Entries.{Die}
 use Rattle.dwarf_entries.specs.Private.Shared.{AddsFacts, AreHeld, facts_of, IsPushed}
 use Rattle.dwarf_entries.proofs.SharedLaws.{scopes-length, pushed}
@@ -68,30 +71,40 @@ has_entries u [] zero p ps h = cc
 has_entries u [] (suc index) p ps h = cc
 has_entries u (die ∷ rest) index p ps h = (die, rest, refl)
 
--- the scope at a place, read again by what is kept of its unit
-entry_there : (s : Sections) (u : CompilationUnit) (index : ℕ) (kept : ScopePlace) (header : UnitHeader) (read : IsReadIn s u) → header ≡ u.header → (p : SiteAt u index kept) →
-    scope_entry_at header.format read.table (bytes_in s header) kept.offset ≡ Ok (scope_entry p.place.member.die p.place.kind)
-entry_there s u index kept header read same p =
-    ap (λ (h : UnitHeader). scope_entry_at h.format read.table (bytes_in s h) kept.offset) same
-    ∙ (ap (λ (k : ℕ). scope_entry_at u.header.format read.table (bytes_in s u.header) k) p.offset_is ∙ scope-there s u p.stands.index p.place.member.die p.place.kind read p.stands.there p.stands.kind_is)
-
 -- as many scopes as were judged
 judged_count : (roots : List Root) (judged : List Judged) (lists : ScopeLists) (left : ℕ) → AreJudged roots judged lists left → length lists.scopes.items ≡ length judged
 judged_count roots judged lists left are =
     sym (scopes-length roots lists.wide.items lists.ranges.items 0 lists.scopes.items) ∙ (ap (λ (ss : List Scope). length ss) are.told ∙ length-map judged (λ j. j.scope))
 
+-- what is known of the place at an index: the scope that stands there, the header of its unit, and the declarations of its table
+pub record PlaceKnown (s : Sections) (u : CompilationUnit) (index : ℕ) (kept : ScopePlace) (header : UnitHeader) : Type 0 where
+  pub site : SiteAt u index kept
+  pub same : header ≡ u.header
+  pub read : IsReadIn s u
+  pub table_is : declarations_of declarations_limit s.debug_abbrev header.abbreviations ≡ Ok read.table
+
+-- the scope at a place, read again by what is kept of its unit
+entry_there : (s : Sections) (u : CompilationUnit) (index : ℕ) (kept : ScopePlace) (header : UnitHeader) (known : PlaceKnown s u index kept header) →
+    scope_entry_at header.format known.read.table (bytes_in s header) kept.offset ≡ Ok (scope_entry known.site.place.member.die known.site.place.kind)
+entry_there s u index kept header known =
+    let p = known.site in
+    let table = known.read.table in
+    ap (λ (h : UnitHeader). scope_entry_at h.format table (bytes_in s h) kept.offset) known.same
+    ∙ (ap (λ (k : ℕ). scope_entry_at u.header.format table (bytes_in s u.header) k) p.offset_is ∙ scope-there s u p.stands.index p.place.member.die p.place.kind known.read p.stands.there p.stands.kind_is)
+
 -- the place of a scope, behind those before it
-pub is_place : (keeping : Keeping) (s : Sections) (us : List CompilationUnit) (u : CompilationUnit) (before : List Judged) (unit root index : ℕ) (lists : ScopeLists) (left number : ℕ) (kept : ScopePlace) (header : UnitHeader) (entry : ScopeEntry) → (so_far : JudgedSoFar keeping s us u before index lists left) →
-    slice_get us unit ≡ Some u → IsRootOf us root u → (read : IsReadIn s u) → header ≡ u.header → (p : SiteAt u index kept) → number ≡ length lists.scopes.items →
-    scope_entry_at header.format read.table (bytes_in s header) kept.offset ≡ Ok entry → IsScopeSite us unit root entry kept.inside number left so_far.judged p.place
-is_place keeping s us u before unit root index lists left number kept header entry so_far found rooted read same p number_is again =
+pub is_place : (keeping : Keeping) (s : Sections) (us : List CompilationUnit) (u : CompilationUnit) (before : List Judged) (numbers : ScopeNumbers) (index : ℕ) (lists : ScopeLists) (left : ℕ) (kept : ScopePlace) (header : UnitHeader) (entry : ScopeEntry) → (so_far : JudgedSoFar keeping s us u before index lists left) →
+    slice_get us numbers.unit ≡ Some u → IsRootOf us numbers.root u → (known : PlaceKnown s u index kept header) → numbers.number ≡ length lists.scopes.items → numbers.inside ≡ kept.inside →
+    scope_entry_at header.format known.read.table (bytes_in s header) kept.offset ≡ Ok entry → IsScopeSite us numbers entry left so_far.judged known.site.place
+is_place keeping s us u before numbers index lists left kept header entry so_far found rooted known number_is inside_is again =
+    let p = known.site in
     let sizes = judged_count (roots_from 0 us) so_far.judged lists left so_far.are_judged in
     let dies = has_entries u u.dies index p.place (drop (index + 1) (sites_in u u.dies)) p.rest in
     record {
       unit_is = found ∙ ap (λ (v : CompilationUnit). Some v) (sym p.stands.unit_is);
       root_is = rooted dies.0 dies.1 dies.2 ∙ ap (λ (v : CompilationUnit). stmt_list_of v.dies) (sym p.stands.unit_is);
-      entry_is = same_ok entry (scope_entry p.place.member.die p.place.kind) (sym again ∙ entry_there s u index kept header read same p);
-      inside_is = p.inside_is;
+      entry_is = same_ok entry (scope_entry p.place.member.die p.place.kind) (sym again ∙ entry_there s u index kept header known);
+      inside_is = inside_is ∙ p.inside_is;
       number_is = omega (arith, number_is, sizes);
       room_is = omega (arith, so_far.are_judged.counted);
     }
@@ -160,22 +173,26 @@ judged_fault keeping s us u before index lists final left last kept cause fault 
 
 -- want of memory where a scope is read again
 pub again_fault : (keeping : Keeping) (s : Sections) (us : List CompilationUnit) (u : CompilationUnit) (before : List Judged) (index : ℕ) (final : ScopeLists) (last : ℕ) (kept : ScopePlace) (header : UnitHeader) (cause : Cause) (fault : LoadFault) →
-    (read : IsReadIn s u) → header ≡ u.header → (p : SiteAt u index kept) → Fails cause (scope_entry_at header.format read.table (bytes_in s header) kept.offset) → fault ≡ told names.DebugInfo cause kept.offset →
+    (known : PlaceKnown s u index kept header) → Fails cause (scope_entry_at header.format known.read.table (bytes_in s header) kept.offset) → fault ≡ told names.DebugInfo cause kept.offset →
     AddsScopes keeping (Err fault) s us (sites_in u u.dies) before final last
-again_fault keeping s us u before index final last kept header cause fault read same p bad told_is =
-    let memory = again-memory cause (scope_entry_at header.format read.table (bytes_in s header) kept.offset) (scope_entry p.place.member.die p.place.kind) (entry_there s u index kept header read same p) bad in
+again_fault keeping s us u before index final last kept header cause fault known bad told_is =
+    let p = known.site in
+    let memory = again-memory cause (scope_entry_at header.format known.read.table (bytes_in s header) kept.offset) (scope_entry p.place.member.die p.place.kind) (entry_there s u index kept header known) bad in
     inl (told_is ∙ ap (λ (c : Cause). told names.DebugInfo c kept.offset) memory)
 
 -- ---- what a turn asks
 
-pub place_there : (keeping : Keeping) (units : List UnitEntries) (bases : List Bases) (us : List CompilationUnit) (u : CompilationUnit) (unit index : ℕ) (d : UnitEntries) (list : List ScopePlace) (x kept : ScopePlace) → AreUnits keeping units bases us → slice_get us unit ≡ Some u →
-    list ≡ (get_or units unit d).scopes.items → index < length list → kept ≡ get_or list index x → SiteAt u index kept
-place_there keeping units bases us u unit index d list x kept are found list_is within is =
-    site_at u list index x kept (list_is ∙ kept_there keeping units bases us unit u d are found) within is
-
--- the header of a unit
-pub header_there : (keeping : Keeping) (units : List UnitEntries) (bases : List Bases) (us : List CompilationUnit) (u : CompilationUnit) (unit : ℕ) (d : UnitEntries) → AreUnits keeping units bases us → slice_get us unit ≡ Some u → (get_or units unit d).header ≡ u.header
-header_there keeping units bases us u unit d are found = ap (λ (k : KeptUnit). k.header) ((unit_at keeping units bases us unit u are found).entries_are d)
+pub place_known : (keeping : Keeping) (s : Sections) (units : List UnitEntries) (bases : List Bases) (us : List CompilationUnit) (u : CompilationUnit) (unit index : ℕ) (d : UnitEntries) (list : List ScopePlace) (x : ScopePlace) → AreUnits keeping units bases us → AreReadIn s us → slice_get us unit ≡ Some u →
+    list ≡ (get_or units unit d).scopes.items → index < length list → PlaceKnown s u index (get_or list index x) (get_or units unit d).header
+place_known keeping s units bases us u unit index d list x are read found list_is within =
+    let header : (get_or units unit d).header ≡ u.header = ap (λ (k : KeptUnit). k.header) ((unit_at keeping units bases us unit u are found).entries_are d) in
+    let one = read unit u found in
+    record {
+      site = site_at u list index x (get_or list index x) (list_is ∙ kept_there keeping units bases us unit u d are found) within refl;
+      same = header;
+      read = one;
+      table_is = ap (λ (h : UnitHeader). declarations_of declarations_limit s.debug_abbrev h.abbreviations) header ∙ one.table_is;
+    }
 
 -- all scopes of a unit were looked at
 pub all_there : (keeping : Keeping) (units : List UnitEntries) (bases : List Bases) (us : List CompilationUnit) (u : CompilationUnit) (unit index : ℕ) (d : UnitEntries) (list : List ScopePlace) → AreUnits keeping units bases us → slice_get us unit ≡ Some u →

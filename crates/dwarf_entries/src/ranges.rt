@@ -6,6 +6,7 @@ ghost use Rattle.dwarf_entries.specs.Private.Shared.{AddsRanges};
 ghost use Rattle.dwarf_entries.specs.Sections.{sections_of};
 
 use crate::bases::{Bases, address_of, item_at};
+use crate::kept::ScopeEntry;
 use crate::range_entries::{RangeListEntry, covered_from, next_entry};
 use crate::scope::Range;
 use crate::sections::Sections;
@@ -13,21 +14,19 @@ use dwarf_bytes::constants::DW_FORM_RNGLISTX;
 use dwarf_bytes::{Cause, Cursor, TableKind};
 use dwarf_units::{AttributeValue, is_address};
 
-/// Adds what an entry covers, by its low_pc, high_pc and ranges, to the ranges of all, and tells how
+/// Adds what a scope covers, by its low_pc, high_pc and ranges, to the ranges of all, and tells how
 /// many items it was read from. `room` is how many these may be.
 pub(crate) fn covers(
     room: u64,
     sections: &Sections<'_>,
     bases: &Bases,
-    low_pc: Option<AttributeValue>,
-    high_pc: Option<AttributeValue>,
-    ranges: Option<AttributeValue>,
+    entry: &ScopeEntry,
     all: &mut Vec<Range>,
 ) -> Result<u64, Cause>
     ensures { AddsRanges result all.old.items all.new.items (covers_by room
-        (sections_of sections.now) bases.now low_pc high_pc ranges) }
+        (sections_of sections.now) bases.now entry.now.low_pc entry.now.high_pc entry.now.ranges) }
 {
-    match (low_pc, high_pc, ranges) {
+    match (entry.low_pc, entry.high_pc, entry.ranges) {
         (None, None, Some(ranges)) => listed(room, sections, bases, ranges, all),
         (_, _, Some(_)) | (None, Some(_), None) => Err(Cause::PcAndRanges),
         (Some(low_pc), Some(high_pc), None) => {

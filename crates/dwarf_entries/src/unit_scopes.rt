@@ -8,7 +8,7 @@ ghost use Rattle.dwarf_entries.specs.Private.Texts.{AreTexts};
 ghost use Rattle.dwarf_entries.specs.declared.kept.Keeping.{Keeping};
 ghost use Rattle.dwarf_entries.specs.Bases.{CompilationUnit};
 ghost use Rattle.dwarf_entries.specs.Scopes.{Judged, ScopeSite, sites_in, roots_from, scopes_of};
-ghost use Rattle.dwarf_entries.specs.Private.Passes.{AreUnits, IsRootOf, IsScopeSite, AreJudged, AddsScopes, scope_with, all_scopes};
+ghost use Rattle.dwarf_entries.specs.Private.Passes.{AreUnits, IsRootOf, IsScopeSite, AreJudged, AddsScopes, scope_facts, scope_with, all_scopes};
 ghost use Rattle.dwarf_entries.specs.Private.Again.{AreReadIn, IsReaderOf};
 ghost use Rattle.dwarf_entries.specs.Private.Shared.{AddsFacts};
 
@@ -16,7 +16,7 @@ use crate::again::EntryReader;
 use crate::bases::Bases;
 use crate::calls::CallSite;
 use crate::kept::{ScopeEntry, UnitEntries};
-use crate::paths::{UnitEntry, names};
+use crate::paths::{EntryNames, UnitEntry, names};
 use crate::ranges::covers;
 use crate::scope::{Range, ScopeFacts};
 use crate::scope_lists::ScopeLists;
@@ -37,27 +37,33 @@ pub(crate) struct Units<'a> {
     pub(crate) bases: &'a [Bases],
 }
 
+/// The numbers of a scope: of its unit, of that unit's root, its own, and how many scopes are below it.
+#[derive(Clone, Copy)]
+pub(crate) struct ScopeNumbers {
+    pub(crate) unit: usize,
+    pub(crate) root: usize,
+    pub(crate) number: usize,
+    pub(crate) inside: usize,
+}
+
 impl<'a> Units<'a> {
-    /// What is told of the scope of an entry of a unit, whose root has the number `root`, and how many
-    /// range items it was read from; `room` is how many these may be. What it covers is added to the
-    /// ranges of all.
+    /// What is told of the scope of an entry, and how many range items it was read from; `room` is how
+    /// many these may be. What it covers is added to the ranges of all.
     fn scope(
         self,
         reader: &mut EntryReader<'_>,
-        unit: usize,
-        root: usize,
+        numbers: ScopeNumbers,
         entry: &ScopeEntry,
-        inside: usize,
-        number: usize,
         room: u64,
         ranges: &mut Vec<Range>,
     ) -> Result<(ScopeFacts, u64), Cause>
         requires texts { AreTexts (sections_of self.sections.now) self.texts.now }
-        requires unit { (unit < length self.units.now) × (unit < length self.bases.now) }
-        requires end { number + inside + 1 < 2 ^ 64 }
+        requires unit { (numbers.unit < length self.units.now)
+            × (numbers.unit < length self.bases.now) }
+        requires end { numbers.number + numbers.inside + 1 < 2 ^ 64 }
         ensures judged { (keeping : Keeping) (us : List CompilationUnit) (before : List Judged)
             (p : ScopeSite) → AreUnits keeping self.entry.units.now self.entry.bases.now us
-            → IsScopeSite us unit root entry.now inside number room before p
+            → IsScopeSite us numbers entry.now room before p
             → AreReadIn (sections_of self.entry.sections.now) us
             → IsReaderOf (sections_of self.entry.sections.now) reader.old
             → AddsFacts (roots_from 0 us) result ranges.old.items ranges.new.items (scope_with
@@ -65,7 +71,8 @@ impl<'a> Units<'a> {
         ensures room { IfOk result (λ found. found.1 ≤ room) }
         ensures reader { (s : SectionBytes) → IsReaderOf s reader.old → IsReaderOf s reader.new }
     {
-        let entry_of_unit = UnitEntry {
+        let unit = numbers.unit;
+        let start = UnitEntry {
             unit,
             entry: entry.entry,
         };
@@ -75,31 +82,10 @@ impl<'a> Units<'a> {
             self.units,
             self.bases,
             reader,
-            entry_of_unit,
+            start,
         )?;
-        let items = covers(
-            room,
-            self.sections,
-            &self.bases[unit],
-            entry.low_pc,
-            entry.high_pc,
-            entry.ranges,
-            ranges,
-        )?;
-        let facts = ScopeFacts {
-            kind: entry.kind,
-            offset: entry.entry.offset,
-            number,
-            end: number + inside + 1,
-            root,
-            name: names.name,
-            linkage_name: names.linkage_name,
-            site: CallSite {
-                file: entry.call_file,
-                line: entry.call_line,
-            },
-        };
-        Ok((facts, items))
+        let items = covers(room, self.sections, &self.bases[unit], entry, ranges)?;
+        Ok((facts(numbers, entry, names), items))
     }
 
     /// Puts the scopes of a unit, whose root has the number `root`, behind those before it. Each is
@@ -132,10 +118,13 @@ impl<'a> Units<'a> {
                 Err(cause) => return Err(LoadFault::told(Section::DebugInfo, cause, at)),
                 Ok(entry) => entry,
             };
-            let inside = place.inside as usize;
-            let number = lists.scopes.len();
-            let ranges = &mut lists.ranges;
-            match self.scope(reader, unit, root, &entry, inside, number, *left, ranges) {
+            let numbers = ScopeNumbers {
+                unit,
+                root,
+                number: lists.scopes.len(),
+                inside: place.inside as usize,
+            };
+            match self.scope(reader, numbers, &entry, *left, &mut lists.ranges) {
                 Err(cause) => return Err(LoadFault::told(Section::DebugInfo, cause, at)),
                 Ok((facts, items)) => {
                     *left -= items;
@@ -172,6 +161,26 @@ impl<'a> Units<'a> {
             }
         }
         Ok(lists)
+    }
+}
+
+/// What is told of the scope of an entry, by its names.
+fn facts(numbers: ScopeNumbers, entry: &ScopeEntry, names: EntryNames) -> ScopeFacts
+    requires { numbers.number + numbers.inside + 1 < 2 ^ 64 }
+    ensures { result ≡ scope_facts numbers entry.now names }
+{
+    ScopeFacts {
+        kind: entry.kind,
+        offset: entry.entry.offset,
+        number: numbers.number,
+        end: numbers.number + numbers.inside + 1,
+        root: numbers.root,
+        name: names.name,
+        linkage_name: names.linkage_name,
+        site: CallSite {
+            file: entry.call_file,
+            line: entry.call_line,
+        },
     }
 }
 

@@ -18,21 +18,26 @@ use Rattle.dwarf_bytes.proofs.Turns.{SoFar, so_far-item, so_far-end, so_far-faul
 use Rattle.dwarf_units.specs.declared.unit_headers.UnitHeader.{UnitHeader}
 use Rattle.dwarf_units.specs.Units.{unit_type_of, is_read_type, is_read, header_in, unit_at, header_at, headers_of, units_of}
 
--- a unit ends where its bytes do
-header_in-end : (start : ℕ) (format : Format) (unit : List ℕ) (at : ℕ) (header : UnitHeader) → header_in start format unit at ≡ Ok header → header.end ≡ length unit
-header_in-end start format unit at header h =
-    let P : Type 0 = header.end ≡ length unit in
+-- a header tells where its unit starts, and that it ends where its bytes do
+pub header_in-places : (start : ℕ) (format : Format) (unit : List ℕ) (at : ℕ) (header : UnitHeader) → header_in start format unit at ≡ Ok header → (header.start ≡ start) × (header.end ≡ length unit)
+header_in-places start format unit at header h =
+    let P : Type 0 = (header.start ≡ start) × (header.end ≡ length unit) in
     after_bind (reading (u16_at unit at)) _ header h P (λ version _ h1.
     after_test (not (version.0 == 5)) causes.Version _ header h1 P (λ _ h2.
     after_bind (reading (u8_at unit version.1)) _ header h2 P (λ number _ h3.
     after_bind (ok_or (unit_type_of number.0) causes.UnitType) _ header h3 P (λ unit_type _ h4.
     chosen (not (is_read_type unit_type)) _ _ (Ok header) h4 P
-    (λ _ last. sym (ap (λ (u : UnitHeader). u.end) (same_ok (record { start = start; format = format; unit_type = unit_type; abbreviations = 0; first = length unit; end = length unit }) header last)))
+    (λ _ last. places (record { start = start; format = format; unit_type = unit_type; abbreviations = 0; first = length unit; end = length unit }) last)
     (λ _ h5.
     after_bind (reading (u8_at unit number.1)) _ header h5 P (λ size _ h6.
     after_test (not (size.0 == 8)) causes.AddressSize _ header h6 P (λ _ h7.
     after_bind (reading (offset_at format unit size.1)) _ header h7 P (λ abbreviations _ last.
-    sym (ap (λ (u : UnitHeader). u.end) (same_ok (record { start = start; format = format; unit_type = unit_type; abbreviations = abbreviations.0; first = abbreviations.1; end = length unit }) header last))))))))))
+    places (record { start = start; format = format; unit_type = unit_type; abbreviations = abbreviations.0; first = abbreviations.1; end = length unit }) last))))))))
+  where
+    places : (read : UnitHeader) → (let f : UnitHeader → Result UnitHeader Cause = λ z. Ok z in f read ≡ f header) → (header.start ≡ read.start) × (header.end ≡ read.end)
+    places read last =
+        let same = same_ok read header last in
+        (sym (ap (λ (u : UnitHeader). u.start) same), sym (ap (λ (u : UnitHeader). u.end) same))
 
 pub unit_at-moves : (info : List ℕ) (at : ℕ) (header : UnitHeader) → unit_at info at ≡ Ok header → (at < header.end) × (header.end ≤ length info)
 unfolding unit_at
@@ -42,7 +47,7 @@ unit_at-moves info at header h =
     after_test (nat_lt (length info) (len.1 + len.0.1)) causes.Short _ header h1 P (λ fits h2.
     let moved = initial_length_at-moves info at len (reading_ok (initial_length_at info at) len len_is) in
     let within : len.1 + len.0.1 ≤ length info = ltb-false (length info) (len.1 + len.0.1) fits in
-    let end = header_in-end at len.0.0 (take (len.1 + len.0.1) info) len.1 header h2 in
+    let end = (header_in-places at len.0.0 (take (len.1 + len.0.1) info) len.1 header h2).1 in
     let size = length-take (len.1 + len.0.1) info in
     (omega (arith, moved.0, within, end, size), omega (arith, within, end, size))))
 

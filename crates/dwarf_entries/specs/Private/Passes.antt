@@ -15,7 +15,10 @@ use Rattle.dwarf_entries.specs.declared.kept.Keeping.TheVariants as keepings
 use Rattle.dwarf_entries.specs.declared.kept.RootEntry.{RootEntry}
 use Rattle.dwarf_entries.specs.declared.kept.UnitEntries.{UnitEntries}
 use Rattle.dwarf_entries.specs.declared.scope.Root.{Root}
+use Rattle.dwarf_entries.specs.declared.scope.ScopeFacts.{ScopeFacts}
 use Rattle.dwarf_entries.specs.declared.scope_lists.ScopeLists.{ScopeLists}
+use Rattle.dwarf_entries.specs.declared.paths.EntryNames.{EntryNames}
+use Rattle.dwarf_entries.specs.declared.unit_scopes.ScopeNumbers.{ScopeNumbers}
 use Rattle.dwarf_entries.specs.Sections.{Sections}
 use Rattle.dwarf_units.specs.Entries.{Die, entries_of}
 use Rattle.dwarf_entries.specs.Bases.{CompilationUnit, no_bases, bases_by, unit_of}
@@ -69,13 +72,26 @@ abbrev pub IsRootOf : List CompilationUnit → ℕ → CompilationUnit → Type 
 IsRootOf us root u = (die : Die) (rest : List Die) → u.dies ≡ die ∷ rest → root_stmt_list (roots_from 0 us) root ≡ stmt_list_of u.dies
 
 -- a place is that of a scope of a unit of the program, behind so many scopes with so many range items to come
-pub record IsScopeSite (us : List CompilationUnit) (unit root : ℕ) (entry : ScopeEntry) (inside number room : ℕ) (before : List Judged) (p : ScopeSite) : Type 0 where
-  pub unit_is : slice_get us unit ≡ Some p.member.unit
-  pub root_is : root_stmt_list (roots_from 0 us) root ≡ stmt_list_of p.member.unit.dies
+pub record IsScopeSite (us : List CompilationUnit) (numbers : ScopeNumbers) (entry : ScopeEntry) (room : ℕ) (before : List Judged) (p : ScopeSite) : Type 0 where
+  pub unit_is : slice_get us numbers.unit ≡ Some p.member.unit
+  pub root_is : root_stmt_list (roots_from 0 us) numbers.root ≡ stmt_list_of p.member.unit.dies
   pub entry_is : entry ≡ scope_entry p.member.die p.kind
-  pub inside_is : inside ≡ p.inside
-  pub number_is : number ≡ length before
+  pub inside_is : numbers.inside ≡ p.inside
+  pub number_is : numbers.number ≡ length before
   pub room_is : room ≡ items_limit - sum_by (λ s. s.items) before
+
+-- what is told of the scope of an entry, by its names
+abbrev pub scope_facts : ScopeNumbers → ScopeEntry → EntryNames → ScopeFacts
+scope_facts numbers entry names = record {
+  kind = entry.kind;
+  offset = entry.entry.offset;
+  number = numbers.number;
+  end = numbers.number + numbers.inside + 1;
+  root = numbers.root;
+  name = names.name;
+  linkage_name = names.linkage_name;
+  site = record { file = entry.call_file; line = entry.call_line };
+}
 
 -- the places of the scopes of all units
 abbrev pub all_sites : List CompilationUnit → List ScopeSite
