@@ -15,7 +15,7 @@ use crate::long_entries::LongEntries;
 use crate::sections::Sections;
 use dwarf_bytes::{Cause, Cursor};
 use dwarf_units::{Attribute, Tables, UnitHeader};
-use std::alloc::Global;
+use std::alloc::{AllocError, Global};
 
 /// The bytes of an entry past which it is not read again for each reference to it.
 const LONG: usize = 256;
@@ -90,8 +90,13 @@ impl<'a> EntryReader<'a> {
     }
 
     /// What a path needs of the entry at an offset, in the unit of the header. A long entry is read
-    /// once.
-    pub(crate) fn named(&mut self, header: &UnitHeader, offset: usize) -> Result<NamedEntry, Cause>
+    /// once, and so are the entries of a unit, which are at these offsets, if its table does not stay.
+    pub(crate) fn named(
+        &mut self,
+        header: &UnitHeader,
+        entries: &[u32],
+        offset: usize,
+    ) -> Result<NamedEntry, Cause>
         ensures named { (s : SectionBytes) (table : List Declaration) → IsReaderOf s self.old
             → declarations_of declarations_limit s.debug_abbrev header.now.abbreviations ≡ Ok table
             → Gives (λ entry. entry) result (named_entry_at header.now.format table
@@ -102,21 +107,49 @@ impl<'a> EntryReader<'a> {
             return Ok(entry);
         }
         let entry = self.named_again(header, offset)?;
-        if self.len > LONG {
-            self.long.insert(header, offset, entry)?;
+        if !self.tables.stays(self.number) {
+            self.hold(header, entries)?;
+        } else if self.len > LONG {
+            self.remember(header, offset, entry)?;
         }
         Ok(entry)
     }
 
+    /// Remembers what paths need of the entries at these offsets, as far as they are read.
+    fn hold(&mut self, header: &UnitHeader, entries: &[u32]) -> Result<(), AllocError>
+        ensures { (s : SectionBytes) → IsReaderOf s self.old → IsReaderOf s self.new }
+    {
+        for offset in entries {
+            let offset = *offset as usize;
+            if let Ok(entry) = self.named_again(header, offset) {
+                self.remember(header, offset, entry)?;
+            }
+        }
+        Ok(())
+    }
+
+    /// Remembers what was read of the entry at an offset, in the unit of the header.
+    fn remember(
+        &mut self,
+        header: &UnitHeader,
+        offset: usize,
+        entry: NamedEntry,
+    ) -> Result<(), AllocError>
+        ensures { (s : SectionBytes) → IsReaderOf s self.old
+            → ((table : List Declaration) → declarations_of declarations_limit s.debug_abbrev
+            header.now.abbreviations ≡ Ok table → named_entry_at header.now.format table
+            (take header.now.«end» s.debug_info) offset ≡ Ok entry) → IsReaderOf s self.new }
+    {
+        self.long.insert(header, offset, entry)
+    }
+
     /// The same, read at its place.
     fn named_again(&mut self, header: &UnitHeader, offset: usize) -> Result<NamedEntry, Cause>
-        ensures named { (table : List Declaration) → declarations_of declarations_limit
-            self.old.tables.section header.now.abbreviations ≡ Ok table
+        ensures named { (s : SectionBytes) (table : List Declaration) → IsReaderOf s self.old
+            → declarations_of declarations_limit s.debug_abbrev header.now.abbreviations ≡ Ok table
             → Gives (λ entry. entry) result (named_entry_at header.now.format table
-            (take header.now.«end» self.old.info.now) offset) }
-        ensures section { self.new.tables.section ≡ self.old.tables.section }
-        ensures info { self.new.info.now ≡ self.old.info.now }
-        ensures long { self.new.long ≡ self.old.long }
+            (take header.now.«end» s.debug_info) offset) }
+        ensures reader { (s : SectionBytes) → IsReaderOf s self.old → IsReaderOf s self.new }
     {
         self.entry(header, offset)?;
         Ok(NamedEntry::of(offset, &self.found))

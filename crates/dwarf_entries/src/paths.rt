@@ -160,7 +160,7 @@ fn entry_again(
     let Some(kept) = units.get(place.unit) else {
         return Err(Cause::Reference);
     };
-    let entry = reader.named(&kept.header, place.offset)?;
+    let entry = reader.named(&kept.header, kept.entries.as_slice(), place.offset)?;
     Ok(UnitEntry {
         unit: place.unit,
         entry,

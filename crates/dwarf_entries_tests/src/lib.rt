@@ -22,6 +22,8 @@ mod long_entries;
 #[cfg(test)]
 mod names;
 #[cfg(test)]
+mod overlapping_tables;
+#[cfg(test)]
 mod pairs;
 #[cfg(test)]
 mod passes;

@@ -8,7 +8,7 @@ use std::process::Abort;
 use std::test::*;
 
 /// The ULEB128 of a number below 2^21, spelled in three bytes.
-fn three_bytes(number: u32) -> [u8; 3] {
+pub fn three_bytes(number: u32) -> [u8; 3] {
     [
         (number % 128) as u8 | 0x80,
         (number / 128 % 128) as u8 | 0x80,
@@ -179,8 +179,12 @@ fn units_of_one_long_declaration(rt: HostRuntime) -> Result<(), Fail> {
     are_units(&rt, &info, &table, 20_000, 1)
 }
 
-/// Puts a unit of one entry of three bytes or less behind others, whose abbreviations stand anywhere.
-fn add_unit_at(info: &mut Vec<u8>, abbreviations: usize, entry: &[u8]) -> Result<(), AllocError> {
+/// Puts a unit of these entries, of at most 247 bytes, behind others, whose abbreviations stand anywhere.
+pub fn add_unit_at(
+    info: &mut Vec<u8>,
+    abbreviations: usize,
+    entry: &[u8],
+) -> Result<(), AllocError> {
     let abbreviations = u32::try_from(abbreviations).unwrap_or(0);
     let unit_length = u8::try_from(entry.len()).unwrap_or(0).saturating_add(8);
     // unit_length, version, unit_type, address_size

@@ -1,6 +1,6 @@
 //! The abbreviation tables of all units (DWARF 5, 7.5.3), each read once.
 
-ghost use Rattle.std.specs.Prelude.{◌≡◌, ℕ, ◌⊎◌, ◌+◌, ◌<◌, ◌≤◌, ◌++◌, ◌∷◌, [], take, List, Some, Ok, Err, length, slice_get, IfOk, IfErr, OnOk, OnErr, IfSome, IfNone};
+ghost use Rattle.std.specs.Prelude.{◌≡◌, ℕ, ◌⊎◌, ◌+◌, ◌<◌, ◌≤◌, ◌++◌, ◌∷◌, [], take, List, Some, Ok, Err, length, slice_get, IfOk, IfErr, OnOk, OnErr, IfSome, IfNone, nat_lt};
 ghost use Rattle.std.specs.List.{All};
 ghost use Rattle.dwarf_bytes.specs.declared.fault.Section.TheVariants as sections;
 ghost use Rattle.dwarf_bytes.specs.Refusals.{memory_fault, in_section};
@@ -173,6 +173,13 @@ impl<'a> Tables<'a> {
         ensures { slice_get self.now.tables number ≡ Some result.now }
     {
         &self.tables[number]
+    }
+
+    /// Whether the table of a number stays. One that does not gives way to the next such one.
+    pub fn stays(&self, number: usize) -> bool
+        ensures { result ≡ nat_lt number self.now.kept }
+    {
+        number < self.kept
     }
 
     /// The number of the table of a unit, where it is kept.
