@@ -18,7 +18,7 @@ pub mod BelowLaws
 pub mod BaseInForce
 pub mod RootsPass
 pub mod WalkLaws
-pub mod InsideLaws
+pub mod EndLaws
 pub mod ScopesOnly
 pub mod ReadLaws
 pub mod ScopeOrder

@@ -22,7 +22,7 @@ use Rattle.dwarf_forms.specs.Declarations.{Declaration}
 use Rattle.dwarf_bytes.proofs.Moves.{same_ok}
 use Rattle.dwarf_bytes.proofs.Turns.{SoFar, so_far-none, so_far-item, so_far-end, so_far-fault}
 use Rattle.dwarf_units.specs.declared.attributes.Attribute.{Attribute}
-use Rattle.dwarf_entries.specs.declared.entries.Level.{Level}
+use Rattle.dwarf_entries.specs.declared.entries.OpenScope.{OpenScope}
 use Rattle.dwarf_entries.specs.declared.kept.Keeping.{Keeping}
 use Rattle.dwarf_entries.specs.declared.kept.ScopePlace.{ScopePlace}
 use Rattle.dwarf_entries.specs.declared.kept.RootEntry.{RootEntry}
@@ -30,9 +30,10 @@ use Rattle.dwarf_units.specs.declared.unit_headers.UnitHeader.{UnitHeader}
 use Rattle.dwarf_units.specs.Entries.{Node, Entry, Null, Standing, Die, die_of, opens, closes, is_root, depth_after, node_behind, node_at, entries_of}
 use Rattle.dwarf_entries.specs.Private.Kept.{keeps, root_entry, root_in, scope_places, KeptUnit, kept_unit, kept_entries}
 use Rattle.dwarf_entries.specs.Names.{or_else}
-use Rattle.dwarf_entries.specs.Private.Readers.{Walked, level_of, walked_by, walked, after_die, depth_behind, after_node, walked_at, walk_of, level_places}
+use Rattle.dwarf_entries.specs.Private.Readers.{Walked, walked_by, walked, after_die, depth_behind, after_node, walked_at, walk_of}
 use Rattle.dwarf_units.specs.Private.Plans.{Fills}
-use Rattle.dwarf_entries.proofs.InsideLaws.{places-are}
+use Rattle.dwarf_entries.specs.Private.Ends.{ended_at}
+use Rattle.dwarf_entries.proofs.EndLaws.{places-push, open-push, all-ended}
 use Rattle.dwarf_units.proofs.EntryMoves.{node_behind-moves, node_at-advances}
 
 -- what stands at a place, behind these
@@ -41,9 +42,9 @@ standing before at node = record { offset = at; depth = depth_after before; node
 
 -- ---- one more entry or null
 
-walked-same : (d e : ℕ) (r s : Option RootEntry) (n m : List ℕ) (k l : List Level) → d ≡ e → r ≡ s → n ≡ m → k ≡ l →
-    (let x : Walked = record { depth = d; root = r; entries = n; levels = k } in x) ≡ record { depth = e; root = s; entries = m; levels = l }
-walked-same d e r s n m k l h1 h2 h3 h4 = cc
+pub walked-same : (d e : ℕ) (r s : Option RootEntry) (n m : List ℕ) (k l : List ScopePlace) (o p : List OpenScope) → d ≡ e → r ≡ s → n ≡ m → k ≡ l → o ≡ p →
+    (let x : Walked = record { depth = d; root = r; entries = n; scopes = k; opened = o } in x) ≡ record { depth = e; root = s; entries = m; scopes = l; opened = p }
+walked-same d e r s n m k l o p h1 h2 h3 h4 h5 = cc
 
 root_in-push : (dies : List Die) (die : Die) → root_in (dies ++ die ∷ []) ≡ or_else (root_in dies) (Some (root_entry die))
 root_in-push [] die = refl
@@ -68,8 +69,8 @@ entries-push keeping dies die entries are =
 -- what is kept of one more entry, at whatever depth behind it
 pub walked_by-push : (keeping : Keeping) (depth behind : ℕ) (dies : List Die) (die : Die) → walked_by keeping behind (dies ++ die ∷ []) ≡ record (after_die keeping (walked_by keeping depth dies) die) { depth = behind }
 walked_by-push keeping depth behind dies die =
-    walked-same _ _ _ _ _ _ _ _ refl (root_in-push dies die) (entries-push keeping dies die (map offset_of (filter (λ d. keeps keeping d.tag) dies)) refl)
-    (map-append level_of dies (die ∷ []))
+    walked-same _ _ _ _ _ _ _ _ _ _ refl (root_in-push dies die) (entries-push keeping dies die (map offset_of (filter (λ d. keeps keeping d.tag) dies)) refl)
+    (places-push dies die) (open-push dies die)
 
 count_push : {X : Type 0} (p : X → Bool) (xs : List X) (x : X) (t : Bool) → p x ≡ t → count_by p (xs ++ x ∷ []) ≡ count_by p xs + cond t 1 0
 count_push p xs x t is = sum_by-append (λ y. cond (p y) 1 0) xs (x ∷ []) ∙ ap (λ (k : ℕ). count_by p xs + k) (zero-add (cond (p x) 1 0) ∙ ap (λ (b : Bool). cond b 1 0) is)
@@ -291,13 +292,13 @@ kept-same : (h : UnitHeader) (r s : Option RootEntry) (n m : List ℕ) (p q : Li
     (let x : KeptUnit = record { header = h; root = r; entries = n; scopes = p } in x) ≡ record { header = h; root = s; entries = m; scopes = q }
 kept-same h r s n m p q h1 h2 h3 = cc
 
-unit_end : (keeping : Keeping) (header : UnitHeader) (all : Result (List Standing × ℕ) At) (w : Walked) (places : List ScopePlace) → in_section sections.DebugInfo (walk_in keeping all) ≡ Ok w → w.depth ≡ 0 → places ≡ level_places w.levels →
+unit_end : (keeping : Keeping) (header : UnitHeader) (all : Result (List Standing × ℕ) At) (w : Walked) (places : List ScopePlace) → in_section sections.DebugInfo (walk_in keeping all) ≡ Ok w → w.depth ≡ 0 → places ≡ ended_at 0 w.opened w.scopes →
     unit_in keeping header all ≡ Ok (record { header = header; root = w.root; entries = w.entries; scopes = places })
 unit_end keeping header (Err e) w places h none are = cc
 unit_end keeping header (Ok all) w places h none are =
     let same : walked keeping all.0 ≡ w = same_ok (walked keeping all.0) w h in
     let closed : nat_lt 0 (depth_after all.0) ≡ false = le-ltb 0 (depth_after all.0) (let depth = ap (λ (x : Walked). x.depth) same in omega (arith, depth, none)) in
-    let placed : scope_places (filter_map die_of all.0) ≡ places = sym (places-are (filter_map die_of all.0)) ∙ (ap (λ (x : Walked). level_places x.levels) same ∙ sym are) in
+    let placed : scope_places (filter_map die_of all.0) ≡ places = sym (all-ended (filter_map die_of all.0)) ∙ (ap (λ (x : Walked). ended_at 0 x.opened x.scopes) same ∙ sym are) in
     rw closed (ap (λ (k : KeptUnit). Ok k) (kept-same header _ _ _ _ _ _ (ap (λ (x : Walked). x.root) same) (ap (λ (x : Walked). x.entries) same) placed))
 
 unit_open : (keeping : Keeping) (header : UnitHeader) (all : Result (List Standing × ℕ) At) (w : Walked) (fault : LoadFault) → in_section sections.DebugInfo (walk_in keeping all) ≡ Ok w → 0 < w.depth → fault ≡ record { section = sections.DebugInfo; cause = causes.TreeOpen; at = header.start } →
@@ -312,7 +313,7 @@ unit_fault : (keeping : Keeping) (header : UnitHeader) (all : Result (List Stand
 unit_fault keeping header (Err e) fault h = cc
 unit_fault keeping header (Ok all) fault h = cc
 
-pub entries_end : (keeping : Keeping) (info : List ℕ) (header : UnitHeader) (table : List Declaration) (w : Walked) (places : List ScopePlace) → in_section sections.DebugInfo (walk_of keeping info header table) ≡ Ok w → w.depth ≡ 0 → places ≡ level_places w.levels →
+pub entries_end : (keeping : Keeping) (info : List ℕ) (header : UnitHeader) (table : List Declaration) (w : Walked) (places : List ScopePlace) → in_section sections.DebugInfo (walk_of keeping info header table) ≡ Ok w → w.depth ≡ 0 → places ≡ ended_at 0 w.opened w.scopes →
     in_section sections.DebugInfo (kept_entries keeping info header table) ≡ Ok (record { header = header; root = w.root; entries = w.entries; scopes = places })
 unfolding walk_of entries_of
 entries_end keeping info header table w places h none are = unit_end keeping header (items_from header.end (node_at header.format table (take header.end info)) [] header.first) w places h none are

@@ -1,5 +1,6 @@
 pub mod Kept
 pub mod Again
+pub mod Ends
 pub mod Long
 pub mod Named
 pub mod Texts

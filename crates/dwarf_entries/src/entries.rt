@@ -5,7 +5,8 @@ ghost use Rattle.dwarf_bytes.specs.declared.fault.Section.TheVariants as section
 ghost use Rattle.dwarf_bytes.specs.Refusals.{Decodes, in_section};
 ghost use Rattle.dwarf_units.specs.Entries.{depth_limit, node_behind};
 ghost use Rattle.dwarf_entries.specs.Private.Kept.{kept_of, kept_entries};
-ghost use Rattle.dwarf_entries.specs.Private.Readers.{ReadsNode, walked_of, after_die, walked_at, walk_of, level_places, above, scopes_from};
+ghost use Rattle.dwarf_entries.specs.Private.Readers.{ReadsNode, walked_of, after_die, with_scope, walked_at, walk_of};
+ghost use Rattle.dwarf_entries.specs.Private.Ends.{ended_at, left_open, with_end};
 ghost use Rattle.dwarf_units.specs.Private.Plans.{Fills};
 
 use crate::kept::{Keeping, RootEntry, ScopePlace, UnitEntries, kind_of};
@@ -21,20 +22,11 @@ pub(crate) struct NodeHead {
     pub(crate) children: bool,
 }
 
-/// Where an entry stands and how deep, and whether it is a scope.
+/// A scope that the next entry may be below: how deep its entry stands, and its number in the unit.
 #[derive(Clone, Copy)]
-pub(crate) struct Level {
-    pub(crate) offset: u32,
+pub(crate) struct OpenScope {
     pub(crate) depth: u16,
-    pub(crate) is_scope: bool,
-}
-
-/// An entry that ends the lists of all deeper ones before it: how deep it stands, and how many scopes
-/// there are from it on.
-#[derive(Clone, Copy)]
-pub(crate) struct Boundary {
-    pub(crate) depth: u16,
-    pub(crate) scopes: usize,
+    pub(crate) number: u32,
 }
 
 /// What is kept of the entries so far, and the depth behind them.
@@ -43,7 +35,8 @@ pub(crate) struct Walk {
     pub(crate) depth: u16,
     pub(crate) root: Option<RootEntry>,
     pub(crate) entries: Vec<u32>,
-    pub(crate) levels: Vec<Level>,
+    pub(crate) scopes: Vec<ScopePlace>,
+    pub(crate) opened: Vec<OpenScope>,
 }
 
 /// What is kept of the entries of a unit. A fault is told at its entry, and a list of children that is
@@ -59,30 +52,31 @@ pub(crate) fn entries(
     ensures { Decodes (λ unit. kept_of unit) result (in_section sections.DebugInfo
         (kept_entries keeping info.now header table.now.declarations)) }
 {
-    let walk = walk_unit(alloc, info, header, table, keeping)?;
+    let mut walk = walk_unit(alloc, info, header, table, keeping)?;
     if walk.depth > 0 {
         let at = header.start as u64;
         return Err(LoadFault::told(Section::DebugInfo, Cause::TreeOpen, at));
     }
-    let scopes = scope_places(alloc, walk.levels)?;
+    end_scopes(&mut walk.scopes, &mut walk.opened, 0)?;
     Ok(UnitEntries {
         header,
         root: walk.root,
         entries: walk.entries,
-        scopes,
+        scopes: walk.scopes,
     })
 }
 
 impl Walk {
     fn new(alloc: Global) -> Walk
         ensures { walked_of result
-            ≡ record { depth = 0; root = None; entries = []; levels = [] } }
+            ≡ record { depth = 0; root = None; entries = []; scopes = []; opened = [] } }
     {
         Walk {
             depth: 0,
             root: None,
             entries: Vec::new(alloc),
-            levels: Vec::new(alloc),
+            scopes: Vec::new(alloc),
+            opened: Vec::new(alloc),
         }
     }
 
@@ -112,6 +106,19 @@ impl Walk {
         Ok(())
     }
 
+    /// Takes a scope whose entry stands at an offset.
+    fn open(&mut self, offset: u32) -> Result<(), AllocError>
+        ensures { OnOk result (walked_of self.new ≡ with_scope offset (walked_of self.old)) }
+    {
+        let number = narrow(self.scopes.len())?;
+        self.opened.push(OpenScope {
+            depth: self.depth,
+            number,
+        })?;
+        self.scopes.push(ScopePlace { offset, inside: 0 })?;
+        Ok(())
+    }
+
     /// Keeps what is wanted of the entry at an offset.
     fn keep(
         &mut self,
@@ -126,13 +133,12 @@ impl Walk {
             self.root = Some(RootEntry::of(offset, attributes));
         }
         let place = narrow(offset)?;
-        self.levels.push(Level {
-            offset: place,
-            depth: self.depth,
-            is_scope: kind_of(tag).is_some(),
-        })?;
         if keeping.keeps(tag) {
             self.entries.push(place)?;
+        }
+        end_scopes(&mut self.scopes, &mut self.opened, self.depth)?;
+        if kind_of(tag).is_some() {
+            self.open(place)?;
         }
         Ok(())
     }
@@ -199,51 +205,32 @@ fn node(
     Ok(Some(NodeHead { tag, children }))
 }
 
-/// The places of the scopes among entries.
-fn scope_places(alloc: Global, mut levels: Vec<Level>) -> Result<Vec<ScopePlace>, AllocError>
-    ensures { IfOk result (λ places. places.items ≡ level_places levels.items) }
+/// Ends the open scopes that an entry at a depth is not below: all scopes behind them are below them.
+fn end_scopes(
+    scopes: &mut Vec<ScopePlace>,
+    opened: &mut Vec<OpenScope>,
+    depth: u16,
+) -> Result<(), AllocError>
+    ensures { OnOk result ((scopes.new.items ≡ ended_at depth (reverse opened.old.items) scopes.old.items)
+        × (reverse opened.new.items ≡ left_open depth (reverse opened.old.items))) }
 {
-    let mut places = Vec::new(alloc);
-    let mut boundaries = Vec::new(alloc);
-    let mut count = 0;
-    while let Some(level) = levels.pop() {
-        pop_from(&mut boundaries, u32::from(level.depth) + 1);
-        if level.is_scope {
-            let inside = narrow(count - scopes_from(&boundaries))?;
-            places.push(ScopePlace {
-                offset: level.offset,
-                inside,
-            })?;
-            count += 1;
+    while let Some(last) = opened.last() {
+        if last.depth < depth {
+            return Ok(());
         }
-        pop_from(&mut boundaries, u32::from(level.depth));
-        boundaries.push(Boundary {
-            depth: level.depth,
-            scopes: count,
-        })?;
+        end_scope(scopes, last.number as usize)?;
+        opened.pop();
     }
-    places.reverse();
-    Ok(places)
+    Ok(())
 }
 
-/// Removes the last boundaries, up to the last that is above a depth.
-fn pop_from(boundaries: &mut Vec<Boundary>, depth: u32)
-    ensures { reverse boundaries.new.items ≡ above depth (reverse boundaries.old.items) }
+/// Ends the scope of a number: all scopes behind it are below it.
+fn end_scope(scopes: &mut Vec<ScopePlace>, number: usize) -> Result<(), AllocError>
+    ensures { OnOk result (scopes.new.items ≡ with_end number scopes.old.items) }
 {
-    while let Some(last) = boundaries.last() {
-        if u32::from(last.depth) < depth {
-            return;
-        }
-        boundaries.pop();
+    if number >= scopes.len() {
+        return Ok(());
     }
-}
-
-/// How many scopes there are from the last boundary on.
-fn scopes_from(boundaries: &[Boundary]) -> usize
-    ensures { result ≡ scopes_from (reverse boundaries.now) }
-{
-    match boundaries.last() {
-        Some(last) => last.scopes,
-        None => 0,
-    }
+    scopes[number].inside = narrow(scopes.len() - number - 1)?;
+    Ok(())
 }

@@ -1,5 +1,5 @@
 -- What the steps of the pass over entries leave, for the contracts of its parts.
-use Rattle.std.specs.Prelude.{◌≡◌, ℕ, ◌+◌, ◌-◌, List, [], ◌∷◌, ◌++◌, Bool, Option, Some, None, is_some, Result, Ok, Err, if◌then◌else◌, nat_lt, nat_le, map, filter, take, take_while, count_by}
+use Rattle.std.specs.Prelude.{◌≡◌, ℕ, ◌+◌, ◌-◌, List, [], ◌∷◌, ◌++◌, Bool, Option, Some, None, is_some, Result, Ok, Err, if◌then◌else◌, map, filter, take, length, reverse}
 use Rattle.std.specs.List.{filter_map}
 use Rattle.dwarf_bytes.specs.declared.fault.Cause.{Cause}
 use Rattle.dwarf_bytes.specs.declared.format.Format.{Format}
@@ -10,18 +10,17 @@ use Rattle.dwarf_bytes.specs.Refusals.{Fails}
 use Rattle.dwarf_forms.specs.Declarations.{Declaration}
 use Rattle.dwarf_units.specs.declared.attributes.Attribute.{Attribute}
 use Rattle.dwarf_entries.specs.declared.entries.NodeHead.{NodeHead}
-use Rattle.dwarf_entries.specs.declared.entries.Level.{Level}
-use Rattle.dwarf_entries.specs.declared.entries.Boundary.{Boundary}
+use Rattle.dwarf_entries.specs.declared.entries.OpenScope.{OpenScope}
 use Rattle.dwarf_entries.specs.declared.entries.Walk.{Walk}
 use Rattle.dwarf_entries.specs.declared.kept.Keeping.{Keeping}
 use Rattle.dwarf_entries.specs.declared.kept.ScopePlace.{ScopePlace}
 use Rattle.dwarf_entries.specs.declared.kept.RootEntry.{RootEntry}
 use Rattle.dwarf_units.specs.declared.unit_headers.UnitHeader.{UnitHeader}
 use Rattle.dwarf_units.specs.Entries.{Node, Entry, Null, Standing, Die, die_of, depth_after, node_behind, node_at}
+use Rattle.dwarf_entries.specs.Private.Ends.{known_places, open_scopes, ended_at, left_open, new_place, new_open}
 use Rattle.dwarf_entries.specs.Private.Kept.{keeps, root_entry, root_in}
 use Rattle.dwarf_units.specs.Private.Plans.{kept_attributes}
 use Rattle.dwarf_entries.specs.Names.{or_else}
-use Rattle.dwarf_entries.specs.Scopes.{is_scope}
 
 -- an entry by its offset and its attributes, where neither its tag nor its depth counts
 abbrev pub die_with : ℕ → List Attribute → Die
@@ -44,20 +43,17 @@ ReadsNode keep (Ok found) attributes read old new =
     ((all : List Attribute) × (read old.bytes old.place ≡ Ok (node_of found all, new.place)) × HoldsKept keep found attributes all) × (new.bytes ≡ old.bytes)
 ReadsNode keep (Err cause) attributes read old new = Fails cause (read old.bytes old.place)
 
--- where an entry stands and how deep, and whether it is a scope
-abbrev pub level_of : Die → Level
-level_of die = record { offset = die.offset; depth = die.depth; is_scope = is_scope die }
-
 -- what is kept of the entries so far, and the depth behind them
 pub record Walked : Type 0 where
   pub depth : ℕ
   pub root : Option RootEntry
   pub entries : List ℕ
-  pub levels : List Level
+  pub scopes : List ScopePlace
+  pub opened : List OpenScope
 
 -- .. of these
 abbrev pub walked_by : Keeping → ℕ → List Die → Walked
-walked_by keeping depth dies = record { depth = depth; root = root_in dies; entries = map (λ die. die.offset) (filter (λ die. keeps keeping die.tag) dies); levels = map level_of dies }
+walked_by keeping depth dies = record { depth = depth; root = root_in dies; entries = map (λ die. die.offset) (filter (λ die. keeps keeping die.tag) dies); scopes = known_places dies; opened = open_scopes 0 dies }
 
 -- .. behind what stands before
 abbrev pub walked : Keeping → List Standing → Walked
@@ -65,7 +61,7 @@ walked keeping before = walked_by keeping (depth_after before) (filter_map die_o
 
 -- .. by the program
 abbrev pub walked_of : Walk → Walked
-walked_of w = record { depth = w.depth; root = w.root; entries = w.entries.items; levels = w.levels.items }
+walked_of w = record { depth = w.depth; root = w.root; entries = w.entries.items; scopes = w.scopes.items; opened = reverse w.opened.items }
 
 -- one more entry
 abbrev pub after_die : Keeping → Walked → Die → Walked
@@ -73,7 +69,15 @@ after_die keeping w die = record {
   depth = w.depth;
   root = or_else w.root (Some (root_entry die));
   entries = if keeps keeping die.tag then w.entries ++ die.offset ∷ [] else w.entries;
-  levels = w.levels ++ level_of die ∷ [];
+  scopes = ended_at die.depth w.opened w.scopes ++ new_place die;
+  opened = new_open (length (ended_at die.depth w.opened w.scopes)) die ++ left_open die.depth w.opened;
+}
+
+-- one more scope, whose entry stands at an offset
+abbrev pub with_scope : ℕ → Walked → Walked
+with_scope offset w = record w {
+  scopes = w.scopes ++ record { offset = offset; inside = 0 } ∷ [];
+  opened = record { depth = w.depth; number = length w.scopes } ∷ w.opened;
 }
 
 -- the depth behind an entry, which may begin a list of children
@@ -95,19 +99,3 @@ unfoldable pub walk_of : Keeping → List ℕ → UnitHeader → List Declaratio
 walk_of keeping info header table = do
   all ← items_from header.end (node_at header.format table (take header.end info)) [] header.first
   Ok (walked keeping all.0)
-
--- the places of the scopes, by the levels of all entries
-abbrev pub level_places : List Level → List ScopePlace
-level_places [] = []
-level_places (l ∷ ls) =
-    if l.is_scope then record { offset = l.offset; inside = count_by (λ m. m.is_scope) (take_while (λ m. nat_lt l.depth m.depth) ls) } ∷ level_places ls else level_places ls
-
--- the boundaries from the first that is above a depth on
-abbrev pub above : ℕ → List Boundary → List Boundary
-above depth [] = []
-above depth (b ∷ bs) = if nat_le depth b.depth then above depth bs else b ∷ bs
-
--- the scopes from the first boundary on
-abbrev pub scopes_from : List Boundary → ℕ
-scopes_from [] = 0
-scopes_from (b ∷ bs) = b.scopes

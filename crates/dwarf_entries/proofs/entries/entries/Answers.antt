@@ -13,4 +13,4 @@ pub returns-then-walk-gt0 : goal.returns-then-walk-gt0
 returns-then-walk-gt0 c = inr (entries_open c.args.keeping c.args.info.now c.args.header c.args.table.now.declarations (walked_of c.in_ok-walk.walk) c.told.result c.in_ok-walk.ensures c.if-walk-gt0.true c.told.ensures)
 
 pub returns : goal.returns
-returns c = entries_end c.args.keeping c.args.info.now c.args.header c.args.table.now.declarations (walked_of c.in_ok-walk.walk) c.in_ok-scopes.scopes.items c.in_ok-walk.ensures (omega (arith, c.if-walk-gt0.false)) c.in_ok-scopes.ensures
+returns c = entries_end c.args.keeping c.args.info.now c.args.header c.args.table.now.declarations (walked_of c.in_ok-walk.walk) c.end_scopes.new.scopes.items c.in_ok-walk.ensures (omega (arith, c.if-walk-gt0.false)) c.in_ok-end_scopes.ensures.0
