@@ -7,7 +7,7 @@ READERS = readelf objdump nm addr2line llvm-symbolizer llvm-dwarfdump
 
 help:
 	@echo 'make demo         builds the program and shows it at work'
-	@echo 'make test         the whole gate: every proof, edit that must fail, test and program (some 45 minutes)'
+	@echo 'make test         the whole gate: every proof, edit that must fail, test and program (an hour and more)'
 	@echo 'make program      builds the program, $(PROGRAM)'
 	@echo 'make install      puts it and its manual page under PREFIX ($(PREFIX))'
 	@echo 'make check CRATE=dwarf_lines   one crate, over what earlier checks kept'
@@ -18,7 +18,7 @@ help:
 	@echo 'make fuzz         objects and commands made by chance, beside a plain reader in Python (SEED=1 COUNT=20000)'
 	@echo 'make memory       each growth of memory, each read and write refused in turn (DURATION=60, in seconds)'
 	@echo 'make long-run     a million commands to one process, then full outputs and odd files (COMMANDS=1000000)'
-	@echo 'make bench        the speed beside plain C and other symbolizers, as docs/MEASURED.md (some ten minutes)'
+	@echo 'make bench        the speed beside plain C and other symbolizers, as docs/MEASURED.md (a quarter of an hour)'
 
 # Shows the program at work on an object that the compiler makes there and then.
 demo:
