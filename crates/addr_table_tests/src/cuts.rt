@@ -1,5 +1,6 @@
 //! Objects that are cut: whole files, and sections by their sizes.
 
+use crate::fixtures::are_equal;
 use addr_table::Module;
 use dwarf_bytes::{Cause, LoadFault, Section};
 use dwarf_samples::{inlined, two_sequences};
@@ -44,7 +45,7 @@ fn are_refused(
 ) -> Result<(), Fail> {
     for size in sizes.0..sizes.1 {
         let found = fault_of(rt.alloc(), &with_size(place, size))?;
-        assert_eq!(rt; found, Some(fault), "of size {size}");
+        are_equal(rt, (size, found), (size, Some(fault)));
     }
     Ok(())
 }
@@ -53,10 +54,10 @@ fn are_refused(
 fn files_that_end_in_their_header(rt: HostRuntime) -> Result<(), Fail> {
     let fault = Some(LoadFault::told(Section::Elf, Cause::NotElf, 0));
     for size in 0..64 {
-        assert_eq!(rt;
-            fault_of(rt.alloc(), &inlined()[..size])?,
-            fault,
-            "of {size}"
+        are_equal(
+            &rt,
+            (size, fault_of(rt.alloc(), &inlined()[..size])?),
+            (size, fault),
         );
     }
     Ok(())
@@ -66,10 +67,10 @@ fn files_that_end_in_their_header(rt: HostRuntime) -> Result<(), Fail> {
 fn files_that_end_before_their_section_headers(rt: HostRuntime) -> Result<(), Fail> {
     let fault = Some(LoadFault::told(Section::Elf, Cause::Table, 0));
     for size in 64..703 {
-        assert_eq!(rt;
-            fault_of(rt.alloc(), &inlined()[..size])?,
-            fault,
-            "of {size}"
+        are_equal(
+            &rt,
+            (size, fault_of(rt.alloc(), &inlined()[..size])?),
+            (size, fault),
         );
     }
     Ok(())
@@ -79,10 +80,10 @@ fn files_that_end_before_their_section_headers(rt: HostRuntime) -> Result<(), Fa
 fn longer_files_that_end_before_their_section_headers(rt: HostRuntime) -> Result<(), Fail> {
     let fault = Some(LoadFault::told(Section::Elf, Cause::Table, 0));
     for size in 64..725 {
-        assert_eq!(rt;
-            fault_of(rt.alloc(), &two_sequences()[..size])?,
-            fault,
-            "of {size}"
+        are_equal(
+            &rt,
+            (size, fault_of(rt.alloc(), &two_sequences()[..size])?),
+            (size, fault),
         );
     }
     Ok(())
@@ -98,7 +99,7 @@ fn cut_line_programs(rt: HostRuntime) -> Result<(), Fail> {
 
 #[test]
 fn cut_units(rt: HostRuntime) -> Result<(), Fail> {
-    assert_eq!(rt; fault_of(rt.alloc(), &with_size(INFO_SIZE, 0))?, None);
+    are_equal(&rt, fault_of(rt.alloc(), &with_size(INFO_SIZE, 0))?, None);
     let fault = LoadFault::told(Section::DebugInfo, Cause::Short, 0);
     are_refused(&rt, INFO_SIZE, (1, 96), fault)
 }

@@ -20,8 +20,8 @@ fn is_refused(
     let Err((back, fault)) = Module::decode(rt.alloc(), bytes) else {
         return Err("no fault".into());
     };
-    assert_eq!(rt; fault, LoadFault { section, cause, at });
-    assert_eq!(rt; back.as_slice(), object);
+    are_equal(rt, fault, LoadFault { section, cause, at });
+    are_equal(rt, back.as_slice(), object);
     Ok(())
 }
 
@@ -103,7 +103,7 @@ fn a_call_file_of_a_subprogram_is_not_judged(rt: HostRuntime) -> Result<(), Fail
         rnglists: &[],
     };
     let bytes = object(rt.alloc(), parts)?;
-    assert!(rt; module(rt.alloc(), bytes).is_ok());
+    are_equal(&rt, module(rt.alloc(), bytes).err(), None);
     Ok(())
 }
 
@@ -113,10 +113,10 @@ fn want_of_memory_is_the_only_other_answer(rt: HostRuntime) -> Result<(), Fail> 
     let mut bytes = Vec::new(rt.alloc());
     bytes.extend_from_slice(inlined())?;
     match Module::decode(rt.alloc(), bytes) {
-        Ok(module) => assert_eq!(rt; module.segments().list().len(), 4),
+        Ok(module) => are_equal(&rt, module.segments().list().len(), 4),
         Err((back, fault)) => {
-            assert_eq!(rt; fault, LoadFault::told(Section::Elf, Cause::Memory, 0));
-            assert_eq!(rt; back.as_slice(), inlined().as_slice());
+            are_equal(&rt, fault, LoadFault::told(Section::Elf, Cause::Memory, 0));
+            are_equal(&rt, back.as_slice(), inlined().as_slice());
         }
     }
     Ok(())

@@ -1,10 +1,24 @@
 //! Objects for the tests, and what is expected of them.
 
-use addr_table::{AddressTable, Frames, Module, Path, Place, Steps};
+use addr_table::{AddressTable, Frame, Frames, Module, Path, Place, Steps};
 use dwarf_bytes::LoadFault;
 use std::alloc::{AllocError, Global};
+use std::fmt::Debug;
 use std::process::Abort;
 use std::test::*;
+
+/// Checks that both are the same.
+pub fn are_equal<T: Copy + Debug + PartialEq>(rt: &impl Abort, told: T, wanted: T) {
+    assert_eq!(rt; told, wanted);
+}
+
+/// Checks that a number is one of these.
+pub fn is_within(rt: &impl Abort, number: u64, least: u64, most: u64) {
+    assert!(rt;
+        least <= number && number <= most,
+        "{number} of {least} to {most}"
+    );
+}
 
 /// The sections of an object that is to be made.
 #[derive(Clone, Copy)]
@@ -18,9 +32,11 @@ pub struct Parts<'a> {
 /// The names of the sections, each with a NUL, behind one NUL.
 const NAMES: &[u8] = b"\0.debug_abbrev\0.debug_info\0.debug_line\0.debug_rnglists\0.shstrtab\0";
 
-/// Puts a number of eight bytes behind others.
-fn put(bytes: &mut Vec<u8>, number: u64) -> Result<(), AllocError> {
-    bytes.extend_from_slice(&number.to_le_bytes())?;
+/// Puts numbers of eight bytes behind others.
+fn put_all(bytes: &mut Vec<u8>, numbers: &[u64]) -> Result<(), AllocError> {
+    for number in numbers {
+        bytes.extend_from_slice(&number.to_le_bytes())?;
+    }
     Ok(())
 }
 
@@ -28,11 +44,8 @@ fn put(bytes: &mut Vec<u8>, number: u64) -> Result<(), AllocError> {
 fn put_header(bytes: &mut Vec<u8>, name: u8, place: u64, len: u64) -> Result<(), AllocError> {
     // sh_name, SHT_PROGBITS
     bytes.extend_from_slice(&[name, 0, 0, 0, 1, 0, 0, 0])?;
-    bytes.extend_from_slice(&[0; 16])?;
-    put(bytes, place)?;
-    put(bytes, len)?;
-    bytes.extend_from_slice(&[0; 24])?;
-    Ok(())
+    // sh_flags, sh_addr, sh_offset, sh_size, sh_link and sh_info, sh_addralign, sh_entsize
+    put_all(bytes, &[0, 0, place, len, 0, 0, 0])
 }
 
 /// Puts the ELF header and one program header in front of sections that end at a place: `ET_DYN`,
@@ -41,18 +54,11 @@ fn put_heads(bytes: &mut Vec<u8>, end: u64) -> Result<(), AllocError> {
     bytes.extend_from_slice(&[0x7f, b'E', b'L', b'F', 2, 1, 1, 0, 0, 0, 0, 0, 0, 0, 0, 0])?;
     bytes.extend_from_slice(&[3, 0, 0, 0, 0, 0, 0, 0])?;
     // e_entry, e_phoff, e_shoff
-    put(bytes, 0)?;
-    put(bytes, 64)?;
-    put(bytes, end)?;
+    put_all(bytes, &[0, 64, end])?;
     // e_flags, e_ehsize, e_phentsize, e_phnum, e_shentsize, e_shnum, e_shstrndx
     bytes.extend_from_slice(&[0, 0, 0, 0, 0, 0, 0x38, 0, 1, 0, 0x40, 0, 6, 0, 5, 0])?;
-    put(bytes, 1)?;
-    put(bytes, 0)?;
-    put(bytes, 0x1000)?;
-    bytes.extend_from_slice(&[0; 16])?;
-    put(bytes, 0x2000_0000)?;
-    put(bytes, 0)?;
-    Ok(())
+    // p_type, p_offset, p_vaddr, p_paddr, p_filesz, p_memsz, p_align
+    put_all(bytes, &[1, 0, 0x1000, 0, 0, 0x2000_0000, 0])
 }
 
 /// An object of these sections.
@@ -67,18 +73,29 @@ pub fn object(alloc: Global, parts: Parts<'_>) -> Result<Vec<u8>, AllocError> {
     let at_names = at_rnglists.saturating_add(rnglists);
     let mut bytes = Vec::new(alloc);
     put_heads(&mut bytes, at_names.saturating_add(65))?;
+    put_sections(&mut bytes, parts)?;
+    let headers = [
+        (1, 120, abbrev),
+        (15, at_info, info),
+        (27, at_line, line),
+        (39, at_rnglists, rnglists),
+        (55, at_names, 65),
+    ];
+    for (name, place, len) in headers {
+        put_header(&mut bytes, name, place, len)?;
+    }
+    Ok(bytes)
+}
+
+/// Puts the sections behind the heads, their names, and the header of no section.
+fn put_sections(bytes: &mut Vec<u8>, parts: Parts<'_>) -> Result<(), AllocError> {
     bytes.extend_from_slice(parts.abbrev)?;
     bytes.extend_from_slice(parts.info)?;
     bytes.extend_from_slice(parts.line)?;
     bytes.extend_from_slice(parts.rnglists)?;
     bytes.extend_from_slice(NAMES)?;
     bytes.extend_from_slice(&[0; 64])?;
-    put_header(&mut bytes, 1, 120, abbrev)?;
-    put_header(&mut bytes, 15, at_info, info)?;
-    put_header(&mut bytes, 27, at_line, line)?;
-    put_header(&mut bytes, 39, at_rnglists, rnglists)?;
-    put_header(&mut bytes, 55, at_names, 65)?;
-    Ok(bytes)
+    Ok(())
 }
 
 /// Puts a compilation unit of these entries behind others, whose abbreviations stand at 0.
@@ -111,6 +128,12 @@ pub fn find(module: &Module, link: u64) -> Option<Place> {
     module.find(link, &mut Steps::default())
 }
 
+/// The numbers of the row and the scope of a place.
+pub fn numbers(place: Option<Place>) -> Option<(Option<usize>, Option<usize>)> {
+    let place = place?;
+    Some((place.row(), place.scope()))
+}
+
 /// What is expected of a frame: its name, its path and its line.
 pub type Expected = (Option<&'static [u8]>, Option<&'static [u8]>, u64);
 
@@ -126,6 +149,22 @@ pub fn joined(alloc: Global, path: Path<'_>) -> Result<Vec<u8>, AllocError> {
     Ok(bytes)
 }
 
+/// Checks that the next frame is this.
+fn is_frame(
+    rt: &(impl Abort + AllocGlobal),
+    frame: Frame<'_>,
+    expected: &Expected,
+) -> Result<(), AllocError> {
+    let (name, path, line) = *expected;
+    are_equal(rt, (frame.name(), frame.line()), (name, line));
+    let told = match frame.path() {
+        Some(path) => Some(joined(rt.alloc(), path)?),
+        None => None,
+    };
+    are_equal(rt, told.as_deref(), path);
+    Ok(())
+}
+
 /// Checks that the frames are these.
 pub fn are_frames(
     rt: &(impl Abort + AllocGlobal),
@@ -133,20 +172,13 @@ pub fn are_frames(
     expected: &[Expected],
 ) -> Result<(), AllocError> {
     let mut frames = frames;
-    for (name, path, line) in expected {
-        let Some(frame) = frames.next() else {
-            assert!(rt; false, "too few frames");
-            return Ok(());
-        };
-        assert_eq!(rt; frame.name(), *name);
-        assert_eq!(rt; frame.line(), *line);
-        let told = match frame.path() {
-            Some(path) => Some(joined(rt.alloc(), path)?),
-            None => None,
-        };
-        assert_eq!(rt; told.as_deref(), *path);
+    for expected in expected {
+        match frames.next() {
+            Some(frame) => is_frame(rt, frame, expected)?,
+            None => are_equal(rt, "too few frames", ""),
+        }
     }
-    assert!(rt; frames.next().is_none(), "too many frames");
+    are_equal(rt, frames.next().is_none(), true);
     Ok(())
 }
 
@@ -168,6 +200,6 @@ pub fn answers(
 pub fn tells_the_same(rt: &impl Abort, module: &Module, link: u64) {
     let scanned = module.scan().find(link, &mut Steps::default());
     let searched = module.segments().find(link, &mut Steps::default());
-    assert_eq!(rt; searched, scanned, "at {link}");
-    assert_eq!(rt; find(module, link), scanned, "at {link}");
+    are_equal(rt, (link, searched), (link, scanned));
+    are_equal(rt, (link, find(module, link)), (link, scanned));
 }

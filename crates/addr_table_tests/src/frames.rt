@@ -73,7 +73,7 @@ fn two_ranges_of_a_scope_that_overlap(rt: HostRuntime) -> Result<(), Fail> {
     answers(&rt, &module, 0x100c, &[(None, Some(b"/src/a.c"), 11)])?;
     let place = find(&module, 0x1009).ok_or("no place")?;
     let frame = module.frames(place).next().ok_or("no frame")?;
-    assert_eq!(rt; frame.linkage(), Some(b"gh".as_slice()));
+    are_equal(&rt, frame.linkage(), Some(b"gh".as_slice()));
     for link in 0xffe..0x1012 {
         tells_the_same(&rt, &module, link);
     }
@@ -91,15 +91,11 @@ fn the_first_inlined_subroutine_and_not_the_narrowest(rt: HostRuntime) -> Result
     entries.push(0)?;
     let module = module(rt.alloc(), one_unit(rt.alloc(), &entries, line(), &[])?)?;
     // file 0 is the same file as file 1
-    answers(
-        &rt,
-        &module,
-        0x1004,
-        &[
-            (Some(b"w"), Some(b"/src/a.c"), 11),
-            (Some(b"m"), Some(b"/src/a.c"), 7),
-        ],
-    )?;
+    let frames: [Expected; 2] = [
+        (Some(b"w"), Some(b"/src/a.c"), 11),
+        (Some(b"m"), Some(b"/src/a.c"), 7),
+    ];
+    answers(&rt, &module, 0x1004, &frames)?;
     Ok(())
 }
 

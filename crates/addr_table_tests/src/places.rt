@@ -32,7 +32,7 @@ fn a_place_of_a_module_with_rows(rt: HostRuntime) -> Result<(), Fail> {
         rnglists: &[],
     };
     let module = module(rt.alloc(), object(rt.alloc(), parts)?)?;
-    assert_eq!(rt; find(&module, 0x1004), None);
+    are_equal(&rt, find(&module, 0x1004), None);
     are_frames(&rt, module.frames(place), &[(None, None, 0)])?;
     Ok(())
 }
@@ -42,8 +42,12 @@ fn a_place_of_a_module_with_other_rows(rt: HostRuntime) -> Result<(), Fail> {
     let place = place(&rt)?;
     // the same scopes
     let module = sample(rt.alloc(), two_sequences())?;
-    let frame = module.frames(place).next().ok_or("no frame")?;
-    assert_eq!(rt; frame.name(), Some(b"leaf".as_slice()));
+    let frame = module.frames(place).next();
+    are_equal(
+        &rt,
+        frame.and_then(|frame| frame.name()),
+        Some(b"leaf".as_slice()),
+    );
     Ok(())
 }
 

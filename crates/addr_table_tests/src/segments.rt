@@ -1,8 +1,10 @@
 //! Segments, the calls of the sweep, and compares.
 
 use crate::fixtures::*;
-use addr_table::{AddressTable, Segment, Steps};
+use addr_table::{AddressTable, Module, Segment, Steps};
+use dwarf_bytes::LoadFault;
 use dwarf_samples::inlined;
+use std::alloc::Global;
 use std::process::Abort;
 use std::test::*;
 
@@ -14,27 +16,24 @@ fn is_segment(
     row: usize,
     scope: usize,
 ) {
-    let Some(segment) = segment else {
-        assert!(rt; false, "too few segments");
-        return;
-    };
-    assert_eq!(rt; (segment.from(), segment.to()), ends);
-    assert_eq!(rt; segment.row(), Some(row));
-    assert_eq!(rt; segment.scope(), Some(scope));
+    let told = segment.map(|segment| {
+        let ends = (segment.from(), segment.to());
+        (ends, segment.row(), segment.scope())
+    });
+    are_equal(rt, told, Some((ends, Some(row), Some(scope))));
 }
 
 #[test]
 fn segments_of_inlined_subroutines(rt: HostRuntime) -> Result<(), Fail> {
     let module = sample(rt.alloc(), inlined())?;
     let list = module.segments().list();
-    assert_eq!(rt; list.len(), 4);
+    are_equal(&rt, list.len(), 4);
     is_segment(&rt, list.get(0), (0x1000, 0x1004), 0, 2);
     is_segment(&rt, list.get(1), (0x1004, 0x1008), 1, 4);
     is_segment(&rt, list.get(2), (0x1008, 0x100c), 1, 3);
     is_segment(&rt, list.get(3), (0x100c, 0x1010), 1, 2);
     // five ranges; chains of 1, 3, 2, 1 and 0 scopes at the five ends
-    let calls = module.sweep_calls();
-    assert!(rt; 10 <= calls && calls <= 27, "{calls} calls");
+    is_within(&rt, module.sweep_calls(), 10, 27);
     Ok(())
 }
 
@@ -46,14 +45,10 @@ fn a_search_halves(rt: HostRuntime) -> Result<(), Fail> {
             compares: 100,
             decoded: 7,
         };
-        assert!(rt; module.find(link, &mut steps).is_some());
+        are_equal(&rt, module.find(link, &mut steps).is_some(), true);
         // four segments have three binary digits
-        let compares = steps.compares.saturating_sub(100);
-        assert!(rt;
-            2 <= compares && compares <= 4,
-            "{compares} compares at {link}"
-        );
-        assert_eq!(rt; steps.decoded, 7);
+        is_within(&rt, steps.compares, 102, 104);
+        are_equal(&rt, steps.decoded, 7);
     }
     Ok(())
 }
@@ -64,14 +59,14 @@ fn counts_stop_at_the_greatest_number(rt: HostRuntime) -> Result<(), Fail> {
         compares: u64::MAX - 1,
         decoded: 3,
     };
-    assert!(rt; steps.reached(5, 5));
-    assert_eq!(rt; steps.compares, u64::MAX);
-    assert!(rt; !steps.reached(4, 5));
-    assert_eq!(rt; (steps.compares, steps.decoded), (u64::MAX, 3));
+    are_equal(&rt, steps.reached(5, 5), true);
+    are_equal(&rt, steps.compares, u64::MAX);
+    are_equal(&rt, steps.reached(4, 5), false);
+    are_equal(&rt, (steps.compares, steps.decoded), (u64::MAX, 3));
     let module = sample(rt.alloc(), inlined())?;
-    assert!(rt; module.find(0x1004, &mut steps).is_some());
-    assert!(rt; module.scan().find(0x1004, &mut steps).is_some());
-    assert_eq!(rt; (steps.compares, steps.decoded), (u64::MAX, 3));
+    are_equal(&rt, module.find(0x1004, &mut steps).is_some(), true);
+    are_equal(&rt, module.scan().find(0x1004, &mut steps).is_some(), true);
+    are_equal(&rt, (steps.compares, steps.decoded), (u64::MAX, 3));
     Ok(())
 }
 
@@ -82,9 +77,9 @@ const ABBREV: [u8; 17] = [
     0, 0, 0,
 ];
 
-#[test]
-fn two_thousand_touching_subprograms(rt: HostRuntime) -> Result<(), Fail> {
-    let mut entries = Vec::new(rt.alloc());
+/// A module of 2,000 subprograms from 0x1000 on, each of 16 bytes and right behind the one before.
+fn touching(alloc: Global) -> Result<Module, LoadFault> {
+    let mut entries = Vec::new(alloc);
     entries.push(1)?;
     for number in 0..2000u64 {
         entries.push(2)?;
@@ -93,7 +88,7 @@ fn two_thousand_touching_subprograms(rt: HostRuntime) -> Result<(), Fail> {
         entries.push(16)?;
     }
     entries.push(0)?;
-    let mut info = Vec::new(rt.alloc());
+    let mut info = Vec::new(alloc);
     add_unit(&mut info, &entries)?;
     let parts = Parts {
         abbrev: &ABBREV,
@@ -101,20 +96,20 @@ fn two_thousand_touching_subprograms(rt: HostRuntime) -> Result<(), Fail> {
         line: &[],
         rnglists: &[],
     };
-    let module = module(rt.alloc(), object(rt.alloc(), parts)?)?;
-    assert_eq!(rt; module.segments().list().len(), 2000);
-    let calls = module.sweep_calls();
-    assert!(rt; 4000 <= calls && calls <= 10002, "{calls} calls");
+    module(alloc, object(alloc, parts)?)
+}
+
+#[test]
+fn two_thousand_touching_subprograms(rt: HostRuntime) -> Result<(), Fail> {
+    let module = touching(rt.alloc())?;
+    are_equal(&rt, module.segments().list().len(), 2000);
+    is_within(&rt, module.sweep_calls(), 4000, 10002);
     for number in 0..2000usize {
         let link = (number as u64).saturating_mul(16).saturating_add(0x100f);
         let mut steps = Steps::default();
-        let place = module.find(link, &mut steps).ok_or("no place")?;
-        assert_eq!(rt; (place.row(), place.scope()), (None, Some(number)));
-        assert!(rt;
-            2 <= steps.compares && steps.compares <= 12,
-            "{} compares",
-            steps.compares
-        );
+        let place = module.find(link, &mut steps);
+        are_equal(&rt, numbers(place), Some((None, Some(number))));
+        is_within(&rt, steps.compares, 2, 12);
     }
     answers(&rt, &module, 0x1000, &[(None, None, 0)])?;
     Ok(())
