@@ -1,6 +1,7 @@
 //! Object files: their layout, and their first fault.
 
-use dwarf_bytes::{Cause, LoadFault, Object, Section, Span};
+use crate::checks::are_equal;
+use dwarf_bytes::{Cause, Layout, LoadFault, Object, Section, Span};
 use dwarf_samples::{inlined, two_sequences};
 use std::test::Fail;
 
@@ -24,20 +25,26 @@ fn elf(cause: Cause, at: u64) -> Option<LoadFault> {
 }
 
 #[test]
-fn finds_the_sections(rt: HostRuntime) -> Result<(), Fail> {
-    let layout = Object::find(inlined())?;
-    let span = |place, len| Span { place, len };
-    assert_eq!(rt; layout.debug_abbrev, span(120, 43));
-    assert_eq!(rt; layout.debug_info, span(163, 96));
-    assert_eq!(rt; layout.debug_line, span(259, 75));
-    assert_eq!(rt; layout.debug_line_str, span(0, 0));
-    assert_eq!(rt; layout.debug_str, span(0, 0));
-    assert_eq!(rt; layout.debug_str_offsets, span(0, 0));
-    assert_eq!(rt; layout.debug_addr, span(0, 0));
-    assert_eq!(rt; layout.debug_rnglists, span(0, 0));
-    assert_eq!(rt; (layout.low, layout.high), (0x1000, 0x2000));
-    assert_eq!(rt; layout.debug_line.of(inlined()).len(), 75);
-    Ok(())
+fn finds_the_sections(rt: HostRuntime) {
+    let none = span(0, 0);
+    let layout = Layout {
+        debug_info: span(163, 96),
+        debug_abbrev: span(120, 43),
+        debug_line: span(259, 75),
+        debug_line_str: none,
+        debug_str: none,
+        debug_str_offsets: none,
+        debug_addr: none,
+        debug_rnglists: none,
+        low: 0x1000,
+        high: 0x2000,
+    };
+    are_equal(&rt, Object::find(inlined()), Ok(layout));
+    are_equal(&rt, layout.debug_line.of(inlined()).len(), 75);
+}
+
+fn span(place: usize, len: usize) -> Span {
+    Span { place, len }
 }
 
 #[test]
@@ -77,16 +84,16 @@ fn refuses_each_changed_header(rt: HostRuntime) {
         (&[(575, 0x0f), (579, 8)], Cause::SectionTwice, 575),
     ];
     for (edits, cause, at) in table {
-        assert_eq!(rt;
-            Object::find(&changed(edits)).err(),
-            elf(cause, at),
-            "{edits:?}"
+        are_equal(
+            &rt,
+            (edits, Object::find(&changed(edits)).err()),
+            (edits, elf(cause, at)),
         );
     }
 }
 
 #[test]
-fn reads_a_file_without_section_headers(rt: HostRuntime) -> Result<(), Fail> {
+fn reads_a_file_without_section_headers(rt: HostRuntime) {
     let edits: [(usize, u8); 10] = [
         (40, 0),
         (41, 0),
@@ -99,22 +106,20 @@ fn reads_a_file_without_section_headers(rt: HostRuntime) -> Result<(), Fail> {
         (60, 0),
         (61, 0),
     ];
-    let layout = Object::find(&changed(&edits))?;
-    let sections = [
-        layout.debug_info,
-        layout.debug_abbrev,
-        layout.debug_line,
-        layout.debug_line_str,
-        layout.debug_str,
-        layout.debug_str_offsets,
-        layout.debug_addr,
-        layout.debug_rnglists,
-    ];
-    for section in sections {
-        assert_eq!(rt; section, Span { place: 0, len: 0 });
-    }
-    assert_eq!(rt; (layout.low, layout.high), (0x1000, 0x2000));
-    Ok(())
+    let none = span(0, 0);
+    let layout = Layout {
+        debug_info: none,
+        debug_abbrev: none,
+        debug_line: none,
+        debug_line_str: none,
+        debug_str: none,
+        debug_str_offsets: none,
+        debug_addr: none,
+        debug_rnglists: none,
+        low: 0x1000,
+        high: 0x2000,
+    };
+    are_equal(&rt, Object::find(&changed(&edits)), Ok(layout));
 }
 
 /// A name section that ends before the names do: the first header whose name it cuts is refused.
@@ -129,32 +134,33 @@ fn refuses_a_cut_name_section(rt: HostRuntime) {
     ];
     for (sizes, at) in headers {
         for size in sizes {
-            assert_eq!(rt;
-                Object::find(&changed(&[(671, size)])).err(),
-                elf(Cause::Table, at),
-                "a name section of {size} bytes"
+            are_equal(
+                &rt,
+                (size, Object::find(&changed(&[(671, size)])).err()),
+                (size, elf(Cause::Table, at)),
             );
         }
     }
-    assert!(rt; Object::find(&changed(&[(671, 49)])).is_ok());
+    are_equal(&rt, Object::find(&changed(&[(671, 49)])).err(), None);
 }
 
 #[test]
 fn refuses_a_cut_file(rt: HostRuntime) {
     for n in 0..inlined().len() {
         let cause = if n < 64 { Cause::NotElf } else { Cause::Table };
-        assert_eq!(rt;
-            Object::find(&inlined()[..n]).err(),
-            elf(cause, 0),
-            "the first {n} bytes"
+        are_equal(
+            &rt,
+            (n, Object::find(&inlined()[..n]).err()),
+            (n, elf(cause, 0)),
         );
     }
+}
+
+#[test]
+fn refuses_a_longer_file_that_is_cut(rt: HostRuntime) {
     for n in 64..two_sequences().len() {
-        assert_eq!(rt;
-            Object::find(&two_sequences()[..n]).err(),
-            elf(Cause::Table, 0),
-            "the first {n} bytes"
-        );
+        let found = Object::find(&two_sequences()[..n]);
+        are_equal(&rt, (n, found.err()), (n, elf(Cause::Table, 0)));
     }
 }
 
@@ -162,12 +168,13 @@ fn refuses_a_cut_file(rt: HostRuntime) {
 fn tells_a_fault_in_words(rt: HostRuntime) -> Result<(), Fail> {
     let fault = LoadFault::told(Section::DebugStrOffsets, Cause::PcAndRanges, 54);
     let text = fault.to_string(rt.alloc())?;
-    assert_eq!(rt;
+    are_equal(
+        &rt,
         text.as_str(),
-        "object .debug_str_offsets pc-and-ranges at 54"
+        "object .debug_str_offsets pc-and-ranges at 54",
     );
     let memory = LoadFault::told(Section::DebugInfo, Cause::Memory, 54);
-    assert_eq!(rt; (memory.section, memory.at), (Section::Elf, 0));
-    assert_eq!(rt; (Cause::NotElf as u8, Cause::RangeKind as u8), (1, 46));
+    are_equal(&rt, (memory.section, memory.at), (Section::Elf, 0));
+    are_equal(&rt, (Cause::NotElf as u8, Cause::RangeKind as u8), (1, 46));
     Ok(())
 }

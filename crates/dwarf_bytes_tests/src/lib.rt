@@ -2,6 +2,8 @@
 #![tactic(auto)]
 
 #[cfg(test)]
+mod checks;
+#[cfg(test)]
 mod elf;
 #[cfg(test)]
 mod names;

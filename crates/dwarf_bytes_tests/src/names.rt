@@ -1,5 +1,6 @@
 //! Names of sections in an object with many headers.
 
+use crate::checks::are_equal;
 use dwarf_bytes::{Cause, LoadFault, Object, Section, Span};
 use std::alloc::Global;
 use std::test::Fail;
@@ -72,8 +73,8 @@ fn long_names(alloc: Global, offset: u32) -> Result<Vec<u8>, LoadFault> {
 #[test]
 fn walks_over_no_name(rt: HostRuntime) -> Result<(), Fail> {
     let layout = Object::find(&long_names(rt.alloc(), 0)?)?;
-    assert_eq!(rt; layout.debug_str, Span { place: 3, len: 5 });
-    assert_eq!(rt; layout.debug_info, Span { place: 0, len: 0 });
+    are_equal(&rt, layout.debug_str, Span { place: 3, len: 5 });
+    are_equal(&rt, layout.debug_info, Span { place: 0, len: 0 });
     Ok(())
 }
 
@@ -85,10 +86,14 @@ fn refuses_a_name_behind_the_last_nul(rt: HostRuntime) -> Result<(), Fail> {
         at,
     });
     let last_nul = NAME_LEN + 11;
-    assert!(rt; Object::find(&long_names(rt.alloc(), last_nul)?).is_ok());
+    are_equal(
+        &rt,
+        Object::find(&long_names(rt.alloc(), last_nul)?).err(),
+        None,
+    );
     for offset in [last_nul + 1, NAMES_LEN - 1, NAMES_LEN, u32::MAX] {
         let object = long_names(rt.alloc(), offset)?;
-        assert_eq!(rt; Object::find(&object).err(), fault(SECTIONS as u64));
+        are_equal(&rt, Object::find(&object).err(), fault(SECTIONS as u64));
     }
     Ok(())
 }

@@ -1,35 +1,35 @@
 //! Numbers and texts at a cursor.
 
+use crate::checks::are_equal;
 use dwarf_bytes::{Cursor, Format, ReadFault, text_at};
-use std::test::Fail;
+use std::test::*;
 
 const HIGH: u8 = 0xff;
 
 #[test]
-fn reads_fixed_widths(rt: HostRuntime) -> Result<(), Fail> {
+fn reads_fixed_widths(rt: HostRuntime) {
     let bytes = [
         1, 2, 3, 4, 5, 6, 7, 8, 9, 10, 11, 12, 13, 14, 15, 16, 17, 18, 19,
     ];
     let mut cursor = Cursor::new(&bytes);
-    assert_eq!(rt; cursor.u8()?, 0x01);
-    assert_eq!(rt; cursor.u16()?, 0x0302);
-    assert_eq!(rt; cursor.u24()?, 0x0006_0504);
-    assert_eq!(rt; cursor.u32()?, 0x0a09_0807);
-    assert_eq!(rt; cursor.u64()?, 0x1211_100f_0e0d_0c0b);
-    assert_eq!(rt; cursor.place(), 18);
-    assert_eq!(rt; cursor.u16().err(), Some(ReadFault::Short));
-    assert_eq!(rt; cursor.place(), 18);
-    assert_eq!(rt; cursor.block(1)?.len(), 1);
-    assert_eq!(rt; cursor.block(1).err(), Some(ReadFault::Short));
-    Ok(())
+    are_equal(&rt, cursor.u8(), Ok(0x01));
+    are_equal(&rt, cursor.u16(), Ok(0x0302));
+    are_equal(&rt, cursor.u24(), Ok(0x0006_0504));
+    are_equal(&rt, cursor.u32(), Ok(0x0a09_0807));
+    are_equal(&rt, cursor.u64(), Ok(0x1211_100f_0e0d_0c0b));
+    are_equal(&rt, cursor.place(), 18);
+    are_equal(&rt, cursor.u16(), Err(ReadFault::Short));
+    are_equal(&rt, cursor.place(), 18);
+    are_equal(&rt, cursor.block(1), Ok([19].as_slice()));
+    are_equal(&rt, cursor.block(1), Err(ReadFault::Short));
 }
 
 #[test]
 fn seeks_to_the_end_and_no_further(rt: HostRuntime) {
     let mut cursor = Cursor::new(&[1, 2]);
-    assert_eq!(rt; cursor.seek(2), Ok(()));
-    assert_eq!(rt; cursor.seek(3), Err(ReadFault::Short));
-    assert_eq!(rt; cursor.place(), 2);
+    are_equal(&rt, cursor.seek(2), Ok(()));
+    are_equal(&rt, cursor.seek(3), Err(ReadFault::Short));
+    are_equal(&rt, cursor.place(), 2);
 }
 
 /// A part ends so many bytes behind the cursor, and its places are those of the whole.
@@ -38,14 +38,22 @@ fn parts_end_behind_the_cursor(rt: HostRuntime) -> Result<(), Fail> {
     let mut cursor = Cursor::new(&[1, 2, 3, 4]);
     cursor.seek(1)?;
     let mut part = cursor.part(2)?;
-    assert_eq!(rt; part.place(), 1);
-    assert_eq!(rt; part.u16(), Ok(0x0302));
-    assert_eq!(rt; part.u8(), Err(ReadFault::Short));
-    assert_eq!(rt; cursor.place(), 1);
-    assert_eq!(rt; cursor.part(3)?.u24(), Ok(0x0004_0302));
-    assert_eq!(rt; cursor.part(0)?.u8(), Err(ReadFault::Short));
-    assert_eq!(rt; cursor.part(4).err(), Some(ReadFault::Short));
-    assert_eq!(rt; cursor.part(u64::MAX).err(), Some(ReadFault::Short));
+    are_equal(&rt, part.place(), 1);
+    are_equal(&rt, part.u16(), Ok(0x0302));
+    are_equal(&rt, part.u8(), Err(ReadFault::Short));
+    are_equal(&rt, cursor.place(), 1);
+    Ok(())
+}
+
+/// The longest part, an empty one, and those that pass the end.
+#[test]
+fn parts_end_with_the_whole(rt: HostRuntime) -> Result<(), Fail> {
+    let mut cursor = Cursor::new(&[1, 2, 3, 4]);
+    cursor.seek(1)?;
+    are_equal(&rt, cursor.part(3)?.u24(), Ok(0x0004_0302));
+    are_equal(&rt, cursor.part(0)?.u8(), Err(ReadFault::Short));
+    are_equal(&rt, cursor.part(4).err(), Some(ReadFault::Short));
+    are_equal(&rt, cursor.part(u64::MAX).err(), Some(ReadFault::Short));
     Ok(())
 }
 
@@ -84,8 +92,12 @@ fn reads_unsigned_leb128(rt: HostRuntime) {
     for (bytes, want) in table {
         let mut cursor = Cursor::new(bytes);
         let got = cursor.uleb();
-        assert_eq!(rt; got, want, "{bytes:?}");
-        assert_eq!(rt; cursor.place(), if got.is_ok() { bytes.len() } else { 0 });
+        are_equal(&rt, (bytes, got), (bytes, want));
+        are_equal(
+            &rt,
+            cursor.place(),
+            if got.is_ok() { bytes.len() } else { 0 },
+        );
     }
 }
 
@@ -123,28 +135,36 @@ fn reads_signed_leb128(rt: HostRuntime) {
     for (bytes, want) in table {
         let mut cursor = Cursor::new(bytes);
         let got = cursor.sleb();
-        assert_eq!(rt; got, want, "{bytes:?}");
-        assert_eq!(rt; cursor.place(), if got.is_ok() { bytes.len() } else { 0 });
+        are_equal(&rt, (bytes, got), (bytes, want));
+        are_equal(
+            &rt,
+            cursor.place(),
+            if got.is_ok() { bytes.len() } else { 0 },
+        );
     }
 }
 
 #[test]
-fn reads_texts(rt: HostRuntime) -> Result<(), Fail> {
-    let section = b"ab\0c\0d";
-    let mut cursor = Cursor::new(section);
-    assert_eq!(rt; cursor.cstr()?, b"ab".as_slice());
-    assert_eq!(rt; cursor.cstr()?, b"c".as_slice());
-    assert_eq!(rt; cursor.cstr().err(), Some(ReadFault::Unterminated));
-    assert_eq!(rt; cursor.place(), 5);
-    assert_eq!(rt; text_at(section, 1)?, b"b".as_slice());
-    assert_eq!(rt; text_at(section, 2)?, b"".as_slice());
-    assert_eq!(rt; text_at(section, 5).err(), Some(ReadFault::Unterminated));
-    assert_eq!(rt; text_at(section, 6).err(), Some(ReadFault::Unterminated));
-    assert_eq!(rt;
-        text_at(section, u64::MAX).err(),
-        Some(ReadFault::Unterminated)
-    );
-    Ok(())
+fn reads_texts(rt: HostRuntime) {
+    let mut cursor = Cursor::new(b"ab\0c\0d");
+    are_equal(&rt, cursor.cstr(), Ok(b"ab".as_slice()));
+    are_equal(&rt, cursor.cstr(), Ok(b"c".as_slice()));
+    are_equal(&rt, cursor.cstr(), Err(ReadFault::Unterminated));
+    are_equal(&rt, cursor.place(), 5);
+}
+
+#[test]
+fn finds_texts(rt: HostRuntime) {
+    let texts: [(u64, Result<&[u8], ReadFault>); 5] = [
+        (1, Ok(b"b")),
+        (2, Ok(b"")),
+        (5, Err(ReadFault::Unterminated)),
+        (6, Err(ReadFault::Unterminated)),
+        (u64::MAX, Err(ReadFault::Unterminated)),
+    ];
+    for (place, text) in texts {
+        are_equal(&rt, text_at(b"ab\0c\0d", place), text);
+    }
 }
 
 #[test]
@@ -170,12 +190,12 @@ fn reads_initial_lengths(rt: HostRuntime) {
     for (bytes, want) in table {
         let mut cursor = Cursor::new(bytes);
         let got = cursor.initial_length();
-        assert_eq!(rt; got, want, "{bytes:?}");
+        are_equal(&rt, (bytes, got), (bytes, want));
         let past = match got {
             Ok((Format::Dwarf32, _)) => 4,
             Ok((Format::Dwarf64, _)) => 12,
             Err(_) => 0,
         };
-        assert_eq!(rt; cursor.place(), past);
+        are_equal(&rt, cursor.place(), past);
     }
 }

@@ -1,5 +1,6 @@
 //! The heads of tables before their bases.
 
+use crate::checks::are_equal;
 use dwarf_bytes::{Cause, Format, TableHead, TableKind};
 
 /// The offsets 3 and 0.
@@ -26,26 +27,31 @@ fn counts_the_items(rt: HostRuntime) {
     let two = TableHead { end: 16, items: 2 };
     let one = TableHead { end: 16, items: 1 };
     let list = TableHead { end: 17, items: 1 };
-    assert_eq!(rt; before(&OFFSETS, 8, TableKind::StrOffsets), Ok(two));
-    assert_eq!(rt; before(&ADDRESSES, 8, TableKind::Addr), Ok(one));
-    assert_eq!(rt; before(&LISTS, 12, TableKind::RngLists), Ok(list));
+    are_equal(&rt, before(&OFFSETS, 8, TableKind::StrOffsets), Ok(two));
+    are_equal(&rt, before(&ADDRESSES, 8, TableKind::Addr), Ok(one));
+    are_equal(&rt, before(&LISTS, 12, TableKind::RngLists), Ok(list));
 }
 
 #[test]
 fn refuses_a_base_outside(rt: HostRuntime) {
     for base in [0, 7, 17, u64::MAX] {
-        assert_eq!(rt;
-            before(&OFFSETS, base, TableKind::StrOffsets),
-            Err(Cause::Base),
-            "{base}"
+        are_equal(
+            &rt,
+            (base, before(&OFFSETS, base, TableKind::StrOffsets)),
+            (base, Err(Cause::Base)),
         );
     }
-    assert_eq!(rt;
+    are_equal(
+        &rt,
         before(&OFFSETS, 16, TableKind::StrOffsets),
-        Err(Cause::Short)
+        Err(Cause::Short),
     );
-    assert_eq!(rt; before(&[], 8, TableKind::Addr), Err(Cause::Base));
-    assert_eq!(rt; before(&LISTS, 11, TableKind::RngLists), Err(Cause::Base));
+    are_equal(&rt, before(&[], 8, TableKind::Addr), Err(Cause::Base));
+    are_equal(
+        &rt,
+        before(&LISTS, 11, TableKind::RngLists),
+        Err(Cause::Base),
+    );
 }
 
 #[test]
@@ -62,19 +68,20 @@ fn refuses_each_changed_field(rt: HostRuntime) {
     for (place, byte, cause) in table {
         let mut section = LISTS;
         section[place] = byte;
-        assert_eq!(rt;
-            before(&section, 12, TableKind::RngLists),
-            Err(cause),
-            "{place}"
+        are_equal(
+            &rt,
+            (place, before(&section, 12, TableKind::RngLists)),
+            (place, Err(cause)),
         );
     }
     let mut reserved = LISTS;
     for place in 0..4 {
         reserved[place] = 0xff;
     }
-    assert_eq!(rt;
+    are_equal(
+        &rt,
         before(&reserved, 12, TableKind::RngLists),
-        Err(Cause::Length)
+        Err(Cause::Length),
     );
 }
 
@@ -83,34 +90,37 @@ fn passes_over_the_padding_of_offsets(rt: HostRuntime) {
     let mut section = OFFSETS;
     section[6] = 1;
     section[7] = 1;
-    assert_eq!(rt;
+    are_equal(
+        &rt,
         before(&section, 8, TableKind::StrOffsets),
-        Ok(TableHead { end: 16, items: 2 })
+        Ok(TableHead { end: 16, items: 2 }),
     );
+}
+
+fn long_before(section: &[u8], base: u64) -> Result<TableHead, Cause> {
+    TableHead::before(section, base, TableKind::StrOffsets, Format::Dwarf64)
 }
 
 #[test]
 fn reads_tables_of_the_64_bit_format(rt: HostRuntime) {
-    let long = |section: &[u8], base| {
-        TableHead::before(section, base, TableKind::StrOffsets, Format::Dwarf64)
-    };
-    assert_eq!(rt;
-        long(&LONG_OFFSETS, 16),
-        Ok(TableHead { end: 32, items: 2 })
-    );
-    assert_eq!(rt; long(&LONG_OFFSETS, 8), Err(Cause::Base));
-    assert_eq!(rt; long(&OFFSETS, 16), Err(Cause::Length));
-    assert_eq!(rt;
-        before(&LONG_OFFSETS, 8, TableKind::StrOffsets),
-        Err(Cause::Length)
-    );
-    assert_eq!(rt;
-        before(&LONG_OFFSETS[..11], 8, TableKind::StrOffsets),
-        Err(Cause::Short)
-    );
+    let two = TableHead { end: 32, items: 2 };
+    are_equal(&rt, long_before(&LONG_OFFSETS, 16), Ok(two));
+    are_equal(&rt, long_before(&LONG_OFFSETS, 8), Err(Cause::Base));
+    are_equal(&rt, long_before(&OFFSETS, 16), Err(Cause::Length));
     let mut huge = LONG_OFFSETS;
     for place in 4..12 {
         huge[place] = 0xff;
     }
-    assert_eq!(rt; long(&huge, 16), Err(Cause::Short));
+    are_equal(&rt, long_before(&huge, 16), Err(Cause::Short));
+}
+
+#[test]
+fn reads_no_64_bit_length_in_the_32_bit_format(rt: HostRuntime) {
+    let offsets = TableKind::StrOffsets;
+    are_equal(&rt, before(&LONG_OFFSETS, 8, offsets), Err(Cause::Length));
+    are_equal(
+        &rt,
+        before(&LONG_OFFSETS[..11], 8, offsets),
+        Err(Cause::Short),
+    );
 }

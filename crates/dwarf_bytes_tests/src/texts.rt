@@ -1,5 +1,6 @@
 //! Texts of sections, and where they end.
 
+use crate::checks::are_equal;
 use dwarf_bytes::{LoadFault, ReadFault, Section, Span, Text, TextIndex};
 use std::alloc::{AllocGlobal, Global};
 use std::process::Abort;
@@ -24,7 +25,7 @@ fn has_texts(
     for (offset, len) in texts {
         let text = index.text_at(*offset);
         let want = len.ok_or(ReadFault::Unterminated);
-        assert_eq!(rt; text.map(|text| text.len()), want, "{offset}");
+        are_equal(rt, (offset, text.map(|text| text.len())), (offset, want));
     }
     Ok(())
 }
@@ -74,7 +75,7 @@ fn ends_texts_past_their_block(rt: HostRuntime) -> Result<(), Fail> {
     ];
     has_texts(&rt, &section, &texts)?;
     let index = TextIndex::of(rt.alloc(), &section)?;
-    assert_eq!(rt; index.text_at(10_001), Ok(b"bc".as_slice()));
+    are_equal(&rt, index.text_at(10_001), Ok(b"bc".as_slice()));
     Ok(())
 }
 
@@ -104,6 +105,6 @@ fn spans_are_of_any_bytes(rt: HostRuntime) {
             section: Section::DebugStr,
             span: Span { place, len },
         };
-        assert_eq!(rt; text.span.of(bytes), want, "{text:?}");
+        are_equal(&rt, (text, text.span.of(bytes)), (text, want));
     }
 }

@@ -1,5 +1,6 @@
 //! Forms, and the contents of values.
 
+use crate::checks::are_equal;
 use dwarf_bytes::{Content, Cursor, Form, Format, ReadFault, ValueLayout, Width};
 
 /// The forms of DWARF 5, table 7.6, by how their values are laid out.
@@ -25,25 +26,40 @@ fn knows_the_forms(rt: HostRuntime) {
     ];
     for (layout, numbers) in layouts {
         for number in numbers {
-            assert_eq!(rt; Form::of(*number), Some(Form::Direct(layout)), "{number}");
+            are_equal(
+                &rt,
+                (number, Form::of(*number)),
+                (number, Some(Form::Direct(layout))),
+            );
         }
     }
+}
+
+/// Forms of blocks with a length of two and four bytes, the forms that are not direct, and numbers of
+/// no form.
+#[test]
+fn knows_the_other_forms(rt: HostRuntime) {
     let blocks = [(0x03, Width::Two), (0x04, Width::Four)];
     for (number, width) in blocks {
-        assert_eq!(rt;
+        are_equal(
+            &rt,
             Form::of(number),
-            Some(Form::Direct(ValueLayout::Block(width)))
+            Some(Form::Direct(ValueLayout::Block(width))),
         );
     }
-    assert_eq!(rt; Form::of(0x16), Some(Form::Indirect));
-    assert_eq!(rt; Form::of(0x21), Some(Form::ImplicitConst));
+    are_equal(&rt, Form::of(0x16), Some(Form::Indirect));
+    are_equal(&rt, Form::of(0x21), Some(Form::ImplicitConst));
     for number in [0x00, 0x02, 0x1c, 0x1d, 0x24, 0x2d, 0xffff] {
-        assert_eq!(rt; Form::of(number), None, "{number}");
+        are_equal(&rt, (number, Form::of(number)), (number, None));
     }
+}
+
+#[test]
+fn knows_forty_forms(rt: HostRuntime) {
     let count = (0..0x100)
         .filter(|number| Form::of(*number).is_some())
         .count();
-    assert_eq!(rt; count, 40);
+    are_equal(&rt, count, 40);
 }
 
 /// A content as a number, or the length of its bytes.
@@ -89,7 +105,7 @@ fn reads_each_layout(rt: HostRuntime) {
     for (layout, bytes, want, place) in table {
         let mut cursor = Cursor::new(bytes);
         let got = shown(Content::read(layout, Format::Dwarf32, &mut cursor));
-        assert_eq!(rt; got, want, "{layout:?} {bytes:?}");
-        assert_eq!(rt; cursor.place(), place, "{layout:?} {bytes:?}");
+        are_equal(&rt, (layout, bytes, got), (layout, bytes, want));
+        are_equal(&rt, (layout, bytes, cursor.place()), (layout, bytes, place));
     }
 }
