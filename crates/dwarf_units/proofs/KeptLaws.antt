@@ -20,7 +20,7 @@ use Rattle.dwarf_bytes.specs.Refusals.{in_section}
 use Rattle.dwarf_forms.specs.Declarations.{Declaration}
 use Rattle.dwarf_forms.specs.Tables.{declarations_of}
 use Rattle.dwarf_units.specs.Units.{declarations_limit}
-use Rattle.dwarf_units.proofs.TableLaws.{in_section_ok, table_again, table_few, known_stands, stand_before, stand_behind, behind_at}
+use Rattle.dwarf_units.proofs.TableLaws.{in_section_ok, table_again, table_few, known_stands, stands_read, stand_before, stand_behind, behind_at}
 
 -- one number was set
 abbrev pub Sets : Numbers → Numbers → Format → ℕ → ℕ → Type 0
@@ -72,11 +72,11 @@ found_push before next table here found = by_list before (λ i. i) found here
     by_list (x ∷ ts) number before last zero t at = before 0 t at
     by_list (x ∷ ts) number before last (suc i) t at = by_list ts (λ k. number (suc k)) (λ k e is. before (suc k) e is) last i t at
 
-take_all : (xs : List Table) → take (length xs) xs ≡ xs
+pub take_all : (xs : List Table) → take (length xs) xs ≡ xs
 take_all [] = refl
 take_all (x ∷ xs) = ap (λ (ys : List Table). x ∷ ys) (take_all xs)
 
-take_front : (xs ys : List Table) → take (length xs) (xs ++ ys) ≡ xs
+pub take_front : (xs ys : List Table) → take (length xs) (xs ++ ys) ≡ xs
 take_front [] ys = refl
 take_front (x ∷ xs) ys = ap (λ (zs : List Table). x ∷ zs) (take_front xs ys)
 
@@ -155,15 +155,15 @@ with_more before section tables after kept room size numbers table view is size_
     le_false a b h = grind (arith, common_steps)
 
 -- a table that is known and has more declarations than are left is not read
-pub known_too_long : {X : Type 0} (section : List ℕ) (tables : List Table) (number len : ℕ) (known found : Table) (offset left : ℕ) (read : List Declaration) → All (StandsIn section) tables → slice_get tables number ≡ Some found → slice_get tables number ≡ Some known →
-    known.offset ≡ offset → in_section sections.DebugAbbrev (declarations_of left section offset) ≡ Ok read → left ≤ declarations_limit → len ≡ length found.declarations → left < len → X
-known_too_long section tables number len known found offset left read all here at same is_read few len_is past =
+pub known_too_long : {X : Type 0} (section : List ℕ) (tables : List Table) (number len : ℕ) (known d : Table) (offset left : ℕ) (read : List Declaration) → All (StandsIn section) tables → slice_get tables number ≡ Some known →
+    known.offset ≡ offset → in_section sections.DebugAbbrev (declarations_of left section offset) ≡ Ok read → left ≤ declarations_limit → len ≡ length (get_or tables number d).declarations → left < len → X
+known_too_long section tables number len known d offset left read all at same is_read few len_is past =
     let ok : declarations_of left section offset ≡ Ok read = in_section_ok sections.DebugAbbrev (declarations_of left section offset) read is_read in
     let short : length read ≤ left = table_few left section offset read ok in
     let again : declarations_of declarations_limit section offset ≡ Ok read = table_again left declarations_limit section offset read ok (omega (arith, short, few)) in
     let stands : declarations_of declarations_limit section offset ≡ Ok known.declarations = known_stands section tables number known offset all at same in
     let lens : length known.declarations ≡ length read = ap (λ (ds : List Declaration). length ds) (same_ok (sym stands ∙ again)) in
-    let one : length found.declarations ≡ length known.declarations = ap (λ (t : Table). length t.declarations) (same_Some found known (sym here ∙ at)) in
+    let one : length (get_or tables number d).declarations ≡ length known.declarations = ap (λ (t : Table). length t.declarations) (get_or_from_slice_get tables number known d at) in
     absurd (omega (arith, short, past, lens, len_is, one))
   where
     same_ok : {x y : List Declaration} → (let f : List Declaration → Result (List Declaration) At = λ z. Ok z in f x ≡ f y) → x ≡ y
@@ -183,73 +183,3 @@ known_once numbers tables view format offset i j same found t at is u at_other i
     number_of t i at is =
         subst (λ (f : Format). number_at numbers f offset ≡ Some i) is.1
         (subst (λ (k : ℕ). number_at numbers t.format k ≡ Some i) is.0 (found i t (ap (λ (ts : List Table). slice_get ts i) same ∙ at)))
-
--- ---- what stays
-
--- those that stay are followed by more
-abbrev pub Grows : KeptTables → KeptTables → Type 0
-Grows old new = (rest : List Table) × (take new.kept new.tables ≡ take old.kept old.tables ++ rest)
-
-append_none : (xs : List Table) → xs ≡ xs ++ []
-append_none [] = refl
-append_none (x ∷ xs) = ap (λ (ys : List Table). x ∷ ys) (append_none xs)
-
-got_before : (xs ys : List Table) (i : ℕ) (t : Table) → slice_get xs i ≡ Some t → slice_get (xs ++ ys) i ≡ Some t
-got_before [] ys i t at = cc
-got_before (x ∷ xs) ys zero t at = at
-got_before (x ∷ xs) ys (suc i) t at = got_before xs ys i t at
-
--- what is true of a unit stays so
-pub stays_on : (old new : KeptTables) (unit : UnitHeader) → Grows old new → new.section ≡ old.section → StaysOrIsTooLarge old unit → StaysOrIsTooLarge new unit
-stays_on old new unit grows same (table, at, stands, is) = (table, at, subst (λ (s : List ℕ). StandsIn s table) (sym same) stands, by_case is)
-  where
-    by_case : ((number : ℕ) × (slice_get (take old.kept old.tables) number ≡ Some table)) ⊎ (size_limit old.section < sum_by table_size (take old.kept old.tables) + table_size table) →
-        ((number : ℕ) × (slice_get (take new.kept new.tables) number ≡ Some table)) ⊎ (size_limit new.section < sum_by table_size (take new.kept new.tables) + table_size table)
-    by_case (inl there) = inl (there.0, ap (λ (ts : List Table). slice_get ts there.0) grows.1 ∙ got_before (take old.kept old.tables) grows.0 there.0 table there.1)
-    by_case (inr large) =
-        let sum : sum_by table_size (take new.kept new.tables) ≡ sum_by table_size (take old.kept old.tables) + sum_by table_size grows.0 =
-        ap (λ (ts : List Table). sum_by table_size ts) grows.1 ∙ sum_by-append table_size (take old.kept old.tables) grows.0 in
-        let limit : size_limit new.section ≡ size_limit old.section = ap (λ (s : List ℕ). size_limit s) same in
-        inr (omega (arith, large, sum, limit))
-
--- the table of a unit that is put behind those that stay stays too, or has no room
-pub stays_with : (old : KeptTables) (unit : UnitHeader) (table : Table) → old.kept ≤ length old.tables → IsAt unit.format unit.abbreviations table → StandsIn old.section table → StaysOrIsTooLarge (with_table old table) unit × Grows old (with_table old table)
-stays_with old unit table within at stands =
-    let before : List Table = take old.kept old.tables in
-    by_test before (length-take-le old.kept old.tables within) refl (nat_le (sum_by table_size (before ++ table ∷ [])) (size_limit old.section)) refl
-  where
-    gt : (a b : ℕ) → nat_le a b ≡ false → b < a
-    gt a b h = grind (arith, common_steps)
-
-    by_test : (before : List Table) → length before ≡ old.kept → before ≡ take old.kept old.tables → (b : Bool) → nat_le (sum_by table_size (before ++ table ∷ [])) (size_limit old.section) ≡ b →
-        (let new : KeptTables = record { section = old.section; tables = before ++ table ∷ []; kept = if b then length (before ++ table ∷ []) else old.kept } in StaysOrIsTooLarge new unit × Grows old new)
-    by_test before len is true fits =
-        let tables : List Table = before ++ table ∷ [] in
-        let whole : take (length tables) tables ≡ tables = take_all tables in (
-          (table, at, stands, inl (length before, ap (λ (ts : List Table). slice_get ts (length before)) whole ∙ behind_at before tables (length before) table refl refl)),
-          (table ∷ [], whole ∙ ap (λ (ts : List Table). ts ++ table ∷ []) is),
-        )
-    by_test before len is false past =
-        let tables : List Table = before ++ table ∷ [] in
-        let front : take old.kept tables ≡ before = subst (λ (k : ℕ). take k tables ≡ before) len (take_front before (table ∷ [])) in
-        let sum : sum_by table_size (take old.kept tables) ≡ sum_by table_size before = ap (λ (ts : List Table). sum_by table_size ts) front in
-        let large : size_limit old.section < sum_by table_size tables = gt (sum_by table_size tables) (size_limit old.section) past in (
-          (table, at, stands, inr (omega (arith, sum, large, sum_by_push table_size before table))),
-          ([], front ∙ (is ∙ append_none (take old.kept old.tables))),
-        )
-
--- .. so it is of each unit
-pub stays_next : (old new : KeptTables) (units : List UnitHeader) (index : ℕ) (d : UnitHeader) → Grows old new → new.section ≡ old.section → index < length units → StaysOrIsTooLarge new (get_or units index d) → All (StaysOrIsTooLarge old) (take index units) →
-    All (StaysOrIsTooLarge new) (take (index + 1) units)
-stays_next old new units index d grows same within here all =
-    subst (λ (us : List UnitHeader). All (StaysOrIsTooLarge new) us) (sym (take_more units index d within))
-    (All-append (StaysOrIsTooLarge new) (take index units) (get_or units index d ∷ []) (λ k u lt. stays_on old new (get_or (take index units) k u) grows same (all k u lt))
-    (All-cons (StaysOrIsTooLarge new) (get_or units index d) [] here (All-nil (StaysOrIsTooLarge new))))
-
-pub stays_end : (tables : KeptTables) (units : List UnitHeader) (index : ℕ) → length units ≤ index → All (StaysOrIsTooLarge tables) (take index units) → All (StaysOrIsTooLarge tables) units
-stays_end tables units index past all = λ k u lt.
-    let here : get_or (take index units) k u ≡ get_or units k u = get_or-take index units k u (omega (arith, past, lt)) in
-    subst (λ (unit : UnitHeader). StaysOrIsTooLarge tables unit) here (all k u (long k lt))
-  where
-    long : (k : ℕ) → k < length units → k < length (take index units)
-    long k lt = omega (arith, past, lt, length-take index units)

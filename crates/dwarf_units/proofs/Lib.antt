@@ -2,6 +2,7 @@ pub mod UnitLaws
 pub mod CodeLaws
 pub mod TableLaws
 pub mod KeptLaws
+pub mod StayLaws
 pub mod EntryMoves
 pub mod NodeLaws
 pub mod EntryOrder

@@ -103,16 +103,34 @@ impl<'a> Tables<'a> {
         ensures grows { OnOk result ((rest : List Table) × (take self.new.kept self.new.tables
             ≡ take self.old.kept self.old.tables ++ rest)) }
     {
-        if let Some(number) = self.known(unit) {
-            let len = self.table(number).len();
-            if len <= *left {
-                *left -= len;
-                return Ok(());
-            }
+        if let Some(len) = self.known_len(unit, *left) {
+            *left -= len;
+            return Ok(());
         }
         let table = UnitTable::read(alloc, self.section, unit.format, unit.abbreviations, left)?;
         self.keep(table)?;
         Ok(())
+    }
+
+    /// How many declarations the table of a unit has, where it is kept and has so many at most.
+    fn known_len(&self, unit: &UnitHeader, left: u64) -> Option<u64>
+        requires { left ≤ declarations_limit }
+        ensures none { IfNone result ((table : List Declaration)
+            → in_section sections.DebugAbbrev
+            (declarations_of left self.now.section unit.now.abbreviations) ≡ Ok table
+            → AreElsewhere unit.now.format unit.now.abbreviations self.now.tables) }
+        ensures some { IfSome result (λ len. (table : List Declaration)
+            × (in_section sections.DebugAbbrev
+            (declarations_of left self.now.section unit.now.abbreviations) ≡ Ok table)
+            × (length table ≡ len) × (len ≤ left)) }
+        ensures stays { IfSome result (λ _. StaysOrIsTooLarge self.now unit.now) }
+    {
+        let number = self.known(unit)?;
+        let len = self.tables[number].len();
+        if len > left {
+            return None;
+        }
+        Some(len)
     }
 
     /// The number of the table of a unit, good up to the next call. A table that is not kept is read

@@ -1,7 +1,7 @@
 use Rattle.std.proofs.Common.{◌∙◌}
 use Rattle.std.proofs.lemmas.Result.{err_from_is_err_and}
 use Rattle.dwarf_units.proofs.TableLaws.{judged_next, judged_end, judged_fault}
-use Rattle.dwarf_units.proofs.KeptLaws.{stays_next, stays_end}
+use Rattle.dwarf_units.proofs.StayLaws.{stays_next, stays_end}
 use Rattle.dwarf_units.proofs.tables.Tables.judge.Goals as goal
 
 pub returns-in_err-judge_unit-clause-err : goal.returns-in_err-judge_unit-clause-err
