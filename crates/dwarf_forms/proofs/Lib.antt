@@ -5,6 +5,7 @@ pub mod TableTurns
 pub mod Stretches
 pub mod Listed
 pub mod AttributeSpelling
+pub mod JoinedLaws
 pub mod HeadSpelling
 pub mod TableSpelling
 pub mod ValueSpelling

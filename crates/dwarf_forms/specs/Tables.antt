@@ -1,6 +1,6 @@
 -- Reading a table of abbreviation declarations (DWARF 5, 7.5.3), up to its first fault.
 use Rattle.std.specs.Prelude.{◌≡◌, ℕ, ℤ, List, [], length, Option, Some, None, is_none, Result, Ok}
-use Rattle.std.specs.Prelude.{Err, nat_lt, nat_le, ◌==◌, ◌||◌, ◌&&◌, if◌then◌else◌}
+use Rattle.std.specs.Prelude.{Bool, Err, nat_lt, nat_le, ◌==◌, ◌||◌, ◌&&◌, if◌then◌else◌}
 use Rattle.std.specs.List.{list_any}
 use Rattle.dwarf_bytes.specs.declared.fault.Cause.{Cause}
 use Rattle.dwarf_bytes.specs.declared.fault.Cause.TheVariants as causes
@@ -35,6 +35,11 @@ attribute_at section before at = do
 -- the attributes of a declaration
 unfoldable pub attributes_at : List ℕ → ℕ → Result (List AttributeSpecification × ℕ) Cause
 attributes_at section at = untold (items_from (length section) (attribute_at section) [] at)
+
+-- whether an attribute of the first list has the name of one of the second
+abbrev pub shares_name : List AttributeSpecification → List AttributeSpecification → Bool
+shares_name own rest =
+    list_any (λ attribute. list_any (λ other. other.name == attribute.name) rest) own
 
 -- what stands before the attributes, behind the declarations before it in its table, which may have
 -- so many

@@ -1,10 +1,14 @@
 //! What the reads of declarations and values are, in the words of the standard.
 
-ghost use Rattle.std.specs.Prelude.{◌≡◌, ◌++◌, ◌≤◌, ◌↔◌, List, Option, ℕ, ℤ, Ok, length};
+ghost use Rattle.std.specs.Prelude.{◌≡◌, ◌++◌, ◌≤◌, ◌↔◌, List, Option, ℕ, ℤ, Ok, Err, length};
+ghost use Rattle.std.specs.Prelude.{if◌then◌else◌};
+ghost use Rattle.dwarf_bytes.specs.declared.fault.Cause.TheVariants as causes;
+ghost use Rattle.dwarf_bytes.specs.Items.{untold, items_from};
 ghost use Rattle.dwarf_bytes.specs.Numbers.{StandsAt};
 ghost use Rattle.dwarf_bytes.specs.declared.format.Format.{Format};
 ghost use Rattle.dwarf_forms.specs.Declarations.{Declaration, SpellsTable, AreGood};
-ghost use Rattle.dwarf_forms.specs.Tables.{table_at};
+ghost use Rattle.dwarf_forms.specs.declared.attribute.AttributeSpecification.{AttributeSpecification as Specification};
+ghost use Rattle.dwarf_forms.specs.Tables.{attribute_at, attributes_at, shares_name, table_at};
 ghost use Rattle.dwarf_forms.specs.Values.{Value, Spells, value_at};
 
 /// A table is read exactly where the bytes at the place begin with a spelling of it, it is good,
@@ -19,6 +23,16 @@ pub fn table_is_spelled()
 pub fn table_is_unique()
     ensures { (a b x y : List ℕ) (s t : List Declaration) → SpellsTable a s → AreGood s
         → SpellsTable b t → AreGood t → a ++ x ≡ b ++ y → (a ≡ b) × (s ≡ t) }
+{}
+
+/// Attributes that are read from a place on are read so behind others too, where none of those has a
+/// name of theirs; where one has, it is a name twice, whichever of them it is.
+pub fn attributes_are_joined()
+    ensures { (section : List ℕ) (own : List Specification) (at : ℕ)
+        (rest : List Specification) (next : ℕ)
+        → attributes_at section at ≡ Ok (rest, next)
+        → untold (items_from (length section) (attribute_at section) own at)
+        ≡ (if shares_name own rest then Err causes.AttrTwice else Ok (rest, next)) }
 {}
 
 /// A value is read exactly where the bytes at the place begin with a spelling of it.
