@@ -90,7 +90,8 @@ impl<'a> EntryReader<'a> {
     }
 
     /// What a path needs of the entry at an offset, in the unit of the header. A long entry is read
-    /// once, and so are the entries of a unit, which are at these offsets, if its table does not stay.
+    /// once, and so are the entries of a unit, which are at these offsets, if its table does not
+    /// stay.
     pub(crate) fn named(
         &mut self,
         header: &UnitHeader,

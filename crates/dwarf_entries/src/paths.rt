@@ -179,8 +179,8 @@ fn first(
     known.or(value.map(|value| UnitAttribute { unit, value }))
 }
 
-/// Where the entry stands that a reference in a unit names, if it names one: an offset into `.debug_info`, or one
-/// that counts from the first byte of the unit.
+/// Where the entry stands that a reference in a unit names, if it names one: an offset into
+/// `.debug_info`, or one that counts from the first byte of the unit.
 fn target(units: &[UnitEntries], unit: usize, reference: AttributeValue) -> Option<UnitPlace>
     ensures { (us : List CompilationUnit) → AreKept units.now us → (u : CompilationUnit)
         → slice_get us unit ≡ Some u

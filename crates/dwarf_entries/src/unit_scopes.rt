@@ -37,7 +37,8 @@ pub(crate) struct Units<'a> {
     pub(crate) bases: &'a [Bases],
 }
 
-/// The numbers of a scope: of its unit, of that unit's root, its own, and how many scopes are below it.
+/// The numbers of a scope: of its unit, of that unit's root, its own, and how many scopes are below
+/// it.
 #[derive(Clone, Copy)]
 pub(crate) struct ScopeNumbers {
     pub(crate) unit: usize,
@@ -47,8 +48,8 @@ pub(crate) struct ScopeNumbers {
 }
 
 impl<'a> Units<'a> {
-    /// What is told of the scope of an entry, and how many range items it was read from; `room` is how
-    /// many these may be. What it covers is added to the ranges of all.
+    /// What is told of the scope of an entry, and how many range items it was read from; `room` is
+    /// how many these may be. What it covers is added to the ranges of all.
     fn scope(
         self,
         reader: &mut EntryReader<'_>,

@@ -15,9 +15,9 @@ fn add_letters(entries: &mut Vec<u8>, letter: u8, count: u16) -> Result<(), Allo
     Ok(())
 }
 
-/// Two units. In the first, which ends at 336, an entry of 302 bytes stands at 13, with its name of 300
-/// letters at 14. In the second, one of 282 bytes stands at 349, with its name of 280 letters at 350,
-/// and one of 276 bytes at 651, which refers to that at 349.
+/// Two units. In the first, which ends at 336, an entry of 302 bytes stands at 13, with its name of
+/// 300 letters at 14. In the second, one of 282 bytes stands at 349, with its name of 280 letters
+/// at 350, and one of 276 bytes at 651, which refers to that at 349.
 fn two_units(alloc: Global) -> Result<Vec<u8>, AllocError> {
     let mut entries = Vec::new(alloc);
     entries.extend_from_slice(&[1, 2])?;

@@ -7,9 +7,9 @@ use dwarf_entries::Scopes;
 use std::alloc::{AllocError, Global};
 use std::test::*;
 
-/// At 1 the declarations of a thousand subprograms, in seven bytes each, whose codes count up from 1.
-/// Behind them those of a unit with children, of a subprogram with a specification as ref_addr, and of
-/// one with a name as string.
+/// At 1 the declarations of a thousand subprograms, in seven bytes each, whose codes count up from
+/// 1. Behind them those of a unit with children, of a subprogram with a specification as ref_addr,
+/// and of one with a name as string.
 fn declared(alloc: Global) -> Result<Vec<u8>, AllocError> {
     let mut table = Vec::new(alloc);
     table.push(0)?;
@@ -33,9 +33,10 @@ fn add_reference(entries: &mut Vec<u8>, place: usize) -> Result<(), AllocError> 
     Ok(())
 }
 
-/// So many times two units, of 30 and of 26 bytes. The first has a subprogram at 15, which refers to 50
-/// of these bytes, and one at 22, which refers to 45. There two stand in the second, with their names
-/// `y` and `z` at 48 and 53. The table of each unit begins one declaration after that of the unit before.
+/// So many times two units, of 30 and of 26 bytes. The first has a subprogram at 15, which refers
+/// to 50 of these bytes, and one at 22, which refers to 45. There two stand in the second, with
+/// their names `y` and `z` at 48 and 53. The table of each unit begins one declaration after that
+/// of the unit before.
 fn pairs(alloc: Global, count: usize) -> Result<Vec<u8>, AllocError> {
     let mut info = Vec::new(alloc);
     for number in 0..count {
