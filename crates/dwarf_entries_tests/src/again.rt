@@ -20,14 +20,14 @@ fn entries_at_their_places(rt: HostRuntime) -> Result<(), Fail> {
     cursor.seek(13)?;
     let mut found = Vec::new(rt.alloc());
     let tag = tables.table(number).read_entry(&mut cursor, &mut found);
-    assert_eq!(rt; tag, Ok(0x2e));
+    are_equal(&rt, tag, Ok(0x2e));
     let mut read = Vec::new(rt.alloc());
     for attribute in &found {
         read.push((attribute.name, attribute.value.number))?;
     }
-    assert_eq!(rt; read.as_slice(), [(0x03, 15), (0x12, 9)].as_slice());
-    assert_eq!(rt; cursor.place(), 18);
+    are_equal(&rt, read.as_slice(), [(0x03, 15), (0x12, 9)].as_slice());
+    are_equal(&rt, cursor.place(), 18);
     let null = tables.table(number).read_entry(&mut cursor, &mut found);
-    assert_eq!(rt; null, Err(Cause::AbbrevCode));
+    are_equal(&rt, null, Err(Cause::AbbrevCode));
     Ok(())
 }

@@ -2,7 +2,6 @@
 
 use crate::fixtures::*;
 use dwarf_bytes::Cause;
-use dwarf_entries::Scopes;
 use std::test::*;
 
 /// Attributes of the subprogram at 13, each by its name and form, and its value.
@@ -40,9 +39,8 @@ fn forms_of_attributes(rt: HostRuntime) -> Result<(), Fail> {
     ];
     for (declared, values, cause) in refused {
         let attributes = (declared, values);
-        let table = declarations(rt.alloc(), (&[], &[]), attributes)?;
-        let info = one_scope(rt.alloc(), (&[], &[]), attributes)?;
-        is_refused(&rt, &sections(&info, &table), cause, 13);
+        let object = OneScope::new(rt.alloc(), (&[], &[]), attributes)?;
+        is_refused(&rt, &object.sections(), cause, 13);
     }
     Ok(())
 }
@@ -61,15 +59,10 @@ fn forms_of_counts(rt: HostRuntime) -> Result<(), Fail> {
         (&[0x58, 0x16], &[0x0d, 7]),
     ];
     for (declared, values) in counts {
-        let attributes = (declared, values);
-        let table = declarations(rt.alloc(), (&[], &[]), attributes)?;
-        let info = one_scope(rt.alloc(), (&[], &[]), attributes)?;
-        let read = Scopes::read(rt.alloc(), &sections(&info, &table))?;
+        let object = OneScope::new(rt.alloc(), (&[], &[]), (declared, values))?;
+        let read = scopes_of(rt.alloc(), &object.sections())?;
         let scope = read.scopes().first().ok_or("no scope")?;
-        assert_eq!(rt;
-            (scope.call_file(&read), scope.call_line(&read)),
-            (Some(7), None)
-        );
+        are_equal(&rt, call_of(&read, scope), (Some(7), None));
     }
     Ok(())
 }

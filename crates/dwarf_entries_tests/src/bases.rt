@@ -1,9 +1,11 @@
 //! The tables that a root names by its bases, and indexes into them.
 
 use crate::fixtures::*;
-use crate::ranges::{ADDRESSES, covers};
-use dwarf_bytes::Cause;
-use dwarf_entries::{Scopes, Sections};
+use crate::ranges::ADDRESSES;
+use dwarf_bytes::{Cause, LoadFault};
+use dwarf_entries::{Range, Sections};
+use std::alloc::AllocError;
+use std::process::Abort;
 use std::test::*;
 
 /// A list by its index, of entries whose addresses are indexes.
@@ -21,55 +23,55 @@ const INDEXED: [u8; 55] = [
 
 #[test]
 fn lists_and_addresses_by_index(rt: HostRuntime) -> Result<(), Fail> {
+    let ranges = [
+        range(0x1001, 0x1002),
+        range(0x1000, 0x2000),
+        range(0x2000, 0x2010),
+        range(0x3000, 0x3001),
+    ];
+    is_list(&rt, 0, Ok(&ranges))?;
+    is_list(&rt, 1, Err(fault(Cause::Index, 21)))?;
+    Ok(())
+}
+
+/// Checks what a subprogram at 21 covers by the list of an index.
+fn is_list(
+    rt: &(impl Abort + AllocGlobal),
+    index: u8,
+    wanted: Result<&[Range], LoadFault>,
+) -> Result<(), AllocError> {
     // addr_base and rnglists_base, and ranges as rnglistx
     let root: Attributes<'_> = (&[0x73, 0x17, 0x74, 0x17], &[8, 0, 0, 0, 12, 0, 0, 0]);
-    for (index, cause) in [(0, None), (1, Some(Cause::Index))] {
-        let index = [index];
-        let scope: Attributes<'_> = (&[0x55, 0x23], &index);
-        let table = declarations(rt.alloc(), root, scope)?;
-        let info = one_scope(rt.alloc(), root, scope)?;
-        let all = Sections {
-            debug_addr: &ADDRESSES,
-            debug_rnglists: &INDEXED,
-            ..sections(&info, &table)
-        };
-        match Scopes::read(rt.alloc(), &all) {
-            Ok(read) => {
-                assert_eq!(rt; cause, None);
-                let ranges = [
-                    range(0x1001, 0x1002),
-                    range(0x1000, 0x2000),
-                    range(0x2000, 0x2010),
-                    range(0x3000, 0x3001),
-                ];
-                covers(&rt, &read, &ranges);
-            }
-            Err(told) => assert_eq!(rt; Some(told), cause.map(|cause| fault(cause, 21))),
-        }
-    }
+    let object = OneScope::new(rt.alloc(), root, (&[0x55, 0x23], &[index]))?;
+    let all = Sections {
+        debug_addr: &ADDRESSES,
+        debug_rnglists: &INDEXED,
+        ..object.sections()
+    };
+    covers_or_is_refused(rt, &all, wanted);
     Ok(())
 }
 
 #[test]
-fn indexes_that_find_nothing(rt: HostRuntime) -> Result<(), Fail> {
-    // an index of a list in a unit without a base
-    let scope: Attributes<'_> = (&[0x55, 0x23], &[0]);
-    let table = declarations(rt.alloc(), (&[], &[]), scope)?;
-    let info = one_scope(rt.alloc(), (&[], &[]), scope)?;
+fn an_index_without_a_base(rt: HostRuntime) -> Result<(), Fail> {
+    let object = OneScope::new(rt.alloc(), (&[], &[]), (&[0x55, 0x23], &[0]))?;
     let all = Sections {
         debug_rnglists: &INDEXED,
-        ..sections(&info, &table)
+        ..object.sections()
     };
     is_refused(&rt, &all, Cause::Base, 13);
-    // an index past the table, before the operand that is missing
+    Ok(())
+}
+
+/// An index past the table, before the operand that is missing.
+#[test]
+fn an_index_past_the_table(rt: HostRuntime) -> Result<(), Fail> {
     let root: Attributes<'_> = (&[0x73, 0x17], &[8, 0, 0, 0]);
-    let scope: Attributes<'_> = (&[0x55, 0x17], &[0, 0, 0, 0]);
-    let table = declarations(rt.alloc(), root, scope)?;
-    let info = one_scope(rt.alloc(), root, scope)?;
+    let object = OneScope::new(rt.alloc(), root, (&[0x55, 0x17], &[0, 0, 0, 0]))?;
     let all = Sections {
         debug_addr: &ADDRESSES,
         debug_rnglists: &[2, 2],
-        ..sections(&info, &table)
+        ..object.sections()
     };
     is_refused(&rt, &all, Cause::Index, 17);
     Ok(())
@@ -91,17 +93,15 @@ fn headers_of_addresses(rt: HostRuntime) -> Result<(), Fail> {
     ];
     // addr_base
     let root: Attributes<'_> = (&[0x73, 0x17], &[8, 0, 0, 0]);
-    let table = declarations(rt.alloc(), root, (&[], &[]))?;
-    let info = one_scope(rt.alloc(), root, (&[], &[]))?;
+    let object = OneScope::new(rt.alloc(), root, (&[], &[]))?;
     for (place, byte, cause) in changes {
         let mut addresses = ADDRESSES;
         addresses[place] = byte;
         let all = Sections {
             debug_addr: &addresses,
-            ..sections(&info, &table)
+            ..object.sections()
         };
-        let read = Scopes::read(rt.alloc(), &all);
-        assert_eq!(rt; read.err(), cause.map(|cause| fault(cause, 12)));
+        has_fault(&rt, &all, cause.map(|cause| fault(cause, 12)));
     }
     Ok(())
 }
@@ -115,11 +115,10 @@ fn low_pc_of_no_address(rt: HostRuntime) -> Result<(), Fail> {
     ];
     for (declared, values, cause) in indexed {
         let root = (declared, values);
-        let table = declarations(rt.alloc(), root, (&[], &[]))?;
-        let info = one_scope(rt.alloc(), root, (&[], &[]))?;
+        let object = OneScope::new(rt.alloc(), root, (&[], &[]))?;
         let all = Sections {
             debug_addr: &ADDRESSES,
-            ..sections(&info, &table)
+            ..object.sections()
         };
         is_refused(&rt, &all, cause, 12);
     }
@@ -130,17 +129,15 @@ fn low_pc_of_no_address(rt: HostRuntime) -> Result<(), Fail> {
 #[test]
 fn offsets_of_lists(rt: HostRuntime) -> Result<(), Fail> {
     let root: Attributes<'_> = (&[0x74, 0x17], &[12, 0, 0, 0]);
-    let table = declarations(rt.alloc(), root, (&[], &[]))?;
-    let info = one_scope(rt.alloc(), root, (&[], &[]))?;
+    let object = OneScope::new(rt.alloc(), root, (&[], &[]))?;
     let mut lists = INDEXED;
     for (count, cause) in [(10, None), (11, Some(Cause::Short))] {
         lists[8] = count;
         let all = Sections {
             debug_rnglists: &lists,
-            ..sections(&info, &table)
+            ..object.sections()
         };
-        let read = Scopes::read(rt.alloc(), &all);
-        assert_eq!(rt; read.err(), cause.map(|cause| fault(cause, 12)));
+        has_fault(&rt, &all, cause.map(|cause| fault(cause, 12)));
     }
     Ok(())
 }

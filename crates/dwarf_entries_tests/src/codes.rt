@@ -2,7 +2,8 @@
 
 use crate::fixtures::*;
 use dwarf_bytes::Cause;
-use dwarf_entries::{ScopeKind, Scopes};
+use dwarf_entries::{Scope, ScopeKind};
+use std::process::Abort;
 use std::test::*;
 
 /// A table whose codes do not count up from 1.
@@ -18,19 +19,24 @@ const CODES: [u8; 22] = [
 fn codes_out_of_order(rt: HostRuntime) -> Result<(), Fail> {
     // 12: unit, then entries at 13, 14, 15 and 17
     let info = unit(rt.alloc(), &[5, 2, 1, 0x80, 0x02, 2, 0])?;
-    let read = Scopes::read(rt.alloc(), &sections(&info, &CODES))?;
-    assert_eq!(rt; read.roots(), [root(12, 0, 4)].as_slice());
+    let read = scopes_of(rt.alloc(), &sections(&info, &CODES))?;
+    are_equal(&rt, read.roots(), [root(12, 0, 4)].as_slice());
     let wanted = [
         (13, ScopeKind::Subprogram),
         (14, ScopeKind::Inlined),
         (15, ScopeKind::Subprogram),
         (17, ScopeKind::Subprogram),
     ];
-    assert_eq!(rt; read.scopes().len(), 4);
+    are_equal(&rt, read.scopes().len(), 4);
     for (scope, wanted) in read.scopes().iter().zip(wanted) {
-        assert_eq!(rt; (scope.offset(), scope.kind()), wanted);
+        is_scope(&rt, scope, wanted);
     }
     Ok(())
+}
+
+/// Checks the place and the kind of a scope.
+fn is_scope(rt: &impl Abort, scope: &Scope, wanted: (usize, ScopeKind)) {
+    are_equal(rt, (scope.offset(), scope.kind()), wanted);
 }
 
 #[test]
@@ -42,8 +48,7 @@ fn codes_of_no_declaration(rt: HostRuntime) -> Result<(), Fail> {
         entries.push(5)?;
         entries.extend_from_slice(code)?;
         entries.push(0)?;
-        let info = unit(rt.alloc(), &entries)?;
-        is_refused(&rt, &sections(&info, &CODES), Cause::AbbrevCode, 13);
+        is_bad_unit(&rt, &entries, &CODES, Cause::AbbrevCode, 13)?;
     }
     Ok(())
 }

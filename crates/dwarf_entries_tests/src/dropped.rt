@@ -28,20 +28,13 @@ fn covers(
 ) -> Result<(), Fail> {
     // low_pc as addr, addr_base as sec_offset
     let root: Attributes<'_> = (&[0x11, 1, 0x73, 0x17], root);
-    let table = declarations(rt.alloc(), root, scope)?;
-    let info = one_scope(rt.alloc(), root, scope)?;
+    let object = OneScope::new(rt.alloc(), root, scope)?;
     let all = Sections {
         debug_addr: &ADDRESSES,
         debug_rnglists: list,
-        ..sections(&info, &table)
+        ..object.sections()
     };
-    match Scopes::read(rt.alloc(), &all) {
-        Ok(read) => {
-            let scope = read.scopes().first().ok_or("no scope")?;
-            assert_eq!(rt; Some(scope.ranges(&read)), wanted.ok());
-        }
-        Err(told) => assert_eq!(rt; Some(told), wanted.err().map(|cause| fault(cause, 25))),
-    }
+    covers_or_is_refused(rt, &all, wanted.map_err(|cause| fault(cause, 25)));
     Ok(())
 }
 

@@ -1,10 +1,12 @@
 //! Units for the tests, and what is expected of them.
 
+pub use crate::checks::{
+    Row, are_equal, are_scopes, call_of, covers_or_is_refused, has_fault, have_fault, have_names,
+    is_bad_unit, is_named_or_refused, is_refused, scopes_of,
+};
 use dwarf_bytes::{Cause, LoadFault, Object, Section, Span};
-use dwarf_entries::{Range, Root, ScopeKind, Scopes, Sections, Text};
+use dwarf_entries::{Range, Root, Sections, Text};
 use std::alloc::{AllocError, Global};
-use std::process::Abort;
-use std::test::*;
 
 /// These entries and abbreviations; the other sections are empty.
 pub fn sections<'a>(debug_info: &'a [u8], debug_abbrev: &'a [u8]) -> Sections<'a> {
@@ -47,6 +49,18 @@ pub fn unit(alloc: Global, entries: &[u8]) -> Result<Vec<u8>, AllocError> {
     Ok(info)
 }
 
+/// A unit: its type, the offset of its abbreviations, and its entries.
+pub type Unit<'a> = (u8, u8, &'a [u8]);
+
+/// These units, one behind the other.
+pub fn units_of(alloc: Global, units: &[Unit<'_>]) -> Result<Vec<u8>, AllocError> {
+    let mut info = Vec::new(alloc);
+    for (unit_type, abbreviations, entries) in units {
+        add_unit(&mut info, *unit_type, *abbreviations, entries)?;
+    }
+    Ok(info)
+}
+
 /// The attributes of an entry: pairs of a name and a form, and their values.
 pub type Attributes<'a> = (&'a [u8], &'a [u8]);
 
@@ -80,6 +94,30 @@ pub fn one_scope(
     unit(alloc, &entries)
 }
 
+/// A unit with one subprogram, and the declarations of both.
+#[derive(Drop)]
+pub struct OneScope {
+    info: Vec<u8>,
+    table: Vec<u8>,
+}
+
+impl OneScope {
+    pub fn new(
+        alloc: Global,
+        root: Attributes<'_>,
+        scope: Attributes<'_>,
+    ) -> Result<OneScope, AllocError> {
+        let info = one_scope(alloc, root, scope)?;
+        let table = declarations(alloc, root, scope)?;
+        Ok(OneScope { info, table })
+    }
+
+    /// Its entries and abbreviations; the other sections are empty.
+    pub fn sections(&self) -> Sections<'_> {
+        sections(&self.info, &self.table)
+    }
+}
+
 /// A fault of `.debug_info`.
 pub fn fault(cause: Cause, at: u64) -> LoadFault {
     LoadFault {
@@ -106,57 +144,5 @@ pub fn root(offset: usize, first: usize, past: usize) -> Root {
         stmt_list: None,
         first,
         past,
-    }
-}
-
-/// What is expected of a scope; its number is its place.
-#[derive(Clone, Copy, Debug, PartialEq, Eq)]
-pub struct Row {
-    pub kind: ScopeKind,
-    pub offset: usize,
-    pub end: usize,
-    pub range: Option<Range>,
-    pub name: Option<Text>,
-    pub call: Option<(u64, u64)>,
-}
-
-/// Checks that the scopes are these, each of at most one range, without linkage names.
-pub fn are_scopes(rt: &impl Abort, read: &Scopes, stmt_list: Option<u64>, rows: &[Row]) {
-    assert_eq!(rt; read.scopes().len(), rows.len());
-    for (number, (scope, row)) in read.scopes().iter().zip(rows).enumerate() {
-        assert_eq!(rt; scope.number(), number);
-        assert_eq!(rt; scope.kind(), row.kind, "scope {number}");
-        assert_eq!(rt; scope.offset(), row.offset, "scope {number}");
-        assert_eq!(rt; scope.end(), row.end, "scope {number}");
-        assert_eq!(rt; scope.ranges(read), row.range.as_slice(), "scope {number}");
-        assert_eq!(rt; scope.name(), row.name, "scope {number}");
-        assert_eq!(rt; scope.linkage_name(), None, "scope {number}");
-        assert_eq!(rt; scope.stmt_list(read), stmt_list, "scope {number}");
-        assert_eq!(rt;
-            scope.call_file(read),
-            row.call.map(|call| call.0),
-            "scope {number}"
-        );
-        assert_eq!(rt;
-            scope.call_line(read),
-            row.call.map(|call| call.1),
-            "scope {number}"
-        );
-    }
-}
-
-/// Checks that the sections are refused for a fault of `.debug_info`.
-pub fn is_refused(rt: &(impl Abort + AllocGlobal), sections: &Sections<'_>, cause: Cause, at: u64) {
-    assert_eq!(rt;
-        Scopes::read(rt.alloc(), sections).err(),
-        Some(fault(cause, at))
-    );
-}
-
-/// Checks the names of scopes.
-pub fn have_names(rt: &impl Abort, read: &Scopes, names: &[Option<Text>]) {
-    assert_eq!(rt; read.scopes().len(), names.len());
-    for (scope, name) in read.scopes().iter().zip(names) {
-        assert_eq!(rt; scope.name(), *name, "scope {}", scope.number());
     }
 }

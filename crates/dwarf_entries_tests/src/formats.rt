@@ -1,8 +1,8 @@
 //! Units of the 64-bit format, alone and beside those of the 32-bit one.
 
 use crate::fixtures::*;
-use dwarf_bytes::{Cause, Section, Text};
-use dwarf_entries::{Range, Root, ScopeKind, Scopes, Sections};
+use dwarf_bytes::{Cause, LoadFault, Section, Text};
+use dwarf_entries::{Range, Root, ScopeKind, Sections};
 use dwarf_samples::{inlined, unit_of_64_bits};
 use std::alloc::{AllocError, Global};
 use std::process::Abort;
@@ -59,8 +59,8 @@ fn root_of(offset: usize, first: usize, past: usize) -> Root {
 #[test]
 fn a_unit_of_64_bits(rt: HostRuntime) -> Result<(), Fail> {
     let table = sections_of(inlined())?.debug_abbrev;
-    let read = Scopes::read(rt.alloc(), &sections(unit_of_64_bits(), table))?;
-    assert_eq!(rt; read.roots(), [root_of(24, 0, 5)].as_slice());
+    let read = scopes_of(rt.alloc(), &sections(unit_of_64_bits(), table))?;
+    are_equal(&rt, read.roots(), [root_of(24, 0, 5)].as_slice());
     are_scopes(&rt, &read, Some(0), &rows(0, 0, 41, 89));
     Ok(())
 }
@@ -73,9 +73,9 @@ fn units_of_both_formats(rt: HostRuntime) -> Result<(), Fail> {
     info.extend_from_slice(object.debug_info)?;
     info.extend_from_slice(unit_of_64_bits())?;
     info.extend_from_slice(object.debug_info)?;
-    let read = Scopes::read(rt.alloc(), &sections(&info, object.debug_abbrev))?;
+    let read = scopes_of(rt.alloc(), &sections(&info, object.debug_abbrev))?;
     let roots = [root_of(12, 0, 5), root_of(120, 5, 10), root_of(220, 10, 15)];
-    assert_eq!(rt; read.roots(), roots.as_slice());
+    are_equal(&rt, read.roots(), roots.as_slice());
     let mut wanted = Vec::new(rt.alloc());
     wanted.extend_from_slice(&rows(0, 0, 25, 73))?;
     wanted.extend_from_slice(&rows(96, 5, 41, 89))?;
@@ -100,6 +100,13 @@ fn refused_lengths(rt: HostRuntime) -> Result<(), Fail> {
         info[place] = byte;
         is_refused(&rt, &sections(&info, table), cause, 0);
     }
+    Ok(())
+}
+
+/// Units of the 64-bit format that are cut.
+#[test]
+fn cut_units(rt: HostRuntime) -> Result<(), Fail> {
+    let table = sections_of(inlined())?.debug_abbrev;
     // without the last null
     let mut info = *unit_of_64_bits();
     info[4] = 0x63;
@@ -107,12 +114,8 @@ fn refused_lengths(rt: HostRuntime) -> Result<(), Fail> {
     is_refused(&rt, &sections(cut, table), Cause::TreeOpen, 0);
     // the mark of the format with fewer than eight bytes behind it, and a unit that is cut
     for size in 1..24 {
-        is_refused(
-            &rt,
-            &sections(&unit_of_64_bits()[..size], table),
-            Cause::Short,
-            0,
-        );
+        let cut = sections(&unit_of_64_bits()[..size], table);
+        is_refused(&rt, &cut, Cause::Short, 0);
     }
     Ok(())
 }
@@ -137,39 +140,42 @@ const WIDE_OFFSETS: [u8; 32] = [
     0, 0, 0, 0, 0,
 ];
 
-/// A subprogram whose name is an index, in a unit of either format with this base.
-#[test]
-fn names_by_index(rt: HostRuntime) -> Result<(), Fail> {
+/// A table of the same in the 32-bit format, whose base is 16, behind eight bytes.
+const SHORT_OFFSETS: [u8; 24] = [
+    0, 0, 0, 0, 0, 0, 0, 0, 12, 0, 0, 0, 5, 0, 0, 0, 3, 0, 0, 0, 0, 0, 0, 0,
+];
+
+/// Checks the name of a subprogram, which is an index, in a unit of the 64-bit format with this base.
+fn is_indexed(
+    rt: &(impl Abort + AllocGlobal),
+    base: u8,
+    index: u8,
+    debug_str_offsets: &[u8],
+    wanted: Result<Option<Text>, LoadFault>,
+) -> Result<(), AllocError> {
     // str_offsets_base as sec_offset, and name as strx1
     let table = declarations(rt.alloc(), (&[0x72, 0x17], &[]), (&[0x03, 0x25], &[]))?;
-    // a table in the 32-bit format at 8, behind eight bytes
-    let offsets = [
-        0, 0, 0, 0, 0, 0, 0, 0, 12, 0, 0, 0, 5, 0, 0, 0, 3, 0, 0, 0, 0, 0, 0, 0,
-    ];
-    for (base, index, debug_str_offsets, wanted) in [
-        (16, 0, WIDE_OFFSETS.as_slice(), Ok((3, 1))),
-        (16, 1, &WIDE_OFFSETS, Ok((0, 2))),
-        (16, 2, &WIDE_OFFSETS, Err(fault(Cause::Index, 33))),
-        (8, 0, &WIDE_OFFSETS, Err(fault(Cause::Base, 24))),
-        (33, 0, &WIDE_OFFSETS, Err(fault(Cause::Base, 24))),
-        // of the other format
-        (24, 0, &offsets, Err(fault(Cause::Length, 24))),
-    ] {
-        let info = wide_unit(rt.alloc(), &[1, base, 0, 0, 0, 0, 0, 0, 0, 2, index, 0])?;
-        let all = Sections {
-            debug_str: &TEXTS,
-            debug_str_offsets,
-            ..sections(&info, &table)
-        };
-        match Scopes::read(rt.alloc(), &all) {
-            Ok(read) => {
-                let (place, len) = wanted?;
-                let scope = read.scopes().first().ok_or("no scope")?;
-                assert_eq!(rt; scope.name(), text(Section::DebugStr, place, len));
-            }
-            Err(told) => assert_eq!(rt; Some(told), wanted.err()),
-        }
-    }
+    let info = wide_unit(rt.alloc(), &[1, base, 0, 0, 0, 0, 0, 0, 0, 2, index, 0])?;
+    let all = Sections {
+        debug_str: &TEXTS,
+        debug_str_offsets,
+        ..sections(&info, &table)
+    };
+    is_named_or_refused(rt, &all, wanted);
+    Ok(())
+}
+
+#[test]
+fn names_by_index(rt: HostRuntime) -> Result<(), Fail> {
+    let c = text(Section::DebugStr, 3, 1);
+    let ab = text(Section::DebugStr, 0, 2);
+    is_indexed(&rt, 16, 0, &WIDE_OFFSETS, Ok(c))?;
+    is_indexed(&rt, 16, 1, &WIDE_OFFSETS, Ok(ab))?;
+    is_indexed(&rt, 16, 2, &WIDE_OFFSETS, Err(fault(Cause::Index, 33)))?;
+    is_indexed(&rt, 8, 0, &WIDE_OFFSETS, Err(fault(Cause::Base, 24)))?;
+    is_indexed(&rt, 33, 0, &WIDE_OFFSETS, Err(fault(Cause::Base, 24)))?;
+    // of the other format
+    is_indexed(&rt, 24, 0, &SHORT_OFFSETS, Err(fault(Cause::Length, 24)))?;
     Ok(())
 }
 
@@ -185,13 +191,6 @@ fn tables_of_the_other_format(rt: HostRuntime) -> Result<(), Fail> {
         };
         is_refused(&rt, &all, cause, 12);
     }
-    Ok(())
-}
-
-/// Checks what the only scope covers.
-fn covers(rt: &impl Abort, read: &Scopes, from: u64, to: u64) -> Result<(), Fail> {
-    let scope = read.scopes().first().ok_or("no scope")?;
-    assert_eq!(rt; scope.ranges(read), [range(from, to)].as_slice());
     Ok(())
 }
 
@@ -218,32 +217,31 @@ fn entries_by_index(addr_base: u8, rnglists_base: u8, index: u8) -> [u8; 20] {
     entries
 }
 
-/// Addresses and a range list by index, of tables in the 64-bit format.
-#[test]
-fn addresses_and_lists_by_index(rt: HostRuntime) -> Result<(), Fail> {
+/// Checks what a scope covers by tables in the 64-bit format, of these bases and an index of a list.
+fn is_list(
+    rt: &(impl Abort + AllocGlobal),
+    bases: (u8, u8),
+    index: u8,
+    wanted: Result<&[Range], LoadFault>,
+) -> Result<(), AllocError> {
     // addr_base and rnglists_base as sec_offset, and ranges as rnglistx
     let root: Attributes<'_> = (&[0x73, 0x17, 0x74, 0x17], &[]);
     let table = declarations(rt.alloc(), root, (&[0x55, 0x23], &[]))?;
-    for (addr_base, rnglists_base, index, wanted) in [
-        (16, 20, 0, None),
-        (16, 20, 1, Some(fault(Cause::Index, 41))),
-        (8, 20, 0, Some(fault(Cause::Base, 24))),
-        (16, 16, 0, Some(fault(Cause::Base, 24))),
-    ] {
-        let entries = entries_by_index(addr_base, rnglists_base, index);
-        let info = wide_unit(rt.alloc(), &entries)?;
-        let all = Sections {
-            debug_addr: &ADDRESSES,
-            debug_rnglists: &LISTS,
-            ..sections(&info, &table)
-        };
-        match Scopes::read(rt.alloc(), &all) {
-            Ok(read) => {
-                assert_eq!(rt; wanted, None);
-                covers(&rt, &read, 0x1000, 0x2000)?;
-            }
-            Err(told) => assert_eq!(rt; Some(told), wanted),
-        }
-    }
+    let info = wide_unit(rt.alloc(), &entries_by_index(bases.0, bases.1, index))?;
+    let all = Sections {
+        debug_addr: &ADDRESSES,
+        debug_rnglists: &LISTS,
+        ..sections(&info, &table)
+    };
+    covers_or_is_refused(rt, &all, wanted);
+    Ok(())
+}
+
+#[test]
+fn addresses_and_lists_by_index(rt: HostRuntime) -> Result<(), Fail> {
+    is_list(&rt, (16, 20), 0, Ok(&[range(0x1000, 0x2000)]))?;
+    is_list(&rt, (16, 20), 1, Err(fault(Cause::Index, 41)))?;
+    is_list(&rt, (8, 20), 0, Err(fault(Cause::Base, 24)))?;
+    is_list(&rt, (16, 16), 0, Err(fault(Cause::Base, 24)))?;
     Ok(())
 }

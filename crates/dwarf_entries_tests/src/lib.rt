@@ -8,13 +8,19 @@ mod attributes;
 #[cfg(test)]
 mod bases;
 #[cfg(test)]
+mod checks;
+#[cfg(test)]
 mod codes;
+#[cfg(test)]
+mod cuts;
 #[cfg(test)]
 mod dropped;
 #[cfg(test)]
 mod fixtures;
 #[cfg(test)]
 mod formats;
+#[cfg(test)]
+mod headers;
 #[cfg(test)]
 mod limits;
 #[cfg(test)]

@@ -2,7 +2,7 @@
 
 use crate::fixtures::*;
 use dwarf_bytes::{Cause, LoadFault, Section};
-use dwarf_entries::{Scopes, Sections};
+use dwarf_entries::Sections;
 use std::alloc::{AllocError, Global};
 use std::process::Abort;
 use std::test::*;
@@ -43,16 +43,15 @@ fn units(alloc: Global, count: usize, abbreviations: u8, code: u8) -> Result<Vec
 fn declarations_of_an_object(rt: HostRuntime) -> Result<(), Fail> {
     let table = subprograms(rt.alloc(), 65_536)?;
     let info = units(rt.alloc(), 64, 1, 1)?;
-    let read = Scopes::read(rt.alloc(), &sections(&info, &table))?;
-    assert_eq!(rt; read.scopes().len(), 64);
+    let read = scopes_of(rt.alloc(), &sections(&info, &table))?;
+    are_equal(&rt, read.scopes().len(), 64);
     let info = units(rt.alloc(), 65, 1, 1)?;
     let fault = LoadFault {
         section: Section::DebugAbbrev,
         cause: Cause::TooMany,
         at: 1,
     };
-    let read = Scopes::read(rt.alloc(), &sections(&info, &table));
-    assert_eq!(rt; read.err(), Some(fault));
+    has_fault(&rt, &sections(&info, &table), Some(fault));
     Ok(())
 }
 
@@ -107,8 +106,7 @@ fn range_items_of_an_object(rt: HostRuntime) -> Result<(), Fail> {
             debug_rnglists: &lists,
             ..sections(&info, &table)
         };
-        let read = Scopes::read(rt.alloc(), &all);
-        assert_eq!(rt; read.err(), cause.map(|cause| fault(cause, 341)));
+        has_fault(&rt, &all, cause.map(|cause| fault(cause, 341)));
     }
     Ok(())
 }
@@ -136,11 +134,11 @@ fn entries_of_many_flags(rt: HostRuntime) -> Result<(), Fail> {
     }
     entries.push(0)?;
     let info = unit(rt.alloc(), &entries)?;
-    let read = Scopes::read(rt.alloc(), &sections(&info, &table))?;
-    assert_eq!(rt; read.roots(), [root(12, 0, 100_000)].as_slice());
-    assert_eq!(rt; read.scopes().len(), 100_000);
+    let read = scopes_of(rt.alloc(), &sections(&info, &table))?;
+    are_equal(&rt, read.roots(), [root(12, 0, 100_000)].as_slice());
+    are_equal(&rt, read.scopes().len(), 100_000);
     for (number, scope) in read.scopes().iter().enumerate() {
-        assert_eq!(rt; Some(scope.offset()), number.checked_add(13));
+        are_equal(&rt, Some(scope.offset()), number.checked_add(13));
     }
     Ok(())
 }
@@ -153,13 +151,13 @@ fn are_units(
     count: usize,
     entry_len: usize,
 ) -> Result<(), Fail> {
-    let read = Scopes::read(rt.alloc(), &sections(info, table))?;
-    assert_eq!(rt; read.scopes().len(), count);
-    assert_eq!(rt; read.roots().len(), count);
+    let read = scopes_of(rt.alloc(), &sections(info, table))?;
+    are_equal(rt, read.scopes().len(), count);
+    are_equal(rt, read.roots().len(), count);
     let unit_len = entry_len.saturating_add(12);
     for (number, unit) in read.roots().iter().enumerate() {
         let offset = number.saturating_mul(unit_len).saturating_add(12);
-        assert_eq!(rt; *unit, root(offset, number, number.saturating_add(1)));
+        are_equal(rt, *unit, root(offset, number, number.saturating_add(1)));
     }
     Ok(())
 }
@@ -231,8 +229,7 @@ fn declarations_of_two_tables(rt: HostRuntime) -> Result<(), Fail> {
         cause: Cause::TooMany,
         at: other as u64,
     };
-    let read = Scopes::read(rt.alloc(), &sections(&info, &tables));
-    assert_eq!(rt; read.err(), Some(fault));
+    has_fault(&rt, &sections(&info, &tables), Some(fault));
     Ok(())
 }
 

@@ -1,8 +1,10 @@
 //! Names, and the paths along which they are looked for.
 
 use crate::fixtures::*;
-use dwarf_bytes::{Cause, Section};
-use dwarf_entries::{Scopes, Sections, Text};
+use dwarf_bytes::{Cause, LoadFault, Section};
+use dwarf_entries::{Scope, Scopes, Sections, Text};
+use std::alloc::AllocError;
+use std::process::Abort;
 use std::test::*;
 
 /// `ab` at 0, `c` at 3.
@@ -12,44 +14,45 @@ const TEXTS: [u8; 5] = [0x61, 0x62, 0, 0x63, 0];
 const OFFSETS: [u8; 16] = [12, 0, 0, 0, 5, 0, 0, 0, 3, 0, 0, 0, 0, 0, 0, 0];
 
 /// The texts and their offsets, beside these entries.
-fn with_texts<'a>(info: &'a [u8], table: &'a [u8]) -> Sections<'a> {
+fn with_texts(sections: Sections<'_>) -> Sections<'_> {
     Sections {
         debug_str: &TEXTS,
         debug_str_offsets: &OFFSETS,
         debug_line_str: &[0x78, 0, 0x79, 0x7a, 0, 0x78],
-        ..sections(info, table)
+        ..sections
     }
 }
 
-/// A subprogram at 17 whose name is an index, in a unit with this base.
+/// Checks the name of a subprogram at 17, which is an index, in a unit with this base.
+fn is_indexed(
+    rt: &(impl Abort + AllocGlobal),
+    base: u8,
+    index: u8,
+    wanted: Result<Option<Text>, LoadFault>,
+) -> Result<(), AllocError> {
+    // str_offsets_base, and name as strx1
+    let base = [base, 0, 0, 0];
+    let index = [index];
+    let object = OneScope::new(rt.alloc(), (&[0x72, 0x17], &base), (&[0x03, 0x25], &index))?;
+    is_named_or_refused(rt, &with_texts(object.sections()), wanted);
+    Ok(())
+}
+
 #[test]
 fn names_by_index(rt: HostRuntime) -> Result<(), Fail> {
-    let c = text(Section::DebugStr, 3, 1);
-    let ab = text(Section::DebugStr, 0, 2);
-    for (base, index, wanted) in [
-        (8, 0, Ok(c)),
-        (8, 1, Ok(ab)),
-        (8, 2, Err(fault(Cause::Index, 17))),
-        (7, 0, Err(fault(Cause::Base, 12))),
-        (16, 0, Err(fault(Cause::Short, 12))),
-        (17, 0, Err(fault(Cause::Base, 12))),
-    ] {
-        // str_offsets_base, and name as strx1
-        let base = [base, 0, 0, 0];
-        let index = [index];
-        let root: Attributes<'_> = (&[0x72, 0x17], &base);
-        let scope: Attributes<'_> = (&[0x03, 0x25], &index);
-        let table = declarations(rt.alloc(), root, scope)?;
-        let info = one_scope(rt.alloc(), root, scope)?;
-        match Scopes::read(rt.alloc(), &with_texts(&info, &table)) {
-            Ok(read) => have_names(&rt, &read, &[wanted?]),
-            Err(told) => assert_eq!(rt; Some(told), wanted.err()),
-        }
-    }
-    let scope: Attributes<'_> = (&[0x03, 0x25], &[0]);
-    let table = declarations(rt.alloc(), (&[], &[]), scope)?;
-    let info = one_scope(rt.alloc(), (&[], &[]), scope)?;
-    is_refused(&rt, &with_texts(&info, &table), Cause::Base, 13);
+    is_indexed(&rt, 8, 0, Ok(text(Section::DebugStr, 3, 1)))?;
+    is_indexed(&rt, 8, 1, Ok(text(Section::DebugStr, 0, 2)))?;
+    is_indexed(&rt, 8, 2, Err(fault(Cause::Index, 17)))?;
+    is_indexed(&rt, 7, 0, Err(fault(Cause::Base, 12)))?;
+    is_indexed(&rt, 16, 0, Err(fault(Cause::Short, 12)))?;
+    is_indexed(&rt, 17, 0, Err(fault(Cause::Base, 12)))?;
+    Ok(())
+}
+
+#[test]
+fn a_name_by_index_without_a_base(rt: HostRuntime) -> Result<(), Fail> {
+    let object = OneScope::new(rt.alloc(), (&[], &[]), (&[0x03, 0x25], &[0]))?;
+    is_refused(&rt, &with_texts(object.sections()), Cause::Base, 13);
     Ok(())
 }
 
@@ -80,16 +83,12 @@ fn forms_of_names(rt: HostRuntime) -> Result<(), Fail> {
     for (form, values, wanted) in names {
         let declared = [0x03, form];
         let root: Attributes<'_> = (&[0x72, 0x17], &[8, 0, 0, 0]);
-        let scope = (declared.as_slice(), values);
-        let table = declarations(rt.alloc(), root, scope)?;
-        let info = one_scope(rt.alloc(), root, scope)?;
-        match Scopes::read(rt.alloc(), &with_texts(&info, &table)) {
-            Ok(read) => have_names(&rt, &read, &[wanted]),
-            Err(told) => {
-                assert_eq!(rt; wanted, None);
-                assert_eq!(rt; told, fault(Cause::Text, 17));
-            }
-        }
+        let object = OneScope::new(rt.alloc(), root, (&declared, values))?;
+        let wanted = match wanted {
+            Some(_) => Ok(wanted),
+            None => Err(fault(Cause::Text, 17)),
+        };
+        is_named_or_refused(&rt, &with_texts(object.sections()), wanted);
     }
     Ok(())
 }
@@ -104,13 +103,15 @@ fn names_of_another_unit(rt: HostRuntime) -> Result<(), Fail> {
         4, 0x11, 1, 0, 0, // unit
         0,
     ];
-    let mut info = Vec::new(rt.alloc());
-    // the name of index 0 at 17, and the origin 42 at 19
-    add_unit(&mut info, 1, 0, &[1, 8, 0, 0, 0, 2, 0, 3, 42, 0, 0, 0, 0])?;
-    // the name of index 0 at 42, and the origin 17 at 44
-    add_unit(&mut info, 1, 0, &[1, 24, 0, 0, 0, 2, 0, 3, 17, 0, 0, 0, 0])?;
-    // the origin 17 at 63, in a unit without a base
-    add_unit(&mut info, 1, 0, &[4, 3, 17, 0, 0, 0, 0])?;
+    let units: [Unit<'_>; 3] = [
+        // the name of index 0 at 17, and the origin 42 at 19
+        (1, 0, &[1, 8, 0, 0, 0, 2, 0, 3, 42, 0, 0, 0, 0]),
+        // the name of index 0 at 42, and the origin 17 at 44
+        (1, 0, &[1, 24, 0, 0, 0, 2, 0, 3, 17, 0, 0, 0, 0]),
+        // the origin 17 at 63, in a unit without a base
+        (1, 0, &[4, 3, 17, 0, 0, 0, 0]),
+    ];
+    let info = units_of(rt.alloc(), &units)?;
     // a table of the offsets 3 and 0 at base 8, and one of the offset 0 at base 24
     let offsets = [
         12, 0, 0, 0, 5, 0, 0, 0, 3, 0, 0, 0, 0, 0, 0, 0, 8, 0, 0, 0, 5, 0, 0, 0, 0, 0, 0, 0,
@@ -120,10 +121,11 @@ fn names_of_another_unit(rt: HostRuntime) -> Result<(), Fail> {
         debug_str_offsets: &offsets,
         ..sections(&info, &table)
     };
-    let read = Scopes::read(rt.alloc(), &all)?;
-    assert_eq!(rt;
+    let read = scopes_of(rt.alloc(), &all)?;
+    are_equal(
+        &rt,
         read.roots(),
-        [root(12, 0, 2), root(37, 2, 4), root(62, 4, 5)].as_slice()
+        [root(12, 0, 2), root(37, 2, 4), root(62, 4, 5)].as_slice(),
     );
     let c = text(Section::DebugStr, 3, 1);
     let ab = text(Section::DebugStr, 0, 2);
@@ -161,11 +163,27 @@ const NAMED_ENTRIES: [u8; 35] = [
     0,
 ];
 
+/// A text of `.debug_info`.
+fn at(place: usize, len: usize) -> Option<Text> {
+    text(Section::DebugInfo, place, len)
+}
+
+/// Checks the name and the linkage name of each scope.
+fn have_both(rt: &impl Abort, read: &Scopes, names: &[(Option<Text>, Option<Text>)]) {
+    are_equal(rt, read.scopes().len(), names.len());
+    for (number, (scope, wanted)) in read.scopes().iter().zip(names).enumerate() {
+        are_equal(rt, (number, both_of(scope)), (number, *wanted));
+    }
+}
+
+fn both_of(scope: &Scope) -> (Option<Text>, Option<Text>) {
+    (scope.name(), scope.linkage_name())
+}
+
 #[test]
 fn first_names_on_a_path(rt: HostRuntime) -> Result<(), Fail> {
     let info = unit(rt.alloc(), &NAMED_ENTRIES)?;
-    let read = Scopes::read(rt.alloc(), &sections(&info, &NAMED))?;
-    let at = |place, len| text(Section::DebugInfo, place, len);
+    let read = scopes_of(rt.alloc(), &sections(&info, &NAMED))?;
     let names = [
         (at(18, 1), at(15, 1)),
         (at(18, 1), at(20, 1)),
@@ -175,46 +193,45 @@ fn first_names_on_a_path(rt: HostRuntime) -> Result<(), Fail> {
         (at(32, 0), at(33, 1)),
         (None, None),
     ];
-    assert_eq!(rt; read.scopes().len(), names.len());
-    for (scope, wanted) in read.scopes().iter().zip(names) {
-        assert_eq!(rt;
-            (scope.name(), scope.linkage_name()),
-            wanted,
-            "scope {}",
-            scope.number()
-        );
-    }
+    have_both(&rt, &read, &names);
     Ok(())
 }
 
 /// A path may lead out of the scopes, and into them again.
 #[test]
 fn paths_out_of_the_scopes(rt: HostRuntime) -> Result<(), Fail> {
-    let table = [
-        1, 0x11, 1, 0, 0, // unit
-        2, 0x2e, 0, 0x47, 0x11, 0x6e, 0x08, 0, 0, // subprogram: specification, linkage_name
-        3, 0x2e, 0, 0x31, 0x11, 0, 0, // subprogram: abstract_origin
-        4, 0x34, 0, 0x47, 0x11, 0, 0, // variable: specification
-        5, 0x34, 0, 0x03, 0x08, 0, 0, // variable: name
-        0,
-    ];
-    let mut entries = [
-        1, // 12
-        2, 21, 0x4c, 0, // 13: specification 21, linkage_name L
-        3, 19, // 17: origin 19
-        4, 13, // 19: specification 13
-        5, 0x76, 0, // 21: name v
-        0,
-    ];
-    let info = unit(rt.alloc(), &entries)?;
-    let read = Scopes::read(rt.alloc(), &sections(&info, &table))?;
-    assert_eq!(rt; read.scopes().len(), 2);
-    for scope in read.scopes() {
-        assert_eq!(rt; scope.name(), text(Section::DebugInfo, 22, 1));
-        assert_eq!(rt; scope.linkage_name(), text(Section::DebugInfo, 15, 1));
-    }
-    entries[8] = 14; // 19: specification 14, where no entry stands
-    let info = unit(rt.alloc(), &entries)?;
-    is_refused(&rt, &sections(&info, &table), Cause::Reference, 17);
+    let info = unit(rt.alloc(), &PATHS)?;
+    let read = scopes_of(rt.alloc(), &sections(&info, &OUTSIDE))?;
+    let both = (at(22, 1), at(15, 1));
+    have_both(&rt, &read, &[both, both]);
     Ok(())
 }
+
+/// The variable at 19 names 14, where no entry stands.
+#[test]
+fn a_path_to_no_entry(rt: HostRuntime) -> Result<(), Fail> {
+    let mut entries = PATHS;
+    entries[8] = 14;
+    is_bad_unit(&rt, &entries, &OUTSIDE, Cause::Reference, 17)?;
+    Ok(())
+}
+
+/// The declarations of subprograms and variables with names and references.
+const OUTSIDE: [u8; 36] = [
+    1, 0x11, 1, 0, 0, // unit
+    2, 0x2e, 0, 0x47, 0x11, 0x6e, 0x08, 0, 0, // subprogram: specification, linkage_name
+    3, 0x2e, 0, 0x31, 0x11, 0, 0, // subprogram: abstract_origin
+    4, 0x34, 0, 0x47, 0x11, 0, 0, // variable: specification
+    5, 0x34, 0, 0x03, 0x08, 0, 0, // variable: name
+    0,
+];
+
+/// A unit of them, by the place of each in the section.
+const PATHS: [u8; 13] = [
+    1, // 12
+    2, 21, 0x4c, 0, // 13: specification 21, linkage_name L
+    3, 19, // 17: origin 19
+    4, 13, // 19: specification 13
+    5, 0x76, 0, // 21: name v
+    0,
+];

@@ -1,7 +1,7 @@
 //! Pairs of addresses.
 
 use crate::fixtures::*;
-use crate::ranges::{ADDRESSES, covers};
+use crate::ranges::ADDRESSES;
 use dwarf_bytes::Cause;
 use dwarf_entries::{Range, Scopes, Sections};
 use std::process::Abort;
@@ -28,18 +28,14 @@ fn pair(
     both.extend_from_slice(values[0])?;
     both.extend_from_slice(values[1])?;
     let scope = (declared, both.as_slice());
-    let table = declarations(rt.alloc(), root, scope)?;
-    let info = one_scope(rt.alloc(), root, scope)?;
+    let object = OneScope::new(rt.alloc(), root, scope)?;
     let all = Sections {
         debug_addr: &ADDRESSES,
-        ..sections(&info, &table)
+        ..object.sections()
     };
-    match Scopes::read(rt.alloc(), &all) {
-        Ok(read) => {
-            assert!(rt; wanted.is_ok());
-            covers(rt, &read, wanted.ok().unwrap_or(None).as_slice());
-        }
-        Err(told) => assert_eq!(rt; Some(told), wanted.err().map(|cause| fault(cause, 17))),
+    match &wanted {
+        Ok(range) => covers_or_is_refused(rt, &all, Ok(range.as_slice())),
+        Err(cause) => is_refused(rt, &all, *cause, 17),
     }
     Ok(())
 }

@@ -2,7 +2,6 @@
 
 use crate::fixtures::*;
 use dwarf_bytes::{Cause, LoadFault, Section};
-use dwarf_entries::Scopes;
 use std::test::*;
 
 /// The declarations of the units below, and at 38 a table whose declaration is bad.
@@ -28,7 +27,16 @@ struct Bad<'a> {
     at: u64,
 }
 
-impl Bad<'_> {
+impl<'a> Bad<'a> {
+    fn unit(self) -> Unit<'a> {
+        (self.unit_type, self.abbreviations, self.entries)
+    }
+
+    /// The bytes of the unit.
+    fn len(self) -> u64 {
+        (self.entries.len() as u64).saturating_add(12)
+    }
+
     /// The fault of the unit, where it starts at this offset.
     fn fault(self, start: u64) -> LoadFault {
         if self.cause == Cause::Children {
@@ -87,27 +95,13 @@ const FAULTS: [Bad<'static>; 5] = [
 fn faults_of_two_units(rt: HostRuntime) -> Result<(), Fail> {
     for (pass, first) in FAULTS.iter().enumerate() {
         for (second_pass, second) in FAULTS.iter().enumerate() {
-            let mut info = Vec::new(rt.alloc());
-            add_unit(
-                &mut info,
-                first.unit_type,
-                first.abbreviations,
-                first.entries,
-            )?;
-            let start = info.len() as u64;
-            add_unit(
-                &mut info,
-                second.unit_type,
-                second.abbreviations,
-                second.entries,
-            )?;
+            let start = first.len();
             let wanted = if pass <= second_pass {
                 first.fault(0)
             } else {
                 second.fault(start)
             };
-            let read = Scopes::read(rt.alloc(), &sections(&info, &TABLES));
-            assert_eq!(rt; read.err(), Some(wanted), "{pass} before {second_pass}");
+            have_fault(&rt, &[first.unit(), second.unit()], &TABLES, Some(wanted))?;
         }
     }
     Ok(())
@@ -116,16 +110,10 @@ fn faults_of_two_units(rt: HostRuntime) -> Result<(), Fail> {
 /// A good unit before a bad one or behind it does not help.
 #[test]
 fn one_bad_unit_refuses_all(rt: HostRuntime) -> Result<(), Fail> {
+    let good: Unit<'_> = (1, 0, &[5, 6, 0]);
     for bad in FAULTS {
-        let mut before = unit(rt.alloc(), &[5, 6, 0])?;
-        add_unit(&mut before, bad.unit_type, bad.abbreviations, bad.entries)?;
-        let read = Scopes::read(rt.alloc(), &sections(&before, &TABLES));
-        assert_eq!(rt; read.err(), Some(bad.fault(15)));
-        let mut behind = Vec::new(rt.alloc());
-        add_unit(&mut behind, bad.unit_type, bad.abbreviations, bad.entries)?;
-        add_unit(&mut behind, 1, 0, &[5, 6, 0])?;
-        let read = Scopes::read(rt.alloc(), &sections(&behind, &TABLES));
-        assert_eq!(rt; read.err(), Some(bad.fault(0)));
+        have_fault(&rt, &[good, bad.unit()], &TABLES, Some(bad.fault(15)))?;
+        have_fault(&rt, &[bad.unit(), good], &TABLES, Some(bad.fault(0)))?;
     }
     Ok(())
 }
@@ -134,31 +122,33 @@ fn one_bad_unit_refuses_all(rt: HostRuntime) -> Result<(), Fail> {
 /// names of the next.
 #[test]
 fn faults_of_two_scopes(rt: HostRuntime) -> Result<(), Fail> {
-    let info = unit(rt.alloc(), &[5, 4, 1, 3, 0, 0, 0, 0, 0])?;
-    is_refused(&rt, &sections(&info, &TABLES), Cause::PcAndRanges, 13);
-    let info = unit(rt.alloc(), &[5, 3, 0, 0, 0, 0, 4, 1, 0])?;
-    is_refused(&rt, &sections(&info, &TABLES), Cause::Reference, 13);
+    let first = [5, 4, 1, 3, 0, 0, 0, 0, 0];
+    is_bad_unit(&rt, &first, &TABLES, Cause::PcAndRanges, 13)?;
+    let second = [5, 3, 0, 0, 0, 0, 4, 1, 0];
+    is_bad_unit(&rt, &second, &TABLES, Cause::Reference, 13)?;
     Ok(())
 }
 
 /// A unit without entries has its abbreviations judged, and no code of an empty table is found.
 #[test]
 fn tables_of_each_unit(rt: HostRuntime) -> Result<(), Fail> {
-    let mut info = Vec::new(rt.alloc());
-    add_unit(&mut info, 1, 37, &[])?;
-    let read = Scopes::read(rt.alloc(), &sections(&info, &TABLES))?;
-    assert!(rt; read.roots().is_empty());
-    let mut info = Vec::new(rt.alloc());
-    add_unit(&mut info, 1, 38, &[])?;
-    let fault = LoadFault {
+    have_fault(&rt, &[(1, 37, &[])], &TABLES, None)?;
+    let fault_of_table = LoadFault {
         section: Section::DebugAbbrev,
         cause: Cause::Children,
         at: 38,
     };
-    let read = Scopes::read(rt.alloc(), &sections(&info, &TABLES));
-    assert_eq!(rt; read.err(), Some(fault));
-    let mut info = Vec::new(rt.alloc());
-    add_unit(&mut info, 1, 37, &[1])?;
-    is_refused(&rt, &sections(&info, &TABLES), Cause::AbbrevCode, 12);
+    have_fault(&rt, &[(1, 38, &[])], &TABLES, Some(fault_of_table))?;
+    let no_code = Some(fault(Cause::AbbrevCode, 12));
+    have_fault(&rt, &[(1, 37, &[1])], &TABLES, no_code)?;
+    Ok(())
+}
+
+/// A unit without entries has no root.
+#[test]
+fn no_entries(rt: HostRuntime) -> Result<(), Fail> {
+    let info = units_of(rt.alloc(), &[(1, 37, &[])])?;
+    let read = scopes_of(rt.alloc(), &sections(&info, &TABLES))?;
+    are_equal(&rt, read.roots().is_empty(), true);
     Ok(())
 }

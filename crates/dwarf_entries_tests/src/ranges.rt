@@ -2,7 +2,7 @@
 
 use crate::fixtures::*;
 use dwarf_bytes::Cause;
-use dwarf_entries::{Range, Scopes, Sections};
+use dwarf_entries::{Range, Scope, Scopes, Sections};
 use std::process::Abort;
 use std::test::*;
 
@@ -21,14 +21,6 @@ pub const ADDRESSES: [u8; 24] = [
     20, 0, 0, 0, 5, 0, 8, 0, 0, 0x10, 0, 0, 0, 0, 0, 0, 0, 0x20, 0, 0, 0, 0, 0, 0,
 ];
 
-/// Checks the ranges of the only scope.
-pub fn covers(rt: &impl Abort, read: &Scopes, ranges: &[Range]) {
-    assert_eq!(rt; read.scopes().len(), 1);
-    for scope in read.scopes() {
-        assert_eq!(rt; scope.ranges(read), ranges);
-    }
-}
-
 #[test]
 fn a_list_of_two_scopes(rt: HostRuntime) -> Result<(), Fail> {
     // low_pc as addr, and ranges as sec_offset
@@ -44,27 +36,31 @@ fn a_list_of_two_scopes(rt: HostRuntime) -> Result<(), Fail> {
         debug_rnglists: &LIST,
         ..sections(&info, &table)
     };
-    let read = Scopes::read(rt.alloc(), &all)?;
+    let read = scopes_of(rt.alloc(), &all)?;
     let ranges = [
         range(0x1000, 0x1008),
         range(0x2001, 0x2003),
         range(0x3000, 0x3005),
     ];
-    assert_eq!(rt; read.scopes().len(), 2);
+    are_equal(&rt, read.scopes().len(), 2);
     for scope in read.scopes() {
-        assert_eq!(rt; scope.ranges(&read), ranges.as_slice());
+        cover(&rt, &read, scope, &ranges);
     }
     Ok(())
+}
+
+/// Checks the ranges of a scope.
+fn cover(rt: &impl Abort, read: &Scopes, scope: &Scope, ranges: &[Range]) {
+    are_equal(rt, scope.ranges(read), ranges);
 }
 
 #[test]
 fn a_list_without_a_base(rt: HostRuntime) -> Result<(), Fail> {
     let scope: Attributes<'_> = (&[0x55, 0x17], &[0, 0, 0, 0]);
-    let table = declarations(rt.alloc(), (&[], &[]), scope)?;
-    let info = one_scope(rt.alloc(), (&[], &[]), scope)?;
+    let object = OneScope::new(rt.alloc(), (&[], &[]), scope)?;
     let all = Sections {
         debug_rnglists: &LIST,
-        ..sections(&info, &table)
+        ..object.sections()
     };
     is_refused(&rt, &all, Cause::Base, 13);
     Ok(())
@@ -77,23 +73,15 @@ fn are_lists(
     lists: &[(&[u8], Option<Cause>)],
 ) -> Result<(), Fail> {
     let scope: Attributes<'_> = (&[0x55, 0x17], &[0, 0, 0, 0]);
-    let table = declarations(rt.alloc(), (&[], &[]), scope)?;
-    let info = one_scope(rt.alloc(), (&[], &[]), scope)?;
-    for (number, (list, cause)) in lists.iter().enumerate() {
+    let object = OneScope::new(rt.alloc(), (&[], &[]), scope)?;
+    for (list, cause) in lists {
         let all = Sections {
             debug_rnglists: list,
-            ..sections(&info, &table)
+            ..object.sections()
         };
-        match Scopes::read(rt.alloc(), &all) {
-            Ok(read) => {
-                assert_eq!(rt; *cause, None, "list {number}");
-                covers(rt, &read, &[]);
-            }
-            Err(told) => assert_eq!(rt;
-                Some(told),
-                cause.map(|cause| fault(cause, 13)),
-                "list {number}"
-            ),
+        match cause {
+            None => covers_or_is_refused(rt, &all, Ok(&[])),
+            Some(cause) => is_refused(rt, &all, *cause, 13),
         }
     }
     Ok(())

@@ -2,9 +2,10 @@
 
 use crate::fixtures::*;
 use dwarf_bytes::{Cause, Section};
-use dwarf_entries::{Scopes, Text};
+use dwarf_entries::Text;
 use dwarf_samples::inlined;
 use std::alloc::{AllocError, Global};
+use std::process::Abort;
 use std::test::*;
 
 /// Subprograms from 13 on, of which each but the last names the next, by so many hops, and the last
@@ -21,41 +22,49 @@ fn linked(alloc: Global, hops: u8) -> Result<Vec<u8>, AllocError> {
     unit(alloc, &entries)
 }
 
+/// A unit, a subprogram whose abstract_origin is ref4, and one with a name.
+const LINKED: [u8; 20] = [
+    1, 0x11, 1, 0, 0, // unit
+    2, 0x2e, 0, 0x31, 0x13, 0, 0, // subprogram: abstract_origin as ref4
+    3, 0x2e, 0, 0x03, 0x08, 0, 0, // subprogram: name as string
+    0,
+];
+
 #[test]
 fn linked_subprograms(rt: HostRuntime) -> Result<(), Fail> {
-    let table = [
-        1, 0x11, 1, 0, 0, // unit
-        2, 0x2e, 0, 0x31, 0x13, 0, 0, // subprogram: abstract_origin as ref4
-        3, 0x2e, 0, 0x03, 0x08, 0, 0, // subprogram: name as string
-        0,
-    ];
     let info = linked(rt.alloc(), 16)?;
-    let read = Scopes::read(rt.alloc(), &sections(&info, &table))?;
-    assert_eq!(rt; read.scopes().len(), 17);
-    for scope in read.scopes() {
-        assert_eq!(rt; scope.name(), text(Section::DebugInfo, 94, 1));
-    }
+    let read = scopes_of(rt.alloc(), &sections(&info, &LINKED))?;
+    have_names(&rt, &read, &[text(Section::DebugInfo, 94, 1); 17]);
+    Ok(())
+}
+
+#[test]
+fn one_hop_too_many(rt: HostRuntime) -> Result<(), Fail> {
     let info = linked(rt.alloc(), 17)?;
-    is_refused(&rt, &sections(&info, &table), Cause::OriginDepth, 13);
-    // of a bad reference behind the last hop nothing is told
+    is_refused(&rt, &sections(&info, &LINKED), Cause::OriginDepth, 13);
+    Ok(())
+}
+
+/// Of a bad reference behind the last hop nothing is told.
+#[test]
+fn a_bad_reference_behind_the_last_hop(rt: HostRuntime) -> Result<(), Fail> {
     let mut info = linked(rt.alloc(), 17)?;
-    assert_eq!(rt; info.len(), 102);
-    assert_eq!(rt; info[94], 98);
-    info[94] = 0;
-    is_refused(&rt, &sections(&info, &table), Cause::OriginDepth, 13);
+    are_equal(&rt, (info.len(), info.get(94)), (102, Some(&98)));
+    if let Some(byte) = info.get_mut(94) {
+        *byte = 0;
+    }
+    is_refused(&rt, &sections(&info, &LINKED), Cause::OriginDepth, 13);
     Ok(())
 }
 
 /// Two units whose roots are named `q`, at 12, and `r`, at 28. The abstract origin of the subprogram
 /// at 31 is this value.
 fn referring(alloc: Global, value: &[u8]) -> Result<Vec<u8>, AllocError> {
-    let mut info = unit(alloc, &[1, 0x71, 0, 0])?;
     let mut entries = Vec::new(alloc);
     entries.extend_from_slice(&[1, 0x72, 0, 2])?;
     entries.extend_from_slice(value)?;
     entries.push(0)?;
-    add_unit(&mut info, 1, 0, &entries)?;
-    Ok(info)
+    units_of(alloc, &[(1, 0, &[1, 0x71, 0, 0]), (1, 0, &entries)])
 }
 
 #[test]
@@ -77,12 +86,22 @@ fn forms_of_references(rt: HostRuntime) -> Result<(), Fail> {
         (0x16, &[0x11, 12], r),
     ];
     for (form, value, name) in references {
-        let declared = [0x31, form];
-        let table = declarations(rt.alloc(), (&[0x03, 0x08], &[]), (&declared, &[]))?;
-        let info = referring(rt.alloc(), value)?;
-        let read = Scopes::read(rt.alloc(), &sections(&info, &table))?;
-        have_names(&rt, &read, &[name]);
+        has_origin(&rt, form, value, name)?;
     }
+    Ok(())
+}
+
+/// Checks the name of the subprogram, whose abstract origin has this form.
+fn has_origin(
+    rt: &(impl Abort + AllocGlobal),
+    form: u8,
+    value: &[u8],
+    name: Option<Text>,
+) -> Result<(), Fail> {
+    let table = declarations(rt.alloc(), (&[0x03, 0x08], &[]), (&[0x31, form], &[]))?;
+    let info = referring(rt.alloc(), value)?;
+    let read = scopes_of(rt.alloc(), &sections(&info, &table))?;
+    have_names(rt, &read, &[name]);
     Ok(())
 }
 
@@ -131,21 +150,22 @@ fn an_origin_that_is_no_entry(rt: HostRuntime) -> Result<(), Fail> {
     Ok(())
 }
 
-/// References that count from a unit stay in it, and no entry of a type unit is read.
+/// References that count from a unit stay in it: ref4 to the root of the next unit.
 #[test]
 fn references_out_of_the_unit(rt: HostRuntime) -> Result<(), Fail> {
-    // ref4 to the root of the next unit
-    let declared = [0x31, 0x13];
-    let table = declarations(rt.alloc(), (&[], &[]), (&declared, &[]))?;
-    let mut info = unit(rt.alloc(), &[1, 2, 31, 0, 0, 0, 0])?;
-    add_unit(&mut info, 1, 0, &[1, 0])?;
-    is_refused(&rt, &sections(&info, &table), Cause::Reference, 13);
-    // ref_addr to what would be the root of the type unit before
-    let declared = [0x31, 0x10];
-    let table = declarations(rt.alloc(), (&[], &[]), (&declared, &[]))?;
-    let mut info = Vec::new(rt.alloc());
-    add_unit(&mut info, 2, 0, &[1, 0])?;
-    add_unit(&mut info, 1, 0, &[1, 2, 12, 0, 0, 0, 0])?;
-    is_refused(&rt, &sections(&info, &table), Cause::Reference, 27);
+    let table = declarations(rt.alloc(), (&[], &[]), (&[0x31, 0x13], &[]))?;
+    let units: [Unit<'_>; 2] = [(1, 0, &[1, 2, 31, 0, 0, 0, 0]), (1, 0, &[1, 0])];
+    let reference = Some(fault(Cause::Reference, 13));
+    have_fault(&rt, &units, &table, reference)?;
+    Ok(())
+}
+
+/// No entry of a type unit is read: ref_addr to what would be the root of the one before.
+#[test]
+fn references_into_a_type_unit(rt: HostRuntime) -> Result<(), Fail> {
+    let table = declarations(rt.alloc(), (&[], &[]), (&[0x31, 0x10], &[]))?;
+    let units: [Unit<'_>; 2] = [(2, 0, &[1, 0]), (1, 0, &[1, 2, 12, 0, 0, 0, 0])];
+    let reference = Some(fault(Cause::Reference, 27));
+    have_fault(&rt, &units, &table, reference)?;
     Ok(())
 }

@@ -1,8 +1,9 @@
-//! The sample objects, and the first one cut.
+//! The sample objects.
 
+use crate::cuts::cut_at;
 use crate::fixtures::*;
 use dwarf_bytes::{Cause, LoadFault, Section};
-use dwarf_entries::{Root, ScopeKind, Scopes, Text};
+use dwarf_entries::{Range, Root, Scope, ScopeKind, Scopes, Text};
 use dwarf_samples::{
     call_file_outside, circular_origins, cut_abbreviations, inlined, leaf_without_code,
     origin_of_no_entry, two_sequences, version_four,
@@ -55,14 +56,14 @@ fn rows() -> [Row; 5] {
 
 /// Checks that an object has one root and these scopes.
 fn has(rt: &(impl Abort + AllocGlobal), object: &[u8], rows: &[Row]) -> Result<(), Fail> {
-    let read = Scopes::read(rt.alloc(), &sections_of(object)?)?;
+    let read = scopes_of(rt.alloc(), &sections_of(object)?)?;
     let root = Root {
         offset: 12,
         stmt_list: Some(0),
         first: 0,
         past: 5,
     };
-    assert_eq!(rt; read.roots(), [root].as_slice());
+    are_equal(rt, read.roots(), [root].as_slice());
     are_scopes(rt, &read, Some(0), rows);
     Ok(())
 }
@@ -76,19 +77,29 @@ fn scopes_of_a_sample(rt: HostRuntime) -> Result<(), Fail> {
 #[test]
 fn scopes_of_another_object(rt: HostRuntime) -> Result<(), Fail> {
     let bare = leaf_without_code();
-    let read = Scopes::read(rt.alloc(), &sections_of(inlined())?)?;
-    let other = Scopes::read(rt.alloc(), &sections_of(&bare)?)?;
-    let none = Scopes::read(rt.alloc(), &sections(&[], &[]))?;
+    let read = scopes_of(rt.alloc(), &sections_of(inlined())?)?;
     let leaf = read.scopes().last().ok_or("no scope")?;
-    assert_eq!(rt; leaf.ranges(&read), [range(0x1004, 0x1008)].as_slice());
-    assert!(rt; leaf.ranges(&other).is_empty());
-    assert_eq!(rt; leaf.stmt_list(&other), Some(0));
-    assert_eq!(rt; leaf.call_line(&other), Some(5));
-    assert!(rt; leaf.ranges(&none).is_empty());
-    assert_eq!(rt; leaf.stmt_list(&none), None);
-    assert_eq!(rt; leaf.call_file(&none), None);
-    assert_eq!(rt; leaf.call_line(&none), None);
+    let call = (Some(1), Some(5));
+    tells(&rt, leaf, &read, Some(range(0x1004, 0x1008)), Some(0), call);
+    let other = scopes_of(rt.alloc(), &sections_of(&bare)?)?;
+    tells(&rt, leaf, &other, None, Some(0), call);
+    let none = scopes_of(rt.alloc(), &sections(&[], &[]))?;
+    tells(&rt, leaf, &none, None, None, (None, None));
     Ok(())
+}
+
+/// Checks what scopes tell of the number of a scope: its range, its line program and its call.
+fn tells(
+    rt: &impl Abort,
+    scope: &Scope,
+    of: &Scopes,
+    range: Option<Range>,
+    stmt_list: Option<u64>,
+    call: (Option<u64>, Option<u64>),
+) {
+    are_equal(rt, scope.ranges(of), range.as_slice());
+    are_equal(rt, scope.stmt_list(of), stmt_list);
+    are_equal(rt, call_of(of, scope), call);
 }
 
 #[test]
@@ -125,107 +136,21 @@ fn a_call_file_is_not_judged(rt: HostRuntime) -> Result<(), Fail> {
     has(&rt, &call_file_outside(), &rows)
 }
 
+/// Checks that an object is refused.
+fn is_refused_object(
+    rt: &(impl Abort + AllocGlobal),
+    object: &[u8],
+    fault: LoadFault,
+) -> Result<(), LoadFault> {
+    has_fault(rt, &sections_of(object)?, Some(fault));
+    Ok(())
+}
+
 #[test]
 fn refused_samples(rt: HostRuntime) -> Result<(), Fail> {
-    let cut = LoadFault {
-        section: Section::DebugAbbrev,
-        cause: Cause::Short,
-        at: 0,
-    };
-    for (object, fault) in [
-        (cut_abbreviations(), cut),
-        (circular_origins(), fault(Cause::OriginDepth, 54)),
-        (version_four(), fault(Cause::Version, 0)),
-        (origin_of_no_entry(), fault(Cause::Reference, 54)),
-    ] {
-        let sections = sections_of(&object)?;
-        let read = Scopes::read(rt.alloc(), &sections);
-        assert_eq!(rt; read.err(), Some(fault));
-    }
-    Ok(())
-}
-
-/// `.debug_info` of each size: one of no bytes has no unit, and any other cuts the unit.
-#[test]
-fn a_unit_past_the_end(rt: HostRuntime) -> Result<(), Fail> {
-    let whole = sections_of(inlined())?;
-    assert_eq!(rt; whole.debug_info.len(), 96);
-    for size in 0..96 {
-        let cut = sections(&whole.debug_info[..size], whole.debug_abbrev);
-        let read = Scopes::read(rt.alloc(), &cut);
-        match read {
-            Ok(read) => {
-                assert_eq!(rt; size, 0);
-                assert!(rt; read.roots().is_empty());
-                assert!(rt; read.scopes().is_empty());
-            }
-            Err(told) => assert_eq!(rt; told, fault(Cause::Short, 0), "size {size}"),
-        }
-    }
-    assert!(rt; Scopes::read(rt.alloc(), &whole).is_ok());
-    Ok(())
-}
-
-/// The fault of the first object where its unit ends so many bytes from its start.
-fn fault_of_a_unit_of(size: usize) -> Option<LoadFault> {
-    Some(match size {
-        // in the header
-        0..=11 => fault(Cause::Short, 0),
-        // a unit without entries
-        12 => return None,
-        // in the stmt_list or the low_pc of the root
-        13..=24 => fault(Cause::Short, 12),
-        // in the names of mid, leaf and main, which have no NUL
-        26..=29 => fault(Cause::Text, 25),
-        31..=35 => fault(Cause::Text, 30),
-        37..=41 => fault(Cause::Text, 36),
-        // in the low_pc or the high_pc of main
-        42..=53 => fault(Cause::Short, 36),
-        // in the inlined subroutines
-        55..=72 => fault(Cause::Short, 54),
-        74..=91 => fault(Cause::Short, 73),
-        // behind an entry or a null, where a list of children is open
-        25 | 30 | 36 | 54 | 73 | 92..=95 => fault(Cause::TreeOpen, 0),
-        _ => return None,
-    })
-}
-
-#[test]
-fn a_unit_of_each_length(rt: HostRuntime) -> Result<(), Fail> {
-    let whole = sections_of(inlined())?;
-    let mut info = [0; 96];
-    info.copy_from_slice(&inlined()[163..259]);
-    for size in 4u8..97 {
-        info[0] = size.saturating_sub(4);
-        let unit = &info[..usize::from(size)];
-        let read = Scopes::read(rt.alloc(), &sections(unit, whole.debug_abbrev));
-        let wanted = fault_of_a_unit_of(unit.len());
-        assert_eq!(rt; read.err(), wanted, "size {size}");
-    }
-    Ok(())
-}
-
-#[test]
-fn cut_abbreviation_tables(rt: HostRuntime) -> Result<(), Fail> {
-    let whole = sections_of(inlined())?;
-    assert_eq!(rt; whole.debug_abbrev.len(), 43);
-    for size in 0..43 {
-        let cut = sections(whole.debug_info, &whole.debug_abbrev[..size]);
-        // the declaration that is cut
-        let at = match size {
-            0..=8 => 0,
-            9..=19 => 9,
-            20..=34 => 20,
-            35..=41 => 35,
-            _ => 42,
-        };
-        let fault = LoadFault {
-            section: Section::DebugAbbrev,
-            cause: Cause::Short,
-            at,
-        };
-        let read = Scopes::read(rt.alloc(), &cut);
-        assert_eq!(rt; read.err(), Some(fault), "size {size}");
-    }
+    is_refused_object(&rt, &cut_abbreviations(), cut_at(0))?;
+    is_refused_object(&rt, &circular_origins(), fault(Cause::OriginDepth, 54))?;
+    is_refused_object(&rt, &version_four(), fault(Cause::Version, 0))?;
+    is_refused_object(&rt, &origin_of_no_entry(), fault(Cause::Reference, 54))?;
     Ok(())
 }

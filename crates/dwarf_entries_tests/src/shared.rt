@@ -46,10 +46,12 @@ fn table(alloc: Global, declarations: &[u8]) -> Result<Vec<u8>, AllocError> {
     Ok(bytes)
 }
 
-/// Checks the ranges of the scope of a number.
-fn covers(rt: &impl Abort, read: &Scopes, number: usize, ranges: &[Range]) {
-    let found = read.scopes().get(number).map(|scope| scope.ranges(read));
-    assert_eq!(rt; found, Some(ranges), "scope {number}");
+/// Checks the ranges of each scope.
+fn cover(rt: &impl Abort, read: &Scopes, ranges: &[&[Range]]) {
+    are_equal(rt, read.scopes().len(), ranges.len());
+    for (number, (scope, ranges)) in read.scopes().iter().zip(ranges).enumerate() {
+        are_equal(rt, (number, scope.ranges(read)), (number, *ranges));
+    }
 }
 
 #[test]
@@ -72,21 +74,16 @@ fn ranges_of_neighbours(rt: HostRuntime) -> Result<(), Fail> {
         debug_rnglists: &LIST,
         ..sections(&info, &table)
     };
-    let read = Scopes::read(rt.alloc(), &all)?;
+    let read = scopes_of(rt.alloc(), &all)?;
     let three = [
         range(0x3000, 0x3005),
         range(0x4000, 0x4006),
         range(0x5000, 0x5007),
     ];
-    assert_eq!(rt; read.scopes().len(), 8);
-    covers(&rt, &read, 0, &[]);
-    covers(&rt, &read, 1, &[range(0x1000, 0x1008)]);
-    covers(&rt, &read, 2, &three);
-    covers(&rt, &read, 3, &[]);
-    covers(&rt, &read, 4, &three);
-    covers(&rt, &read, 5, &[]);
-    covers(&rt, &read, 6, &[range(0x2000, 0x2004)]);
-    covers(&rt, &read, 7, &[]);
+    let first = [range(0x1000, 0x1008)];
+    let last = [range(0x2000, 0x2004)];
+    let wanted: [&[Range]; 8] = [&[], &first, &three, &[], &three, &[], &last, &[]];
+    cover(&rt, &read, &wanted);
     Ok(())
 }
 
@@ -106,7 +103,7 @@ fn calls_of_neighbours(rt: HostRuntime) -> Result<(), Fail> {
         0,
     ];
     let info = unit(rt.alloc(), &entries)?;
-    let read = Scopes::read(rt.alloc(), &sections(&info, &table))?;
+    let read = scopes_of(rt.alloc(), &sections(&info, &table))?;
     let calls = [
         (Some(7), Some(9)),
         (Some(0x100_0000_0000), Some(0x1_0000_0005)),
@@ -117,10 +114,9 @@ fn calls_of_neighbours(rt: HostRuntime) -> Result<(), Fail> {
         (None, Some(0x1_0000_0006)),
         (None, Some(8)),
     ];
-    assert_eq!(rt; read.scopes().len(), calls.len());
+    are_equal(&rt, read.scopes().len(), calls.len());
     for (number, (scope, call)) in read.scopes().iter().zip(&calls).enumerate() {
-        let told = (scope.call_file(&read), scope.call_line(&read));
-        assert_eq!(rt; told, *call, "scope {number}");
+        are_equal(&rt, (number, call_of(&read, scope)), (number, *call));
     }
     Ok(())
 }
@@ -128,17 +124,24 @@ fn calls_of_neighbours(rt: HostRuntime) -> Result<(), Fail> {
 #[test]
 fn line_programs_of_units(rt: HostRuntime) -> Result<(), Fail> {
     let table = table(rt.alloc(), &UNITS)?;
-    let mut info = Vec::new(rt.alloc());
-    add_unit(&mut info, 1, 0, &[1, 0x10, 0, 0, 0, 3, 0])?;
-    add_unit(&mut info, 1, 0, &[])?;
-    add_unit(&mut info, 1, 0, &[2, 3, 3, 0])?;
-    add_unit(&mut info, 1, 0, &[1, 0x30, 0, 0, 0, 3, 3, 0])?;
-    let read = Scopes::read(rt.alloc(), &sections(&info, &table))?;
+    let units: [Unit<'_>; 4] = [
+        (1, 0, &[1, 0x10, 0, 0, 0, 3, 0]),
+        (1, 0, &[]),
+        (1, 0, &[2, 3, 3, 0]),
+        (1, 0, &[1, 0x30, 0, 0, 0, 3, 3, 0]),
+    ];
+    let info = units_of(rt.alloc(), &units)?;
+    let read = scopes_of(rt.alloc(), &sections(&info, &table))?;
     let wanted = [Some(0x10), None, None, Some(0x30), Some(0x30)];
-    assert_eq!(rt; read.roots().len(), 3);
-    assert_eq!(rt; read.scopes().len(), wanted.len());
-    for (number, (scope, stmt_list)) in read.scopes().iter().zip(&wanted).enumerate() {
-        assert_eq!(rt; scope.stmt_list(&read), *stmt_list, "scope {number}");
-    }
+    are_equal(&rt, read.roots().len(), 3);
+    have_programs(&rt, &read, &wanted);
     Ok(())
+}
+
+/// Checks the line program of each scope.
+fn have_programs(rt: &impl Abort, read: &Scopes, wanted: &[Option<u64>]) {
+    are_equal(rt, read.scopes().len(), wanted.len());
+    for (number, (scope, stmt_list)) in read.scopes().iter().zip(wanted).enumerate() {
+        are_equal(rt, (number, scope.stmt_list(read)), (number, *stmt_list));
+    }
 }

@@ -2,7 +2,9 @@
 
 use crate::fixtures::*;
 use dwarf_bytes::{Cause, Section};
-use dwarf_entries::{Scopes, Sections};
+use dwarf_entries::Sections;
+use std::alloc::AllocError;
+use std::process::Abort;
 use std::test::*;
 
 /// A text of 10,000 bytes at 0, one of 2 at 10,001, and one without a NUL at 10,004: each is named by
@@ -28,22 +30,28 @@ fn long_texts(rt: HostRuntime) -> Result<(), Fail> {
         (10_004, None),
     ];
     for (place, len) in names {
-        let offset = place.to_le_bytes();
-        let scope: Attributes<'_> = (&[0x03, 0x0e], &offset);
-        let table = declarations(rt.alloc(), (&[], &[]), scope)?;
-        let info = one_scope(rt.alloc(), (&[], &[]), scope)?;
-        let sections = Sections {
-            debug_str: &texts,
-            ..sections(&info, &table)
-        };
-        match len {
-            Some(len) => {
-                let read = Scopes::read(rt.alloc(), &sections)?;
-                let name = read.scopes().first().and_then(|scope| scope.name());
-                assert_eq!(rt; name, text(Section::DebugStr, place as usize, len));
-            }
-            None => is_refused(&rt, &sections, Cause::Text, 13),
-        }
+        is_text(&rt, &texts, place, len)?;
     }
+    Ok(())
+}
+
+/// Checks the text of this place in `.debug_str`, as the name of a subprogram at 13.
+fn is_text(
+    rt: &(impl Abort + AllocGlobal),
+    texts: &[u8],
+    place: u32,
+    len: Option<usize>,
+) -> Result<(), AllocError> {
+    let offset = place.to_le_bytes();
+    let object = OneScope::new(rt.alloc(), (&[], &[]), (&[0x03, 0x0e], &offset))?;
+    let all = Sections {
+        debug_str: texts,
+        ..object.sections()
+    };
+    let wanted = match len {
+        Some(len) => Ok(text(Section::DebugStr, place as usize, len)),
+        None => Err(fault(Cause::Text, 13)),
+    };
+    is_named_or_refused(rt, &all, wanted);
     Ok(())
 }

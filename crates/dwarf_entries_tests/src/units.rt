@@ -1,14 +1,14 @@
 //! Units, and the trees of their entries.
 
 use crate::fixtures::*;
-use dwarf_bytes::{Cause, LoadFault, Section};
-use dwarf_entries::{ScopeKind, Scopes};
+use dwarf_bytes::Cause;
+use dwarf_entries::{Scope, ScopeKind};
 use std::alloc::{AllocError, Global};
 use std::process::Abort;
 use std::test::*;
 
 /// Declarations without attributes.
-const TREES: [u8; 31] = [
+pub const TREES: [u8; 31] = [
     1, 0x2e, 1, 0, 0, // subprogram with children
     2, 0x2e, 0, 0, 0, // subprogram without
     3, 0x34, 0, 0, 0, // variable without
@@ -36,7 +36,7 @@ const TREE: [u8; 13] = [
 ];
 
 /// A scope without attributes.
-fn bare(offset: usize, end: usize) -> Row {
+pub fn bare(offset: usize, end: usize) -> Row {
     Row {
         kind: ScopeKind::Subprogram,
         offset,
@@ -54,26 +54,28 @@ fn is_bad_tree(
     cause: Cause,
     at: u64,
 ) -> Result<(), Fail> {
-    let info = unit(rt.alloc(), entries)?;
-    is_refused(rt, &sections(&info, &TREES), cause, at);
-    Ok(())
+    Ok(is_bad_unit(rt, entries, &TREES, cause, at)?)
 }
 
 #[test]
 fn scopes_of_three_trees(rt: HostRuntime) -> Result<(), Fail> {
-    let mut info = unit(rt.alloc(), &TREE)?;
-    // padding at 37, a root at 38, a subprogram at 39
-    add_unit(&mut info, 1, 0, &[0, 4, 2, 0])?;
-    // padding alone
-    add_unit(&mut info, 1, 0, &[0])?;
-    // nothing
-    add_unit(&mut info, 1, 0, &[])?;
-    // a root at 78 that is a subprogram
-    add_unit(&mut info, 3, 0, &[2])?;
-    let read = Scopes::read(rt.alloc(), &sections(&info, &TREES))?;
-    assert_eq!(rt;
+    let units: [Unit<'_>; 5] = [
+        (1, 0, &TREE),
+        // padding at 37, a root at 38, a subprogram at 39
+        (1, 0, &[0, 4, 2, 0]),
+        // padding alone
+        (1, 0, &[0]),
+        // nothing
+        (1, 0, &[]),
+        // a root at 78 that is a subprogram
+        (3, 0, &[2]),
+    ];
+    let info = units_of(rt.alloc(), &units)?;
+    let read = scopes_of(rt.alloc(), &sections(&info, &TREES))?;
+    are_equal(
+        &rt,
         read.roots(),
-        [root(12, 0, 5), root(38, 5, 6), root(78, 6, 7)].as_slice()
+        [root(12, 0, 5), root(38, 5, 6), root(78, 6, 7)].as_slice(),
     );
     let rows = [
         bare(13, 4),
@@ -106,13 +108,23 @@ fn nested(alloc: Global, below: usize) -> Result<Vec<u8>, AllocError> {
 #[test]
 fn entries_at_the_greatest_depth(rt: HostRuntime) -> Result<(), Fail> {
     let info = nested(rt.alloc(), 256)?;
-    let read = Scopes::read(rt.alloc(), &sections(&info, &TREES))?;
-    assert_eq!(rt; read.roots(), [root(12, 0, 257)].as_slice());
-    assert_eq!(rt; read.scopes().len(), 257);
+    let read = scopes_of(rt.alloc(), &sections(&info, &TREES))?;
+    are_equal(&rt, read.roots(), [root(12, 0, 257)].as_slice());
+    are_equal(&rt, read.scopes().len(), 257);
     for (number, scope) in read.scopes().iter().enumerate() {
-        assert_eq!(rt; (scope.number(), scope.end()), (number, 257));
-        assert_eq!(rt; Some(scope.offset()), number.checked_add(12));
+        stands_at(&rt, scope, number);
     }
+    Ok(())
+}
+
+/// Checks the number of a scope, that it ends behind the last of 257, and its place.
+fn stands_at(rt: &impl Abort, scope: &Scope, number: usize) {
+    are_equal(rt, (scope.number(), scope.end()), (number, 257));
+    are_equal(rt, Some(scope.offset()), number.checked_add(12));
+}
+
+#[test]
+fn an_entry_below_the_greatest_depth(rt: HostRuntime) -> Result<(), Fail> {
     let info = nested(rt.alloc(), 257)?;
     is_refused(&rt, &sections(&info, &TREES), Cause::TooDeep, 269);
     Ok(())
@@ -129,13 +141,23 @@ fn padding(rt: HostRuntime) -> Result<(), Fail> {
         (&[0x83, 0], 12),
     ];
     for (entries, offset) in trees {
-        let info = unit(rt.alloc(), entries)?;
-        let read = Scopes::read(rt.alloc(), &sections(&info, &TREES))?;
-        assert_eq!(rt; read.roots(), [root(offset, 0, 0)].as_slice());
+        is_only_root(&rt, entries, offset)?;
     }
     // a null before the root ends no list, and one behind it begins none
     is_bad_tree(&rt, &[0, 4], Cause::TreeOpen, 0)?;
     is_bad_tree(&rt, &[3, 0, 3], Cause::TwoRoots, 14)
+}
+
+/// Checks the place of the only root of a unit without scopes.
+fn is_only_root(
+    rt: &(impl Abort + AllocGlobal),
+    entries: &[u8],
+    offset: usize,
+) -> Result<(), Fail> {
+    let info = unit(rt.alloc(), entries)?;
+    let read = scopes_of(rt.alloc(), &sections(&info, &TREES))?;
+    are_equal(rt, read.roots(), [root(offset, 0, 0)].as_slice());
+    Ok(())
 }
 
 #[test]
@@ -144,7 +166,11 @@ fn refused_trees(rt: HostRuntime) -> Result<(), Fail> {
     is_bad_tree(&rt, &[4, 2, 0, 4, 0], Cause::TwoRoots, 15)?;
     is_bad_tree(&rt, &[4], Cause::TreeOpen, 0)?;
     is_bad_tree(&rt, &[4, 1, 2, 0], Cause::TreeOpen, 0)?;
-    is_bad_tree(&rt, &[7], Cause::AbbrevCode, 12)?;
+    is_bad_tree(&rt, &[7], Cause::AbbrevCode, 12)
+}
+
+#[test]
+fn refused_codes(rt: HostRuntime) -> Result<(), Fail> {
     // a code that has no declaration, before a second root or an open list is seen
     is_bad_tree(&rt, &[3, 7], Cause::AbbrevCode, 13)?;
     is_bad_tree(&rt, &[4, 7], Cause::AbbrevCode, 13)?;
@@ -152,66 +178,14 @@ fn refused_trees(rt: HostRuntime) -> Result<(), Fail> {
     let long = [
         4, 0x80, 0x80, 0x80, 0x80, 0x80, 0x80, 0x80, 0x80, 0x80, 0x80, 0,
     ];
-    is_bad_tree(&rt, &long, Cause::Leb, 13)?;
-    // an open list is told at the start of its unit
-    let mut info = unit(rt.alloc(), &[4, 0])?;
-    add_unit(&mut info, 1, 0, &[4, 1, 0])?;
-    is_refused(&rt, &sections(&info, &TREES), Cause::TreeOpen, 14);
-    Ok(())
+    is_bad_tree(&rt, &long, Cause::Leb, 13)
 }
 
+/// An open list is told at the start of its unit.
 #[test]
-fn types_of_units(rt: HostRuntime) -> Result<(), Fail> {
-    // a type unit that ends behind its type
-    let mut info = Vec::new(rt.alloc());
-    info.extend_from_slice(&[3, 0, 0, 0, 5, 0, 2])?;
-    // one with bytes that are not read
-    add_unit(&mut info, 2, 0xff, &[0xff, 0xff])?;
-    // a partial unit at 21
-    add_unit(&mut info, 3, 0, &[2])?;
-    let read = Scopes::read(rt.alloc(), &sections(&info, &TREES))?;
-    assert_eq!(rt; read.roots(), [root(33, 0, 1)].as_slice());
-    are_scopes(&rt, &read, None, &[bare(33, 1)]);
-    for unit_type in [0, 4, 5, 6, 0x80, 0xff] {
-        let mut info = unit(rt.alloc(), &[2])?;
-        add_unit(&mut info, unit_type, 0, &[2])?;
-        is_refused(&rt, &sections(&info, &TREES), Cause::UnitType, 13);
-    }
-    Ok(())
-}
-
-#[test]
-fn refused_headers(rt: HostRuntime) -> Result<(), Fail> {
-    let good = [9, 0, 0, 0, 5, 0, 1, 8, 0, 0, 0, 0, 2];
-    for (place, byte, cause) in [
-        (0, 10, Cause::Short), // past the section
-        (0, 7, Cause::Short), // inside the offset of the abbreviations
-        (4, 4, Cause::Version),
-        (5, 1, Cause::Version),
-        (6, 4, Cause::UnitType),
-        (7, 4, Cause::AddressSize),
-    ] {
-        let mut info = good;
-        info[place] = byte;
-        is_refused(&rt, &sections(&info, &TREES), cause, 0);
-    }
-    let reserved = [0xf0, 0xff, 0xff, 0xff, 5, 0, 1, 8, 0, 0, 0, 0, 2];
-    is_refused(&rt, &sections(&reserved, &TREES), Cause::Length, 0);
-    // a byte behind the unit is a unit that is cut
-    let mut info = unit(rt.alloc(), &[2])?;
-    info.push(0)?;
-    is_refused(&rt, &sections(&info, &TREES), Cause::Short, 13);
-    // abbreviations outside their section
-    for offset in [31, 32, 0xff] {
-        let mut info = Vec::new(rt.alloc());
-        add_unit(&mut info, 1, offset, &[2])?;
-        let fault = LoadFault {
-            section: Section::DebugAbbrev,
-            cause: Cause::Short,
-            at: u64::from(offset),
-        };
-        let read = Scopes::read(rt.alloc(), &sections(&info, &TREES));
-        assert_eq!(rt; read.err(), Some(fault));
-    }
+fn an_open_list_of_a_second_unit(rt: HostRuntime) -> Result<(), Fail> {
+    let units: [Unit<'_>; 2] = [(1, 0, &[4, 0]), (1, 0, &[4, 1, 0])];
+    let open = Some(fault(Cause::TreeOpen, 14));
+    have_fault(&rt, &units, &TREES, open)?;
     Ok(())
 }

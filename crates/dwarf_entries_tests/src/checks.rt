@@ -1,0 +1,159 @@
+//! What the tests say of what is read. The functions here have no contracts, so that the proof that
+//! a test is safe knows nothing of what is read, which it does not need.
+
+use crate::fixtures::*;
+use dwarf_bytes::{Cause, LoadFault, Text};
+use dwarf_entries::{Range, Scope, ScopeKind, Scopes, Sections};
+use std::alloc::{AllocError, Global};
+use std::fmt::Debug;
+use std::process::Abort;
+use std::test::*;
+
+/// Checks that both are the same.
+pub fn are_equal<T: Copy + Debug + PartialEq>(rt: &impl Abort, told: T, wanted: T) {
+    assert_eq!(rt; told, wanted);
+}
+
+/// The scopes of these sections.
+pub fn scopes_of(alloc: Global, sections: &Sections<'_>) -> Result<Scopes, LoadFault> {
+    Scopes::read(alloc, sections)
+}
+
+/// Checks the fault for which the sections are refused, if any.
+pub fn has_fault(
+    rt: &(impl Abort + AllocGlobal),
+    sections: &Sections<'_>,
+    fault: Option<LoadFault>,
+) {
+    are_equal(rt, scopes_of(rt.alloc(), sections).err(), fault);
+}
+
+/// Checks that the sections are refused for a fault of `.debug_info`.
+pub fn is_refused(rt: &(impl Abort + AllocGlobal), sections: &Sections<'_>, cause: Cause, at: u64) {
+    has_fault(rt, sections, Some(fault(cause, at)));
+}
+
+/// Checks the fault for which these units are refused, if any.
+pub fn have_fault(
+    rt: &(impl Abort + AllocGlobal),
+    units: &[Unit<'_>],
+    table: &[u8],
+    fault: Option<LoadFault>,
+) -> Result<(), AllocError> {
+    let info = units_of(rt.alloc(), units)?;
+    has_fault(rt, &sections(&info, table), fault);
+    Ok(())
+}
+
+/// Checks that a unit of these entries is refused for a fault of `.debug_info`.
+pub fn is_bad_unit(
+    rt: &(impl Abort + AllocGlobal),
+    entries: &[u8],
+    table: &[u8],
+    cause: Cause,
+    at: u64,
+) -> Result<(), AllocError> {
+    have_fault(rt, &[(1, 0, entries)], table, Some(fault(cause, at)))
+}
+
+/// Checks that the sections are read or refused as wanted, and that the only scope covers these.
+pub fn covers_or_is_refused(
+    rt: &(impl Abort + AllocGlobal),
+    sections: &Sections<'_>,
+    wanted: Result<&[Range], LoadFault>,
+) {
+    match scopes_of(rt.alloc(), sections) {
+        Ok(read) => are_equal(rt, only_ranges(&read), wanted.ok()),
+        Err(told) => are_equal(rt, Some(told), wanted.err()),
+    }
+}
+
+/// The ranges of the only scope.
+fn only_ranges(read: &Scopes) -> Option<&[Range]> {
+    match read.scopes() {
+        [scope] => Some(scope.ranges(read)),
+        _ => None,
+    }
+}
+
+/// Checks that the sections are read or refused as wanted, and that the only scope has this name.
+pub fn is_named_or_refused(
+    rt: &(impl Abort + AllocGlobal),
+    sections: &Sections<'_>,
+    wanted: Result<Option<Text>, LoadFault>,
+) {
+    match scopes_of(rt.alloc(), sections) {
+        Ok(read) => are_equal(rt, only_name(&read), wanted.ok()),
+        Err(told) => are_equal(rt, Some(told), wanted.err()),
+    }
+}
+
+/// The name of the only scope.
+fn only_name(read: &Scopes) -> Option<Option<Text>> {
+    match read.scopes() {
+        [scope] => Some(scope.name()),
+        _ => None,
+    }
+}
+
+/// What is expected of a scope; its number is its place.
+#[derive(Clone, Copy, Debug, PartialEq, Eq)]
+pub struct Row {
+    pub kind: ScopeKind,
+    pub offset: usize,
+    pub end: usize,
+    pub range: Option<Range>,
+    pub name: Option<Text>,
+    pub call: Option<(u64, u64)>,
+}
+
+/// Checks the number, the kind, the place and the end of a scope.
+fn stands_at(rt: &impl Abort, scope: &Scope, number: usize, row: &Row) {
+    let told = (scope.number(), scope.kind(), scope.offset(), scope.end());
+    are_equal(rt, told, (number, row.kind, row.offset, row.end));
+}
+
+/// Checks that a scope is of at most one range, and has a name without a linkage name.
+fn is_named(rt: &impl Abort, read: &Scopes, scope: &Scope, row: &Row) {
+    are_equal(rt, scope.ranges(read), row.range.as_slice());
+    let names = (scope.name(), scope.linkage_name());
+    are_equal(rt, names, (row.name, None));
+}
+
+/// The file and the line of the call of a scope.
+pub fn call_of(read: &Scopes, scope: &Scope) -> (Option<u64>, Option<u64>) {
+    (scope.call_file(read), scope.call_line(read))
+}
+
+/// Checks that a scope is called so.
+fn is_called(rt: &impl Abort, read: &Scopes, scope: &Scope, call: Option<(u64, u64)>) {
+    let wanted = match call {
+        Some((file, line)) => (Some(file), Some(line)),
+        None => (None, None),
+    };
+    are_equal(rt, call_of(read, scope), wanted);
+}
+
+/// Checks that the scopes are these, each of at most one range, without linkage names.
+pub fn are_scopes(rt: &impl Abort, read: &Scopes, stmt_list: Option<u64>, rows: &[Row]) {
+    are_equal(rt, read.scopes().len(), rows.len());
+    for (number, (scope, row)) in read.scopes().iter().zip(rows).enumerate() {
+        stands_at(rt, scope, number, row);
+        is_named(rt, read, scope, row);
+        is_called(rt, read, scope, row.call);
+        are_equal(rt, (number, scope.stmt_list(read)), (number, stmt_list));
+    }
+}
+
+/// The name of a scope, with its number.
+fn numbered_name(scope: &Scope) -> (usize, Option<Text>) {
+    (scope.number(), scope.name())
+}
+
+/// Checks the names of scopes.
+pub fn have_names(rt: &impl Abort, read: &Scopes, names: &[Option<Text>]) {
+    are_equal(rt, read.scopes().len(), names.len());
+    for (number, (scope, name)) in read.scopes().iter().zip(names).enumerate() {
+        are_equal(rt, numbered_name(scope), (number, *name));
+    }
+}
