@@ -138,19 +138,20 @@ def references_to_a_long_entry(size):
 
 def references_between_tables(size):
     """Subprograms of a unit that refer to those of another one. The tables of both stand in one long list of
-    declarations, behind more of them than are kept."""
-    flags = b"".join(uleb(0x2000 + number) + bytes([0x19]) for number in range(100))
-    declared = [uleb(4 + number) + bytes([0x2E, 0]) + flags + bytes([0, 0]) for number in range(size // 3_000)]
+    declarations, behind more of them than are kept. The object has a fifth of the size, since a reference of
+    these costs what several others do."""
+    attributes = b"".join(uleb(0x2000 + number) + bytes([0x0F]) for number in range(100))
+    declared = [uleb(4 + number) + bytes([0x2E, 0]) + attributes + bytes([0, 0]) for number in range(size // 12_000)]
     table = b"".join(declared) + bytes([1, 0x11, 1, 0, 0, 2, 0x2E, 0, 0x47, 0x10, 0, 0, 3, 0x2E, 0, 0, 0, 0])
-    places = [sum(map(len, declared[:number])) for number in range(16)]
-    info = b"".join(struct.pack("<IHBBIB", 9, 5, 1, 8, place, 3) for place in places[:14])
-    count = size // 8
+    places = [sum(map(len, declared[:number])) for number in range(6)]
+    info = b"".join(struct.pack("<IHBBIB", 9, 5, 1, 8, place, 3) for place in places[:4])
+    count = size // 32
     head = struct.Struct("<IHBBI")
     targets = len(info) + 2 * head.size + 5 * count + 3  # the first subprogram of the second unit
     entries = bytes([1]) + b"".join(struct.pack("<BI", 2, targets + number) for number in range(count)) + bytes([0])
-    info += head.pack(8 + len(entries), 5, 1, 8, places[14]) + entries
+    info += head.pack(8 + len(entries), 5, 1, 8, places[4]) + entries
     entries = bytes([1]) + bytes([3]) * count + bytes([0])
-    info += head.pack(8 + len(entries), 5, 1, 8, places[15]) + entries
+    info += head.pack(8 + len(entries), 5, 1, 8, places[5]) + entries
     return elf([(".debug_abbrev", table), (".debug_info", info)])
 
 
