@@ -17,7 +17,8 @@ fi
 addresses=$(for ((address = 0x1000; address < 0x1400; address++)); do printf '%x ' $address; done)
 read -r plain inlined < <("$program" -a -f -i -p -e "$object" $addresses | awk '
     /^0x/ { frames = 1; address = substr($1, 1, 18); name = $2; if (!plain && name == "main") plain = address }
-    /^ / { if (++frames == 3) { print plain, address; exit } }')
+    /^ / { if (++frames == 3 && !inlined) inlined = address }
+    END { print plain, inlined }')
 
 coproc "$program" -f -i -p
 # A command, and its reply: the line `.` behind it is no command, and marks where the reply ends.
