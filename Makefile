@@ -18,7 +18,8 @@ help:
 	@echo 'make fuzz         objects and commands made by chance, beside a plain reader in Python (SEED=1 COUNT=20000)'
 	@echo 'make memory       each growth of memory, each read and write refused in turn (DURATION=60, in seconds)'
 	@echo 'make long-run     a million commands to one process, then full outputs and odd files (COMMANDS=1000000)'
-	@echo 'make bench        the speed beside plain C and other symbolizers, as docs/MEASURED.md (a quarter of an hour)'
+	@echo 'make bench        the speed beside plain C and other symbolizers, as docs/MEASURED.md (a quarter of an hour;'
+	@echo '                  GIMLI_ADDR2LINE=PATH: the addr2line of gimli too)'
 
 # Shows the program at work on an object that the compiler makes there and then.
 demo:

@@ -3,8 +3,8 @@
 
 table.py PRINTED writes docs/MEASURED.md to standard output: the machine, the versions, the day, and
 for loads, first answers, answers in a batch and in ping-pong, and memory the figures of this
-program and of each peer that was measured. A ratio behind a peer's figure says how many times
-better this program is: faster, or less memory.
+program and of each peer that was measured; gimli's is the one that GIMLI_ADDR2LINE names. A ratio
+behind a peer's figure says how many times better this program is: faster, or less memory.
 """
 import datetime
 import os
@@ -42,6 +42,11 @@ def column(program):
     return name
 
 
+def again(program):
+    """Whether a line of answers is of the few addresses that are asked again and again."""
+    return program == f"{OURS}, sixteen addresses"
+
+
 def rows(lines):
     """What was measured, in which unit, whether more is better, and each program's figure."""
     table = {}
@@ -60,6 +65,9 @@ def rows(lines):
                 what = named.format(found["what"])
                 put(what, unit, better, OURS, found["ours"])
                 put(what, unit, better, PLAIN, found["plain"])
+        if answers and again(answers["program"]):
+            what = f"answers a second, sixteen addresses again and again: {asked}"
+            put(what, "", "more", OURS, answers["rate"])
         if answers and column(answers["program"]):
             program = column(answers["program"])
             put(f"answers a second: {asked}", "", "more", program, answers["rate"])
@@ -97,14 +105,15 @@ def machine():
     model = re.search(r"^model name\s*: (.*)", told, re.MULTILINE)
     name = model[1] if model else "an unknown processor"
     memory = int(re.search(r"MemTotal: +(\d+)", open("/proc/meminfo").read())[1]) >> 20
-    return f"{os.cpu_count()} × {name}, {memory} GiB, Linux {os.uname().release}"
+    kernel = os.uname().release.split("-")[0]
+    return f"{os.cpu_count()} × {name}, {memory} GiB, Linux {kernel}"
 
 
 def versions():
     programs = ["gcc", "llvm-symbolizer", "eu-addr2line", "addr2line"]
-    programs.append(os.environ.get("GIMLI_ADDR2LINE", "-"))
     told = [said("rt", "version"), *(said(program, "--version") for program in programs)]
-    return [version for version in told if version]
+    gimli = said(os.environ.get("GIMLI_ADDR2LINE", "-"), "--version")
+    return [version for version in [*told, gimli and f"{gimli} of gimli"] if version]
 
 
 def main():

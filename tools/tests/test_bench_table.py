@@ -30,6 +30,7 @@ ROWS = [
     "| entries a second: a C++ program | 9,000,000 | 12,000,000 (×0.75) |  |  |",
     f"| answers a second: {ASKED} | 90,000 |  | 22,500 (×4) | 8 (×11,250) |",
     f"| first answer: {ASKED} | 1,000 ms |  | 500 ms (×0.5) | 1,500 ms (×1.5) |",
+    f"| answers a second, sixteen addresses again and again: {ASKED} | 300,000 |  |  |  |",
 ]
 
 
