@@ -30,11 +30,11 @@ PY
 }
 
 # How many bytes a program answers to each of some addresses: all but the lines with which its answers begin
-# where addresses are asked for too.
+# where addresses are asked for too. A program may end with a status of its own and have answered all.
 lengths() {
     local addresses=$1
     shift
-    "$@" -a < "$addresses" | python3 -c '
+    { "$@" -a < "$addresses" || true; } | python3 -c '
 import re, sys
 lengths = []
 for line in sys.stdin.buffer:

@@ -54,7 +54,7 @@ compare_peaks() {
 
 # The number before a word of what a command printed.
 count_of() {
-    sed -n "s/.*\\b\\([0-9]*\\) $1\\b.*/\\1/p" <<< "$2"
+    sed -n "s/.*\\b\\([0-9][0-9]*\\) $1\\b.*/\\1/p" <<< "$2"
 }
 
 # The scopes and the whole load of a program.
