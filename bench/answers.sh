@@ -50,7 +50,7 @@ show() {
     local what=$1 how=$2 addresses=$3
     shift 3
     lengths "$addresses" "$@" > out/lengths
-    printf '  %-44s %s\n' "$what" "$(out/ask "$how" "$addresses" out/lengths "$@" || echo failed)"
+    printf '  %-44s %s\n' "$what" "$(out/ask "$how" "$addresses" out/lengths "$@" || true)"
 }
 
 measure() {

@@ -3,7 +3,8 @@
 // ask batch|pingpong ADDRESSES LENGTHS COMMAND.. sends the lines of the file ADDRESSES. The file LENGTHS says
 // how many bytes each answer has, a line each. The first address is sent and answered before the clock
 // starts, so that what was loaded is loaded. A batch is sent as fast as it is taken; in ping-pong the next
-// address is sent when all bytes of an answer have come. It fails where no byte comes for ten seconds.
+// address is sent when all bytes of an answer have come. It fails, and says how, where an answer ends early
+// or no byte comes for a minute.
 #define _GNU_SOURCE
 #include <poll.h>
 #include <signal.h>
@@ -37,38 +38,45 @@ static pid_t start(char **command) {
     }
     close(in[0]);
     close(out[1]);
+    signal(SIGPIPE, SIG_IGN);
     to_program = in[1];
     from_program = out[0];
     return program;
 }
 
+// Sends bytes, as far as they are taken.
 static void send_all(const char *bytes, size_t count) {
     while (count) {
         ssize_t sent = write(to_program, bytes, count);
-        if (sent <= 0) exit(1);
+        if (sent <= 0) return;
         bytes += sent;
         count -= sent;
     }
 }
 
-// Reads so many bytes of answers: 0 where fewer come.
-static int read_bytes(size_t wanted) {
+// Says how answers stopped, and how many bytes of the awaited ones had not come.
+static void fail(const char *why, size_t wanted) {
+    printf("failed: %s after %zu bytes of answers, %zu were awaited\n", why, answered, wanted);
+    exit(1);
+}
+
+// Reads so many bytes of answers.
+static void read_bytes(size_t wanted) {
     static char buffer[1 << 16];
     while (wanted) {
         struct pollfd ready = {from_program, POLLIN, 0};
-        if (poll(&ready, 1, 10000) != 1) return 0;
+        if (poll(&ready, 1, 60000) != 1) fail("silent", wanted);
         ssize_t count = read(from_program, buffer, wanted < sizeof buffer ? wanted : sizeof buffer);
-        if (count <= 0) return 0;
+        if (count <= 0) fail("ended", wanted);
         answered += count;
         wanted -= count;
     }
-    return 1;
 }
 
 // The length of the next answer.
 static size_t next_length(FILE *lengths) {
     size_t length;
-    if (fscanf(lengths, "%zu", &length) != 1) exit(1);
+    if (fscanf(lengths, "%zu", &length) != 1) fail("no length of an answer", 0);
     return length;
 }
 
@@ -103,7 +111,7 @@ static size_t ping_pong(char *line, char *end, FILE *lengths) {
     for (; line < end; asked++) {
         char *next = strchr(line, '\n') + 1;
         send_all(line, next - line);
-        if (!read_bytes(next_length(lengths))) exit(1);
+        read_bytes(next_length(lengths));
         line = next;
     }
     return asked;
@@ -122,7 +130,7 @@ static size_t batch(char *first, char *end, FILE *lengths) {
         _exit(0);
     }
     close(to_program);
-    if (!read_bytes(wanted)) exit(1);
+    read_bytes(wanted);
     return asked;
 }
 
@@ -135,7 +143,7 @@ int main(int argc, char **argv) {
     double begun = now();
     pid_t program = start(argv + 4);
     send_all(text, rest - text);
-    if (!read_bytes(next_length(lengths))) return 1;
+    read_bytes(next_length(lengths));
     double loaded = now();
     long calls = calls_of(program);
     int in_turn = !strcmp(argv[1], "pingpong");
