@@ -2,6 +2,7 @@
 
 PREFIX ?= /usr/local
 PROGRAM = crates/addr2line_live/out/addr2line_live
+INSTALLED = $(DESTDIR)$(PREFIX)
 COMPILERS = gcc g++ objcopy
 READERS = readelf objdump nm addr2line llvm-symbolizer llvm-dwarfdump
 
@@ -9,7 +10,7 @@ help:
 	@echo 'make demo         builds the program and shows it at work'
 	@echo 'make test         the whole gate: every proof, edit that must fail, test and program (an hour and more)'
 	@echo 'make program      builds the program, $(PROGRAM)'
-	@echo 'make install      puts it and its manual page under PREFIX ($(PREFIX))'
+	@echo 'make install      puts it, its manual page, docs/PROTOCOL.md and its tools under PREFIX ($(PREFIX))'
 	@echo 'make check CRATE=dwarf_lines   one crate, over what earlier checks kept'
 	@echo 'make tools-test   tests of tools/ and of the clients in docs/PROTOCOL.md, on real processes'
 	@echo 'make check-docs   the manual page and documents beside the program: options, refusals, causes, targets'
@@ -45,8 +46,12 @@ program:
 	@tools/build.sh addr2line_live
 
 install: program
-	install -D -m 755 $(PROGRAM) $(DESTDIR)$(PREFIX)/bin/addr2line_live
-	install -D -m 644 addr2line_live.1 $(DESTDIR)$(PREFIX)/share/man/man1/addr2line_live.1
+	install -D -m 755 $(PROGRAM) $(INSTALLED)/bin/addr2line_live
+	install -D -m 644 addr2line_live.1 $(INSTALLED)/share/man/man1/addr2line_live.1
+	install -D -m 644 docs/PROTOCOL.md $(INSTALLED)/share/doc/addr2line_live/PROTOCOL.md
+	install -D -m 755 tools/loads_of_process $(INSTALLED)/libexec/addr2line_live/loads_of_process
+	install -D -m 755 tools/symbolize_perf $(INSTALLED)/libexec/addr2line_live/symbolize_perf
+	install -D -m 644 tools/loaded_objects.py $(INSTALLED)/libexec/addr2line_live/loaded_objects.py
 
 # Real processes, perf's text, a library that comes and goes, and the clients of docs/PROTOCOL.md.
 tools-test:

@@ -8,8 +8,7 @@ cd "$(dirname "$0")/.."
 program=crates/addr2line_live/out/addr2line_live
 many=${1:-200000}
 few=${2:-200}
-mkdir -p out
-[ -x $program ] || (cd crates/addr2line_live && rt run > ../../out/program.log 2>&1 < /dev/null)
+tools/build.sh addr2line_live program.log
 [ -f out/objects/large ] || tools/make_objects.sh out/objects
 gcc -O2 -o out/ask bench/ask.c
 
@@ -53,6 +52,20 @@ show() {
     printf '  %-44s %s\n' "$what" "$(out/ask "$how" "$addresses" out/lengths "$@" || true)"
 }
 
+# The same of a program that may be slow: it is asked all addresses where it answers a few of them at once,
+# else these alone.
+show_slow() {
+    local what=$1 how=$2 start
+    shift 2
+    start=$(date +%s%N)
+    "$@" < out/few > /dev/null || true
+    if [ $((($(date +%s%N) - start) / 1000000)) -lt 150 ]; then
+        show "$what, spread" "$how" out/spread "$@"
+    else
+        show "$what, fewer" "$how" out/few "$@"
+    fi
+}
+
 measure() {
     local object=$1 how=$2 options=$3
     spread "$object" "$many" "$many" > out/spread
@@ -71,9 +84,9 @@ measure() {
         show "addr2line of gimli, spread" "$how" out/spread "$GIMLI_ADDR2LINE" -e "$object" $options
     fi
     if command -v eu-addr2line > /dev/null; then
-        show 'eu-addr2line, fewer' "$how" out/few eu-addr2line -e "$object" $options
+        show_slow eu-addr2line "$how" eu-addr2line -e "$object" $options
     fi
-    show 'addr2line of binutils, fewer' "$how" out/few addr2line -e "$object" $options
+    show_slow 'addr2line of binutils' "$how" addr2line -e "$object" $options
 }
 
 for object in out/objects/small out/objects/program out/objects/large; do

@@ -1,10 +1,10 @@
 // Asks a program that answers addresses on its standard input, and says how fast it answers.
 //
-// ask batch|pingpong ADDRESSES LENGTHS COMMAND.. sends the lines of the file ADDRESSES. The file LENGTHS says
-// how many bytes each answer has, a line each. The first address is sent and answered before the clock
-// starts, so that what was loaded is loaded. A batch is sent as fast as it is taken; in ping-pong the next
-// address is sent when all bytes of an answer have come. It fails, and says how, where an answer ends early
-// or no byte comes for a minute.
+// ask batch|pingpong ADDRESSES LENGTHS COMMAND.. sends the lines of the file ADDRESSES. The file
+// LENGTHS says how many bytes each answer has, a line each. The first address is sent and answered
+// before the clock starts, so that what was loaded is loaded. A batch is sent as fast as it is
+// taken; in ping-pong the next address is sent when all bytes of an answer have come. It fails,
+// and says how, where an answer ends early or no byte comes for a minute.
 #define _GNU_SOURCE
 #include <poll.h>
 #include <signal.h>
@@ -66,7 +66,8 @@ static void read_bytes(size_t wanted) {
     while (wanted) {
         struct pollfd ready = {from_program, POLLIN, 0};
         if (poll(&ready, 1, 60000) != 1) fail("silent", wanted);
-        ssize_t count = read(from_program, buffer, wanted < sizeof buffer ? wanted : sizeof buffer);
+        size_t room = wanted < sizeof buffer ? wanted : sizeof buffer;
+        ssize_t count = read(from_program, buffer, room);
         if (count <= 0) fail("ended", wanted);
         answered += count;
         wanted -= count;
@@ -88,7 +89,8 @@ static long calls_of(pid_t program) {
     FILE *file = fopen(path, "r");
     if (!file) return 0;
     while (fgets(line, sizeof line, file))
-        if (sscanf(line, "syscr: %ld", &count) == 1 || sscanf(line, "syscw: %ld", &count) == 1) sum += count;
+        if (sscanf(line, "syscr: %ld", &count) == 1 || sscanf(line, "syscw: %ld", &count) == 1)
+            sum += count;
     fclose(file);
     return sum;
 }
@@ -129,7 +131,6 @@ static size_t batch(char *first, char *end, FILE *lengths) {
         send_all(first, end - first);
         _exit(0);
     }
-    close(to_program);
     read_bytes(wanted);
     return asked;
 }

@@ -1,16 +1,15 @@
 #!/usr/bin/env bash
-# Measures the readers beside plain C loops that make the same checks, on the same bytes, in one run.
+# Measures the readers beside plain C loops that make the same checks, on the same bytes, in one
+# run.
 set -euo pipefail
 cd "$(dirname "$0")/.."
-mkdir -p out
-(cd crates/measure && rt run > ../../out/measure.log 2>&1)
+tools/build.sh measure measure.log
 measure=crates/measure/out/measure
 gcc -O2 -o out/leb bench/leb.c
-gcc -O2 -o out/lines bench/lines.c
-gcc -O2 -o out/entries bench/entries.c
-gcc -O2 -DWHOLE -c -o out/lines.o bench/lines.c
-gcc -O2 -DWHOLE -c -o out/entries.o bench/entries.c
-g++ -O2 -o out/load bench/load.cpp out/lines.o out/entries.o
+gcc -O2 -o out/lines bench/lines.c bench/elf.c
+gcc -O2 -o out/entries bench/entries.c bench/elf.c
+for part in elf lines entries; do gcc -O2 -DWHOLE -c -o out/$part.o bench/$part.c; done
+g++ -O2 -o out/load bench/load.cpp out/elf.o out/lines.o out/entries.o
 [ -f out/leb.bin ] || out/leb make out/leb.bin 100000000
 [ -f out/objects/large ] || tools/make_objects.sh out/objects
 [ -f out/objects/huge ] || tools/make_large.sh out/objects/huge 150
@@ -24,7 +23,9 @@ best() {
 # Prints both times and how fast ours is beside the plain one.
 compare() {
     local what=$1 ours=$2 plain=$3
-    awk -v w="$what" -v a="$ours" -v b="$plain" 'BEGIN { printf "%-40s %6d ms, plain C %6d ms, ratio %.2f\n", w, a, b, b / (a > 0 ? a : 1) }'
+    awk -v w="$what" -v a="$ours" -v b="$plain" 'BEGIN {
+        printf "%-40s %6d ms, plain C %6d ms, ratio %.2f\n", w, a, b, b / (a > 0 ? a : 1)
+    }'
 }
 
 # The most memory that a command holds, in megabytes, and how many page faults it takes.
@@ -65,21 +66,25 @@ measure_program() {
     plain=$(best out/entries "$object")
     compare "scopes of $name" "$ours" "$plain"
     for what in entries scopes; do
-        awk -v n="$(count_of $what "$told")" -v w="$what a second: $name" -v a="$ours" -v b="$plain" \
-            'BEGIN { printf "%s: %d, plain C %d\n", w, n * 1000 / a, n * 1000 / b }'
+        awk -v n="$(count_of $what "$told")" -v w="$what a second: $name" -v a="$ours" \
+            -v b="$plain" 'BEGIN { printf "%s: %d, plain C %d\n", w, n * 1000 / a, n * 1000 / b }'
     done
     $measure scopes "$object"
     echo "$told"
-    compare_peaks "scopes of $name" "$(peak $measure scopes "$object")" "$(peak out/entries "$object")"
+    compare_peaks "scopes of $name" "$(peak $measure scopes "$object")" \
+        "$(peak out/entries "$object")"
     compare "whole load of $name" "$(best $measure module "$object")" "$(best out/load "$object")"
     $measure module "$object"
     out/load "$object"
-    compare_peaks "whole load of $name" "$(peak $measure module "$object")" "$(peak out/load "$object")"
+    compare_peaks "whole load of $name" "$(peak $measure module "$object")" \
+        "$(peak out/load "$object")"
 }
 
 compare 'LEB128, 100 MB' "$(best $measure leb out/leb.bin)" "$(best out/leb out/leb.bin)"
-compare 'line programs of a C++ program' "$(best $measure lines out/objects/large)" "$(best out/lines out/objects/large)"
-compare 'line programs, 100 MB' "$(best $measure lines out/objects/hundred)" "$(best out/lines out/objects/hundred)"
+compare 'line programs of a C++ program' "$(best $measure lines out/objects/large)" \
+    "$(best out/lines out/objects/large)"
+compare 'line programs, 100 MB' "$(best $measure lines out/objects/hundred)" \
+    "$(best out/lines out/objects/hundred)"
 measure_program 'a C++ program' out/objects/large
 measure_program 'a C++ program of 162 MB' out/objects/huge
 for peer in 'llvm-dwarfdump --debug-info' 'readelf --debug-dump=info'; do

@@ -31,6 +31,7 @@ ANSWERS = re.compile(
     r", first answer after (?P<first>\d+) ms(?:, peak (?P<peak>\d+) MB)?"
 )
 HEADING = re.compile(r"(?P<object>\w+), (?P<how>batch|pingpong)(?P<options>, .*)?")
+AGAIN = "sixteen addresses again and again"
 WAYS = {"batch": "a batch over a pipe", "pingpong": "ping-pong"}
 
 
@@ -66,7 +67,7 @@ def rows(lines):
                 put(what, unit, better, OURS, found["ours"])
                 put(what, unit, better, PLAIN, found["plain"])
         if answers and again(answers["program"]):
-            what = f"answers a second, sixteen addresses again and again: {asked}"
+            what = f"answers a second, {AGAIN}: {asked}"
             put(what, "", "more", OURS, answers["rate"])
         if answers and column(answers["program"]):
             program = column(answers["program"])
@@ -75,6 +76,15 @@ def rows(lines):
             if answers["peak"]:
                 put(f"memory: {asked}", "MB", "less", program, answers["peak"])
     return table
+
+
+def in_order(table):
+    """What was measured, with the memory for answers before the addresses asked again and again."""
+    rows = list(table.items())
+    for number in range(1, len(rows)):
+        if rows[number][0][0].startswith("memory: ") and AGAIN in rows[number - 1][0][0]:
+            rows[number - 1], rows[number] = rows[number], rows[number - 1]
+    return rows
 
 
 def cell(figures, program, unit, better):
@@ -113,7 +123,8 @@ def versions():
     programs = ["gcc", "llvm-symbolizer", "eu-addr2line", "addr2line"]
     told = [said("rt", "version"), *(said(program, "--version") for program in programs)]
     gimli = said(os.environ.get("GIMLI_ADDR2LINE", "-"), "--version")
-    return [version for version in [*told, gimli and f"{gimli} of gimli"] if version]
+    named = os.environ.get("GIMLI_VERSION", gimli)
+    return [version for version in [*told, gimli and f"addr2line of gimli: {named}"] if version]
 
 
 def main():
@@ -127,11 +138,12 @@ def main():
     print(*(f"- {version}" for version in versions()), sep="\n")
     print(
         "\nBehind the figure of another program stands how many times better this one is (below 1:"
-        "\nworse). Plain C is a loop of this repository that makes the same checks (`bench/*.c`)."
-        "\nOthers load nothing before they are asked; this program has then read and judged all.\n"
+        "\nworse). Plain C is a program of this repository that makes the same checks (`bench/*.c`)."
+        "\nOthers load nothing before they are asked; this program has then read and judged all. Of"
+        "\nprograms that answer slowly fewer addresses were asked, as `bench/answers.sh` says.\n"
     )
     print(f"| | {' | '.join(programs)} |\n|---|{'---|' * len(programs)}")
-    for (what, unit, better), figures in table.items():
+    for (what, unit, better), figures in in_order(table):
         cells = (cell(figures, program, unit, better) for program in programs)
         print(f"| {what} | {' | '.join(cells)} |")
 

@@ -1,6 +1,7 @@
 #!/usr/bin/env bash
-# build.sh CRATE [LOG]: proves and builds a program of crates/, and shows each crate below it as its proof begins,
-# on a terminal with how many functions are done. Where nothing changed it only runs the program once.
+# build.sh CRATE [LOG]: proves and builds a program of crates/, and shows each crate below it as
+# its proof begins, on a terminal with how many functions are done. Where nothing changed it
+# only runs the program once.
 set -euo pipefail
 cd "$(dirname "$0")/.."
 mkdir -p out
@@ -11,8 +12,8 @@ progress() {
     local line proving='' counted=
     while IFS= read -r line; do
         echo "$line" >> "$log"
-        if [[ $line =~ ^rt:\ chose\ --jobs\ [0-9]+\ for\ ([a-z0-9_]+)$ || $line =~ ^checked\ ([a-z0-9_]+):: ]] &&
-            [ "${BASH_REMATCH[1]}" != "$proving" ]; then
+        if [[ $line =~ ^rt:\ chose\ --jobs\ [0-9]+\ for\ ([a-z0-9_]+)$ ||
+            $line =~ ^checked\ ([a-z0-9_]+):: ]] && [ "${BASH_REMATCH[1]}" != "$proving" ]; then
             [ -z "$counted" ] || echo
             proving=${BASH_REMATCH[1]} counted=
             echo "  proving $proving"

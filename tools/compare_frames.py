@@ -1,9 +1,10 @@
 #!/usr/bin/env python3
 """Compares the frames that `measure frames OBJECT` prints with those of llvm-symbolizer.
 
-compare_frames.py MEASURE OBJECT.. asks for the same addresses. Of each the frames are compared, innermost
-first: name, file and line. Files are compared by their base names, and where this program tells no scope
-(`??`), names are not: llvm-symbolizer then takes one of the symbol table. Fails where anything differs.
+compare_frames.py MEASURE OBJECT.. asks for the same addresses. Of each the frames are compared,
+innermost first: name, file and line. Files are compared by their base names, and where this
+program tells no scope (`??`), names are not: llvm-symbolizer then takes one of the symbol table.
+Fails where anything differs.
 """
 import json
 import subprocess
@@ -11,11 +12,16 @@ import sys
 from pathlib import Path
 
 
+def printed(command, asked=""):
+    """The lines that a command prints, given what it is asked."""
+    how = {"capture_output": True, "text": True, "errors": "replace", "check": True}
+    return subprocess.run(command, input=asked, **how).stdout.splitlines()
+
+
 def ours(measure, path):
     """The frames of each address."""
-    done = subprocess.run([measure, "frames", path], capture_output=True, text=True, errors="replace", check=True)
     answers = {}
-    for text in done.stdout.splitlines():
+    for text in printed([measure, "frames", path]):
         if not text.startswith("\t"):
             frames = answers[int(text, 16)] = []
             continue
@@ -26,16 +32,16 @@ def ours(measure, path):
 
 
 def theirs(path, addresses):
-    command = ["llvm-symbolizer", "--inlines", "--functions=short", "--no-demangle", "--output-style=JSON", f"--obj={path}"]
+    command = ["llvm-symbolizer", "--inlines", "--functions=short", "--no-demangle",
+               "--output-style=JSON", f"--obj={path}"]
     asked = "".join(f"0x{address:x}\n" for address in addresses)
-    done = subprocess.run(command, input=asked, capture_output=True, text=True, errors="replace", check=True)
     answers = {}
-    for text in done.stdout.splitlines():
+    for text in printed(command, asked):
         answer = json.loads(text)
-        answers[int(answer["Address"], 16)] = [
-            (frame["FunctionName"] or "??", frame["FileName"].rsplit("/", 1)[-1] or "??", frame["Line"])
-            for frame in answer.get("Symbol", [])
-        ]
+        frames = answers[int(answer["Address"], 16)] = []
+        for frame in answer.get("Symbol", []):
+            file = frame["FileName"].rsplit("/", 1)[-1]
+            frames.append((frame["FunctionName"] or "??", file or "??", frame["Line"]))
     return answers
 
 
@@ -57,7 +63,8 @@ def main():
         differ = differ or bool(different)
         known = sum(bool(frames) for frames in left.values())
         inlined = sum(len(frames) > 1 for frames in left.values())
-        print(f"{Path(path).name}: {len(left)} addresses, {known} known, {inlined} inlined, {len(different)} differ")
+        print(f"{Path(path).name}: {len(left)} addresses, {known} known, {inlined} inlined,"
+              f" {len(different)} differ")
         for address in different[:5]:
             print(ascii(f"  {address:x}: {left[address]} beside {right[address]}"))
     sys.exit(differ)

@@ -1,8 +1,8 @@
 #!/usr/bin/env bash
-# Compares what is read from each object of tools/make_objects.sh, rows, scopes and the frames of ten
-# thousand addresses, with what other readers show, and the frames also with a scan of all rows and scopes
-# for each address; and the program's replies with those of addr2line and llvm-symbolizer. Fails where
-# anything differs.
+# Compares what is read from each object of tools/make_objects.sh, rows, scopes and the frames of
+# ten thousand addresses, with what other readers show, and the frames also with a scan of all rows
+# and scopes for each address; and the program's replies with those of addr2line and
+# llvm-symbolizer. Fails where anything differs.
 set -euo pipefail
 cd "$(dirname "$0")/.."
 tools/build.sh measure measure.log
@@ -15,7 +15,10 @@ objects=(small small.clang small.dwarf64 library.so program program.types progra
 gcc -O2 -o out/plain_scan tools/plain_scan.c
 differ=0
 for object in "${objects[@]}"; do
-    [ -f out/objects/$object ] || continue
+    if [ ! -f out/objects/$object ]; then
+        echo "$object: not made, for want of a compiler or tool that tools/make_objects.sh names"
+        continue
+    fi
     tools/compare_rows.py $measure out/objects/$object || differ=1
     $measure scope-table out/objects/$object > out/scopes.table
     tools/compare_scopes.py out/objects/$object out/scopes.table || differ=1

@@ -1,6 +1,7 @@
 #!/usr/bin/env bash
-# compare_plain_scan.sh MEASURE OBJECT: compares the frames that `measure frames` prints of ten thousand
-# addresses with those of tools/plain_scan.c, which looks through all rows and scopes for each of them.
+# compare_plain_scan.sh MEASURE OBJECT: compares the frames that `measure frames` prints of ten
+# thousand addresses with those of tools/plain_scan.c, built as out/plain_scan, which looks through
+# all rows and scopes for each of them.
 set -euo pipefail
 measure=$1
 object=$2
@@ -10,7 +11,13 @@ trap 'rm -rf "$folder"' EXIT
 "$measure" scope-table "$object" > "$folder/scopes"
 "$measure" files "$object" | sort -u > "$folder/files"
 "$measure" frames "$object" > "$folder/asked"
-out/plain_scan "$folder/rows" "$folder/scopes" "$folder/files" "$folder/asked" > "$folder/answers"
-differ=$(diff "$folder/asked" "$folder/answers" | grep -c '^[<>]') || true
-echo "$(basename "$object"): $(wc -l < "$folder/asked") lines of frames beside a plain scan, $differ differ"
-[ "$differ" = 0 ]
+plain_scan=$(dirname "$0")/../out/plain_scan
+"$plain_scan" "$folder"/{rows,scopes,files,asked} > "$folder/answers"
+name=$(basename "$object") lines=$(wc -l < "$folder/asked")
+if cmp -s "$folder/asked" "$folder/answers"; then
+    echo "$name: $lines lines of frames beside a plain scan, 0 differ"
+else
+    echo "$name: $lines lines of frames beside a plain scan, which differ:"
+    diff -a "$folder/asked" "$folder/answers" | head -20
+    exit 1
+fi

@@ -1,12 +1,13 @@
 #!/usr/bin/env python3
 """Compares the replies of addr2line_live, as text, with those of addr2line and of llvm-symbolizer.
 
-compare_replies.py PROGRAM COUNT OBJECT.. asks each for COUNT addresses, spread evenly over the executable
-sections, with -a -f -i -p -s and linkage names. Of the others' text is taken away what ours never has: a
-discriminator, and what a compiler puts behind the symbol of a copy of a function. Where this program tells no
-function, names of the symbol table agree, and where it knows nothing, all that tells no line, for it reads no
-symbols; of symbols with one value, as those of a destructor, others may tell another one. Fails where a reply
-is neither that of addr2line nor that of llvm-symbolizer.
+compare_replies.py PROGRAM COUNT OBJECT.. asks each for COUNT addresses, spread evenly over the
+executable sections, with -a -f -i -p -s and linkage names. Of the others' text is taken away what
+ours never has: a discriminator, and what a compiler puts behind the symbol of a copy of a
+function. Where this program tells no function, names of the symbol table agree, and where it
+knows nothing, all that tells no line, for it reads no symbols; of symbols with one value, as
+those of a destructor, others may tell another one. Fails where a reply is neither that of
+addr2line nor that of llvm-symbolizer.
 """
 import re
 import subprocess
@@ -15,7 +16,10 @@ from pathlib import Path
 
 from compare_addr2line import addresses
 
-FRAME = re.compile(r"^(?:0x(?P<address>[0-9a-f]+): | \(inlined by\) )(?P<name>.*?)(?: at | (?=\?\?:))(?P<file>.*):(?P<line>\d+|\?)$")
+FRAME = re.compile(
+    r"^(?:0x(?P<address>[0-9a-f]+): | \(inlined by\) )"
+    r"(?P<name>.*?)(?: at | (?=\?\?:))(?P<file>.*):(?P<line>\d+|\?)$"
+)
 DISCRIMINATOR = re.compile(r" \(discriminator \d+\)$")
 COPY = re.compile(r"(\.(lto_priv|isra|constprop|part|cold)(\.\d+)?)+$")
 OPTIONS = ["-a", "-f", "-i", "-p", "-s"]
@@ -23,7 +27,9 @@ OPTIONS = ["-a", "-f", "-i", "-p", "-s"]
 
 def replies(command, asked):
     """The frames of each address, as name, file and line."""
-    done = subprocess.run(command, input="".join(f"0x{a:x}\n" for a in asked), capture_output=True, text=True, errors="replace")
+    lines = "".join(f"0x{a:x}\n" for a in asked)
+    how = {"capture_output": True, "text": True, "errors": "replace"}
+    done = subprocess.run(command, input=lines, **how)
     if done.returncode:
         raise SystemExit(f"{command[0]} ended with {done.returncode}")
     found = {}
@@ -42,8 +48,10 @@ def replies(command, asked):
 
 def values(path):
     """The value of each symbol."""
-    listed = subprocess.run(["nm", "--defined-only", path], capture_output=True, text=True, check=True).stdout
-    return {name: value for value, _, name in (line.split(maxsplit=2) for line in listed.splitlines())}
+    how = {"capture_output": True, "text": True, "check": True}
+    listed = subprocess.run(["nm", "--defined-only", path], **how).stdout
+    fields = (line.split(maxsplit=2) for line in listed.splitlines())
+    return {name: value for value, _, name in fields}
 
 
 def agree(ours, theirs, symbols):
@@ -65,13 +73,15 @@ def main():
         asked = list(dict.fromkeys(addresses(path, int(count))))
         ours = replies([program, "-e", path, "--linkage", *OPTIONS], asked)
         binutils = replies(["addr2line", "-e", path, *OPTIONS], asked)
-        llvm = replies(["llvm-symbolizer", "--output-style=GNU", "--no-demangle", f"--obj={path}", *OPTIONS], asked)
+        style = ["--output-style=GNU", "--no-demangle"]
+        llvm = replies(["llvm-symbolizer", *style, f"--obj={path}", *OPTIONS], asked)
         symbols = values(path)
         with_binutils = {a for a in asked if agree(ours[a], binutils[a], symbols)}
         with_llvm = {a for a in asked if agree(ours[a], llvm[a], symbols)}
         alone = [a for a in asked if a not in with_binutils and a not in with_llvm]
         print(
-            f"{Path(path).name}: {len(asked)} replies, {len(with_binutils & with_llvm)} as both others,"
+            f"{Path(path).name}: {len(asked)} replies,"
+            f" {len(with_binutils & with_llvm)} as both others,"
             f" {len(with_llvm - with_binutils)} as llvm-symbolizer alone,"
             f" {len(with_binutils - with_llvm)} as addr2line alone, {len(alone)} as neither"
         )

@@ -1,9 +1,10 @@
 #!/usr/bin/env python3
 """Compares the rows that `measure rows OBJECT` prints with those that objdump decodes.
 
-objdump prints a row as FILE LINE ADDRESS, mostly with the base name of the file alone, and an end of a
-sequence with the line `-`; so base names are compared. Rows are compared in order, all of them, but for
-those of sequences that start at 2^64-1, the mark of dropped code. Fails where anything differs.
+objdump prints a row as FILE LINE ADDRESS, mostly with the base name of the file alone, and
+an end of a sequence with the line `-`; so base names are compared. Rows are compared in
+order, all of them, but for those of sequences that start at 2^64-1, the mark of dropped
+code. Fails where anything differs.
 """
 import re
 import subprocess
@@ -14,10 +15,15 @@ DROPPED = 2**64 - 1
 ROW = re.compile(r"^(?P<file>\S.*?)\s+(?P<line>\d+|-)\s+(?P<address>0x[0-9a-f]+|0)(?:\s|$)")
 
 
+def printed(*command):
+    """The lines that a command prints."""
+    how = {"capture_output": True, "text": True, "errors": "replace", "check": True}
+    return subprocess.run(command, **how).stdout.splitlines()
+
+
 def decoded(path):
     """The rows that objdump shows: (address, base name, line), or (address, 'end', 0)."""
-    done = subprocess.run(["objdump", "--dwarf=decodedline", path], capture_output=True, text=True, errors="replace", check=True)
-    for text in done.stdout.splitlines():
+    for text in printed("objdump", "--dwarf=decodedline", path):
         found = ROW.match(text)
         if not found:
             continue
@@ -41,8 +47,7 @@ def kept(rows):
 
 
 def ours(measure, path):
-    done = subprocess.run([measure, "rows", path], capture_output=True, text=True, errors="replace", check=True)
-    for text in done.stdout.splitlines():
+    for text in printed(measure, "rows", path):
         address, _, rest = text.partition(" ")
         if rest == "end":
             yield int(address, 16), "end", 0

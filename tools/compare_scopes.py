@@ -1,12 +1,13 @@
 #!/usr/bin/env python3
 """Compares the scopes that `measure scope-table OBJECT` prints with those that other readers show.
 
-compare_scopes.py OBJECT TABLE, where TABLE holds what was printed. Kinds, names, linkage names, call
-files, call lines, and the offset and the statement list of the root are those of readelf, which leaves
-out the units of types; a name that is not at the entry is looked for along its references, up to 16 of
-them. Ranges are those of llvm-dwarfdump, which adds the base in force; empty ones, and those that start
-at 2^64-1, the mark of dropped code, are left out. A scope's number counts those before it, its end is
-found by the depths that readelf shows. Fails where anything differs.
+compare_scopes.py OBJECT TABLE, where TABLE holds what was printed. Kinds, names, linkage
+names, call files, call lines, and the offset and the statement list of the root are those of
+readelf, which leaves out the units of types; a name that is not at the entry is looked for
+along its references, up to 16 of them. Ranges are those of llvm-dwarfdump, which adds the
+base in force; empty ones, and those that start at 2^64-1, the mark of dropped code, are left
+out. A scope's number counts those before it, its end is found by the depths that readelf
+shows. Fails where anything differs.
 """
 import re
 import subprocess
@@ -17,18 +18,22 @@ KINDS = {"DW_TAG_subprogram": "subprogram", "DW_TAG_inlined_subroutine": "inline
 UNIT_TYPES = ("compile", "partial")
 HOPS = 16
 DROPPED = 2**64 - 1
-FIELDS = ["kind", "name", "linkage name", "ranges", "call file", "call line", "end", "statement list",
-          "number", "root"]
+FIELDS = ["kind", "name", "linkage name", "ranges", "call file", "call line", "end",
+          "statement list", "number", "root"]
 
 UNIT_TYPE = re.compile(r"^   Unit Type: +DW_UT_(?P<type>\w+)")
-ENTRY = re.compile(r"^ <(?P<depth>[0-9a-f]+)><(?P<offset>[0-9a-f]+)>: Abbrev Number: \d+ \((?P<tag>\w+)")
+ENTRY = re.compile(
+    r"^ <(?P<depth>[0-9a-f]+)><(?P<offset>[0-9a-f]+)>: Abbrev Number: \d+ \((?P<tag>\w+)"
+)
 ATTRIBUTE = re.compile(r"^    <[0-9a-f]+>   (?P<name>DW_AT_\w+) *: (?P<value>.*)$")
 FORM = re.compile(r"^\((?P<form>\w+)\)\s?")
 ELSEWHERE = re.compile(r"^\([^)]*\): ")
 REFERENCE = re.compile(r"^<(0x[0-9a-f]+)>")
 
 DUMPED_ENTRY = re.compile(r"^(?P<offset>0x[0-9a-f]+): +(?P<tag>DW_TAG_\w+)")
-DUMPED_ADDRESS = re.compile(r"^ +DW_AT_(?P<name>low_pc|high_pc)\t\((?P<address>0x[0-9a-f]+|dead code)\)")
+DUMPED_ADDRESS = re.compile(
+    r"^ +DW_AT_(?P<name>low_pc|high_pc)\t\((?P<address>0x[0-9a-f]+|dead code)\)"
+)
 DUMPED_RANGES = re.compile(r"^ +DW_AT_ranges\t")
 DUMPED_RANGE = re.compile(r"^ +\[(?P<start>0x[0-9a-f]+), (?P<end>0x[0-9a-f]+)\)")
 
@@ -51,10 +56,12 @@ def value_of(text):
 
 
 def attributes_of(path):
-    """The attributes of each scope as readelf shows them, by its offset; its tag stands with them, the
-    number of the first later scope that is not below it, and the attributes of its unit's root."""
+    """The attributes of each scope as readelf shows them, by its offset; its tag stands
+    with them, the number of the first later scope that is not below it, and the
+    attributes of its unit's root."""
     scopes, current, root, around, is_read = {}, None, {}, [], True
-    for text in lines("readelf", "--wide", "--debug-dump=info", "--debug-dump=no-follow-links", path):
+    options = ("--wide", "--debug-dump=info", "--debug-dump=no-follow-links")
+    for text in lines("readelf", *options, path):
         if found := UNIT_TYPE.match(text):
             is_read = found["type"] in UNIT_TYPES
         elif found := ENTRY.match(text):
@@ -75,8 +82,8 @@ def attributes_of(path):
 
 
 def named(scopes, offset, name):
-    """The first name of a kind along the references of a scope, `-` where there is none, and `?` where
-    they lead to no scope or go on."""
+    """The first name of a kind along the references of a scope, `-` where there is none, and `?`
+    where they lead to no scope or go on."""
     for _ in range(HOPS + 1):
         attributes = scopes.get(offset)
         if attributes is None:
@@ -115,7 +122,8 @@ def ranges_of(path):
 
 
 def spelled(ranges):
-    return ",".join(f"{start:x}-{end:x}" for start, end in ranges if start not in (end, DROPPED)) or "-"
+    kept = [(start, end) for start, end in ranges if start not in (end, DROPPED)]
+    return ",".join(f"{start:x}-{end:x}" for start, end in kept) or "-"
 
 
 def number(text):
@@ -152,10 +160,13 @@ def main():
     path, table = sys.argv[1:]
     left, right = dict(ours(table)), dict(shown(path))
     both = [offset for offset in left if offset in right]
-    print(f"{Path(path).name}: {len(left)} scopes, the others {len(right)}, {len(both)} at the same offsets")
+    print(f"{Path(path).name}: {len(left)} scopes, the others {len(right)},"
+          f" {len(both)} at the same offsets")
     for number, field in enumerate(FIELDS):
-        print(f"  {field}: {sum(left[offset][number] == right[offset][number] for offset in both)} agree")
-    different = [offset for offset in sorted(left.keys() | right.keys()) if left.get(offset) != right.get(offset)]
+        same = sum(left[offset][number] == right[offset][number] for offset in both)
+        print(f"  {field}: {same} agree")
+    either = sorted(left.keys() | right.keys())
+    different = [offset for offset in either if left.get(offset) != right.get(offset)]
     for offset in different[:5]:
         print(ascii(f"  scope {offset:x}: {left.get(offset)} beside {right.get(offset)}"))
     print(f"  {len(different)} differ")

@@ -1,31 +1,38 @@
 #!/usr/bin/env bash
-# Shows the program at work on an object that gcc compiles there and then; with --stored, or where there is no gcc,
-# on demo.stored, which is demo.c as gcc compiled it, linked at /src.
+# Shows the program at work on an object that gcc compiles there and then; with --stored, or where
+# there is no gcc, on demo.stored, which is demo.c as gcc compiled it, linked at /src.
 set -euo pipefail
 cd "$(dirname "$0")/.."
 program=${ADDR2LINE_LIVE:-crates/addr2line_live/out/addr2line_live}
 mkdir -p out
 object=out/demo
 if [ "${1:-}" != --stored ] && command -v gcc > /dev/null; then
-    gcc -g -gdwarf-5 -O2 -o "$object" tools/demo.c
+    gcc -g -gdwarf-5 -O2 -fPIE -pie -o "$object" tools/demo.c
 else
     cp tools/demo.stored "$object"
 fi
 
-# The first address of the object with three frames, and the one before the first of these with one: of the code of
-# main, and of what is inlined into it. Both are looked for among the first bytes of each page of code.
+# The first address whose innermost frame is main, and the first with three frames, of
+# what is inlined into it.
 addresses=$(for ((address = 0x1000; address < 0x1400; address++)); do printf '%x ' $address; done)
 read -r plain inlined < <("$program" -a -f -i -p -e "$object" $addresses | awk '
-    /^0x/ { frames = 1; address = substr($1, 1, 18); name = $2; if (!plain && name == "main") plain = address }
+    /^0x/ { frames = 1; address = substr($1, 1, 18) }
+    /^0x/ && !plain && $2 == "main" { plain = address }
     /^ / { if (++frames == 3 && !inlined) inlined = address }
     END { print plain, inlined }')
+if [ -z "$inlined" ]; then
+    echo "$object has no code of main, or nothing inlined into it, from 1000 to 13ff" >&2
+    exit 1
+fi
 
 coproc "$program" -f -i -p
 # A command, and its reply: the line `.` behind it is no command, and marks where the reply ends.
 say() {
     echo "> $1"
     printf '%s\n.\n' "$1" >&"${COPROC[1]}"
-    while IFS= read -r reply <&"${COPROC[0]}" && [ "$reply" != 'refused command' ]; do echo "$reply"; done
+    while IFS= read -r reply <&"${COPROC[0]}" && [ "$reply" != 'refused command' ]; do
+        echo "$reply"
+    done
 }
 at() { printf '%x' $(($1 + $2)); }
 

@@ -1,10 +1,12 @@
 #!/usr/bin/env python3
-"""Loads objects that are made by chance, mutants of samples and of real objects, and asks the program of
-them by commands that are made by chance, beside a plain scan in Python (tools/plain_session.py).
+"""Loads objects that are made by chance, mutants of samples and of real objects, and asks the
+program of them by commands that are made by chance, beside a plain scan in Python
+(tools/plain_session.py).
 
-fuzz.py PROGRAM SEED COUNT [OBJECT..] tries COUNT objects; fuzz.py PROGRAM tables tries all values of each
-byte of a sample's headers, each of its cuts, and objects at the limits. It fails where a reply is another than the plain one,
-where the program ends, and where it says nothing for a minute; what it was told is then kept in out/fuzz.
+fuzz.py PROGRAM SEED COUNT [OBJECT..] tries COUNT objects; fuzz.py PROGRAM tables tries all values
+of each byte of a sample's headers, each of its cuts, and objects at the limits. It fails where a
+reply is another than the plain one, where the program ends, and where it says nothing for a minute;
+what it was told is then kept in out/fuzz.
 """
 import os
 import random
@@ -25,10 +27,11 @@ SAMPLE = Path(__file__).parent / "../crates/measure/data/inlined"
 REAL = Path(__file__).parent / "demo.stored"
 OPTIONS = ["", "fi", "afip", "fil", "s", "fips", "ap", "aflips"]
 BASES = [0, 0, 0x1000, 0x10000, 0x10800, 0x11000, 0x7F0000000000, TOP - 0x2000, TOP - 0x2001, TOP]
-LINES = [b"list", b"list ", b"", b" ", b"x", b"load", b"load a 0", b"load a! 0 x", b"load a zz x", b"move a",
-         b"unload", b"unload zz", b"move zz 0", b"0x", b"12345678901234567", b"1000\r", b"load a 0 ", b"\0",
-         b"load a 0 no/such", b"load a 0 \xff\xfe", b"load a 0 .", b"z" * 4096, b"z" * 4097, b"load  0 x",
-         b"load " + b"n" * 65 + b" 0 x", b"move a 0 1", b"fFfFfFfFfFfFfFfF", b"LOAD a 0 x"]
+LINES = [b"list", b"list ", b"", b" ", b"x", b"load", b"load a 0", b"load a! 0 x", b"load a zz x",
+         b"move a", b"unload", b"unload zz", b"move zz 0", b"0x", b"12345678901234567", b"1000\r",
+         b"load a 0 ", b"\0", b"load a 0 no/such", b"load a 0 \xff\xfe", b"load a 0 .", b"z" * 4096,
+         b"z" * 4097, b"load  0 x", b"load " + b"n" * 65 + b" 0 x", b"move a 0 1",
+         b"fFfFfFfFfFfFfFfF", b"LOAD a 0 x"]
 
 
 class Differs(Exception):
@@ -41,20 +44,30 @@ class Run:
     def __init__(self, program, letters, folder, cache=64):
         options = [f"-{letter}" for letter in letters if letter != "l"]
         options += ["--linkage"] if "l" in letters else []
-        command = shlex.split(program) + options + ["--cache", str(cache)]
-        self.process = subprocess.Popen(command, stdin=subprocess.PIPE, stdout=subprocess.PIPE, bufsize=0)
+        self.command = shlex.split(program) + options + ["--cache", str(cache)]
+        pipes = {"stdin": subprocess.PIPE, "stdout": subprocess.PIPE}
+        self.process = subprocess.Popen(self.command, bufsize=0, **pipes)
         self.session, self.folder, self.said, self.wanted = Session(letters), folder, [], []
-        self.count, self.told = 0, letters
+        self.count, self.told, self.script = 0, letters, []
 
     def say(self, line):
         """Gives a line to both; the program gets it with the next `compare`."""
         reply = self.session.reply(line)
+        self.script.append(line)
         self.said.append(line)
         self.wanted.append(reply)
         self.count += 1
         if sum(map(len, self.said[-200:])) > 16384 or len(self.said) > 400:
             self.compare()
         return reply
+
+    def begin_anew(self):
+        """Unloads all modules, so that what is said from here on is a script of its own."""
+        for name in list(self.session.modules):
+            self.say(b"unload " + name)
+        self.compare()
+        self.session.known.clear()
+        self.script = []
 
     def read(self, size):
         """So many bytes of replies; or fewer, and why."""
@@ -78,7 +91,8 @@ class Run:
         found, stopped = self.read(sum(map(len, self.wanted)))
         for line, wanted in zip(self.said, self.wanted):
             if not found.startswith(wanted):
-                raise Differs(f"-{self.told} {line[:99]!r}: {found[:len(wanted) + 60]!r} {stopped}, plain {wanted!r}")
+                shown = found[:len(wanted) + 60]
+                raise Differs(f"-{self.told} {line[:99]!r}: {shown!r} {stopped}, plain {wanted!r}")
             found = found[len(wanted):]
         self.said, self.wanted = [], []
 
@@ -92,8 +106,12 @@ class Run:
 
 def links(chance, module, count):
     """Link addresses near the ends of a module's rows and ranges."""
-    ends = [row.address for row in module.rows] + [end for scope in module.scopes for pair in scope.ranges for end in pair]
-    near = [chance.choice(ends) + chance.choice([-1, 0, 0, 1]) if ends else module.low for _ in range(count)]
+    ends = [row.address for row in module.rows]
+    ends += [end for scope in module.scopes for pair in scope.ranges for end in pair]
+    near = [
+        chance.choice(ends) + chance.choice([-1, 0, 0, 1]) if ends else module.low
+        for _ in range(count)
+    ]
     return [link & TOP for link in near]
 
 
@@ -113,7 +131,8 @@ def commands(chance, run, path):
     if chance.random() < 0.3:
         run.say(b"move n%d %x" % (chance.randrange(6), chance.choice(BASES)))
     if chance.random() < 0.2:
-        line = chance.choice([b"load n1 1000 " + bytes(run.folder / "sample"), b"move n2 7f0000000000", b"0x7f0000001004", b"unload n3"])
+        line = chance.choice([b"load n1 1000 " + bytes(run.folder / "sample"),
+                              b"move n2 7f0000000000", b"0x7f0000001004", b"unload n3"])
         run.say(changed(chance, line).replace(b"\n", b"?"))
         run.say(chance.choice(LINES))
         run.say(b"list")
@@ -133,8 +152,7 @@ def feed(run, objects, tell):
     (run.folder / "sample").write_bytes(SAMPLE.read_bytes())
     for count, data in enumerate(objects):
         if count % 400 == 0:
-            run.compare()
-            run.session.known.clear()
+            run.begin_anew()
         path = run.folder / f"o{count % 400}"
         path.write_bytes(data)
         tell(run, bytes(path))
@@ -142,15 +160,19 @@ def feed(run, objects, tell):
 
 
 def keep(run):
-    """Keeps what the program was told since the last compare, with its objects."""
+    """Keeps what the program was told since no module was loaded, its objects, and the command:
+    `$(cat out/fuzz/command) < out/fuzz/script` tells it the same again."""
     kept = Path("out/fuzz")
     shutil.rmtree(kept, ignore_errors=True)
     shutil.copytree(run.folder, kept)
-    (kept / "script").write_bytes(b"".join(line + b"\n" for line in run.said))
+    script = b"".join(line + b"\n" for line in run.script)
+    (kept / "script").write_bytes(script.replace(bytes(run.folder), bytes(kept)))
+    (kept / "command").write_text(shlex.join(run.command) + "\n")
 
 
 def all_runs(words):
-    """The runs: the letters of the options, how many objects, the objects, and what is said of each."""
+    """The runs: the letters of the options, how many objects, the objects,
+    and what is said of each."""
     sample = SAMPLE.read_bytes()
     if words[0] == "tables":
         table = [*limits(), *cut_sections(sample), *whole_table(sample)]
@@ -158,25 +180,31 @@ def all_runs(words):
     count, chance = int(words[1]), random.Random(int(words[0]))
     reals = [sample, sample, REAL.read_bytes()] + [Path(path).read_bytes() for path in words[2:]]
     sizes = [2000] * (count // 2000) + [count % 2000] * (count % 2000 > 0)
-    return [(OPTIONS[n % 8], size, made(chance, reals, size), lambda run, path: commands(chance, run, path))
-            for n, size in enumerate(sizes)]
+
+    def tell(run, path):
+        commands(chance, run, path)
+
+    return [(OPTIONS[n % 8], size, made(chance, reals, size), tell) for n, size in enumerate(sizes)]
 
 
 def main():
     program, words = sys.argv[1], sys.argv[2:]
     print(f"fuzz: objects and commands beside a plain scan; {' '.join(words[:2])}", flush=True)
     start, tried, said, chance = time.monotonic(), 0, 0, random.Random(0)
-    with tempfile.TemporaryDirectory(dir="/dev/shm" if os.path.isdir("/dev/shm") else None) as folder:
+    shared = "/dev/shm" if os.path.isdir("/dev/shm") else None
+    with tempfile.TemporaryDirectory(dir=shared) as folder:
         for letters, size, objects, tell in all_runs(words):
             run = Run(program, letters, Path(folder), chance.choice([0, 1, 4, 64, 1024, 65536]))
             try:
                 feed(run, objects, tell)
             except Differs as differs:
                 keep(run)
-                raise SystemExit(f"{differs}\nfuzz: {tried} objects tried, the first difference kept in out/fuzz") from differs
-            tried, said = tried + size, said + run.count
-            print(f"{tried} objects, {said} lines, {time.monotonic() - start:.0f} s, options '{letters}'", flush=True)
-    print(f"fuzz: {tried} objects and {said} lines tried in {time.monotonic() - start:.0f} s, none differs")
+                kept = f"fuzz: {tried} objects tried, the first difference kept in out/fuzz"
+                raise SystemExit(f"{differs}\n{kept}") from differs
+            tried, said, passed = tried + size, said + run.count, time.monotonic() - start
+            print(f"{tried} objects, {said} lines, {passed:.0f} s, options '{letters}'", flush=True)
+    passed = time.monotonic() - start
+    print(f"fuzz: {tried} objects and {said} lines tried in {passed:.0f} s, none differs")
 
 
 if __name__ == "__main__":

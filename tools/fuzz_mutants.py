@@ -1,5 +1,5 @@
-"""Objects for tools/fuzz.py: the table of a sample's cuts and changed bytes, objects at the limits, and
-mutants of others, made by changes of bytes and of whole sections."""
+"""Objects for tools/fuzz.py: the table of a sample's cuts and changed bytes, objects at the limits,
+and mutants of others, made by changes of bytes and of whole sections."""
 import struct
 
 from fuzz_objects import Maker
@@ -31,8 +31,8 @@ def one_unit(entries):
 
 
 def limits():
-    """Entries at the greatest depth and one deeper; as many declarations, and range items, as an object may
-    have, and more."""
+    """Entries at the greatest depth and one deeper; as many declarations, and range items, as an
+    object may have, and more."""
     for depth in (256, 257):
         entries = b"\1" * (depth + 1) + b"\0" * (depth + 1)
         yield elf([(".debug_info", one_unit(entries)), (".debug_abbrev", b"\1\x2e\1\0\0\0")])
@@ -47,7 +47,8 @@ def limits():
 
 
 def mutant(chance, data):
-    """An object with changed bytes, mostly of its sections, or with a section made longer or shorter."""
+    """An object with changed bytes, mostly of its sections, or with a section
+    made longer or shorter."""
     found, _, _ = read_elf(data)
     sections = [(name, body) for name, body in found.items() if body]
     at = chance.randrange(len(sections))
@@ -56,8 +57,12 @@ def mutant(chance, data):
         return elf(sections[:at] + [(name, changed(chance, body))] + sections[at + 1:])
     data, start = bytearray(data), data.find(body)
     for _ in range(chance.randrange(1, 4)):
-        place = start + chance.randrange(len(body)) if chance.random() < 0.9 else chance.randrange(len(data))
-        data[place] = chance.choice([chance.randrange(256), 0, 1, 0x80, 0xFF, data[place] ^ 1 << chance.randrange(8)])
+        if chance.random() < 0.9:
+            place = start + chance.randrange(len(body))
+        else:
+            place = chance.randrange(len(data))
+        data[place] = chance.choice([chance.randrange(256), 0, 1, 0x80, 0xFF,
+                                     data[place] ^ 1 << chance.randrange(8)])
     return bytes(data)
 
 
@@ -77,7 +82,8 @@ def changed(chance, data, most=3):
         elif how < 0.8:
             data[at:at] = bytes(chance.randrange(256) for _ in range(chance.choice([1, 1, 2, 4])))
         elif how < 0.9:
-            data[at:at + 8] = chance.choice([b"\xff" * 8, bytes(8), b"\x80" * 9 + b"\1", struct.pack("<Q", 0xFFFFFFF0)])
+            data[at:at + 8] = chance.choice([b"\xff" * 8, bytes(8), b"\x80" * 9 + b"\1",
+                                             struct.pack("<Q", 0xFFFFFFF0)])
         else:
             from_ = chance.randrange(len(data))
             data[at:at + 4] = data[from_:from_ + chance.choice([1, 2, 4, 12])]
@@ -97,4 +103,7 @@ def random_object(chance):
 
 def made(chance, reals, count):
     for _ in range(count):
-        yield mutant(chance, chance.choice(reals)) if chance.random() < 0.5 else random_object(chance)
+        if chance.random() < 0.5:
+            yield mutant(chance, chance.choice(reals))
+        else:
+            yield random_object(chance)

@@ -6,6 +6,7 @@ from hostile import uleb
 NAMES = [b"main", b"mid", b"leaf", b"", b"a\x01b", b"\xff\x80", b"/x/", b"operator new"]
 TOP = (1 << 64) - 1
 BASES = {".debug_str_offsets": 0x72, ".debug_addr": 0x73, ".debug_rnglists": 0x74}
+INDEX_SIZES = {0x1B: 1, 0x1A: 1, 0x23: 1, 0x29: 1, 0x25: 1, 0x2A: 2, 0x26: 2}  # by form
 
 
 def sleb(number):
@@ -44,8 +45,11 @@ class Maker:
         form = self.chance.choice([0x08, 0x0E, 0x1F])
         if form == 0x08:
             return form, self.chance.choice(NAMES) + b"\0"
-        section = self.string if form == 0x0E else self.line_string
-        return form, self.chance.randrange(len(section)).to_bytes(width, "little")
+        return form, self.offset_in(self.string if form == 0x0E else self.line_string, width)
+
+    def offset_in(self, section, width):
+        """The bytes of an offset that is in a section."""
+        return self.chance.randrange(len(section)).to_bytes(width, "little")
 
     # Line programs.
 
@@ -63,9 +67,10 @@ class Maker:
                 if content == 1:
                     section = self.string if form == 0x0E else self.line_string
                     text = self.chance.choice(NAMES) + b"\0"
-                    made += text if form == 8 else self.chance.randrange(len(section)).to_bytes(width, "little")
+                    made += text if form == 8 else self.offset_in(section, width)
                 elif content == 2:
-                    made += self.chance.randrange(2).to_bytes({0x0B: 1, 0x05: 2, 0x0F: 1}[form], "little")
+                    size = {0x0B: 1, 0x05: 2, 0x0F: 1}[form]
+                    made += self.chance.randrange(2).to_bytes(size, "little")
                 else:
                     made += bytes(16)
         return made
@@ -76,8 +81,10 @@ class Maker:
             made += bytes([0, 9, 2]) + struct.pack("<Q", self.near()) + b"\3\x20"
             for _ in range(self.chance.randrange(6)):
                 made += self.chance.choice([
-                    b"\1", b"\2" + uleb(self.chance.randrange(9)), b"\3" + sleb(self.chance.randrange(-1, 40)),
-                    b"\4" + uleb(self.chance.randrange(2)), b"\5\7", b"\6", b"\7", b"\x08", b"\x09\3\0",
+                    b"\1", b"\2" + uleb(self.chance.randrange(9)),
+                    b"\3" + sleb(self.chance.randrange(-1, 40)),
+                    b"\4" + uleb(self.chance.randrange(2)),
+                    b"\5\7", b"\6", b"\7", b"\x08", b"\x09\3\0",
                     bytes([self.chance.randrange(opcode_base, 256)]), bytes([0, 3, 9, 1, 2])])
             made += bytes([0, 1, 1]) if self.often() else b""
         return made
@@ -95,14 +102,16 @@ class Maker:
         self.lines += self.length(width, len(rest)) + rest
 
     def length(self, width, length):
-        return struct.pack("<I", length) if width == 4 else b"\xff\xff\xff\xff" + struct.pack("<Q", length)
+        if width == 4:
+            return struct.pack("<I", length)
+        return b"\xff\xff\xff\xff" + struct.pack("<Q", length)
 
     # Tables of a unit.
 
     def tables(self):
         offsets = [self.chance.randrange(len(self.string)) for _ in range(4)]
         self.addresses = [self.near() for _ in range(6)]
-        self.bases, made = {}, {".debug_str_offsets": b"", ".debug_addr": b"", ".debug_rnglists": b""}
+        self.bases, made = {}, dict.fromkeys(BASES, b"")
         for width in (4, 8):
             strings = b"".join(offset.to_bytes(width, "little") for offset in offsets)
             addresses = b"".join(struct.pack("<Q", address) for address in self.addresses)
@@ -138,7 +147,7 @@ class Maker:
         return form, struct.pack("<Q", self.near()) if form == 1 else self.index(form)
 
     def index(self, form):
-        return self.chance.randrange(4).to_bytes({0x1B: 1, 0x1A: 1, 0x23: 1, 0x29: 1, 0x25: 1, 0x2A: 2, 0x26: 2}[form], "little")
+        return self.chance.randrange(4).to_bytes(INDEX_SIZES[form], "little")
 
     def name(self, width):
         if self.chance.random() < 0.5:
@@ -164,13 +173,17 @@ class Maker:
         ranged = self.chance.random()
         if ranged < 0.6:
             found[0x11] = self.address()
-            found[0x12] = self.chance.choice([(0x0B, b"\x18"), (0x05, b"\x10\0"), (0x0F, b"\x0c"), (0x0D, b"\x20"), (0x21, b"")])
+            found[0x12] = self.chance.choice([(0x0B, b"\x18"), (0x05, b"\x10\0"), (0x0F, b"\x0c"),
+                                              (0x0D, b"\x20"), (0x21, b"")])
         elif ranged < 0.8 and self.bases:
-            found[0x55] = self.chance.choice([(0x23, b"\1"), (0x23, b"\2"), (0x17, self.lists.to_bytes(width, "little"))])
+            found[0x55] = self.chance.choice([(0x23, b"\1"), (0x23, b"\2"),
+                                              (0x17, self.lists.to_bytes(width, "little"))])
         if tag == 0x1D and self.chance.random() < 0.8:
-            found[0x58], found[0x59] = self.chance.choice([(0x0B, b"\1"), (0x0F, b"\0"), (0x21, b"")]), (0x05, b"\7\1")
+            found[0x58] = self.chance.choice([(0x0B, b"\1"), (0x0F, b"\0"), (0x21, b"")])
+            found[0x59] = (0x05, b"\7\1")
         if self.chance.random() < 0.2:
-            found[0x49] = self.chance.choice([(0x19, b""), (0x18, b"\2ab"), (0x20, bytes(8)), (0x22, b"\5"), (0x1E, bytes(16))])
+            found[0x49] = self.chance.choice([(0x19, b""), (0x18, b"\2ab"), (0x20, bytes(8)),
+                                              (0x22, b"\5"), (0x1E, bytes(16))])
         return found
 
     def declare(self, tag, children, found):
@@ -181,7 +194,8 @@ class Maker:
             if form != 0x21 and self.chance.random() < 0.05:
                 pairs, values = pairs + uleb(attribute) + b"\x16", values + uleb(form) + read
             else:
-                pairs += uleb(attribute) + uleb(form) + (sleb(self.chance.randrange(2)) if form == 0x21 else b"")
+                constant = sleb(self.chance.randrange(2)) if form == 0x21 else b""
+                pairs += uleb(attribute) + uleb(form) + constant
                 values += read
         self.abbrev += uleb(self.code) + uleb(tag) + bytes([children]) + pairs + b"\0\0"
         return uleb(self.code) + values
@@ -212,7 +226,8 @@ class Maker:
                 body, depth = body + b"\0", depth - 1
         self.abbrev += b"\0"
         kind = self.chance.choice([1, 1, 1, 1, 3, 2])
-        rest = struct.pack("<HBB", 5, kind, 8) + place.to_bytes(width, "little") + body + bytes(depth)
+        rest = struct.pack("<HBB", 5, kind, 8) + place.to_bytes(width, "little")
+        rest += body + bytes(depth)
         self.info += self.length(width, len(rest)) + rest
 
     def make(self):
@@ -223,8 +238,9 @@ class Maker:
         self.bases = self.bases if found else {}
         for _ in range(self.chance.randrange(1, 4)):
             self.unit()
-        found.update({".debug_info": self.info, ".debug_abbrev": self.abbrev, ".debug_line": self.lines,
-                      ".debug_str": self.string, ".debug_line_str": self.line_string})
+        found.update({".debug_info": self.info, ".debug_abbrev": self.abbrev,
+                      ".debug_line": self.lines, ".debug_str": self.string,
+                      ".debug_line_str": self.line_string})
         sections = list(found.items())
         self.chance.shuffle(sections)
         return sections

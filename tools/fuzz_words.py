@@ -1,8 +1,8 @@
 #!/usr/bin/env python3
 """Runs the program with command lines that are made by chance, beside a plain session.
 
-fuzz_words.py PROGRAM SEED COUNT makes so many command lines of options, an object and addresses. It fails
-where status, standard output or standard error are others than those of a plain session.
+fuzz_words.py PROGRAM SEED COUNT makes so many command lines of options, an object and addresses. It
+fails where status, standard output or standard error are others than those of a plain session.
 """
 import random
 import subprocess
@@ -15,8 +15,8 @@ from fuzz import REAL, SAMPLE
 from fuzz_mutants import mutant, random_object
 from plain_session import Session, number
 
-LONG = {"a": "--addresses", "f": "--functions", "i": "--inlines", "p": "--pretty-print", "s": "--basenames",
-        "l": "--linkage"}
+LONG = {"a": "--addresses", "f": "--functions", "i": "--inlines", "p": "--pretty-print",
+        "s": "--basenames", "l": "--linkage"}
 BAD = ["zz", "", "0x", "0X10", "12345678901234567", "0x11 "]
 
 
@@ -31,14 +31,16 @@ def options(chance):
 
 def addresses(chance):
     asked = [0x1000 + chance.randrange(0x90), chance.randrange(1 << 64), 0]
-    words = [chance.choice(["%x", "0x%x", "%X"]) % chance.choice(asked) for _ in range(chance.randrange(4))]
+    spellings, count = ["%x", "0x%x", "%X"], chance.randrange(4)
+    words = [chance.choice(spellings) % chance.choice(asked) for _ in range(count)]
     if chance.random() < 0.1:
         words.insert(chance.randrange(len(words) + 1), chance.choice(BAD))
     return words
 
 
 def plain(letters, path, words):
-    """The status, standard output and standard error that are wanted. The input is a line `list`."""
+    """The status, standard output and standard error that are wanted. The
+    input is a line `list`."""
     session = Session(letters)
     for word in words:
         if number(word.encode()) is None:
@@ -51,26 +53,31 @@ def plain(letters, path, words):
 
 def main():
     program, seed, count = sys.argv[1], sys.argv[2], int(sys.argv[3])
-    print(f"fuzz words: command lines made by chance beside a plain session; seed {seed}, {count} lines", flush=True)
+    print(f"fuzz words: command lines made by chance beside a plain session; seed {seed},"
+          f" {count} lines", flush=True)
     chance, start, wrong = random.Random(seed), time.monotonic(), 0
     reals = [SAMPLE.read_bytes(), REAL.read_bytes()]
     with tempfile.TemporaryDirectory() as folder:
         for _ in range(count):
             path = Path(folder) / chance.choice(["o", "o", "o", "none"])
             if path.name == "o":
-                path.write_bytes(chance.choice([*reals, random_object(chance), mutant(chance, reals[0])]))
+                made = [random_object(chance), mutant(chance, reals[0])]
+                path.write_bytes(chance.choice([*reals, *made]))
             letters, words = options(chance)
             path = bytes(path) if chance.random() < 0.7 else b""
             if path:
                 words += chance.choice([["-e", path.decode()], ["--exe=" + path.decode()]])
             words += chance.choice([[], [], ["--cache=0"], ["--cache", "65536"]])
             asked = addresses(chance)
-            done = subprocess.run([program, *words, *asked], input=b"list\n", capture_output=True, check=False)
-            outcome, wanted = (done.returncode, done.stdout, done.stderr), plain(letters, path, asked)
+            command = [program, *words, *asked]
+            done = subprocess.run(command, input=b"list\n", capture_output=True, check=False)
+            outcome = (done.returncode, done.stdout, done.stderr)
+            wanted = plain(letters, path, asked)
             if outcome != wanted:
                 wrong += 1
                 print(f"{words + asked}: {outcome}, plain {wanted}")
-    print(f"fuzz words: {count} command lines tried in {time.monotonic() - start:.0f} s, {wrong} differ")
+    passed = time.monotonic() - start
+    print(f"fuzz words: {count} command lines tried in {passed:.0f} s, {wrong} differ")
     sys.exit(bool(wrong))
 
 

@@ -1,15 +1,15 @@
 #!/usr/bin/env python3
 """Times the readers on objects that are shaped to cost more than their bytes.
 
-hostile.py MEASURE FOLDER [MEGABYTES] writes an object of each shape into FOLDER at a quarter of the size,
-half of it and the whole, reads each with `measure lines` or `measure scopes`, and prints the seconds by
-size. It fails where doubling the size takes more than three times as long, or the whole more than two
-seconds for each 20 MB.
+hostile.py MEASURE FOLDER [MEGABYTES] writes an object of each shape into FOLDER at a quarter of the
+size, half of it and the whole, reads each with `measure lines` or `measure scopes`, and prints the
+seconds of processor by size. It fails where doubling the size takes more than three times as long,
+or the whole more than two seconds for each 20 MB.
 """
+import resource
 import struct
 import subprocess
 import sys
-import time
 from pathlib import Path
 
 MEGABYTE = 1 << 20
@@ -26,8 +26,8 @@ def uleb(number):
 
 
 def elf(sections, segments=1, names=None):
-    """An object of these sections, given as (name, bytes). Its section names may be given whole: they
-    are then the text, and how many further headers name it from its start."""
+    """An object of these sections, given as (name, bytes). Its section names may be given whole:
+    they are then the text, and how many further headers name it from its start."""
     text = bytearray(b"\0")
     offsets = []
     for name, _ in sections:
@@ -44,12 +44,14 @@ def elf(sections, segments=1, names=None):
     place = 64 + len(program_headers)
     headers, body = [bytes(64)], bytearray()
     for (_, data), offset in zip(list(sections) + [("", bytes(text))], offsets):
-        headers.append(struct.pack("<IIQQQQIIQQ", offset, 1, 0, 0, place + len(body), len(data), 0, 0, 0, 0))
+        numbers = (offset, 1, 0, 0, place + len(body), len(data), 0, 0, 0, 0)
+        headers.append(struct.pack("<IIQQQQIIQQ", *numbers))
         body += data
     headers += [bytes(64)] * further
     table = b"".join(headers)
     header = b"\x7fELF\x02\x01\x01" + bytes(9) + struct.pack(
-        "<HHIQQQIHHHHHH", 3, 62, 1, 0, 64, place + len(body), 0, 64, 56, segments, 64, len(headers), len(sections) + 1)
+        "<HHIQQQIHHHHHH", 3, 62, 1, 0, 64, place + len(body), 0, 64, 56, segments, 64,
+        len(headers), len(sections) + 1)
     return header + program_headers + bytes(body) + table
 
 
@@ -66,12 +68,14 @@ FILES = bytes([1, 1, 8, 1]) + b"/\0" + bytes([1, 1, 8, 2]) + b"a\0b\0"
 def directories_in_one_text(size):
     count = size // 8
     tables = bytes([1, 1, 0x1F]) + uleb(count) + bytes(4 * count) + bytes([0, 0])
-    return elf([(".debug_line", line_program(tables)), (".debug_line_str", b"d" * (size // 2) + b"\0")])
+    text = b"d" * (size // 2) + b"\0"
+    return elf([(".debug_line", line_program(tables)), (".debug_line_str", text)])
 
 
 def files_in_one_text(size):
     count = size // 10
-    tables = bytes([1, 1, 8, 1]) + b"/\0" + bytes([2, 1, 0x0E, 2, 0x0B]) + uleb(count) + bytes(5 * count)
+    tables = bytes([1, 1, 8, 1]) + b"/\0" + bytes([2, 1, 0x0E, 2, 0x0B])
+    tables += uleb(count) + bytes(5 * count)
     return elf([(".debug_line", line_program(tables)), (".debug_str", b"f" * (size // 2) + b"\0")])
 
 
@@ -88,7 +92,8 @@ def names_of_sections(size):
 
 def rows(size):
     start = bytes([0, 9, 2]) + bytes(8)
-    return elf([(".debug_line", line_program(FILES, start + bytes([18]) * size + bytes([0, 1, 1])))])
+    instructions = start + bytes([18]) * size + bytes([0, 1, 1])
+    return elf([(".debug_line", line_program(FILES, instructions))])
 
 
 def sequences(size):
@@ -124,31 +129,37 @@ def tables_in_turn(size):
     table = bytes([1, 0x11, 0]) + flags + bytes([0, 0, 0])
     unit = struct.Struct("<IHBBIB")
     pair = unit.pack(9, 5, 1, 8, 0, 1) + unit.pack(9, 5, 1, 8, len(table), 1)
-    return elf([(".debug_abbrev", table * 2), (".debug_info", pair * ((size - 2 * len(table)) // len(pair)))])
+    count = (size - 2 * len(table)) // len(pair)
+    return elf([(".debug_abbrev", table * 2), (".debug_info", pair * count)])
 
 
 def references_to_a_long_entry(size):
     """Subprograms that all refer to one, whose entry has very many attributes of a byte."""
     attributes = b"".join(uleb(0x2000 + number) + bytes([0x0F]) for number in range(size // 20))
-    abbreviations = bytes([1, 0x11, 1, 0, 0, 2, 0x2E, 0]) + attributes + bytes([0, 0, 3, 0x2E, 0, 0x31, 0x13, 0, 0, 0])
+    abbreviations = bytes([1, 0x11, 1, 0, 0, 2, 0x2E, 0]) + attributes
+    abbreviations += bytes([0, 0, 3, 0x2E, 0, 0x31, 0x13, 0, 0, 0])
     entries = bytes([1, 2]) + bytes(size // 20) + bytes([3, 13, 0, 0, 0]) * (size // 8) + bytes([0])
     unit = struct.pack("<HBBI", 5, 1, 8, 0) + entries
-    return elf([(".debug_abbrev", abbreviations), (".debug_info", struct.pack("<I", len(unit)) + unit)])
+    info = struct.pack("<I", len(unit)) + unit
+    return elf([(".debug_abbrev", abbreviations), (".debug_info", info)])
 
 
 def references_between_tables(size):
-    """Subprograms of a unit that refer to those of another one. The tables of both stand in one long list of
-    declarations, behind more of them than are kept. The object has a fifth of the size, since a reference of
-    these costs what several others do."""
+    """Subprograms of a unit that refer to those of another one. The tables of both stand in one
+    long list of declarations, behind more of them than are kept. The object has a fifth of the
+    size, since a reference of these costs what several others do."""
     attributes = b"".join(uleb(0x2000 + number) + bytes([0x0F]) for number in range(100))
-    declared = [uleb(4 + number) + bytes([0x2E, 0]) + attributes + bytes([0, 0]) for number in range(size // 12_000)]
-    table = b"".join(declared) + bytes([1, 0x11, 1, 0, 0, 2, 0x2E, 0, 0x47, 0x10, 0, 0, 3, 0x2E, 0, 0, 0, 0])
+    declared = [uleb(4 + number) + bytes([0x2E, 0]) + attributes + bytes([0, 0])
+                for number in range(size // 12_000)]
+    table = b"".join(declared) + bytes([1, 0x11, 1, 0, 0])
+    table += bytes([2, 0x2E, 0, 0x47, 0x10, 0, 0, 3, 0x2E, 0, 0, 0, 0])
     places = [sum(map(len, declared[:number])) for number in range(6)]
     info = b"".join(struct.pack("<IHBBIB", 9, 5, 1, 8, place, 3) for place in places[:4])
     count = size // 32
     head = struct.Struct("<IHBBI")
     targets = len(info) + 2 * head.size + 5 * count + 3  # the first subprogram of the second unit
-    entries = bytes([1]) + b"".join(struct.pack("<BI", 2, targets + number) for number in range(count)) + bytes([0])
+    references = (struct.pack("<BI", 2, targets + number) for number in range(count))
+    entries = bytes([1]) + b"".join(references) + bytes([0])
     info += head.pack(8 + len(entries), 5, 1, 8, places[4]) + entries
     entries = bytes([1]) + bytes([3]) * count + bytes([0])
     info += head.pack(8 + len(entries), 5, 1, 8, places[5]) + entries
@@ -171,13 +182,19 @@ SHAPES = [
 ]
 
 
+def used():
+    """The seconds of processor that the processes run so far have taken."""
+    told = resource.getrusage(resource.RUSAGE_CHILDREN)
+    return told.ru_utime + told.ru_stime
+
+
 def seconds(measure, command, path):
-    """The least of three times."""
+    """The seconds of processor that a run takes, the least of five."""
     times = []
-    for _ in range(3):
-        start = time.monotonic()
+    for _ in range(5):
+        start = used()
         done = subprocess.run([measure, command, path], capture_output=True, text=True, check=False)
-        times.append(time.monotonic() - start)
+        times.append(used() - start)
         if done.returncode != 0:
             raise SystemExit(f"{path}: {done.stdout}{done.stderr}")
     return min(times)
@@ -199,7 +216,8 @@ def main():
         bad = growth > 3 or times[-1] > 2 * whole / 20
         failed = failed or bad
         shown = ", ".join(f"{t:.3f} s" for t in times)
-        print(f"{shape.__name__.replace('_', ' '):26} {whole / 4:g}, {whole / 2:g}, {whole:g} MB: {shown}{'  TOO LONG' if bad else ''}")
+        name, verdict = shape.__name__.replace("_", " "), "  TOO LONG" if bad else ""
+        print(f"{name:26} {whole / 4:g}, {whole / 2:g}, {whole:g} MB: {shown}{verdict}")
     sys.exit(failed)
 
 

@@ -9,7 +9,8 @@ template <int N> int work(int seed) {
     std::vector<Key<N>> all;
     for (auto &entry : table) all.insert(all.end(), entry.second.begin(), entry.second.end());
     std::sort(all.begin(), all.end());
-    std::stable_sort(all.begin(), all.end(), [](const Key<N> &a, const Key<N> &b) { return b < a; });
+    std::stable_sort(all.begin(), all.end(),
+                     [](const Key<N> &a, const Key<N> &b) { return b < a; });
     std::unordered_map<int, std::function<int(int)>> calls;
     for (auto &key : all) calls[key.value] = [key](int x) { return x + key.value + N; };
     std::ostringstream out;

@@ -32,6 +32,9 @@ class Segment(NamedTuple):
         return self.offset - self.offset % PAGE <= offset < self.offset + self.size
 
 
+DELETED = " (deleted)"  # behind the path of a file that is no longer there
+
+
 class Mapping(NamedTuple):
     """A stretch of an address space that shows a file."""
 
@@ -44,7 +47,7 @@ class Mapping(NamedTuple):
 def mapping_of(line):
     """The executable mapping of a file that a line of /proc/PID/maps tells of, or None."""
     found = LINE.fullmatch(line.rstrip("\n"))
-    if not found or found["rights"][2] != "x" or found["path"].endswith(" (deleted)"):
+    if not found or found["rights"][2] != "x":
         return None
     start, end, offset = (int(found[key], 16) for key in ("start", "end", "offset"))
     return Mapping(start, end, offset, found["path"])
@@ -52,7 +55,10 @@ def mapping_of(line):
 
 @functools.cache
 def segments(path):
-    """The executable segments of a 64-bit little-endian ELF object; none for any other file."""
+    """The executable segments of a 64-bit little-endian ELF object; none for any other file, and
+    none for one that is deleted, since another may have its path."""
+    if path.endswith(DELETED):
+        return []
     try:
         with open(path, "rb") as file:
             header = file.read(64)
@@ -91,10 +97,15 @@ def name_of(path, taken):
     return name
 
 
-def objects_of(lines):
-    """The name, base and path of each object in lines of /proc/PID/maps, and other files' paths."""
+def objects_of(lines, root=""):
+    """The name, base and path of each object in lines of /proc/PID/maps, and other files' paths.
+    The files are read, and named, below `root`: a process may have a root folder of its own."""
     loaded, others, taken = {}, [], set()
-    for mapping in filter(None, map(mapping_of, lines)):
+    for line in lines:
+        mapping = mapping_of(line)
+        if not mapping:
+            continue
+        mapping = mapping._replace(path=root + mapping.path)
         base = base_of(mapping, segments(mapping.path))
         if base is None:
             others.append(mapping.path)

@@ -1,11 +1,12 @@
 #!/usr/bin/env python3
-"""Runs one process for long: a day's commands in small, and then outputs and files that are not as wanted.
+"""Runs one process for long: a day's commands in small, and then outputs and
+files that are not as wanted.
 
-long_run.py PROGRAM COMMANDS [OBJECT..] gives so many commands, most of them addresses, with loads, moves
-and unloads among them, beside plain answers (tools/plain_session.py), which small OBJECTs may be added to.
-It fails where a reply is another, where memory or descriptors are not back where they were once all is
-unloaded, and where a full or closed output, a folder, a pipe, a device without end, a file at the limit of
-1 GiB, or one that shrinks, is answered otherwise than the README says.
+long_run.py PROGRAM COMMANDS [OBJECT..] gives so many commands, most of them addresses, with loads,
+moves and unloads among them, beside plain answers (tools/plain_session.py), which small OBJECTs may
+be added to. It fails where a reply is another, where memory or descriptors are not back where they
+were once all is unloaded, and where a full or closed output, a folder, a pipe, a device without
+end, a file at the limit of 1 GiB, or one that shrinks, is answered otherwise than the README says.
 """
 import functools
 import os
@@ -28,7 +29,8 @@ failures = []
 
 def expect(what, found, *wanted):
     is_good = found in wanted
-    print(f"{what}: {found if len(str(found)) < 100 else str(found)[:100]}{'' if is_good else f', WANTED {wanted}'}", flush=True)
+    missed = "" if is_good else f", WANTED {wanted}"
+    print(f"{what}: {str(found)[:100]}{missed}", flush=True)
     if not is_good:
         failures.append(what)
 
@@ -42,7 +44,8 @@ def state(process):
 
 def objects(paths):
     """Samples, the objects named, and ones made by chance: some that load and some that do not."""
-    found = [SAMPLE.read_bytes(), REAL.read_bytes(), SAMPLE.read_bytes()[:500]] + [Path(path).read_bytes() for path in paths]
+    found = [SAMPLE.read_bytes(), REAL.read_bytes(), SAMPLE.read_bytes()[:500]]
+    found += [Path(path).read_bytes() for path in paths]
     return found + [random_object(random.Random(seed)) for seed in range(60)]
 
 
@@ -63,7 +66,8 @@ def one_command(chance, run, paths):
 
 
 def crowd(run, path):
-    """Loads one module more than there may be, asks some of them, and tells the state with all loaded."""
+    """Loads one module more than there may be, asks some of them, and tells the
+    state with all loaded."""
     for number in range(4097):
         run.say(b"load c%d %x %s" % (number, number << 12, path))
     for number in range(0, 4096, 16):
@@ -83,7 +87,8 @@ def empty(run):
 
 
 def stay_up(program, commands, folder, named):
-    """Gives the commands, in ten parts with nothing loaded between them, and compares the states then."""
+    """Gives the commands, in ten parts with nothing loaded between them, and
+    compares the states then."""
     paths = []
     for number, data in enumerate(objects(named)):
         paths.append(bytes(folder / f"o{number}"))
@@ -97,25 +102,30 @@ def stay_up(program, commands, folder, named):
             while run.count < until:
                 one_command(chance, run, paths)
             states.append(empty(run))
-            print(f"after {run.count} commands: {states[-1][0]} KB resident, {states[-1][1]} KB at the peak, "
-                  f"{states[-1][2]} descriptors", flush=True)
+            resident, peak, descriptors = states[-1]
+            print(f"after {run.count} commands: {resident} KB resident, {peak} KB at the peak, "
+                  f"{descriptors} descriptors", flush=True)
         full = [(crowd(run, paths[0])[0], empty(run)[0]) for _ in range(3)]
-        print(f"4,096 modules, KB resident with them and without them, three times: {full}", flush=True)
+        print(f"4,096 modules, KB resident with them and without them, three times: {full}",
+              flush=True)
         run.end()
     except Differs as differs:
         raise SystemExit(f"{differs}\nlong run: differs after {run.count} commands") from differs
     first, last = states[0], states[-1]
     expect("descriptors at the end, beside those after the first part", last[2], first[2])
-    expect("memory at the end is within 10 % and 512 KB of that after the first part", last[0] <= first[0] * 1.1 + 512, True)
+    expect("memory at the end is within 10 % and 512 KB of that after the first part",
+           last[0] <= first[0] * 1.1 + 512, True)
     # the first ones stand between what was freed before them, so the second may take other places
-    expect("memory of the third 4,096 modules is that of the second", full[2][0] <= full[1][0] * 1.02, True)
+    expect("memory of the third 4,096 modules is that of the second",
+           full[2][0] <= full[1][0] * 1.02, True)
     print(f"{run.count} commands in {time.monotonic() - start:.0f} s, no reply differs", flush=True)
     return run.count
 
 
 def run_with(program, lines, stdout=subprocess.PIPE, words=()):
-    done = subprocess.run([program, *words], input=b"".join(line + b"\n" for line in lines), stdout=stdout,
-                          stderr=subprocess.PIPE, timeout=300, check=False)
+    text = b"".join(line + b"\n" for line in lines)
+    done = subprocess.run([program, *words], input=text, stdout=stdout, stderr=subprocess.PIPE,
+                          timeout=300, check=False)
     return done.returncode, done.stdout, done.stderr
 
 
@@ -130,14 +140,23 @@ def outputs(program, sample):
     os.close(reading)
     expect("an output whose reader is gone", run_with(program, load, writing), (1, None, failed))
     os.close(writing)
-    for closed, wanted in ((">&-", (1, b"", failed)), ("2>&-", (0, LOADED + b"/src/a.c:11\n", b""))):
-        done = subprocess.run(["sh", "-c", f'"$0" {closed}', program], input=b"\n".join(load), capture_output=True, check=False)
-        expect(f"an output that was never open ({closed})", (done.returncode, done.stdout, done.stderr), wanted)
+    answered = (0, LOADED + b"/src/a.c:11\n", b"")
+    for closed, wanted in ((">&-", (1, b"", failed)), ("2>&-", answered)):
+        command = ["sh", "-c", f'"$0" {closed}', program]
+        done = subprocess.run(command, input=b"\n".join(load), capture_output=True, check=False)
+        expect(f"an output that was never open ({closed})",
+               (done.returncode, done.stdout, done.stderr), wanted)
+    inputs(program, os.path.dirname(sample))
+
+
+def inputs(program, path):
+    """An input that was never open, and a folder as input."""
+    failed = (1, b"addr2line_live: reading failed\n")
     done = subprocess.run(["sh", "-c", '"$0" <&-', program], capture_output=True, check=False)
-    expect("an input that was never open", (done.returncode, done.stderr), (1, b"addr2line_live: reading failed\n"))
-    folder = os.open(os.path.dirname(sample), os.O_RDONLY)
+    expect("an input that was never open", (done.returncode, done.stderr), failed)
+    folder = os.open(path, os.O_RDONLY)
     done = subprocess.run([program], stdin=folder, capture_output=True, check=False)
-    expect("a folder as input", (done.returncode, done.stderr), (1, b"addr2line_live: reading failed\n"))
+    expect("a folder as input", (done.returncode, done.stderr), failed)
     os.close(folder)
 
 
@@ -153,10 +172,13 @@ def files(program, folder, sample):
     def reply(line):
         return run_with(program, [line])[1]
     expect("a folder", reply(b"load a 0 " + bytes(folder)), b"refused file\n")
-    expect("a device without a byte", reply(b"load a 0 /dev/null"), b"refused object elf not-elf at 0\n")
+    expect("a device without a byte", reply(b"load a 0 /dev/null"),
+           b"refused object elf not-elf at 0\n")
     expect("a device without end", reply(b"load a 0 /dev/zero"), b"refused too-large\n")
-    expect("a path through a file", reply(b"load a 0 " + bytes(folder / "o0" / "x")), b"refused file\n")
-    expect("a path that is too long for the system", reply(b"load a 0 " + b"x" * 4000), b"refused file\n")
+    expect("a path through a file", reply(b"load a 0 " + bytes(folder / "o0" / "x")),
+           b"refused file\n")
+    expect("a path that is too long for the system", reply(b"load a 0 " + b"x" * 4000),
+           b"refused file\n")
     pipe = folder / "pipe"
     os.mkfifo(pipe)
     writer = threading.Thread(target=pipe.write_bytes, args=(sample,))
@@ -165,15 +187,16 @@ def files(program, folder, sample):
     writer.join()
     large = folder / "large"
     expect("a file of 1 GiB", reply(sparse(large, sample, LIMIT)), LOADED)
-    expect("a file of 1 GiB and a byte", reply(sparse(large, sample, LIMIT + 1)), b"refused too-large\n")
+    expect("a file of 1 GiB and a byte", reply(sparse(large, sample, LIMIT + 1)),
+           b"refused too-large\n")
     for size in (1 << 20, 300, 0):
         shrinking(program, large, sample, size)
     large.unlink()
 
 
 def shrinking(program, path, sample, size):
-    """A file of 1 GiB that is cut to a size while it is read: what was read of it is an object or none, and
-    the process goes on."""
+    """A file of 1 GiB that is cut to a size while it is read: what was read of it is an object or
+    none, and the process goes on."""
     line = sparse(path, sample, LIMIT)
     process = subprocess.Popen([program], stdin=subprocess.PIPE, stdout=subprocess.PIPE)
     process.stdin.write(line + b"\nload b 10000 " + bytes(path.parent / "o0") + b"\n11004\n")
@@ -189,12 +212,14 @@ def shrinking(program, path, sample, size):
 
 def main():
     program, commands = os.path.abspath(sys.argv[1]), int(sys.argv[2])
-    print(f"long run: {commands} commands to one process, and outputs and files that are not as wanted", flush=True)
+    print(f"long run: {commands} commands to one process, and outputs and files that are not as "
+          "wanted", flush=True)
     with tempfile.TemporaryDirectory() as folder:
         count = stay_up(program, commands, Path(folder), sys.argv[3:])
         outputs(program, bytes(Path(folder) / "o0"))
         files(program, Path(folder), SAMPLE.read_bytes())
-    print(f"long run: {count} commands and all outputs and files tried, {len(failures)} differ: {', '.join(failures) or 'none'}")
+    print(f"long run: {count} commands and all outputs and files tried, {len(failures)} differ: "
+          f"{', '.join(failures) or 'none'}")
     sys.exit(bool(failures))
 
 

@@ -1,10 +1,11 @@
 #!/usr/bin/env python3
-"""Runs the program with each growth of memory, each read and each write refused in turn, by a library
-that is loaded before it (tools/refuse.c).
+"""Runs the program with each growth of memory, each read and each write refused in turn, by a
+library that is loaded before it (tools/refuse.c).
 
-memory.py PROGRAM SECONDS tries each number of each script below: the call of that number fails, or it and
-all later ones. It fails where the outcome is none of those that the script may have. Scripts of chance
-follow until SECONDS are over, whose outcomes are those of a plain session without some of the objects.
+memory.py PROGRAM SECONDS tries each number of each script below: the call of that number fails, or
+it and all later ones. It fails where the outcome is none of those that the script may have.
+Scripts of chance follow until SECONDS are over, whose outcomes are those of a plain session
+without some of the objects.
 """
 import os
 import random
@@ -37,8 +38,9 @@ class Runner:
         counts.unlink(missing_ok=True)
         env = {"LD_PRELOAD": str(self.library), "COUNTS": str(counts)}
         env.update({name: str(value) for name, value in refused.items()})
-        done = subprocess.run([self.program, *words], input=b"".join(line + b"\n" for line in lines), env=env,
-                              cwd=self.folder, capture_output=True, timeout=60, check=False)
+        text = b"".join(line + b"\n" for line in lines)
+        done = subprocess.run([self.program, *words], input=text, env=env, cwd=self.folder,
+                              capture_output=True, timeout=60, check=False)
         self.tried += 1
         told = counts.read_text().split() if counts.exists() else []
         return (done.returncode, done.stdout, done.stderr), [int(count) for count in told]
@@ -62,12 +64,14 @@ class Runner:
                 seen += self.outcomes - before
         for name in set(allowed) - set(seen):
             self.wrong.append(f"{' '.join(words)}: no growth that is refused gives '{name}'")
+        told = (f"{count} times {name}" for name, count in sorted(seen.items(), key=str))
         print(f"{' '.join(words) or 'no words'}, {len(lines)} lines: {counts[0]} growths, "
-              + ", ".join(f"{count} times {name}" for name, count in sorted(seen.items(), key=str)), flush=True)
+              + ", ".join(told), flush=True)
 
 
 def plain(folder, letters, lines, without=()):
-    """The replies of a plain session, in which loads of some names are refused for want of memory."""
+    """The replies of a plain session, in which loads of some names are
+    refused for want of memory."""
     session, text = Session(letters), b""
     for line in lines:
         line = line.replace(b" A", b" %s/A" % folder).replace(b" D", b" %s/D" % folder)
@@ -76,7 +80,7 @@ def plain(folder, letters, lines, without=()):
     return text
 
 
-def scripts(runner, folder):
+def scripts(folder):
     """The scripts whose outcomes are told one by one."""
     where = bytes(folder)
     for words in (["--cache", "4"], ["--cache", "0"], ["-f", "-i"]):
@@ -104,7 +108,8 @@ def merged(allowed):
 
 def words_alone(runner):
     """Command lines without input."""
-    for words in (["--help"], ["--cache", "x"], ["zz"], ["-e", "A", "-f", "1004", "1010"], ["-e", "none"], ["-e", "cut"]):
+    for words in (["--help"], ["--cache", "x"], ["zz"], ["-e", "A", "-f", "1004", "1010"],
+                  ["-e", "none"], ["-e", "cut"]):
         outcome, _ = runner.run(words, [])
         allowed = {"as with memory": outcome, "no memory for the words": (2, b"", NO_MEMORY)}
         if "-e" in words:
@@ -115,20 +120,23 @@ def words_alone(runner):
 
 
 def devices(runner):
-    """Fails each read and each write. Reads of an object are told as `file`; standard input has one."""
+    """Fails each read and each write. Reads of an object are told as `file`;
+    standard input has one."""
     whole, counts = runner.run(["--cache", "4"], SCRIPT)
     replies = whole[1].splitlines(keepends=True)
-    without = [b"refused file\n", b"??:0\n", b"refused no-module\n", b"??:0\n", b"refused no-module\n"]
-    for kind, count, fault in (("WRITE", counts[2], b"writing"), ("READ", counts[1], b"reading")):
+    gone = b"refused no-module\n"
+    without = [b"refused file\n", b"??:0\n", gone, b"??:0\n", gone]
+    for kind, count, fault in (("WRITE", counts[2], "writing"), ("READ", counts[1], "reading")):
+        failed = f"addr2line_live: {fault} failed\n".encode()
+        allowed = {f"{shown} replies of {len(text[0])} bytes at first, then {fault} failed":
+                   (1, b"".join(text[:shown]), failed)
+                   for text in (replies, without) for shown in range(6)}
+        allowed["an object that cannot be read"] = (0, b"".join(without), b"")
         for number in range(1, count + 1):
             for refused in (number, -number):
                 outcome, _ = runner.run(["--cache", "4"], SCRIPT, **{kind: refused})
-                failed = b"addr2line_live: " + fault + b" failed\n"
-                allowed = {f"{shown} replies of {len(text[0])} bytes at first, then {fault.decode()} failed":
-                           (1, b"".join(text[:shown]), failed) for text in (replies, without) for shown in range(6)}
-                allowed["an object that cannot be read"] = (0, b"".join(without), b"")
                 runner.judge(f"{kind} {refused}", [], outcome, allowed)
-        print(f"each of {count} calls refused that are of {fault.decode()}", flush=True)
+        print(f"each of {count} calls refused that are of {fault}", flush=True)
 
 
 def chance(runner, folder, seconds):
@@ -138,16 +146,21 @@ def chance(runner, folder, seconds):
         lines, names = [], [b"a", b"b", b"c"]
         for _ in range(rolls.randrange(4, 20)):
             name, base = rolls.choice(names), rolls.choice([0, 0x10000, 0x11000, 0x20000])
-            lines.append(rolls.choice([b"load %s %x %s" % (name, base, rolls.choice([b"A", b"D"])), b"list", b"%x" % (base + 0x1004),
-                                       b"%x" % (base + 0x1060), b"move %s %x" % (name, base), b"unload " + name]))
+            lines.append(rolls.choice([
+                b"load %s %x %s" % (name, base, rolls.choice([b"A", b"D"])), b"list",
+                b"%x" % (base + 0x1004), b"%x" % (base + 0x1060),
+                b"move %s %x" % (name, base), b"unload " + name,
+            ]))
         _, counts = runner.run(["-f", "-i"], lines)
         refused = rolls.randrange(1, counts[0] + 1)
         outcome, _ = runner.run(["-f", "-i"], lines, REFUSE=refused)
         loads = [number for number, line in enumerate(lines) if line.startswith(b"load")]
-        allowed = {"all replies": (0, plain(where, "fi", lines), b""), "no memory for the words": (2, b"", NO_MEMORY),
+        allowed = {"all replies": (0, plain(where, "fi", lines), b""),
+                   "no memory for the words": (2, b"", NO_MEMORY),
                    "no memory for the cache": (1, b"", NO_MEMORY)}
         for number in loads:
-            changed = lines[:number] + [lines[number].replace(b"load ", b"load none-", 1)] + lines[number + 1:]
+            changed = lines.copy()
+            changed[number] = lines[number].replace(b"load ", b"load none-", 1)
             names = {line.split()[1] for line in changed if line.startswith(b"load none-")}
             allowed[f"without load {number}"] = (0, plain(where, "fi", changed, names), b"")
         runner.judge(f"growth {refused} of {lines}", ["-f", "-i"], outcome, allowed)
@@ -160,17 +173,19 @@ def main():
     with tempfile.TemporaryDirectory() as folder:
         folder = Path(folder)
         library = folder / "refuse.so"
-        subprocess.run(["cc", "-O1", "-shared", "-fPIC", "-o", library, TOOLS / "refuse.c"], check=True)
+        flags = ["-O1", "-shared", "-fPIC"]
+        subprocess.run(["cc", *flags, "-o", library, TOOLS / "refuse.c"], check=True)
         for name, data in (("A", SAMPLE), ("D", REAL), ("cut", SAMPLE[:63])):
             (folder / name).write_bytes(data)
         runner = Runner(program, library, folder)
-        for words, lines, allowed in [*scripts(runner, folder), *words_alone(runner)]:
+        for words, lines, allowed in [*scripts(folder), *words_alone(runner)]:
             runner.each_growth(words, lines, merged(allowed))
         devices(runner)
         chance(runner, folder, seconds - (time.monotonic() - start))
     for wrong in runner.wrong[:10]:
         print(wrong)
-    print(f"memory: {runner.tried} runs in {time.monotonic() - start:.0f} s, {len(runner.wrong)} of them wrong")
+    passed = time.monotonic() - start
+    print(f"memory: {runner.tried} runs in {passed:.0f} s, {len(runner.wrong)} of them wrong")
     sys.exit(bool(runner.wrong))
 
 

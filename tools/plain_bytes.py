@@ -1,5 +1,6 @@
-"""Numbers, texts, values of forms, and ELF sections of an object, read plainly: a second reader beside
-the program's, written from ELF-64 and DWARF 5 chapter 7, for tools/fuzz.py and tools/long_run.py."""
+"""Numbers, texts, values of forms, and ELF sections of an object, read plainly: a second
+reader beside the program's, written from ELF-64 and DWARF 5 chapter 7, for tools/fuzz.py
+and tools/long_run.py."""
 import struct
 
 TOP = (1 << 64) - 1  # also the mark of dropped code
@@ -123,7 +124,8 @@ def elf_fault(cause, at=0):
 
 
 def tables(data):
-    """Where the program and section headers stand: (offset, count) of each, and the names' number."""
+    """Where the program and section headers stand: (offset, count) of each,
+    and the names' number."""
     if len(data) > 1 << 30:
         raise elf_fault("too-many")
     if len(data) < 64 or data[:4] != b"\x7fELF":

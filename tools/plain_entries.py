@@ -1,4 +1,5 @@
-"""The units, entries, scopes, ranges and names of an object, read plainly (DWARF 5, chapters 2, 3, 7.5)."""
+"""The units, entries, scopes, ranges and names of an object, read plainly (DWARF
+5, chapters 2, 3, 7.5)."""
 from plain_bytes import FORMS, Bad, Cursor, Fault, text_at, value
 
 INFO = ".debug_info"
@@ -25,8 +26,8 @@ class Unit:
 
 
 class Entry:
-    """An entry with its used attributes as (form, value). `end` is the number of the first later scope
-    that is not below it; of a scope alone, as are its number, ranges and names."""
+    """An entry with its used attributes as (form, value). `end` is the number of the first later
+    scope that is not below it; of a scope alone, as are its number, ranges and names."""
 
     def __init__(self, at, depth, tag, unit):
         self.at, self.depth, self.tag, self.unit, self.used = at, depth, tag, unit, {}

@@ -6,7 +6,8 @@ OPERANDS = (0, 1, 1, 1, 1, 0, 0, 0, 1, 0, 0, 1)  # of the standard opcodes from 
 
 class Row:
     def __init__(self, address, program, file, line, is_end):
-        self.address, self.program, self.file, self.line, self.is_end = address, program, file, line, is_end
+        self.address, self.is_end = address, is_end
+        self.program, self.file, self.line = program, file, line
 
 
 class Program:
@@ -28,8 +29,8 @@ class Program:
 
 
 def parameters(cursor):
-    """The parameters of a header: the least length of an instruction, what lines count from, their range,
-    the first special opcode, and how many operands the opcodes before it have."""
+    """The parameters of a header: the least length of an instruction, what lines count from, their
+    range, the first special opcode, and how many operands the opcodes before it have."""
     least = cursor.fixed(1)
     if cursor.fixed(1) != 1:
         raise Bad("line-params")
@@ -60,7 +61,8 @@ def is_format(pairs, has_index):
 
 
 def entries(cursor, width, texts, directories):
-    """The entries of a table as (path, directory index); `directories` is how many there are, or None."""
+    """The entries of a table as (path, directory index); `directories` is how
+    many there are, or None."""
     pairs = [(cursor.uleb(), cursor.uleb()) for _ in range(cursor.fixed(1))]
     count = cursor.uleb()
     found = []

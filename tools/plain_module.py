@@ -1,9 +1,9 @@
-"""One object read plainly and whole: its first fault, or the frames of each link address by a scan over
-all rows and scopes."""
+"""One object read plainly and whole: its first fault, or the frames of each link address by a scan
+over all rows and scopes."""
 from plain_bytes import TOP, Bad, Cursor, Fault, read_elf
-from plain_entries import (CALL_FILE, CALL_LINE, COUNT, HIGH_PC, INFO, LINKAGE, LOW_PC, MOST, NAME, RANGES,
-                           STMT_LIST, address, item_at, name_of, path_of, read_entries, read_root,
-                           read_tables, read_units)
+from plain_entries import (CALL_FILE, CALL_LINE, COUNT, HIGH_PC, INFO, LINKAGE, LOW_PC, MOST, NAME,
+                           RANGES, STMT_LIST, address, item_at, name_of, path_of, read_entries,
+                           read_root, read_tables, read_units)
 from plain_lines import read_lines
 
 
@@ -11,7 +11,8 @@ class RangeList:
     """A range list that is being read."""
 
     def __init__(self, found, unit, left):
-        self.found, self.unit, self.base, self.left, self.ranges = found, unit, unit.low_pc, left, []
+        self.found, self.unit, self.base = found, unit, unit.low_pc
+        self.left, self.ranges = left, []
 
     def operand(self, cursor, kind):
         """An operand that is an index of an address, a number or an address."""
@@ -36,8 +37,9 @@ class RangeList:
             self.add(self.base + first, self.base + second)
 
     def read(self, cursor):
-        kinds = {1: ("index",), 2: ("index", "index"), 3: ("index", "number"), 4: ("number", "number"),
-                 5: ("address",), 6: ("address", "address"), 7: ("address", "number")}
+        kinds = {1: ("index",), 2: ("index", "index"), 3: ("index", "number"),
+                 4: ("number", "number"), 5: ("address",), 6: ("address", "address"),
+                 7: ("address", "number")}
         while True:
             kind = cursor.fixed(1)
             if kind > 7:
@@ -77,7 +79,8 @@ def pair(found, scope):
 def ranges_of(found, scope, left):
     """The ranges of a scope that are not empty, and how many more range items there may be."""
     used = scope.used
-    if RANGES in used and (LOW_PC in used or HIGH_PC in used) or HIGH_PC in used and LOW_PC not in used:
+    has_both = RANGES in used and (LOW_PC in used or HIGH_PC in used)
+    if has_both or HIGH_PC in used and LOW_PC not in used:
         raise Bad("pc-and-ranges")
     if HIGH_PC in used:
         if left == 0:
@@ -88,7 +91,8 @@ def ranges_of(found, scope, left):
     form, place = used[RANGES]
     section = found[".debug_rnglists"]
     if form == 0x23:
-        place = item_at(found, scope.unit, ".debug_rnglists", place) + scope.unit.tables[".debug_rnglists"][0]
+        place = item_at(found, scope.unit, ".debug_rnglists", place)
+        place += scope.unit.tables[".debug_rnglists"][0]
     ranges, count = scope.unit.lists.get(place, (None, TOP))
     if count > left:
         reading = RangeList(found, scope.unit, left)
@@ -123,13 +127,16 @@ def read_scopes(found):
 
 
 def end_scopes(scopes):
-    """Sets the end of each scope, the first later one that is not below it. All that is between a scope
-    and the next one of its unit may end it, so depths of entries that are no scopes count too."""
+    """Sets the end of each scope, the first later one that is not below it. All that is
+    between a scope and the next one of its unit may end it, so depths of entries that
+    are no scopes count too."""
     for scope in scopes:
-        later = (entry for at, entry in scope.unit.entries.items() if at > scope.at and entry.depth <= scope.depth)
+        later = (entry for at, entry in scope.unit.entries.items()
+                 if at > scope.at and entry.depth <= scope.depth)
         past = next(later, None)
         limit = past.at if past else scope.unit.end
-        scope.end = next((other.index for other in scopes[scope.index + 1:] if other.at >= limit), len(scopes))
+        after = (other.index for other in scopes[scope.index + 1:] if other.at >= limit)
+        scope.end = next(after, len(scopes))
 
 
 class PlainModule:
@@ -162,7 +169,8 @@ class PlainModule:
         return None
 
     def chain_of(self, link):
-        held = [scope for scope in self.scopes if any(low <= link < high for low, high in scope.ranges)]
+        held = [scope for scope in self.scopes
+                if any(low <= link < high for low, high in scope.ranges)]
         chain = [scope for scope in held if scope.tag == 0x2E][:1]
         for scope in held:
             if chain and scope.tag == 0x1D and chain[-1].index < scope.index < chain[-1].end:

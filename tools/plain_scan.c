@@ -1,7 +1,8 @@
 // Answers addresses by looking through all rows and scopes of an object, in file order.
 //
-// plain_scan ROWS SCOPES FILES ASKED reads what `measure rows`, `scope-table` and `files` print, and of
-// what `measure frames` prints the addresses. It prints the frames of each of them in the same form.
+// plain_scan ROWS SCOPES FILES ASKED reads what `measure rows`, `scope-table` and `files`
+// print, and of what `measure frames` prints the addresses. It prints the frames of each of
+// them in the same form.
 #define _GNU_SOURCE
 #include <stdint.h>
 #include <stdio.h>
@@ -61,7 +62,9 @@ static void read_rows(const char *path) {
     }
 }
 
-static int compare_texts(const void *a, const void *b) { return strcmp(*(char *const *)a, *(char *const *)b); }
+static int compare_texts(const void *a, const void *b) {
+    return strcmp(*(char *const *)a, *(char *const *)b);
+}
 
 // The files' two numbers are told apart from their paths by a NUL.
 static void read_files(const char *path) {
@@ -82,7 +85,10 @@ static void read_ranges(struct scope *scope, char *text) {
     static size_t room;
     scope->first_range = range_count;
     for (char *at = text; *text != '-' && *at;) {
-        if (range_count == room) ranges = realloc(ranges, (room = room ? 2 * room : 1024) * sizeof *ranges);
+        if (range_count == room) {
+            room = room ? 2 * room : 1024;
+            ranges = realloc(ranges, room * sizeof *ranges);
+        }
         ranges[range_count].from = strtoull(at, &at, 16);
         ranges[range_count].to = strtoull(at + 1, &at, 16);
         range_count++;
@@ -91,13 +97,28 @@ static void read_ranges(struct scope *scope, char *text) {
     scope->past_range = range_count;
 }
 
-// OFFSET KIND NAME LINKAGE_NAME RANGES CALL_FILE CALL_LINE END STMT_LIST
+// Ends where a scope's number is not its position, or its root stands behind it, or before the root
+// of the scope before.
+static void judge_scope(size_t position, uint64_t offset, uint64_t number, uint64_t root) {
+    static uint64_t last_root;
+    if (number == position && last_root <= root && root <= offset) {
+        last_root = root;
+        return;
+    }
+    fprintf(stderr, "scope %zu at %lx: number %lu, root %lx\n", position, (unsigned long)offset,
+            (unsigned long)number, (unsigned long)root);
+    exit(1);
+}
+
+// OFFSET KIND NAME LINKAGE_NAME RANGES CALL_FILE CALL_LINE END STMT_LIST NUMBER ROOT
 static void read_scopes(const char *path) {
     char **lines = lines_of(path, &scope_count);
     scopes = calloc(scope_count + 1, sizeof *scopes);
     for (size_t i = 0; i < scope_count; i++) {
-        char *fields[9], *rest = lines[i];
-        for (int n = 0; n < 9; n++) fields[n] = strsep(&rest, "\t");
+        char *fields[11], *rest = lines[i];
+        for (int n = 0; n < 11; n++) fields[n] = strsep(&rest, "\t");
+        judge_scope(i, strtoull(fields[0], NULL, 16), strtoull(fields[9], NULL, 10),
+                    strtoull(fields[10], NULL, 16));
         scopes[i].inlined = !strcmp(fields[1], "inlined");
         scopes[i].name = strcmp(fields[2], "-") ? fields[2] : "??";
         scopes[i].call_line = strcmp(fields[6], "-") ? fields[6] : "0";
@@ -116,12 +137,13 @@ static int holds(const struct scope *scope, uint64_t address) {
 // The first row in file order that covers an address, as PATH:LINE.
 static const char *row_of(uint64_t address) {
     for (size_t i = 0; i + 1 < row_count; i++)
-        if (!rows[i].end && rows[i].address <= address && address < rows[i + 1].address) return rows[i].place;
+        if (!rows[i].end && rows[i].address <= address && address < rows[i + 1].address)
+            return rows[i].place;
     return NULL;
 }
 
-// The numbers of the scopes around an address: the first subprogram that holds it, then again and again
-// the first inlined subroutine below the last one that does.
+// The numbers of the scopes around an address: the first subprogram that holds it, then again and
+// again the first inlined subroutine below the last one that does.
 static size_t chain_of(uint64_t address, size_t *chain) {
     size_t length = 0, i = 0;
     while (i < scope_count && (scopes[i].inlined || !holds(&scopes[i], address))) i++;
@@ -140,8 +162,10 @@ static void answer(uint64_t address) {
         return;
     }
     printf("\t%s\t%s\n", scopes[chain[length - 1]].name, row ? row : "??:0");
-    for (size_t i = length - 1; i > 0; i--)
-        printf("\t%s\t%s:%s\n", scopes[chain[i - 1]].name, scopes[chain[i]].file, scopes[chain[i]].call_line);
+    for (size_t i = length - 1; i > 0; i--) {
+        const struct scope *called = &scopes[chain[i]], *caller = &scopes[chain[i - 1]];
+        printf("\t%s\t%s:%s\n", caller->name, called->file, called->call_line);
+    }
 }
 
 int main(int argc, char **argv) {

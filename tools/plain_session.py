@@ -1,5 +1,5 @@
-"""The replies of addr2line_live to lines of input, made plainly: a list of loaded objects, each read and
-scanned as plain_module.py does. It has no index, no cache and no order kept."""
+"""The replies of addr2line_live to lines of input, made plainly: a list of loaded objects, each
+read and scanned as plain_module.py does. It has no index, no cache and no order kept."""
 import re
 
 from plain_bytes import TOP, Fault
@@ -108,7 +108,8 @@ class Session:
 
     def at(self, done, name):
         base, module = self.modules[name]
-        return done + name + b" %s-%s\n" % (hexadecimal(base + module.low), hexadecimal(base + module.high))
+        low, high = hexadecimal(base + module.low), hexadecimal(base + module.high)
+        return done + name + b" %s-%s\n" % (low, high)
 
     def unload(self, fields):
         if len(fields) != 1:
@@ -130,7 +131,8 @@ class Session:
     def list(self, fields):
         if fields:
             raise Refusal("fields")
-        lines = [self.at(b"module ", name)[:-1] + b" " + hexadecimal(base) + b"\n" for name, base, _ in self.rising()]
+        lines = [self.at(b"module ", name)[:-1] + b" " + hexadecimal(base) + b"\n"
+                 for name, base, _ in self.rising()]
         return b"".join(lines) + b"end\n"
 
     def answer(self, asked):

@@ -1,8 +1,8 @@
 // Preloaded before a program, refuses memory or fails a device: tools/memory.py builds and uses it.
 //
-// REFUSE=N refuses the Nth growth that the program asks for, REFUSE=-N that one and all later ones; READ=N
-// and WRITE=N fail the Nth read and write in the same way, as a device that is broken does. At the end the
-// counts of growths, reads and writes are written to the file that COUNTS names.
+// REFUSE=N refuses the Nth growth that the program asks for, REFUSE=-N that one and all later ones;
+// READ=N and WRITE=N fail the Nth read and write in the same way, as a device that is broken does.
+// At the end the counts of growths, reads and writes are written to the file that COUNTS names.
 #define _GNU_SOURCE
 #include <dlfcn.h>
 #include <errno.h>

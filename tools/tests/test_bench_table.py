@@ -16,9 +16,9 @@ large, batch, -f -i
   addr2line_live --cache 1024, spread  90000 answers a second, first answer after 1000 ms, 7 bytes
   addr2line_live --cache 0, spread  80000 answers a second, first answer after 1000 ms, 7 bytes
   addr2line_live, sixteen addresses  300000 answers a second, first answer after 1000 ms, 7 bytes
-  llvm-symbolizer, spread  22500 answers a second, first answer after 500 ms, 7 bytes
+  llvm-symbolizer, spread  22500 answers a second, first answer after 500 ms, peak 60 MB, 7 bytes
   eu-addr2line, fewer  8 answers a second, first answer after 1500 ms, 7 bytes
-  addr2line of binutils, fewer  failed
+  addr2line of binutils, fewer  failed: ended after 0 bytes of answers, 2 were awaited
 """
 ASKED = "large, a batch over a pipe, `-f -i`"
 ROWS = [
@@ -30,6 +30,7 @@ ROWS = [
     "| entries a second: a C++ program | 9,000,000 | 12,000,000 (×0.75) |  |  |",
     f"| answers a second: {ASKED} | 90,000 |  | 22,500 (×4) | 8 (×11,250) |",
     f"| first answer: {ASKED} | 1,000 ms |  | 500 ms (×0.5) | 1,500 ms (×1.5) |",
+    f"| memory: {ASKED} |  |  | 60 MB |  |",
     f"| answers a second, sixteen addresses again and again: {ASKED} | 300,000 |  |  |  |",
 ]
 

@@ -10,7 +10,7 @@ sys.path.insert(0, str(Path(__file__).resolve().parent))
 from programs import TOOLS, Live, compiled, output_of, symbol, tool
 
 sys.path.insert(0, str(TOOLS))
-from loaded_objects import PAGE, Mapping, Segment, base_of
+from loaded_objects import PAGE, Mapping, Segment, base_of, objects_of
 
 # A program that loads and unloads libraries as it is told, and says where a function is.
 HOST = r"""
@@ -139,6 +139,17 @@ class LoadsOfProcess(unittest.TestCase):
         saved.write_text(maps)
         self.assertEqual(tool("loads_of_process", saved), f"load plain 0 {path}\n")
         self.assertEqual(tool("loads_of_process", "-", text=maps), f"load plain 0 {path}\n")
+        words = [TOOLS / "loads_of_process", saved]
+        told = subprocess.run(words, capture_output=True, text=True, check=True).stderr
+        left_out = "loads_of_process: not read as an ELF object: "
+        self.assertEqual(told, f"{left_out}{path} (deleted)\n{left_out}{text}\n")
+
+    def test_another_root_folder(self):
+        """The files of a process with a root folder of its own are read and named below it."""
+        path = self.compile("plain", "int main(void) { return 0; }\n", "-no-pie")
+        line = f"00401000-00402000 r-xp 00001000 fe:00 1          /{path.name}\n"
+        self.assertEqual(objects_of([line], str(path.parent)), ([("plain", 0, str(path))], []))
+        self.assertEqual(objects_of([line], ""), ([], [f"/{path.name}"]))
 
     def test_part_of_a_segment(self):
         """The base is told by any page of a segment, also where a segment begins within a page."""

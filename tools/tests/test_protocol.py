@@ -1,5 +1,6 @@
 """The clients of docs/PROTOCOL.md, as they stand there, and what it says of where replies end."""
 import re
+import subprocess
 import sys
 import tempfile
 import unittest
@@ -26,12 +27,9 @@ int main(void)
 }
 """
 LEAF, MIDDLE, MAIN = 5, 9, 13  # the lines of the store and of the two calls
+LONG = "long_" * 14_000  # a name of a function, past what a buffer of 65,536 bytes holds
 BASE = 0x7F0000000000
-
-
-def block(language):
-    """The code of a language on the page."""
-    return re.search(rf"```{language}\n(.*?)```", PAGE, re.DOTALL)[1]
+CODE = dict(re.findall(r"```(python|c)\n(.*?)```", PAGE, re.DOTALL))  # by its language
 
 
 class Protocol(unittest.TestCase):
@@ -43,33 +41,63 @@ class Protocol(unittest.TestCase):
         code = instructions(cls.path, "main")
         cls.store = BASE + next(address for address, text in code if "$0x7" in text)
         cls.nowhere = "1"
+        cls.clients = cls.clients_of_the_page()
 
-    def wanted(self):
+    @classmethod
+    def clients_of_the_page(cls):
+        """The words that start each client, by its language."""
+        paths = {language: Path(cls.folder.name) / f"client.{language}" for language in CODE}
+        for language, path in paths.items():
+            path.write_text(CODE[language])
+        built = paths["c"].with_suffix("")
+        output_of("gcc", "-Wall", "-Werror", "-O1", "-o", built, paths["c"])
+        return {"python": [sys.executable, paths["python"]], "c": [built]}
+
+    def wanted(self, path, leaf):
         """What a client prints after the reply to the load."""
-        source = f"{self.path}.c"
+        source = f"{path}.c"
         return [
-            f"0 leaf at {source}:{LEAF}",
+            f"0 {leaf} at {source}:{LEAF}",
             f"1 middle at {source}:{MIDDLE}",
             f"2 main at {source}:{MAIN}",
             "0 ?? ??:0",
         ]
 
-    def check(self, *client):
-        words = [*client, PROGRAM, self.path, f"{BASE:x}", f"{self.store:x}", self.nowhere]
-        lines = output_of(*words).splitlines()
-        self.assertTrue(lines[0].startswith(f"loaded object 0x{BASE:016x}-"))
-        self.assertEqual(lines[1:], self.wanted())
+    def check(self, path, leaf):
+        """Asks both clients of an object whose innermost function has this name."""
+        asked = [path, f"{BASE:x}", f"{self.store:x}", self.nowhere]
+        for language, client in self.clients.items():
+            with self.subTest(language):
+                lines = output_of(*client, PROGRAM, *asked).splitlines()
+                self.assertTrue(lines[0].startswith(f"loaded object 0x{BASE:016x}-"))
+                self.assertEqual(lines[1:], self.wanted(path, leaf))
 
-    def test_client_in_python(self):
-        path = Path(self.folder.name) / "client.py"
-        path.write_text(block("python"))
-        self.check(sys.executable, path)
+    def test_clients(self):
+        self.check(self.path, "leaf")
 
-    def test_client_in_c(self):
-        path = Path(self.folder.name) / "client.c"
-        path.write_text(block("c"))
-        output_of("gcc", "-Wall", "-Werror", "-O1", "-o", path.with_suffix(""), path)
-        self.check(path.with_suffix(""))
+    def test_lines_without_limit(self):
+        """A line of a reply may be longer than any buffer."""
+        source = SOURCE.replace("leaf", LONG)
+        self.check(compiled(self.folder.name, "long", source, "-O1"), LONG)
+
+    def statuses(self, program):
+        """The status of each client, of a program that is told as lines of a shell script."""
+        path = Path(self.folder.name) / "program"
+        path.write_text(f"#!/bin/sh\n{program}\n")
+        path.chmod(0o755)
+        words = [path, self.path, f"{BASE:x}", f"{self.store:x}", self.nowhere]
+        return {
+            language: subprocess.run([*client, *words], capture_output=True).returncode
+            for language, client in self.clients.items()
+        }
+
+    def test_a_program_that_ends(self):
+        """A client does not end well where a reply is missing, whatever the program's status."""
+        whole, load = f'"{PROGRAM}" "$@"', "head -n 2"
+        self.assertEqual(self.statuses(f"exec {whole}"), {"python": 0, "c": 0})
+        for program in (f"{load} | {whole}", f"{load} | {whole}; kill -9 $$", "exit 0", "exit 3"):
+            self.assertEqual(self.statuses(program), {"python": 1, "c": 1}, program)
+        self.assertEqual(self.statuses(f"{whole}; exit 3")["c"], 1)
 
     def ask(self, options, text):
         return output_of(PROGRAM, *options.split(), text=text)

@@ -70,7 +70,7 @@ pub struct Walk<'a> {
     texts: Texts<'a>,
     parents: &'a [usize],
     link: u64,
-    /// The number behind that of the scope to go outwards from; 0 where none is left.
+    /// 1 + the number of the scope to go outwards from; 0 where none is left.
     near: usize,
     /// The number of the outermost scope of the chain.
     top: usize,

@@ -40,8 +40,8 @@ pub(crate) fn top(scopes: &Scopes, parents: &[usize], link: u64, near: usize) ->
     found
 }
 
-/// The number behind that of the first scope of the chain, from the one before a number outwards; 0
-/// where none is left.
+/// 1 + the number of the first scope of the chain, from the one before `near` outwards; 0 where none
+/// is left.
 pub(crate) fn next_told(
     scopes: &Scopes,
     parents: &[usize],
@@ -72,7 +72,7 @@ pub(crate) fn next_told(
     0
 }
 
-/// The number behind that of the scope around one that was told.
+/// 1 + the number of the scope around one that was told; 0 where there is none.
 pub(crate) fn outer(parents: &[usize], top: usize, number: usize) -> usize
     requires { number < length parents.now }
     ensures { result ≡ outer_of parents.now top number }
@@ -80,7 +80,7 @@ pub(crate) fn outer(parents: &[usize], top: usize, number: usize) -> usize
     if number == top { 0 } else { parents[number] }
 }
 
-/// The number behind that of a scope, if it is one of so many.
+/// 1 + the number of a scope, if it is one of so many; 0 otherwise.
 pub(crate) fn begin(count: usize, scope: Option<usize>) -> usize
     requires { count < 2 ^ 63 }
     ensures { result ≡ begin_of count scope }

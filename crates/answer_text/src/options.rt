@@ -5,7 +5,7 @@ ghost use Rattle.std.specs.Prelude.{◌≡◌, [], false, None};
 use std::alloc::Global;
 
 /// The answers that are kept in the cache, where nothing else is said.
-const DEFAULT_CACHE: usize = 1024;
+pub const DEFAULT_CACHE: usize = 1024;
 
 /// What the command line says.
 #[derive(Debug, Drop)]

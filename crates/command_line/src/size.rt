@@ -5,8 +5,7 @@ ghost use Rattle.std.specs.Prelude.{Some, None, true, false};
 ghost use Rattle.std.specs.Char.{is_ascii_digit, digit_value};
 ghost use Rattle.command_line.specs.Settings.{are_decimal, decimal_value, cache_of};
 
-/// The size where none is given.
-const DEFAULT: usize = 1024;
+use answer_text::DEFAULT_CACHE;
 
 /// The value of a decimal digit.
 fn digit(byte: u8) -> Option<u8>
@@ -39,7 +38,7 @@ pub fn cache_size(text: Option<&str>) -> Option<usize>
     ensures { result ≡ cache_of (option_map (λ s. s.now) text.entry) }
 {
     match text {
-        None => Some(DEFAULT),
+        None => Some(DEFAULT_CACHE),
         Some(text) => parse_decimal(text.as_bytes()),
     }
 }

@@ -8,7 +8,6 @@ use Rattle.dwarf_bytes.specs.Bind.{◌>>=◌}
 use Rattle.dwarf_bytes.specs.Items.{At, each_from}
 use Rattle.dwarf_bytes.specs.Refusals.{memory_fault, in_section}
 use Rattle.dwarf_bytes.proofs.EachLaws.{made_front, each-next, each-fault, each-end}
-use Rattle.dwarf_entries.specs.declared.kept.Keeping.{Keeping}
 use Rattle.dwarf_units.specs.declared.unit_headers.UnitHeader.{UnitHeader}
 use Rattle.dwarf_entries.specs.declared.bases.Bases.{Bases}
 use Rattle.dwarf_entries.specs.declared.kept.UnitEntries.{UnitEntries}
@@ -45,18 +44,18 @@ pub bases_none : (s : Sections) (headers : List UnitHeader) (dies : List (List D
 bases_none s headers dies = record { made = []; bases_are = refl; read = no_front (all_units s headers dies) }
 
 -- the unit of the program at an index, and the header and entries that it was kept of
-record Kept (keeping : Keeping) (units : List UnitEntries) (headers : List UnitHeader) (dies : List (List Die)) (index : ℕ) (unit : UnitEntries) : Type 0 where
+record Kept (units : List UnitEntries) (headers : List UnitHeader) (dies : List (List Die)) (index : ℕ) (unit : UnitEntries) : Type 0 where
   pub header : UnitHeader
   pub unit_dies : List Die
   pub rest : drop index (zip headers dies) ≡ (header, unit_dies) ∷ drop (index + 1) (zip headers dies)
   pub header_is : unit.header ≡ header
   pub root_is : unit.root ≡ root_in unit_dies
 
-kept_at : (keeping : Keeping) (units : List UnitEntries) (headers : List UnitHeader) (dies : List (List Die)) (index : ℕ) (unit : UnitEntries) → map kept_of units ≡ kept_units keeping headers dies → index < length units → unit ≡ get_or units index unit → Kept keeping units headers dies index unit
-kept_at keeping units headers dies index unit same within is =
+kept_at : (units : List UnitEntries) (headers : List UnitHeader) (dies : List (List Die)) (index : ℕ) (unit : UnitEntries) → map kept_of units ≡ kept_units headers dies → index < length units → unit ≡ get_or units index unit → Kept units headers dies index unit
+kept_at units headers dies index unit same within is =
     let e : UnitHeader × List Die = (unit.header, []) in
     let p : UnitHeader × List Die = get_or (zip headers dies) index e in
-    let f : UnitHeader × List Die → KeptUnit = λ p. kept_unit keeping p.0 p.1 in
+    let f : UnitHeader × List Die → KeptUnit = λ p. kept_unit p.0 p.1 in
     let sizes : length units ≡ length (zip headers dies) = sym (length-map units kept_of) ∙ (ap (λ (us : List KeptUnit). length us) same ∙ length-map (zip headers dies) f) in
     let inside : index < length (zip headers dies) = omega (arith, sizes, within) in
     let here : kept_of unit ≡ f p =
@@ -70,17 +69,17 @@ kept_at keeping units headers dies index unit same within is =
     }
 
 -- what the root of that unit tells
-read_at : (keeping : Keeping) (s : Sections) (units : List UnitEntries) (headers : List UnitHeader) (dies : List (List Die)) (index : ℕ) (unit : UnitEntries) (kept : Kept keeping units headers dies index unit) →
+read_at : (s : Sections) (units : List UnitEntries) (headers : List UnitHeader) (dies : List (List Die)) (index : ℕ) (unit : UnitEntries) (kept : Kept units headers dies index unit) →
     unit_of s kept.header kept.unit_dies ≡ (bases_in s unit.header.format unit.root >>= λ bases. Ok (with_bases kept.header kept.unit_dies bases))
-read_at keeping s units headers dies index unit kept = rw (kept.header_is, kept.root_is) (unit_of-is s kept.header kept.unit_dies)
+read_at s units headers dies index unit kept = rw (kept.header_is, kept.root_is) (unit_of-is s kept.header kept.unit_dies)
 
-pub bases_next : (keeping : Keeping) (s : Sections) (units : List UnitEntries) (headers : List UnitHeader) (dies : List (List Die)) (index : ℕ) (unit : UnitEntries) (all : List Bases) (bases : Bases) → map kept_of units ≡ kept_units keeping headers dies → index < length units → unit ≡ get_or units index unit →
+pub bases_next : (s : Sections) (units : List UnitEntries) (headers : List UnitHeader) (dies : List (List Die)) (index : ℕ) (unit : UnitEntries) (all : List Bases) (bases : Bases) → map kept_of units ≡ kept_units headers dies → index < length units → unit ≡ get_or units index unit →
     BasesSoFar s headers dies index all → in_section names.DebugInfo (bases_in s unit.header.format unit.root) ≡ Ok bases → BasesSoFar s headers dies (index + 1) (all ++ bases ∷ [])
-bases_next keeping s units headers dies index unit all bases same within is so_far read =
-    let kept = kept_at keeping units headers dies index unit same within is in
+bases_next s units headers dies index unit all bases same within is so_far read =
+    let kept = kept_at units headers dies index unit same within is in
     let whole : CompilationUnit = with_bases kept.header kept.unit_dies bases in
     let told = in_section_ok names.DebugInfo (bases_in s unit.header.format unit.root) bases read in
-    let here : unit_of s kept.header kept.unit_dies ≡ Ok whole = read_at keeping s units headers dies index unit kept ∙ ap (λ (r : Result Bases At). r >>= λ bases. Ok (with_bases kept.header kept.unit_dies bases)) told in
+    let here : unit_of s kept.header kept.unit_dies ≡ Ok whole = read_at s units headers dies index unit kept ∙ ap (λ (r : Result Bases At). r >>= λ bases. Ok (with_bases kept.header kept.unit_dies bases)) told in
     record {
       made = so_far.made ++ whole ∷ [];
       bases_are = ap (λ (bs : List Bases). bs ++ bases ∷ []) so_far.bases_are ∙ sym (map-append bases_of so_far.made (whole ∷ []));
@@ -88,27 +87,27 @@ bases_next keeping s units headers dies index unit all bases same within is so_f
           ∙ (ap (λ (ps : List (UnitHeader × List Die)). made_front so_far.made (each_from (unit_for s) so_far.made ps)) (sym kept.rest) ∙ so_far.read);
     }
 
-pub bases_end : (keeping : Keeping) (s : Sections) (units : List UnitEntries) (headers : List UnitHeader) (dies : List (List Die)) (index : ℕ) (all : List Bases) → map kept_of units ≡ kept_units keeping headers dies → length units ≤ index →
+pub bases_end : (s : Sections) (units : List UnitEntries) (headers : List UnitHeader) (dies : List (List Die)) (index : ℕ) (all : List Bases) → map kept_of units ≡ kept_units headers dies → length units ≤ index →
     BasesSoFar s headers dies index all → in_section names.DebugInfo (all_bases s headers dies) ≡ Ok all
-bases_end keeping s units headers dies index all same past so_far =
-    let f : UnitHeader × List Die → KeptUnit = λ p. kept_unit keeping p.0 p.1 in
+bases_end s units headers dies index all same past so_far =
+    let f : UnitHeader × List Die → KeptUnit = λ p. kept_unit p.0 p.1 in
     let sizes : length units ≡ length (zip headers dies) = sym (length-map units kept_of) ∙ (ap (λ (us : List KeptUnit). length us) same ∙ length-map (zip headers dies) f) in
     let none : drop index (zip headers dies) ≡ [] = drop_all index (zip headers dies) (omega (arith, sizes, past)) in
     let units_are : all_units s headers dies ≡ Ok so_far.made =
     sym so_far.read ∙ (ap (λ (ps : List (UnitHeader × List Die)). made_front so_far.made (each_from (unit_for s) so_far.made ps)) none ∙ each-end (unit_for s) so_far.made) in
     rw units_are (ap (λ (bs : List Bases). Ok bs) (sym so_far.bases_are))
 
-pub bases_fault : (keeping : Keeping) (s : Sections) (units : List UnitEntries) (headers : List UnitHeader) (dies : List (List Die)) (index : ℕ) (unit : UnitEntries) (all : List Bases) (fault : LoadFault) → map kept_of units ≡ kept_units keeping headers dies → index < length units → unit ≡ get_or units index unit →
+pub bases_fault : (s : Sections) (units : List UnitEntries) (headers : List UnitHeader) (dies : List (List Die)) (index : ℕ) (unit : UnitEntries) (all : List Bases) (fault : LoadFault) → map kept_of units ≡ kept_units headers dies → index < length units → unit ≡ get_or units index unit →
     BasesSoFar s headers dies index all → (fault ≡ memory_fault) ⊎ (in_section names.DebugInfo (bases_in s unit.header.format unit.root) ≡ Err fault) →
     (fault ≡ memory_fault) ⊎ (in_section names.DebugInfo (all_bases s headers dies) ≡ Err fault)
-bases_fault keeping s units headers dies index unit all fault same within here_is so_far (inl memory) = inl memory
-bases_fault keeping s units headers dies index unit all fault same within here_is so_far (inr bad) = inr (by_read (bases_in s unit.header.format unit.root) refl bad)
+bases_fault s units headers dies index unit all fault same within here_is so_far (inl memory) = inl memory
+bases_fault s units headers dies index unit all fault same within here_is so_far (inr bad) = inr (by_read (bases_in s unit.header.format unit.root) refl bad)
   where
     by_read : (r : Result Bases At) → bases_in s unit.header.format unit.root ≡ r → in_section names.DebugInfo r ≡ Err fault → in_section names.DebugInfo (all_bases s headers dies) ≡ Err fault
     by_read (Ok x) is h = cc
     by_read (Err e) is h =
-        let kept = kept_at keeping units headers dies index unit same within here_is in
-        let here : unit_of s kept.header kept.unit_dies ≡ Err e = read_at keeping s units headers dies index unit kept ∙ ap (λ (r : Result Bases At). r >>= λ bases. Ok (with_bases kept.header kept.unit_dies bases)) is in
+        let kept = kept_at units headers dies index unit same within here_is in
+        let here : unit_of s kept.header kept.unit_dies ≡ Err e = read_at s units headers dies index unit kept ∙ ap (λ (r : Result Bases At). r >>= λ bases. Ok (with_bases kept.header kept.unit_dies bases)) is in
         let units_are : all_units s headers dies ≡ Err e =
         sym so_far.read ∙ (ap (λ (ps : List (UnitHeader × List Die)). made_front so_far.made (each_from (unit_for s) so_far.made ps)) kept.rest ∙ each-fault (unit_for s) so_far.made (kept.header, kept.unit_dies) (drop (index + 1) (zip headers dies)) e here) in
         rw units_are (ap (λ (f : LoadFault). Err f) (same_fault h))

@@ -8,7 +8,6 @@ use Rattle.dwarf_forms.specs.Declarations.{Declaration}
 use Rattle.dwarf_units.specs.declared.attributes.Attribute.{Attribute}
 use Rattle.dwarf_units.specs.declared.attributes.AttributeValue.{AttributeValue}
 use Rattle.dwarf_entries.specs.declared.entries.NodeHead.{NodeHead}
-use Rattle.dwarf_entries.specs.declared.kept.Keeping.{Keeping}
 use Rattle.dwarf_entries.specs.declared.kept.RootEntry.{RootEntry}
 use Rattle.dwarf_units.specs.Attributes.{is_used}
 use Rattle.dwarf_units.specs.Entries.{Die, value_of, node_behind}
@@ -58,9 +57,9 @@ root-stays (Some r) x y rooted = refl
 root-stays None x y rooted = absurd (false≢true (sym rooted))
 
 -- what is kept of an entry is kept of those of its attributes that are
-pub after-kept : (keeping : Keeping) (w : Walked) (offset depth tag : ℕ) (all found : List Attribute) → found ≡ kept_attributes (not (is_some w.root)) all →
-    after_die keeping w (record { offset = offset; depth = depth; tag = tag; attributes = found }) ≡ after_die keeping w (record { offset = offset; depth = depth; tag = tag; attributes = all })
-after-kept keeping w offset depth tag all found are = by_flag (not (is_some w.root)) refl are
+pub after-kept : (w : Walked) (offset depth tag : ℕ) (all found : List Attribute) → found ≡ kept_attributes (not (is_some w.root)) all →
+    after_die w (record { offset = offset; depth = depth; tag = tag; attributes = found }) ≡ after_die w (record { offset = offset; depth = depth; tag = tag; attributes = all })
+after-kept w offset depth tag all found are = by_flag (not (is_some w.root)) refl are
   where
     die : Die
     die = record { offset = offset; depth = depth; tag = tag; attributes = all }
@@ -68,7 +67,7 @@ after-kept keeping w offset depth tag all found are = by_flag (not (is_some w.ro
     other : Die
     other = record { offset = offset; depth = depth; tag = tag; attributes = found }
 
-    by_flag : (f : Bool) → not (is_some w.root) ≡ f → found ≡ kept_attributes f all → after_die keeping w other ≡ after_die keeping w die
+    by_flag : (f : Bool) → not (is_some w.root) ≡ f → found ≡ kept_attributes f all → after_die w other ≡ after_die w die
     by_flag true is are = rw are (rw (root-kept die) refl)
     by_flag false is are = rw (root-stays w.root (root_entry other) (root_entry die) is) refl
 
@@ -78,22 +77,22 @@ ReadsEntry format table w rooted unit at after found attributes =
     (all : List Attribute) × (node_behind format table w.depth rooted unit at ≡ Ok (node_of found all, after)) × HoldsKept (not rooted) found attributes all
 
 -- what is kept of an entry that is read
-entry-kept : (keeping : Keeping) (format : Format) (table : List Declaration) (w kept : Walked) (unit : List ℕ) (at after : ℕ) (head : NodeHead) (attributes : List Attribute) →
+entry-kept : (format : Format) (table : List Declaration) (w kept : Walked) (unit : List ℕ) (at after : ℕ) (head : NodeHead) (attributes : List Attribute) →
     ReadsEntry format table w (is_some w.root) unit at after (Some head) attributes →
-    kept ≡ after_die keeping w (record { offset = at; depth = w.depth; tag = head.tag; attributes = attributes }) →
-    walked_at keeping format table w unit at ≡ Ok (record kept { depth = depth_behind head.children w.depth }, after)
-entry-kept keeping format table w kept unit at after head attributes read is =
-    let all : kept ≡ after_die keeping w (record { offset = at; depth = w.depth; tag = head.tag; attributes = read.0 }) = is ∙ after-kept keeping w at w.depth head.tag read.0 attributes read.2 in
+    kept ≡ after_die w (record { offset = at; depth = w.depth; tag = head.tag; attributes = attributes }) →
+    walked_at format table w unit at ≡ Ok (record kept { depth = depth_behind head.children w.depth }, after)
+entry-kept format table w kept unit at after head attributes read is =
+    let all : kept ≡ after_die w (record { offset = at; depth = w.depth; tag = head.tag; attributes = read.0 }) = is ∙ after-kept w at w.depth head.tag read.0 attributes read.2 in
     rw (read.1, all) refl
 
 -- .. by a step, which knows whether the root stands before, where the entry stands, and what its buffer holds
-pub step-kept : (keeping : Keeping) (format : Format) (table : List Declaration) (w kept : Walked) (unit : List ℕ) (at after : ℕ) (found : Option NodeHead) (head : NodeHead) (attributes buffer : List Attribute) (rooted : Bool) (offset : ℕ) →
+pub step-kept : (format : Format) (table : List Declaration) (w kept : Walked) (unit : List ℕ) (at after : ℕ) (found : Option NodeHead) (head : NodeHead) (attributes buffer : List Attribute) (rooted : Bool) (offset : ℕ) →
     rooted ≡ is_some w.root → offset ≡ at → buffer ≡ attributes → found ≡ Some head → ReadsEntry format table w rooted unit at after found attributes →
-    kept ≡ after_die keeping w (record { offset = offset; depth = w.depth; tag = head.tag; attributes = buffer }) →
-    walked_at keeping format table w unit at ≡ Ok (record kept { depth = depth_behind head.children w.depth }, after)
-step-kept keeping format table w kept unit at after found head attributes buffer rooted offset known place held is read kept_is =
+    kept ≡ after_die w (record { offset = offset; depth = w.depth; tag = head.tag; attributes = buffer }) →
+    walked_at format table w unit at ≡ Ok (record kept { depth = depth_behind head.children w.depth }, after)
+step-kept format table w kept unit at after found head attributes buffer rooted offset known place held is read kept_is =
     let first = subst (λ (r : Bool). ReadsEntry format table w r unit at after found attributes) known read in
     let second = subst (λ (f : Option NodeHead). ReadsEntry format table w (is_some w.root) unit at after f attributes) is first in
-    entry-kept keeping format table w kept unit at after head attributes second
-    (kept_is ∙ (ap (λ (k : ℕ). after_die keeping w (record { offset = k; depth = w.depth; tag = head.tag; attributes = buffer })) place
-    ∙ ap (λ (b : List Attribute). after_die keeping w (record { offset = at; depth = w.depth; tag = head.tag; attributes = b })) held))
+    entry-kept format table w kept unit at after head attributes second
+    (kept_is ∙ (ap (λ (k : ℕ). after_die w (record { offset = k; depth = w.depth; tag = head.tag; attributes = buffer })) place
+    ∙ ap (λ (b : List Attribute). after_die w (record { offset = at; depth = w.depth; tag = head.tag; attributes = b })) held))

@@ -11,7 +11,6 @@ pub mod RootNumbers
 pub mod ScopesPass
 pub mod ReferenceLaws
 pub mod PathLaws
-pub mod OnlyLaws
 pub mod KeptNodes
 pub mod OrderLaws
 pub mod BelowLaws
@@ -19,7 +18,7 @@ pub mod BaseInForce
 pub mod RootsPass
 pub mod WalkLaws
 pub mod EndLaws
-pub mod ScopesOnly
+pub mod MarkLaws
 pub mod ReadLaws
 pub mod ScopeOrder
 pub mod TellLaws

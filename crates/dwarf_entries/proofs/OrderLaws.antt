@@ -18,7 +18,6 @@ use Rattle.dwarf_units.proofs.AgainLaws.{entries-again}
 use Rattle.dwarf_units.proofs.TableLaws.{table_for, table_few, table_again}
 use Rattle.dwarf_entries.specs.Private.Again.{IsReadIn, AreReadIn}
 use Rattle.dwarf_bytes.proofs.Moves.{same_ok, same_item}
-use Rattle.dwarf_entries.specs.declared.kept.Keeping.{Keeping}
 use Rattle.dwarf_units.specs.declared.unit_headers.UnitHeader.{UnitHeader}
 use Rattle.dwarf_units.specs.declared.unit_headers.UnitType.{UnitType}
 use Rattle.dwarf_entries.specs.declared.bases.Bases.{Bases}
@@ -193,53 +192,56 @@ read-in s [] all i u found = absurd (none i u found)
 read-in s (first ∷ us) all zero u found = subst (λ (v : CompilationUnit). IsReadIn s v) (same_Some first u found) all.0
 read-in s (first ∷ us) all (suc i) u found = read-in s us all.1 i u found
 
+abbrev pub dies_of : CompilationUnit → List Die
+dies_of unit = unit.dies
+
 -- what the passes read of units whose headers stand in order
-abbrev Ordered : Keeping → Sections → ℕ → List UnitHeader → List (List Die) → List CompilationUnit → Type 0
-Ordered keeping s from headers dies units = AreInOrder from units × (kept_units keeping headers dies ≡ map (kept_unit_of keeping) units) × AllReadIn s units
+abbrev Ordered : Sections → ℕ → List UnitHeader → List (List Die) → List CompilationUnit → Type 0
+Ordered s from headers dies units = AreInOrder from units × (kept_units headers dies ≡ map kept_unit_of units) × (dies ≡ map dies_of units) × AllReadIn s units
 
-no_units : (keeping : Keeping) (s : Sections) (from : ℕ) (before : List CompilationUnit) (units : List CompilationUnit) → each_from (unit_for s) before [] ≡ Ok units → AreInOrder from units × ([] ≡ map (kept_unit_of keeping) units) × AllReadIn s units
+no_units : (s : Sections) (from : ℕ) (before : List CompilationUnit) (units : List CompilationUnit) → each_from (unit_for s) before [] ≡ Ok units → AreInOrder from units × ([] ≡ map kept_unit_of units) × ([] ≡ map dies_of units) × AllReadIn s units
 unfolding each_from
-no_units keeping s from before units h = subst (λ (us : List CompilationUnit). AreInOrder from us × ([] ≡ map (kept_unit_of keeping) us) × AllReadIn s us) (same_ok [] units h) (tt, refl, tt)
+no_units s from before units h = subst (λ (us : List CompilationUnit). AreInOrder from us × ([] ≡ map kept_unit_of us) × ([] ≡ map dies_of us) × AllReadIn s us) (same_ok [] units h) (tt, refl, refl, tt)
 
-in-order : (keeping : Keeping) (s : Sections) (size from : ℕ) (headers : List UnitHeader) (tables : List (List Declaration)) (before : List (List Die)) (dies : List (List Die)) (front : List CompilationUnit) (units : List CompilationUnit) →
-    HeadersInOrder from size headers → TablesStand s.debug_abbrev headers tables → each_from (entries_for s.debug_info) before (zip headers tables) ≡ Ok dies → each_from (unit_for s) front (zip headers dies) ≡ Ok units → Ordered keeping s from headers dies units
+in-order : (s : Sections) (size from : ℕ) (headers : List UnitHeader) (tables : List (List Declaration)) (before : List (List Die)) (dies : List (List Die)) (front : List CompilationUnit) (units : List CompilationUnit) →
+    HeadersInOrder from size headers → TablesStand s.debug_abbrev headers tables → each_from (entries_for s.debug_info) before (zip headers tables) ≡ Ok dies → each_from (unit_for s) front (zip headers dies) ≡ Ok units → Ordered s from headers dies units
 unfolding each_from
-in-order keeping s size from [] tables before dies front units order stand read made = no_units keeping s from front units made
-in-order keeping s size from (header ∷ headers) [] before dies front units order stand read made =
+in-order s size from [] tables before dies front units order stand read made = subst (λ (ds : List (List Die)). Ordered s from [] ds units) (same_ok [] dies read) (no_units s from front units made)
+in-order s size from (header ∷ headers) [] before dies front units order stand read made =
     let none : [] ≡ dies = same_ok [] dies read in
-    subst (λ (ds : List (List Die)). Ordered keeping s from (header ∷ headers) ds units) none
-    (no_units keeping s from front units (subst (λ (ds : List (List Die)). each_from (unit_for s) front (zip (header ∷ headers) ds) ≡ Ok units) (sym none) made))
-in-order keeping s size from (header ∷ headers) (table ∷ tables) before dies front units order stand read made =
-    let P : Type 0 = Ordered keeping s from (header ∷ headers) dies units in
+    subst (λ (ds : List (List Die)). Ordered s from (header ∷ headers) ds units) none
+    (no_units s from front units (subst (λ (ds : List (List Die)). each_from (unit_for s) front (zip (header ∷ headers) ds) ≡ Ok units) (sym none) made))
+in-order s size from (header ∷ headers) (table ∷ tables) before dies front units order stand read made =
+    let P : Type 0 = Ordered s from (header ∷ headers) dies units in
     after_bind (entries_of s.debug_info header table) _ dies read P (λ first first_is h1.
     after_bind (each_from (entries_for s.debug_info) (before ++ first ∷ []) (zip headers tables)) _ dies h1 P (λ rest rest_is last.
     let all : first ∷ rest ≡ dies = same_ok (first ∷ rest) dies last in
-    subst (λ (ds : List (List Die)). Ordered keeping s from (header ∷ headers) ds units) all
+    subst (λ (ds : List (List Die)). Ordered s from (header ∷ headers) ds units) all
     (behind first rest first_is (subst (λ (ds : List (List Die)). each_from (unit_for s) front (zip (header ∷ headers) ds) ≡ Ok units) (sym all) made)
-    (λ front units made. in-order keeping s size header.end headers tables (before ++ first ∷ []) rest front units order.4 stand.1 rest_is made))))
+    (λ front units made. in-order s size header.end headers tables (before ++ first ∷ []) rest front units order.4 stand.1 rest_is made))))
   where
     behind : (first : List Die) (rest : List (List Die)) → entries_of s.debug_info header table ≡ Ok first → each_from (unit_for s) front ((header, first) ∷ zip headers rest) ≡ Ok units →
-        ((front : List CompilationUnit) (units : List CompilationUnit) → each_from (unit_for s) front (zip headers rest) ≡ Ok units → Ordered keeping s header.end headers rest units) →
-        Ordered keeping s from (header ∷ headers) (first ∷ rest) units
+        ((front : List CompilationUnit) (units : List CompilationUnit) → each_from (unit_for s) front (zip headers rest) ≡ Ok units → Ordered s header.end headers rest units) →
+        Ordered s from (header ∷ headers) (first ∷ rest) units
     behind first rest first_is made further =
-        let P : Type 0 = Ordered keeping s from (header ∷ headers) (first ∷ rest) units in
+        let P : Type 0 = Ordered s from (header ∷ headers) (first ∷ rest) units in
         after_bind (unit_of s header first) _ units made P (λ unit unit_is h1.
         after_bind (each_from (unit_for s) (front ++ unit ∷ []) (zip headers rest)) _ units h1 P (λ others others_are last.
         let parts = unit_of-parts s header first unit unit_is in
         let later = further (front ++ unit ∷ []) others others_are in
         let rises = entries-rise s.debug_info header table first first_is order.1 order.2 in
-        subst (λ (us : List CompilationUnit). Ordered keeping s from (header ∷ headers) (first ∷ rest) us) (same_ok (unit ∷ others) units last)
+        subst (λ (us : List CompilationUnit). Ordered s from (header ∷ headers) (first ∷ rest) us) (same_ok (unit ∷ others) units last)
         (put_front unit.header unit.dies unit.bases others first_is parts.0 parts.1 rises later)))
       where
-        put_front : (h : UnitHeader) (ds : List Die) (bases : Bases) (others : List CompilationUnit) → entries_of s.debug_info header table ≡ Ok first → h ≡ header → ds ≡ first → RiseWithin header.start header.end first → Ordered keeping s header.end headers rest others →
-            Ordered keeping s from (header ∷ headers) (first ∷ rest) (record { header = h; dies = ds; bases = bases } ∷ others)
+        put_front : (h : UnitHeader) (ds : List Die) (bases : Bases) (others : List CompilationUnit) → entries_of s.debug_info header table ≡ Ok first → h ≡ header → ds ≡ first → RiseWithin header.start header.end first → Ordered s header.end headers rest others →
+            Ordered s from (header ∷ headers) (first ∷ rest) (record { header = h; dies = ds; bases = bases } ∷ others)
         put_front h ds bases others first_is h_is ds_are rises later =
-            rw (h_is, ds_are) ((order.0, rises, later.0), ap (λ (us : List KeptUnit). kept_unit keeping header first ∷ us) later.1, (record { table = table; table_is = stand.0; again = entries-again s.debug_info header table first first_is }, later.2))
+            rw (h_is, ds_are) ((order.0, rises, later.0), ap (λ (us : List KeptUnit). kept_unit header first ∷ us) later.1, ap (λ (ds : List (List Die)). first ∷ ds) later.2, (record { table = table; table_is = stand.0; again = entries-again s.debug_info header table first first_is }, later.3))
 
 -- the units of .debug_info with their entries stand in order, what is kept of them is what is kept of their headers and entries, and
 -- their entries are those that stand in them
-pub units-in-order : (keeping : Keeping) (s : Sections) (headers : List UnitHeader) (tables : List (List Declaration)) (dies : List (List Die)) (units : List CompilationUnit) → units_of s.debug_info ≡ Ok headers → tables_of s.debug_abbrev headers ≡ Ok tables →
-    all_entries s.debug_info headers tables ≡ Ok dies → all_units s headers dies ≡ Ok units → AreInOrder 0 units × (kept_units keeping headers dies ≡ map (kept_unit_of keeping) units) × AllReadIn s units
+pub units-in-order : (s : Sections) (headers : List UnitHeader) (tables : List (List Declaration)) (dies : List (List Die)) (units : List CompilationUnit) → units_of s.debug_info ≡ Ok headers → tables_of s.debug_abbrev headers ≡ Ok tables →
+    all_entries s.debug_info headers tables ≡ Ok dies → all_units s headers dies ≡ Ok units → AreInOrder 0 units × (kept_units headers dies ≡ map kept_unit_of units) × (dies ≡ map dies_of units) × AllReadIn s units
 unfolding tables_of
-units-in-order keeping s headers tables dies units read tables_are entries made =
-    in-order keeping s (length s.debug_info) 0 headers tables [] dies [] units (headers-in-order s.debug_info headers read) (tables-stand s.debug_abbrev [] headers tables tables_are) entries made
+units-in-order s headers tables dies units read tables_are entries made =
+    in-order s (length s.debug_info) 0 headers tables [] dies [] units (headers-in-order s.debug_info headers read) (tables-stand s.debug_abbrev [] headers tables tables_are) entries made

@@ -1,13 +1,13 @@
--- The entry at an offset of .debug_info: found by halving, in the unit that holds the offset.
-use Rattle.std.proofs.Common.{◌≡◌, ℕ, zero, suc, ◌+◌, ◌<◌, ◌≤◌, ◌⊎◌, inl, inr, List, [], ◌∷◌, length, get_or, Bool, true, false, cond, ◌==◌, refl, sym, ap, ◌∙◌, subst, arith, eq-eqb, append-nil}
-use Rattle.std.specs.Prelude.{Option, Some, None, map, find, slice_get, option_map, option_to_list, ok_or}
+-- The entry at an offset of .debug_info: found by its mark, in the unit that holds the offset.
+use Rattle.std.proofs.Common.{◌≡◌, ℕ, zero, suc, ◌+◌, ◌<◌, ◌≤◌, ◌⊎◌, inl, inr, List, [], ◌∷◌, length, get_or, Bool, true, false, cond, ◌==◌, ◌||◌, refl, sym, ap, ◌∙◌, subst, arith, eq-eqb, append-nil}
+use Rattle.std.specs.Prelude.{Option, Some, None, Err, is_some, map, find, slice_get, option_map, option_to_list, ok_or}
 use Rattle.std.specs.List.Sorted.{IsNonDecreasingBy, IsPartitionPoint}
 use Rattle.std.proofs.Math.ListN.{get_or-map}
 use Rattle.std.proofs.lemmas.List.{length-map, get_or-map as get_or-map_at}
-use Rattle.std.proofs.lemmas.List.Folds.{find_at, find-append}
-use Rattle.std.proofs.lemmas.List.Sums.{position_or_len_is}
-use Rattle.std.proofs.lemmas.Option.{slice_get-map, slice_get-get_or, slice_get_past, same_Some}
-use Rattle.std.proofs.lemmas.Bool.{cases_lt}
+use Rattle.std.proofs.lemmas.List.Folds.{find-append}
+use Rattle.std.proofs.lemmas.Option.{slice_get-map, slice_get-get_or, same_Some}
+use Rattle.std.specs.List.{list_any}
+use Rattle.std.proofs.lemmas.Bool.{eqb-true}
 use Rattle.std.proofs.lemmas.Bool.Decides.{nat_tests}
 use Rattle.dwarf_bytes.specs.declared.constants.TheConstants.{DW_FORM_REF_ADDR}
 use Rattle.dwarf_bytes.specs.declared.fault.Cause.TheVariants as causes
@@ -20,17 +20,15 @@ use Rattle.dwarf_entries.specs.Bases.{CompilationUnit}
 use Rattle.dwarf_entries.specs.Names.{Member, members_of, member_at, target_of}
 use Rattle.dwarf_entries.specs.Private.Kept.{AreInOrder}
 use Rattle.dwarf_units.specs.Private.Rising.{RiseWithin}
-use Rattle.dwarf_entries.specs.Private.Members.{PlacedUnit, placed_unit, placed_of, AreKept, Finds, member_in}
+use Rattle.dwarf_entries.specs.Private.Marks.{is_marked, AreMarked}
+use Rattle.dwarf_entries.specs.declared.marks.Marks.{Marks}
+use Rattle.dwarf_entries.specs.Private.Members.{header_of, kept_header, AreKept, Finds, member_in}
 
 -- ---- lists of numbers that do not fall
 
 abbrev RiseFrom : ℕ → List ℕ → Type 0
 RiseFrom low [] = Unit {0}
 RiseFrom low (x ∷ xs) = (low ≤ x) × RiseFrom x xs
-
-from_lower : (low high : ℕ) (xs : List ℕ) → low ≤ high → RiseFrom high xs → RiseFrom low xs
-from_lower low high [] le rise = tt
-from_lower low high (x ∷ xs) le rise = let first = rise.0 in (omega (arith, le, first), rise.1)
 
 ordered : (low : ℕ) (xs : List ℕ) → RiseFrom low xs → (i j d : ℕ) → i ≤ j → j < length xs → (low ≤ get_or xs i d) × (get_or xs i d ≤ get_or xs j d)
 ordered low [] rise i j d le lt = absurd (omega (arith, lt))
@@ -54,10 +52,6 @@ within-le : (from end : ℕ) (dies : List Die) → RiseWithin from end dies → 
 within-le from end [] h = h
 within-le from end (die ∷ dies) h = let first = h.0 in let rest = within-le (suc die.offset) end dies h.1 in omega (arith, first, rest)
 
-dies-rise : (from end : ℕ) (dies : List Die) → RiseWithin from end dies → RiseFrom from (map (λ (d : Die). d.offset) dies)
-dies-rise from end [] h = tt
-dies-rise from end (die ∷ dies) h = (h.0, from_lower die.offset (suc die.offset) (map (λ (d : Die). d.offset) dies) (omega arith) (dies-rise (suc die.offset) end dies h.1))
-
 units-rise : (from : ℕ) (units : List CompilationUnit) → AreInOrder from units → RiseFrom from (map (λ (u : CompilationUnit). u.header.end) units)
 units-rise from [] h = tt
 units-rise from (u ∷ units) h =
@@ -72,28 +66,6 @@ is_not a b lt = grind (arith, nat_tests)
 
 pub is_not_above : (a b : ℕ) → b < a → (a == b) ≡ false
 is_not_above a b lt = grind (arith, nat_tests)
-
-pub find-here : {X : Type 0} (key : X → ℕ) (xs : List X) (x n : ℕ) (e : X) → IsPartitionPoint (λ y. key y < x) (λ y. x ≤ key y) xs n → n < length xs → ((d : X) → e ≡ get_or xs n d) → key e ≡ x
-    → Some e ≡ find (λ y. key y == x) xs
-find-here {X} key xs x n e parts within is here =
-    let p : X → Bool = λ y. key y == x in
-    let at : key (get_or xs n e) ≡ x = ap key (sym (is e)) ∙ here in
-    let first = position_or_len_is p xs n e (omega arith) (λ k lt. is_not (key (get_or xs k e)) x (parts.0 k e (omega arith) lt)) (λ _. eq-eqb (key (get_or xs n e)) x at) in
-    sym (find_at p xs ∙ (ap (λ (k : ℕ). slice_get xs k) first ∙ (slice_get-get_or xs n e within ∙ ap (λ (y : X). Some y) (sym (is e)))))
-
-pub find-missing : {X : Type 0} (key : X → ℕ) (xs : List X) (x n : ℕ) → IsNonDecreasingBy key xs → IsPartitionPoint (λ y. key y < x) (λ y. x ≤ key y) xs n
-    → ((d : X) → n < length xs → key (get_or xs n d) ≡ x → ⊥) → None ≡ find (λ y. key y == x) xs
-find-missing key [] x n rise parts differs = refl
-find-missing {X} key (d ∷ ds) x n rise parts differs =
-    let xs : List X = d ∷ ds in
-    let p : X → Bool = λ y. key y == x in
-    let above : n < length xs → x < key (get_or xs n d) = λ h. let le = parts.1 n d (omega arith) h in let ne : key (get_or xs n d) ≡ x → ⊥ = differs d h in omega (arith, le, ne) in
-    let fails : (k : ℕ) → k < length xs → p (get_or xs k d) ≡ false = λ k h. elim (cases_lt k n) [
-      | inl before ↦ is_not (key (get_or xs k d)) x (parts.0 k d (omega arith) before)
-      | inr after ↦ is_not_above (key (get_or xs k d)) x (let high = above (omega arith) in let later = rise n k d after h in omega (arith, later, high))
-    ] in
-    let none = position_or_len_is p xs (length xs) d (omega arith) fails (λ lt. absurd (omega arith)) in
-    sym (find_at p xs ∙ (ap (λ (k : ℕ). slice_get xs k) none ∙ slice_get_past xs (length xs) (omega arith)))
 
 pub find-map : {X Y : Type 0} (p : Y → Bool) (f : X → Y) (xs : List X) → find p (map f xs) ≡ option_map f (find (λ x. p (f x)) xs)
 find-map p f [] = refl
@@ -155,12 +127,12 @@ map-twice f g [] = refl
 map-twice f g (x ∷ xs) = ap (λ (zs : List _). f (g x) ∷ zs) (map-twice f g xs)
 
 pub kept-length : (kept : List UnitEntries) (units : List CompilationUnit) → AreKept kept units → length kept ≡ length units
-kept-length kept units are = sym (length-map kept placed_of) ∙ (ap length are.same ∙ length-map units placed_unit)
+kept-length kept units are = sym (length-map kept kept_header) ∙ (ap length are.same ∙ length-map units header_of)
 
 ends-kept : (kept : List UnitEntries) (units : List CompilationUnit) → AreKept kept units → map (λ (k : UnitEntries). k.header.end) kept ≡ map (λ (u : CompilationUnit). u.header.end) units
 ends-kept kept units are =
-    let end : PlacedUnit → ℕ = λ r. r.header.end in
-    sym (map-twice end placed_of kept) ∙ (ap (λ (rs : List PlacedUnit). map end rs) are.same ∙ map-twice end placed_unit units)
+    let end : UnitHeader → ℕ = λ h. h.end in
+    sym (map-twice end kept_header kept) ∙ (ap (λ (rs : List UnitHeader). map end rs) are.same ∙ map-twice end header_of units)
 
 pub ends-rise : (kept : List UnitEntries) (units : List CompilationUnit) → AreKept kept units → IsNonDecreasingBy (λ (k : UnitEntries). k.header.end) kept
 ends-rise kept units are = rising-by (λ (k : UnitEntries). k.header.end) kept 0 (subst (λ (xs : List ℕ). RiseFrom 0 xs) (sym (ends-kept kept units are)) (units-rise 0 units are.order))
@@ -175,40 +147,30 @@ pub record UnitAt (units : List CompilationUnit) (n : ℕ) (k : UnitEntries) : T
   pub unit : CompilationUnit
   pub is : slice_get units n ≡ Some unit
   pub header : k.header ≡ unit.header
-  pub entries : k.entries.items ≡ map (λ (d : Die). d.offset) unit.dies
   pub within : RiseWithin unit.header.start unit.header.end unit.dies
 
 pub unit-at : (kept : List UnitEntries) (units : List CompilationUnit) → AreKept kept units → (n : ℕ) (k : UnitEntries) → n < length kept → ((d : UnitEntries) → k ≡ get_or kept n d) → UnitAt units n k
 unit-at kept units are n k lt is = by_found (slice_get units n) refl
   where
-    same : Some (placed_of k) ≡ option_map placed_unit (slice_get units n)
+    same : Some (kept_header k) ≡ option_map header_of (slice_get units n)
     same =
         let here : slice_get kept n ≡ Some k = slice_get-get_or kept n k lt ∙ ap (λ (x : UnitEntries). Some x) (sym (is k)) in
-        ap (λ (o : Option UnitEntries). option_map placed_of o) (sym here)
-        ∙ (sym (slice_get-map placed_of kept n) ∙ (ap (λ (rs : List PlacedUnit). slice_get rs n) are.same ∙ slice_get-map placed_unit units n))
+        ap (λ (o : Option UnitEntries). option_map kept_header o) (sym here)
+        ∙ (sym (slice_get-map kept_header kept n) ∙ (ap (λ (rs : List UnitHeader). slice_get rs n) are.same ∙ slice_get-map header_of units n))
 
     by_found : (found : Option CompilationUnit) → slice_get units n ≡ found → UnitAt units n k
-    by_found None h = absurd (never (same ∙ ap (λ (o : Option CompilationUnit). option_map placed_unit o) h))
+    by_found None h = absurd (never (same ∙ ap (λ (o : Option CompilationUnit). option_map header_of o) h))
       where
-        never : Some (placed_of k) ≡ None → ⊥
+        never : Some (kept_header k) ≡ None → ⊥
         never e = cc
     by_found (Some u) h =
-        let e : placed_of k ≡ placed_unit u = same_Some (placed_of k) (placed_unit u) (same ∙ ap (λ (o : Option CompilationUnit). option_map placed_unit o) h) in
+        let e : k.header ≡ u.header = same_Some k.header u.header (same ∙ ap (λ (o : Option CompilationUnit). option_map header_of o) h) in
         record {
           unit = u;
           is = h;
-          header = ap (λ (r : PlacedUnit). r.header) e;
-          entries = ap (λ (r : PlacedUnit). r.entries) e;
+          header = e;
           within = within-at 0 units are.order n u h;
         }
-
-self-map : (xs : List ℕ) → map (λ (x : ℕ). x) xs ≡ xs
-self-map [] = refl
-self-map (x ∷ xs) = ap (λ (ys : List ℕ). x ∷ ys) (self-map xs)
-
-entries-rise : (units : List CompilationUnit) (n : ℕ) (k : UnitEntries) → UnitAt units n k → IsNonDecreasingBy (λ (e : ℕ). e) k.entries.items
-entries-rise units n k at =
-    rising-by (λ (e : ℕ). e) k.entries.items at.unit.header.start (subst (λ (xs : List ℕ). RiseFrom at.unit.header.start xs) (sym (self-map k.entries.items ∙ at.entries)) (dies-rise at.unit.header.start at.unit.header.end at.unit.dies at.within))
 
 pub start-kept : (kept : List UnitEntries) (units : List CompilationUnit) → AreKept kept units → (n : ℕ) (k : UnitEntries) → n < length kept → ((d : UnitEntries) → k ≡ get_or kept n d) → (u : CompilationUnit) → slice_get units n ≡ Some u →
     k.header.start ≡ u.header.start
@@ -218,22 +180,75 @@ start-kept kept units are n k lt is u at =
 
 -- ---- the entry at an offset, of one unit
 
-abbrev in_place : ℕ → Option ℕ → Option UnitPlace
-in_place n found = option_map (λ offset. record { unit = n; offset = offset }) found
+-- a unit starts behind those before it
+start-from : (from : ℕ) (units : List CompilationUnit) → AreInOrder from units → (n : ℕ) (u : CompilationUnit) → slice_get units n ≡ Some u → from ≤ u.header.start
+start-from from [] h n u is = cc
+start-from from (v ∷ units) h zero u is = subst (λ (w : CompilationUnit). from ≤ w.header.start) (same_Some v u is) h.0
+start-from from (v ∷ units) h (suc n) u is =
+    let first = h.0 in
+    let inside = within-le v.header.start v.header.end v.dies h.1 in
+    let later = start-from v.header.end units h.2 n u is in
+    omega (arith, first, inside, later)
 
--- what is found stands in the list
-find-index : (p : Die → Bool) (dies : List Die) (die : Die) → find p dies ≡ Some die → (i : ℕ) × (slice_get dies i ≡ Some die)
-find-index p [] die h = cc
-find-index p (d ∷ dies) die h = by_test (p d) h (λ later. find-index p dies die later)
+-- what stands in a unit is an entry of its own
+in_own : (from : ℕ) (units : List CompilationUnit) (offset : ℕ) → AreInOrder from units → (n : ℕ) (u : CompilationUnit) → slice_get units n ≡ Some u → u.header.start ≤ offset → offset < u.header.end →
+    find (stands_at offset) (members_of units) ≡ find (stands_at offset) (members_of (u ∷ []))
+in_own from [] offset h n u is low high = cc
+in_own from (v ∷ units) offset h zero u is low high =
+    let same : v ≡ u = same_Some v u is in
+    let past : offset < v.header.end = subst (λ (w : CompilationUnit). offset < w.header.end) (sym same) high in
+    let there = none-before v.header.end units offset h.2 past in
+    let own : find (stands_at offset) (members_of (v ∷ units)) ≡ find (stands_at offset) (members_of (v ∷ [])) =
+    find-append (stands_at offset) (map (member_of v) v.dies) (members_of units) ∙ (rw there (sym (find-append (stands_at offset) (map (member_of v) v.dies) []))) in
+    own ∙ ap (λ (w : CompilationUnit). find (stands_at offset) (members_of (w ∷ []))) same
+in_own from (v ∷ units) offset h (suc n) u is low high =
+    let later = start-from v.header.end units h.2 n u is in
+    let over : v.header.end ≤ offset = omega (arith, later, low) in
+    let here = none-outside v v.header.start v.header.end v.dies offset h.1 (inr over) in
+    find-append (stands_at offset) (map (member_of v) v.dies) (members_of units) ∙ (rw here (in_own v.header.end units offset h.2 n u is low high))
+
+any-find : {X : Type 0} (p : X → Bool) (xs : List X) → list_any p xs ≡ is_some (find p xs)
+any-find p [] = refl
+any-find {X} p (x ∷ xs) = by_test (p x) (any-find p xs)
   where
-    by_test : (b : Bool) → cond b (Some d) (find p dies) ≡ Some die → (find p dies ≡ Some die → (i : ℕ) × (slice_get dies i ≡ Some die)) → (i : ℕ) × (slice_get (d ∷ dies) i ≡ Some die)
-    by_test true h later = (0, h)
-    by_test false h later = let behind = later h in (suc behind.0, behind.1)
+    by_test : (b : Bool) → list_any p xs ≡ is_some (find p xs) → (b || list_any p xs) ≡ is_some (cond b (Some x) (find p xs))
+    by_test true h = refl
+    by_test false h = h
 
-pub finds-in : (kept : List UnitEntries) (units : List CompilationUnit) → AreKept kept units → (n offset : ℕ) (k : UnitEntries) → n < length kept → ((d : UnitEntries) → k ≡ get_or kept n d) →
-    (items : List ℕ) → items ≡ k.entries.items → (found : Option ℕ) → (IsNonDecreasingBy (λ (e : ℕ). e) items → found ≡ find (λ e. e == offset) items) →
-    Finds units (in_place n found) (member_in units n offset)
-finds-in kept units are n offset k lt is items items_are found search_is = by_die (find of_die u.dies) refl found found_is outcome_is
+-- what is found stands in the list, and passes
+find-index : (p : Die → Bool) (dies : List Die) (die : Die) → find p dies ≡ Some die → (i : ℕ) × (slice_get dies i ≡ Some die) × (p die ≡ true)
+find-index p [] die h = cc
+find-index p (d ∷ dies) die h = by_test (p d) refl h (λ later. find-index p dies die later)
+  where
+    by_test : (b : Bool) → p d ≡ b → cond b (Some d) (find p dies) ≡ Some die → (find p dies ≡ Some die → (i : ℕ) × (slice_get dies i ≡ Some die) × (p die ≡ true)) → (i : ℕ) × (slice_get (d ∷ dies) i ≡ Some die) × (p die ≡ true)
+    by_test true passes h later = (0, h, subst (λ (e : Die). p e ≡ true) (same_Some d die h) passes)
+    by_test false passes h later = let behind = later h in (suc behind.0, behind.1, behind.2)
+
+-- the entry at an offset, of the unit of a number
+member-is : (kept : List UnitEntries) (units : List CompilationUnit) (n offset : ℕ) (k : UnitEntries) → (at : UnitAt units n k) →
+    member_in units n offset ≡ ok_or (option_map (member_of at.unit) (find (λ d. d.offset == offset) at.unit.dies)) causes.Reference
+member-is kept units n offset k at =
+    let all = ap (λ (ms : List Member). find (stands_at offset) ms) (append-nil (map (member_of at.unit) at.unit.dies)) ∙ find-map (stands_at offset) (member_of at.unit) at.unit.dies in
+    ap (λ (o : Option CompilationUnit). member_at (members_of (option_to_list o)) offset) at.is ∙ ap (λ (o : Option Member). ok_or o causes.Reference) all
+
+-- outside the unit there is none
+pub finds-outside : (kept : List UnitEntries) (units : List CompilationUnit) → AreKept kept units → (n offset : ℕ) (k : UnitEntries) → n < length kept → ((d : UnitEntries) → k ≡ get_or kept n d) →
+    (offset < k.header.start) ⊎ (k.header.end ≤ offset) → member_in units n offset ≡ Err causes.Reference
+finds-outside kept units are n offset k lt is out =
+    let at = unit-at kept units are n k lt is in
+    let u = at.unit in
+    let outside : (offset < u.header.start) ⊎ (u.header.end ≤ offset) = subst (λ (h : UnitHeader). (offset < h.start) ⊎ (h.end ≤ offset)) at.header out in
+    let none = none-outside u u.header.start u.header.end u.dies offset at.within outside in
+    ap (λ (o : Option CompilationUnit). member_at (members_of (option_to_list o)) offset) at.is
+    ∙ (ap (λ (ms : List Member). ok_or (find (stands_at offset) ms) causes.Reference) (append-nil (map (member_of u) u.dies)) ∙ ap (λ (o : Option Member). ok_or o causes.Reference) none)
+
+-- inside it is there if its place is marked
+abbrev pub marked_place : ℕ → ℕ → Bool → Option UnitPlace
+marked_place n offset marked = cond marked (Some (record { unit = n; offset = offset })) None
+
+pub finds-inside : (kept : List UnitEntries) (units : List CompilationUnit) → AreKept kept units → (marks : Marks) → AreMarked marks units → (n offset : ℕ) (k : UnitEntries) → n < length kept → ((d : UnitEntries) → k ≡ get_or kept n d) →
+    k.header.start ≤ offset → offset < k.header.end → (marked : Bool) → marked ≡ is_marked marks offset → Finds units (marked_place n offset marked) (member_in units n offset)
+finds-inside kept units are marks all n offset k lt is low high marked marked_is = by_die (find of_die u.dies) refl marked found_is (member-is kept units n offset k at)
   where
     at : UnitAt units n k
     at = unit-at kept units are n k lt is
@@ -244,26 +259,22 @@ finds-in kept units are n offset k lt is items items_are found search_is = by_di
     of_die : Die → Bool
     of_die d = d.offset == offset
 
-    offset_of : Die → ℕ
-    offset_of d = d.offset
-
-    found_is : found ≡ option_map offset_of (find of_die u.dies)
+    found_is : marked ≡ is_some (option_map (member_of u) (find of_die u.dies))
     found_is =
-        let rise : IsNonDecreasingBy (λ (e : ℕ). e) items = subst (λ (es : List ℕ). IsNonDecreasingBy (λ (e : ℕ). e) es) (sym items_are) (entries-rise units n k at) in
-        search_is rise ∙ (ap (λ (es : List ℕ). find (λ e. e == offset) es) (items_are ∙ at.entries) ∙ find-map (λ e. e == offset) offset_of u.dies)
+        let from : u.header.start ≤ offset = subst (λ (h : UnitHeader). h.start ≤ offset) at.header low in
+        let to : offset < u.header.end = subst (λ (h : UnitHeader). offset < h.end) at.header high in
+        let own = in_own 0 units offset are.order n u at.is from to in
+        let one = ap (λ (ms : List Member). find (stands_at offset) ms) (append-nil (map (member_of u) u.dies)) ∙ find-map (stands_at offset) (member_of u) u.dies in
+        marked_is ∙ (all offset ∙ (any-find (stands_at offset) (members_of units) ∙ ap (λ (o : Option Member). is_some o) (own ∙ one)))
 
-    outcome_is : member_in units n offset ≡ ok_or (option_map (member_of u) (find of_die u.dies)) causes.Reference
-    outcome_is =
-        let all = ap (λ (ms : List Member). find (stands_at offset) ms) (append-nil (map (member_of u) u.dies)) ∙ find-map (stands_at offset) (member_of u) u.dies in
-        ap (λ (o : Option CompilationUnit). member_at (members_of (option_to_list o)) offset) at.is ∙ ap (λ (o : Option Member). ok_or o causes.Reference) all
-
-    by_die : (die : Option Die) → find of_die u.dies ≡ die → (found : Option ℕ) → found ≡ option_map offset_of die → member_in units n offset ≡ ok_or (option_map (member_of u) die) causes.Reference → Finds units (in_place n found) (member_in units n offset)
-    by_die None here None same outcome = outcome
-    by_die None here (Some e) same outcome = cc
-    by_die (Some d) here None same outcome = cc
-    by_die (Some d) here (Some e) same outcome =
+    by_die : (die : Option Die) → find of_die u.dies ≡ die → (marked : Bool) → marked ≡ is_some (option_map (member_of u) die) → member_in units n offset ≡ ok_or (option_map (member_of u) die) causes.Reference →
+        Finds units (marked_place n offset marked) (member_in units n offset)
+    by_die None here false same outcome = outcome
+    by_die None here true same outcome = cc
+    by_die (Some d) here false same outcome = cc
+    by_die (Some d) here true same outcome =
         let there = find-index of_die u.dies d here in
-        (member_of u d, outcome, record { unit_is = at.is; offset_is = sym (same_Some e d.offset same); index = there.0; there = there.1 })
+        (member_of u d, outcome, record { unit_is = at.is; offset_is = eqb-true d.offset offset there.2; index = there.0; there = there.1 })
 
 -- ---- the entry that a reference names
 

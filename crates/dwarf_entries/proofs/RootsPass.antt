@@ -4,7 +4,6 @@ use Rattle.std.specs.Prelude.{Option, Some, None, count_by, sum_by}
 use Rattle.std.proofs.lemmas.List.{drop_all, get_or-map, length-map, take_more, take-append-drop}
 use Rattle.std.proofs.lemmas.List.Sums.{sum_by-append}
 use Rattle.dwarf_entries.specs.declared.scope.Root.{Root}
-use Rattle.dwarf_entries.specs.declared.kept.Keeping.{Keeping}
 use Rattle.dwarf_entries.specs.declared.kept.RootEntry.{RootEntry}
 use Rattle.dwarf_entries.specs.declared.kept.UnitEntries.{UnitEntries}
 use Rattle.dwarf_units.specs.Entries.{Die}
@@ -25,14 +24,14 @@ record RootAt (us : List CompilationUnit) (index : ℕ) (unit : UnitEntries) : T
   pub root_is : unit.root ≡ root_in u.dies
   pub count : length unit.scopes.items ≡ count_by is_scope u.dies
 
-root_at : (keeping : Keeping) (units : List UnitEntries) (us : List CompilationUnit) (index : ℕ) (unit : UnitEntries) → map kept_of units ≡ map (kept_unit_of keeping) us → index < length units → unit ≡ get_or units index unit → RootAt us index unit
-root_at keeping units us index unit same within is =
-    let sizes : length units ≡ length us = sym (length-map units kept_of) ∙ (ap (λ (ks : List KeptUnit). length ks) same ∙ length-map us (kept_unit_of keeping)) in
+root_at : (units : List UnitEntries) (us : List CompilationUnit) (index : ℕ) (unit : UnitEntries) → map kept_of units ≡ map kept_unit_of us → index < length units → unit ≡ get_or units index unit → RootAt us index unit
+root_at units us index unit same within is =
+    let sizes : length units ≡ length us = sym (length-map units kept_of) ∙ (ap (λ (ks : List KeptUnit). length ks) same ∙ length-map us kept_unit_of) in
     let inside : index < length us = omega (arith, sizes, within) in
     let d : CompilationUnit = record { header = unit.header; dies = []; bases = record { str_offsets = None; addr = None; rnglists = None; low_pc = None } } in
     let u : CompilationUnit = get_or us index d in
-    let here : kept_of unit ≡ kept_unit_of keeping u =
-    ap kept_of is ∙ (sym (get_or-map kept_of units index unit (kept_of unit) within) ∙ (ap (λ (ks : List KeptUnit). get_or ks index (kept_of unit)) same ∙ get_or-map (kept_unit_of keeping) us index d (kept_of unit) inside)) in
+    let here : kept_of unit ≡ kept_unit_of u =
+    ap kept_of is ∙ (sym (get_or-map kept_of units index unit (kept_of unit) within) ∙ (ap (λ (ks : List KeptUnit). get_or ks index (kept_of unit)) same ∙ get_or-map kept_unit_of us index d (kept_of unit) inside)) in
     record {
       u = u;
       rest = rw (add-one, drop-cons us index d inside) refl;
@@ -64,10 +63,10 @@ root_of-is : (first past : ℕ) (dies : List Die) (roots : List Root) → root_o
 root_of-is first past [] roots = refl
 root_of-is first past (root ∷ dies) roots = refl
 
-pub roots_next : (keeping : Keeping) (units : List UnitEntries) (us : List CompilationUnit) (index first : ℕ) (unit : UnitEntries) (roots : List Root) → map kept_of units ≡ map (kept_unit_of keeping) us → index < length units → unit ≡ get_or units index unit →
+pub roots_next : (units : List UnitEntries) (us : List CompilationUnit) (index first : ℕ) (unit : UnitEntries) (roots : List Root) → map kept_of units ≡ map kept_unit_of us → index < length units → unit ≡ get_or units index unit →
     RootsSoFar us index first roots → RootsSoFar us (index + 1) (first + length unit.scopes.items) (roots ++ root_list first (first + length unit.scopes.items) unit.root)
-roots_next keeping units us index first unit roots same within is so_far =
-    let here = root_at keeping units us index unit same within is in
+roots_next units us index first unit roots same within is so_far =
+    let here = root_at units us index unit same within is in
     let past : ℕ = first + length unit.scopes.items in
     let list : List Root = root_list first past unit.root in
     let behind : roots_from first (here.u ∷ drop (index + 1) us) ≡ root_list first (first + count_by is_scope here.u.dies) (root_in here.u.dies) ++ roots_from (first + count_by is_scope here.u.dies) (drop (index + 1) us) =
@@ -80,15 +79,15 @@ roots_next keeping units us index first unit roots same within is so_far =
     ∙ (ap (λ (rs : List Root). roots ++ rs) (sym told) ∙ (ap (λ (vs : List CompilationUnit). roots ++ roots_from first vs) (sym here.rest) ∙ so_far))
 
 -- the turn, by what the machine counts
-pub roots_turn : (keeping : Keeping) (units : List UnitEntries) (us : List CompilationUnit) (index first past : ℕ) (unit : UnitEntries) (found : Option RootEntry) (roots : List Root) → map kept_of units ≡ map (kept_unit_of keeping) us → index < length units → unit ≡ get_or units index unit →
+pub roots_turn : (units : List UnitEntries) (us : List CompilationUnit) (index first past : ℕ) (unit : UnitEntries) (found : Option RootEntry) (roots : List Root) → map kept_of units ≡ map kept_unit_of us → index < length units → unit ≡ get_or units index unit →
     RootsSoFar us index first roots → past ≡ first + unit.scopes.len → unit.root ≡ found → RootsSoFar us (index + 1) past (roots ++ root_list first past found)
-roots_turn keeping units us index first past unit found roots same within is so_far past_is found_is =
+roots_turn units us index first past unit found roots same within is so_far past_is found_is =
     let past_there : first + length unit.scopes.items ≡ past = omega (arith, past_is, unit.scopes.ok.0) in
     subst (λ (f : Option RootEntry). RootsSoFar us (index + 1) past (roots ++ root_list first past f)) found_is
-    (subst (λ (k : ℕ). RootsSoFar us (index + 1) k (roots ++ root_list first k unit.root)) past_there (roots_next keeping units us index first unit roots same within is so_far))
+    (subst (λ (k : ℕ). RootsSoFar us (index + 1) k (roots ++ root_list first k unit.root)) past_there (roots_next units us index first unit roots same within is so_far))
 
-pub roots_end : (keeping : Keeping) (units : List UnitEntries) (us : List CompilationUnit) (index first : ℕ) (roots : List Root) → map kept_of units ≡ map (kept_unit_of keeping) us → length units ≤ index → RootsSoFar us index first roots → roots ≡ roots_from 0 us
-roots_end keeping units us index first roots same past so_far =
-    let sizes : length units ≡ length us = sym (length-map units kept_of) ∙ (ap (λ (ks : List KeptUnit). length ks) same ∙ length-map us (kept_unit_of keeping)) in
+pub roots_end : (units : List UnitEntries) (us : List CompilationUnit) (index first : ℕ) (roots : List Root) → map kept_of units ≡ map kept_unit_of us → length units ≤ index → RootsSoFar us index first roots → roots ≡ roots_from 0 us
+roots_end units us index first roots same past so_far =
+    let sizes : length units ≡ length us = sym (length-map units kept_of) ∙ (ap (λ (ks : List KeptUnit). length ks) same ∙ length-map us kept_unit_of) in
     let none : drop index us ≡ [] = drop_all index us (omega (arith, sizes, past)) in
     sym (append-nil roots) ∙ (ap (λ (vs : List CompilationUnit). roots ++ roots_from first vs) (sym none) ∙ so_far)

@@ -1,6 +1,6 @@
 -- The scope of an entry, from what is kept of its unit.
 use Rattle.std.proofs.Common.{◌≡◌, ℕ, zero, suc, ◌+◌, ◌-◌, ◌<◌, ◌≤◌, ◌⊎◌, inl, inr, List, [], ◌∷◌, ◌++◌, length, get_or, refl, ap, sym, ◌∙◌, arith, length-append, false}
-use Rattle.std.specs.Prelude.{Result, Ok, Err, Option, Some, None, slice_get, sum_by, nat_le, ◌==◌, flat_map}
+use Rattle.std.specs.Prelude.{map, Result, Ok, Err, Option, Some, None, slice_get, sum_by, nat_le, ◌==◌, flat_map}
 use Rattle.std.proofs.lemmas.Option.{get_or_from_slice_get, slice_get_cases}
 use Rattle.std.proofs.lemmas.List.{get_or-map, length-map}
 use Rattle.std.proofs.lemmas.Bool.{leb-false}
@@ -11,6 +11,7 @@ use Rattle.dwarf_bytes.specs.Items.{At, Next, Item, End, Lists, reading, refuse_
 use Rattle.dwarf_bytes.specs.Numbers.{u8_at}
 use Rattle.dwarf_bytes.proofs.Advance.{after_bind, after_test}
 use Rattle.dwarf_bytes.proofs.ItemLaws.{Lists-within}
+use Rattle.dwarf_units.specs.declared.unit_headers.UnitHeader.{UnitHeader}
 use Rattle.dwarf_entries.specs.declared.range_entries.RangeListKind.{RangeListKind}
 use Rattle.dwarf_entries.specs.declared.range_entries.RangeListEntry.{RangeListEntry}
 use Rattle.dwarf_units.specs.declared.attributes.AttributeValue.{AttributeValue}
@@ -18,7 +19,6 @@ use Rattle.dwarf_bytes.specs.Bind.{◌>>=◌}
 use Rattle.dwarf_bytes.specs.Refusals.{Fails}
 use Rattle.dwarf_entries.specs.declared.bases.Bases.{Bases}
 use Rattle.dwarf_entries.specs.declared.paths.EntryNames.{EntryNames}
-use Rattle.dwarf_entries.specs.declared.kept.Keeping.{Keeping}
 use Rattle.dwarf_entries.specs.declared.kept.UnitEntries.{UnitEntries}
 use Rattle.dwarf_entries.specs.declared.kept.ScopeEntry.{ScopeEntry}
 use Rattle.dwarf_entries.specs.declared.unit_scopes.ScopeNumbers.{ScopeNumbers}
@@ -26,16 +26,16 @@ use Rattle.dwarf_entries.specs.Sections.{Sections}
 use Rattle.dwarf_entries.specs.Bases.{CompilationUnit}
 use Rattle.dwarf_entries.specs.Names.{names_of}
 use Rattle.dwarf_entries.specs.Ranges.{Covering, kind_of, base_after, ranges_in, entry_at, listed_at, list_place, list_at, pair_range, covers_by, covers_of}
-use Rattle.dwarf_entries.specs.Scopes.{Judged, ScopeSite, items_limit, stmt_list_of, number_of, roots_from}
+use Rattle.dwarf_entries.specs.Scopes.{Judged, ScopeSite, scope_at, items_limit, stmt_list_of, number_of, roots_from}
 use Rattle.dwarf_entries.specs.declared.scope.Range.{Range}
 use Rattle.dwarf_entries.specs.Private.Kept.{KeptUnit, named_entry, kept_unit, kept_of}
 use Rattle.dwarf_entries.specs.Private.Shared.{AddsRanges, AddsFacts}
-use Rattle.dwarf_entries.specs.Private.Members.{IsMember}
-use Rattle.dwarf_entries.specs.Private.Passes.{AreUnits, IsScopeSite, only_units, only_member, scope_facts, scope_with}
-use Rattle.dwarf_entries.proofs.OnlyLaws.{is_member}
+use Rattle.dwarf_entries.specs.Private.Members.{IsMember, AreKept}
+use Rattle.dwarf_entries.specs.Private.Passes.{AreUnits, IsScopeSite, kept_unit_of, scope_facts}
+use Rattle.dwarf_entries.proofs.ReferenceLaws.{map-twice}
 
-abbrev pub kept_in : Keeping → CompilationUnit → KeptUnit
-kept_in keeping u = kept_unit keeping u.header u.dies
+abbrev pub kept_in : CompilationUnit → KeptUnit
+kept_in u = kept_unit u.header u.dies
 
 -- the scope at a place, of its names and of what it covers
 abbrev pub scope_of_place : List Judged → ScopeSite → EntryNames → Covering → Judged
@@ -57,39 +57,49 @@ scope_of_place before p names covering =
       };
     }
 
+-- the units, as paths see them
+abbrev header_in : KeptUnit → UnitHeader
+header_in unit = unit.header
+
+pub are_kept : (units : List UnitEntries) (bases : List Bases) (us : List CompilationUnit) → AreUnits units bases us → AreKept units us
+are_kept units bases us are = record {
+  same = sym (map-twice header_in kept_of units) ∙ (ap (λ (ks : List KeptUnit). map header_in ks) are.same ∙ map-twice header_in kept_unit_of us);
+  order = are.order;
+}
+
 -- the names first, then the ranges
-by_names : (keeping : Keeping) (s : Sections) (us : List CompilationUnit) (before : List Judged) (p : ScopeSite) →
-    scope_with keeping s us before p ≡ (names_of s (only_units keeping us) (only_member keeping p.member) >>= λ names. covers_of (items_limit - sum_by (λ s. s.items) before) s p.member.unit.bases p.member.die >>= λ covering. Ok (scope_of_place before p names covering))
-by_names keeping s us before p = refl
+by_names : (s : Sections) (us : List CompilationUnit) (before : List Judged) (p : ScopeSite) →
+    scope_at s us before p ≡ (names_of s us p.member >>= λ names. covers_of (items_limit - sum_by (λ s. s.items) before) s p.member.unit.bases p.member.die >>= λ covering. Ok (scope_of_place before p names covering))
+by_names s us before p = refl
 
 -- a name that is not read, or a path that does not end
-pub names_fault : (keeping : Keeping) (s : Sections) (us : List CompilationUnit) (before : List Judged) (p : ScopeSite) (numbers : ScopeNumbers) (room : ℕ) (entry : ScopeEntry) (cause : Cause) → IsScopeSite us numbers entry room before p →
-    (IsMember (only_units keeping us) numbers.unit entry.entry (only_member keeping p.member) → Fails cause (names_of s (only_units keeping us) (only_member keeping p.member))) → Fails cause (scope_with keeping s us before p)
-names_fault keeping s us before p numbers room entry cause place read =
+pub names_fault : (s : Sections) (us : List CompilationUnit) (before : List Judged) (p : ScopeSite) (numbers : ScopeNumbers) (room : ℕ) (entry : ScopeEntry) (cause : Cause) → IsScopeSite us numbers entry room before p →
+    (IsMember us numbers.unit entry.entry p.member → Fails cause (names_of s us p.member)) → Fails cause (scope_at s us before p)
+names_fault s us before p numbers room entry cause place read =
     let named : entry.entry ≡ named_entry p.member.die = ap (λ (e : ScopeEntry). e.entry) place.entry_is in
-    by_fault (read (is_member keeping us numbers.unit entry.entry p.member place.unit_is named))
+    by_fault (read (record { unit_is = place.unit_is; entry_is = named }))
   where
-    by_fault : Fails cause (names_of s (only_units keeping us) (only_member keeping p.member)) → Fails cause (scope_with keeping s us before p)
+    by_fault : Fails cause (names_of s us p.member) → Fails cause (scope_at s us before p)
     by_fault (inl memory) = inl memory
     by_fault (inr bad) =
         inr
-        (by_names keeping s us before p
+        (by_names s us before p
         ∙ ap (λ (r : Result EntryNames Cause). r >>= λ names. covers_of (items_limit - sum_by (λ s. s.items) before) s p.member.unit.bases p.member.die >>= λ covering. Ok (scope_of_place before p names covering)) bad)
 
 -- the root and the bases of the place's unit
-pub record UnitAt (keeping : Keeping) (units : List UnitEntries) (bases : List Bases) (unit : ℕ) (u : CompilationUnit) : Type 0 where
-  pub entries_are : (d : UnitEntries) → kept_of (get_or units unit d) ≡ kept_in keeping u
+pub record UnitAt (units : List UnitEntries) (bases : List Bases) (unit : ℕ) (u : CompilationUnit) : Type 0 where
+  pub entries_are : (d : UnitEntries) → kept_of (get_or units unit d) ≡ kept_in u
   pub bases_are : (d : Bases) → get_or bases unit d ≡ u.bases
 
-pub unit_at : (keeping : Keeping) (units : List UnitEntries) (bases : List Bases) (us : List CompilationUnit) (unit : ℕ) (u : CompilationUnit) → AreUnits keeping units bases us → slice_get us unit ≡ Some u → UnitAt keeping units bases unit u
-unit_at keeping units bases us unit u kept found =
+pub unit_at : (units : List UnitEntries) (bases : List Bases) (us : List CompilationUnit) (unit : ℕ) (u : CompilationUnit) → AreUnits units bases us → slice_get us unit ≡ Some u → UnitAt units bases unit u
+unit_at units bases us unit u kept found =
     let here : (d : CompilationUnit) → get_or us unit d ≡ u = λ d. get_or_from_slice_get us unit u d found in
     let within : unit < length us = inside ((slice_get_cases us unit).1) in
-    let sizes : length units ≡ length us = sym (length-map units kept_of) ∙ (ap (λ (ks : List KeptUnit). length ks) kept.same ∙ length-map us (kept_in keeping)) in
+    let sizes : length units ≡ length us = sym (length-map units kept_of) ∙ (ap (λ (ks : List KeptUnit). length ks) kept.same ∙ length-map us kept_in) in
     let based : length bases ≡ length us = ap (λ (bs : List Bases). length bs) kept.bases_are ∙ length-map us (λ u. u.bases) in
     record {
       entries_are = λ d.
-          sym (get_or-map kept_of units unit d (kept_of d) (omega (arith, sizes, within))) ∙ (ap (λ (ks : List KeptUnit). get_or ks unit (kept_of d)) kept.same ∙ (get_or-map (kept_in keeping) us unit u (kept_of d) within ∙ ap (kept_in keeping) (here u)));
+          sym (get_or-map kept_of units unit d (kept_of d) (omega (arith, sizes, within))) ∙ (ap (λ (ks : List KeptUnit). get_or ks unit (kept_of d)) kept.same ∙ (get_or-map kept_in us unit u (kept_of d) within ∙ ap kept_in (here u)));
       bases_are = λ d. ap (λ (bs : List Bases). get_or bs unit d) kept.bases_are ∙ (get_or-map (λ u. u.bases) us unit u d within ∙ ap (λ (v : CompilationUnit). v.bases) (here u));
     }
   where
@@ -104,41 +114,41 @@ unit_at keeping units bases us unit u kept found =
 abbrev covers_there : Sections → List Judged → ScopeSite → Result Covering Cause
 covers_there s before p = covers_of (items_limit - sum_by (λ s. s.items) before) s p.member.unit.bases p.member.die
 
-covers_is : (keeping : Keeping) (s : Sections) (units : List UnitEntries) (bases : List Bases) (us : List CompilationUnit) (before : List Judged) (p : ScopeSite) (numbers : ScopeNumbers) (room : ℕ) (entry : ScopeEntry) (d : Bases) → AreUnits keeping units bases us → IsScopeSite us numbers entry room before p →
+covers_is : (s : Sections) (units : List UnitEntries) (bases : List Bases) (us : List CompilationUnit) (before : List Judged) (p : ScopeSite) (numbers : ScopeNumbers) (room : ℕ) (entry : ScopeEntry) (d : Bases) → AreUnits units bases us → IsScopeSite us numbers entry room before p →
     covers_there s before p ≡ covers_by room s (get_or bases numbers.unit d) entry.low_pc entry.high_pc entry.ranges
 unfolding covers_of
-covers_is keeping s units bases us before p numbers room entry d kept place =
-    let here = (unit_at keeping units bases us numbers.unit p.member.unit kept place.unit_is).bases_are d in
+covers_is s units bases us before p numbers room entry d kept place =
+    let here = (unit_at units bases us numbers.unit p.member.unit kept place.unit_is).bases_are d in
     rw (here, place.entry_is, place.room_is) refl
 
 -- the scope behind its names
-after_names : (keeping : Keeping) (s : Sections) (us : List CompilationUnit) (before : List Judged) (p : ScopeSite) (names : EntryNames) → names_of s (only_units keeping us) (only_member keeping p.member) ≡ Ok names →
-    scope_with keeping s us before p ≡ (covers_there s before p >>= λ covering. Ok (scope_of_place before p names covering))
-after_names keeping s us before p names read =
-    by_names keeping s us before p ∙ ap (λ (r : Result EntryNames Cause). r >>= λ names. covers_there s before p >>= λ covering. Ok (scope_of_place before p names covering)) read
+after_names : (s : Sections) (us : List CompilationUnit) (before : List Judged) (p : ScopeSite) (names : EntryNames) → names_of s us p.member ≡ Ok names →
+    scope_at s us before p ≡ (covers_there s before p >>= λ covering. Ok (scope_of_place before p names covering))
+after_names s us before p names read =
+    by_names s us before p ∙ ap (λ (r : Result EntryNames Cause). r >>= λ names. covers_there s before p >>= λ covering. Ok (scope_of_place before p names covering)) read
 
 -- ranges that are not read
-pub covers_fault : (keeping : Keeping) (s : Sections) (units : List UnitEntries) (bases : List Bases) (us : List CompilationUnit) (before : List Judged) (p : ScopeSite) (numbers : ScopeNumbers) (room : ℕ) (entry : ScopeEntry) (names : EntryNames) (cause : Cause) (d : Bases) →
-    AreUnits keeping units bases us → IsScopeSite us numbers entry room before p → (IsMember (only_units keeping us) numbers.unit entry.entry (only_member keeping p.member) → names_of s (only_units keeping us) (only_member keeping p.member) ≡ Ok names) →
-    Fails cause (covers_by room s (get_or bases numbers.unit d) entry.low_pc entry.high_pc entry.ranges) → Fails cause (scope_with keeping s us before p)
-covers_fault keeping s units bases us before p numbers room entry names cause d kept place read (inl memory) = inl memory
-covers_fault keeping s units bases us before p numbers room entry names cause d kept place read (inr bad) =
+pub covers_fault : (s : Sections) (units : List UnitEntries) (bases : List Bases) (us : List CompilationUnit) (before : List Judged) (p : ScopeSite) (numbers : ScopeNumbers) (room : ℕ) (entry : ScopeEntry) (names : EntryNames) (cause : Cause) (d : Bases) →
+    AreUnits units bases us → IsScopeSite us numbers entry room before p → (IsMember us numbers.unit entry.entry p.member → names_of s us p.member ≡ Ok names) →
+    Fails cause (covers_by room s (get_or bases numbers.unit d) entry.low_pc entry.high_pc entry.ranges) → Fails cause (scope_at s us before p)
+covers_fault s units bases us before p numbers room entry names cause d kept place read (inl memory) = inl memory
+covers_fault s units bases us before p numbers room entry names cause d kept place read (inr bad) =
     let named : entry.entry ≡ named_entry p.member.die = ap (λ (e : ScopeEntry). e.entry) place.entry_is in
     inr
-    (after_names keeping s us before p names (read (is_member keeping us numbers.unit entry.entry p.member place.unit_is named))
-    ∙ ap (λ (r : Result Covering Cause). r >>= λ covering. Ok (scope_of_place before p names covering)) (covers_is keeping s units bases us before p numbers room entry d kept place ∙ bad))
+    (after_names s us before p names (read (record { unit_is = place.unit_is; entry_is = named }))
+    ∙ ap (λ (r : Result Covering Cause). r >>= λ covering. Ok (scope_of_place before p names covering)) (covers_is s units bases us before p numbers room entry d kept place ∙ bad))
 
 -- what is told of the scope
-pub scope_is : (keeping : Keeping) (s : Sections) (units : List UnitEntries) (bases : List Bases) (us : List CompilationUnit) (before : List Judged) (p : ScopeSite) (numbers : ScopeNumbers) (room : ℕ) (entry : ScopeEntry) (names : EntryNames) (items : ℕ) (old new : List Range) (d : Bases) →
-    AreUnits keeping units bases us → IsScopeSite us numbers entry room before p → (IsMember (only_units keeping us) numbers.unit entry.entry (only_member keeping p.member) → names_of s (only_units keeping us) (only_member keeping p.member) ≡ Ok names) →
+pub scope_is : (s : Sections) (units : List UnitEntries) (bases : List Bases) (us : List CompilationUnit) (before : List Judged) (p : ScopeSite) (numbers : ScopeNumbers) (room : ℕ) (entry : ScopeEntry) (names : EntryNames) (items : ℕ) (old new : List Range) (d : Bases) →
+    AreUnits units bases us → IsScopeSite us numbers entry room before p → (IsMember us numbers.unit entry.entry p.member → names_of s us p.member ≡ Ok names) →
     AddsRanges (Ok items) old new (covers_by room s (get_or bases numbers.unit d) entry.low_pc entry.high_pc entry.ranges) →
-    AddsFacts (roots_from 0 us) (Ok (scope_facts numbers entry names, items)) old new (scope_with keeping s us before p)
-scope_is keeping s units bases us before p numbers room entry names items old new d kept place read (found, covers_read, grown) =
+    AddsFacts (roots_from 0 us) (Ok (scope_facts numbers entry names, items)) old new (scope_at s us before p)
+scope_is s units bases us before p numbers room entry names items old new d kept place read (found, covers_read, grown) =
     let named : entry.entry ≡ named_entry p.member.die = ap (λ (e : ScopeEntry). e.entry) place.entry_is in
     let ending : numbers.number + numbers.inside + 1 ≡ length before + 1 + p.inside = omega (arith, place.number_is, place.inside_is) in (
       found,
-      after_names keeping s us before p names (read (is_member keeping us numbers.unit entry.entry p.member place.unit_is named))
-          ∙ (ap (λ (r : Result Covering Cause). r >>= λ covering. Ok (scope_of_place before p names covering)) (covers_is keeping s units bases us before p numbers room entry d kept place ∙ covers_read)
+      after_names s us before p names (read (record { unit_is = place.unit_is; entry_is = named }))
+          ∙ (ap (λ (r : Result Covering Cause). r >>= λ covering. Ok (scope_of_place before p names covering)) (covers_is s units bases us before p numbers room entry d kept place ∙ covers_read)
           ∙ rw (place.entry_is, place.root_is, ending, place.number_is) refl),
       grown,
     )

@@ -12,6 +12,7 @@ ghost use Rattle.dwarf_entries.specs.Private.Named.{used_at, named_entry_at};
 use crate::entries::unit_bytes;
 use crate::kept::{NamedEntry, ScopeEntry, kind_of};
 use crate::long_entries::LongEntries;
+use crate::marks::Marks;
 use crate::sections::Sections;
 use dwarf_bytes::{Cause, Cursor};
 use dwarf_units::{Attribute, Tables, UnitHeader};
@@ -85,17 +86,15 @@ impl<'a> EntryReader<'a> {
     {
         let tag = self.entry(header, offset)?;
         let kind = kind_of(tag).ok_or(Cause::Reference)?;
-        let entry = NamedEntry::of(offset, &self.found);
-        Ok(ScopeEntry::of(entry, kind, &self.found))
+        Ok(ScopeEntry::of(offset, kind, &self.found))
     }
 
     /// What a path needs of the entry at an offset, in the unit of the header. A long entry is read
-    /// once, and so are the entries of a unit, which are at these offsets, if its table does not
-    /// stay.
+    /// once, and so are the entries of a unit, which are marked, if its table does not stay.
     pub(crate) fn named(
         &mut self,
         header: &UnitHeader,
-        entries: &[u32],
+        marks: &Marks,
         offset: usize,
     ) -> Result<NamedEntry, Cause>
         ensures named { (s : SectionBytes) (table : List Declaration) → IsReaderOf s self.old
@@ -109,22 +108,31 @@ impl<'a> EntryReader<'a> {
         }
         let entry = self.named_again(header, offset)?;
         if !self.tables.stays(self.number) {
-            self.hold(header, entries)?;
+            self.hold(header, marks)?;
         } else if self.len > LONG {
             self.remember(header, offset, entry)?;
         }
         Ok(entry)
     }
 
-    /// Remembers what paths need of the entries at these offsets, as far as they are read.
-    fn hold(&mut self, header: &UnitHeader, entries: &[u32]) -> Result<(), AllocError>
+    /// Remembers what paths need of the entries of the unit of the header, as far as they are read.
+    fn hold(&mut self, header: &UnitHeader, marks: &Marks) -> Result<(), AllocError>
         ensures { (s : SectionBytes) → IsReaderOf s self.old → IsReaderOf s self.new }
     {
-        for offset in entries {
-            let offset = *offset as usize;
-            if let Ok(entry) = self.named_again(header, offset) {
-                self.remember(header, offset, entry)?;
+        for offset in header.first..header.end {
+            if marks.is_marked(offset) {
+                self.hold_at(header, offset)?;
             }
+        }
+        Ok(())
+    }
+
+    /// Remembers what paths need of the entry at an offset, if it is read.
+    fn hold_at(&mut self, header: &UnitHeader, offset: usize) -> Result<(), AllocError>
+        ensures { (s : SectionBytes) → IsReaderOf s self.old → IsReaderOf s self.new }
+    {
+        if let Ok(entry) = self.named_again(header, offset) {
+            self.remember(header, offset, entry)?;
         }
         Ok(())
     }

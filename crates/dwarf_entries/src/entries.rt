@@ -1,15 +1,18 @@
 //! The entries of a unit (DWARF 5, 2.3, 7.5.2 and 7.5.3).
 
-ghost use Rattle.std.specs.Prelude.{◌≡◌, ◌≤◌, [], None, IsSome, IfOk, OnOk, not, take, reverse};
+ghost use Rattle.std.specs.Prelude.{◌≡◌, ◌≤◌, ℕ, List, [], None, Ok, is_some, IsSome, IfOk, OnOk, not, take, reverse};
 ghost use Rattle.dwarf_bytes.specs.declared.fault.Section.TheVariants as sections;
 ghost use Rattle.dwarf_bytes.specs.Refusals.{Decodes, in_section};
-ghost use Rattle.dwarf_units.specs.Entries.{depth_limit, node_behind};
+ghost use Rattle.std.specs.List.{filter_map};
+ghost use Rattle.dwarf_units.specs.Entries.{Die, Node, Standing, depth_limit, die_of, node_behind, entries_of};
 ghost use Rattle.dwarf_entries.specs.Private.Kept.{kept_of, kept_entries};
-ghost use Rattle.dwarf_entries.specs.Private.Readers.{ReadsNode, walked_of, after_die, with_scope, walked_at, walk_of};
+ghost use Rattle.dwarf_entries.specs.Private.Marks.{AddsMarks, offsets_of};
+ghost use Rattle.dwarf_entries.specs.Private.Readers.{ReadsNode, walked_of, after_die, with_scope, walked_at, nodes_of, places_of, walk_of};
 ghost use Rattle.dwarf_entries.specs.Private.Ends.{ended_at, left_open, with_end};
 ghost use Rattle.dwarf_units.specs.Private.Plans.{Fills};
 
-use crate::kept::{Keeping, RootEntry, ScopePlace, UnitEntries, kind_of};
+use crate::kept::{RootEntry, ScopePlace, UnitEntries, kind_of};
+use crate::marks::Marks;
 use crate::packed::narrow;
 use dwarf_bytes::{Cause, Cursor, LoadFault, Section, Span};
 use dwarf_units::{Attribute, UnitHeader, UnitTable};
@@ -34,25 +37,26 @@ pub(crate) struct OpenScope {
 pub(crate) struct Walk {
     pub(crate) depth: u16,
     pub(crate) root: Option<RootEntry>,
-    pub(crate) entries: Vec<u32>,
     pub(crate) scopes: Vec<ScopePlace>,
     pub(crate) opened: Vec<OpenScope>,
 }
 
-/// What is kept of the entries of a unit. A fault is told at its entry, and a list of children that is
-/// not ended at the unit.
+/// What is kept of the entries of a unit, each of which is marked. A fault is told at its entry,
+/// and a list of children that is not ended at the unit.
 pub(crate) fn entries(
     alloc: Global,
     info: &[u8],
     header: UnitHeader,
     table: &UnitTable,
-    keeping: Keeping,
+    marks: &mut Marks,
 ) -> Result<UnitEntries, LoadFault>
     requires { table.now.format ≡ header.format }
-    ensures { Decodes (λ unit. kept_of unit) result (in_section sections.DebugInfo
-        (kept_entries keeping info.now header table.now.declarations)) }
+    ensures decodes { Decodes (λ unit. kept_of unit) result (in_section sections.DebugInfo
+        (kept_entries info.now header table.now.declarations)) }
+    ensures marks { OnOk result ((dies : List Die) → entries_of info.now header
+        table.now.declarations ≡ Ok dies → AddsMarks marks.old marks.new (offsets_of dies)) }
 {
-    let mut walk = walk_unit(alloc, info, header, table, keeping)?;
+    let mut walk = walk_unit(alloc, info, header, table, marks)?;
     if walk.depth > 0 {
         let at = header.start as u64;
         return Err(LoadFault::told(Section::DebugInfo, Cause::TreeOpen, at));
@@ -61,7 +65,6 @@ pub(crate) fn entries(
     Ok(UnitEntries {
         header,
         root: walk.root,
-        entries: walk.entries,
         scopes: walk.scopes,
     })
 }
@@ -69,35 +72,40 @@ pub(crate) fn entries(
 impl Walk {
     fn new(alloc: Global) -> Walk
         ensures { walked_of result
-            ≡ record { depth = 0; root = None; entries = []; scopes = []; opened = [] } }
+            ≡ record { depth = 0; root = None; scopes = []; opened = [] } }
     {
         Walk {
             depth: 0,
             root: None,
-            entries: Vec::new(alloc),
             scopes: Vec::new(alloc),
             opened: Vec::new(alloc),
         }
     }
 
-    /// Takes what stands at the cursor. `found` is a buffer for attributes.
+    /// Takes what stands at the cursor, and marks its place if it is an entry. `found` is a buffer
+    /// for attributes.
     fn step(
         &mut self,
         table: &UnitTable,
-        keeping: Keeping,
+        marks: &mut Marks,
         cursor: &mut Cursor,
         found: &mut Vec<Attribute>,
     ) -> Result<(), Cause>
-        ensures { Fills result (walked_of self.new)
-            (walked_at keeping table.now.format table.now.declarations
+        ensures fills { Fills result (walked_of self.new)
+            (walked_at table.now.format table.now.declarations
             (walked_of self.old)) cursor.old cursor.new }
+        ensures marks { OnOk result ((node : Node × ℕ) → node_behind table.now.format
+            table.now.declarations self.old.depth (is_some self.old.root) cursor.old.bytes
+            cursor.old.place ≡ Ok node
+            → AddsMarks marks.old marks.new (places_of cursor.old.place node.0)) }
     {
         let offset = cursor.place();
         let rooted = self.root.is_some();
         match node(table, self.depth, rooted, cursor, found)? {
             None => self.depth = self.depth.saturating_sub(1),
             Some(head) => {
-                self.keep(keeping, offset, head.tag, found)?;
+                marks.mark(offset)?;
+                self.keep(offset, head.tag, found)?;
                 if head.children {
                     self.depth += 1;
                 }
@@ -120,41 +128,34 @@ impl Walk {
     }
 
     /// Keeps what is wanted of the entry at an offset.
-    fn keep(
-        &mut self,
-        keeping: Keeping,
-        offset: usize,
-        tag: u64,
-        attributes: &[Attribute],
-    ) -> Result<(), AllocError>
-        ensures { OnOk result (walked_of self.new ≡ after_die keeping (walked_of self.old) (record { offset = offset; depth = self.old.depth; tag = tag; attributes = attributes.now })) }
+    fn keep(&mut self, offset: usize, tag: u64, attributes: &[Attribute]) -> Result<(), AllocError>
+        ensures { OnOk result (walked_of self.new ≡ after_die (walked_of self.old) (record { offset = offset; depth = self.old.depth; tag = tag; attributes = attributes.now })) }
     {
         if self.root.is_none() {
             self.root = Some(RootEntry::of(offset, attributes));
         }
-        let place = narrow(offset)?;
-        if keeping.keeps(tag) {
-            self.entries.push(place)?;
-        }
         end_scopes(&mut self.scopes, &mut self.opened, self.depth)?;
         if kind_of(tag).is_some() {
-            self.open(place)?;
+            self.open(narrow(offset)?)?;
         }
         Ok(())
     }
 }
 
-/// The entries of a unit. A fault is told at what stands there.
+/// The entries of a unit, each of which is marked. A fault is told at what stands there.
 fn walk_unit(
     alloc: Global,
     info: &[u8],
     header: UnitHeader,
     table: &UnitTable,
-    keeping: Keeping,
+    marks: &mut Marks,
 ) -> Result<Walk, LoadFault>
     requires { table.now.format ≡ header.format }
-    ensures { Decodes (λ walk. walked_of walk) result (in_section sections.DebugInfo
-        (walk_of keeping info.now header table.now.declarations)) }
+    ensures decodes { Decodes (λ walk. walked_of walk) result (in_section sections.DebugInfo
+        (walk_of info.now header table.now.declarations)) }
+    ensures marks { OnOk result ((all : List Standing × ℕ) → nodes_of info.now header
+        table.now.declarations ≡ Ok all
+        → AddsMarks marks.old marks.new (offsets_of (filter_map die_of all.0))) }
 {
     let unit = unit_bytes(info, &header);
     let mut cursor = Cursor::new(unit);
@@ -165,7 +166,7 @@ fn walk_unit(
     }
     while cursor.place() < unit.len() {
         let at = cursor.place();
-        if let Err(cause) = walk.step(table, keeping, &mut cursor, &mut found) {
+        if let Err(cause) = walk.step(table, marks, &mut cursor, &mut found) {
             return Err(LoadFault::told(Section::DebugInfo, cause, at as u64));
         }
     }

@@ -1,21 +1,17 @@
 //! What is kept of the entries of a unit until all units are read.
 
-ghost use Rattle.std.specs.Prelude.{◌≡◌};
-ghost use Rattle.dwarf_entries.specs.Private.Kept.{keeps, named_entry, scope_entry, root_entry};
-ghost use Rattle.dwarf_entries.specs.Names.{followed, next_of};
+ghost use Rattle.std.specs.Prelude.{◌≡◌, List, Some};
+ghost use Rattle.dwarf_units.specs.declared.attributes.Attribute.{Attribute as EntryAttribute};
+ghost use Rattle.dwarf_entries.specs.Private.Found.{names_among};
+ghost use Rattle.dwarf_entries.specs.Private.Kept.{named_entry, scope_entry, root_entry};
+ghost use Rattle.dwarf_entries.specs.Names.{followed};
 ghost use Rattle.dwarf_entries.specs.Private.Readers.{die_with};
 ghost use Rattle.dwarf_entries.specs.Scopes.{kind_of, number_of};
 
+use crate::found::{FoundAttributes, FoundNames};
 use crate::scope::ScopeKind;
 use dwarf_bytes::constants::*;
 use dwarf_units::{Attribute, AttributeValue, UnitHeader, value_of};
-
-/// Which entries a walk keeps, so that references may lead to them.
-#[derive(Clone, Copy)]
-pub(crate) enum Keeping {
-    Scopes,
-    Every,
-}
 
 /// An entry, as far as names go: its offset in the section, the reference to its next entry, and its
 /// names.
@@ -57,26 +53,13 @@ pub(crate) struct RootEntry {
     pub(crate) low_pc: Option<AttributeValue>,
 }
 
-/// What is kept of a unit: its root, the offsets of the entries to which a reference may lead, and the
-/// places of its scopes. Entries and scopes are read again when they are asked for.
+/// What is kept of a unit: its root, and the places of its scopes. Entries and scopes are read
+/// again when they are asked for.
 #[derive(Drop)]
 pub(crate) struct UnitEntries {
     pub(crate) header: UnitHeader,
     pub(crate) root: Option<RootEntry>,
-    pub(crate) entries: Vec<u32>,
     pub(crate) scopes: Vec<ScopePlace>,
-}
-
-impl Keeping {
-    /// Whether an entry with the tag is kept.
-    pub(crate) fn keeps(self, tag: u64) -> bool
-        ensures { result ≡ keeps self tag }
-    {
-        match self {
-            Keeping::Scopes => kind_of(tag).is_some(),
-            Keeping::Every => true,
-        }
-    }
 }
 
 impl NamedEntry {
@@ -84,29 +67,40 @@ impl NamedEntry {
     pub(crate) fn of(offset: usize, attributes: &[Attribute]) -> NamedEntry
         ensures { result ≡ named_entry (die_with offset attributes.now) }
     {
+        NamedEntry::by(offset, &FoundNames::of(attributes))
+    }
+
+    /// .. by those of its attributes that were found.
+    fn by(offset: usize, found: &FoundNames) -> NamedEntry
+        ensures { (attributes : List EntryAttribute) → found.now ≡ names_among attributes
+            → result ≡ named_entry (die_with offset attributes) }
+    {
         NamedEntry {
             offset,
-            next: next_of(attributes),
-            name: value_of(attributes, DW_AT_NAME),
-            linkage_name: value_of(attributes, DW_AT_LINKAGE_NAME),
+            next: found
+                .abstract_origin
+                .or(found.specification)
+                .and_then(followed),
+            name: found.name,
+            linkage_name: found.linkage_name,
         }
     }
 }
 
 impl ScopeEntry {
-    /// Of a scope of the kind, by its attributes.
-    pub(crate) fn of(entry: NamedEntry, kind: ScopeKind, attributes: &[Attribute]) -> ScopeEntry
-        ensures { result ≡ record (scope_entry
-            (die_with entry.offset attributes.now) kind) { entry = entry } }
+    /// Of a scope of the kind, which stands at an offset, by its attributes.
+    pub(crate) fn of(offset: usize, kind: ScopeKind, attributes: &[Attribute]) -> ScopeEntry
+        ensures { result ≡ scope_entry (die_with offset attributes.now) kind }
     {
+        let found = FoundAttributes::of(attributes);
         ScopeEntry {
-            entry,
+            entry: NamedEntry::by(offset, &found.names),
             kind,
-            low_pc: value_of(attributes, DW_AT_LOW_PC),
-            high_pc: value_of(attributes, DW_AT_HIGH_PC),
-            ranges: value_of(attributes, DW_AT_RANGES),
-            call_file: number_of(attributes, DW_AT_CALL_FILE),
-            call_line: number_of(attributes, DW_AT_CALL_LINE),
+            low_pc: found.low_pc,
+            high_pc: found.high_pc,
+            ranges: found.ranges,
+            call_file: found.call_file.map(|value| value.number),
+            call_line: found.call_line.map(|value| value.number),
         }
     }
 }
@@ -143,16 +137,6 @@ fn number_of(attributes: &[Attribute], name: u64) -> Option<u64>
     ensures { result ≡ number_of name (die_with 0 attributes.now) }
 {
     value_of(attributes, name).map(|value| value.number)
-}
-
-/// The reference to the next entry.
-fn next_of(attributes: &[Attribute]) -> Option<AttributeValue>
-    ensures { result ≡ next_of (die_with 0 attributes.now) }
-{
-    if let Some(origin) = value_of(attributes, DW_AT_ABSTRACT_ORIGIN) {
-        return followed(origin);
-    }
-    followed(value_of(attributes, DW_AT_SPECIFICATION)?)
 }
 
 /// A reference, unless it is one that is not followed.

@@ -1,46 +1,51 @@
 //! The passes over all units: their entries, and what their roots tell.
 
-ghost use Rattle.std.specs.Prelude.{◌≡◌, List, Ok, map};
+ghost use Rattle.std.specs.Prelude.{◌≡◌, List, Ok, OnOk, map};
 ghost use Rattle.dwarf_bytes.specs.declared.fault.Section.TheVariants as names;
 ghost use Rattle.dwarf_bytes.specs.Refusals.{Decodes, in_section};
 ghost use Rattle.dwarf_forms.specs.Declarations.{Declaration};
-ghost use Rattle.dwarf_entries.specs.declared.kept.Keeping.{Keeping};
 ghost use Rattle.dwarf_units.specs.declared.unit_headers.UnitHeader.{UnitHeader};
 ghost use Rattle.dwarf_units.specs.Entries.{Die};
 ghost use Rattle.dwarf_entries.specs.Sections.{sections_of};
 ghost use Rattle.dwarf_units.specs.Units.{tables_of};
 ghost use Rattle.dwarf_entries.specs.Private.Kept.{kept_of};
-ghost use Rattle.dwarf_entries.specs.Private.Passes.{all_kept, kept_units, bases_in, all_bases};
+ghost use Rattle.dwarf_entries.specs.Private.Marks.{AddsMarks, all_offsets};
+ghost use Rattle.dwarf_entries.specs.Private.Passes.{all_entries, all_kept, kept_units, bases_in, all_bases};
 
 use crate::bases::Bases;
 use crate::entries::entries;
-use crate::kept::{Keeping, UnitEntries};
+use crate::kept::UnitEntries;
+use crate::marks::Marks;
 use crate::roots::bases;
 use crate::sections::Sections;
 use dwarf_bytes::{LoadFault, Section};
 use dwarf_units::{Tables, UnitHeader};
 use std::alloc::Global;
 
-/// The entries of all units, whose tables are good.
+/// The entries of all units, whose tables are good. Each entry is marked.
 pub(crate) fn all_entries(
     alloc: Global,
     sections: &Sections<'_>,
     headers: &[UnitHeader],
     tables: &mut Tables<'_>,
-    keeping: Keeping,
+    marks: &mut Marks,
 ) -> Result<Vec<UnitEntries>, LoadFault>
     requires { tables.old.section ≡ sections.now.debug_abbrev.now }
     ensures section { tables.new.section ≡ tables.old.section }
     ensures decodes { (all : List (List Declaration))
         → tables_of sections.now.debug_abbrev.now headers.now ≡ Ok all
         → Decodes (λ units. map kept_of units.items) result (in_section names.DebugInfo
-        (all_kept keeping sections.now.debug_info.now headers.now all)) }
+        (all_kept sections.now.debug_info.now headers.now all)) }
+    ensures marks { OnOk result ((all : List (List Declaration)) (dies : List (List Die))
+        → tables_of sections.now.debug_abbrev.now headers.now ≡ Ok all
+        → all_entries sections.now.debug_info.now headers.now all ≡ Ok dies
+        → AddsMarks marks.old marks.new (all_offsets dies)) }
 {
     let mut units = Vec::new(alloc);
     for header in headers {
         let number = tables.number_of(alloc, header)?;
         let table = tables.table(number);
-        let unit = entries(alloc, sections.debug_info, *header, table, keeping)?;
+        let unit = entries(alloc, sections.debug_info, *header, table, marks)?;
         units.push(unit)?;
     }
     Ok(units)
@@ -52,8 +57,8 @@ pub(crate) fn all_bases(
     sections: &Sections<'_>,
     units: &[UnitEntries],
 ) -> Result<Vec<Bases>, LoadFault>
-    ensures { (keeping : Keeping) (headers : List UnitHeader) (dies : List (List Die))
-        → map kept_of units.now ≡ kept_units keeping headers dies
+    ensures { (headers : List UnitHeader) (dies : List (List Die))
+        → map kept_of units.now ≡ kept_units headers dies
         → Decodes (λ all. all.items) result (in_section names.DebugInfo (all_bases
         (sections_of sections.now) headers dies)) }
 {

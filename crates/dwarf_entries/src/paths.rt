@@ -1,6 +1,6 @@
 //! The names of an entry by way of its references (DWARF 5, 2.13, 2.15 and 3.3.8).
 
-ghost use Rattle.std.specs.Prelude.{◌≡◌, ◌<◌, ◌≤◌, ◌==◌, ◌++◌, ◌∷◌, [], List, Some, length, map, find, slice_get, option_map};
+ghost use Rattle.std.specs.Prelude.{◌≡◌, ◌<◌, ◌≤◌, ◌⊎◌, ◌++◌, ◌∷◌, [], List, Some, MatchOption, length, map, slice_get, option_map};
 ghost use Rattle.std.specs.Option.{option_or};
 ghost use Rattle.std.specs.List.Sorted.{IsNonDecreasingBy, IsPartitionPoint};
 ghost use Rattle.dwarf_entries.specs.Sections.{Sections as SectionBytes, sections_of};
@@ -9,17 +9,19 @@ ghost use Rattle.dwarf_entries.specs.Bases.{CompilationUnit, optional};
 ghost use Rattle.dwarf_entries.specs.Names.{Member, target_of, path_of, text_of, names_of};
 ghost use Rattle.dwarf_bytes.specs.Refusals.{Gives};
 ghost use Rattle.dwarf_entries.specs.Private.Again.{AreReadIn, IsReaderOf};
+ghost use Rattle.dwarf_entries.specs.Private.Marks.{AreMarked};
 ghost use Rattle.dwarf_entries.specs.Private.Members.{AreKept, IsMember, IsPlaceOf, Finds, TellsMember, member_in, AreFirst, FindsFirst, str_offsets_of};
 
 use crate::again::EntryReader;
 use crate::bases::Bases;
 use crate::kept::{NamedEntry, UnitEntries};
+use crate::marks::Marks;
 use crate::names::text_of;
 use crate::sections::Sections;
 use crate::texts::Texts;
 use dwarf_bytes::constants::DW_FORM_REF_ADDR;
 use dwarf_bytes::{Cause, Text};
-use dwarf_units::AttributeValue;
+use dwarf_units::{AttributeValue, UnitHeader};
 
 /// The hops that a path may have.
 const HOPS_LIMIT: u32 = 16;
@@ -79,19 +81,20 @@ pub(crate) fn names(
     sections: &Sections<'_>,
     texts: &Texts<'_>,
     units: &[UnitEntries],
+    marks: &Marks,
     bases: &[Bases],
     reader: &mut EntryReader<'_>,
     start: UnitEntry,
 ) -> Result<EntryNames, Cause>
     requires { AreTexts (sections_of sections.now) texts.now }
-    ensures names { (us : List CompilationUnit) → AreKept units.now us
+    ensures names { (us : List CompilationUnit) → AreKept units.now us → AreMarked marks.now us
         → bases.now ≡ map (λ u. u.bases) us → AreReadIn (sections_of sections.now) us
         → IsReaderOf (sections_of sections.now) reader.old
         → (m : Member) → IsMember us start.unit start.entry m
         → Gives (λ names. names) result (names_of (sections_of sections.now) us m) }
     ensures reader { (s : SectionBytes) → IsReaderOf s reader.old → IsReaderOf s reader.new }
 {
-    let firsts = first_names(units, reader, start)?;
+    let firsts = first_names(units, marks, reader, start)?;
     let name = text(sections, texts, bases, firsts.name)?;
     let linkage_name = text(sections, texts, bases, firsts.linkage_name)?;
     Ok(EntryNames { name, linkage_name })
@@ -118,11 +121,12 @@ fn text(
 /// The first names on the path of an entry.
 fn first_names(
     units: &[UnitEntries],
+    marks: &Marks,
     reader: &mut EntryReader<'_>,
     start: UnitEntry,
 ) -> Result<FirstNames, Cause>
     ensures names { (s : SectionBytes) (us : List CompilationUnit) → AreKept units.now us
-        → AreReadIn s us → IsReaderOf s reader.old
+        → AreMarked marks.now us → AreReadIn s us → IsReaderOf s reader.old
         → (m : Member) → IsMember us start.unit start.entry m
         → FindsFirst us result (path_of us m) }
     ensures reader { (s : SectionBytes) → IsReaderOf s reader.old → IsReaderOf s reader.new }
@@ -139,8 +143,8 @@ fn first_names(
             return Err(Cause::OriginDepth);
         }
         left -= 1;
-        let place = target(units, last.unit, reference).ok_or(Cause::Reference)?;
-        last = entry_again(units, reader, place)?;
+        let place = target(units, marks, last.unit, reference).ok_or(Cause::Reference)?;
+        last = entry_again(units, marks, reader, place)?;
         firsts = firsts.or(last);
     }
     Ok(firsts)
@@ -149,6 +153,7 @@ fn first_names(
 /// The entry at a place, read again.
 fn entry_again(
     units: &[UnitEntries],
+    marks: &Marks,
     reader: &mut EntryReader<'_>,
     place: UnitPlace,
 ) -> Result<UnitEntry, Cause>
@@ -160,7 +165,7 @@ fn entry_again(
     let Some(kept) = units.get(place.unit) else {
         return Err(Cause::Reference);
     };
-    let entry = reader.named(&kept.header, kept.entries.as_slice(), place.offset)?;
+    let entry = reader.named(&kept.header, marks, place.offset)?;
     Ok(UnitEntry {
         unit: place.unit,
         entry,
@@ -181,52 +186,46 @@ fn first(
 
 /// Where the entry stands that a reference in a unit names, if it names one: an offset into
 /// `.debug_info`, or one that counts from the first byte of the unit.
-fn target(units: &[UnitEntries], unit: usize, reference: AttributeValue) -> Option<UnitPlace>
-    ensures { (us : List CompilationUnit) → AreKept units.now us → (u : CompilationUnit)
-        → slice_get us unit ≡ Some u
+fn target(
+    units: &[UnitEntries],
+    marks: &Marks,
+    unit: usize,
+    reference: AttributeValue,
+) -> Option<UnitPlace>
+    ensures { (us : List CompilationUnit) → AreKept units.now us → AreMarked marks.now us
+        → (u : CompilationUnit) → slice_get us unit ≡ Some u
         → Finds us result (target_of us u reference) }
 {
     let number = u128::from(reference.number);
     if reference.form == DW_FORM_REF_ADDR {
-        return entry_in(units, ends_by(units, number), number);
+        return entry_in(units, marks, ends_by(units, number), number);
     }
     let start = units.get(unit)?.header.start;
-    entry_in(units, unit, start as u128 + number)
+    entry_in(units, marks, unit, start as u128 + number)
 }
 
 /// The place of the entry of a unit at an offset of the section.
-fn entry_in(units: &[UnitEntries], unit: usize, offset: u128) -> Option<UnitPlace>
-    ensures { (us : List CompilationUnit) → AreKept units.now us
+fn entry_in(units: &[UnitEntries], marks: &Marks, unit: usize, offset: u128) -> Option<UnitPlace>
+    ensures { (us : List CompilationUnit) → AreKept units.now us → AreMarked marks.now us
         → Finds us result (member_in us unit offset) }
 {
     let kept = units.get(unit)?;
-    let entry = entry_at(kept.entries.as_slice(), offset)?;
-    Some(UnitPlace {
-        unit,
-        offset: entry as usize,
-    })
-}
-
-/// The entry at an offset, among those at these offsets, which rise.
-fn entry_at(entries: &[u32], offset: u128) -> Option<u32>
-    ensures { IsNonDecreasingBy (λ entry. entry) entries.now
-        → result ≡ find (λ entry. entry == offset) entries.now }
-{
-    let entry = *entries.get(starts_before(entries, offset))?;
-    if u128::from(entry) == offset {
-        Some(entry)
-    } else {
-        None
+    let offset = place_within(&kept.header, offset)?;
+    if marks.is_marked(offset) {
+        return Some(UnitPlace { unit, offset });
     }
+    None
 }
 
-/// How many of the entries start before an offset.
-fn starts_before(entries: &[u32], offset: u128) -> usize
-    ensures { IsNonDecreasingBy (λ entry. entry) entries.now
-        → IsPartitionPoint (λ entry. entry < offset)
-        (λ entry. offset ≤ entry) entries.now result }
+/// An offset as a place, if it is in the unit of the header.
+fn place_within(header: &UnitHeader, offset: u128) -> Option<usize>
+    ensures { MatchOption result ((offset < header.now.start) ⊎ (header.now.«end» ≤ offset))
+        (λ place. (place ≡ offset) × (header.now.start ≤ place) × (place < header.now.«end»)) }
 {
-    entries.partition_point(|entry| u128::from(*entry) < offset)
+    if offset < header.start as u128 || header.end as u128 <= offset {
+        return None;
+    }
+    Some(offset as usize)
 }
 
 /// How many of the units end before an offset or at it.

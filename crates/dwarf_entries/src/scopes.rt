@@ -1,7 +1,6 @@
 //! The subprograms and inlined subroutines of an object (DWARF 5, 3.3).
 
 ghost use Rattle.std.specs.Prelude.{◌≡◌, ◌<◌, ◌^◌, map, List};
-ghost use Rattle.dwarf_entries.specs.declared.kept.Keeping.{Keeping};
 ghost use Rattle.dwarf_bytes.specs.Refusals.{Decodes, Builds};
 ghost use Rattle.dwarf_entries.specs.Sections.{sections_of};
 ghost use Rattle.dwarf_entries.specs.Bases.{CompilationUnit};
@@ -13,14 +12,15 @@ ghost use Rattle.dwarf_entries.specs.Private.Kept.{kept_of, scope_count};
 
 use crate::again::EntryReader;
 use crate::calls::CallSite;
-use crate::kept::{Keeping, UnitEntries};
+use crate::kept::UnitEntries;
+use crate::marks::Marks;
 use crate::passes::{all_bases, all_entries};
 use crate::scope::{Range, Root, Scope};
 use crate::scope_lists::ScopeLists;
 use crate::sections::Sections;
 use crate::texts::Texts;
 use crate::unit_scopes::Units;
-use dwarf_bytes::{Cause, LoadFault};
+use dwarf_bytes::LoadFault;
 use dwarf_units::{Tables, UnitHeader, units};
 use std::alloc::{AllocError, Global};
 use std::marker::Model;
@@ -66,42 +66,32 @@ impl Scopes {
         let tables = Tables::judge(alloc, sections.debug_abbrev, headers.as_slice())?;
         let mut reader = EntryReader::new(alloc, sections, tables);
         let texts = Texts::of(alloc, sections)?;
-        let units = headers.as_slice();
-        match Scopes::read_with(alloc, sections, &texts, units, &mut reader, Keeping::Scopes) {
-            Ok(scopes) => Ok(scopes),
-            Err(fault) => match fault.cause {
-                Cause::Reference => {
-                    Scopes::read_with(alloc, sections, &texts, units, &mut reader, Keeping::Every)
-                }
-                _ => Err(fault),
-            },
-        }
+        Scopes::read_with(alloc, sections, &texts, headers.as_slice(), &mut reader)
     }
 
-    /// Reads entries, roots and scopes, where the tables are good. A reference is sought among the
-    /// entries that `keeping` keeps.
+    /// Reads entries, roots and scopes, where the tables are good.
     fn read_with(
         alloc: Global,
         sections: &Sections<'_>,
         texts: &Texts<'_>,
         headers: &[UnitHeader],
         reader: &mut EntryReader<'_>,
-        keeping: Keeping,
     ) -> Result<Scopes, LoadFault>
         requires texts { AreTexts (sections_of sections.now) texts.now }
         requires tables { TablesRead (sections_of sections.now) headers.now }
         requires reader { IsReaderOf (sections_of sections.now) reader.old }
-        ensures reader { IsReaderOf (sections_of sections.now) reader.new }
-        ensures decodes { (read : TablesRead (sections_of sections.now) headers.now)
-            → Decodes (λ scopes. scopes) result (tree_with keeping
+        ensures { (read : TablesRead (sections_of sections.now) headers.now)
+            → Decodes (λ scopes. scopes) result (tree_with
             (sections_of sections.now) headers.now read.tables) }
     {
-        let kept = all_entries(alloc, sections, headers, &mut reader.tables, keeping)?;
+        let mut marks = Marks::new(alloc);
+        let kept = all_entries(alloc, sections, headers, &mut reader.tables, &mut marks)?;
         let bases = all_bases(alloc, sections, kept.as_slice())?;
         let units = Units {
             sections,
             texts,
             units: kept.as_slice(),
+            marks: &marks,
             bases: bases.as_slice(),
         };
         let lists = units.scopes(alloc, reader)?;
@@ -157,8 +147,8 @@ impl Scopes {
 /// The roots of the units, each with the numbers of its unit's scopes.
 fn roots(alloc: Global, units: &[UnitEntries]) -> Result<Vec<Root>, LoadFault>
     requires { scope_count units.now < 2 ^ 63 }
-    ensures { (keeping : Keeping) (us : List CompilationUnit)
-        → map kept_of units.now ≡ map (kept_unit_of keeping) us
+    ensures { (us : List CompilationUnit)
+        → map kept_of units.now ≡ map kept_unit_of us
         → Builds (λ roots. roots.items) result (roots_from 0 us) }
 {
     let mut roots = Vec::new(alloc);

@@ -5,10 +5,10 @@ ghost use Rattle.dwarf_bytes.specs.declared.fault.Section.TheVariants as names;
 ghost use Rattle.dwarf_bytes.specs.Refusals.{Decodes, in_section};
 ghost use Rattle.dwarf_entries.specs.Sections.{Sections as SectionBytes, sections_of};
 ghost use Rattle.dwarf_entries.specs.Private.Texts.{AreTexts};
-ghost use Rattle.dwarf_entries.specs.declared.kept.Keeping.{Keeping};
 ghost use Rattle.dwarf_entries.specs.Bases.{CompilationUnit};
-ghost use Rattle.dwarf_entries.specs.Scopes.{Judged, ScopeSite, sites_in, roots_from, scopes_of};
-ghost use Rattle.dwarf_entries.specs.Private.Passes.{AreUnits, IsRootOf, IsScopeSite, AreJudged, AddsScopes, scope_facts, scope_with, all_scopes};
+ghost use Rattle.dwarf_entries.specs.Scopes.{Judged, ScopeSite, scope_at, sites_in, roots_from, scopes_of};
+ghost use Rattle.dwarf_entries.specs.Private.Passes.{AreUnits, IsRootOf, IsScopeSite, AreJudged, AddsScopes, scope_facts, all_scopes};
+ghost use Rattle.dwarf_entries.specs.Private.Marks.{AreMarked};
 ghost use Rattle.dwarf_entries.specs.Private.Again.{AreReadIn, IsReaderOf};
 ghost use Rattle.dwarf_entries.specs.Private.Shared.{AddsFacts};
 
@@ -16,6 +16,7 @@ use crate::again::EntryReader;
 use crate::bases::Bases;
 use crate::calls::CallSite;
 use crate::kept::{ScopeEntry, UnitEntries};
+use crate::marks::Marks;
 use crate::paths::{EntryNames, UnitEntry, names};
 use crate::ranges::covers;
 use crate::scope::{Range, ScopeFacts};
@@ -28,12 +29,13 @@ use std::alloc::Global;
 /// The range items that may be read for an object.
 const ITEMS_LIMIT: u64 = 4_194_304;
 
-/// The units of an object, each with what its root tells.
+/// The units of an object, each with what its root tells, and the marks of their entries.
 #[derive(Clone, Copy)]
 pub(crate) struct Units<'a> {
     pub(crate) sections: &'a Sections<'a>,
     pub(crate) texts: &'a Texts<'a>,
     pub(crate) units: &'a [UnitEntries],
+    pub(crate) marks: &'a Marks,
     pub(crate) bases: &'a [Bases],
 }
 
@@ -62,13 +64,14 @@ impl<'a> Units<'a> {
         requires unit { (numbers.unit < length self.units.now)
             × (numbers.unit < length self.bases.now) }
         requires end { numbers.number + numbers.inside + 1 < 2 ^ 64 }
-        ensures judged { (keeping : Keeping) (us : List CompilationUnit) (before : List Judged)
-            (p : ScopeSite) → AreUnits keeping self.entry.units.now self.entry.bases.now us
+        ensures judged { (us : List CompilationUnit) (before : List Judged)
+            (p : ScopeSite) → AreUnits self.entry.units.now self.entry.bases.now us
+            → AreMarked self.entry.marks.now us
             → IsScopeSite us numbers entry.now room before p
             → AreReadIn (sections_of self.entry.sections.now) us
             → IsReaderOf (sections_of self.entry.sections.now) reader.old
-            → AddsFacts (roots_from 0 us) result ranges.old.items ranges.new.items (scope_with
-            keeping (sections_of self.entry.sections.now) us before p) }
+            → AddsFacts (roots_from 0 us) result ranges.old.items ranges.new.items (scope_at
+            (sections_of self.entry.sections.now) us before p) }
         ensures room { IfOk result (λ found. found.1 ≤ room) }
         ensures reader { (s : SectionBytes) → IsReaderOf s reader.old → IsReaderOf s reader.new }
     {
@@ -81,6 +84,7 @@ impl<'a> Units<'a> {
             self.sections,
             self.texts,
             self.units,
+            self.marks,
             self.bases,
             reader,
             start,
@@ -101,14 +105,15 @@ impl<'a> Units<'a> {
     ) -> Result<(), LoadFault>
         requires texts { AreTexts (sections_of self.sections.now) self.texts.now }
         requires unit { (unit < length self.units.now) × (unit < length self.bases.now) }
-        ensures scopes { (keeping : Keeping) (us : List CompilationUnit) (u : CompilationUnit)
+        ensures scopes { (us : List CompilationUnit) (u : CompilationUnit)
             (before : List Judged)
-            → AreUnits keeping self.entry.units.now self.entry.bases.now us
+            → AreUnits self.entry.units.now self.entry.bases.now us
+            → AreMarked self.entry.marks.now us
             → AreReadIn (sections_of self.entry.sections.now) us
             → IsReaderOf (sections_of self.entry.sections.now) reader.old
             → slice_get us unit ≡ Some u → IsRootOf us root u
             → AreJudged (roots_from 0 us) before lists.old left.old
-            → AddsScopes keeping result (sections_of self.entry.sections.now) us
+            → AddsScopes result (sections_of self.entry.sections.now) us
             (sites_in u u.dies) before lists.new left.new }
         ensures reader { (s : SectionBytes) → IsReaderOf s reader.old → IsReaderOf s reader.new }
     {
@@ -144,12 +149,13 @@ impl<'a> Units<'a> {
     ) -> Result<ScopeLists, LoadFault>
         requires texts { AreTexts (sections_of self.sections.now) self.texts.now }
         requires bases { length self.bases.now ≡ length self.units.now }
-        ensures scopes { (keeping : Keeping) (us : List CompilationUnit)
-            → AreUnits keeping self.entry.units.now self.entry.bases.now us
+        ensures scopes { (us : List CompilationUnit)
+            → AreUnits self.entry.units.now self.entry.bases.now us
+            → AreMarked self.entry.marks.now us
             → AreReadIn (sections_of self.entry.sections.now) us
             → IsReaderOf (sections_of self.entry.sections.now) reader.old
             → Decodes (λ lists. scopes_of (roots_from 0 us) lists) result (in_section
-            names.DebugInfo (all_scopes keeping (sections_of self.entry.sections.now) us)) }
+            names.DebugInfo (all_scopes (sections_of self.entry.sections.now) us)) }
         ensures reader { (s : SectionBytes) → IsReaderOf s reader.old → IsReaderOf s reader.new }
     {
         let mut left = ITEMS_LIMIT;

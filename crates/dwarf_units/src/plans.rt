@@ -132,7 +132,9 @@ fn read_step(
     Ok(())
 }
 
-/// The attribute at the cursor, whose value stands there in a layout.
+/// The attribute at the cursor, whose value stands there in a layout. The layouts of most values
+/// have an arm of their own, since every attribute that is kept comes here.
+#[tactic(auto, unfolding(dwarf_bytes::specs::Contents::content_at))]
 fn take_attribute(
     format: Format,
     specification: &AttributeSpecification,
@@ -142,8 +144,15 @@ fn take_attribute(
     ensures { ReadsField (λ a. a) result (taken_at format specification.now layout)
         cursor.old cursor.new }
 {
-    let content = Content::read(layout, format, cursor)?;
-    let number = number_of(content, cursor.place());
+    let number = match layout {
+        ValueLayout::Offset => cursor.offset(format)?,
+        ValueLayout::Fixed(Width::Four) => u64::from(cursor.u32()?),
+        ValueLayout::Fixed(Width::Eight) => cursor.u64()?,
+        _ => {
+            let content = Content::read(layout, format, cursor)?;
+            number_of(content, cursor.place())
+        }
+    };
     Ok(Attribute {
         name: specification.name,
         value: AttributeValue {

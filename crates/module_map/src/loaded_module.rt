@@ -39,6 +39,19 @@ impl Model for LoadedModule {
         × (low_of m.object.value < high_of m.object.value) };
 }
 
+/// Where an object lies at a base.
+pub fn extent_of(object: &Module, base: u64) -> Extent
+    requires { base + high_of object.now < 2 ^ 64 }
+    ensures low { result.low ≡ base + low_of object.now }
+    ensures high { result.high ≡ base + high_of object.now }
+    ensures order { result.low < result.high }
+{
+    Extent {
+        low: base + object.low(),
+        high: base + object.high(),
+    }
+}
+
 impl LoadedModule {
     /// A module of these parts, if there is memory for it.
     pub fn new(
@@ -54,10 +67,7 @@ impl LoadedModule {
           loaded = record { name = name.now; base = base; bytes = object };
         }) }
     {
-        let extent = Extent {
-            low: base + object.low(),
-            high: base + object.high(),
-        };
+        let extent = extent_of(&object, base);
         let name = String::from_str(alloc, name)?;
         let Ok(object) = Box::new(alloc, object) else {
             return Err(AllocError);
@@ -115,10 +125,7 @@ impl LoadedModule {
         if base > u64::MAX - self.object.high() {
             return None;
         }
-        Some(Extent {
-            low: base + self.object.low(),
-            high: base + self.object.high(),
-        })
+        Some(extent_of(&self.object, base))
     }
 
     /// Moves it to another base.
@@ -126,12 +133,8 @@ impl LoadedModule {
         requires { base + high_of self.old.loaded.bytes < 2 ^ 64 }
         ensures { self.new ≡ record self.old { loaded = moved_to base self.old.loaded } }
     {
-        let extent = Extent {
-            low: base + self.object.low(),
-            high: base + self.object.high(),
-        };
+        self.extent = extent_of(&self.object, base);
         self.base = base;
-        self.extent = extent;
     }
 
     /// The place of a link address, if anything is known there.

@@ -15,7 +15,7 @@ use crate::cache::Cache;
 use crate::faults::{Extent, MapFault, refusal};
 use crate::finding::look_up;
 use crate::listing::Listing;
-use crate::loaded_module::LoadedModule;
+use crate::loaded_module::{LoadedModule, extent_of};
 use crate::sorted::SortedModules;
 use addr_table::{Module, Steps};
 use std::alloc::Global;
@@ -144,10 +144,7 @@ impl Modules {
         if base > u64::MAX - object.high() {
             return Err(MapFault::Range);
         }
-        let extent = Extent {
-            low: base + object.low(),
-            high: base + object.high(),
-        };
+        let extent = extent_of(&object, base);
         let at = match self.sorted.gap(extent, self.sorted.len()) {
             Ok(at) => at,
             Err(met) => return Err(MapFault::Overlap(met)),

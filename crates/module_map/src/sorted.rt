@@ -96,7 +96,7 @@ impl SortedModules {
         ensures place { result ≡ position (λ h. is_named name.now h.loaded) self.now }
         ensures only { IfSome result (IsOnly self.now name.now) }
     {
-        let _ = &self.list;
+        let _ = &self.list; // a field that is used lends the invariant of the type
         self.first_of(name)
     }
 
@@ -149,7 +149,7 @@ impl SortedModules {
         ensures counted { (n : ℕ) × (n ≤ bits (length self.now) + 1) × OnSome result (2 ≤ n)
             × (steps.new ≡ counted n steps.old) }
     {
-        let _ = &self.list;
+        let _ = &self.list; // a field that is used lends the invariant of the type
         let begun = self.begun(address, steps);
         if begun == 0 {
             return None;
@@ -168,7 +168,7 @@ impl SortedModules {
         ensures { MatchResult result (IsClear self.now own extent.low extent.high)
             (IsMet self.now own extent.low extent.high) }
     {
-        let _ = &self.list;
+        let _ = &self.list; // a field that is used lends the invariant of the type
         let len = self.len();
         let mut uncounted = Steps::default();
         let begun = self.begun(extent.low, &mut uncounted);

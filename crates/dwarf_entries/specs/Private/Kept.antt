@@ -1,13 +1,11 @@
 -- What is kept of the entries of a unit, for the contracts of the passes.
-use Rattle.std.specs.Prelude.{ℕ, ◌≤◌, List, [], ◌∷◌, Bool, true, Option, Some, None, is_some, Result, Ok, option_map, map, filter, count_by, sum_by, length}
+use Rattle.std.specs.Prelude.{ℕ, ◌≤◌, List, [], ◌∷◌, Option, Some, None, Result, Ok, option_map, count_by, sum_by, length}
 use Rattle.dwarf_bytes.specs.declared.constants.TheConstants.{DW_AT_ADDR_BASE, DW_AT_CALL_FILE, DW_AT_CALL_LINE, DW_AT_HIGH_PC, DW_AT_LINKAGE_NAME, DW_AT_LOW_PC, DW_AT_NAME, DW_AT_RANGES, DW_AT_RNGLISTS_BASE, DW_AT_STMT_LIST, DW_AT_STR_OFFSETS_BASE}
 use Rattle.dwarf_bytes.specs.Bind.{◌>>=◌}
 use Rattle.dwarf_bytes.specs.Items.{At}
 use Rattle.dwarf_forms.specs.Declarations.{Declaration}
 use Rattle.dwarf_entries.specs.declared.scope.ScopeKind.{ScopeKind}
 use Rattle.dwarf_units.specs.declared.unit_headers.UnitHeader.{UnitHeader}
-use Rattle.dwarf_entries.specs.declared.kept.Keeping.{Keeping}
-use Rattle.dwarf_entries.specs.declared.kept.Keeping.TheVariants as keepings
 use Rattle.dwarf_entries.specs.declared.kept.NamedEntry.{NamedEntry}
 use Rattle.dwarf_entries.specs.declared.kept.ScopeEntry.{ScopeEntry}
 use Rattle.dwarf_entries.specs.declared.kept.ScopePlace.{ScopePlace}
@@ -18,11 +16,6 @@ use Rattle.dwarf_units.specs.Entries.{Die, attribute, below, entries_of}
 use Rattle.dwarf_entries.specs.Bases.{CompilationUnit}
 use Rattle.dwarf_entries.specs.Names.{next_of}
 use Rattle.dwarf_entries.specs.Scopes.{kind_of, is_scope, number_of}
-
--- whether references may lead to an entry with the tag
-abbrev pub keeps : Keeping → ℕ → Bool
-keeps keepings.Scopes tag = is_some (kind_of tag)
-keeps keepings.Every tag = true
 
 abbrev pub named_entry : Die → NamedEntry
 named_entry die = record { offset = die.offset; next = next_of die; name = attribute die DW_AT_NAME; linkage_name = attribute die DW_AT_LINKAGE_NAME }
@@ -71,25 +64,23 @@ scope_places (die ∷ rest) = scope_place die rest (kind_of die.tag) (scope_plac
 pub record KeptUnit : Type 0 where
   pub header : UnitHeader
   pub root : Option RootEntry
-  pub entries : List ℕ
   pub scopes : List ScopePlace
 
 -- .. of these entries
-abbrev pub kept_unit : Keeping → UnitHeader → List Die → KeptUnit
-kept_unit keeping header dies = record {
+abbrev pub kept_unit : UnitHeader → List Die → KeptUnit
+kept_unit header dies = record {
   header = header;
   root = root_in dies;
-  entries = map (λ die. die.offset) (filter (λ die. keeps keeping die.tag) dies);
   scopes = scope_places dies;
 }
 
 -- .. of those that stand in it, by the declarations of its table
-abbrev pub kept_entries : Keeping → List ℕ → UnitHeader → List Declaration → Result KeptUnit At
-kept_entries keeping info header table = entries_of info header table >>= λ dies. Ok (kept_unit keeping header dies)
+abbrev pub kept_entries : List ℕ → UnitHeader → List Declaration → Result KeptUnit At
+kept_entries info header table = entries_of info header table >>= λ dies. Ok (kept_unit header dies)
 
 -- .. by the program
 abbrev pub kept_of : UnitEntries → KeptUnit
-kept_of unit = record { header = unit.header; root = unit.root; entries = unit.entries.items; scopes = unit.scopes.items }
+kept_of unit = record { header = unit.header; root = unit.root; scopes = unit.scopes.items }
 
 -- how many scopes the units of the program have
 abbrev pub scope_count : List UnitEntries → ℕ

@@ -19,21 +19,16 @@ use Rattle.dwarf_entries.specs.Names.{Member, members_of, member_at, first_on}
 use Rattle.dwarf_bytes.specs.Refusals.{Fails}
 use Rattle.dwarf_entries.specs.Private.Kept.{named_entry, AreInOrder}
 
--- where the entries of a unit stand
-pub record PlacedUnit : Type 0 where
-  pub header : UnitHeader
-  pub entries : List ℕ
-
-abbrev pub placed_unit : CompilationUnit → PlacedUnit
-placed_unit unit = record { header = unit.header; entries = map (λ die. die.offset) unit.dies }
+abbrev pub header_of : CompilationUnit → UnitHeader
+header_of unit = unit.header
 
 -- .. by the program
-abbrev pub placed_of : UnitEntries → PlacedUnit
-placed_of unit = record { header = unit.header; entries = unit.entries.items }
+abbrev pub kept_header : UnitEntries → UnitHeader
+kept_header unit = unit.header
 
--- what is kept are the entries of these units, which stand in order
+-- what is kept are these units, which stand in order
 pub record AreKept (kept : List UnitEntries) (units : List CompilationUnit) : Type 0 where
-  pub same : map placed_of kept ≡ map placed_unit units
+  pub same : map kept_header kept ≡ map header_of units
   pub order : AreInOrder 0 units
 
 -- the entry, in the unit of the number, is what is kept of the member

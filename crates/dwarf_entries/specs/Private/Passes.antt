@@ -1,7 +1,6 @@
 -- What the passes over all units leave, for their contracts.
-use Rattle.std.specs.Prelude.{◌≡◌, ◌⊎◌, ◌++◌, ◌+◌, ◌-◌, ℕ, List, ◌∷◌, length, Option, Some, None, Result, Ok, Err, map, filter, flat_map, slice_get, sum_by, zip}
+use Rattle.std.specs.Prelude.{◌≡◌, ◌⊎◌, ◌++◌, ◌+◌, ◌-◌, ℕ, List, ◌∷◌, length, Option, Some, None, Result, Ok, Err, map, flat_map, slice_get, sum_by, zip}
 use Rattle.dwarf_bytes.specs.declared.fault.Section.TheVariants as names
-use Rattle.dwarf_bytes.specs.declared.fault.Cause.{Cause}
 use Rattle.dwarf_bytes.specs.declared.fault.LoadFault.{LoadFault}
 use Rattle.dwarf_bytes.specs.declared.format.Format.{Format}
 use Rattle.dwarf_bytes.specs.Bind.{◌>>=◌}
@@ -10,8 +9,6 @@ use Rattle.dwarf_bytes.specs.Refusals.{memory_fault, in_section}
 use Rattle.dwarf_forms.specs.Declarations.{Declaration}
 use Rattle.dwarf_units.specs.declared.unit_headers.UnitHeader.{UnitHeader}
 use Rattle.dwarf_entries.specs.declared.bases.Bases.{Bases}
-use Rattle.dwarf_entries.specs.declared.kept.Keeping.{Keeping}
-use Rattle.dwarf_entries.specs.declared.kept.Keeping.TheVariants as keepings
 use Rattle.dwarf_entries.specs.declared.kept.RootEntry.{RootEntry}
 use Rattle.dwarf_entries.specs.declared.kept.UnitEntries.{UnitEntries}
 use Rattle.dwarf_entries.specs.declared.scope.Root.{Root}
@@ -22,8 +19,7 @@ use Rattle.dwarf_entries.specs.declared.unit_scopes.ScopeNumbers.{ScopeNumbers}
 use Rattle.dwarf_entries.specs.Sections.{Sections}
 use Rattle.dwarf_units.specs.Entries.{Die, entries_of}
 use Rattle.dwarf_entries.specs.Bases.{CompilationUnit, no_bases, bases_by, unit_of}
-use Rattle.dwarf_entries.specs.Names.{Member, names_of}
-use Rattle.dwarf_entries.specs.Scopes.{Tree, Judged, ScopeSite, Scope, items_limit, is_scope, sites_in, roots_from, root_stmt_list, scopes_of, scope_by, stmt_list_of}
+use Rattle.dwarf_entries.specs.Scopes.{Tree, Judged, ScopeSite, Scope, items_limit, sites_in, roots_from, root_stmt_list, scopes_of, scope_at, stmt_list_of}
 use Rattle.dwarf_entries.specs.declared.kept.ScopeEntry.{ScopeEntry}
 use Rattle.dwarf_units.specs.Units.{units_of, tables_of}
 use Rattle.dwarf_entries.specs.Private.Kept.{KeptUnit, scope_entry, kept_unit, kept_of, AreInOrder}
@@ -34,12 +30,12 @@ abbrev pub all_entries : List ℕ → List UnitHeader → List (List Declaration
 all_entries info headers tables = each (λ _ p. entries_of info p.0 p.1) (zip headers tables)
 
 -- what is kept of each unit
-abbrev pub kept_units : Keeping → List UnitHeader → List (List Die) → List KeptUnit
-kept_units keeping headers dies = map (λ p. kept_unit keeping p.0 p.1) (zip headers dies)
+abbrev pub kept_units : List UnitHeader → List (List Die) → List KeptUnit
+kept_units headers dies = map (λ p. kept_unit p.0 p.1) (zip headers dies)
 
 -- .. of all units
-abbrev pub all_kept : Keeping → List ℕ → List UnitHeader → List (List Declaration) → Result (List KeptUnit) At
-all_kept keeping info headers tables = all_entries info headers tables >>= λ dies. Ok (kept_units keeping headers dies)
+abbrev pub all_kept : List ℕ → List UnitHeader → List (List Declaration) → Result (List KeptUnit) At
+all_kept info headers tables = all_entries info headers tables >>= λ dies. Ok (kept_units headers dies)
 
 -- what a root tells, its fault at its offset
 abbrev pub bases_in : Sections → Format → Option RootEntry → Result Bases At
@@ -58,12 +54,12 @@ abbrev pub all_bases : Sections → List UnitHeader → List (List Die) → Resu
 all_bases s headers dies = all_units s headers dies >>= λ units. Ok (map bases_of units)
 
 -- what is kept of a unit
-abbrev pub kept_unit_of : Keeping → CompilationUnit → KeptUnit
-kept_unit_of keeping unit = kept_unit keeping unit.header unit.dies
+abbrev pub kept_unit_of : CompilationUnit → KeptUnit
+kept_unit_of unit = kept_unit unit.header unit.dies
 
 -- the units of the program, and what their roots tell, are these, which stand in order
-pub record AreUnits (keeping : Keeping) (units : List UnitEntries) (bases : List Bases) (us : List CompilationUnit) : Type 0 where
-  pub same : map kept_of units ≡ map (kept_unit_of keeping) us
+pub record AreUnits (units : List UnitEntries) (bases : List Bases) (us : List CompilationUnit) : Type 0 where
+  pub same : map kept_of units ≡ map kept_unit_of us
   pub order : AreInOrder 0 us
   pub bases_are : bases ≡ map bases_of us
 
@@ -97,26 +93,9 @@ scope_facts numbers entry names = record {
 abbrev pub all_sites : List CompilationUnit → List ScopeSite
 all_sites us = flat_map (λ u. sites_in u u.dies) us
 
--- a unit with its scopes as its only entries
-abbrev pub scopes_only : CompilationUnit → CompilationUnit
-scopes_only unit = record { header = unit.header; dies = filter is_scope unit.dies; bases = unit.bases }
-
--- the units, and an entry with its unit, as far as entries are kept
-abbrev pub only_units : Keeping → List CompilationUnit → List CompilationUnit
-only_units keepings.Scopes us = map scopes_only us
-only_units keepings.Every us = us
-
-abbrev pub only_member : Keeping → Member → Member
-only_member keepings.Scopes m = record { unit = scopes_only m.unit; die = m.die }
-only_member keepings.Every m = m
-
--- the scope at a place, by references among the entries that are kept
-abbrev pub scope_with : Keeping → Sections → List CompilationUnit → List Judged → ScopeSite → Result Judged Cause
-scope_with keeping s us before p = scope_by (names_of s (only_units keeping us) (only_member keeping p.member)) s before p
-
--- .. behind those before it, its fault at its entry
-abbrev pub judge : Keeping → Sections → List CompilationUnit → List Judged → ScopeSite → Result Judged At
-judge keeping s units before p = told_at p.member.die.offset (scope_with keeping s units before p)
+-- a scope behind those before it, its fault at its entry
+abbrev pub judge : Sections → List CompilationUnit → List Judged → ScopeSite → Result Judged At
+judge s units before p = told_at p.member.die.offset (scope_at s units before p)
 
 -- the scopes of the program, by the roots, and how many range items may still be read, behind the scopes before
 pub record AreJudged (roots : List Root) (before : List Judged) (lists : ScopeLists) (left : ℕ) : Type 0 where
@@ -125,13 +104,13 @@ pub record AreJudged (roots : List Root) (before : List Judged) (lists : ScopeLi
   pub counted : left + sum_by (λ s. s.items) before ≡ items_limit
 
 -- The scopes at some places were put behind those before; or the fault is theirs, unless memory ran out.
-abbrev pub AddsScopes : Keeping → Result (Unit {0}) LoadFault → Sections → List CompilationUnit → List ScopeSite → List Judged → ScopeLists → ℕ → Type 0
-AddsScopes keeping (Ok _) s us places before lists left = (after : List Judged) × (each_from (judge keeping s us) before places ≡ Ok after) × AreJudged (roots_from 0 us) (before ++ after) lists left
-AddsScopes keeping (Err fault) s us places before lists left = (fault ≡ memory_fault) ⊎ (in_section names.DebugInfo (each_from (judge keeping s us) before places) ≡ Err fault)
+abbrev pub AddsScopes : Result (Unit {0}) LoadFault → Sections → List CompilationUnit → List ScopeSite → List Judged → ScopeLists → ℕ → Type 0
+AddsScopes (Ok _) s us places before lists left = (after : List Judged) × (each_from (judge s us) before places ≡ Ok after) × AreJudged (roots_from 0 us) (before ++ after) lists left
+AddsScopes (Err fault) s us places before lists left = (fault ≡ memory_fault) ⊎ (in_section names.DebugInfo (each_from (judge s us) before places) ≡ Err fault)
 
 -- the scopes of all units
-abbrev pub all_scopes : Keeping → Sections → List CompilationUnit → Result (List Scope) At
-all_scopes keeping s us = each (judge keeping s us) (all_sites us) >>= λ judged. Ok (map (λ j. j.scope) judged)
+abbrev pub all_scopes : Sections → List CompilationUnit → Result (List Scope) At
+all_scopes s us = each (judge s us) (all_sites us) >>= λ judged. Ok (map (λ j. j.scope) judged)
 
 -- the tables of the units are good
 pub record TablesRead (s : Sections) (headers : List UnitHeader) : Type 0 where
@@ -140,11 +119,11 @@ pub record TablesRead (s : Sections) (headers : List UnitHeader) : Type 0 where
   pub tables_are : tables_of s.debug_abbrev headers ≡ Ok tables
 
 -- the roots and the scopes of the units, from the pass over their entries on
-abbrev pub tree_of_units : Keeping → Sections → List CompilationUnit → Result Tree LoadFault
-tree_of_units keeping s us = in_section names.DebugInfo (each (judge keeping s us) (all_sites us)) >>= λ judged. Ok (record { roots = roots_from 0 us; scopes = map (λ j. j.scope) judged })
+abbrev pub tree_of_units : Sections → List CompilationUnit → Result Tree LoadFault
+tree_of_units s us = in_section names.DebugInfo (each (judge s us) (all_sites us)) >>= λ judged. Ok (record { roots = roots_from 0 us; scopes = map (λ j. j.scope) judged })
 
-abbrev pub tree_of_dies : Keeping → Sections → List UnitHeader → List (List Die) → Result Tree LoadFault
-tree_of_dies keeping s headers dies = in_section names.DebugInfo (all_units s headers dies) >>= tree_of_units keeping s
+abbrev pub tree_of_dies : Sections → List UnitHeader → List (List Die) → Result Tree LoadFault
+tree_of_dies s headers dies = in_section names.DebugInfo (all_units s headers dies) >>= tree_of_units s
 
-abbrev pub tree_with : Keeping → Sections → List UnitHeader → List (List Declaration) → Result Tree LoadFault
-tree_with keeping s headers tables = in_section names.DebugInfo (all_entries s.debug_info headers tables) >>= tree_of_dies keeping s headers
+abbrev pub tree_with : Sections → List UnitHeader → List (List Declaration) → Result Tree LoadFault
+tree_with s headers tables = in_section names.DebugInfo (all_entries s.debug_info headers tables) >>= tree_of_dies s headers

@@ -1,5 +1,5 @@
 -- What the steps of the pass over entries leave, for the contracts of its parts.
-use Rattle.std.specs.Prelude.{◌≡◌, ℕ, ◌+◌, ◌-◌, List, [], ◌∷◌, ◌++◌, Bool, Option, Some, None, is_some, Result, Ok, Err, if◌then◌else◌, map, filter, take, length, reverse}
+use Rattle.std.specs.Prelude.{◌≡◌, ℕ, ◌+◌, ◌-◌, List, [], ◌∷◌, ◌++◌, Bool, Option, Some, None, is_some, Result, Ok, Err, if◌then◌else◌, take, length, reverse}
 use Rattle.std.specs.List.{filter_map}
 use Rattle.dwarf_bytes.specs.declared.fault.Cause.{Cause}
 use Rattle.dwarf_bytes.specs.declared.format.Format.{Format}
@@ -12,13 +12,12 @@ use Rattle.dwarf_units.specs.declared.attributes.Attribute.{Attribute}
 use Rattle.dwarf_entries.specs.declared.entries.NodeHead.{NodeHead}
 use Rattle.dwarf_entries.specs.declared.entries.OpenScope.{OpenScope}
 use Rattle.dwarf_entries.specs.declared.entries.Walk.{Walk}
-use Rattle.dwarf_entries.specs.declared.kept.Keeping.{Keeping}
 use Rattle.dwarf_entries.specs.declared.kept.ScopePlace.{ScopePlace}
 use Rattle.dwarf_entries.specs.declared.kept.RootEntry.{RootEntry}
 use Rattle.dwarf_units.specs.declared.unit_headers.UnitHeader.{UnitHeader}
 use Rattle.dwarf_units.specs.Entries.{Node, Entry, Null, Standing, Die, die_of, depth_after, node_behind, node_at}
 use Rattle.dwarf_entries.specs.Private.Ends.{known_places, open_scopes, ended_at, left_open, new_place, new_open}
-use Rattle.dwarf_entries.specs.Private.Kept.{keeps, root_entry, root_in}
+use Rattle.dwarf_entries.specs.Private.Kept.{root_entry, root_in}
 use Rattle.dwarf_units.specs.Private.Plans.{kept_attributes}
 use Rattle.dwarf_entries.specs.Names.{or_else}
 
@@ -47,28 +46,26 @@ ReadsNode keep (Err cause) attributes read old new = Fails cause (read old.bytes
 pub record Walked : Type 0 where
   pub depth : ℕ
   pub root : Option RootEntry
-  pub entries : List ℕ
   pub scopes : List ScopePlace
   pub opened : List OpenScope
 
 -- .. of these
-abbrev pub walked_by : Keeping → ℕ → List Die → Walked
-walked_by keeping depth dies = record { depth = depth; root = root_in dies; entries = map (λ die. die.offset) (filter (λ die. keeps keeping die.tag) dies); scopes = known_places dies; opened = open_scopes 0 dies }
+abbrev pub walked_by : ℕ → List Die → Walked
+walked_by depth dies = record { depth = depth; root = root_in dies; scopes = known_places dies; opened = open_scopes 0 dies }
 
 -- .. behind what stands before
-abbrev pub walked : Keeping → List Standing → Walked
-walked keeping before = walked_by keeping (depth_after before) (filter_map die_of before)
+abbrev pub walked : List Standing → Walked
+walked before = walked_by (depth_after before) (filter_map die_of before)
 
 -- .. by the program
 abbrev pub walked_of : Walk → Walked
-walked_of w = record { depth = w.depth; root = w.root; entries = w.entries.items; scopes = w.scopes.items; opened = reverse w.opened.items }
+walked_of w = record { depth = w.depth; root = w.root; scopes = w.scopes.items; opened = reverse w.opened.items }
 
 -- one more entry
-abbrev pub after_die : Keeping → Walked → Die → Walked
-after_die keeping w die = record {
+abbrev pub after_die : Walked → Die → Walked
+after_die w die = record {
   depth = w.depth;
   root = or_else w.root (Some (root_entry die));
-  entries = if keeps keeping die.tag then w.entries ++ die.offset ∷ [] else w.entries;
   scopes = ended_at die.depth w.opened w.scopes ++ new_place die;
   opened = new_open (length (ended_at die.depth w.opened w.scopes)) die ++ left_open die.depth w.opened;
 }
@@ -85,17 +82,26 @@ abbrev pub depth_behind : Bool → ℕ → ℕ
 depth_behind children depth = if children then depth + 1 else depth
 
 -- one more entry or null, at a place
-abbrev pub after_node : Keeping → Walked → ℕ → Node → Walked
-after_node keeping w at (Entry tag children attributes) =
-    record (after_die keeping w (record { offset = at; depth = w.depth; tag = tag; attributes = attributes })) { depth = depth_behind children w.depth }
-after_node keeping w at Null = record w { depth = w.depth - 1 }
+abbrev pub after_node : Walked → ℕ → Node → Walked
+after_node w at (Entry tag children attributes) =
+    record (after_die w (record { offset = at; depth = w.depth; tag = tag; attributes = attributes })) { depth = depth_behind children w.depth }
+after_node w at Null = record w { depth = w.depth - 1 }
+
+-- where an entry stands; a null is none
+abbrev pub places_of : ℕ → Node → List ℕ
+places_of at (Entry tag children attributes) = at ∷ []
+places_of at Null = []
 
 -- what a step makes of the entries so far, and the place after it
-abbrev pub walked_at : Keeping → Format → List Declaration → Walked → List ℕ → ℕ → Result (Walked × ℕ) Cause
-walked_at keeping format table w unit at = node_behind format table w.depth (is_some w.root) unit at >>= λ node. Ok (after_node keeping w at node.0, node.1)
+abbrev pub walked_at : Format → List Declaration → Walked → List ℕ → ℕ → Result (Walked × ℕ) Cause
+walked_at format table w unit at = node_behind format table w.depth (is_some w.root) unit at >>= λ node. Ok (after_node w at node.0, node.1)
+
+-- all that stands in a unit
+abbrev pub nodes_of : List ℕ → UnitHeader → List Declaration → Result (List Standing × ℕ) At
+nodes_of info header table = items_from header.end (node_at header.format table (take header.end info)) [] header.first
 
 -- all entries of a unit, and the depth behind them
-unfoldable pub walk_of : Keeping → List ℕ → UnitHeader → List Declaration → Result Walked At
-walk_of keeping info header table = do
-  all ← items_from header.end (node_at header.format table (take header.end info)) [] header.first
-  Ok (walked keeping all.0)
+unfoldable pub walk_of : List ℕ → UnitHeader → List Declaration → Result Walked At
+walk_of info header table = do
+  all ← nodes_of info header table
+  Ok (walked all.0)

@@ -6,7 +6,7 @@ use Rattle.dwarf_entries.proofs.entries.walk_unit.Given as goal
 abbrev pub invariant-loop-unit : goal.invariant-loop-unit
 invariant-loop-unit l = record {
   bytes : l.cursor.bytes ≡ take l.fn.header.end l.info;
-  walked : WalkedSoFar l.keeping l.info l.fn.header l.table.declarations l.cursor.place (walked_of l.walk);
+  walked : WalkedSoFar l.info l.fn.header l.table.declarations l.fn.marks l.marks l.cursor.place (walked_of l.walk);
 }
 
 abbrev pub decreases-loop-unit : goal.decreases-loop-unit

@@ -1,5 +1,4 @@
 use Rattle.std.proofs.Common.{◌≡◌, List, map}
-use Rattle.dwarf_entries.specs.declared.kept.Keeping.{Keeping}
 use Rattle.dwarf_units.specs.declared.unit_headers.UnitHeader.{UnitHeader}
 use Rattle.dwarf_units.specs.Entries.{Die}
 use Rattle.dwarf_entries.specs.Sections.{sections_of}
@@ -10,5 +9,5 @@ use Rattle.dwarf_entries.proofs.passes.all_bases.Given as goal
 
 abbrev pub invariant-loop-unit : goal.invariant-loop-unit
 invariant-loop-unit l =
-    (keeping : Keeping) (headers : List UnitHeader) (dies : List (List Die)) → map kept_of l.units ≡ kept_units keeping headers dies
+    (headers : List UnitHeader) (dies : List (List Die)) → map kept_of l.units ≡ kept_units headers dies
     → BasesSoFar (sections_of l.sections) headers dies l.unit-index l.all.items

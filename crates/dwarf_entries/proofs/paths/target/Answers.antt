@@ -8,21 +8,21 @@ use Rattle.dwarf_entries.proofs.ReferenceLaws.{kept-length, start-kept, anywhere
 use Rattle.dwarf_entries.proofs.paths.target.Goals as goal
 
 pub returns-then-reference-eq-DW_FORM_REF_ADDR : goal.returns-then-reference-eq-DW_FORM_REF_ADDR
-returns-then-reference-eq-DW_FORM_REF_ADDR c = λ us are u at.
+returns-then-reference-eq-DW_FORM_REF_ADDR c = λ us are marked u at.
     subst (λ (outcome : Result Member Cause). Finds us c.entry_in.result outcome)
-    (anywhere c.args.units.now us are c.ends_by.result c.from-number.result c.ends_by.ensures.within c.ends_by.ensures.parts u c.args.reference c.if-reference-eq-DW_FORM_REF_ADDR.true (sym c.from-number.ensures)) (c.entry_in.ensures us are)
+    (anywhere c.args.units.now us are c.ends_by.result c.from-number.result c.ends_by.ensures.within c.ends_by.ensures.parts u c.args.reference c.if-reference-eq-DW_FORM_REF_ADDR.true (sym c.from-number.ensures)) (c.entry_in.ensures us are marked)
 
 pub returns-in_err-start : goal.returns-in_err-start
-returns-in_err-start c = λ us are u at.
+returns-in_err-start c = λ us are marked u at.
     let past = c.in_err-start.ensures.lookup.3 in
     let inside = slice_get_within us c.args.unit u at in
     let len = kept-length c.args.units.now us are in
     absurd (omega (arith, past, inside, len))
 
 pub returns : goal.returns
-returns c = λ us are u at.
+returns c = λ us are marked u at.
     let unit = c.in_ok-start.ensures.lookup.3 in
     let start = start-kept c.args.units.now us are c.args.unit c.in_ok-start.field-0.now unit.0 unit.1 u at in
     let number = c.from-number.ensures in
     subst (λ (outcome : Result Member Cause). Finds us c.entry_in-2.result outcome)
-    (within_unit us c.args.unit (c.in_ok-start.field-0.now.header.start + c.from-number.result) u c.args.reference c.if-reference-eq-DW_FORM_REF_ADDR.false at (omega (arith, start, number))) (c.entry_in-2.ensures us are)
+    (within_unit us c.args.unit (c.in_ok-start.field-0.now.header.start + c.from-number.result) u c.args.reference c.if-reference-eq-DW_FORM_REF_ADDR.false at (omega (arith, start, number))) (c.entry_in-2.ensures us are marked)

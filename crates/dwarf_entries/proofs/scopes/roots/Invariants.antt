@@ -1,5 +1,4 @@
 use Rattle.std.proofs.Common.{◌≡◌, List, map, take}
-use Rattle.dwarf_entries.specs.declared.kept.Keeping.{Keeping}
 use Rattle.dwarf_entries.specs.Bases.{CompilationUnit}
 use Rattle.dwarf_entries.specs.Private.Kept.{kept_of, scope_count}
 use Rattle.dwarf_entries.specs.Private.Passes.{kept_unit_of}
@@ -9,5 +8,5 @@ use Rattle.dwarf_entries.proofs.scopes.roots.Given as goal
 abbrev pub invariant-loop-unit : goal.invariant-loop-unit
 invariant-loop-unit l = record {
   first_is : l.first ≡ scope_count (take l.unit-index l.units);
-  so_far : (keeping : Keeping) (us : List CompilationUnit) → map kept_of l.units ≡ map (kept_unit_of keeping) us → RootsSoFar us l.unit-index l.first l.roots.items;
+  so_far : (us : List CompilationUnit) → map kept_of l.units ≡ map kept_unit_of us → RootsSoFar us l.unit-index l.first l.roots.items;
 }

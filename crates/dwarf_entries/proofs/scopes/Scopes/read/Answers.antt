@@ -1,6 +1,6 @@
 use Rattle.std.proofs.lemmas.Result.{err_from_is_err_and}
 use Rattle.dwarf_entries.specs.Sections.{sections_of}
-use Rattle.dwarf_entries.proofs.ReadLaws.{tables_read, units_fault, tables_fault, after_tables, read_among, fault_among}
+use Rattle.dwarf_entries.proofs.ReadLaws.{tables_read, units_fault, tables_fault, after_tables}
 use Rattle.dwarf_entries.proofs.scopes.Scopes.read.Goals as goal
 
 pub returns-in_err-headers : goal.returns-in_err-headers
@@ -14,20 +14,8 @@ returns-in_err-tables c =
     let p = err_from_is_err_and c.from_residual-in_err-tables.result c.from_residual-in_err-tables.ensures.1 in
     rw (p.1, p.2) (tables_fault (sections_of c.args.sections.now) c.in_ok-headers.headers.items c.in_err-tables.field-0.0 c.in_ok-headers.ensures (rw c.as_slice.ensures.value at c.in_err-tables.ensures.err))
 
-pub returns-in-Ok : goal.returns-in-Ok
-returns-in-Ok c =
-    let s = sections_of c.args.sections.now in
-    let tables = tables_read s c.in_ok-headers.headers.items c.in_ok-headers.ensures (rw c.as_slice.ensures.value at c.in_ok-tables.ensures.ok) in
-    read_among s c.in_ok-headers.headers.items tables c.in-Ok.scopes ((rw c.as_slice-units.ensures.value at c.in-Ok.ensures.decodes) tables)
-
-pub returns-in-Reference : goal.returns-in-Reference
-returns-in-Reference c =
-    let s = sections_of c.args.sections.now in
-    let tables = tables_read s c.in_ok-headers.headers.items c.in_ok-headers.ensures (rw c.as_slice.ensures.value at c.in_ok-tables.ensures.ok) in
-    rw (after_tables s c.in_ok-headers.headers.items tables) ((rw c.as_slice-units.ensures.value at c.read_with-in-Reference.ensures.decodes) tables)
-
 pub returns : goal.returns
 returns c =
     let s = sections_of c.args.sections.now in
     let tables = tables_read s c.in_ok-headers.headers.items c.in_ok-headers.ensures (rw c.as_slice.ensures.value at c.in_ok-tables.ensures.ok) in
-    fault_among s c.in_ok-headers.headers.items tables c.in-Err.fault ((rw c.as_slice-units.ensures.value at c.in-Err.ensures.decodes) tables) c.in_default.not-Reference
+    rw (after_tables s c.in_ok-headers.headers.items tables) ((rw c.as_slice-2.ensures.value at c.read_with.ensures) tables)

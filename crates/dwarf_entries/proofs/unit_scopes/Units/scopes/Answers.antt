@@ -14,16 +14,16 @@ pub loop-unit-init : goal.loop-unit-init
 loop-unit-init c = record {
   few = omega arith;
   reader = λ s reader. reader;
-  so_far = λ keeping us are read reader. scopes_none keeping (sections_of c.args.self.sections.now) us c.in_ok-lists.lists c.in_ok-lists.ensures.scopes c.in_ok-lists.ensures.ranges;
+  so_far = λ us are marked read reader. scopes_none (sections_of c.args.self.sections.now) us c.in_ok-lists.lists c.in_ok-lists.ensures.scopes c.in_ok-lists.ensures.ranges;
 }
 
 pub returns-in_err-unit_scopes-clause-scopes : goal.returns-in_err-unit_scopes-clause-scopes
-returns-in_err-unit_scopes-clause-scopes c keeping us are read reader =
+returns-in_err-unit_scopes-clause-scopes c us are marked read reader =
     let p = err_from_is_err_and c.from_residual-in_err-unit_scopes.result c.from_residual-in_err-unit_scopes.ensures.1 in
     let s = sections_of c.args.self.sections.now in
     rw (p.1, p.2)
-    (scopes_fault keeping s c.args.self.units.now c.args.self.bases.now us c.loop-unit.unit c.loop-unit.root c.loop-unit.lists c.loop-unit.lists c.loop-unit.left 0 c.in_err-unit_scopes.field-0.0 are c.loop-unit-test.true (c.loop-unit.invariant.so_far keeping us are read reader)
-    (λ u before. c.in_err-unit_scopes.ensures.scopes keeping us u before are read (c.loop-unit.invariant.reader s reader)))
+    (scopes_fault s c.args.self.units.now c.args.self.bases.now us c.loop-unit.unit c.loop-unit.root c.loop-unit.lists c.loop-unit.lists c.loop-unit.left 0 c.in_err-unit_scopes.field-0.0 are c.loop-unit-test.true (c.loop-unit.invariant.so_far us are marked read reader)
+    (λ u before. c.in_err-unit_scopes.ensures.scopes us u before are marked read (c.loop-unit.invariant.reader s reader)))
 
 pub loop-unit-preserved : goal.loop-unit-preserved
 loop-unit-preserved c =
@@ -36,14 +36,14 @@ loop-unit-preserved c =
     record {
       few = omega (arith, next, few, c.loop-unit.invariant.few);
       reader = λ s reader. c.in_ok-unit_scopes.ensures.reader s (c.loop-unit.invariant.reader s reader);
-      so_far = λ keeping us are read reader.
-          scopes_next keeping (sections_of c.args.self.sections.now) c.args.self.units.now c.args.self.bases.now us c.loop-unit.unit c.loop-unit.root c.if-is_some.root _ c.loop-unit.lists _ c.loop-unit.left _ are c.loop-unit-test.true (c.loop-unit.invariant.so_far keeping us are read reader) (next ∙ ap (λ (b : Bool). c.loop-unit.root + cond b 1 0) c.is_some.ensures)
-          (λ u before. c.in_ok-unit_scopes.ensures.scopes keeping us u before are read (c.loop-unit.invariant.reader (sections_of c.args.self.sections.now) reader));
+      so_far = λ us are marked read reader.
+          scopes_next (sections_of c.args.self.sections.now) c.args.self.units.now c.args.self.bases.now us c.loop-unit.unit c.loop-unit.root c.if-is_some.root _ c.loop-unit.lists _ c.loop-unit.left _ are c.loop-unit-test.true (c.loop-unit.invariant.so_far us are marked read reader) (next ∙ ap (λ (b : Bool). c.loop-unit.root + cond b 1 0) c.is_some.ensures)
+          (λ u before. c.in_ok-unit_scopes.ensures.scopes us u before are marked read (c.loop-unit.invariant.reader (sections_of c.args.self.sections.now) reader));
     }
 
 pub returns-clause-scopes : goal.returns-clause-scopes
-returns-clause-scopes c keeping us are read reader =
-    scopes_end keeping (sections_of c.args.self.sections.now) c.args.self.units.now c.args.self.bases.now us c.loop-unit.unit c.loop-unit.root c.loop-unit.lists c.loop-unit.left are c.loop-unit-test.false (c.loop-unit.invariant.so_far keeping us are read reader)
+returns-clause-scopes c us are marked read reader =
+    scopes_end (sections_of c.args.self.sections.now) c.args.self.units.now c.args.self.bases.now us c.loop-unit.unit c.loop-unit.root c.loop-unit.lists c.loop-unit.left are c.loop-unit-test.false (c.loop-unit.invariant.so_far us are marked read reader)
 
 pub returns-in_err-unit_scopes-clause-reader : goal.returns-in_err-unit_scopes-clause-reader
 returns-in_err-unit_scopes-clause-reader c s reader = c.in_err-unit_scopes.ensures.reader s (c.loop-unit.invariant.reader s reader)

@@ -1,7 +1,7 @@
 use Rattle.std.proofs.Common.{◌≤◌, List}
 use Rattle.dwarf_entries.specs.Sections.{Sections, sections_of}
-use Rattle.dwarf_entries.specs.declared.kept.Keeping.{Keeping}
 use Rattle.dwarf_entries.specs.Bases.{CompilationUnit}
+use Rattle.dwarf_entries.specs.Private.Marks.{AreMarked}
 use Rattle.dwarf_entries.specs.Private.Again.{AreReadIn, IsReaderOf}
 use Rattle.dwarf_entries.specs.Private.Passes.{AreUnits}
 use Rattle.dwarf_entries.proofs.ScopesPass.{ScopesSoFar}
@@ -11,5 +11,5 @@ abbrev pub invariant-loop-unit : goal.invariant-loop-unit
 invariant-loop-unit l = record {
   few : l.root ≤ l.unit;
   reader : (s : Sections) → IsReaderOf s l.fn.reader → IsReaderOf s l.reader;
-  so_far : (keeping : Keeping) (us : List CompilationUnit) → AreUnits keeping l.self.units.now l.self.bases.now us → AreReadIn (sections_of l.self.sections.now) us → IsReaderOf (sections_of l.self.sections.now) l.fn.reader → ScopesSoFar keeping (sections_of l.self.sections.now) us l.unit l.root l.lists l.left;
+  so_far : (us : List CompilationUnit) → AreUnits l.self.units.now l.self.bases.now us → AreMarked l.self.marks.now us → AreReadIn (sections_of l.self.sections.now) us → IsReaderOf (sections_of l.self.sections.now) l.fn.reader → ScopesSoFar (sections_of l.self.sections.now) us l.unit l.root l.lists l.left;
 }

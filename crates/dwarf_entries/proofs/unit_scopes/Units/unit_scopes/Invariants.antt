@@ -1,9 +1,9 @@
 use Rattle.std.proofs.Common.{◌≡◌, List, Some}
 use Rattle.std.specs.Prelude.{slice_get}
 use Rattle.dwarf_entries.specs.Sections.{Sections, sections_of}
-use Rattle.dwarf_entries.specs.declared.kept.Keeping.{Keeping}
 use Rattle.dwarf_entries.specs.Bases.{CompilationUnit}
 use Rattle.dwarf_entries.specs.Scopes.{Judged, roots_from}
+use Rattle.dwarf_entries.specs.Private.Marks.{AreMarked}
 use Rattle.dwarf_entries.specs.Private.Again.{AreReadIn, IsReaderOf}
 use Rattle.dwarf_entries.specs.Private.Passes.{AreUnits, IsRootOf, AreJudged}
 use Rattle.dwarf_entries.proofs.ScopesPass.{JudgedSoFar}
@@ -13,6 +13,6 @@ abbrev pub invariant-loop-place : goal.invariant-loop-place
 invariant-loop-place l = record {
   reader : (s : Sections) → IsReaderOf s l.fn.reader → IsReaderOf s l.reader;
   so_far :
-      (keeping : Keeping) (us : List CompilationUnit) (u : CompilationUnit) (before : List Judged) → AreUnits keeping l.self.units.now l.self.bases.now us → AreReadIn (sections_of l.self.sections.now) us → IsReaderOf (sections_of l.self.sections.now) l.fn.reader
-      → slice_get us l.unit ≡ Some u → IsRootOf us l.root u → AreJudged (roots_from 0 us) before l.fn.lists l.fn.left → JudgedSoFar keeping (sections_of l.self.sections.now) us u before l.place-index l.lists l.left;
+      (us : List CompilationUnit) (u : CompilationUnit) (before : List Judged) → AreUnits l.self.units.now l.self.bases.now us → AreMarked l.self.marks.now us → AreReadIn (sections_of l.self.sections.now) us → IsReaderOf (sections_of l.self.sections.now) l.fn.reader
+      → slice_get us l.unit ≡ Some u → IsRootOf us l.root u → AreJudged (roots_from 0 us) before l.fn.lists l.fn.left → JudgedSoFar (sections_of l.self.sections.now) us u before l.place-index l.lists l.left;
 }

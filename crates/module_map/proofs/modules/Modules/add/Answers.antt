@@ -25,7 +25,7 @@ returns-in-Err c =
     omega arith in (
       inr (subst (λ v. place_fault (record { name = c.args.name.now; base = c.args.base; bytes = c.args.object }) v.world.modules ≡ Some (Overlap c.in-Err.met)) c.self.view_is
           (over_any c.self.inside.sorted c.self.inside.loads (record { name = c.args.name.now; base = c.args.base; bytes = c.args.object }) _ _ _ free c.len.ensures
-          (ap (λ n. c.args.base + n) c.low.ensures.low) (ap (λ n. c.args.base + n) c.high-2.ensures) _ fits c.in-Err.ensures)),
+          c.extent_of-extent.ensures.low c.extent_of-extent.ensures.high _ fits c.in-Err.ensures)),
       refl,
     )
 
@@ -46,9 +46,9 @@ returns c =
     let b = c.if-base-high.false in
     let t = c.high.type_inv in
     omega arith in
-    let low = ap (λ n. c.args.base + n) c.low.ensures.low in
-    let high = ap (λ n. c.args.base + n) c.high-2.ensures in
-    let order : c.args.base + low_of c.args.object < c.args.base + high_of c.args.object = let o = c.low.ensures.order in omega arith in (
+    let low = c.extent_of-extent.ensures.low in
+    let high = c.extent_of-extent.ensures.high in
+    let order : c.args.base + low_of c.args.object < c.args.base + high_of c.args.object = let o = c.extent_of-extent.ensures.order in omega arith in (
       subst (λ v. place_fault (record { name = c.args.name.now; base = c.args.base; bytes = c.args.object }) v.world.modules ≡ None) c.self.view_is
           (free_all c.self.inside.sorted c.self.inside.loads (record { name = c.args.name.now; base = c.args.base; bytes = c.args.object }) _ _ _ free c.len.ensures low high c.in-Ok.at fits c.in-Ok.ensures),
       (low, high),
