@@ -1,6 +1,6 @@
--- An attribute whose form says a layout in which no value is refused is read by the layout alone.
-use Rattle.std.proofs.Common.{◌≡◌, ℕ, ℤ, List, Bool, true, false, cond, refl, ap, sym, ◌∙◌, subst}
-use Rattle.std.specs.Prelude.{Option, Some, None, Result, Ok, Err, not, ◌==◌, ◌&&◌}
+-- An attribute whose form says a layout in which no value is refused is read, or passed, by the layout alone.
+use Rattle.std.proofs.Common.{◌≡◌, ℕ, ℤ, List, [], Bool, true, false, cond, refl, ap, sym, ◌∙◌, subst}
+use Rattle.std.specs.Prelude.{Option, Some, None, Result, Ok, Err, is_some, not, ◌==◌, ◌&&◌, ◌||◌}
 use Rattle.std.specs.Option.{option_map_or}
 use Rattle.std.proofs.lemmas.Bool.{eqb-true}
 use Rattle.dwarf_bytes.specs.declared.constants.TheConstants.{DW_FORM_INDIRECT, DW_FORM_SDATA}
@@ -22,9 +22,9 @@ use Rattle.dwarf_forms.specs.declared.values.ValueFault.TheVariants as values
 use Rattle.dwarf_forms.specs.declared.attribute.AttributeSpecification.{AttributeSpecification}
 use Rattle.dwarf_forms.specs.Values.{Value, reading_value as of_value, direct_at, value_at}
 use Rattle.dwarf_units.specs.declared.attributes.Attribute.{Attribute}
-use Rattle.dwarf_units.specs.Attributes.{accepts, is_negative, is_negative_count, number_of, forms_of, is_among}
+use Rattle.dwarf_units.specs.Attributes.{is_used, accepts, is_negative, is_negative_count, number_of, forms_of, is_among}
 use Rattle.dwarf_units.specs.Entries.{reading_value, is_direct, attribute_at}
-use Rattle.dwarf_units.specs.Private.Plans.{is_plain, plain_layout, taken_at}
+use Rattle.dwarf_units.specs.Private.Plans.{is_plain, known_layout, taken_at}
 
 and_false : (b : Bool) → (b && false) ≡ false
 and_false true = refl
@@ -34,6 +34,14 @@ pub never_count : (name : ℕ) (c : Content) → is_negative c ≡ false → is_
 never_count name c h =
     let counts : Bool = option_map_or (λ allowed. is_among allowed DW_FORM_SDATA) (forms_of name) false in
     subst (λ (b : Bool). (counts && b) ≡ false) (sym h) (and_false counts)
+
+-- nor is a value of an attribute that is not used
+unused_count : (name : ℕ) (c : Content) → is_used name ≡ false → is_negative_count name c ≡ false
+unused_count name c unused = by_forms (forms_of name) unused
+  where
+    by_forms : (forms : Option (List ℕ)) → is_some forms ≡ false → (option_map_or (λ allowed. is_among allowed DW_FORM_SDATA) forms false && is_negative c) ≡ false
+    by_forms None h = refl
+    by_forms (Some allowed) h = cc
 
 same_form : (f g : Form) → (let some : Form → Option Form = λ k. Some k in some f ≡ some g) → f ≡ g
 same_form f g h = cc
@@ -55,19 +63,19 @@ direct_chain test inner form at accepted read plain fine = rw (plain, fine) refl
 
 -- ---- what a plain layout reads is not negative
 
-abbrev IsFine : Result (Content × ℕ) ReadFault → Type 0
-IsFine (Ok c) = is_negative c.0 ≡ false
-IsFine (Err e) = Unit {0}
+abbrev IsNotNegative : Result (Content × ℕ) ReadFault → Type 0
+IsNotNegative (Ok c) = is_negative c.0 ≡ false
+IsNotNegative (Err e) = Unit {0}
 
-number-fine : (r : Result (ℕ × ℕ) ReadFault) → IsFine (read_as Number r)
+number-fine : (r : Result (ℕ × ℕ) ReadFault) → IsNotNegative (read_as Number r)
 number-fine (Ok x) = refl
 number-fine (Err e) = tt
 
-bytes-fine : (r : Result (List ℕ × ℕ) ReadFault) → IsFine (read_as Bytes r)
+bytes-fine : (r : Result (List ℕ × ℕ) ReadFault) → IsNotNegative (read_as Bytes r)
 bytes-fine (Ok x) = refl
 bytes-fine (Err e) = tt
 
-content-fine : (layout : ValueLayout) (format : Format) (bytes : List ℕ) (at : ℕ) → is_plain layout ≡ true → IsFine (content_at layout format bytes at)
+content-fine : (layout : ValueLayout) (format : Format) (bytes : List ℕ) (at : ℕ) → is_plain layout ≡ true → IsNotNegative (content_at layout format bytes at)
 unfolding content_at
 content-fine (layouts.Fixed width) format bytes at h = number-fine (fixed_at (byte_len width) bytes at)
 content-fine layouts.Offset format bytes at h = number-fine (offset_at format bytes at)
@@ -78,6 +86,31 @@ content-fine layouts.Text format bytes at h = bytes-fine (cstr_at bytes at)
 content-fine layouts.Sixteen format bytes at h = cc
 content-fine (layouts.Block width) format bytes at h = cc
 content-fine layouts.LongBlock format bytes at h = cc
+
+-- ---- so none is refused of a layout that is known
+
+abbrev IsFine : ℕ → Result (Content × ℕ) ReadFault → Type 0
+IsFine name (Ok c) = is_negative_count name c.0 ≡ false
+IsFine name (Err e) = Unit {0}
+
+or_false : (b : Bool) → (b || false) ≡ true → b ≡ true
+or_false true h = refl
+or_false false h = h
+
+known-fine : (name : ℕ) (layout : ValueLayout) (format : Format) (bytes : List ℕ) (at : ℕ) → (is_plain layout || not (is_used name)) ≡ true → IsFine name (content_at layout format bytes at)
+known-fine name layout format bytes at h = by_use (is_used name) refl h
+  where
+    of_plain : (r : Result (Content × ℕ) ReadFault) → IsNotNegative r → IsFine name r
+    of_plain (Ok c) fine = never_count name c.0 fine
+    of_plain (Err e) fine = tt
+
+    of_unused : is_used name ≡ false → (r : Result (Content × ℕ) ReadFault) → IsFine name r
+    of_unused unused (Ok c) = unused_count name c.0 unused
+    of_unused unused (Err e) = tt
+
+    by_use : (b : Bool) → is_used name ≡ b → (is_plain layout || not b) ≡ true → IsFine name (content_at layout format bytes at)
+    by_use true used h = of_plain (content_at layout format bytes at) (content-fine layout format bytes at (or_false (is_plain layout) h))
+    by_use false unused h = of_unused unused (content_at layout format bytes at)
 
 -- ---- the value is the content
 
@@ -113,43 +146,55 @@ as_attribute s c = Ok (record { name = s.name; value = record { form = s.form; n
 abbrev judged : AttributeSpecification → ℕ → Value × ℕ → Result (Attribute × ℕ) Cause
 judged s form value = refuse_if (is_negative_count s.name value.0.content) causes.AttrForm >>= λ _. Ok (record { name = s.name; value = record { form = form; number = number_of value.0.content value.1 } }, value.1)
 
-not-judged : (s : AttributeSpecification) (r : Result (Content × ℕ) ReadFault) → IsFine r →
+not-judged : (s : AttributeSpecification) (r : Result (Content × ℕ) ReadFault) → IsFine s.name r →
     (reading r >>= as_attribute s) ≡ (reading_value (of_value r >>= as_value s) >>= judged s s.form)
-not-judged s (Ok c) fine = rw (never_count s.name c.0 fine) refl
+not-judged s (Ok c) fine = rw fine refl
 not-judged s (Err e) fine = refl
 
-plain-is : (format : Format) (s : AttributeSpecification) (layout : ValueLayout) (bytes : List ℕ) (at : ℕ) → accepts s.name s.form ≡ true → form_of s.form ≡ Some (Direct layout) → is_plain layout ≡ true →
+known-is : (format : Format) (s : AttributeSpecification) (layout : ValueLayout) (bytes : List ℕ) (at : ℕ) → accepts s.name s.form ≡ true → form_of s.form ≡ Some (Direct layout) → (is_plain layout || not (is_used s.name)) ≡ true →
     taken_at format s layout bytes at ≡ attribute_at format s bytes at
-plain-is format s layout bytes at fine is plain =
+known-is format s layout bytes at fine is known =
     let rest : ℕ × ℕ → Result (Attribute × ℕ) Cause = λ form. reading_value (value_at form.0 format s.constant bytes form.1) >>= judged s form.0 in
     let inner : Result (ℕ × ℕ) Cause = reading (uleb_at bytes at) >>= λ inner. refuse_if (not (is_direct (form_of inner.0))) causes.Form >>= λ _. Ok inner in
     let chain = direct_chain (s.form == DW_FORM_INDIRECT) inner s.form at (λ form. accepts s.name form) rest (not_indirect s.form (Direct layout) is (λ e. cc)) fine in
     let read : value_at s.form format s.constant bytes at ≡ (of_value (content_at layout format bytes at) >>= as_value s) =
     value-direct s.form layout format s.constant bytes at is ∙ direct-content s.form layout format bytes at is in
-    not-judged s (content_at layout format bytes at) (content-fine layout format bytes at plain)
+    not-judged s (content_at layout format bytes at) (known-fine s.name layout format bytes at known)
     ∙ sym (ap (λ (r : Result (Value × ℕ) ValueFault). reading_value r >>= judged s s.form) read) ∙ sym chain
 
 same_layout : (l k : ValueLayout) → (let some : ValueLayout → Option ValueLayout = λ x. Some x in some l ≡ some k) → l ≡ k
 same_layout l k h = cc
 
-pub taken-is : (format : Format) (s : AttributeSpecification) (layout : ValueLayout) (bytes : List ℕ) (at : ℕ) → plain_layout s ≡ Some layout →
+pub taken-is : (format : Format) (s : AttributeSpecification) (layout : ValueLayout) (bytes : List ℕ) (at : ℕ) → known_layout s ≡ Some layout →
     taken_at format s layout bytes at ≡ attribute_at format s bytes at
 taken-is format s layout bytes at h = by_form (accepts s.name s.form) refl (form_of s.form) refl h
   where
-    by_plain : accepts s.name s.form ≡ true → (l : ValueLayout) → form_of s.form ≡ Some (Direct l) → (b : Bool) → is_plain l ≡ b → cond b (Some l) None ≡ Some layout →
+    by_known : accepts s.name s.form ≡ true → (l : ValueLayout) → form_of s.form ≡ Some (Direct l) → (b : Bool) → (is_plain l || not (is_used s.name)) ≡ b → cond b (Some l) None ≡ Some layout →
         taken_at format s layout bytes at ≡ attribute_at format s bytes at
-    by_plain fine l is false plain h = cc
-    by_plain fine l is true plain h =
-        subst (λ (k : ValueLayout). taken_at format s k bytes at ≡ attribute_at format s bytes at) (same_layout l layout h) (plain-is format s l bytes at fine is plain)
+    by_known fine l is false known h = cc
+    by_known fine l is true known h =
+        subst (λ (k : ValueLayout). taken_at format s k bytes at ≡ attribute_at format s bytes at) (same_layout l layout h) (known-is format s l bytes at fine is known)
 
     by_form : (b : Bool) → accepts s.name s.form ≡ b → (found : Option Form) → form_of s.form ≡ found → cond b (elim found as (λ _. Option ValueLayout) [
       | None ↦ None
-      | Some (Direct layout) ↦ cond (is_plain layout) (Some layout) None
+      | Some (Direct layout) ↦ cond (is_plain layout || not (is_used s.name)) (Some layout) None
       | Some ImplicitConst ↦ None
       | Some Indirect ↦ None
     ]) None ≡ Some layout → taken_at format s layout bytes at ≡ attribute_at format s bytes at
     by_form false fine found is h = cc
     by_form true fine None is h = cc
-    by_form true fine (Some (Direct l)) is h = by_plain fine l is (is_plain l) refl h
+    by_form true fine (Some (Direct l)) is h = by_known fine l is (is_plain l || not (is_used s.name)) refl h
     by_form true fine (Some ImplicitConst) is h = cc
     by_form true fine (Some Indirect) is h = cc
+
+-- what is behind a value, where it is not kept
+abbrev pub none_behind : {X : Type 0} → X × ℕ → Result (List Attribute × ℕ) Cause
+none_behind x = Ok ([], x.1)
+
+pub passed-is : (format : Format) (s : AttributeSpecification) (layout : ValueLayout) (bytes : List ℕ) (at : ℕ) → known_layout s ≡ Some layout →
+    (reading (content_at layout format bytes at) >>= none_behind) ≡ (attribute_at format s bytes at >>= none_behind)
+passed-is format s layout bytes at h = by_read (reading (content_at layout format bytes at)) ∙ ap (λ (r : Result (Attribute × ℕ) Cause). r >>= none_behind) (taken-is format s layout bytes at h)
+  where
+    by_read : (r : Result (Content × ℕ) Cause) → (r >>= none_behind) ≡ ((r >>= as_attribute s) >>= none_behind)
+    by_read (Ok c) = refl
+    by_read (Err e) = refl

@@ -27,13 +27,13 @@ use Rattle.dwarf_forms.specs.declared.values.ValueFault.TheVariants as values
 use Rattle.dwarf_forms.specs.declared.attribute.AttributeSpecification.{AttributeSpecification}
 use Rattle.dwarf_forms.specs.Values.{Value, reading_value as of_value, direct_at, value_at}
 use Rattle.dwarf_units.specs.declared.attributes.Attribute.{Attribute}
-use Rattle.dwarf_units.specs.declared.plans.AttributeStep.{AttributeStep}
-use Rattle.dwarf_units.specs.declared.plans.AttributeStep.TheVariants.{Skip, Pass, Keep}
+use Rattle.dwarf_units.specs.declared.steps.AttributeStep.{AttributeStep}
+use Rattle.dwarf_units.specs.declared.steps.AttributeStep.TheVariants.{Skip, Pass, Keep}
 use Rattle.dwarf_units.specs.Attributes.{is_used, accepts, is_negative, is_negative_count, number_of}
 use Rattle.dwarf_units.specs.Entries.{reading_value, is_direct, form_at, attribute_at, attributes_at}
-use Rattle.dwarf_units.specs.Private.Plans.{kept_attributes, kept_attributes_at, layout_len, constant_len, fixed_len, plain_layout, pass_of, step_of, step_before, steps_of, step_at, skip_limit, in_front}
+use Rattle.dwarf_units.specs.Private.Plans.{kept_attributes, kept_attributes_at, layout_len, constant_len, fixed_len, known_layout, pass_of, step_of, step_before, steps_of, step_at, skip_limit, in_front}
 use Rattle.dwarf_units.proofs.EntryMoves.{attribute-stays}
-use Rattle.dwarf_units.proofs.PlainLaws.{never_count, not_indirect, direct_chain, taken-is}
+use Rattle.dwarf_units.proofs.PlainLaws.{never_count, not_indirect, direct_chain, none_behind, taken-is, passed-is}
 
 -- ---- reads of a known length
 
@@ -186,9 +186,6 @@ fixed-attribute format s n bytes at h le = by_form (accepts s.name s.form) refl 
     by_form true fine (Some Indirect) is h = cc
 
 -- two reads of one length leave one place
-abbrev none_behind : {X : Type 0} → X × ℕ → Result (List Attribute × ℕ) Cause
-none_behind x = Ok ([], x.1)
-
 same-place : {X Y : Type 0} (Good : X → Type 0) (Fine : Y → Type 0) (n : ℕ) (bytes : List ℕ) (at : ℕ) (r : Result (X × ℕ) Cause) (q : Result (Y × ℕ) Cause) →
     ReadsFixed Good causes.Short n bytes at r → ReadsFixed Fine causes.Short n bytes at q → (r >>= none_behind) ≡ (q >>= none_behind)
 same-place Good Fine n bytes at (Ok x) (Ok y) h g = ap (λ (k : ℕ). Ok ([], k)) (h.1 ∙ sym g.1)
@@ -209,16 +206,20 @@ step-is : (keep : Bool) (format : Format) (s : AttributeSpecification) (bytes : 
     step_at format (step_of keep format s) bytes at ≡ (attribute_at format s bytes at >>= λ a. Ok (cond (keep && is_used s.name) (a.0 ∷ []) [], a.1))
 step-is keep format s bytes at le = by_test (keep && is_used s.name)
   where
-    by_len : (len : Option ℕ) → fixed_len format s ≡ len → step_at format (option_map_or (λ n. Skip n) len (Pass s)) bytes at ≡ (attribute_at format s bytes at >>= λ a. Ok ([], a.1))
-    by_len None is = refl
+    by_known : (layout : Option ValueLayout) → known_layout s ≡ layout → step_at format (Pass s layout) bytes at ≡ (attribute_at format s bytes at >>= λ a. Ok ([], a.1))
+    by_known None is = refl
+    by_known (Some layout) is = passed-is format s layout bytes at is
+
+    by_len : (len : Option ℕ) → fixed_len format s ≡ len → step_at format (option_map_or (λ n. Skip n) len (Pass s (known_layout s))) bytes at ≡ (attribute_at format s bytes at >>= λ a. Ok ([], a.1))
+    by_len None is = by_known (known_layout s) refl
     by_len (Some n) is = sym (same-place (λ _. Unit {0}) (λ _. Unit {0}) n bytes at (attribute_at format s bytes at) (reading (block_at n bytes at)) (fixed-attribute format s n bytes at is le) (skip-fixed n bytes at))
 
-    by_layout : (layout : Option ValueLayout) → plain_layout s ≡ layout → step_at format (Keep s layout) bytes at ≡ (attribute_at format s bytes at >>= λ a. Ok (a.0 ∷ [], a.1))
+    by_layout : (layout : Option ValueLayout) → known_layout s ≡ layout → step_at format (Keep s layout) bytes at ≡ (attribute_at format s bytes at >>= λ a. Ok (a.0 ∷ [], a.1))
     by_layout None is = refl
     by_layout (Some layout) is = ap (λ (r : Result (Attribute × ℕ) Cause). r >>= λ a. Ok (a.0 ∷ [], a.1)) (taken-is format s layout bytes at is)
 
-    by_test : (b : Bool) → step_at format (cond b (Keep s (plain_layout s)) (pass_of format s)) bytes at ≡ (attribute_at format s bytes at >>= λ a. Ok (cond b (a.0 ∷ []) [], a.1))
-    by_test true = by_layout (plain_layout s) refl
+    by_test : (b : Bool) → step_at format (cond b (Keep s (known_layout s)) (pass_of format s)) bytes at ≡ (attribute_at format s bytes at >>= λ a. Ok (cond b (a.0 ∷ []) [], a.1))
+    by_test true = by_layout (known_layout s) refl
     by_test false = by_len (fixed_len format s) refl
 
 -- ---- the steps of a declaration, one after another
@@ -272,9 +273,9 @@ before-is format (Skip n) (Skip m ∷ steps) bytes at = by_test (nat_le (n + m) 
     by_test : (b : Bool) → steps_at format (option_map_or (λ both. both ∷ steps) (cond b (Some (Skip (n + m))) None) (Skip n ∷ Skip m ∷ steps)) bytes at ≡ (step_at format (Skip n) bytes at >>= λ first. in_front first.0 (steps_at format (Skip m ∷ steps) bytes first.1))
     by_test true = joined-is format n m steps bytes at
     by_test false = refl
-before-is format (Skip n) (Pass t ∷ steps) bytes at = refl
+before-is format (Skip n) (Pass t layout ∷ steps) bytes at = refl
 before-is format (Skip n) (Keep t layout ∷ steps) bytes at = refl
-before-is format (Pass s) (next ∷ steps) bytes at = refl
+before-is format (Pass s layout) (next ∷ steps) bytes at = refl
 before-is format (Keep s layout) (next ∷ steps) bytes at = refl
 
 -- ---- the attributes that are kept

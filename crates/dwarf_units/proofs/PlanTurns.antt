@@ -11,7 +11,7 @@ use Rattle.dwarf_bytes.specs.Refusals.{Fails}
 use Rattle.dwarf_bytes.proofs.Moves.{same_ok}
 use Rattle.dwarf_forms.specs.declared.attribute.AttributeSpecification.{AttributeSpecification}
 use Rattle.dwarf_units.specs.declared.attributes.Attribute.{Attribute}
-use Rattle.dwarf_units.specs.declared.plans.AttributeStep.{AttributeStep}
+use Rattle.dwarf_units.specs.declared.steps.AttributeStep.{AttributeStep}
 use Rattle.dwarf_units.specs.Private.Plans.{step_at, in_front, step_of, step_before, steps_of, kept_attributes_at}
 use Rattle.dwarf_units.proofs.PlanLaws.{steps_at, in_front-none, in_front-twice, kept-is}
 

@@ -7,6 +7,7 @@ mod entry_head;
 pub mod laws;
 mod numbers;
 mod plans;
+mod steps;
 mod tables;
 mod unit_headers;
 mod unit_table;

@@ -1,30 +1,17 @@
 //! Plans of reading the attributes of entries, which pass over runs of those that are not kept.
 
-ghost use Rattle.std.specs.Prelude.{◌≡◌, ◌≤◌, ◌-◌, ◌^◌, List, Bool, IfOk, OnOk, map, reverse};
-ghost use Rattle.dwarf_bytes.specs.Forms.{byte_len};
+ghost use Rattle.std.specs.Prelude.{◌≡◌, ◌≤◌, ◌-◌, ◌^◌, List, [], ◌∷◌, Bool, IfOk, OnOk, map, reverse};
 ghost use Rattle.dwarf_forms.specs.declared.attribute.AttributeSpecification.{AttributeSpecification as Specification};
-ghost use Rattle.dwarf_units.specs.Private.Plans.{kept_attributes_at, layout_len, constant_len, fixed_len, step_of, joined, step_before, steps_of, step_at, in_front, Fills, plan_of, plan_len, is_plain, plain_layout, taken_at};
+ghost use Rattle.dwarf_units.specs.declared.steps.AttributeStep.TheVariants.{Pass, Keep};
+ghost use Rattle.dwarf_units.specs.Private.Plans.{kept_attributes_at, step_before, steps_of, step_at, in_front, Fills, plan_of, plan_len, taken_at};
 ghost use Rattle.dwarf_bytes.specs.Refusals.{ReadsField};
 
-use crate::attributes::{
-    Attribute, AttributeValue, accepts, is_negative_count, is_used, number_of, read_attribute,
-};
-use dwarf_bytes::{Cause, Content, Cursor, Form, Format, ValueLayout, Width};
+use crate::attributes::{Attribute, AttributeValue, number_of, read_attribute};
+use crate::steps::{AttributeStep, joined, step_of};
+use dwarf_bytes::{Cause, Content, Cursor, Format, ValueLayout, Width};
 use dwarf_forms::{Abbrevs, AttributeSpecification};
 use std::alloc::{AllocError, Global};
 use std::marker::Model;
-
-/// A step of reading the attributes of an entry.
-#[derive(Clone, Copy)]
-pub(crate) enum AttributeStep {
-    /// So many bytes are passed over.
-    Skip(u16),
-    /// An attribute is read and judged, and not kept.
-    Pass(AttributeSpecification),
-    /// An attribute is read and kept. It is judged, unless a layout is known in which none of its
-    /// values is refused.
-    Keep(AttributeSpecification, Option<ValueLayout>),
-}
 
 /// The steps of a declaration, where the used attributes of its entry are kept, and where none are.
 #[derive(Drop)]
@@ -84,8 +71,8 @@ pub(crate) fn plans(alloc: Global, format: Format, table: &Abbrevs) -> Result<Ve
     Ok(plans)
 }
 
-/// Reads the attributes of an entry by the steps of its declaration: those that are kept into `found`,
-/// in place of what is there.
+/// Reads the attributes of an entry by the steps of its declaration: those that are kept into
+/// `found`, in place of what is there.
 pub(crate) fn read_steps(
     format: Format,
     steps: &[AttributeStep],
@@ -119,17 +106,51 @@ fn read_step(
         AttributeStep::Skip(len) => {
             cursor.block(u64::from(*len))?;
         }
-        AttributeStep::Pass(specification) => {
-            read_attribute(format, specification, cursor)?;
+        AttributeStep::Pass(specification, layout) => {
+            pass_attribute(format, specification, *layout, cursor)?;
         }
-        AttributeStep::Keep(specification, None) => {
-            found.push(read_attribute(format, specification, cursor)?)?;
-        }
-        AttributeStep::Keep(specification, Some(layout)) => {
-            found.push(take_attribute(format, specification, *layout, cursor)?)?;
+        AttributeStep::Keep(specification, layout) => {
+            found.push(keep_attribute(format, specification, *layout, cursor)?)?;
         }
     }
     Ok(())
+}
+
+/// Passes over the attribute at the cursor. It is judged where no layout is known.
+fn pass_attribute(
+    format: Format,
+    specification: &AttributeSpecification,
+    layout: Option<ValueLayout>,
+    cursor: &mut Cursor,
+) -> Result<(), Cause>
+    ensures { ReadsField (λ _. []) result (step_at format (Pass specification.now layout))
+        cursor.old cursor.new }
+{
+    match layout {
+        None => {
+            read_attribute(format, specification, cursor)?;
+        }
+        Some(layout) => {
+            Content::read(layout, format, cursor)?;
+        }
+    }
+    Ok(())
+}
+
+/// The attribute at the cursor. It is judged where no layout is known.
+fn keep_attribute(
+    format: Format,
+    specification: &AttributeSpecification,
+    layout: Option<ValueLayout>,
+    cursor: &mut Cursor,
+) -> Result<Attribute, Cause>
+    ensures { ReadsField (λ a. a ∷ []) result (step_at format (Keep specification.now layout))
+        cursor.old cursor.new }
+{
+    match layout {
+        None => read_attribute(format, specification, cursor),
+        Some(layout) => take_attribute(format, specification, layout, cursor),
+    }
 }
 
 /// The attribute at the cursor, whose value stands there in a layout. The layouts of most values
@@ -194,104 +215,4 @@ fn push_before(steps: &mut Vec<AttributeStep>, step: AttributeStep) -> Result<()
     }
     steps.push(step)?;
     Ok(())
-}
-
-/// One step in place of two, where both pass over bytes.
-fn joined(step: AttributeStep, next: AttributeStep) -> Option<AttributeStep>
-    ensures { result ≡ joined step next }
-{
-    match (step, next) {
-        (AttributeStep::Skip(len), AttributeStep::Skip(behind)) => {
-            let both = len.checked_add(behind)?;
-            Some(AttributeStep::Skip(both))
-        }
-        _ => None,
-    }
-}
-
-/// The step of an attribute.
-fn step_of(keep: bool, format: Format, specification: &AttributeSpecification) -> AttributeStep
-    ensures { result ≡ step_of keep format specification.now }
-{
-    if keep && is_used(specification.name) {
-        return AttributeStep::Keep(*specification, plain_layout(specification));
-    }
-    match fixed_len(format, specification) {
-        Some(len) => AttributeStep::Skip(len),
-        None => AttributeStep::Pass(*specification),
-    }
-}
-
-/// The layout of the values of an attribute, where none of them is refused.
-fn plain_layout(specification: &AttributeSpecification) -> Option<ValueLayout>
-    ensures { result ≡ plain_layout specification.now }
-{
-    if !accepts(specification.name, specification.form) {
-        return None;
-    }
-    match Form::of(specification.form)? {
-        Form::Direct(layout) if is_plain(layout) => Some(layout),
-        _ => None,
-    }
-}
-
-/// Whether the values of a layout are numbers from 0 up, or texts.
-fn is_plain(layout: ValueLayout) -> bool
-    ensures { result ≡ is_plain layout }
-{
-    matches!(
-        layout,
-        ValueLayout::Fixed(_) | ValueLayout::Offset | ValueLayout::Unsigned | ValueLayout::Text
-    )
-}
-
-/// The bytes that the value of an attribute takes always, where nothing but a lack of bytes refuses it.
-#[tactic(auto, unfolding(crate::specs::Private::Plans::fixed_len))]
-fn fixed_len(format: Format, specification: &AttributeSpecification) -> Option<u16>
-    ensures { result ≡ fixed_len format specification.now }
-{
-    if !accepts(specification.name, specification.form) {
-        return None;
-    }
-    match Form::of(specification.form)? {
-        Form::Direct(layout) => layout_len(format, layout),
-        Form::ImplicitConst => constant_len(specification),
-        Form::Indirect => None,
-    }
-}
-
-/// The same of a value that stands in the declaration.
-fn constant_len(specification: &AttributeSpecification) -> Option<u16>
-    ensures { result ≡ constant_len specification.now }
-{
-    let constant = Content::Signed(specification.constant?);
-    if is_negative_count(specification.name, constant) {
-        return None;
-    }
-    Some(0)
-}
-
-/// The same of a value in a layout.
-fn layout_len(format: Format, layout: ValueLayout) -> Option<u16>
-    ensures { result ≡ layout_len format layout }
-{
-    match layout {
-        ValueLayout::Fixed(width) => Some(byte_len(width)),
-        ValueLayout::Offset => Some(format.offset_len() as u16),
-        ValueLayout::Present => Some(0),
-        ValueLayout::Sixteen => Some(16),
-        _ => None,
-    }
-}
-
-fn byte_len(width: Width) -> u16
-    ensures { result ≡ byte_len width }
-{
-    match width {
-        Width::One => 1,
-        Width::Two => 2,
-        Width::Three => 3,
-        Width::Four => 4,
-        Width::Eight => 8,
-    }
 }

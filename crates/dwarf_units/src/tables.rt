@@ -1,6 +1,6 @@
 //! The abbreviation tables of all units (DWARF 5, 7.5.3), each read once.
 
-ghost use Rattle.std.specs.Prelude.{◌≡◌, ℕ, ◌⊎◌, ◌+◌, ◌<◌, ◌≤◌, ◌++◌, ◌∷◌, [], take, List, Some, Ok, Err, length, slice_get, IfOk, IfErr, OnOk, OnErr, IfSome, IfNone, nat_lt};
+ghost use Rattle.std.specs.Prelude.{◌≡◌, ℕ, ◌⊎◌, ◌+◌, ◌<◌, ◌≤◌, ◌++◌, [], take, List, Some, Ok, Err, length, slice_get, IfOk, IfErr, OnOk, IfSome, IfNone, nat_lt};
 ghost use Rattle.std.specs.List.{All};
 ghost use Rattle.dwarf_bytes.specs.declared.fault.Section.TheVariants as sections;
 ghost use Rattle.dwarf_bytes.specs.Refusals.{memory_fault, in_section};
@@ -12,7 +12,7 @@ ghost use Rattle.dwarf_units.specs.Private.Tables.{StandsIn, IsAt, AreElsewhere,
 
 use crate::numbers::Numbers;
 use crate::unit_headers::UnitHeader;
-use crate::unit_table::UnitTable;
+use crate::unit_table::{UnitTable, put_behind};
 use dwarf_bytes::{Format, LoadFault};
 use std::alloc::{AllocError, Global};
 use std::marker::Model;
@@ -234,20 +234,4 @@ impl<'a> Tables<'a> {
         }
         Ok(number)
     }
-}
-
-/// Puts a table behind so many others, in place of those that stand there, and gives its number.
-fn put_behind(
-    tables: &mut Vec<UnitTable>,
-    kept: usize,
-    table: UnitTable,
-) -> Result<usize, AllocError>
-    ensures ok { IfOk result (λ number. (tables.new.items ≡ take kept tables.old.items ++ table ∷ [])
-        × (number ≡ length (take kept tables.old.items))) }
-    ensures err { OnErr result (tables.new.items ≡ take kept tables.old.items) }
-{
-    tables.truncate(kept);
-    let number = tables.len();
-    tables.push(table)?;
-    Ok(number)
 }

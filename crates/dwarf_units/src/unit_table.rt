@@ -1,6 +1,6 @@
 //! The abbreviation table of a unit (DWARF 5, 7.5.3).
 
-ghost use Rattle.std.specs.Prelude.{◌≡◌, ◌≤◌, ◌+◌, ◌-◌, ◌*◌, ◌^◌, ◌==◌, Some, None, length, sum_by, find, position, AllPairs, ◌≢◌, IsTrue, ◌↔◌, IfOk, IfNone, IfSome};
+ghost use Rattle.std.specs.Prelude.{◌≡◌, ◌≤◌, ◌+◌, ◌-◌, ◌*◌, ◌^◌, ◌==◌, ◌++◌, ◌∷◌, [], Some, None, length, take, sum_by, find, position, AllPairs, ◌≢◌, IsTrue, ◌↔◌, IfOk, OnErr, IfNone, IfSome};
 ghost use Rattle.dwarf_bytes.specs.declared.fault.Section.TheVariants as sections;
 ghost use Rattle.dwarf_bytes.specs.Refusals.{Decodes, in_section};
 ghost use Rattle.dwarf_forms.specs.Private.Index.{AreIndexed, has_code_at};
@@ -116,6 +116,23 @@ impl UnitTable {
     {
         self.offset == header.abbreviations && self.format == header.format
     }
+}
+
+/// Puts a table behind so many others, in place of those that stand there, and gives its number.
+pub(crate) fn put_behind(
+    tables: &mut Vec<UnitTable>,
+    kept: usize,
+    table: UnitTable,
+) -> Result<usize, AllocError>
+    ensures ok { IfOk result (λ number.
+        (tables.new.items ≡ take kept tables.old.items ++ table ∷ [])
+        × (number ≡ length (take kept tables.old.items))) }
+    ensures err { OnErr result (tables.new.items ≡ take kept tables.old.items) }
+{
+    tables.truncate(kept);
+    let number = tables.len();
+    tables.push(table)?;
+    Ok(number)
 }
 
 /// How many attributes declarations have.

@@ -1,5 +1,5 @@
 -- How the attributes of a declaration are read where only some are kept: runs of values of a known length are passed over.
-use Rattle.std.specs.Prelude.{◌≡◌, ℕ, ◌+◌, List, [], ◌∷◌, ◌++◌, length, Bool, true, false, Option, Some, None, Result, Ok, Err, nat_le, ◌&&◌, if◌then◌else◌, filter, sum_by}
+use Rattle.std.specs.Prelude.{◌≡◌, ℕ, ◌+◌, List, [], ◌∷◌, ◌++◌, length, Bool, true, false, Option, Some, None, Result, Ok, Err, nat_le, ◌&&◌, ◌||◌, not, if◌then◌else◌, filter, sum_by}
 use Rattle.std.specs.Option.{option_map_or}
 use Rattle.dwarf_bytes.specs.declared.fault.Cause.{Cause}
 use Rattle.dwarf_bytes.specs.declared.format.Format.{Format}
@@ -16,8 +16,8 @@ use Rattle.dwarf_bytes.specs.Refusals.{Fails}
 use Rattle.dwarf_forms.specs.declared.attribute.AttributeSpecification.{AttributeSpecification}
 use Rattle.dwarf_forms.specs.Declarations.{Declaration}
 use Rattle.dwarf_units.specs.declared.attributes.Attribute.{Attribute}
-use Rattle.dwarf_units.specs.declared.plans.AttributeStep.{AttributeStep}
-use Rattle.dwarf_units.specs.declared.plans.AttributeStep.TheVariants.{Skip, Pass, Keep}
+use Rattle.dwarf_units.specs.declared.steps.AttributeStep.{AttributeStep}
+use Rattle.dwarf_units.specs.declared.steps.AttributeStep.TheVariants.{Skip, Pass, Keep}
 use Rattle.dwarf_units.specs.Attributes.{is_used, accepts, is_negative_count, number_of}
 use Rattle.dwarf_units.specs.Entries.{attribute_at, attributes_at}
 
@@ -57,10 +57,6 @@ fixed_len format s = if accepts s.name s.form then (elim (form_of s.form) [
   | Some Indirect ↦ None
 ]) else None
 
--- an attribute that is not kept
-abbrev pub pass_of : Format → AttributeSpecification → AttributeStep
-pass_of format s = option_map_or (λ n. Skip n) (fixed_len format s) (Pass s)
-
 -- whether the values of a layout are numbers from 0 up, or texts
 abbrev pub is_plain : ValueLayout → Bool
 is_plain (Fixed width) = true
@@ -73,17 +69,21 @@ is_plain Sixteen = false
 is_plain (Block width) = false
 is_plain LongBlock = false
 
--- the layout of the values of an attribute, where none of them is refused
-abbrev pub plain_layout : AttributeSpecification → Option ValueLayout
-plain_layout s = if accepts s.name s.form then (elim (form_of s.form) [
+-- the layout of the values of an attribute, where none of them is refused, as none is of one that is not used
+abbrev pub known_layout : AttributeSpecification → Option ValueLayout
+known_layout s = if accepts s.name s.form then (elim (form_of s.form) [
   | None ↦ None
-  | Some (Direct layout) ↦ if is_plain layout then Some layout else None
+  | Some (Direct layout) ↦ if is_plain layout || not (is_used s.name) then Some layout else None
   | Some ImplicitConst ↦ None
   | Some Indirect ↦ None
 ]) else None
 
+-- an attribute that is not kept
+abbrev pub pass_of : Format → AttributeSpecification → AttributeStep
+pass_of format s = option_map_or (λ n. Skip n) (fixed_len format s) (Pass s (known_layout s))
+
 abbrev pub step_of : Bool → Format → AttributeSpecification → AttributeStep
-step_of keep format s = if keep && is_used s.name then Keep s (plain_layout s) else pass_of format s
+step_of keep format s = if keep && is_used s.name then Keep s (known_layout s) else pass_of format s
 
 -- the most bytes of one step
 abbrev pub skip_limit : ℕ
@@ -92,9 +92,9 @@ skip_limit = 65535
 -- one step in place of two, where both pass over bytes
 abbrev pub joined : AttributeStep → AttributeStep → Option AttributeStep
 joined (Skip n) (Skip m) = if nat_le (n + m) skip_limit then Some (Skip (n + m)) else None
-joined (Skip n) (Pass t) = None
+joined (Skip n) (Pass t layout) = None
 joined (Skip n) (Keep t layout) = None
-joined (Pass s) next = None
+joined (Pass s layout) next = None
 joined (Keep s layout) next = None
 
 -- a step in front of others
@@ -114,7 +114,8 @@ taken_at format s layout bytes at = reading (content_at layout format bytes at) 
 -- what a step keeps, and the place after it
 abbrev pub step_at : Format → AttributeStep → List ℕ → ℕ → Result (List Attribute × ℕ) Cause
 step_at format (Skip n) bytes at = reading (block_at n bytes at) >>= λ block. Ok ([], block.1)
-step_at format (Pass s) bytes at = attribute_at format s bytes at >>= λ a. Ok ([], a.1)
+step_at format (Pass s (Some layout)) bytes at = reading (content_at layout format bytes at) >>= λ c. Ok ([], c.1)
+step_at format (Pass s None) bytes at = attribute_at format s bytes at >>= λ a. Ok ([], a.1)
 step_at format (Keep s (Some layout)) bytes at = taken_at format s layout bytes at >>= λ a. Ok (a.0 ∷ [], a.1)
 step_at format (Keep s None) bytes at = attribute_at format s bytes at >>= λ a. Ok (a.0 ∷ [], a.1)
 

@@ -1,6 +1,6 @@
 use Rattle.std.proofs.Common.{List, ap, reverse, sym, ◌∙◌, arith}
 use Rattle.std.proofs.lemmas.List.{take_all}
-use Rattle.dwarf_units.specs.declared.plans.AttributeStep.{AttributeStep}
+use Rattle.dwarf_units.specs.declared.steps.AttributeStep.{AttributeStep}
 use Rattle.dwarf_units.specs.Private.Plans.{step_before}
 use Rattle.dwarf_units.proofs.PlanTurns.{made-none, made-more}
 use Rattle.dwarf_units.proofs.plans.steps.Goals as goal

@@ -1,0 +1,125 @@
+//! The steps by which the attributes of an entry are read.
+
+ghost use Rattle.std.specs.Prelude.{◌≡◌};
+ghost use Rattle.dwarf_bytes.specs.Forms.{byte_len};
+ghost use Rattle.dwarf_units.specs.Private.Plans.{layout_len, constant_len, fixed_len, step_of, joined, is_plain, known_layout};
+
+use crate::attributes::{accepts, is_negative_count, is_used};
+use dwarf_bytes::{Content, Form, Format, ValueLayout, Width};
+use dwarf_forms::AttributeSpecification;
+
+/// A step of reading the attributes of an entry.
+#[derive(Clone, Copy)]
+pub(crate) enum AttributeStep {
+    /// So many bytes are passed over.
+    Skip(u16),
+    /// An attribute is read and not kept. It is judged, unless a layout is known in which none of
+    /// its values is refused.
+    Pass(AttributeSpecification, Option<ValueLayout>),
+    /// An attribute is read and kept. It is judged, unless such a layout is known.
+    Keep(AttributeSpecification, Option<ValueLayout>),
+}
+
+/// One step in place of two, where both pass over bytes.
+pub(crate) fn joined(step: AttributeStep, next: AttributeStep) -> Option<AttributeStep>
+    ensures { result ≡ joined step next }
+{
+    match (step, next) {
+        (AttributeStep::Skip(len), AttributeStep::Skip(behind)) => {
+            let both = len.checked_add(behind)?;
+            Some(AttributeStep::Skip(both))
+        }
+        _ => None,
+    }
+}
+
+/// The step of an attribute.
+pub(crate) fn step_of(
+    keep: bool,
+    format: Format,
+    specification: &AttributeSpecification,
+) -> AttributeStep
+    ensures { result ≡ step_of keep format specification.now }
+{
+    if keep && is_used(specification.name) {
+        return AttributeStep::Keep(*specification, known_layout(specification));
+    }
+    match fixed_len(format, specification) {
+        Some(len) => AttributeStep::Skip(len),
+        None => AttributeStep::Pass(*specification, known_layout(specification)),
+    }
+}
+
+/// The layout of the values of an attribute, where none of them is refused.
+fn known_layout(specification: &AttributeSpecification) -> Option<ValueLayout>
+    ensures { result ≡ known_layout specification.now }
+{
+    if !accepts(specification.name, specification.form) {
+        return None;
+    }
+    match Form::of(specification.form)? {
+        Form::Direct(layout) if is_plain(layout) || !is_used(specification.name) => Some(layout),
+        _ => None,
+    }
+}
+
+/// Whether the values of a layout are numbers from 0 up, or texts.
+fn is_plain(layout: ValueLayout) -> bool
+    ensures { result ≡ is_plain layout }
+{
+    matches!(
+        layout,
+        ValueLayout::Fixed(_) | ValueLayout::Offset | ValueLayout::Unsigned | ValueLayout::Text
+    )
+}
+
+/// The bytes that the value of an attribute always takes, where only a lack of bytes refuses it.
+#[tactic(auto, unfolding(crate::specs::Private::Plans::fixed_len))]
+fn fixed_len(format: Format, specification: &AttributeSpecification) -> Option<u16>
+    ensures { result ≡ fixed_len format specification.now }
+{
+    if !accepts(specification.name, specification.form) {
+        return None;
+    }
+    match Form::of(specification.form)? {
+        Form::Direct(layout) => layout_len(format, layout),
+        Form::ImplicitConst => constant_len(specification),
+        Form::Indirect => None,
+    }
+}
+
+/// The same of a value that stands in the declaration.
+fn constant_len(specification: &AttributeSpecification) -> Option<u16>
+    ensures { result ≡ constant_len specification.now }
+{
+    let constant = Content::Signed(specification.constant?);
+    if is_negative_count(specification.name, constant) {
+        return None;
+    }
+    Some(0)
+}
+
+/// The same of a value in a layout.
+fn layout_len(format: Format, layout: ValueLayout) -> Option<u16>
+    ensures { result ≡ layout_len format layout }
+{
+    match layout {
+        ValueLayout::Fixed(width) => Some(byte_len(width)),
+        ValueLayout::Offset => Some(format.offset_len() as u16),
+        ValueLayout::Present => Some(0),
+        ValueLayout::Sixteen => Some(16),
+        _ => None,
+    }
+}
+
+fn byte_len(width: Width) -> u16
+    ensures { result ≡ byte_len width }
+{
+    match width {
+        Width::One => 1,
+        Width::Two => 2,
+        Width::Three => 3,
+        Width::Four => 4,
+        Width::Eight => 8,
+    }
+}
