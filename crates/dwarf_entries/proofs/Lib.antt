@@ -11,6 +11,7 @@ pub mod RootNumbers
 pub mod ScopesPass
 pub mod ReferenceLaws
 pub mod PathLaws
+pub mod KnownLaws
 pub mod KeptNodes
 pub mod OrderLaws
 pub mod BelowLaws

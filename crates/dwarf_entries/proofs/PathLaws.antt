@@ -21,7 +21,8 @@ use Rattle.dwarf_entries.specs.declared.paths.EntryNames.{EntryNames}
 use Rattle.dwarf_entries.specs.Sections.{Sections}
 use Rattle.dwarf_units.specs.Entries.{attribute}
 use Rattle.dwarf_entries.specs.Bases.{CompilationUnit, optional}
-use Rattle.dwarf_entries.specs.Names.{Member, or_else, next_of, target_of, path_within, path_of, of_member, first_on, text_of, name_on, names_of, hops_limit}
+use Rattle.dwarf_entries.specs.Names.{Member, or_else, next_of, target_of, path_within, of_member, first_on, text_of, name_on}
+use Rattle.dwarf_entries.specs.Private.KnownNames.{names_within}
 use Rattle.dwarf_entries.specs.Private.Members.{IsMember, IsPlaceOf, Finds, IsFirst, AreFirst, FindsFirst, str_offsets_of}
 
 -- ---- the first attribute of a name
@@ -65,15 +66,15 @@ abbrev behind : List Member → Result (List Member) Cause → Result (List Memb
 behind before r = r >>= λ rest. Ok (before ++ rest)
 
 -- how far a path was followed: its entries up to the last one, and what is kept of their names
-pub record Followed (units : List CompilationUnit) (m : Member) (left : ℕ) (found : UnitEntry) (firsts : FirstNames) : Type 0 where
+pub record Followed (units : List CompilationUnit) (hops : ℕ) (m : Member) (left : ℕ) (found : UnitEntry) (firsts : FirstNames) : Type 0 where
   pub before : List Member
   pub last : Member
   pub at : IsMember units found.unit found.entry last
-  pub rest : path_of units m ≡ behind before (path_within left units last)
+  pub rest : path_within hops units m ≡ behind before (path_within left units last)
   pub kept : AreFirst units firsts (before ++ last ∷ [])
 
-pub followed-none : (units : List CompilationUnit) (m : Member) (found : UnitEntry) (firsts : FirstNames) → IsMember units found.unit found.entry m → AreFirst units firsts ([] ++ m ∷ []) → Followed units m hops_limit found firsts
-followed-none units m found firsts at kept = record { before = []; last = m; at = at; rest = whole (path_of units m); kept = kept }
+pub followed-none : (units : List CompilationUnit) (hops : ℕ) (m : Member) (found : UnitEntry) (firsts : FirstNames) → IsMember units found.unit found.entry m → AreFirst units firsts ([] ++ m ∷ []) → Followed units hops m hops found firsts
+followed-none units hops m found firsts at kept = record { before = []; last = m; at = at; rest = whole (path_within hops units m); kept = kept }
   where
     whole : (r : Result (List Member) Cause) → r ≡ behind [] r
     whole (Ok path) = refl
@@ -113,10 +114,10 @@ pub stopped : (units : List CompilationUnit) (last : Member) (reference : Attrib
 unfolding path_within
 stopped units last reference is = rw (is, path_within) refl
 
-pub followed-next : (units : List CompilationUnit) (m : Member) (left after : ℕ) (found next : UnitEntry) (place : UnitPlace) (firsts firsts_after : FirstNames) (reference : AttributeValue) → Followed units m left found firsts → after + 1 ≡ left → found.entry.next ≡ Some reference →
+pub followed-next : (units : List CompilationUnit) (hops : ℕ) (m : Member) (left after : ℕ) (found next : UnitEntry) (place : UnitPlace) (firsts firsts_after : FirstNames) (reference : AttributeValue) → Followed units hops m left found firsts → after + 1 ≡ left → found.entry.next ≡ Some reference →
     ((u : CompilationUnit) → slice_get units found.unit ≡ Some u → Finds units (Some place) (target_of units u reference)) → ((n : Member) → IsPlaceOf units place n → IsMember units next.unit next.entry n) →
-    ((path : List Member) (n : Member) → AreFirst units firsts path → IsMember units next.unit next.entry n → AreFirst units firsts_after (path ++ n ∷ [])) → Followed units m after next firsts_after
-followed-next units m left after found next place firsts firsts_after reference so_far left_is is finds again more =
+    ((path : List Member) (n : Member) → AreFirst units firsts path → IsMember units next.unit next.entry n → AreFirst units firsts_after (path ++ n ∷ [])) → Followed units hops m after next firsts_after
+followed-next units hops m left after found next place firsts firsts_after reference so_far left_is is finds again more =
     let to = finds so_far.last.unit so_far.at.unit_is in
     let hop = next-is units found so_far.last (Some reference) so_far.at is in
     record {
@@ -127,20 +128,20 @@ followed-next units m left after found next place firsts firsts_after reference 
       kept = more (so_far.before ++ so_far.last ∷ []) to.0 so_far.kept (again to.0 to.2);
     }
 
-pub followed-end : (units : List CompilationUnit) (m : Member) (left : ℕ) (found : UnitEntry) (firsts : FirstNames) → Followed units m left found firsts → found.entry.next ≡ None → FindsFirst units (Ok firsts) (path_of units m)
-followed-end units m left found firsts so_far is =
+pub followed-end : (units : List CompilationUnit) (hops : ℕ) (m : Member) (left : ℕ) (found : UnitEntry) (firsts : FirstNames) → Followed units hops m left found firsts → found.entry.next ≡ None → FindsFirst units (Ok firsts) (path_within hops units m)
+followed-end units hops m left found firsts so_far is =
     let last = next-is units found so_far.last None so_far.at is in
     (so_far.before ++ so_far.last ∷ [], so_far.rest ∙ ap (λ (r : Result (List Member) Cause). behind so_far.before r) (ended units left so_far.last last), so_far.kept)
 
-pub followed-deep : (units : List CompilationUnit) (m : Member) (left : ℕ) (found : UnitEntry) (firsts : FirstNames) (reference : AttributeValue) → Followed units m left found firsts → left ≡ 0 → found.entry.next ≡ Some reference → path_of units m ≡ Err causes.OriginDepth
-followed-deep units m left found firsts reference so_far none is =
+pub followed-deep : (units : List CompilationUnit) (hops : ℕ) (m : Member) (left : ℕ) (found : UnitEntry) (firsts : FirstNames) (reference : AttributeValue) → Followed units hops m left found firsts → left ≡ 0 → found.entry.next ≡ Some reference → path_within hops units m ≡ Err causes.OriginDepth
+followed-deep units hops m left found firsts reference so_far none is =
     let hop = next-is units found so_far.last (Some reference) so_far.at is in
     so_far.rest ∙ (ap (λ (k : ℕ). behind so_far.before (path_within k units so_far.last)) none ∙ ap (λ (r : Result (List Member) Cause). behind so_far.before r) (stopped units so_far.last reference hop))
 
-pub followed-lost : (units : List CompilationUnit) (m : Member) (left after : ℕ) (found : UnitEntry) (firsts : FirstNames) (reference : AttributeValue) → Followed units m left found firsts → after + 1 ≡ left → found.entry.next ≡ Some reference →
-    (next : Option UnitPlace) (cause : Cause) → (let refused : Result UnitPlace Cause = Err cause in refused ≡ ok_or next causes.Reference) → ((u : CompilationUnit) → slice_get units found.unit ≡ Some u → Finds units next (target_of units u reference)) → path_of units m ≡ Err cause
-followed-lost units m left after found firsts reference so_far left_is is (Some next) cause refused finds = cc
-followed-lost units m left after found firsts reference so_far left_is is None cause refused finds =
+pub followed-lost : (units : List CompilationUnit) (hops : ℕ) (m : Member) (left after : ℕ) (found : UnitEntry) (firsts : FirstNames) (reference : AttributeValue) → Followed units hops m left found firsts → after + 1 ≡ left → found.entry.next ≡ Some reference →
+    (next : Option UnitPlace) (cause : Cause) → (let refused : Result UnitPlace Cause = Err cause in refused ≡ ok_or next causes.Reference) → ((u : CompilationUnit) → slice_get units found.unit ≡ Some u → Finds units next (target_of units u reference)) → path_within hops units m ≡ Err cause
+followed-lost units hops m left after found firsts reference so_far left_is is (Some next) cause refused finds = cc
+followed-lost units hops m left after found firsts reference so_far left_is is None cause refused finds =
     let lost = finds so_far.last.unit so_far.at.unit_is in
     let hop = next-is units found so_far.last (Some reference) so_far.at is in
     let same : causes.Reference ≡ cause = same_err {X = UnitPlace} cause causes.Reference refused in
@@ -150,9 +151,9 @@ followed-lost units m left after found firsts reference so_far left_is is None c
     same_err x y h = cc
 
 -- where the entry at the end of a hop is not read again, memory is wanting
-pub followed-again : (units : List CompilationUnit) (m : Member) (left : ℕ) (found : UnitEntry) (place : UnitPlace) (firsts : FirstNames) (reference : AttributeValue) (cause : Cause) → Followed units m left found firsts →
+pub followed-again : (units : List CompilationUnit) (hops : ℕ) (m : Member) (left : ℕ) (found : UnitEntry) (place : UnitPlace) (firsts : FirstNames) (reference : AttributeValue) (cause : Cause) → Followed units hops m left found firsts →
     ((u : CompilationUnit) → slice_get units found.unit ≡ Some u → Finds units (Some place) (target_of units u reference)) → ((n : Member) → IsPlaceOf units place n → cause ≡ causes.Memory) → cause ≡ causes.Memory
-followed-again units m left found place firsts reference cause so_far finds again = let to = finds so_far.last.unit so_far.at.unit_is in again to.0 to.2
+followed-again units hops m left found place firsts reference cause so_far finds again = let to = finds so_far.last.unit so_far.at.unit_is in again to.0 to.2
 
 -- ---- the texts
 
@@ -175,9 +176,9 @@ abbrev pub both_names : Result (Option Text) Cause → Result (Option Text) Caus
 both_names name linkage_name = name >>= λ n. linkage_name >>= λ l. Ok (record { name = n; linkage_name = l })
 
 -- the names of a member, by what was kept on its path
-pub names-found : (s : Sections) (bases : List Bases) (units : List CompilationUnit) (m : Member) (firsts : FirstNames) → bases ≡ map (λ (u : CompilationUnit). u.bases) units → FindsFirst units (Ok firsts) (path_of units m) →
-    (name linkage_name : Result (Option Text) Cause) → name ≡ text_kept s bases firsts.name → linkage_name ≡ text_kept s bases firsts.linkage_name → both_names name linkage_name ≡ names_of s units m
-names-found s bases units m firsts are found name linkage_name name_is linkage_is =
+pub names-found : (s : Sections) (bases : List Bases) (units : List CompilationUnit) (hops : ℕ) (m : Member) (firsts : FirstNames) → bases ≡ map (λ (u : CompilationUnit). u.bases) units → FindsFirst units (Ok firsts) (path_within hops units m) →
+    (name linkage_name : Result (Option Text) Cause) → name ≡ text_kept s bases firsts.name → linkage_name ≡ text_kept s bases firsts.linkage_name → both_names name linkage_name ≡ names_within hops s units m
+names-found s bases units hops m firsts are found name linkage_name name_is linkage_is =
     let path = found.0 in
     let first : name ≡ name_on DW_AT_NAME s path = name_is ∙ text-is s bases units are firsts.name (first_on DW_AT_NAME path) found.2.name in
     let second : linkage_name ≡ name_on DW_AT_LINKAGE_NAME s path = linkage_is ∙ text-is s bases units are firsts.linkage_name (first_on DW_AT_LINKAGE_NAME path) found.2.linkage_name in
@@ -186,7 +187,7 @@ names-found s bases units m firsts are found name linkage_name name_is linkage_i
     ∙ ap (λ (p : Result (List Member) Cause). p >>= λ path. both_names (name_on DW_AT_NAME s path) (name_on DW_AT_LINKAGE_NAME s path)) (sym found.1))
 
 -- a path that is not followed has no names
-pub path-fails : (s : Sections) (units : List CompilationUnit) (m : Member) (cause : Cause) → Fails cause (path_of units m) → Fails cause (names_of s units m)
-path-fails s units m cause (inl memory) = inl memory
-path-fails s units m cause (inr bad) =
+pub path-fails : (s : Sections) (units : List CompilationUnit) (hops : ℕ) (m : Member) (cause : Cause) → Fails cause (path_within hops units m) → Fails cause (names_within hops s units m)
+path-fails s units hops m cause (inl memory) = inl memory
+path-fails s units hops m cause (inr bad) =
     inr (ap (λ (p : Result (List Member) Cause). p >>= λ path. both_names (name_on DW_AT_NAME s path) (name_on DW_AT_LINKAGE_NAME s path)) bad)

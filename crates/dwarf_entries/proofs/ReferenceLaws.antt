@@ -216,7 +216,7 @@ any-find {X} p (x ∷ xs) = by_test (p x) (any-find p xs)
     by_test false h = h
 
 -- what is found stands in the list, and passes
-find-index : (p : Die → Bool) (dies : List Die) (die : Die) → find p dies ≡ Some die → (i : ℕ) × (slice_get dies i ≡ Some die) × (p die ≡ true)
+pub find-index : (p : Die → Bool) (dies : List Die) (die : Die) → find p dies ≡ Some die → (i : ℕ) × (slice_get dies i ≡ Some die) × (p die ≡ true)
 find-index p [] die h = cc
 find-index p (d ∷ dies) die h = by_test (p d) refl h (λ later. find-index p dies die later)
   where
@@ -274,7 +274,7 @@ finds-inside kept units are marks all n offset k lt is low high marked marked_is
     by_die (Some d) here false same outcome = cc
     by_die (Some d) here true same outcome =
         let there = find-index of_die u.dies d here in
-        (member_of u d, outcome, record { unit_is = at.is; offset_is = eqb-true d.offset offset there.2; index = there.0; there = there.1 })
+        (member_of u d, outcome, record { unit_is = at.is; offset_is = eqb-true d.offset offset there.2; index = there.0; there = there.1; found = outcome })
 
 -- ---- the entry that a reference names
 

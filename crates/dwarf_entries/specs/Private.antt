@@ -7,6 +7,7 @@ pub mod Marks
 pub mod Named
 pub mod Texts
 pub mod Members
+pub mod KnownNames
 pub mod Readers
 pub mod Shared
 pub mod Passes

@@ -6,9 +6,10 @@ ghost use Rattle.std.specs.List.Sorted.{IsNonDecreasingBy, IsPartitionPoint};
 ghost use Rattle.dwarf_entries.specs.Sections.{Sections as SectionBytes, sections_of};
 ghost use Rattle.dwarf_entries.specs.Private.Texts.{AreTexts};
 ghost use Rattle.dwarf_entries.specs.Bases.{CompilationUnit, optional};
-ghost use Rattle.dwarf_entries.specs.Names.{Member, target_of, path_of, text_of, names_of};
+ghost use Rattle.dwarf_entries.specs.Names.{Member, target_of, path_within, text_of};
 ghost use Rattle.dwarf_bytes.specs.Refusals.{Gives};
 ghost use Rattle.dwarf_entries.specs.Private.Again.{AreReadIn, IsReaderOf};
+ghost use Rattle.dwarf_entries.specs.Private.KnownNames.{names_within};
 ghost use Rattle.dwarf_entries.specs.Private.Marks.{AreMarked};
 ghost use Rattle.dwarf_entries.specs.Private.Members.{AreKept, IsMember, IsPlaceOf, Finds, TellsMember, member_in, AreFirst, FindsFirst, str_offsets_of};
 
@@ -19,12 +20,13 @@ use crate::marks::Marks;
 use crate::names::text_of;
 use crate::sections::Sections;
 use crate::texts::Texts;
+use crate::unit_scopes::Units;
 use dwarf_bytes::constants::DW_FORM_REF_ADDR;
 use dwarf_bytes::{Cause, Text};
 use dwarf_units::{AttributeValue, UnitHeader};
 
 /// The hops that a path may have.
-const HOPS_LIMIT: u32 = 16;
+pub(crate) const HOPS_LIMIT: u32 = 16;
 
 /// An entry, with the number of its unit.
 #[derive(Clone, Copy)]
@@ -76,27 +78,26 @@ pub(crate) struct EntryNames {
 }
 
 /// The names of an entry of a unit: of each attribute the first on the path from the entry to its
-/// next one, and so on. The path is followed to its end before a name is judged.
-pub(crate) fn names(
-    sections: &Sections<'_>,
-    texts: &Texts<'_>,
-    units: &[UnitEntries],
-    marks: &Marks,
-    bases: &[Bases],
+/// next one, and so on, in at most so many hops. The path is followed to its end before a name is
+/// judged.
+pub(crate) fn path_names(
+    of: Units<'_>,
     reader: &mut EntryReader<'_>,
     start: UnitEntry,
+    hops: u32,
 ) -> Result<EntryNames, Cause>
-    requires { AreTexts (sections_of sections.now) texts.now }
-    ensures names { (us : List CompilationUnit) → AreKept units.now us → AreMarked marks.now us
-        → bases.now ≡ map (λ u. u.bases) us → AreReadIn (sections_of sections.now) us
-        → IsReaderOf (sections_of sections.now) reader.old
-        → (m : Member) → IsMember us start.unit start.entry m
-        → Gives (λ names. names) result (names_of (sections_of sections.now) us m) }
+    requires { AreTexts (sections_of of.sections.now) of.texts.now }
+    ensures names { (us : List CompilationUnit) → AreKept of.entry.units.now us
+        → AreMarked of.entry.marks.now us → of.entry.bases.now ≡ map (λ u. u.bases) us
+        → AreReadIn (sections_of of.entry.sections.now) us
+        → IsReaderOf (sections_of of.entry.sections.now) reader.old
+        → (m : Member) → IsMember us start.unit start.entry m → Gives (λ names. names) result
+        (names_within hops (sections_of of.entry.sections.now) us m) }
     ensures reader { (s : SectionBytes) → IsReaderOf s reader.old → IsReaderOf s reader.new }
 {
-    let firsts = first_names(units, marks, reader, start)?;
-    let name = text(sections, texts, bases, firsts.name)?;
-    let linkage_name = text(sections, texts, bases, firsts.linkage_name)?;
+    let firsts = first_names(of.units, of.marks, reader, start, hops)?;
+    let name = text(of.sections, of.texts, of.bases, firsts.name)?;
+    let linkage_name = text(of.sections, of.texts, of.bases, firsts.linkage_name)?;
     Ok(EntryNames { name, linkage_name })
 }
 
@@ -118,17 +119,18 @@ fn text(
     Ok(Some(text_of(sections, texts, str_offsets, found.value)?))
 }
 
-/// The first names on the path of an entry.
+/// The first names on the path of an entry, in at most so many hops.
 fn first_names(
     units: &[UnitEntries],
     marks: &Marks,
     reader: &mut EntryReader<'_>,
     start: UnitEntry,
+    hops: u32,
 ) -> Result<FirstNames, Cause>
     ensures names { (s : SectionBytes) (us : List CompilationUnit) → AreKept units.now us
         → AreMarked marks.now us → AreReadIn s us → IsReaderOf s reader.old
         → (m : Member) → IsMember us start.unit start.entry m
-        → FindsFirst us result (path_of us m) }
+        → FindsFirst us result (path_within hops us m) }
     ensures reader { (s : SectionBytes) → IsReaderOf s reader.old → IsReaderOf s reader.new }
 {
     let none = FirstNames {
@@ -137,7 +139,7 @@ fn first_names(
     };
     let mut firsts = none.or(start);
     let mut last = start;
-    let mut left = HOPS_LIMIT;
+    let mut left = hops;
     while let Some(reference) = last.entry.next {
         if left == 0 {
             return Err(Cause::OriginDepth);
@@ -151,7 +153,7 @@ fn first_names(
 }
 
 /// The entry at a place, read again.
-fn entry_again(
+pub(crate) fn entry_again(
     units: &[UnitEntries],
     marks: &Marks,
     reader: &mut EntryReader<'_>,
@@ -186,7 +188,7 @@ fn first(
 
 /// Where the entry stands that a reference in a unit names, if it names one: an offset into
 /// `.debug_info`, or one that counts from the first byte of the unit.
-fn target(
+pub(crate) fn target(
     units: &[UnitEntries],
     marks: &Marks,
     unit: usize,

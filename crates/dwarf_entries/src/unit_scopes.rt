@@ -1,6 +1,6 @@
 //! The pass over the scopes of all units (DWARF 5, 3.3): their names, then their ranges.
 
-ghost use Rattle.std.specs.Prelude.{◌≡◌, ◌≤◌, ◌<◌, ◌+◌, ◌^◌, List, Some, length, slice_get, IfOk};
+ghost use Rattle.std.specs.Prelude.{◌≡◌, ◌≤◌, ◌<◌, ◌+◌, ◌^◌, List, Some, length, slice_get, IfOk, OnOk};
 ghost use Rattle.dwarf_bytes.specs.declared.fault.Section.TheVariants as names;
 ghost use Rattle.dwarf_bytes.specs.Refusals.{Decodes, in_section};
 ghost use Rattle.dwarf_entries.specs.Sections.{Sections as SectionBytes, sections_of};
@@ -10,14 +10,16 @@ ghost use Rattle.dwarf_entries.specs.Scopes.{Judged, ScopeSite, scope_at, sites_
 ghost use Rattle.dwarf_entries.specs.Private.Passes.{AreUnits, IsRootOf, IsScopeSite, AreJudged, AddsScopes, scope_facts, all_scopes};
 ghost use Rattle.dwarf_entries.specs.Private.Marks.{AreMarked};
 ghost use Rattle.dwarf_entries.specs.Private.Again.{AreReadIn, IsReaderOf};
+ghost use Rattle.dwarf_entries.specs.Private.KnownNames.{AreKnownOf};
 ghost use Rattle.dwarf_entries.specs.Private.Shared.{AddsFacts};
 
 use crate::again::EntryReader;
 use crate::bases::Bases;
 use crate::calls::CallSite;
 use crate::kept::{ScopeEntry, UnitEntries};
+use crate::known_names::KnownNames;
 use crate::marks::Marks;
-use crate::paths::{EntryNames, UnitEntry, names};
+use crate::paths::{EntryNames, UnitEntry};
 use crate::ranges::covers;
 use crate::scope::{Range, ScopeFacts};
 use crate::scope_lists::ScopeLists;
@@ -55,6 +57,7 @@ impl<'a> Units<'a> {
     fn scope(
         self,
         reader: &mut EntryReader<'_>,
+        known: &mut KnownNames,
         numbers: ScopeNumbers,
         entry: &ScopeEntry,
         room: u64,
@@ -70,9 +73,17 @@ impl<'a> Units<'a> {
             → IsScopeSite us numbers entry.now room before p
             → AreReadIn (sections_of self.entry.sections.now) us
             → IsReaderOf (sections_of self.entry.sections.now) reader.old
+            → AreKnownOf (sections_of self.entry.sections.now) us known.old
             → AddsFacts (roots_from 0 us) result ranges.old.items ranges.new.items (scope_at
             (sections_of self.entry.sections.now) us before p) }
         ensures room { IfOk result (λ found. found.1 ≤ room) }
+        ensures known { OnOk result ((us : List CompilationUnit)
+            → AreUnits self.entry.units.now self.entry.bases.now us
+            → AreMarked self.entry.marks.now us
+            → AreReadIn (sections_of self.entry.sections.now) us
+            → IsReaderOf (sections_of self.entry.sections.now) reader.old
+            → AreKnownOf (sections_of self.entry.sections.now) us known.old
+            → AreKnownOf (sections_of self.entry.sections.now) us known.new) }
         ensures reader { (s : SectionBytes) → IsReaderOf s reader.old → IsReaderOf s reader.new }
     {
         let unit = numbers.unit;
@@ -80,15 +91,7 @@ impl<'a> Units<'a> {
             unit,
             entry: entry.entry,
         };
-        let names = names(
-            self.sections,
-            self.texts,
-            self.units,
-            self.marks,
-            self.bases,
-            reader,
-            start,
-        )?;
+        let names = self.names(reader, known, start)?;
         let items = covers(room, self.sections, &self.bases[unit], entry, ranges)?;
         Ok((facts(numbers, entry, names), items))
     }
@@ -98,6 +101,7 @@ impl<'a> Units<'a> {
     fn unit_scopes(
         self,
         reader: &mut EntryReader<'_>,
+        known: &mut KnownNames,
         unit: usize,
         root: usize,
         left: &mut u64,
@@ -111,10 +115,18 @@ impl<'a> Units<'a> {
             → AreMarked self.entry.marks.now us
             → AreReadIn (sections_of self.entry.sections.now) us
             → IsReaderOf (sections_of self.entry.sections.now) reader.old
+            → AreKnownOf (sections_of self.entry.sections.now) us known.old
             → slice_get us unit ≡ Some u → IsRootOf us root u
             → AreJudged (roots_from 0 us) before lists.old left.old
             → AddsScopes result (sections_of self.entry.sections.now) us
             (sites_in u u.dies) before lists.new left.new }
+        ensures known { OnOk result ((us : List CompilationUnit)
+            → AreUnits self.entry.units.now self.entry.bases.now us
+            → AreMarked self.entry.marks.now us
+            → AreReadIn (sections_of self.entry.sections.now) us
+            → IsReaderOf (sections_of self.entry.sections.now) reader.old
+            → AreKnownOf (sections_of self.entry.sections.now) us known.old
+            → AreKnownOf (sections_of self.entry.sections.now) us known.new) }
         ensures reader { (s : SectionBytes) → IsReaderOf s reader.old → IsReaderOf s reader.new }
     {
         let kept = &self.units[unit];
@@ -130,7 +142,7 @@ impl<'a> Units<'a> {
                 number: lists.scopes.len(),
                 inside: place.inside as usize,
             };
-            match self.scope(reader, numbers, &entry, *left, &mut lists.ranges) {
+            match self.scope(reader, known, numbers, &entry, *left, &mut lists.ranges) {
                 Err(cause) => return Err(LoadFault::told(Section::DebugInfo, cause, at)),
                 Ok((facts, items)) => {
                     *left -= items;
@@ -159,10 +171,11 @@ impl<'a> Units<'a> {
         ensures reader { (s : SectionBytes) → IsReaderOf s reader.old → IsReaderOf s reader.new }
     {
         let mut left = ITEMS_LIMIT;
+        let mut known = KnownNames::new(alloc);
         let mut root = 0;
         let mut lists = ScopeLists::new(alloc, scope_count(self.units))?;
         for unit in 0..self.units.len() {
-            self.unit_scopes(reader, unit, root, &mut left, &mut lists)?;
+            self.unit_scopes(reader, &mut known, unit, root, &mut left, &mut lists)?;
             if self.units[unit].root.is_some() {
                 root += 1;
             }

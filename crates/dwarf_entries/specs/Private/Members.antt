@@ -36,12 +36,17 @@ pub record IsMember (units : List CompilationUnit) (number : ℕ) (entry : Named
   pub unit_is : slice_get units number ≡ Some m.unit
   pub entry_is : entry ≡ named_entry m.die
 
+-- the entry at an offset of .debug_info, among those of the unit of the number, if there is one
+abbrev pub member_in : List CompilationUnit → ℕ → ℕ → Result Member Cause
+member_in units number offset = member_at (members_of (option_to_list (slice_get units number))) offset
+
 -- the member stands at the place
 pub record IsPlaceOf (units : List CompilationUnit) (place : UnitPlace) (m : Member) : Type 0 where
   pub unit_is : slice_get units place.unit ≡ Some m.unit
   pub offset_is : m.die.offset ≡ place.offset
   pub index : ℕ
   pub there : slice_get m.unit.dies index ≡ Some m.die
+  pub found : member_in units place.unit place.offset ≡ Ok m
 
 -- what is read again is what is kept of the member, unless memory ran out
 abbrev pub TellsMember : List CompilationUnit → Result UnitEntry Cause → Member → Type 0
@@ -52,10 +57,6 @@ TellsMember units (Err cause) m = cause ≡ causes.Memory
 abbrev pub Finds : List CompilationUnit → Option UnitPlace → Result Member Cause → Type 0
 Finds units (Some place) outcome = (m : Member) × (outcome ≡ Ok m) × IsPlaceOf units place m
 Finds units None outcome = outcome ≡ Err causes.Reference
-
--- the entry at an offset of .debug_info, among those of the unit of the number, if there is one
-abbrev pub member_in : List CompilationUnit → ℕ → ℕ → Result Member Cause
-member_in units number offset = member_at (members_of (option_to_list (slice_get units number))) offset
 
 -- what is kept of the first attribute of a name on a path: its value, in the unit of the number
 abbrev pub IsFirst : List CompilationUnit → Option UnitAttribute → Option (CompilationUnit × AttributeValue) → Type 0

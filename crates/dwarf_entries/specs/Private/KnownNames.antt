@@ -1,0 +1,42 @@
+-- The names to which references led, for the contracts of the pass over scopes.
+use Rattle.std.specs.Prelude.{◌≡◌, ℕ, ◌%◌, List, Option, Some, None, Result, Ok, get_or}
+use Rattle.dwarf_bytes.specs.declared.constants.TheConstants.{DW_AT_LINKAGE_NAME, DW_AT_NAME}
+use Rattle.dwarf_bytes.specs.declared.fault.Cause.{Cause}
+use Rattle.dwarf_bytes.specs.Bind.{◌>>=◌}
+use Rattle.dwarf_units.specs.declared.attributes.AttributeValue.{AttributeValue}
+use Rattle.dwarf_entries.specs.declared.known_names.KnownNames.{KnownNames}
+use Rattle.dwarf_entries.specs.declared.known_names.LedNames.{LedNames}
+use Rattle.dwarf_entries.specs.declared.paths.EntryNames.{EntryNames}
+use Rattle.dwarf_entries.specs.declared.paths.UnitPlace.{UnitPlace}
+use Rattle.dwarf_entries.specs.Sections.{Sections}
+use Rattle.dwarf_entries.specs.Bases.{CompilationUnit}
+use Rattle.dwarf_entries.specs.Names.{Member, target_of, path_within, name_on}
+use Rattle.dwarf_entries.specs.Private.Members.{member_in}
+
+-- the slot of a place
+abbrev pub slot_of : UnitPlace → ℕ
+slot_of place = place.offset % 4096
+
+-- what stands at a slot
+abbrev pub slot_at : KnownNames → ℕ → Option LedNames
+slot_at known slot = get_or known.slots.items slot None
+
+-- the names of an entry whose path has at most so many hops
+abbrev pub names_within : ℕ → Sections → List CompilationUnit → Member → Result EntryNames Cause
+names_within hops s units m = do
+  path ← path_within hops units m
+  name ← name_on DW_AT_NAME s path
+  linkage_name ← name_on DW_AT_LINKAGE_NAME s path
+  Ok (record { name = name; linkage_name = linkage_name })
+
+-- the names to which an entry leads that is the second on a path
+abbrev pub led_names : Sections → List CompilationUnit → Member → Result EntryNames Cause
+led_names = names_within 15
+
+-- .. to which a reference in a unit leads
+abbrev pub names_behind : Sections → List CompilationUnit → CompilationUnit → AttributeValue → Result EntryNames Cause
+names_behind s units unit reference = target_of units unit reference >>= λ m. led_names s units m
+
+-- What is known of a place are the names to which the entry there leads.
+abbrev pub AreKnownOf : Sections → List CompilationUnit → KnownNames → Type 0
+AreKnownOf s units known = (slot : ℕ) (led : LedNames) → slot_at known slot ≡ Some led → (m : Member) → member_in units led.place.unit led.place.offset ≡ Ok m → led_names s units m ≡ Ok led.names

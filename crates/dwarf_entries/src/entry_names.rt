@@ -1,0 +1,102 @@
+//! The names of an entry, of which those to which references led before are known.
+
+ghost use Rattle.std.specs.Prelude.{◌≡◌, List, None, Some, IfSome, map, slice_get};
+ghost use Rattle.dwarf_bytes.specs.Refusals.{Gives};
+ghost use Rattle.dwarf_entries.specs.Sections.{Sections as SectionBytes, sections_of};
+ghost use Rattle.dwarf_entries.specs.Bases.{CompilationUnit};
+ghost use Rattle.dwarf_entries.specs.Names.{Member, names_of};
+ghost use Rattle.dwarf_entries.specs.Private.Again.{AreReadIn, IsReaderOf};
+ghost use Rattle.dwarf_entries.specs.Private.KnownNames.{AreKnownOf, names_behind};
+ghost use Rattle.dwarf_entries.specs.Private.Marks.{AreMarked};
+ghost use Rattle.dwarf_entries.specs.Private.Members.{AreKept, IsMember};
+ghost use Rattle.dwarf_entries.specs.Private.Texts.{AreTexts};
+
+use crate::again::EntryReader;
+use crate::kept::NamedEntry;
+use crate::known_names::KnownNames;
+use crate::paths::{EntryNames, HOPS_LIMIT, UnitEntry, entry_again, path_names, target};
+use crate::unit_scopes::Units;
+use dwarf_bytes::Cause;
+use dwarf_units::AttributeValue;
+
+impl<'a> Units<'a> {
+    /// The names of an entry of a unit: of each attribute the first on the path from the entry to
+    /// its next one, and so on. The path of an entry without names of its own is followed once for
+    /// all entries that have the same next one, as far as it is known.
+    pub(crate) fn names(
+        self,
+        reader: &mut EntryReader<'_>,
+        known: &mut KnownNames,
+        start: UnitEntry,
+    ) -> Result<EntryNames, Cause>
+        requires { AreTexts (sections_of self.sections.now) self.texts.now }
+        ensures names { (us : List CompilationUnit) → AreKept self.entry.units.now us
+            → AreMarked self.entry.marks.now us
+            → self.entry.bases.now ≡ map (λ u. u.bases) us
+            → AreReadIn (sections_of self.entry.sections.now) us
+            → IsReaderOf (sections_of self.entry.sections.now) reader.old
+            → AreKnownOf (sections_of self.entry.sections.now) us known.old
+            → (m : Member) → IsMember us start.unit start.entry m → Gives (λ names. names) result
+            (names_of (sections_of self.entry.sections.now) us m) }
+        ensures known { (us : List CompilationUnit) → AreKept self.entry.units.now us
+            → AreMarked self.entry.marks.now us
+            → self.entry.bases.now ≡ map (λ u. u.bases) us
+            → AreReadIn (sections_of self.entry.sections.now) us
+            → IsReaderOf (sections_of self.entry.sections.now) reader.old
+            → AreKnownOf (sections_of self.entry.sections.now) us known.old
+            → AreKnownOf (sections_of self.entry.sections.now) us known.new }
+        ensures reader { (s : SectionBytes) → IsReaderOf s reader.old → IsReaderOf s reader.new }
+    {
+        if let Some(reference) = reference_to_names(&start.entry) {
+            return self.names_behind(reader, known, start.unit, reference);
+        }
+        path_names(self, reader, start, HOPS_LIMIT)
+    }
+
+    /// The names to which a reference in a unit leads.
+    fn names_behind(
+        self,
+        reader: &mut EntryReader<'_>,
+        known: &mut KnownNames,
+        unit: usize,
+        reference: AttributeValue,
+    ) -> Result<EntryNames, Cause>
+        requires { AreTexts (sections_of self.sections.now) self.texts.now }
+        ensures names { (us : List CompilationUnit) → AreKept self.entry.units.now us
+            → AreMarked self.entry.marks.now us
+            → self.entry.bases.now ≡ map (λ u. u.bases) us
+            → AreReadIn (sections_of self.entry.sections.now) us
+            → IsReaderOf (sections_of self.entry.sections.now) reader.old
+            → AreKnownOf (sections_of self.entry.sections.now) us known.old
+            → (u : CompilationUnit) → slice_get us unit ≡ Some u → Gives (λ names. names) result
+            (names_behind (sections_of self.entry.sections.now) us u reference) }
+        ensures known { (us : List CompilationUnit) → AreKept self.entry.units.now us
+            → AreMarked self.entry.marks.now us
+            → self.entry.bases.now ≡ map (λ u. u.bases) us
+            → AreReadIn (sections_of self.entry.sections.now) us
+            → IsReaderOf (sections_of self.entry.sections.now) reader.old
+            → AreKnownOf (sections_of self.entry.sections.now) us known.old
+            → AreKnownOf (sections_of self.entry.sections.now) us known.new }
+        ensures reader { (s : SectionBytes) → IsReaderOf s reader.old → IsReaderOf s reader.new }
+    {
+        let place = target(self.units, self.marks, unit, reference).ok_or(Cause::Reference)?;
+        if let Some(names) = known.get(place) {
+            return Ok(names);
+        }
+        let next = entry_again(self.units, self.marks, reader, place)?;
+        let names = path_names(self, reader, next, HOPS_LIMIT - 1)?;
+        known.put(place, names)?;
+        Ok(names)
+    }
+}
+
+/// The reference to the next entry, if all names of an entry are those to which it leads.
+fn reference_to_names(entry: &NamedEntry) -> Option<AttributeValue>
+    ensures { IfSome result (λ reference. (entry.now.next ≡ Some reference)
+        × (entry.now.name ≡ None) × (entry.now.linkage_name ≡ None)) }
+{
+    match (entry.next, entry.name, entry.linkage_name) {
+        (Some(reference), None, None) => Some(reference),
+        _ => None,
+    }
+}
