@@ -15,7 +15,7 @@ help:
 	@echo 'make tools-test   tests of tools/ and of the clients in docs/PROTOCOL.md, on real processes'
 	@echo 'make check-docs   the manual page and documents beside the program: options, refusals, causes, targets'
 	@echo 'make compare      what is read from objects, beside what other readers show'
-	@echo 'make hostile      the time of objects that are shaped to cost more than their bytes'
+	@echo 'make hostile      time and memory of objects that are shaped to cost more than their bytes'
 	@echo 'make fuzz         objects and commands made by chance, beside a plain reader in Python (SEED=1 COUNT=20000)'
 	@echo 'make memory       each growth of memory, each read and write refused in turn (DURATION=60, in seconds)'
 	@echo 'make long-run     a million commands to one process, then full outputs and odd files (COMMANDS=1000000)'

@@ -1,8 +1,8 @@
 #!/usr/bin/env bash
 # Answers a second on three objects, beside the peers that are there: in a batch over a pipe and in
-# ping-pong, FILE:LINE alone and with functions and inlined callers, for addresses spread over an object in
-# no order, and, of this program, for sixteen addresses that are asked again and again. Arguments: how many
-# addresses are asked, and how many of slow peers.
+# ping-pong, FILE:LINE alone and with functions and inlined callers, for addresses spread over an
+# object in no order, and, of this program, for sixteen addresses that are asked again and again.
+# Arguments: how many addresses are asked, and how many of slow peers.
 set -euo pipefail
 cd "$(dirname "$0")/.."
 program=crates/addr2line_live/out/addr2line_live
@@ -12,8 +12,8 @@ tools/build.sh addr2line_live program.log
 [ -f out/objects/large ] || tools/make_objects.sh out/objects
 gcc -O2 -o out/ask bench/ask.c
 
-# So many addresses of an object's executable sections, in no order, or the first sixteen of them again and
-# again.
+# So many addresses of an object's executable sections, in no order, or the first sixteen of them
+# again and again.
 spread() {
     python3 - "$1" "$2" "$3" << 'PY'
 import random
@@ -28,8 +28,9 @@ for number in range(count):
 PY
 }
 
-# How many bytes a program answers to each of some addresses: all but the lines with which its answers begin
-# where addresses are asked for too. A program may end with a status of its own and have answered all.
+# How many bytes a program answers to each of some addresses: all but the lines with which its
+# answers begin where addresses are asked for too. A program may end with a status of its own and
+# have answered all.
 lengths() {
     local addresses=$1
     shift
@@ -52,8 +53,8 @@ show() {
     printf '  %-44s %s\n' "$what" "$(out/ask "$how" "$addresses" out/lengths "$@" || true)"
 }
 
-# The same of a program that may be slow: it is asked all addresses where it answers a few of them at once,
-# else these alone.
+# The same of a program that may be slow: it is asked all addresses where it answers a few of them
+# at once, else these alone.
 show_slow() {
     local what=$1 how=$2 start
     shift 2
@@ -72,13 +73,15 @@ measure() {
     spread "$object" "$many" 16 > out/hot
     head -n "$few" out/spread > out/few
     for cache in 1024 0 65536; do
-        show "addr2line_live --cache $cache, spread" "$how" out/spread $program -e "$object" $options --cache $cache
+        show "addr2line_live --cache $cache, spread" "$how" out/spread \
+            $program -e "$object" $options --cache $cache
     done
     show 'addr2line_live, sixteen addresses' "$how" out/hot $program -e "$object" $options
     if command -v llvm-symbolizer > /dev/null; then
         local style='--functions=none --no-inlines'
         [ -z "$options" ] || style='--functions=short --inlines'
-        show 'llvm-symbolizer, spread' "$how" out/spread llvm-symbolizer --output-style=GNU --no-demangle $style --obj="$object"
+        show 'llvm-symbolizer, spread' "$how" out/spread \
+            llvm-symbolizer --output-style=GNU --no-demangle $style --obj="$object"
     fi
     if [ -n "${GIMLI_ADDR2LINE:-}" ]; then
         show "addr2line of gimli, spread" "$how" out/spread "$GIMLI_ADDR2LINE" -e "$object" $options

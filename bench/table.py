@@ -138,9 +138,10 @@ def main():
     print(*(f"- {version}" for version in versions()), sep="\n")
     print(
         "\nBehind the figure of another program stands how many times better this one is (below 1:"
-        "\nworse). Plain C is a program of this repository that makes the same checks (`bench/*.c`)."
-        "\nOthers load nothing before they are asked; this program has then read and judged all. Of"
-        "\nprograms that answer slowly fewer addresses were asked, as `bench/answers.sh` says.\n"
+        "\nworse). Plain C is a program of this repository that makes the same checks and keeps the"
+        "\nsame (`bench/*.c`). Others load nothing before they are asked; this program has then read"
+        "\nand judged all. Of programs that answer slowly fewer addresses were asked, as"
+        "\n`bench/answers.sh` says.\n"
     )
     print(f"| | {' | '.join(programs)} |\n|---|{'---|' * len(programs)}")
     for (what, unit, better), figures in in_order(table):

@@ -3,10 +3,11 @@
 
 hostile.py MEASURE FOLDER [MEGABYTES] writes an object of each shape into FOLDER at a quarter of the
 size, half of it and the whole, reads each with `measure lines` or `measure scopes`, and prints the
-seconds of processor by size. It fails where doubling the size takes more than three times as long,
-or the whole more than two seconds for each 20 MB.
+seconds of processor by size, and the most memory for a byte of the whole. It fails where doubling
+the size takes more than three times as long, the whole takes more than two seconds for each 20 MB,
+or a byte more than 100 bytes of memory.
 """
-import resource
+import os
 import struct
 import subprocess
 import sys
@@ -14,6 +15,7 @@ from pathlib import Path
 
 MEGABYTE = 1 << 20
 LEAST_TIME = 0.1  # seconds; shorter times say nothing of growth
+MOST_MEMORY = 100  # bytes for a byte of the object
 
 
 def uleb(number):
@@ -166,6 +168,34 @@ def references_between_tables(size):
     return elf([(".debug_abbrev", table), (".debug_info", info)])
 
 
+def unit_of(entries):
+    """A unit of these entries, by the table at the start of the section."""
+    unit = struct.pack("<HBBI", 5, 1, 8, 0) + entries
+    return struct.pack("<I", len(unit)) + unit
+
+
+def one_byte_subprograms(size):
+    """Subprograms without attributes. The object has a third of the size, since each byte of it is
+    a scope to be told."""
+    entries = bytes([1]) + bytes([2]) * (size // 3) + bytes([0])
+    abbreviations = bytes([1, 0x11, 1, 0, 0, 2, 0x2E, 0, 0, 0, 0])
+    return elf([(".debug_abbrev", abbreviations), (".debug_info", unit_of(entries))])
+
+
+def deep_lists(size):
+    """Subprograms that stand within each other as deep as they may."""
+    entries = bytes([1]) + (bytes([2]) * 255 + bytes(255)) * (size // 510) + bytes([0])
+    abbreviations = bytes([1, 0x11, 1, 0, 0, 2, 0x2E, 1, 0, 0, 0])
+    return elf([(".debug_abbrev", abbreviations), (".debug_info", unit_of(entries))])
+
+
+def small_units(size):
+    """Units of one entry."""
+    abbreviations = bytes([1, 0x11, 0, 0, 0, 0])
+    units = unit_of(bytes([1])) * (size // 13)
+    return elf([(".debug_abbrev", abbreviations), (".debug_info", units)])
+
+
 SHAPES = [
     ("lines", directories_in_one_text),
     ("lines", files_in_one_text),
@@ -179,45 +209,53 @@ SHAPES = [
     ("scopes", tables_in_turn),
     ("scopes", references_to_a_long_entry),
     ("scopes", references_between_tables),
+    ("scopes", one_byte_subprograms),
+    ("scopes", deep_lists),
+    ("scopes", small_units),
 ]
 
 
-def used():
-    """The seconds of processor that the processes run so far have taken."""
-    told = resource.getrusage(resource.RUSAGE_CHILDREN)
-    return told.ru_utime + told.ru_stime
+def run(measure, command, path):
+    """The seconds of processor that a run takes, and the most bytes of memory that it holds."""
+    out, told = os.pipe()
+    process = subprocess.Popen([measure, command, path], stdout=told, stderr=told)
+    os.close(told)
+    with os.fdopen(out) as said:
+        text = said.read()
+    _, status, used = os.wait4(process.pid, 0)
+    if status != 0:
+        raise SystemExit(f"{path}: {text}")
+    return used.ru_utime + used.ru_stime, used.ru_maxrss * 1024
 
 
-def seconds(measure, command, path):
-    """The seconds of processor that a run takes, the least of five."""
+def try_shape(measure, command, shape, path, sizes):
+    """The least seconds of five runs at each size, and the memory for a byte of the last."""
     times = []
-    for _ in range(5):
-        start = used()
-        done = subprocess.run([measure, command, path], capture_output=True, text=True, check=False)
-        times.append(used() - start)
-        if done.returncode != 0:
-            raise SystemExit(f"{path}: {done.stdout}{done.stderr}")
-    return min(times)
+    for size in sizes:
+        path.write_bytes(shape(size))
+        runs = [run(measure, command, path) for _ in range(5)]
+        times.append(min(time for time, _ in runs))
+        memory = min(most for _, most in runs) / path.stat().st_size
+        path.unlink()
+    return times, memory
 
 
 def main():
     measure, folder = sys.argv[1:3]
     whole = int(sys.argv[3]) if len(sys.argv) > 3 else 20
     Path(folder).mkdir(parents=True, exist_ok=True)
+    sizes = [whole * MEGABYTE // part for part in (4, 2, 1)]
     failed = False
     for command, shape in SHAPES:
-        times = []
-        for size in (whole * MEGABYTE // 4, whole * MEGABYTE // 2, whole * MEGABYTE):
-            path = Path(folder) / "hostile"
-            path.write_bytes(shape(size))
-            times.append(seconds(measure, command, path))
-            path.unlink()
+        times, memory = try_shape(measure, command, shape, Path(folder) / "hostile", sizes)
         growth = max(b / a if b > LEAST_TIME else 0 for a, b in zip(times, times[1:]))
-        bad = growth > 3 or times[-1] > 2 * whole / 20
-        failed = failed or bad
+        is_slow = growth > 3 or times[-1] > 2 * whole / 20
+        failed = failed or is_slow or memory > MOST_MEMORY
         shown = ", ".join(f"{t:.3f} s" for t in times)
-        name, verdict = shape.__name__.replace("_", " "), "  TOO LONG" if bad else ""
-        print(f"{name:26} {whole / 4:g}, {whole / 2:g}, {whole:g} MB: {shown}{verdict}")
+        name = shape.__name__.replace("_", " ")
+        verdict = ("  TOO LONG" if is_slow else "") + ("  TOO MUCH" if memory > MOST_MEMORY else "")
+        print(f"{name:26} {whole / 4:g}, {whole / 2:g}, {whole:g} MB: {shown}; "
+              f"{memory:.1f} bytes a byte{verdict}")
     sys.exit(failed)
 
 
