@@ -32,7 +32,8 @@ demo:
 
 # The whole gate: every proof, every edit that must fail, every test and program, from nothing.
 test:
-	@tools/needs.sh test rt
+	@tools/needs.sh test rt python3
+	@tools/check_edits.py
 	rt ci
 
 # One crate, quickly, over what earlier checks kept: make check CRATE=dwarf_lines

@@ -68,7 +68,7 @@ impl<'a> Frame<'a> {
 #[derive(Drop)]
 pub struct Walk<'a> {
     texts: Texts<'a>,
-    parents: &'a [usize],
+    parents: &'a [u32],
     link: u64,
     /// 1 + the number of the scope to go outwards from; 0 where none is left.
     near: usize,
@@ -96,7 +96,7 @@ impl<'a> Model for Walk<'a> {
 
 impl<'a> Walk<'a> {
     /// From the scope of a place on.
-    fn of(texts: Texts<'a>, parents: &'a [usize], place: Place) -> Walk<'a>
+    fn of(texts: Texts<'a>, parents: &'a [u32], place: Place) -> Walk<'a>
         requires { HaveParents texts.scopes.now.scopes parents.now }
         ensures { result ≡ frames_of texts.entry.bytes.now texts.entry.lines.now
             (place_chain place.link place.scope texts.entry.scopes.now.scopes) place.row }
@@ -182,7 +182,7 @@ impl<'a> Frames<'a> {
     }
 
     /// The frames of a place.
-    pub(crate) fn of(texts: Texts<'a>, parents: &'a [usize], place: Place) -> Frames<'a>
+    pub(crate) fn of(texts: Texts<'a>, parents: &'a [u32], place: Place) -> Frames<'a>
         requires { HaveParents texts.scopes.now.scopes parents.now }
         ensures { result ≡ frames_of texts.entry.bytes.now texts.entry.lines.now
             (place_chain place.link place.scope texts.entry.scopes.now.scopes) place.row }

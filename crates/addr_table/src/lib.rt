@@ -10,6 +10,7 @@ mod joins;
 pub mod laws;
 mod module;
 mod outwards;
+mod packed;
 mod parents;
 mod path;
 mod place;

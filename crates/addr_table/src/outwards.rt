@@ -23,7 +23,7 @@ fn is_held(kind: ScopeKind, scopes: &Scopes, number: usize, link: u64) -> bool
 }
 
 /// The outermost scope of the chain among those that enclose the one before a number.
-pub(crate) fn top(scopes: &Scopes, parents: &[usize], link: u64, near: usize) -> Option<usize>
+pub(crate) fn top(scopes: &Scopes, parents: &[u32], link: u64, near: usize) -> Option<usize>
     requires have { HaveParents scopes.now.scopes parents.now }
     requires within { near ≤ length scopes.now.scopes }
     ensures { result ≡ top_around link scopes.now.scopes near }
@@ -35,7 +35,7 @@ pub(crate) fn top(scopes: &Scopes, parents: &[usize], link: u64, near: usize) ->
         if is_held(ScopeKind::Subprogram, scopes, number, link) {
             found = Some(number);
         }
-        near = parents[number];
+        near = parents[number] as usize;
     }
     found
 }
@@ -44,7 +44,7 @@ pub(crate) fn top(scopes: &Scopes, parents: &[usize], link: u64, near: usize) ->
 /// is left.
 pub(crate) fn next_told(
     scopes: &Scopes,
-    parents: &[usize],
+    parents: &[u32],
     link: u64,
     top: usize,
     near: usize,
@@ -67,17 +67,17 @@ pub(crate) fn next_told(
         if is_held(ScopeKind::Inlined, scopes, number, link) {
             return near;
         }
-        near = parents[number];
+        near = parents[number] as usize;
     }
     0
 }
 
 /// 1 + the number of the scope around one that was told; 0 where there is none.
-pub(crate) fn outer(parents: &[usize], top: usize, number: usize) -> usize
+pub(crate) fn outer(parents: &[u32], top: usize, number: usize) -> usize
     requires { number < length parents.now }
     ensures { result ≡ outer_of parents.now top number }
 {
-    if number == top { 0 } else { parents[number] }
+    if number == top { 0 } else { parents[number] as usize }
 }
 
 /// 1 + the number of a scope, if it is one of so many; 0 otherwise.

@@ -1,0 +1,44 @@
+#!/usr/bin/env python3
+"""Shows each must-fail edit that no longer fits the files it changes, before proofs take an hour.
+
+An edit is lines `file: PATH` and pairs of lines `old: TEXT`, `new: TEXT`; each old text stands in
+its file exactly once. Ends with 1 where one does not.
+"""
+import sys
+from pathlib import Path
+
+TOP = Path(__file__).resolve().parent.parent
+
+
+def misfits(edit: Path):
+    """The old texts of an edit that do not stand exactly once, each with its file."""
+    crate = edit.parent.parent
+    texts: dict[str, str] = {}
+    path = old = ""
+    for line in edit.read_text(encoding="utf-8").splitlines():
+        word, _, rest = line.partition(": ")
+        if word == "file":
+            path = rest.strip()
+            if path not in texts:
+                texts[path] = (crate / path).read_text(encoding="utf-8")
+        elif word == "old":
+            old = rest
+            if texts[path].count(old) != 1:
+                yield path, old
+        elif line.startswith("new:"):
+            texts[path] = texts[path].replace(old, rest)
+
+
+def main():
+    edits = sorted(TOP.glob("crates/*/must-fail/*.edit"))
+    faults = 0
+    for edit in edits:
+        for path, old in misfits(edit):
+            print(f"{edit.relative_to(TOP)}: not once in {path}: {old}")
+            faults += 1
+    print(f"check_edits: {len(edits)} edits, {faults} faults")
+    return 1 if faults or not edits else 0
+
+
+if __name__ == "__main__":
+    sys.exit(main())
