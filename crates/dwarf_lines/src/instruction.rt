@@ -37,7 +37,8 @@ pub fn decode(header: &LineEncoding, cursor: &mut Cursor) -> Result<Instruction,
     ensures reads { ReadsField (λ i. i) result (instruction_at (encoding header.now)) cursor.old
         cursor.new }
     ensures moves { IfOk result (λ _. cursor.old.place < cursor.new.place) }
-    ensures reach { IfOk result (λ i. line_reach i ≤ 2 ^ 62 * (cursor.new.place - cursor.old.place)) }
+    ensures reach { IfOk result
+        (λ i. line_reach i ≤ 2 ^ 62 * (cursor.new.place - cursor.old.place)) }
 {
     let opcode = cursor.u8()?;
     if opcode >= header.opcode_base {

@@ -33,7 +33,8 @@ impl Model for LineTables {
 
     ghost view = { λ t. record { rows = t.rows.items; programs = map tables_in t.programs.items } };
 
-    ghost invariant = { λ t. IsStrictlyIncreasing (map (λ program. program.offset) t.programs.items) };
+    ghost invariant = { λ t.
+        IsStrictlyIncreasing (map (λ program. program.offset) t.programs.items) };
 }
 
 impl LineTables {
@@ -129,7 +130,8 @@ fn starts_before(programs: &[ProgramFiles], offset: u64) -> usize
     requires { IsStrictlyIncreasing (map (λ program. program.offset) programs.now) }
     ensures within { result ≤ length programs.now }
     ensures parts { IsPartitionPoint
-        (λ program. program.offset < offset) (λ program. offset ≤ program.offset) programs.now result }
+        (λ program. program.offset < offset) (λ program. offset ≤ program.offset)
+        programs.now result }
 {
     programs.partition_point(|program| program.offset < offset)
 }
