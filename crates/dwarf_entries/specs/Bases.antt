@@ -1,6 +1,10 @@
--- What a unit's root tells of the whole unit: its tables and its low_pc (DWARF 5, 3.1.1, 7.26 to 7.28).
-use Rattle.std.specs.Prelude.{ℕ, ◌+◌, ◌*◌, List, [], ◌∷◌, Option, Some, None, Result, Ok, Err, nat_le, ◌==◌, if◌then◌else◌}
-use Rattle.dwarf_bytes.specs.declared.constants.TheConstants.{DW_AT_ADDR_BASE, DW_AT_LOW_PC, DW_AT_RNGLISTS_BASE, DW_AT_STR_OFFSETS_BASE, DW_FORM_ADDR}
+-- What a unit's root tells of the whole unit: its tables and its low_pc
+-- (DWARF 5, 3.1.1, 7.26 to 7.28).
+use Rattle.std.specs.Prelude.{ℕ, ◌+◌, ◌*◌, List, [], ◌∷◌, Option, Some, None}
+use Rattle.std.specs.Prelude.{Result, Ok, Err, nat_le, ◌==◌, if◌then◌else◌}
+use Rattle.dwarf_bytes.specs.declared.constants.TheConstants.{DW_AT_ADDR_BASE, DW_AT_LOW_PC}
+use Rattle.dwarf_bytes.specs.declared.constants.TheConstants.{DW_AT_RNGLISTS_BASE}
+use Rattle.dwarf_bytes.specs.declared.constants.TheConstants.{DW_AT_STR_OFFSETS_BASE, DW_FORM_ADDR}
 use Rattle.dwarf_bytes.specs.declared.fault.Cause.{Cause}
 use Rattle.dwarf_bytes.specs.declared.fault.Cause.TheVariants as causes
 use Rattle.dwarf_bytes.specs.declared.fault.ReadFault.{ReadFault}
@@ -29,7 +33,9 @@ optional f (Some x) = f x >>= λ y. Ok (Some y)
 
 -- the table at the base that an attribute of the root names
 abbrev pub table_of : TableKind → Format → List ℕ → AttributeValue → Result Table Cause
-table_of kind format section value = table_before kind format section value.number >>= λ head. Ok (record { base = value.number; head = head; format = format })
+table_of kind format section value =
+    table_before kind format section value.number
+    >>= λ head. Ok (record { base = value.number; head = head; format = format })
 
 -- the bytes of an item of a table: an offset, or an address
 abbrev pub item_len : TableKind → Format → ℕ
@@ -47,15 +53,19 @@ abbrev pub item_at : TableKind → List ℕ → Option Table → ℕ → Result 
 item_at kind section None index = Err causes.Base
 item_at kind section (Some table) index = do
   _ ← refuse_if (nat_le table.head.items index) causes.Index
-  item ← reading (item_in kind table.format section (table.base + item_len kind table.format * index))
+  item ← reading
+      (item_in kind table.format section (table.base + item_len kind table.format * index))
   Ok item.0
 
 -- the address that a value of class address is; its forms but addr are indexes of .debug_addr
 abbrev pub address_of : Sections → Option Table → AttributeValue → Result ℕ Cause
-address_of sections addr value = if value.form == DW_FORM_ADDR then Ok value.number else item_at Addr sections.debug_addr addr value.number
+address_of sections addr value =
+    if value.form == DW_FORM_ADDR then Ok value.number
+    else item_at Addr sections.debug_addr addr value.number
 
 -- what a root tells by its attributes, in the order in which they are judged
-abbrev pub bases_by : Sections → Format → Option AttributeValue → Option AttributeValue → Option AttributeValue → Option AttributeValue → Result Bases Cause
+abbrev pub bases_by : Sections → Format → Option AttributeValue → Option AttributeValue
+    → Option AttributeValue → Option AttributeValue → Result Bases Cause
 bases_by sections format str_offsets addr rnglists low_pc = do
   str_offsets ← optional (table_of StrOffsets format sections.debug_str_offsets) str_offsets
   addr ← optional (table_of Addr format sections.debug_addr) addr
@@ -64,10 +74,12 @@ bases_by sections format str_offsets addr rnglists low_pc = do
   Ok (record { str_offsets = str_offsets; addr = addr; rnglists = rnglists; low_pc = low_pc })
 
 abbrev pub bases_at : Sections → Format → Die → Result Bases Cause
-bases_at sections format root =
-    bases_by sections format (attribute root DW_AT_STR_OFFSETS_BASE) (attribute root DW_AT_ADDR_BASE) (attribute root DW_AT_RNGLISTS_BASE) (attribute root DW_AT_LOW_PC)
+bases_at sections format root = bases_by sections format
+    (attribute root DW_AT_STR_OFFSETS_BASE) (attribute root DW_AT_ADDR_BASE)
+    (attribute root DW_AT_RNGLISTS_BASE) (attribute root DW_AT_LOW_PC)
 
--- a unit with its entries, of which the first, if there is one, is the root, and with what the root tells
+-- a unit with its entries, of which the first, if there is one, is the root,
+-- and with what the root tells
 pub record CompilationUnit : Type 0 where
   pub header : UnitHeader
   pub dies : List Die

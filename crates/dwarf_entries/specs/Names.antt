@@ -1,6 +1,17 @@
 -- References between entries (DWARF 5, 2.13 and 7.5.5) and the names of an entry (2.15, 3.3.8).
-use Rattle.std.specs.Prelude.{ℕ, zero, suc, ◌+◌, List, [], ◌∷◌, length, Option, Some, None, Result, Ok, Err, ◌==◌, if◌then◌else◌, find, ok_or, option_map, map, flat_map}
-use Rattle.dwarf_bytes.specs.declared.constants.TheConstants.{DW_AT_ABSTRACT_ORIGIN, DW_AT_LINKAGE_NAME, DW_AT_NAME, DW_AT_SPECIFICATION, DW_FORM_LINE_STRP, DW_FORM_REF_ADDR, DW_FORM_REF_SIG8, DW_FORM_STRING, DW_FORM_STRP}
+use Rattle.std.specs.Prelude.{ℕ, zero, suc, ◌+◌, List, [], ◌∷◌, length, Option, Some, None, Result}
+use Rattle.std.specs.Prelude.{Ok, Err, ◌==◌, if◌then◌else◌, find, ok_or, option_map, map, flat_map}
+use Rattle.dwarf_bytes.specs.declared.constants.TheConstants.{
+  DW_AT_ABSTRACT_ORIGIN,
+  DW_AT_LINKAGE_NAME,
+  DW_AT_NAME,
+  DW_AT_SPECIFICATION,
+  DW_FORM_LINE_STRP,
+  DW_FORM_REF_ADDR,
+  DW_FORM_REF_SIG8,
+  DW_FORM_STRING,
+  DW_FORM_STRP,
+}
 use Rattle.dwarf_bytes.specs.declared.fault.Cause.{Cause}
 use Rattle.dwarf_bytes.specs.declared.fault.Cause.TheVariants as causes
 use Rattle.dwarf_bytes.specs.declared.fault.Section.{Section}
@@ -38,14 +49,15 @@ followed (Some value) = if value.form == DW_FORM_REF_SIG8 then None else Some va
 
 -- the reference to the next entry: abstract_origin, else specification
 abbrev pub next_of : Die → Option AttributeValue
-next_of die = followed (or_else (attribute die DW_AT_ABSTRACT_ORIGIN) (attribute die DW_AT_SPECIFICATION))
+next_of die =
+    followed (or_else (attribute die DW_AT_ABSTRACT_ORIGIN) (attribute die DW_AT_SPECIFICATION))
 
 -- the entry at an offset of .debug_info, among these
 abbrev pub member_at : List Member → ℕ → Result Member Cause
 member_at members offset = ok_or (find (λ m. m.die.offset == offset) members) causes.Reference
 
--- the entry that a reference in a unit names: of form ref_addr one of any unit, counted from the start of the section, else one of
--- the unit, counted from its first byte
+-- the entry that a reference in a unit names: of form ref_addr one of any unit, counted from the
+-- start of the section, else one of the unit, counted from its first byte
 abbrev pub target_of : List CompilationUnit → CompilationUnit → AttributeValue → Result Member Cause
 target_of units unit reference =
     if reference.form == DW_FORM_REF_ADDR then member_at (members_of units) reference.number
@@ -57,10 +69,12 @@ hops_limit = 16
 
 -- an entry, its next entry, and so on to one without, in at most so many hops
 unfoldable pub path_within : ℕ → List CompilationUnit → Member → Result (List Member) Cause
-path_within zero units m = elim (next_of (m.die)) [ None ↦ Ok (m ∷ []) | Some reference ↦ Err causes.OriginDepth ]
+path_within zero units m =
+    elim (next_of (m.die)) [ None ↦ Ok (m ∷ []) | Some reference ↦ Err causes.OriginDepth ]
 path_within (suc hops) units m = elim (next_of (m.die)) [
   | None ↦ Ok (m ∷ [])
-  | Some reference ↦ target_of units m.unit reference >>= λ next. path_within hops units next >>= λ rest. Ok (m ∷ rest)
+  | Some reference ↦ target_of units m.unit reference
+      >>= λ next. path_within hops units next >>= λ rest. Ok (m ∷ rest)
 ]
 
 abbrev pub path_of : List CompilationUnit → Member → Result (List Member) Cause
@@ -78,14 +92,16 @@ text_len section offset = reading (text_at section offset) >>= λ found. Ok (len
 abbrev pub text_in : Section → List ℕ → ℕ → Result Text Cause
 text_in name section offset = text_len section offset >>= λ len. Ok (text name offset len)
 
--- the text that a value is, by the table of the unit in which it stands; one of form string stands in the entry, and the forms
--- that are not named here are indexes of .debug_str_offsets
+-- the text that a value is, by the table of the unit in which it stands; one of form string stands
+-- in the entry, and the forms that are not named here are indexes of .debug_str_offsets
 abbrev pub text_of : Sections → Option Table → AttributeValue → Result Text Cause
 text_of s str_offsets value =
     if value.form == DW_FORM_STRING then text_in sections.DebugInfo s.debug_info value.number
     else if value.form == DW_FORM_STRP then text_in sections.DebugStr s.debug_str value.number
-    else if value.form == DW_FORM_LINE_STRP then text_in sections.DebugLineStr s.debug_line_str value.number
-    else item_at StrOffsets s.debug_str_offsets str_offsets value.number >>= λ offset. text_in sections.DebugStr s.debug_str offset
+    else if value.form == DW_FORM_LINE_STRP
+    then text_in sections.DebugLineStr s.debug_line_str value.number
+    else item_at StrOffsets s.debug_str_offsets str_offsets value.number >>= λ offset.
+    text_in sections.DebugStr s.debug_str offset
 
 -- the value of an attribute of an entry, with the entry's unit
 abbrev pub of_member : ℕ → Member → Option (CompilationUnit × AttributeValue)
@@ -98,7 +114,8 @@ first_on name (m ∷ path) = or_else (of_member name m) (first_on name path)
 
 -- its text
 abbrev pub name_on : ℕ → Sections → List Member → Result (Option Text) Cause
-name_on name s path = optional (λ found. text_of s found.0.bases.str_offsets found.1) (first_on name path)
+name_on name s path =
+    optional (λ found. text_of s found.0.bases.str_offsets found.1) (first_on name path)
 
 -- the names of an entry: of each of the two attributes the first on its path
 abbrev pub names_of : Sections → List CompilationUnit → Member → Result EntryNames Cause

@@ -1,6 +1,9 @@
 -- The addresses of an entry (DWARF 5, 2.17 and 7.25).
-use Rattle.std.specs.Prelude.{ℕ, ◌+◌, ◌-◌, ◌^◌, List, [], ◌∷◌, length, Option, Some, None, Result, Ok, Err, nat_lt, nat_le, ◌==◌, ◌||◌, if◌then◌else◌, ok_or, option_to_list, flat_map, slice_get}
-use Rattle.dwarf_bytes.specs.declared.constants.TheConstants.{DW_AT_HIGH_PC, DW_AT_LOW_PC, DW_AT_RANGES, DW_FORM_RNGLISTX}
+use Rattle.std.specs.Prelude.{ℕ, ◌+◌, ◌-◌, ◌^◌, List, [], ◌∷◌, length, Option, Some}
+use Rattle.std.specs.Prelude.{None, Result, Ok, Err, nat_lt, nat_le, ◌==◌, ◌||◌}
+use Rattle.std.specs.Prelude.{if◌then◌else◌, ok_or, option_to_list, flat_map, slice_get}
+use Rattle.dwarf_bytes.specs.declared.constants.TheConstants.{DW_AT_HIGH_PC, DW_AT_LOW_PC}
+use Rattle.dwarf_bytes.specs.declared.constants.TheConstants.{DW_AT_RANGES, DW_FORM_RNGLISTX}
 use Rattle.dwarf_bytes.specs.declared.fault.Cause.{Cause}
 use Rattle.dwarf_bytes.specs.declared.fault.Cause.TheVariants as causes
 use Rattle.dwarf_bytes.specs.declared.tables.TableKind.TheVariants.{Addr, RngLists}
@@ -10,7 +13,15 @@ use Rattle.dwarf_bytes.specs.Numbers.{u8_at, u64_at, uleb_at}
 use Rattle.dwarf_entries.specs.declared.scope.Range.{Range}
 use Rattle.dwarf_entries.specs.declared.bases.Bases.{Bases}
 use Rattle.dwarf_entries.specs.declared.range_entries.RangeListKind.{RangeListKind}
-use Rattle.dwarf_entries.specs.declared.range_entries.RangeListKind.TheVariants.{BaseAddressx, StartxEndx, StartxLength, OffsetPair, BaseAddress, StartEnd, StartLength}
+use Rattle.dwarf_entries.specs.declared.range_entries.RangeListKind.TheVariants.{
+  BaseAddressx,
+  StartxEndx,
+  StartxLength,
+  OffsetPair,
+  BaseAddress,
+  StartEnd,
+  StartLength,
+}
 use Rattle.dwarf_entries.specs.declared.range_entries.RangeListEntry.{RangeListEntry}
 use Rattle.dwarf_entries.specs.declared.range_entries.RangeListEntry.TheVariants.{Base, Covers}
 use Rattle.dwarf_entries.specs.Sections.{Sections}
@@ -26,7 +37,8 @@ covered bounds = do
   _ ← refuse_if (nat_lt bounds.1 bounds.0) causes.RangeBackwards
   Ok (if bounds.0 == bounds.1 then None else Some (record { from = bounds.0; to = bounds.1 }))
 
--- the start of dropped code, which no code has (this project's own rule: DWARF 5 names no such address)
+-- the start of dropped code, which no code has (this project's own rule:
+-- DWARF 5 names no such address)
 abbrev pub dropped : ℕ
 dropped = 2 ^ 64 - 1
 
@@ -36,16 +48,20 @@ covered_from bounds = if bounds.0 == dropped then Ok None else covered bounds
 
 -- two offsets from the base in force, which cover nothing where it is that of dropped code
 abbrev pub covered_pair : ℕ → ℕ × ℕ → Result (Option Range) Cause
-covered_pair base offsets = if base == dropped then Ok None else covered (base + offsets.0, base + offsets.1)
+covered_pair base offsets =
+    if base == dropped then Ok None else covered (base + offsets.0, base + offsets.1)
 
--- the kinds by their numbers, DW_RLE_end_of_list to DW_RLE_start_length (7.25, table 7.30); the end of a list is none
+-- the kinds by their numbers, DW_RLE_end_of_list to DW_RLE_start_length (7.25, table 7.30); the end
+-- of a list is none
 abbrev pub kinds : List (Option RangeListKind)
-kinds = None ∷ Some BaseAddressx ∷ Some StartxEndx ∷ Some StartxLength ∷ Some OffsetPair ∷ Some BaseAddress ∷ Some StartEnd ∷ Some StartLength ∷ []
+kinds = None ∷ Some BaseAddressx ∷ Some StartxEndx ∷ Some StartxLength ∷ Some OffsetPair
+    ∷ Some BaseAddress ∷ Some StartEnd ∷ Some StartLength ∷ []
 
 abbrev pub kind_of : ℕ → Result (Option RangeListKind) Cause
 kind_of number = ok_or (slice_get kinds number) causes.RangeKind
 
--- the base in force behind these entries of a list: that of the last base entry, else the unit's low_pc
+-- the base in force behind these entries of a list: that of the last base entry,
+-- else the unit's low_pc
 abbrev pub base_after : Option ℕ → List RangeListEntry → Option ℕ
 base_after low_pc [] = low_pc
 base_after low_pc (Base base ∷ rest) = base_after (Some base) rest
@@ -70,11 +86,19 @@ abbrev pub number_at : List ℕ → ℕ → Result (ℕ × ℕ) Cause
 number_at lists at = reading (uleb_at lists at)
 
 -- a start and an end, and a start and a length
-abbrev pub start_and_end : (List ℕ → ℕ → Result (ℕ × ℕ) Cause) → List ℕ → ℕ → Result ((ℕ × ℕ) × ℕ) Cause
-start_and_end read lists at = read lists at >>= λ start. read lists start.1 >>= λ end. Ok ((start.0, end.0), end.1)
+abbrev pub start_and_end : (List ℕ → ℕ → Result (ℕ × ℕ) Cause) → List ℕ → ℕ
+    → Result ((ℕ × ℕ) × ℕ) Cause
+start_and_end read lists at =
+    read lists at
+    >>= λ start. read lists start.1
+    >>= λ end. Ok ((start.0, end.0), end.1)
 
-abbrev pub start_and_length : (List ℕ → ℕ → Result (ℕ × ℕ) Cause) → List ℕ → ℕ → Result ((ℕ × ℕ) × ℕ) Cause
-start_and_length read lists at = read lists at >>= λ start. number_at lists start.1 >>= λ len. Ok ((start.0, start.0 + len.0), len.1)
+abbrev pub start_and_length : (List ℕ → ℕ → Result (ℕ × ℕ) Cause) → List ℕ → ℕ
+    → Result ((ℕ × ℕ) × ℕ) Cause
+start_and_length read lists at =
+    read lists at
+    >>= λ start. number_at lists start.1
+    >>= λ len. Ok ((start.0, start.0 + len.0), len.1)
 
 -- the base in force, and two offsets from it
 abbrev pub offset_pair : Option ℕ → List ℕ → ℕ → Result ((ℕ × (ℕ × ℕ)) × ℕ) Cause
@@ -88,21 +112,30 @@ offset_pair base lists at = do
 abbrev pub sets_base : Result (ℕ × ℕ) Cause → Result (RangeListEntry × ℕ) Cause
 sets_base read = read >>= λ new. Ok (Base new.0, new.1)
 
-abbrev pub covers : {X : Type 0} → (X → Result (Option Range) Cause) → Result (X × ℕ) Cause → Result (RangeListEntry × ℕ) Cause
+abbrev pub covers : {X : Type 0} → (X → Result (Option Range) Cause) → Result (X × ℕ) Cause
+    → Result (RangeListEntry × ℕ) Cause
 covers judge read = read >>= λ operands. judge operands.0 >>= λ range. Ok (Covers range, operands.1)
 
 -- the entry of a kind, by the operands at a place; base is the base in force
-unfoldable pub entry_at : Sections → Bases → Option ℕ → RangeListKind → List ℕ → ℕ → Result (RangeListEntry × ℕ) Cause
+unfoldable pub entry_at : Sections → Bases → Option ℕ → RangeListKind → List ℕ → ℕ
+    → Result (RangeListEntry × ℕ) Cause
 entry_at sections bases base BaseAddressx lists at = sets_base (index_at sections bases lists at)
-entry_at sections bases base StartxEndx lists at = covers covered_from (start_and_end (index_at sections bases) lists at)
-entry_at sections bases base StartxLength lists at = covers covered_from (start_and_length (index_at sections bases) lists at)
-entry_at sections bases base OffsetPair lists at = covers (λ pair. covered_pair pair.0 pair.1) (offset_pair base lists at)
+entry_at sections bases base StartxEndx lists at =
+    covers covered_from (start_and_end (index_at sections bases) lists at)
+entry_at sections bases base StartxLength lists at =
+    covers covered_from (start_and_length (index_at sections bases) lists at)
+entry_at sections bases base OffsetPair lists at =
+    covers (λ pair. covered_pair pair.0 pair.1) (offset_pair base lists at)
 entry_at sections bases base BaseAddress lists at = sets_base (address_at lists at)
-entry_at sections bases base StartEnd lists at = covers covered_from (start_and_end address_at lists at)
-entry_at sections bases base StartLength lists at = covers covered_from (start_and_length address_at lists at)
+entry_at sections bases base StartEnd lists at =
+    covers covered_from (start_and_end address_at lists at)
+entry_at sections bases base StartLength lists at =
+    covers covered_from (start_and_length address_at lists at)
 
--- the entry at a place, behind so many in its list, of which there may be as many as there is room for
-abbrev pub listed_behind : ℕ → Sections → Bases → ℕ → Option ℕ → List ℕ → ℕ → Result (Next RangeListEntry) Cause
+-- the entry at a place, behind so many in its list,
+-- of which there may be as many as there is room for
+abbrev pub listed_behind : ℕ → Sections → Bases → ℕ → Option ℕ → List ℕ → ℕ
+    → Result (Next RangeListEntry) Cause
 listed_behind room sections bases count base lists at = do
   number ← reading (u8_at lists at)
   kind ← kind_of number.0
@@ -115,8 +148,10 @@ listed_behind room sections bases count base lists at = do
   ]
 
 -- the same, behind the entries before it
-abbrev pub listed_at : ℕ → Sections → Bases → List ℕ → List RangeListEntry → ℕ → Result (Next RangeListEntry) Cause
-listed_at room sections bases lists before at = listed_behind room sections bases (length before) (base_after bases.low_pc before) lists at
+abbrev pub listed_at : ℕ → Sections → Bases → List ℕ → List RangeListEntry → ℕ
+    → Result (Next RangeListEntry) Cause
+listed_at room sections bases lists before at =
+    listed_behind room sections bases (length before) (base_after bases.low_pc before) lists at
 
 -- the ranges of a scope, and how many items they were read from
 pub record Covering : Type 0 where
@@ -133,7 +168,8 @@ list_place sections bases value = if value.form == DW_FORM_RNGLISTX then (do
 -- what the range list at a place covers
 unfoldable pub list_at : ℕ → Sections → Bases → ℕ → Result Covering Cause
 list_at room sections bases place = do
-  all ← untold (items_from (length sections.debug_rnglists) (listed_at room sections bases sections.debug_rnglists) [] place)
+  all ← untold (items_from (length sections.debug_rnglists)
+      (listed_at room sections bases sections.debug_rnglists) [] place)
   Ok (record { ranges = flat_map ranges_in all.0; items = length all.0 })
 
 -- what the range list of an attribute covers
@@ -142,10 +178,13 @@ list_of room sections bases value = list_place sections bases value >>= list_at 
 
 -- the end of a pair: an address, or a count from the start
 abbrev pub high_of : Sections → Bases → ℕ → AttributeValue → Result ℕ Cause
-high_of sections bases low high = if is_among address_forms high.form then address_of sections bases.addr high else Ok (low + high.number)
+high_of sections bases low high =
+    if is_among address_forms high.form then address_of sections bases.addr high
+    else Ok (low + high.number)
 
 -- the range of a pair of low_pc and high_pc
-abbrev pub pair_range : Sections → Bases → AttributeValue → AttributeValue → Result (Option Range) Cause
+abbrev pub pair_range : Sections → Bases → AttributeValue → AttributeValue
+    → Result (Option Range) Cause
 pair_range sections bases low high = do
   start ← address_of sections bases.addr low
   end ← high_of sections bases start high
@@ -159,7 +198,8 @@ pair_at room sections bases low high = do
   Ok (record { ranges = option_to_list range; items = 1 })
 
 -- what an entry covers, by its low_pc, high_pc and ranges
-abbrev pub covers_by : ℕ → Sections → Bases → Option AttributeValue → Option AttributeValue → Option AttributeValue → Result Covering Cause
+abbrev pub covers_by : ℕ → Sections → Bases → Option AttributeValue → Option AttributeValue
+    → Option AttributeValue → Result Covering Cause
 covers_by room sections bases None None (Some ranges) = list_of room sections bases ranges
 covers_by room sections bases low high (Some ranges) = Err causes.PcAndRanges
 covers_by room sections bases None (Some high) None = Err causes.PcAndRanges
@@ -167,4 +207,5 @@ covers_by room sections bases (Some low) (Some high) None = pair_at room section
 covers_by room sections bases low None None = Ok (record { ranges = []; items = 0 })
 
 unfoldable pub covers_of : ℕ → Sections → Bases → Die → Result Covering Cause
-covers_of room sections bases die = covers_by room sections bases (attribute die DW_AT_LOW_PC) (attribute die DW_AT_HIGH_PC) (attribute die DW_AT_RANGES)
+covers_of room sections bases die = covers_by room sections bases
+    (attribute die DW_AT_LOW_PC) (attribute die DW_AT_HIGH_PC) (attribute die DW_AT_RANGES)

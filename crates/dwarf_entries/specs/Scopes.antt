@@ -1,7 +1,12 @@
--- The subprograms and inlined subroutines of all units (DWARF 5, 3.3), and the faults of .debug_info.
-use Rattle.std.specs.Prelude.{ℕ, ◌+◌, ◌-◌, List, [], ◌∷◌, length, Bool, Option, Some, None, Result, Ok, ◌==◌, if◌then◌else◌, is_some, option_map, option_and_then, map, flat_map, count_by, sum_by, slice_get, zip, take, drop}
+-- The subprograms and inlined subroutines of all units (DWARF 5, 3.3),
+-- and the faults of .debug_info.
+use Rattle.std.specs.Prelude.{ℕ, ◌+◌, ◌-◌, List, [], ◌∷◌, length, Bool, Option, Some, None, Result}
+use Rattle.std.specs.Prelude.{Ok, ◌==◌, if◌then◌else◌, is_some, option_map, option_and_then, map}
+use Rattle.std.specs.Prelude.{flat_map, count_by, sum_by, slice_get, zip, take, drop}
 use Rattle.std.specs.Option.{option_map_or, unwrap_or}
-use Rattle.dwarf_bytes.specs.declared.constants.TheConstants.{DW_TAG_INLINED_SUBROUTINE, DW_TAG_SUBPROGRAM, DW_AT_CALL_FILE, DW_AT_CALL_LINE, DW_AT_STMT_LIST}
+use Rattle.dwarf_bytes.specs.declared.constants.TheConstants.{DW_TAG_INLINED_SUBROUTINE}
+use Rattle.dwarf_bytes.specs.declared.constants.TheConstants.{DW_TAG_SUBPROGRAM, DW_AT_CALL_FILE}
+use Rattle.dwarf_bytes.specs.declared.constants.TheConstants.{DW_AT_CALL_LINE, DW_AT_STMT_LIST}
 use Rattle.dwarf_bytes.specs.declared.fault.Cause.{Cause}
 use Rattle.dwarf_bytes.specs.declared.fault.Section.{Section}
 use Rattle.dwarf_bytes.specs.declared.fault.Section.TheVariants as names
@@ -42,15 +47,18 @@ pub record Scope : Type 0 where
 
 -- a text by its section, its place and its length
 abbrev pub text_by : Option Section → ℕ → ℕ → Option Text
-text_by section place len = option_map (λ name. record { section = name; span = record { place = place; len = len } }) section
+text_by section place len = option_map
+    (λ name. record { section = name; span = record { place = place; len = len } }) section
 
--- the file and the line of a call, by which of them there are; where one has more than 32 bits, both stand at a place of a list
+-- the file and the line of a call, by which of them there are; where one has more than 32 bits,
+-- both stand at a place of a list
 abbrev pub call_site : List CallSite → Calls → ℕ → ℕ → CallSite
 call_site wide calls.Missing file line = record { file = None; line = None }
 call_site wide calls.File file line = record { file = Some file; line = None }
 call_site wide calls.Line file line = record { file = None; line = Some line }
 call_site wide calls.Both file line = record { file = Some file; line = Some line }
-call_site wide calls.Wide file line = unwrap_or (slice_get wide file) (record { file = None; line = None })
+call_site wide calls.Wide file line =
+    unwrap_or (slice_get wide file) (record { file = None; line = None })
 
 -- the stmt_list of the root of a number
 abbrev pub root_stmt_list : List Root → ℕ → Option ℕ
@@ -73,13 +81,15 @@ scope_by_parts roots site ranges s = record {
 
 -- .. by the lists that scopes share
 abbrev pub scope_of : List Root → List CallSite → List Range → Kept → Scope
-scope_of roots wide ranges s = scope_by_parts roots (call_site wide s.calls s.call_file s.call_line) ranges s
+scope_of roots wide ranges s =
+    scope_by_parts roots (call_site wide s.calls s.call_file s.call_line) ranges s
 
 -- the scopes of the program, whose ranges stand one behind another in a list, from a place on
 abbrev pub scopes_from : List Root → List CallSite → List Range → ℕ → List Kept → List Scope
 scopes_from roots wide ranges first [] = []
 scopes_from roots wide ranges first (s ∷ ss) =
-    scope_of roots wide (take (s.ranges_end - first) (drop first ranges)) s ∷ scopes_from roots wide ranges s.ranges_end ss
+    scope_of roots wide (take (s.ranges_end - first) (drop first ranges)) s
+    ∷ scopes_from roots wide ranges s.ranges_end ss
 
 abbrev pub scopes_of : List Root → ScopeLists → List Scope
 scopes_of roots lists = scopes_from roots lists.wide.items lists.ranges.items 0 lists.scopes.items
@@ -125,7 +135,9 @@ pub record Tree : Type 0 where
 
 -- the tags of scopes (7.5.3, table 7.3)
 abbrev pub kind_of : ℕ → Option ScopeKind
-kind_of tag = if tag == DW_TAG_SUBPROGRAM then Some Subprogram else (if tag == DW_TAG_INLINED_SUBROUTINE then Some Inlined else None)
+kind_of tag =
+    if tag == DW_TAG_SUBPROGRAM then Some Subprogram
+    else (if tag == DW_TAG_INLINED_SUBROUTINE then Some Inlined else None)
 
 abbrev pub is_scope : Die → Bool
 is_scope die = is_some (kind_of die.tag)
@@ -137,10 +149,15 @@ pub record ScopeSite : Type 0 where
   pub inside : ℕ
 
 -- an entry in front of the places behind it, if it is a scope
-abbrev pub site_of : CompilationUnit → Die → List Die → Option ScopeKind → List ScopeSite → List ScopeSite
+abbrev pub site_of : CompilationUnit → Die → List Die → Option ScopeKind → List ScopeSite
+    → List ScopeSite
 site_of unit die rest None places = places
 site_of unit die rest (Some kind) places =
-    record { member = record { unit = unit; die = die }; kind = kind; inside = count_by is_scope (below die rest) } ∷ places
+    record {
+      member = record { unit = unit; die = die };
+      kind = kind;
+      inside = count_by is_scope (below die rest);
+    } ∷ places
 
 -- the scopes among the entries of a unit
 abbrev pub sites_in : CompilationUnit → List Die → List ScopeSite
@@ -165,7 +182,8 @@ pub record Judged : Type 0 where
   pub items : ℕ
 
 -- the scope at a place, behind the scopes before it: its names, then its ranges
-abbrev pub scope_by : Result EntryNames Cause → Sections → List Judged → ScopeSite → Result Judged Cause
+abbrev pub scope_by : Result EntryNames Cause → Sections → List Judged → ScopeSite
+    → Result Judged Cause
 scope_by found sections before p = do
   names ← found
   let die = p.member.die
@@ -186,27 +204,37 @@ scope_by found sections before p = do
     };
   })
 
-abbrev pub scope_at : Sections → List CompilationUnit → List Judged → ScopeSite → Result Judged Cause
+abbrev pub scope_at : Sections → List CompilationUnit → List Judged → ScopeSite
+    → Result Judged Cause
 scope_at sections units before p = scope_by (names_of sections units p.member) sections before p
 
 -- the root of a unit in front of the roots behind it, if the unit has one
 abbrev pub root_of : ℕ → ℕ → List Die → List Root → List Root
 root_of first past [] roots = roots
 root_of first past (root ∷ dies) roots =
-    record { offset = root.offset; stmt_list = number_of DW_AT_STMT_LIST root; first = first; past = past } ∷ roots
+    record {
+      offset = root.offset;
+      stmt_list = number_of DW_AT_STMT_LIST root;
+      first = first;
+      past = past;
+    } ∷ roots
 
 -- the roots of the units, where so many scopes stand before them
 abbrev pub roots_from : ℕ → List CompilationUnit → List Root
 roots_from number [] = []
 roots_from number (unit ∷ units) =
-    let past = number + count_by is_scope unit.dies in root_of number past unit.dies (roots_from past units)
+    let past = number + count_by is_scope unit.dies in
+    root_of number past unit.dies (roots_from past units)
 
 -- Pass by pass over all units: headers, tables, entries, roots, scopes.
 unfoldable pub tree_of : Sections → Result Tree LoadFault
 tree_of s = do
   headers ← in_section names.DebugInfo (units_of s.debug_info)
   tables ← in_section names.DebugAbbrev (tables_of s.debug_abbrev headers)
-  dies ← in_section names.DebugInfo (each (λ _ p. entries_of s.debug_info p.0 p.1) (zip headers tables))
+  dies ← in_section names.DebugInfo
+      (each (λ _ p. entries_of s.debug_info p.0 p.1) (zip headers tables))
   units ← in_section names.DebugInfo (each (λ _ p. unit_of s p.0 p.1) (zip headers dies))
-  judged ← in_section names.DebugInfo (each (λ before p. told_at p.member.die.offset (scope_at s units before p)) (flat_map (λ unit. sites_in unit unit.dies) units))
+  judged ← in_section names.DebugInfo (each
+      (λ before p. told_at p.member.die.offset (scope_at s units before p))
+      (flat_map (λ unit. sites_in unit unit.dies) units))
   Ok (record { roots = roots_from 0 units; scopes = map (λ j. j.scope) judged })

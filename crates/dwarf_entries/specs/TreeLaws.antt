@@ -1,5 +1,6 @@
 -- What is true of the answer to a whole object.
-use Rattle.std.specs.Prelude.{◌≡◌, ◌≢◌, ℕ, ◌+◌, ◌<◌, ◌≤◌, ◌^◌, List, [], ◌∷◌, length, take, drop, Some, Result, Ok, All, slice_get, zip}
+use Rattle.std.specs.Prelude.{◌≡◌, ◌≢◌, ℕ, ◌+◌, ◌<◌, ◌≤◌, ◌^◌, List, [], ◌∷◌, length}
+use Rattle.std.specs.Prelude.{take, drop, Some, Result, Ok, All, slice_get, zip}
 use Rattle.std.specs.List.Sorted.{IsStrictlyIncreasing}
 use Rattle.dwarf_bytes.specs.declared.fault.LoadFault.{LoadFault}
 use Rattle.dwarf_bytes.specs.declared.fault.Section.{Section}
@@ -27,13 +28,15 @@ RiseBelow end offsets = IsStrictlyIncreasing offsets × All (λ offset. offset <
 abbrev pub HoldsAddresses : Range → Type 0
 HoldsAddresses range = (range.from < range.to) × (range.to < 2 ^ 64)
 
--- The numbers from one up to an end are parted among roots, in order: those of each begin where those of the one before it end.
+-- The numbers from one up to an end are parted among roots, in order: those of each begin where
+-- those of the one before it end.
 abbrev pub ArePartsFrom : ℕ → ℕ → List Root → Type 0
 ArePartsFrom number end [] = number ≡ end
-ArePartsFrom number end (root ∷ roots) = (root.first ≡ number) × (number ≤ root.past) × ArePartsFrom root.past end roots
+ArePartsFrom number end (root ∷ roots) =
+    (root.first ≡ number) × (number ≤ root.past) × ArePartsFrom root.past end roots
 
--- A scope is of the unit of a root: its line program is the root's, it ends within the root's scopes, and stands at the root or
--- behind it.
+-- A scope is of the unit of a root: its line program is the root's, it ends within the root's
+-- scopes, and stands at the root or behind it.
 pub record IsOfUnit (root : Root) (scope : Scope) : Type 0 where
   pub stmt_list_is : scope.stmt_list ≡ root.stmt_list
   pub ends : scope.«end» ≤ root.past
@@ -44,7 +47,8 @@ unfoldable pub units_read : Sections → Result (List CompilationUnit) LoadFault
 units_read s = do
   headers ← in_section names.DebugInfo (units_of s.debug_info)
   tables ← in_section names.DebugAbbrev (tables_of s.debug_abbrev headers)
-  dies ← in_section names.DebugInfo (each (λ _ p. entries_of s.debug_info p.0 p.1) (zip headers tables))
+  dies ← in_section names.DebugInfo
+      (each (λ _ p. entries_of s.debug_info p.0 p.1) (zip headers tables))
   in_section names.DebugInfo (each (λ _ p. unit_of s p.0 p.1) (zip headers dies))
 
 -- A scope is the entry at a place among those of the unit of a number.
@@ -70,7 +74,9 @@ section_bytes s names.DebugRnglists = s.debug_rnglists
 
 -- A text stands in its section: a NUL stands behind it there, and none in it.
 abbrev pub IsTextIn : List ℕ → Span → Type 0
-IsTextIn bytes span = (slice_get bytes (span.place + span.len) ≡ Some 0) × All (λ byte. byte ≢ 0) (take span.len (drop span.place bytes))
+IsTextIn bytes span =
+    (slice_get bytes (span.place + span.len) ≡ Some 0)
+    × All (λ byte. byte ≢ 0) (take span.len (drop span.place bytes))
 
 abbrev pub IsTextOf : Sections → Text → Type 0
 IsTextOf s text = IsTextIn (section_bytes s text.section) text.span
@@ -78,8 +84,12 @@ IsTextOf s text = IsTextIn (section_bytes s text.section) text.span
 -- Units stand end to end in .debug_info, from a place up to its end, each as its header tells.
 abbrev pub StandEndToEnd : List ℕ → ℕ → List UnitHeader → Type 0
 StandEndToEnd info at [] = at ≡ length info
-StandEndToEnd info at (header ∷ headers) = (unit_at info at ≡ Ok header) × (header.start ≡ at) × (at < header.end) × StandEndToEnd info header.end headers
+StandEndToEnd info at (header ∷ headers) =
+    (unit_at info at ≡ Ok header) × (header.start ≡ at) × (at < header.end)
+    × StandEndToEnd info header.end headers
 
--- What stands in a unit, its entries and nulls, stands end to end from its first entry up to its end.
+-- What stands in a unit, its entries and nulls,
+-- stands end to end from its first entry up to its end.
 abbrev pub FillsUnit : List ℕ → UnitHeader → List Declaration → List Standing → Type 0
-FillsUnit info header table all = Lists (node_at header.format table (take header.end info)) [] header.first all header.end
+FillsUnit info header table all =
+    Lists (node_at header.format table (take header.end info)) [] header.first all header.end

@@ -15,7 +15,8 @@ pub(crate) struct CallSite {
     pub(crate) line: Option<u64>,
 }
 
-/// Which numbers of a call there are. Where one of them has more than 32 bits, both stand in a list.
+/// Which numbers of a call there are. Where one of them has more than 32 bits,
+/// both stand in a list.
 #[derive(Clone, Copy, Debug)]
 pub(crate) enum Calls {
     Missing,
@@ -44,8 +45,8 @@ impl CallSite {
         CallSite { file, line }
     }
 
-    /// Which numbers there are, the file and the line. A call with a number of more than 32 bits goes to
-    /// the end of the list of the wide ones, and its place there is told as the file.
+    /// Which numbers there are, the file and the line. A call with a number of more than 32 bits
+    /// goes to the end of the list of the wide ones, and its place there is told as the file.
     pub(crate) fn pack(self, wide: &mut Vec<CallSite>) -> Result<(Calls, u32, u32), AllocError>
         ensures told { IfOk result (λ parts. call_site wide.new.items parts.0 parts.1 parts.2
             ≡ self) }

@@ -1,13 +1,16 @@
 //! The entries of a unit (DWARF 5, 2.3, 7.5.2 and 7.5.3).
 
-ghost use Rattle.std.specs.Prelude.{◌≡◌, ◌≤◌, ℕ, List, [], None, Ok, is_some, IsSome, IfOk, OnOk, not, take, reverse};
+ghost use Rattle.std.specs.Prelude.{◌≡◌, ◌≤◌, ℕ, List, [], None, Ok, is_some};
+ghost use Rattle.std.specs.Prelude.{IsSome, IfOk, OnOk, not, take, reverse};
 ghost use Rattle.dwarf_bytes.specs.declared.fault.Section.TheVariants as sections;
 ghost use Rattle.dwarf_bytes.specs.Refusals.{Decodes, in_section};
 ghost use Rattle.std.specs.List.{filter_map};
-ghost use Rattle.dwarf_units.specs.Entries.{Die, Node, Standing, depth_limit, die_of, node_behind, entries_of};
+ghost use Rattle.dwarf_units.specs.Entries.{Die, Node, Standing, depth_limit};
+ghost use Rattle.dwarf_units.specs.Entries.{die_of, node_behind, entries_of};
 ghost use Rattle.dwarf_entries.specs.Private.Kept.{kept_of, kept_entries};
 ghost use Rattle.dwarf_entries.specs.Private.Marks.{AddsMarks, offsets_of};
-ghost use Rattle.dwarf_entries.specs.Private.Readers.{ReadsNode, walked_of, after_die, with_scope, walked_at, nodes_of, places_of, walk_of};
+ghost use Rattle.dwarf_entries.specs.Private.Readers.{ReadsNode, walked_of, after_die, with_scope};
+ghost use Rattle.dwarf_entries.specs.Private.Readers.{walked_at, nodes_of, places_of, walk_of};
 ghost use Rattle.dwarf_entries.specs.Private.Ends.{ended_at, left_open, with_end};
 ghost use Rattle.dwarf_units.specs.Private.Plans.{Fills};
 
@@ -129,7 +132,13 @@ impl Walk {
 
     /// Keeps what is wanted of the entry at an offset.
     fn keep(&mut self, offset: usize, tag: u64, attributes: &[Attribute]) -> Result<(), AllocError>
-        ensures { OnOk result (walked_of self.new ≡ after_die (walked_of self.old) (record { offset = offset; depth = self.old.depth; tag = tag; attributes = attributes.now })) }
+        ensures { OnOk result (walked_of self.new
+            ≡ after_die (walked_of self.old) (record {
+              offset = offset;
+              depth = self.old.depth;
+              tag = tag;
+              attributes = attributes.now;
+            })) }
     {
         if self.root.is_none() {
             self.root = Some(RootEntry::of(offset, attributes));
@@ -184,8 +193,8 @@ pub(crate) fn unit_bytes<'a>(info: &'a [u8], header: &UnitHeader) -> &'a [u8]
     .of(info)
 }
 
-/// The entry at the cursor, at a depth, or none for a null. `rooted` is whether the root of the unit
-/// stands before it. If not, its used attributes come into `found`.
+/// The entry at the cursor, at a depth, or none for a null. `rooted` is whether the root of the
+/// unit stands before it. If not, its used attributes come into `found`.
 fn node(
     table: &UnitTable,
     depth: u16,
@@ -206,13 +215,15 @@ fn node(
     Ok(Some(NodeHead { tag, children }))
 }
 
-/// Ends the open scopes that an entry at a depth is not below: all scopes behind them are below them.
+/// Ends the open scopes that an entry at a depth is not below:
+/// all scopes behind them are below them.
 fn end_scopes(
     scopes: &mut Vec<ScopePlace>,
     opened: &mut Vec<OpenScope>,
     depth: u16,
 ) -> Result<(), AllocError>
-    ensures { OnOk result ((scopes.new.items ≡ ended_at depth (reverse opened.old.items) scopes.old.items)
+    ensures { OnOk result (
+        (scopes.new.items ≡ ended_at depth (reverse opened.old.items) scopes.old.items)
         × (reverse opened.new.items ≡ left_open depth (reverse opened.old.items))) }
 {
     while let Some(last) = opened.last() {

@@ -13,8 +13,8 @@ use crate::scope::ScopeKind;
 use dwarf_bytes::constants::*;
 use dwarf_units::{Attribute, AttributeValue, UnitHeader, value_of};
 
-/// An entry, as far as names go: its offset in the section, the reference to its next entry, and its
-/// names.
+/// An entry, as far as names go: its offset in the section, the reference to its next entry,
+/// and its names.
 #[derive(Clone, Copy)]
 pub(crate) struct NamedEntry {
     pub(crate) offset: usize,

@@ -1,7 +1,8 @@
 //! The names to which references led, so that the path behind an entry is followed once for many
 //! references to it.
 
-ghost use Rattle.std.specs.Prelude.{◌≡◌, ◌==◌, ℕ, ◌<◌, length, None, Some, IfSome, OnOk, OnErr, if◌then◌else◌};
+ghost use Rattle.std.specs.Prelude.{◌≡◌, ◌==◌, ℕ, ◌<◌, length, None, Some};
+ghost use Rattle.std.specs.Prelude.{IfSome, OnOk, OnErr, if◌then◌else◌};
 ghost use Rattle.dwarf_entries.specs.Private.KnownNames.{slot_at, slot_of};
 
 use crate::paths::{EntryNames, UnitPlace};

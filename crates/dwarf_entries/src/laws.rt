@@ -1,9 +1,11 @@
 //! What is true of all units and their entries.
 
-ghost use Rattle.std.specs.Prelude.{◌≡◌, ◌<◌, ◌+◌, ◌↔◌, ℕ, List, [], ◌∷◌, ◌++◌, Option, Some, Ok, true, map, take, drop, count_by, slice_get};
+ghost use Rattle.std.specs.Prelude.{◌≡◌, ◌<◌, ◌+◌, ◌↔◌, ℕ, List, [], ◌∷◌, ◌++◌, Option};
+ghost use Rattle.std.specs.Prelude.{Some, Ok, true, map, take, drop, count_by, slice_get};
 ghost use Rattle.dwarf_entries.specs.declared.scope.Range.{Range};
 ghost use Rattle.dwarf_entries.specs.declared.range_entries.RangeListEntry.{RangeListEntry};
-ghost use Rattle.dwarf_entries.specs.declared.range_entries.RangeListEntry.TheVariants.{Base, Covers};
+ghost use Rattle.dwarf_entries.specs.declared.range_entries.RangeListEntry.TheVariants.{Base};
+ghost use Rattle.dwarf_entries.specs.declared.range_entries.RangeListEntry.TheVariants.{Covers};
 ghost use Rattle.dwarf_units.specs.Entries.{Die, below, IsBelow};
 ghost use Rattle.dwarf_entries.specs.Ranges.{base_after};
 ghost use Rattle.dwarf_entries.specs.declared.scope.Scope.{Scope as Kept};
@@ -17,9 +19,9 @@ pub use crate::tree_laws::{
 };
 pub use dwarf_units::laws::{entries_stand_at_counted_depths, offsets_of_entries_rise};
 
-/// Of two scopes among the entries of a unit, one is below the other exactly where its number stands
-/// between the other's number and end. A scope's number is how many scopes stand before it, and its
-/// end is the number behind the scopes that are below it.
+/// Of two scopes among the entries of a unit, one is below the other exactly where its number
+/// stands between the other's number and end. A scope's number is how many scopes stand before it,
+/// and its end is the number behind the scopes that are below it.
 pub fn scopes_below_are_between()
     ensures { (dies : List Die) (i j : ℕ) (outer inner : Die)
         → slice_get dies i ≡ Some outer → slice_get dies j ≡ Some inner
@@ -39,8 +41,8 @@ pub fn base_is_of_last_base_entry()
         → base_after low_pc (map (λ range. Covers range) ranges) ≡ low_pc }
 {}
 
-/// The scopes of an object have their places as numbers, end within their list, and none ends inside
-/// another one that began before it.
+/// The scopes of an object have their places as numbers, end within their list, and none ends
+/// inside another one that began before it.
 pub fn scopes_stand_in_order()
     ensures { (s : Sections) (tree : Tree) → tree_of s ≡ Ok tree → AreInOrder tree.scopes }
 {}

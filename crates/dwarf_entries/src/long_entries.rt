@@ -1,6 +1,7 @@
 //! What paths need of long entries, which are read once however many references lead to them.
 
-ghost use Rattle.std.specs.Prelude.{◌≡◌, ◌==◌, ◌↔◌, None, Some, IfSome, IsTrue, OnOk, OnErr, if◌then◌else◌};
+ghost use Rattle.std.specs.Prelude.{◌≡◌, ◌==◌, ◌↔◌, None, Some, IfSome};
+ghost use Rattle.std.specs.Prelude.{IsTrue, OnOk, OnErr, if◌then◌else◌};
 ghost use Rattle.dwarf_entries.specs.Private.Long.{held_at, long_entry};
 
 use crate::kept::NamedEntry;

@@ -10,7 +10,8 @@ ghost use Rattle.dwarf_entries.specs.Sections.{sections_of};
 ghost use Rattle.dwarf_units.specs.Units.{tables_of};
 ghost use Rattle.dwarf_entries.specs.Private.Kept.{kept_of};
 ghost use Rattle.dwarf_entries.specs.Private.Marks.{AddsMarks, all_offsets};
-ghost use Rattle.dwarf_entries.specs.Private.Passes.{all_entries, all_kept, kept_units, bases_in, all_bases};
+ghost use Rattle.dwarf_entries.specs.Private.Passes.{all_entries, all_kept};
+ghost use Rattle.dwarf_entries.specs.Private.Passes.{kept_units, bases_in, all_bases};
 
 use crate::bases::Bases;
 use crate::entries::entries;

@@ -1,6 +1,7 @@
 //! The names of an entry by way of its references (DWARF 5, 2.13, 2.15 and 3.3.8).
 
-ghost use Rattle.std.specs.Prelude.{◌≡◌, ◌<◌, ◌≤◌, ◌⊎◌, ◌++◌, ◌∷◌, [], List, Some, MatchOption, length, map, slice_get, option_map};
+ghost use Rattle.std.specs.Prelude.{◌≡◌, ◌<◌, ◌≤◌, ◌⊎◌, ◌++◌, ◌∷◌, [], List, Some};
+ghost use Rattle.std.specs.Prelude.{MatchOption, length, map, slice_get, option_map};
 ghost use Rattle.std.specs.Option.{option_or};
 ghost use Rattle.std.specs.List.Sorted.{IsNonDecreasingBy, IsPartitionPoint};
 ghost use Rattle.dwarf_entries.specs.Sections.{Sections as SectionBytes, sections_of};
@@ -11,7 +12,9 @@ ghost use Rattle.dwarf_bytes.specs.Refusals.{Gives};
 ghost use Rattle.dwarf_entries.specs.Private.Again.{AreReadIn, IsReaderOf};
 ghost use Rattle.dwarf_entries.specs.Private.KnownNames.{names_within};
 ghost use Rattle.dwarf_entries.specs.Private.Marks.{AreMarked};
-ghost use Rattle.dwarf_entries.specs.Private.Members.{AreKept, IsMember, IsPlaceOf, Finds, TellsMember, member_in, AreFirst, FindsFirst, str_offsets_of};
+ghost use Rattle.dwarf_entries.specs.Private.Members.{AreKept, IsMember, IsPlaceOf, Finds};
+ghost use Rattle.dwarf_entries.specs.Private.Members.{TellsMember, member_in, AreFirst};
+ghost use Rattle.dwarf_entries.specs.Private.Members.{FindsFirst, str_offsets_of};
 
 use crate::again::EntryReader;
 use crate::bases::Bases;

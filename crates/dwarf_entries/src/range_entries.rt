@@ -2,7 +2,8 @@
 
 ghost use Rattle.std.specs.Prelude.{◌≡◌, ◌<◌, IsSome, IfOk};
 ghost use Rattle.dwarf_bytes.specs.Refusals.{ReadsField, ReadsNext};
-ghost use Rattle.dwarf_entries.specs.Ranges.{kind_of, covered, covered_from, covered_pair, index_at, entry_at, listed_behind};
+ghost use Rattle.dwarf_entries.specs.Ranges.{kind_of, covered, covered_from, covered_pair};
+ghost use Rattle.dwarf_entries.specs.Ranges.{index_at, entry_at, listed_behind};
 ghost use Rattle.dwarf_entries.specs.Sections.{sections_of};
 
 use crate::bases::{Bases, item_at};

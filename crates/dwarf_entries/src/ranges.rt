@@ -1,7 +1,8 @@
 //! The addresses of a scope (DWARF 5, 2.17 and 7.25).
 
 ghost use Rattle.std.specs.Prelude.{◌≡◌};
-ghost use Rattle.dwarf_entries.specs.Ranges.{list_place, list_at, list_of, high_of, pair_range, pair_at, covers_by};
+ghost use Rattle.dwarf_entries.specs.Ranges.{list_place, list_at, list_of, high_of};
+ghost use Rattle.dwarf_entries.specs.Ranges.{pair_range, pair_at, covers_by};
 ghost use Rattle.dwarf_entries.specs.Private.Shared.{AddsRanges};
 ghost use Rattle.dwarf_entries.specs.Sections.{sections_of};
 

@@ -16,7 +16,8 @@ pub(crate) fn bases(
     format: Format,
     root: &RootEntry,
 ) -> Result<Bases, Cause>
-    ensures { result ≡ bases_by (sections_of sections.now) format root.now.str_offsets_base root.now.addr_base root.now.rnglists_base root.now.low_pc }
+    ensures { result ≡ bases_by (sections_of sections.now) format root.now.str_offsets_base
+        root.now.addr_base root.now.rnglists_base root.now.low_pc }
 {
     let str_offsets = table(
         TableKind::StrOffsets,

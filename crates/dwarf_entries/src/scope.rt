@@ -1,7 +1,8 @@
 //! What is told of subprograms and inlined subroutines (DWARF 5, 3.3).
 
 ghost use Rattle.std.specs.Prelude.{◌≡◌, IfOk};
-ghost use Rattle.dwarf_entries.specs.Scopes.{own_of, ranges_at, stmt_list_at, call_file_at, call_line_at};
+ghost use Rattle.dwarf_entries.specs.Scopes.{own_of, ranges_at, stmt_list_at};
+ghost use Rattle.dwarf_entries.specs.Scopes.{call_file_at, call_line_at};
 ghost use Rattle.dwarf_entries.specs.Scopes.{text_by};
 ghost use Rattle.dwarf_entries.specs.Private.Shared.{Packs};
 
@@ -63,8 +64,8 @@ pub(crate) struct ScopeFacts {
     pub(crate) site: CallSite,
 }
 
-/// The root of a unit, by its offset in `.debug_info`. The scopes of the unit are those from the number
-/// `first` up to `past`, which is not of them.
+/// The root of a unit, by its offset in `.debug_info`. The scopes of the unit are those from the
+/// number `first` up to `past`, which is not of them.
 #[derive(Clone, Copy, Debug, PartialEq, Eq)]
 pub struct Root {
     pub offset: usize,
@@ -74,8 +75,9 @@ pub struct Root {
 }
 
 impl Scope {
-    /// By what is told of it, and by where its ranges end in the list of all; `wide` are the calls with
-    /// numbers of more than 32 bits. Other numbers and places from 2^32 on are told as want of memory.
+    /// By what is told of it, and by where its ranges end in the list of all; `wide` are the calls
+    /// with numbers of more than 32 bits.
+    /// Other numbers and places from 2^32 on are told as want of memory.
     pub(crate) fn of(
         told: ScopeFacts,
         ranges_end: usize,

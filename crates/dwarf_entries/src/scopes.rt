@@ -4,7 +4,8 @@ ghost use Rattle.std.specs.Prelude.{◌≡◌, ◌<◌, ◌^◌, map, List};
 ghost use Rattle.dwarf_bytes.specs.Refusals.{Decodes, Builds};
 ghost use Rattle.dwarf_entries.specs.Sections.{sections_of};
 ghost use Rattle.dwarf_entries.specs.Bases.{CompilationUnit};
-ghost use Rattle.dwarf_entries.specs.Scopes.{own, own_of, ranges_at, stmt_list_at, call_file_at, call_line_at, roots_from, tree_of};
+ghost use Rattle.dwarf_entries.specs.Scopes.{own, own_of, ranges_at, stmt_list_at};
+ghost use Rattle.dwarf_entries.specs.Scopes.{call_file_at, call_line_at, roots_from, tree_of};
 ghost use Rattle.dwarf_entries.specs.Private.Texts.{AreTexts};
 ghost use Rattle.dwarf_entries.specs.Private.Again.{IsReaderOf};
 ghost use Rattle.dwarf_entries.specs.Private.Passes.{kept_unit_of, TablesRead, tree_with};
@@ -52,7 +53,8 @@ impl Model for Scopes {
 
     ghost Value = { Tree };
 
-    ghost view = { λ s. record { roots = s.roots.items; scopes = scopes_of s.roots.items s.lists } };
+    ghost view = { λ s.
+        record { roots = s.roots.items; scopes = scopes_of s.roots.items s.lists } };
 }
 
 impl Scopes {

@@ -1,13 +1,16 @@
 //! The pass over the scopes of all units (DWARF 5, 3.3): their names, then their ranges.
 
-ghost use Rattle.std.specs.Prelude.{◌≡◌, ◌≤◌, ◌<◌, ◌+◌, ◌^◌, List, Some, length, slice_get, IfOk, OnOk};
+ghost use Rattle.std.specs.Prelude.{◌≡◌, ◌≤◌, ◌<◌, ◌+◌, ◌^◌, List, Some};
+ghost use Rattle.std.specs.Prelude.{length, slice_get, IfOk, OnOk};
 ghost use Rattle.dwarf_bytes.specs.declared.fault.Section.TheVariants as names;
 ghost use Rattle.dwarf_bytes.specs.Refusals.{Decodes, in_section};
 ghost use Rattle.dwarf_entries.specs.Sections.{Sections as SectionBytes, sections_of};
 ghost use Rattle.dwarf_entries.specs.Private.Texts.{AreTexts};
 ghost use Rattle.dwarf_entries.specs.Bases.{CompilationUnit};
-ghost use Rattle.dwarf_entries.specs.Scopes.{Judged, ScopeSite, scope_at, sites_in, roots_from, scopes_of};
-ghost use Rattle.dwarf_entries.specs.Private.Passes.{AreUnits, IsRootOf, IsScopeSite, AreJudged, AddsScopes, scope_facts, all_scopes};
+ghost use Rattle.dwarf_entries.specs.Scopes.{Judged, ScopeSite, scope_at};
+ghost use Rattle.dwarf_entries.specs.Scopes.{sites_in, roots_from, scopes_of};
+ghost use Rattle.dwarf_entries.specs.Private.Passes.{AreUnits, IsRootOf, IsScopeSite, AreJudged};
+ghost use Rattle.dwarf_entries.specs.Private.Passes.{AddsScopes, scope_facts, all_scopes};
 ghost use Rattle.dwarf_entries.specs.Private.Marks.{AreMarked};
 ghost use Rattle.dwarf_entries.specs.Private.Again.{AreReadIn, IsReaderOf};
 ghost use Rattle.dwarf_entries.specs.Private.KnownNames.{AreKnownOf};

@@ -24,7 +24,9 @@ TellsAndLeaves (Err cause) left outcome = Fails cause outcome
 
 -- the scope whose entry stands at an offset of a unit; another entry is none that was referred to
 abbrev pub scope_entry_at : Format → List Declaration → List ℕ → ℕ → Result ScopeEntry Cause
-scope_entry_at format table unit offset = used_at format table unit offset >>= λ entry. ok_or (scope_entry_of (entry_with offset entry)) causes.Reference
+scope_entry_at format table unit offset =
+    used_at format table unit offset
+    >>= λ entry. ok_or (scope_entry_of (entry_with offset entry)) causes.Reference
 
 -- A reader reads the sections, and what it holds is of them.
 pub record IsReaderOf (s : Sections) (reader : EntryReader) : Type 0 where
@@ -38,7 +40,8 @@ pub record IsReadIn (s : Sections) (u : CompilationUnit) : Type 0 where
   pub table_is : declarations_of declarations_limit s.debug_abbrev u.header.abbreviations ≡ Ok table
   pub again :
       (k : ℕ) (die : Die) → slice_get u.dies k ≡ Some die
-      → (after : ℕ) × (entry_at u.header.format table (take u.header.end s.debug_info) die.offset ≡ Ok ((die.tag, die.attributes), after))
+      → (after : ℕ) × (entry_at u.header.format table (take u.header.end s.debug_info) die.offset
+      ≡ Ok ((die.tag, die.attributes), after))
 
 -- .. of each of these
 abbrev pub AreReadIn : Sections → List CompilationUnit → Type 0

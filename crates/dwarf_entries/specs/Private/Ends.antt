@@ -1,5 +1,6 @@
 -- The scopes among the entries of a unit that were read so far, and which of them have ended.
-use Rattle.std.specs.Prelude.{ℕ, zero, suc, List, [], ◌∷◌, ◌++◌, Bool, if◌then◌else◌, nat_le, count_by, length}
+use Rattle.std.specs.Prelude.{ℕ, zero, suc, List, [], ◌∷◌, ◌++◌, Bool}
+use Rattle.std.specs.Prelude.{if◌then◌else◌, nat_le, count_by, length}
 use Rattle.std.specs.List.{list_any}
 use Rattle.dwarf_entries.specs.declared.entries.OpenScope.{OpenScope}
 use Rattle.dwarf_entries.specs.declared.kept.ScopePlace.{ScopePlace}
@@ -17,16 +18,22 @@ known_inside die rest = if is_ended die rest then count_by is_scope (below die r
 -- the places of the scopes among entries
 abbrev pub known_places : List Die → List ScopePlace
 known_places [] = []
-known_places (die ∷ rest) = if is_scope die then record { offset = die.offset; inside = known_inside die rest } ∷ known_places rest else known_places rest
+known_places (die ∷ rest) =
+    if is_scope die
+    then record { offset = die.offset; inside = known_inside die rest } ∷ known_places rest
+    else known_places rest
 
 -- the scope of an entry, by its number, if it has not ended
 abbrev pub open_scope : ℕ → Die → List Die → List OpenScope
-open_scope number die rest = if is_ended die rest then [] else record { depth = die.depth; number = number } ∷ []
+open_scope number die rest =
+    if is_ended die rest then [] else record { depth = die.depth; number = number } ∷ []
 
 -- the scopes among entries that have not ended, the last one first; the first has this number
 abbrev pub open_scopes : ℕ → List Die → List OpenScope
 open_scopes number [] = []
-open_scopes number (die ∷ rest) = if is_scope die then open_scopes (suc number) rest ++ open_scope number die rest else open_scopes number rest
+open_scopes number (die ∷ rest) =
+    if is_scope die then open_scopes (suc number) rest ++ open_scope number die rest
+    else open_scopes number rest
 
 -- the places, where all scopes behind the one of a number are below it
 abbrev pub with_end : ℕ → List ScopePlace → List ScopePlace
@@ -42,7 +49,8 @@ left_open depth (o ∷ os) = if nat_le depth o.depth then left_open depth os els
 -- the places, where such an entry ends the other ones
 abbrev pub ended_at : ℕ → List OpenScope → List ScopePlace → List ScopePlace
 ended_at depth [] ps = ps
-ended_at depth (o ∷ os) ps = if nat_le depth o.depth then ended_at depth os (with_end o.number ps) else ps
+ended_at depth (o ∷ os) ps =
+    if nat_le depth o.depth then ended_at depth os (with_end o.number ps) else ps
 
 -- the place of one more entry, if it is a scope
 abbrev pub new_place : Die → List ScopePlace
@@ -50,4 +58,5 @@ new_place die = if is_scope die then record { offset = die.offset; inside = 0 } 
 
 -- .. as the scope of a number that is open
 abbrev pub new_open : ℕ → Die → List OpenScope
-new_open number die = if is_scope die then record { depth = die.depth; number = number } ∷ [] else []
+new_open number die =
+    if is_scope die then record { depth = die.depth; number = number } ∷ [] else []

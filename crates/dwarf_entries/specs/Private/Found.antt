@@ -1,6 +1,16 @@
 -- The attributes of an entry by their names, for the contracts of the walks over them.
 use Rattle.std.specs.Prelude.{List}
-use Rattle.dwarf_bytes.specs.declared.constants.TheConstants.{DW_AT_ABSTRACT_ORIGIN, DW_AT_CALL_FILE, DW_AT_CALL_LINE, DW_AT_HIGH_PC, DW_AT_LINKAGE_NAME, DW_AT_LOW_PC, DW_AT_NAME, DW_AT_RANGES, DW_AT_SPECIFICATION}
+use Rattle.dwarf_bytes.specs.declared.constants.TheConstants.{
+  DW_AT_ABSTRACT_ORIGIN,
+  DW_AT_CALL_FILE,
+  DW_AT_CALL_LINE,
+  DW_AT_HIGH_PC,
+  DW_AT_LINKAGE_NAME,
+  DW_AT_LOW_PC,
+  DW_AT_NAME,
+  DW_AT_RANGES,
+  DW_AT_SPECIFICATION,
+}
 use Rattle.dwarf_units.specs.declared.attributes.Attribute.{Attribute}
 use Rattle.dwarf_units.specs.Entries.{value_of}
 use Rattle.dwarf_entries.specs.declared.found.FoundAttributes.{FoundAttributes}

@@ -1,6 +1,19 @@
 -- What is kept of the entries of a unit, for the contracts of the passes.
-use Rattle.std.specs.Prelude.{ℕ, ◌≤◌, List, [], ◌∷◌, Option, Some, None, Result, Ok, option_map, count_by, sum_by, length}
-use Rattle.dwarf_bytes.specs.declared.constants.TheConstants.{DW_AT_ADDR_BASE, DW_AT_CALL_FILE, DW_AT_CALL_LINE, DW_AT_HIGH_PC, DW_AT_LINKAGE_NAME, DW_AT_LOW_PC, DW_AT_NAME, DW_AT_RANGES, DW_AT_RNGLISTS_BASE, DW_AT_STMT_LIST, DW_AT_STR_OFFSETS_BASE}
+use Rattle.std.specs.Prelude.{ℕ, ◌≤◌, List, [], ◌∷◌, Option, Some, None}
+use Rattle.std.specs.Prelude.{Result, Ok, option_map, count_by, sum_by, length}
+use Rattle.dwarf_bytes.specs.declared.constants.TheConstants.{
+  DW_AT_ADDR_BASE,
+  DW_AT_CALL_FILE,
+  DW_AT_CALL_LINE,
+  DW_AT_HIGH_PC,
+  DW_AT_LINKAGE_NAME,
+  DW_AT_LOW_PC,
+  DW_AT_NAME,
+  DW_AT_RANGES,
+  DW_AT_RNGLISTS_BASE,
+  DW_AT_STMT_LIST,
+  DW_AT_STR_OFFSETS_BASE,
+}
 use Rattle.dwarf_bytes.specs.Bind.{◌>>=◌}
 use Rattle.dwarf_bytes.specs.Items.{At}
 use Rattle.dwarf_forms.specs.Declarations.{Declaration}
@@ -18,7 +31,12 @@ use Rattle.dwarf_entries.specs.Names.{next_of}
 use Rattle.dwarf_entries.specs.Scopes.{kind_of, is_scope, number_of}
 
 abbrev pub named_entry : Die → NamedEntry
-named_entry die = record { offset = die.offset; next = next_of die; name = attribute die DW_AT_NAME; linkage_name = attribute die DW_AT_LINKAGE_NAME }
+named_entry die = record {
+  offset = die.offset;
+  next = next_of die;
+  name = attribute die DW_AT_NAME;
+  linkage_name = attribute die DW_AT_LINKAGE_NAME;
+}
 
 abbrev pub scope_entry : Die → ScopeKind → ScopeEntry
 scope_entry die kind = record {
@@ -50,10 +68,12 @@ abbrev pub root_in : List Die → Option RootEntry
 root_in [] = None
 root_in (root ∷ dies) = Some (root_entry root)
 
--- where an entry stands and how many scopes are below it, in front of the places behind it, if it is a scope
+-- where an entry stands and how many scopes are below it, in front of the places behind it, if it
+-- is a scope
 abbrev pub scope_place : Die → List Die → Option ScopeKind → List ScopePlace → List ScopePlace
 scope_place die rest None places = places
-scope_place die rest (Some kind) places = record { offset = die.offset; inside = count_by is_scope (below die rest) } ∷ places
+scope_place die rest (Some kind) places =
+    record { offset = die.offset; inside = count_by is_scope (below die rest) } ∷ places
 
 -- .. of each scope
 abbrev pub scope_places : List Die → List ScopePlace
@@ -89,4 +109,6 @@ scope_count units = sum_by (λ unit. length unit.scopes.items) units
 -- The units stand one behind another, from a place on, and hold their entries.
 abbrev pub AreInOrder : ℕ → List CompilationUnit → Type 0
 AreInOrder from [] = Unit {0}
-AreInOrder from (unit ∷ units) = (from ≤ unit.header.start) × RiseWithin unit.header.start unit.header.end unit.dies × AreInOrder unit.header.end units
+AreInOrder from (unit ∷ units) =
+    (from ≤ unit.header.start) × RiseWithin unit.header.start unit.header.end unit.dies
+    × AreInOrder unit.header.end units

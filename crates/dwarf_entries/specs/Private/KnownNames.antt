@@ -34,9 +34,13 @@ abbrev pub led_names : Sections → List CompilationUnit → Member → Result E
 led_names = names_within 15
 
 -- .. to which a reference in a unit leads
-abbrev pub names_behind : Sections → List CompilationUnit → CompilationUnit → AttributeValue → Result EntryNames Cause
+abbrev pub names_behind : Sections → List CompilationUnit → CompilationUnit → AttributeValue
+    → Result EntryNames Cause
 names_behind s units unit reference = target_of units unit reference >>= λ m. led_names s units m
 
 -- What is known of a place are the names to which the entry there leads.
 abbrev pub AreKnownOf : Sections → List CompilationUnit → KnownNames → Type 0
-AreKnownOf s units known = (slot : ℕ) (led : LedNames) → slot_at known slot ≡ Some led → (m : Member) → member_in units led.place.unit led.place.offset ≡ Ok m → led_names s units m ≡ Ok led.names
+AreKnownOf s units known =
+    (slot : ℕ) (led : LedNames) → slot_at known slot ≡ Some led
+    → (m : Member) → member_in units led.place.unit led.place.offset ≡ Ok m
+    → led_names s units m ≡ Ok led.names

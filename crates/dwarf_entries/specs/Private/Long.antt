@@ -17,10 +17,17 @@ held_at long offset = get nat_cmp long.held offset
 
 -- what was read in a unit with the header
 abbrev pub long_entry : UnitHeader → NamedEntry → LongEntry
-long_entry header entry = record { format = header.format; abbreviations = header.abbreviations; end = header.«end»; entry = entry }
+long_entry header entry = record {
+  format = header.format;
+  abbreviations = header.abbreviations;
+  end = header.«end»;
+  entry = entry;
+}
 
 -- What is held is what is read of these sections.
 abbrev pub AreHeldOf : List ℕ → List ℕ → LongEntries → Type 0
 AreHeldOf section info long =
-    (offset : ℕ) (held : LongEntry) → held_at long offset ≡ Some held → (table : List Declaration) → declarations_of declarations_limit section held.abbreviations ≡ Ok table →
-    named_entry_at held.format table (take held.«end» info) offset ≡ Ok held.entry
+    (offset : ℕ) (held : LongEntry) → held_at long offset ≡ Some held
+    → (table : List Declaration)
+    → declarations_of declarations_limit section held.abbreviations ≡ Ok table
+    → named_entry_at held.format table (take held.«end» info) offset ≡ Ok held.entry

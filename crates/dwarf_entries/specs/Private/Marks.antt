@@ -13,7 +13,8 @@ is_marked marks place = bit_at (slice_index marks.words.items (place / 64)) (pla
 
 -- What is marked is what was, and these places.
 abbrev pub AddsMarks : Marks → Marks → List ℕ → Type 0
-AddsMarks old new places = (at : ℕ) → is_marked new at ≡ (is_marked old at || list_any (λ place. place == at) places)
+AddsMarks old new places =
+    (at : ℕ) → is_marked new at ≡ (is_marked old at || list_any (λ place. place == at) places)
 
 -- the offsets of entries
 abbrev pub offsets_of : List Die → List ℕ
@@ -25,4 +26,5 @@ all_offsets dies = flat_map offsets_of dies
 
 -- What is marked are the offsets of the entries of these units.
 abbrev pub AreMarked : Marks → List CompilationUnit → Type 0
-AreMarked marks us = (at : ℕ) → is_marked marks at ≡ list_any (λ m. m.die.offset == at) (members_of us)
+AreMarked marks us =
+    (at : ℕ) → is_marked marks at ≡ list_any (λ m. m.die.offset == at) (members_of us)

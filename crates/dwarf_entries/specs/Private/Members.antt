@@ -1,5 +1,6 @@
 -- Entries with their units, as the program keeps them, for the contracts of paths.
-use Rattle.std.specs.Prelude.{◌≡◌, ℕ, List, Option, Some, None, Result, Ok, Err, map, slice_get, option_to_list}
+use Rattle.std.specs.Prelude.{◌≡◌, ℕ, List, Option, Some, None, Result}
+use Rattle.std.specs.Prelude.{Ok, Err, map, slice_get, option_to_list}
 use Rattle.std.specs.Option.{option_and_then}
 use Rattle.dwarf_bytes.specs.declared.constants.TheConstants.{DW_AT_LINKAGE_NAME, DW_AT_NAME}
 use Rattle.dwarf_bytes.specs.declared.fault.Cause.{Cause}
@@ -32,13 +33,15 @@ pub record AreKept (kept : List UnitEntries) (units : List CompilationUnit) : Ty
   pub order : AreInOrder 0 units
 
 -- the entry, in the unit of the number, is what is kept of the member
-pub record IsMember (units : List CompilationUnit) (number : ℕ) (entry : NamedEntry) (m : Member) : Type 0 where
+pub record IsMember (units : List CompilationUnit) (number : ℕ) (entry : NamedEntry) (m : Member)
+    : Type 0 where
   pub unit_is : slice_get units number ≡ Some m.unit
   pub entry_is : entry ≡ named_entry m.die
 
 -- the entry at an offset of .debug_info, among those of the unit of the number, if there is one
 abbrev pub member_in : List CompilationUnit → ℕ → ℕ → Result Member Cause
-member_in units number offset = member_at (members_of (option_to_list (slice_get units number))) offset
+member_in units number offset =
+    member_at (members_of (option_to_list (slice_get units number))) offset
 
 -- the member stands at the place
 pub record IsPlaceOf (units : List CompilationUnit) (place : UnitPlace) (m : Member) : Type 0 where
@@ -59,19 +62,24 @@ Finds units (Some place) outcome = (m : Member) × (outcome ≡ Ok m) × IsPlace
 Finds units None outcome = outcome ≡ Err causes.Reference
 
 -- what is kept of the first attribute of a name on a path: its value, in the unit of the number
-abbrev pub IsFirst : List CompilationUnit → Option UnitAttribute → Option (CompilationUnit × AttributeValue) → Type 0
+abbrev pub IsFirst : List CompilationUnit → Option UnitAttribute
+    → Option (CompilationUnit × AttributeValue) → Type 0
 IsFirst units None None = Unit {0}
 IsFirst units None (Some first) = ⊥
 IsFirst units (Some kept) None = ⊥
-IsFirst units (Some kept) (Some first) = (slice_get units kept.unit ≡ Some first.0) × (kept.value ≡ first.1)
+IsFirst units (Some kept) (Some first) =
+    (slice_get units kept.unit ≡ Some first.0) × (kept.value ≡ first.1)
 
-pub record AreFirst (units : List CompilationUnit) (kept : FirstNames) (path : List Member) : Type 0 where
+pub record AreFirst (units : List CompilationUnit) (kept : FirstNames) (path : List Member)
+    : Type 0 where
   pub name : IsFirst units kept.name (first_on DW_AT_NAME path)
   pub linkage_name : IsFirst units kept.linkage_name (first_on DW_AT_LINKAGE_NAME path)
 
 -- what is found is of the path of the outcome, unless memory ran out
-abbrev pub FindsFirst : List CompilationUnit → Result FirstNames Cause → Result (List Member) Cause → Type 0
-FindsFirst units (Ok kept) outcome = (path : List Member) × (outcome ≡ Ok path) × AreFirst units kept path
+abbrev pub FindsFirst : List CompilationUnit → Result FirstNames Cause
+    → Result (List Member) Cause → Type 0
+FindsFirst units (Ok kept) outcome =
+    (path : List Member) × (outcome ≡ Ok path) × AreFirst units kept path
 FindsFirst units (Err cause) outcome = Fails cause outcome
 
 -- the table of string offsets of the unit of the number

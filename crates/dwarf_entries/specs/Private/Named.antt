@@ -25,4 +25,5 @@ used_at format table unit offset = do
 
 -- what a path needs of the entry at an offset of a unit
 abbrev pub named_entry_at : Format → List Declaration → List ℕ → ℕ → Result NamedEntry Cause
-named_entry_at format table unit offset = used_at format table unit offset >>= λ entry. Ok (named_entry (entry_with offset entry))
+named_entry_at format table unit offset =
+    used_at format table unit offset >>= λ entry. Ok (named_entry (entry_with offset entry))

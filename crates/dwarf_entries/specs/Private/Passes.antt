@@ -1,5 +1,6 @@
 -- What the passes over all units leave, for their contracts.
-use Rattle.std.specs.Prelude.{◌≡◌, ◌⊎◌, ◌++◌, ◌+◌, ◌-◌, ℕ, List, ◌∷◌, length, Option, Some, None, Result, Ok, Err, map, flat_map, slice_get, sum_by, zip}
+use Rattle.std.specs.Prelude.{◌≡◌, ◌⊎◌, ◌++◌, ◌+◌, ◌-◌, ℕ, List, ◌∷◌, length, Option, Some}
+use Rattle.std.specs.Prelude.{None, Result, Ok, Err, map, flat_map, slice_get, sum_by, zip}
 use Rattle.dwarf_bytes.specs.declared.fault.Section.TheVariants as names
 use Rattle.dwarf_bytes.specs.declared.fault.LoadFault.{LoadFault}
 use Rattle.dwarf_bytes.specs.declared.format.Format.{Format}
@@ -19,14 +20,17 @@ use Rattle.dwarf_entries.specs.declared.unit_scopes.ScopeNumbers.{ScopeNumbers}
 use Rattle.dwarf_entries.specs.Sections.{Sections}
 use Rattle.dwarf_units.specs.Entries.{Die, entries_of}
 use Rattle.dwarf_entries.specs.Bases.{CompilationUnit, no_bases, bases_by, unit_of}
-use Rattle.dwarf_entries.specs.Scopes.{Tree, Judged, ScopeSite, Scope, items_limit, sites_in, roots_from, root_stmt_list, scopes_of, scope_at, stmt_list_of}
+use Rattle.dwarf_entries.specs.Scopes.{Tree, Judged, ScopeSite, Scope, items_limit}
+use Rattle.dwarf_entries.specs.Scopes.{sites_in, roots_from, root_stmt_list}
+use Rattle.dwarf_entries.specs.Scopes.{scopes_of, scope_at, stmt_list_of}
 use Rattle.dwarf_entries.specs.declared.kept.ScopeEntry.{ScopeEntry}
 use Rattle.dwarf_units.specs.Units.{units_of, tables_of}
 use Rattle.dwarf_entries.specs.Private.Kept.{KeptUnit, scope_entry, kept_unit, kept_of, AreInOrder}
 use Rattle.dwarf_entries.specs.Private.Shared.{AreHeld}
 
 -- the entries of each unit
-abbrev pub all_entries : List ℕ → List UnitHeader → List (List Declaration) → Result (List (List Die)) At
+abbrev pub all_entries : List ℕ → List UnitHeader → List (List Declaration)
+    → Result (List (List Die)) At
 all_entries info headers tables = each (λ _ p. entries_of info p.0 p.1) (zip headers tables)
 
 -- what is kept of each unit
@@ -35,15 +39,18 @@ kept_units headers dies = map (λ p. kept_unit p.0 p.1) (zip headers dies)
 
 -- .. of all units
 abbrev pub all_kept : List ℕ → List UnitHeader → List (List Declaration) → Result (List KeptUnit) At
-all_kept info headers tables = all_entries info headers tables >>= λ dies. Ok (kept_units headers dies)
+all_kept info headers tables =
+    all_entries info headers tables >>= λ dies. Ok (kept_units headers dies)
 
 -- what a root tells, its fault at its offset
 abbrev pub bases_in : Sections → Format → Option RootEntry → Result Bases At
 bases_in s format None = Ok no_bases
-bases_in s format (Some root) = told_at root.offset (bases_by s format root.str_offsets_base root.addr_base root.rnglists_base root.low_pc)
+bases_in s format (Some root) = told_at root.offset
+    (bases_by s format root.str_offsets_base root.addr_base root.rnglists_base root.low_pc)
 
 -- the units with what their roots tell
-abbrev pub all_units : Sections → List UnitHeader → List (List Die) → Result (List CompilationUnit) At
+abbrev pub all_units : Sections → List UnitHeader → List (List Die)
+    → Result (List CompilationUnit) At
 all_units s headers dies = each (λ _ p. unit_of s p.0 p.1) (zip headers dies)
 
 abbrev pub bases_of : CompilationUnit → Bases
@@ -58,17 +65,22 @@ abbrev pub kept_unit_of : CompilationUnit → KeptUnit
 kept_unit_of unit = kept_unit unit.header unit.dies
 
 -- the units of the program, and what their roots tell, are these, which stand in order
-pub record AreUnits (units : List UnitEntries) (bases : List Bases) (us : List CompilationUnit) : Type 0 where
+pub record AreUnits (units : List UnitEntries) (bases : List Bases) (us : List CompilationUnit)
+    : Type 0 where
   pub same : map kept_of units ≡ map kept_unit_of us
   pub order : AreInOrder 0 us
   pub bases_are : bases ≡ map bases_of us
 
 -- the number of the root of a unit, which has entries
 abbrev pub IsRootOf : List CompilationUnit → ℕ → CompilationUnit → Type 0
-IsRootOf us root u = (die : Die) (rest : List Die) → u.dies ≡ die ∷ rest → root_stmt_list (roots_from 0 us) root ≡ stmt_list_of u.dies
+IsRootOf us root u =
+    (die : Die) (rest : List Die) → u.dies ≡ die ∷ rest
+    → root_stmt_list (roots_from 0 us) root ≡ stmt_list_of u.dies
 
--- a place is that of a scope of a unit of the program, behind so many scopes with so many range items to come
-pub record IsScopeSite (us : List CompilationUnit) (numbers : ScopeNumbers) (entry : ScopeEntry) (room : ℕ) (before : List Judged) (p : ScopeSite) : Type 0 where
+-- a place is that of a scope of a unit of the program, behind so many scopes with so many range
+-- items to come
+pub record IsScopeSite (us : List CompilationUnit) (numbers : ScopeNumbers) (entry : ScopeEntry)
+    (room : ℕ) (before : List Judged) (p : ScopeSite) : Type 0 where
   pub unit_is : slice_get us numbers.unit ≡ Some p.member.unit
   pub root_is : root_stmt_list (roots_from 0 us) numbers.root ≡ stmt_list_of p.member.unit.dies
   pub entry_is : entry ≡ scope_entry p.member.die p.kind
@@ -97,16 +109,24 @@ all_sites us = flat_map (λ u. sites_in u u.dies) us
 abbrev pub judge : Sections → List CompilationUnit → List Judged → ScopeSite → Result Judged At
 judge s units before p = told_at p.member.die.offset (scope_at s units before p)
 
--- the scopes of the program, by the roots, and how many range items may still be read, behind the scopes before
-pub record AreJudged (roots : List Root) (before : List Judged) (lists : ScopeLists) (left : ℕ) : Type 0 where
+-- the scopes of the program, by the roots, and how many range items may still be read,
+-- behind the scopes before
+pub record AreJudged (roots : List Root) (before : List Judged) (lists : ScopeLists) (left : ℕ)
+    : Type 0 where
   pub told : scopes_of roots lists ≡ map (λ j. j.scope) before
   pub held : AreHeld (length lists.wide.items) 0 (length lists.ranges.items) lists.scopes.items
   pub counted : left + sum_by (λ s. s.items) before ≡ items_limit
 
--- The scopes at some places were put behind those before; or the fault is theirs, unless memory ran out.
-abbrev pub AddsScopes : Result (Unit {0}) LoadFault → Sections → List CompilationUnit → List ScopeSite → List Judged → ScopeLists → ℕ → Type 0
-AddsScopes (Ok _) s us places before lists left = (after : List Judged) × (each_from (judge s us) before places ≡ Ok after) × AreJudged (roots_from 0 us) (before ++ after) lists left
-AddsScopes (Err fault) s us places before lists left = (fault ≡ memory_fault) ⊎ (in_section names.DebugInfo (each_from (judge s us) before places) ≡ Err fault)
+-- The scopes at some places were put behind those before; or the fault is theirs,
+-- unless memory ran out.
+abbrev pub AddsScopes : Result (Unit {0}) LoadFault → Sections → List CompilationUnit
+    → List ScopeSite → List Judged → ScopeLists → ℕ → Type 0
+AddsScopes (Ok _) s us places before lists left =
+    (after : List Judged) × (each_from (judge s us) before places ≡ Ok after)
+    × AreJudged (roots_from 0 us) (before ++ after) lists left
+AddsScopes (Err fault) s us places before lists left =
+    (fault ≡ memory_fault)
+    ⊎ (in_section names.DebugInfo (each_from (judge s us) before places) ≡ Err fault)
 
 -- the scopes of all units
 abbrev pub all_scopes : Sections → List CompilationUnit → Result (List Scope) At
@@ -120,10 +140,15 @@ pub record TablesRead (s : Sections) (headers : List UnitHeader) : Type 0 where
 
 -- the roots and the scopes of the units, from the pass over their entries on
 abbrev pub tree_of_units : Sections → List CompilationUnit → Result Tree LoadFault
-tree_of_units s us = in_section names.DebugInfo (each (judge s us) (all_sites us)) >>= λ judged. Ok (record { roots = roots_from 0 us; scopes = map (λ j. j.scope) judged })
+tree_of_units s us =
+    in_section names.DebugInfo (each (judge s us) (all_sites us))
+    >>= λ judged. Ok (record { roots = roots_from 0 us; scopes = map (λ j. j.scope) judged })
 
 abbrev pub tree_of_dies : Sections → List UnitHeader → List (List Die) → Result Tree LoadFault
-tree_of_dies s headers dies = in_section names.DebugInfo (all_units s headers dies) >>= tree_of_units s
+tree_of_dies s headers dies =
+    in_section names.DebugInfo (all_units s headers dies) >>= tree_of_units s
 
 abbrev pub tree_with : Sections → List UnitHeader → List (List Declaration) → Result Tree LoadFault
-tree_with s headers tables = in_section names.DebugInfo (all_entries s.debug_info headers tables) >>= tree_of_dies s headers
+tree_with s headers tables =
+    in_section names.DebugInfo (all_entries s.debug_info headers tables)
+    >>= tree_of_dies s headers

@@ -1,5 +1,6 @@
 -- What scopes share, for the contracts of the pass over scopes.
-use Rattle.std.specs.Prelude.{◌≡◌, ℕ, ◌-◌, ◌≤◌, ◌<◌, List, [], ◌∷◌, ◌++◌, length, Result, Ok, Err, ◌==◌, if◌then◌else◌, slice_get}
+use Rattle.std.specs.Prelude.{◌≡◌, ℕ, ◌-◌, ◌≤◌, ◌<◌, List, [], ◌∷◌, ◌++◌, length}
+use Rattle.std.specs.Prelude.{Result, Ok, Err, ◌==◌, if◌then◌else◌, slice_get}
 use Rattle.std.specs.Option.{option_map_or}
 use Rattle.dwarf_bytes.specs.declared.fault.Cause.{Cause}
 use Rattle.dwarf_bytes.specs.Refusals.{Fails}
@@ -14,9 +15,13 @@ use Rattle.dwarf_entries.specs.declared.scope_lists.ScopeLists.{ScopeLists}
 use Rattle.dwarf_entries.specs.Ranges.{Covering}
 use Rattle.dwarf_entries.specs.Scopes.{Scope, scope_of, root_stmt_list, Judged}
 
--- What an entry covers was put behind the ranges before, and is told by how many items it was read from.
-abbrev pub AddsRanges : Result ℕ Cause → List Range → List Range → Result Covering Cause → Type 0
-AddsRanges (Ok items) old new outcome = (found : List Range) × (outcome ≡ Ok (record { ranges = found; items = items })) × (new ≡ old ++ found)
+-- What an entry covers was put behind the ranges before,
+-- and is told by how many items it was read from.
+abbrev pub AddsRanges : Result ℕ Cause → List Range → List Range → Result Covering Cause
+    → Type 0
+AddsRanges (Ok items) old new outcome =
+    (found : List Range) × (outcome ≡ Ok (record { ranges = found; items = items }))
+    × (new ≡ old ++ found)
 AddsRanges (Err cause) old new outcome = Fails cause outcome
 
 -- what is told of a scope before it is packed, by the roots and by what it covers
@@ -35,8 +40,12 @@ facts_of roots ranges s = record {
 }
 
 -- .. whose ranges were put behind those before
-abbrev pub AddsFacts : List Root → Result (ScopeFacts × ℕ) Cause → List Range → List Range → Result Judged Cause → Type 0
-AddsFacts roots (Ok told) old new outcome = (found : List Range) × (outcome ≡ Ok (record { scope = facts_of roots found told.0; items = told.1 })) × (new ≡ old ++ found)
+abbrev pub AddsFacts : List Root → Result (ScopeFacts × ℕ) Cause → List Range → List Range
+    → Result Judged Cause → Type 0
+AddsFacts roots (Ok told) old new outcome =
+    (found : List Range)
+    × (outcome ≡ Ok (record { scope = facts_of roots found told.0; items = told.1 }))
+    × (new ≡ old ++ found)
 AddsFacts roots (Err cause) old new outcome = Fails cause outcome
 
 -- A call that stands in a list of so many has a place in it.
@@ -47,23 +56,31 @@ IsHeldIn many calls.Line place = Unit {0}
 IsHeldIn many calls.Both place = Unit {0}
 IsHeldIn many calls.Wide place = place < many
 
--- The ranges of the scopes stand one behind another, from a place to another, and their calls in a list of so many.
+-- The ranges of the scopes stand one behind another, from a place to another, and their calls in a
+-- list of so many.
 abbrev pub AreHeld : ℕ → ℕ → ℕ → List Kept → Type 0
 AreHeld many first past [] = first ≡ past
-AreHeld many first past (s ∷ ss) = (first ≤ s.ranges_end) × IsHeldIn many s.calls s.call_file × AreHeld many s.ranges_end past ss
+AreHeld many first past (s ∷ ss) =
+    (first ≤ s.ranges_end) × IsHeldIn many s.calls s.call_file
+    × AreHeld many s.ranges_end past ss
 
 -- where the ranges of the scope of a number begin
 abbrev pub ranges_start : ℕ → List Kept → ℕ → ℕ
-ranges_start first scopes number = if number == 0 then first else option_map_or (λ s. s.ranges_end) (slice_get scopes (number - 1)) 0
+ranges_start first scopes number =
+    if number == 0 then first
+    else option_map_or (λ s. s.ranges_end) (slice_get scopes (number - 1)) 0
 
--- A scope that ends the ranges at a place tells the facts, by the roots, by its ranges and by the wide calls, to which its own may have
--- been added.
-pub record Packs (facts : ScopeFacts) (ranges_end : ℕ) (old new : List CallSite) (s : Kept) : Type 0 where
+-- A scope that ends the ranges at a place tells the facts, by the roots, by its ranges and by the
+-- wide calls, to which its own may have been added.
+pub record Packs (facts : ScopeFacts) (ranges_end : ℕ) (old new : List CallSite) (s : Kept)
+    : Type 0 where
   pub more : List CallSite
   pub added : new ≡ old ++ more
   pub held : IsHeldIn (length new) s.calls s.call_file
   pub ends : s.ranges_end ≡ ranges_end
-  pub tells : (roots : List Root) (ranges : List Range) → scope_of roots new ranges s ≡ facts_of roots ranges facts
+  pub tells :
+      (roots : List Root) (ranges : List Range)
+      → scope_of roots new ranges s ≡ facts_of roots ranges facts
 
 -- It was put behind the scopes before.
 pub record IsPushed (facts : ScopeFacts) (old new : ScopeLists) : Type 0 where
