@@ -40,8 +40,8 @@ pub(crate) fn top(scopes: &Scopes, parents: &[u32], link: u64, near: usize) -> O
     found
 }
 
-/// 1 + the number of the first scope of the chain, from the one before `near` outwards; 0 where none
-/// is left.
+/// 1 + the number of the first scope of the chain, from the one before `near` outwards; 0 where
+/// none is left.
 pub(crate) fn next_told(
     scopes: &Scopes,
     parents: &[u32],
@@ -77,7 +77,11 @@ pub(crate) fn outer(parents: &[u32], top: usize, number: usize) -> usize
     requires { number < length parents.now }
     ensures { result ≡ outer_of parents.now top number }
 {
-    if number == top { 0 } else { parents[number] as usize }
+    if number == top {
+        0
+    } else {
+        parents[number] as usize
+    }
 }
 
 /// 1 + the number of a scope, if it is one of so many; 0 otherwise.
