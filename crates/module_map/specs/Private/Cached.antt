@@ -17,6 +17,7 @@ kept_under key entries = lookup (is_key key) entries
 abbrev pub asked_for : ℕ × ℕ → List CacheEntry → List CacheEntry
 asked_for key entries = promoted (is_key key) entries
 
--- the entries with one more in front, in place of that of its key, or of the last where there is no room
+-- the entries with one more in front, in place of that of its key,
+-- or of the last where there is no room
 abbrev pub with_answer : ℕ × ℕ → Option Place → CacheEntries → List CacheEntry
 with_answer key place cache = put_entries is_key (lru_cache cache.entries cache.capacity) key place
