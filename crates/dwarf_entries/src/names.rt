@@ -13,6 +13,7 @@ use dwarf_bytes::{Cause, Section, Span, TableKind, Text, TextIndex};
 use dwarf_units::AttributeValue;
 
 /// The text that a value is, by the table of string offsets of the unit in which it stands.
+#[inline(always)]
 pub(crate) fn text_of(
     sections: &Sections<'_>,
     texts: &Texts<'_>,
@@ -40,6 +41,7 @@ pub(crate) fn text_of(
 }
 
 /// The text at an offset of a section.
+#[inline(always)]
 fn text_in(name: Section, section: &TextIndex<'_>, offset: u64) -> Result<Text, Cause>
     ensures { result ≡ text_in name section.now offset }
 {

@@ -83,6 +83,7 @@ pub(crate) struct EntryNames {
 /// The names of an entry of a unit: of each attribute the first on the path from the entry to its
 /// next one, and so on, in at most so many hops. The path is followed to its end before a name is
 /// judged.
+#[inline(always)]
 pub(crate) fn path_names(
     of: Units<'_>,
     reader: &mut EntryReader<'_>,
@@ -105,6 +106,7 @@ pub(crate) fn path_names(
 }
 
 /// The text of an attribute, if there is one.
+#[inline(always)]
 fn text(
     sections: &Sections<'_>,
     texts: &Texts<'_>,
@@ -123,6 +125,7 @@ fn text(
 }
 
 /// The first names on the path of an entry, in at most so many hops.
+#[inline(always)]
 fn first_names(
     units: &[UnitEntries],
     marks: &Marks,
@@ -156,6 +159,7 @@ fn first_names(
 }
 
 /// The entry at a place, read again.
+#[inline(always)]
 pub(crate) fn entry_again(
     units: &[UnitEntries],
     marks: &Marks,

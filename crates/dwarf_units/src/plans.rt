@@ -167,6 +167,8 @@ fn take_attribute(
 {
     let number = match layout {
         ValueLayout::Offset => cursor.offset(format)?,
+        ValueLayout::Fixed(Width::One) => u64::from(cursor.u8()?),
+        ValueLayout::Fixed(Width::Two) => u64::from(cursor.u16()?),
         ValueLayout::Fixed(Width::Four) => u64::from(cursor.u32()?),
         ValueLayout::Fixed(Width::Eight) => cursor.u64()?,
         _ => {
