@@ -1,4 +1,5 @@
 pub mod Codes
+pub mod CodeLaws
 pub mod Names
 pub mod Moves
 pub mod TableTurns
@@ -6,6 +7,14 @@ pub mod Stretches
 pub mod Listed
 pub mod AttributeSpelling
 pub mod JoinedLaws
+pub mod Elements
+pub mod SetLaws
+pub mod KnownListLaws
+pub mod KnownLaws
+pub mod KnownCount
+pub mod PlaceLaws
+pub mod SharedLaws
+pub mod SharedTableLaws
 pub mod HeadSpelling
 pub mod TableSpelling
 pub mod ValueSpelling

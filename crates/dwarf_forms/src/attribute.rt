@@ -45,7 +45,7 @@ pub(crate) fn attributes(
 
 /// The next attribute of a declaration, or none where two zeros end them. `later` are the names of
 /// those before it but the first few.
-fn next_attribute(
+pub(crate) fn next_attribute(
     before: &[AttributeSpecification],
     later: &BTreeSet<u64>,
     cursor: &mut Cursor,

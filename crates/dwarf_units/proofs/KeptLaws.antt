@@ -1,26 +1,24 @@
 -- The tables that are kept, as one more is put behind those that stay.
-use Rattle.std.proofs.Common.{◌≡◌, ◌⊎◌, inl, inr, Bool, get_or, ℕ, suc, zero, ◌+◌, ◌-◌, ◌<◌, ◌≤◌, List, [], ◌∷◌, ◌++◌, length, length-append, take, length-take-le, true, false, refl, ap, sym, ◌∙◌, subst, arith}
-use Rattle.std.specs.Prelude.{Some, Result, Ok, slice_get, sum_by, nat_le, ◌==◌, if◌then◌else◌}
+use Rattle.std.proofs.Common.{◌≡◌, get_or, ℕ, suc, zero, ◌+◌, ◌-◌, ◌<◌, ◌≤◌, List, [], ◌∷◌, ◌++◌, length, length-append, take, length-take-le, true, false, refl, ap, sym, ◌∙◌, subst, arith}
+use Rattle.std.specs.Prelude.{Some, Result, Ok, slice_get, sum_by, nat_le, ◌==◌}
 use Rattle.std.specs.List.{All}
 use Rattle.std.proofs.lemmas.Grind.{common_steps}
-use Rattle.std.proofs.lemmas.List.{get_or-take, take_more, length-take}
-use Rattle.std.proofs.lemmas.List.Elements.{All-append, All-cons, All-nil}
-use Rattle.std.proofs.lemmas.List.Sums.{sum_by_push, sum_by-append}
+use Rattle.std.proofs.lemmas.List.{get_or-take}
+use Rattle.std.proofs.lemmas.List.Sums.{sum_by_push}
 use Rattle.std.proofs.lemmas.Option.{same_Some, slice_get-get_or, slice_get_within, get_or_from_slice_get}
 use Rattle.dwarf_bytes.specs.declared.format.Format.{Format}
 use Rattle.dwarf_bytes.specs.declared.format.Format.TheVariants.{Dwarf32, Dwarf64}
-use Rattle.dwarf_units.specs.declared.unit_headers.UnitHeader.{UnitHeader}
 use Rattle.dwarf_units.specs.declared.numbers.Numbers.{Numbers}
 use Rattle.dwarf_units.specs.Private.Numbers.{number_at, with_number}
 use Rattle.dwarf_units.specs.Private.Plans.{Table, table_size}
-use Rattle.dwarf_units.specs.Private.Tables.{StandsIn, IsAt, AreElsewhere, AreKept, KeptTables, StaysOrIsTooLarge, with_table, size_limit}
+use Rattle.dwarf_units.specs.Private.Tables.{StandsIn, IsAt, AreElsewhere, AreKept, KeptTables, with_table, size_limit}
 use Rattle.dwarf_bytes.specs.declared.fault.Section.TheVariants as sections
 use Rattle.dwarf_bytes.specs.Items.{At}
 use Rattle.dwarf_bytes.specs.Refusals.{in_section}
 use Rattle.dwarf_forms.specs.Declarations.{Declaration}
 use Rattle.dwarf_forms.specs.Tables.{declarations_of}
 use Rattle.dwarf_units.specs.Units.{declarations_limit}
-use Rattle.dwarf_units.proofs.TableLaws.{in_section_ok, table_again, table_few, known_stands, stands_read, stand_before, stand_behind, behind_at}
+use Rattle.dwarf_units.proofs.TableLaws.{in_section_ok, table_again, table_few, known_stands, stand_before, stand_behind, behind_at}
 
 -- one number was set
 abbrev pub Sets : Numbers → Numbers → Format → ℕ → ℕ → Type 0

@@ -1,5 +1,4 @@
 pub mod UnitLaws
-pub mod CodeLaws
 pub mod TableLaws
 pub mod KeptLaws
 pub mod StayLaws
@@ -10,3 +9,6 @@ pub mod AgainLaws
 pub mod PlainLaws
 pub mod PlanLaws
 pub mod PlanTurns
+pub mod LinkLaws
+pub mod SharedTableLaws
+pub mod StoreLaws

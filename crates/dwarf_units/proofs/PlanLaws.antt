@@ -31,7 +31,7 @@ use Rattle.dwarf_units.specs.declared.steps.AttributeStep.{AttributeStep}
 use Rattle.dwarf_units.specs.declared.steps.AttributeStep.TheVariants.{Skip, Pass, Keep}
 use Rattle.dwarf_units.specs.Attributes.{is_used, accepts, is_negative, is_negative_count, number_of}
 use Rattle.dwarf_units.specs.Entries.{reading_value, is_direct, form_at, attribute_at, attributes_at}
-use Rattle.dwarf_units.specs.Private.Plans.{kept_attributes, kept_attributes_at, layout_len, constant_len, fixed_len, known_layout, pass_of, step_of, step_before, steps_of, step_at, skip_limit, in_front}
+use Rattle.dwarf_units.specs.Private.Plans.{kept_attributes, kept_attributes_at, layout_len, constant_len, fixed_len, known_layout, pass_of, step_of, step_before, steps_of, step_at, steps_at, skip_limit, in_front}
 use Rattle.dwarf_units.proofs.EntryMoves.{attribute-stays}
 use Rattle.dwarf_units.proofs.PlainLaws.{never_count, not_indirect, direct_chain, none_behind, taken-is, passed-is}
 
@@ -224,10 +224,6 @@ step-is keep format s bytes at le = by_test (keep && is_used s.name)
 
 -- ---- the steps of a declaration, one after another
 
-unfoldable pub steps_at : Format → List AttributeStep → List ℕ → ℕ → Result (List Attribute × ℕ) Cause
-steps_at format [] bytes at = Ok ([], at)
-steps_at format (step ∷ steps) bytes at = step_at format step bytes at >>= λ first. in_front first.0 (steps_at format steps bytes first.1)
-
 pub in_front-none : {X : Type 0} (r : Result (List X × ℕ) Cause) → in_front [] r ≡ r
 in_front-none (Ok rest) = refl
 in_front-none (Err e) = refl
@@ -330,3 +326,23 @@ kept-is keep format (s ∷ ss) bytes at le =
         rw (rest a.1 (attribute-stays format s bytes at a le is).1)
         (by_rest a.0 (attribute-name format s bytes at a is) (attributes_at format ss bytes a.1))
     by_first rest (Err e) is = refl
+
+-- the steps of attributes in front of others
+pub steps-both : (keep : Bool) (format : Format) (xs ys : List AttributeSpecification) (bytes : List ℕ) (at : ℕ) → steps_at format (steps_of keep format (xs ++ ys)) bytes at ≡ (steps_at format (steps_of keep format xs) bytes at >>= λ first. in_front first.0 (steps_at format (steps_of keep format ys) bytes first.1))
+unfolding steps_at steps_of
+steps-both keep format [] ys bytes at = sym (in_front-none (steps_at format (steps_of keep format ys) bytes at))
+steps-both keep format (x ∷ xs) ys bytes at =
+    before-is format (step_of keep format x) (steps_of keep format (xs ++ ys)) bytes at
+    ∙ (by_first (λ place. steps-both keep format xs ys bytes place) (step_at format (step_of keep format x) bytes at)
+    ∙ ap (λ (r : Result (List Attribute × ℕ) Cause). r >>= λ first. in_front first.0 (steps_at format (steps_of keep format ys) bytes first.1)) (sym (before-is format (step_of keep format x) (steps_of keep format xs) bytes at)))
+  where
+    by_rest : (kept : List Attribute) (rest : Result (List Attribute × ℕ) Cause) →
+        in_front kept (rest >>= λ next. in_front next.0 (steps_at format (steps_of keep format ys) bytes next.1)) ≡ (in_front kept rest >>= λ next. in_front next.0 (steps_at format (steps_of keep format ys) bytes next.1))
+    by_rest kept (Ok rest) = in_front-twice kept rest.0 (steps_at format (steps_of keep format ys) bytes rest.1)
+    by_rest kept (Err e) = refl
+
+    by_first : ((place : ℕ) → steps_at format (steps_of keep format (xs ++ ys)) bytes place ≡ (steps_at format (steps_of keep format xs) bytes place >>= λ first. in_front first.0 (steps_at format (steps_of keep format ys) bytes first.1))) → (first : Result (List Attribute × ℕ) Cause) →
+        (first >>= λ first. in_front first.0 (steps_at format (steps_of keep format (xs ++ ys)) bytes first.1))
+        ≡ ((first >>= λ first. in_front first.0 (steps_at format (steps_of keep format xs) bytes first.1)) >>= λ next. in_front next.0 (steps_at format (steps_of keep format ys) bytes next.1))
+    by_first rest (Ok first) = ap (λ (r : Result (List Attribute × ℕ) Cause). in_front first.0 r) (rest first.1) ∙ by_rest first.0 (steps_at format (steps_of keep format xs) bytes first.1)
+    by_first rest (Err e) = refl

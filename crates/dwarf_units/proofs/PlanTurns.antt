@@ -1,5 +1,5 @@
--- The turns of the loop over the steps of a declaration.
-use Rattle.std.proofs.Common.{◌≡◌, ℕ, ◌+◌, ◌<◌, ◌≤◌, List, [], ◌∷◌, ◌++◌, suc, Bool, length, take, drop, get_or, refl, ap, sym, ◌∙◌, subst, append_assoc, append-nil, add-one, drop-cons, arith, inl, inr}
+-- The turns of the loops over steps.
+use Rattle.std.proofs.Common.{◌≡◌, ℕ, ◌≤◌, List, [], ◌∷◌, ◌++◌, Bool, length, take, drop, refl, ap, sym, ◌∙◌, subst, append_assoc, append-nil, arith, inl, inr}
 use Rattle.std.proofs.lemmas.List.{drop_all, take-append-drop}
 use Rattle.std.proofs.Math.Seq.{take-append_seam, drop-append_seam}
 use Rattle.std.specs.Prelude.{Result, Ok, Err}
@@ -12,59 +12,77 @@ use Rattle.dwarf_bytes.proofs.Moves.{same_ok}
 use Rattle.dwarf_forms.specs.declared.attribute.AttributeSpecification.{AttributeSpecification}
 use Rattle.dwarf_units.specs.declared.attributes.Attribute.{Attribute}
 use Rattle.dwarf_units.specs.declared.steps.AttributeStep.{AttributeStep}
-use Rattle.dwarf_units.specs.Private.Plans.{step_at, in_front, step_of, step_before, steps_of, kept_attributes_at}
-use Rattle.dwarf_units.proofs.PlanLaws.{steps_at, in_front-none, in_front-twice, kept-is}
+use Rattle.dwarf_units.specs.Private.Plans.{step_at, steps_at, in_front, step_of, step_before, steps_of, kept_attributes_at, Fills}
+use Rattle.dwarf_units.proofs.PlanLaws.{in_front-none, in_front-twice, kept-is, steps-both}
 
--- what was kept, in front of what the rest of the steps keeps, is all that they keep
-abbrev pub KeptSoFar : Format → List AttributeStep → List ℕ → ℕ → ℕ → List Attribute → ℕ → Type 0
-KeptSoFar format steps bytes first i found place = in_front found (steps_at format (drop i steps) bytes place) ≡ steps_at format steps bytes first
-
-pub kept-none_yet : (format : Format) (steps : List AttributeStep) (bytes : List ℕ) (first : ℕ) → KeptSoFar format steps bytes first 0 [] first
-kept-none_yet format steps bytes first = in_front-none (steps_at format steps bytes first)
-
-rest-is : (format : Format) (steps : List AttributeStep) (bytes : List ℕ) (i : ℕ) (d : AttributeStep) (place : ℕ) → i < length steps →
-    steps_at format (drop i steps) bytes place ≡ (step_at format (get_or steps i d) bytes place >>= λ first. in_front first.0 (steps_at format (drop (suc i) steps) bytes first.1))
-unfolding steps_at
-rest-is format steps bytes i d place lt = rw (drop-cons steps i d lt) refl
+-- what was kept, in front of what the steps that are left keep, is the whole
+abbrev pub KeptSoFar : Format → List AttributeStep → List ℕ → List Attribute → ℕ → Result (List Attribute × ℕ) Cause → Type 0
+KeptSoFar format left bytes found place whole = in_front found (steps_at format left bytes place) ≡ whole
 
 -- a step that was taken
-pub kept-more : (format : Format) (steps : List AttributeStep) (bytes : List ℕ) (first i : ℕ) (d : AttributeStep) (found kept : List Attribute) (old new : Position) → i < length steps → old.bytes ≡ bytes →
-    KeptSoFar format steps bytes first i found old.place → in_front found (step_at format (get_or steps i d) old.bytes old.place) ≡ Ok (kept, new.place) → KeptSoFar format steps bytes first (i + 1) kept new.place
-kept-more format steps bytes first i d found kept old new lt same so_far read =
-    rw add-one (sym (by_step (step_at format (get_or steps i d) bytes old.place) here) ∙ sym (ap (λ r. in_front found r) (rest-is format steps bytes i d old.place lt)) ∙ so_far)
+pub kept-more : (format : Format) (step : AttributeStep) (left behind : List AttributeStep) (bytes : List ℕ) (found kept : List Attribute) (old new : Position) (whole : Result (List Attribute × ℕ) Cause) → left ≡ step ∷ behind → old.bytes ≡ bytes →
+    KeptSoFar format left bytes found old.place whole → in_front found (step_at format step old.bytes old.place) ≡ Ok (kept, new.place) → KeptSoFar format behind bytes kept new.place whole
+unfolding steps_at
+kept-more format step left behind bytes found kept old new whole parts same so_far read =
+    sym (by_step (step_at format step bytes old.place) here) ∙ (ap (λ (l : List AttributeStep). in_front found (steps_at format l bytes old.place)) (sym parts) ∙ so_far)
   where
-    here : in_front found (step_at format (get_or steps i d) bytes old.place) ≡ Ok (kept, new.place)
-    here = subst (λ (b : List ℕ). in_front found (step_at format (get_or steps i d) b old.place) ≡ Ok (kept, new.place)) same read
+    here : in_front found (step_at format step bytes old.place) ≡ Ok (kept, new.place)
+    here = subst (λ (b : List ℕ). in_front found (step_at format step b old.place) ≡ Ok (kept, new.place)) same read
 
     by_step : (r : Result (List Attribute × ℕ) Cause) → in_front found r ≡ Ok (kept, new.place) →
-        in_front found (r >>= λ first. in_front first.0 (steps_at format (drop (suc i) steps) bytes first.1)) ≡ in_front kept (steps_at format (drop (suc i) steps) bytes new.place)
+        in_front found (r >>= λ first. in_front first.0 (steps_at format behind bytes first.1)) ≡ in_front kept (steps_at format behind bytes new.place)
     by_step (Ok step) is =
         let both = same_ok (found ++ step.0, step.1) (kept, new.place) is in
         let all : found ++ step.0 ≡ kept = ap (λ (x : List Attribute × ℕ). x.0) both in
         let place : step.1 ≡ new.place = ap (λ (x : List Attribute × ℕ). x.1) both in
-        rw (← all, ← place) (in_front-twice found step.0 (steps_at format (drop (suc i) steps) bytes step.1))
+        rw (← all, ← place) (in_front-twice found step.0 (steps_at format behind bytes step.1))
     by_step (Err e) is = cc
 
 -- a step that was refused, or for which memory ran out
-pub kept-fault : (keep : Bool) (format : Format) (declared : List AttributeSpecification) (steps : List AttributeStep) (bytes : List ℕ) (first i : ℕ) (d : AttributeStep) (found : List Attribute) (old : Position) (cause : Cause) → i < length steps → old.bytes ≡ bytes →
-    KeptSoFar format steps bytes first i found old.place → first ≤ length bytes → steps ≡ steps_of keep format declared → Fails cause (in_front found (step_at format (get_or steps i d) old.bytes old.place)) → Fails cause (kept_attributes_at keep format declared bytes first)
-kept-fault keep format declared steps bytes first i d found old cause lt same so_far within planned (inl memory) = inl memory
-kept-fault keep format declared steps bytes first i d found old cause lt same so_far within planned (inr read) =
-    inr (sym (kept-is keep format declared bytes first within) ∙ ap (λ (s : List AttributeStep). steps_at format s bytes first) (sym planned) ∙ sym so_far ∙ ap (λ r. in_front found r) (rest-is format steps bytes i d old.place lt) ∙ by_step (step_at format (get_or steps i d) bytes old.place) here)
+pub kept-fault : (format : Format) (step : AttributeStep) (left behind : List AttributeStep) (bytes : List ℕ) (found : List Attribute) (old : Position) (cause : Cause) (whole : Result (List Attribute × ℕ) Cause) → left ≡ step ∷ behind → old.bytes ≡ bytes →
+    KeptSoFar format left bytes found old.place whole → Fails cause (in_front found (step_at format step old.bytes old.place)) → Fails cause whole
+unfolding steps_at
+kept-fault format step left behind bytes found old cause whole parts same so_far (inl memory) = inl memory
+kept-fault format step left behind bytes found old cause whole parts same so_far (inr read) =
+    inr (sym so_far ∙ (ap (λ (l : List AttributeStep). in_front found (steps_at format l bytes old.place)) parts ∙ by_step (step_at format step bytes old.place) here))
   where
-    here : in_front found (step_at format (get_or steps i d) bytes old.place) ≡ Err cause
-    here = subst (λ (b : List ℕ). in_front found (step_at format (get_or steps i d) b old.place) ≡ Err cause) same read
+    here : in_front found (step_at format step bytes old.place) ≡ Err cause
+    here = subst (λ (b : List ℕ). in_front found (step_at format step b old.place) ≡ Err cause) same read
 
-    by_step : (r : Result (List Attribute × ℕ) Cause) → in_front found r ≡ Err cause → in_front found (r >>= λ first. in_front first.0 (steps_at format (drop (suc i) steps) bytes first.1)) ≡ Err cause
+    by_step : (r : Result (List Attribute × ℕ) Cause) → in_front found r ≡ Err cause → in_front found (r >>= λ first. in_front first.0 (steps_at format behind bytes first.1)) ≡ Err cause
     by_step (Ok step) is = cc
     by_step (Err e) is = is
 
-pub kept-end : (keep : Bool) (format : Format) (declared : List AttributeSpecification) (steps : List AttributeStep) (bytes : List ℕ) (first i : ℕ) (found : List Attribute) (place : ℕ) → length steps ≤ i →
-    KeptSoFar format steps bytes first i found place → first ≤ length bytes → steps ≡ steps_of keep format declared → kept_attributes_at keep format declared bytes first ≡ Ok (found, place)
+pub kept-end : (format : Format) (left : List AttributeStep) (bytes : List ℕ) (found : List Attribute) (place : ℕ) (whole : Result (List Attribute × ℕ) Cause) → left ≡ [] → KeptSoFar format left bytes found place whole → whole ≡ Ok (found, place)
 unfolding steps_at
-kept-end keep format declared steps bytes first i found place le so_far within planned =
-    sym (kept-is keep format declared bytes first within) ∙ ap (λ (s : List AttributeStep). steps_at format s bytes first) (sym planned) ∙ sym so_far
-    ∙ rw (drop_all i steps le) (ap (λ (all : List Attribute). Ok (all, place)) (append-nil found))
+kept-end format left bytes found place whole none so_far =
+    sym so_far ∙ (ap (λ (l : List AttributeStep). in_front found (steps_at format l bytes place)) none ∙ ap (λ (all : List Attribute). Ok (all, place)) (append-nil found))
+
+-- ---- own attributes, and those behind them
+
+-- those of own attributes, in front of what is kept of the rest
+both-is : (keep : Bool) (format : Format) (own rest : List AttributeSpecification) (bytes : List ℕ) (first : ℕ) (here : Result (List Attribute × ℕ) Cause) → first ≤ length bytes → in_front [] (steps_at format (steps_of keep format own) bytes first) ≡ here →
+    kept_attributes_at keep format (own ++ rest) bytes first ≡ (here >>= λ next. in_front next.0 (steps_at format (steps_of keep format rest) bytes next.1))
+both-is keep format own rest bytes first here within is =
+    sym (kept-is keep format (own ++ rest) bytes first within)
+    ∙ (steps-both keep format own rest bytes first
+    ∙ ap (λ (r : Result (List Attribute × ℕ) Cause). r >>= λ next. in_front next.0 (steps_at format (steps_of keep format rest) bytes next.1)) (sym (in_front-none (steps_at format (steps_of keep format own) bytes first)) ∙ is))
+
+pub own-fault : (keep : Bool) (format : Format) (own rest : List AttributeSpecification) (bytes : List ℕ) (first : ℕ) (cause : Cause) → first ≤ length bytes → Fails cause (in_front [] (steps_at format (steps_of keep format own) bytes first)) →
+    Fails cause (kept_attributes_at keep format (own ++ rest) bytes first)
+own-fault keep format own rest bytes first cause within (inl memory) = inl memory
+own-fault keep format own rest bytes first cause within (inr here) = inr (both-is keep format own rest bytes first (Err cause) within here)
+
+-- what was kept of each is what is kept of all
+pub read-both : (keep : Bool) (format : Format) (own rest : List AttributeSpecification) (old mid new : Position) (kept found : List Attribute) (result : Result (Unit {0}) Cause) → old.place ≤ length old.bytes → in_front [] (steps_at format (steps_of keep format own) old.bytes old.place) ≡ Ok (kept, mid.place) →
+    mid.bytes ≡ old.bytes → Fills result found (λ bytes at. in_front kept (steps_at format (steps_of keep format rest) bytes at)) mid new → Fills result found (kept_attributes_at keep format (own ++ rest)) old new
+read-both keep format own rest old mid new kept found (Ok u) within here same behind = (
+  both-is keep format own rest old.bytes old.place (Ok (kept, mid.place)) within here ∙ subst (λ (b : List ℕ). in_front kept (steps_at format (steps_of keep format rest) b mid.place) ≡ Ok (found, new.place)) same behind.0,
+  behind.1 ∙ same,
+)
+read-both keep format own rest old mid new kept found (Err cause) within here same (inl memory) = inl memory
+read-both keep format own rest old mid new kept found (Err cause) within here same (inr behind) =
+    inr (both-is keep format own rest old.bytes old.place (Ok (kept, mid.place)) within here ∙ subst (λ (b : List ℕ). in_front kept (steps_at format (steps_of keep format rest) b mid.place) ≡ Err cause) same behind)
 
 -- ---- the steps of a declaration, made from its last attribute on
 

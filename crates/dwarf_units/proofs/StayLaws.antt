@@ -1,27 +1,17 @@
 -- Which tables stay, as one more is put behind those that do.
-use Rattle.std.proofs.Common.{◌≡◌, ◌⊎◌, inl, inr, Bool, get_or, ℕ, suc, zero, ◌+◌, ◌-◌, ◌<◌, ◌≤◌, List, [], ◌∷◌, ◌++◌, length, length-append, take, length-take-le, true, false, refl, ap, sym, ◌∙◌, subst, arith}
-use Rattle.std.specs.Prelude.{Some, Result, Ok, slice_get, sum_by, nat_le, ◌==◌, if◌then◌else◌}
+use Rattle.std.proofs.Common.{◌≡◌, ◌⊎◌, inl, inr, Bool, get_or, ℕ, suc, zero, ◌+◌, ◌<◌, ◌≤◌, List, [], ◌∷◌, ◌++◌, length, take, length-take-le, true, false, refl, ap, sym, ◌∙◌, subst, arith}
+use Rattle.std.specs.Prelude.{Some, slice_get, sum_by, nat_le, if◌then◌else◌}
 use Rattle.std.specs.List.{All}
 use Rattle.std.proofs.lemmas.Grind.{common_steps}
 use Rattle.std.proofs.lemmas.List.{get_or-take, take_more, length-take}
 use Rattle.std.proofs.lemmas.List.Elements.{All-append, All-cons, All-nil}
 use Rattle.std.proofs.lemmas.List.Sums.{sum_by_push, sum_by-append}
-use Rattle.std.proofs.lemmas.Option.{same_Some, slice_get-get_or, slice_get_within, get_or_from_slice_get}
-use Rattle.dwarf_bytes.specs.declared.format.Format.{Format}
-use Rattle.dwarf_bytes.specs.declared.format.Format.TheVariants.{Dwarf32, Dwarf64}
 use Rattle.dwarf_units.specs.declared.unit_headers.UnitHeader.{UnitHeader}
-use Rattle.dwarf_units.specs.declared.numbers.Numbers.{Numbers}
-use Rattle.dwarf_units.specs.Private.Numbers.{number_at, with_number}
 use Rattle.dwarf_units.specs.Private.Plans.{Table, table_size}
-use Rattle.dwarf_units.specs.Private.Tables.{StandsIn, IsAt, AreElsewhere, AreKept, KeptTables, StaysOrIsTooLarge, with_table, size_limit}
-use Rattle.dwarf_bytes.specs.declared.fault.Section.TheVariants as sections
-use Rattle.dwarf_bytes.specs.Items.{At}
-use Rattle.dwarf_bytes.specs.Refusals.{in_section}
-use Rattle.dwarf_forms.specs.Declarations.{Declaration}
-use Rattle.dwarf_forms.specs.Tables.{declarations_of}
+use Rattle.dwarf_units.specs.Private.Tables.{IsAdded, StandsIn, IsAt, KeptTables, StaysOrIsTooLarge, with_table, size_limit}
 use Rattle.dwarf_units.specs.Units.{declarations_limit}
 use Rattle.dwarf_units.proofs.KeptLaws.{take_all, take_front}
-use Rattle.dwarf_units.proofs.TableLaws.{in_section_ok, table_again, table_few, known_stands, stands_read, stand_before, stand_behind, behind_at}
+use Rattle.dwarf_units.proofs.TableLaws.{stands_read, behind_at}
 
 -- those that stay are followed by more
 abbrev pub Grows : KeptTables → KeptTables → Type 0
@@ -76,14 +66,10 @@ stays_with old unit table within at stands =
         )
 
 -- .. where it was read for that unit
-pub stays_behind : (section : List ℕ) (tables : List Table) (kept room : ℕ) (old new : KeptTables) (unit : UnitHeader) (table : Table) → (let seen : KeptTables = record { section = section; tables = tables; kept = kept } in seen ≡ old) → kept ≤ length tables → IsAt unit.format unit.abbreviations table →
-    in_section sections.DebugAbbrev (declarations_of room section unit.abbreviations) ≡ Ok table.declarations → length table.declarations ≤ declarations_limit → new ≡ with_table old table → StaysOrIsTooLarge new unit × Grows old new
-stays_behind section tables kept room old new unit table view within at read few is =
-    let seen : KeptTables = record { section = section; tables = tables; kept = kept } in
-    let stands : StandsIn section table = stands_read section room table unit.abbreviations at.0 read few in
-    let whole : StaysOrIsTooLarge (with_table old table) unit × Grows old (with_table old table) =
-    subst (λ (k : KeptTables). StaysOrIsTooLarge (with_table k table) unit × Grows k (with_table k table)) view (stays_with seen unit table within at stands) in
-    subst (λ (k : KeptTables). StaysOrIsTooLarge k unit × Grows old k) (sym is) whole
+pub stays_behind : (old new : KeptTables) (unit : UnitHeader) (room left number : ℕ) → old.kept ≤ length old.tables → room ≤ declarations_limit → IsAdded unit.format unit.abbreviations room left old new number → StaysOrIsTooLarge new unit × Grows old new
+stays_behind old new unit room left number within few added =
+    let stands : StandsIn old.section added.table = stands_read old.section room added.table unit.abbreviations added.at.0 added.read (omega (arith, added.counted, few)) in
+    subst (λ (k : KeptTables). StaysOrIsTooLarge k unit × Grows old k) (sym added.added) (stays_with old unit added.table within added.at stands)
 
 -- .. so it is of each unit
 pub stays_next : (old new : KeptTables) (units : List UnitHeader) (index : ℕ) (d : UnitHeader) → Grows old new → new.section ≡ old.section → index < length units → StaysOrIsTooLarge new (get_or units index d) → All (StaysOrIsTooLarge old) (take index units) →

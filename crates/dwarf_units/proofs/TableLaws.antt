@@ -1,12 +1,10 @@
 -- The turns of the loop over the tables of the units.
 use Rattle.std.proofs.Common.{◌≡◌, ℕ, ◌+◌, ◌-◌, ◌<◌, ◌≤◌, ◌⊎◌, inl, inr, List, [], ◌∷◌, ◌++◌, length, length-append, take, drop, get_or, refl, ap, sym, ◌∙◌, subst, arith, drop-cons, add-one}
-use Rattle.std.specs.Prelude.{Option, Some, Result, Ok, Err, ◌==◌, map, find, position, option_map, slice_get, sum_by}
+use Rattle.std.specs.Prelude.{Some, Result, Ok, Err, slice_get, sum_by}
 use Rattle.std.specs.List.{All}
 use Rattle.std.proofs.Math.Seq.{get_or-append_seam}
 use Rattle.std.proofs.lemmas.List.Elements.{All-take, All-append, All-cons, All-nil}
-use Rattle.std.proofs.lemmas.Option.{slice_get-map, slice_get-get_or, slice_get_within, get_or_from_slice_get}
-use Rattle.dwarf_bytes.specs.declared.format.Format.{Format}
-use Rattle.dwarf_forms.proofs.Codes.{find-place}
+use Rattle.std.proofs.lemmas.Option.{slice_get-get_or, slice_get_within, get_or_from_slice_get}
 use Rattle.std.proofs.lemmas.List.Sums.{sum_by-append}
 use Rattle.std.proofs.lemmas.List.{drop_all}
 use Rattle.dwarf_bytes.specs.declared.fault.Section.{Section}
@@ -21,8 +19,7 @@ use Rattle.dwarf_bytes.specs.Bind.{◌>>=◌}
 use Rattle.dwarf_forms.specs.Tables.{table_at, declarations_of}
 use Rattle.dwarf_forms.proofs.TableSpelling.{table_spelled, table_read}
 use Rattle.dwarf_units.specs.declared.unit_headers.UnitHeader.{UnitHeader}
-use Rattle.std.proofs.lemmas.List.Folds.{fold-map}
-use Rattle.dwarf_units.specs.Private.Plans.{Planned, plan_of, plan_len, Table, table_size}
+use Rattle.dwarf_units.specs.Private.Plans.{Table}
 use Rattle.dwarf_units.specs.Private.Tables.{StandsIn}
 use Rattle.dwarf_units.specs.Units.{declarations_limit, tables_of}
 
@@ -159,27 +156,3 @@ pub behind_at : (before after : List Table) (number : ℕ) (table : Table) → a
 behind_at before after number table is at =
     rw (is, at)
     (slice_get-get_or (before ++ table ∷ []) (length before) table (omega (arith, length-append before (table ∷ []))) ∙ ap (λ (t : Table). Some t) (get_or-append_seam before table [] table))
-
--- the declaration of a code, and how its attributes are read, by its place
-pub planned_at : (code : ℕ) (format : Format) (table : List Declaration) (plans : List Planned) (place : ℕ) (declaration : Declaration) (plan : Planned) → position (λ d. d.code == code) table ≡ Some place →
-    plans ≡ map (λ d. plan_of format d.attributes) table → slice_get table place ≡ Some declaration → slice_get plans place ≡ Some plan →
-    (find (λ d. d.code == code) table ≡ Some declaration) × (plan ≡ plan_of format declaration.attributes)
-planned_at code format table plans place declaration plan at are here planned = (
-  find-place (λ (d : Declaration). d.code == code) table (Some place) at ∙ here,
-  same_some (sym planned ∙ (ap (λ (ps : List Planned). slice_get ps place) are ∙ (slice_get-map (λ (d : Declaration). plan_of format d.attributes) table place ∙ ap (λ (d : Option Declaration). option_map (λ d. plan_of format d.attributes) d) here))),
-)
-  where
-    same_some : {x y : Planned} → (let f : Planned → Option Planned = λ t. Some t in f x ≡ f y) → x ≡ y
-    same_some h = cc
-
--- the size of a table by what its declarations and plans are
-pub size_sum : (inner table : Table) (ds : List Declaration) (plans : List Planned) (len attributes steps : ℕ) → inner ≡ table → ds ≡ inner.declarations → plans ≡ map (λ d. plan_of inner.format d.attributes) inner.declarations →
-    len ≡ length table.declarations → attributes ≡ sum_by (λ d. length d.attributes) ds → steps ≡ sum_by plan_len plans → len + attributes + steps ≡ table_size table
-size_sum inner table ds plans len attributes steps view same planned len_is attributes_are steps_are =
-    let a : attributes ≡ sum_by (λ (d : Declaration). length d.attributes) table.declarations =
-    attributes_are ∙ ap (λ (xs : List Declaration). sum_by (λ (d : Declaration). length d.attributes) xs) (same ∙ ap (λ (t : Table). t.declarations) view) in
-    let s : steps ≡ sum_by (λ (d : Declaration). plan_len (plan_of table.format d.attributes)) table.declarations =
-    steps_are ∙ (ap (λ (ps : List Planned). sum_by plan_len ps) planned
-    ∙ (fold-map (λ (a : ℕ) (p : Planned). a + plan_len p) (λ (d : Declaration). plan_of inner.format d.attributes) 0 inner.declarations
-    ∙ ap (λ (t : Table). sum_by (λ (d : Declaration). plan_len (plan_of t.format d.attributes)) t.declarations) view)) in
-    omega (arith, len_is, a, s)

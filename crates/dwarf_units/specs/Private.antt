@@ -1,4 +1,6 @@
 pub mod Plans
+pub mod Links
+pub mod SharedTables
 pub mod Heads
 pub mod Rising
 pub mod Numbers

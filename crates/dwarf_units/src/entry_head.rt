@@ -2,15 +2,18 @@
 
 ghost use Rattle.std.specs.Prelude.{◌≡◌, ◌≤◌, IsSome, IfOk};
 ghost use Rattle.dwarf_bytes.specs.Refusals.{ReadsField};
+ghost use Rattle.dwarf_forms.specs.Private.SharedTables.{told};
 ghost use Rattle.dwarf_units.specs.Entries.{depth_limit};
 ghost use Rattle.dwarf_units.specs.Private.Heads.{head_at, used_entry_at, TellsAndFills};
-ghost use Rattle.dwarf_units.specs.Private.Plans.{kept_attributes_at, Fills};
+ghost use Rattle.dwarf_units.specs.Private.Links.{IsLinked};
+ghost use Rattle.dwarf_units.specs.Private.Plans.{kept_attributes_at, plan_of, Fills};
 
 use crate::attributes::Attribute;
+use crate::linked_lists::LinkedLists;
 use crate::plans::{Plan, read_steps};
 use crate::unit_table::UnitTable;
 use dwarf_bytes::{Cause, Cursor, Format};
-use dwarf_forms::Decl;
+use dwarf_forms::SharedDecl;
 use std::marker::Model;
 
 /// The greatest depth of an entry.
@@ -20,24 +23,31 @@ const DEPTH_LIMIT: u16 = 256;
 #[derive(Drop)]
 pub struct EntryHead<'a> {
     format: Format,
-    declaration: &'a Decl,
+    declaration: &'a SharedDecl,
+    /// How the attributes are read that it does not share.
     plan: &'a Plan,
+    lists: &'a LinkedLists<'a>,
 }
 
 impl<'a> Model for EntryHead<'a> {
     ghost use Rattle.std.specs.Prelude.{◌≡◌};
-    ghost use Rattle.dwarf_units.specs.Entries.{depth_limit};
+    ghost use Rattle.dwarf_forms.specs.Private.SharedTables.{told};
     ghost use Rattle.dwarf_units.specs.Private.Heads.{Head};
+    ghost use Rattle.dwarf_units.specs.Private.Links.{IsLinked};
     ghost use Rattle.dwarf_units.specs.Private.Plans.{plan_of};
 
     ghost Value = { Head };
 
-    ghost view = { λ h. record { format = h.format; declaration = h.declaration.now } };
+    ghost view = { λ h. record {
+      format = h.format;
+      declaration = told h.lists.now.places.known h.declaration.now;
+    } };
 
-    ghost invariant = { λ h. h.plan.now ≡ plan_of h.format h.declaration.now.attributes };
+    ghost invariant = { λ h. (h.plan.now ≡ plan_of h.format h.declaration.now.list.own)
+        × IsLinked h.lists.now h.format h.declaration.now.list.rest };
 }
 
-impl UnitTable {
+impl UnitTable<'_> {
     /// The head of the entry at the cursor, at a depth, or none for a null. `rooted` is whether the
     /// root of the unit stands before it.
     pub fn head(
@@ -54,18 +64,14 @@ impl UnitTable {
         if code == 0 {
             return Ok(None);
         }
-        let (declaration, plan) = self.find(code).ok_or(Cause::AbbrevCode)?;
+        let head = self.find(code).ok_or(Cause::AbbrevCode)?;
         if depth == 0 && rooted {
             return Err(Cause::TwoRoots);
         }
         if depth > DEPTH_LIMIT {
             return Err(Cause::TooDeep);
         }
-        Ok(Some(EntryHead {
-            format: self.format(),
-            declaration,
-            plan,
-        }))
+        Ok(Some(head))
     }
 
     /// Reads the entry at the cursor again, whatever stands before it: its used attributes into
@@ -76,13 +82,34 @@ impl UnitTable {
             cursor.old cursor.new }
     {
         let code = cursor.uleb()?;
-        let (declaration, plan) = self.find(code).ok_or(Cause::AbbrevCode)?;
-        read_steps(self.format(), plan.steps(true), cursor, found)?;
-        Ok(declaration.tag())
+        let head = self.find(code).ok_or(Cause::AbbrevCode)?;
+        head.read_attributes(true, cursor, found)?;
+        Ok(head.tag())
     }
 }
 
-impl EntryHead<'_> {
+impl<'a> EntryHead<'a> {
+    pub(crate) fn new(
+        format: Format,
+        declaration: &'a SharedDecl,
+        plan: &'a Plan,
+        lists: &'a LinkedLists<'a>,
+    ) -> EntryHead<'a>
+        requires plan { plan.now ≡ plan_of format declaration.now.list.own }
+        requires linked { IsLinked lists.now format declaration.now.list.rest }
+        ensures { result ≡ record {
+          format = format;
+          declaration = told lists.now.places.known declaration.now;
+        } }
+    {
+        EntryHead {
+            format,
+            declaration,
+            plan,
+            lists,
+        }
+    }
+
     pub fn tag(&self) -> u64
         ensures { result ≡ self.now.declaration.tag }
     {
@@ -107,6 +134,10 @@ impl EntryHead<'_> {
         ensures { Fills result found.new.items (kept_attributes_at keep self.now.format
             self.now.declaration.attributes) cursor.old cursor.new }
     {
-        read_steps(self.format, self.plan.steps(keep), cursor, found)
+        let _ = cursor.place(); // it stands in the bytes or at their end
+        found.clear();
+        read_steps(self.format, self.plan.steps(keep), cursor, found)?;
+        let rest = self.declaration.list().rest();
+        self.lists.read(keep, self.format, rest, cursor, found)
     }
 }

@@ -4,11 +4,15 @@
 
 mod attributes;
 mod entry_head;
+mod kept_table;
 pub mod laws;
+mod linked_lists;
 mod numbers;
 mod plans;
 mod steps;
+mod table_store;
 mod tables;
+mod tails;
 mod unit_headers;
 mod unit_table;
 

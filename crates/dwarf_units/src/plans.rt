@@ -1,19 +1,19 @@
 //! Plans of reading the attributes of entries, which pass over runs of those that are not kept.
 
-ghost use Rattle.std.specs.Prelude.{◌≡◌, ◌≤◌, ◌-◌, ◌^◌, List, [], ◌∷◌, Bool, IfOk, OnOk, map, reverse};
+ghost use Rattle.std.specs.Prelude.{◌≡◌, ◌≤◌, ◌-◌, ◌^◌, List, [], ◌∷◌, IfOk, OnOk, map, reverse};
 ghost use Rattle.dwarf_forms.specs.declared.attribute.AttributeSpecification.{AttributeSpecification as Specification};
 ghost use Rattle.dwarf_units.specs.declared.steps.AttributeStep.TheVariants.{Pass, Keep};
-ghost use Rattle.dwarf_units.specs.Private.Plans.{kept_attributes_at, step_before, steps_of, step_at, in_front, Fills, plan_of, plan_len, taken_at};
+ghost use Rattle.dwarf_units.specs.Private.Plans.{step_before, steps_of, step_at, steps_at, in_front, Fills, plan_of, plan_len, taken_at};
 ghost use Rattle.dwarf_bytes.specs.Refusals.{ReadsField};
 
 use crate::attributes::{Attribute, AttributeValue, number_of, read_attribute};
 use crate::steps::{AttributeStep, joined, step_of};
 use dwarf_bytes::{Cause, Content, Cursor, Format, ValueLayout, Width};
-use dwarf_forms::{Abbrevs, AttributeSpecification};
+use dwarf_forms::{AttributeSpecification, SharedAbbrevs};
 use std::alloc::{AllocError, Global};
 use std::marker::Model;
 
-/// The steps of a declaration, where the used attributes of its entry are kept, and where none are.
+/// The steps of some attributes, where the used ones are kept, and where none are.
 #[derive(Drop)]
 pub(crate) struct Plan {
     kept: Vec<AttributeStep>,
@@ -59,33 +59,32 @@ impl Plan {
     }
 }
 
-/// A plan for each declaration of a table, for units of a format.
-pub(crate) fn plans(alloc: Global, format: Format, table: &Abbrevs) -> Result<Vec<Plan>, AllocError>
+/// A plan for the own attributes of each declaration of a table, for units of a format.
+pub(crate) fn plans(
+    alloc: Global,
+    format: Format,
+    table: &SharedAbbrevs,
+) -> Result<Vec<Plan>, AllocError>
     ensures { IfOk result (λ plans. plans.items ≡ map
-        (λ declaration. plan_of format declaration.attributes) table.now) }
+        (λ declaration. plan_of format declaration.list.own) table.now) }
 {
     let mut plans = Vec::new(alloc);
     for declaration in table.decls() {
-        plans.push(Plan::of(alloc, format, declaration.attributes())?)?;
+        plans.push(Plan::of(alloc, format, declaration.list().own())?)?;
     }
     Ok(plans)
 }
 
-/// Reads the attributes of an entry by the steps of its declaration: those that are kept into
-/// `found`, in place of what is there.
+/// Takes steps, one after another. What they keep is added to `found`.
 pub(crate) fn read_steps(
     format: Format,
     steps: &[AttributeStep],
     cursor: &mut Cursor,
     found: &mut Vec<Attribute>,
 ) -> Result<(), Cause>
-    ensures { (keep : Bool) (declared : List Specification)
-        → steps.now ≡ steps_of keep format declared
-        → Fills result found.new.items
-        (kept_attributes_at keep format declared) cursor.old cursor.new }
+    ensures { Fills result found.new.items (λ bytes at. in_front found.old.items
+        (steps_at format steps.now bytes at)) cursor.old cursor.new }
 {
-    let _ = cursor.place(); // it stands in the bytes or at their end, also where no step reads
-    found.clear();
     for step in steps {
         read_step(format, step, cursor, found)?;
     }
@@ -93,7 +92,7 @@ pub(crate) fn read_steps(
 }
 
 /// Takes a step. What it keeps is added to `found`.
-fn read_step(
+pub(crate) fn read_step(
     format: Format,
     step: &AttributeStep,
     cursor: &mut Cursor,
@@ -185,7 +184,7 @@ fn take_attribute(
     })
 }
 
-/// The steps of a declaration. `keep` is whether the used attributes are kept.
+/// The steps of some attributes. `keep` is whether the used ones are kept.
 fn steps(
     alloc: Global,
     keep: bool,

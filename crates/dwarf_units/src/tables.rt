@@ -8,12 +8,14 @@ ghost use Rattle.dwarf_forms.specs.Declarations.{Declaration};
 ghost use Rattle.dwarf_forms.specs.Tables.{declarations_of};
 ghost use Rattle.dwarf_units.specs.Units.{declarations_limit, tables_of};
 ghost use Rattle.dwarf_units.specs.Private.Plans.{Table};
-ghost use Rattle.dwarf_units.specs.Private.Tables.{StandsIn, IsAt, AreElsewhere, IsWithinLimit, StaysOrIsTooLarge, with_table};
+ghost use Rattle.dwarf_units.specs.Private.Tables.{IsAdded, IsAt, AreElsewhere, IsWithinLimit, StaysOrIsTooLarge, with_table};
 
-use crate::numbers::Numbers;
+use crate::kept_table::KeptTable;
+use crate::linked_lists::LinkedLists;
+use crate::table_store::TableStore;
 use crate::unit_headers::UnitHeader;
-use crate::unit_table::{UnitTable, put_behind};
-use dwarf_bytes::{Format, LoadFault};
+use crate::unit_table::UnitTable;
+use dwarf_bytes::LoadFault;
 use std::alloc::{AllocError, Global};
 use std::marker::Model;
 
@@ -23,29 +25,25 @@ const DECLARATIONS_LIMIT: u64 = 4_194_304;
 /// The tables that the units of an object name, and how attributes are read by them.
 #[derive(Drop)]
 pub struct Tables<'a> {
-    section: &'a [u8],
-    tables: Vec<UnitTable>,
-    /// How many of the tables stay; one behind them is the last that was read and had no room.
-    kept: usize,
-    /// How many more declarations, attributes and steps may stay.
-    room: u128,
-    numbers: Numbers,
+    lists: LinkedLists<'a>,
+    store: TableStore,
 }
 
 impl<'a> Model for Tables<'a> {
-    ghost use Rattle.dwarf_units.specs.Private.Tables.{KeptTables, AreKept};
+    ghost use Rattle.dwarf_units.specs.Private.Tables.{AreStored, KeptTables, seen};
 
     ghost Value = { KeptTables };
 
-    ghost view = { λ t. record { section = t.section.now; tables = t.tables.items; kept = t.kept } };
+    ghost view = { λ t. seen t.lists t.store };
 
-    ghost invariant = { λ t. AreKept t.section.now t.tables.items t.kept t.room t.numbers };
+    ghost invariant = { λ t. AreStored t.lists t.store };
 }
 
 impl<'a> Tables<'a> {
     /// Reads the table of each unit, those of a place and a format once. A fault is told at its
-    /// declaration. Tables that overlap may be more than are kept: the declarations, attributes and
-    /// steps that are kept are at most three times the bytes of the section, and 65,536.
+    /// declaration. What is kept is bounded: attributes behind the first ones of their list are kept
+    /// once for each place of the section, and the declarations, first attributes and steps of the
+    /// tables that stay are at most three times the bytes of the section, and 65,536.
     pub fn judge(
         alloc: Global,
         section: &'a [u8],
@@ -59,7 +57,7 @@ impl<'a> Tables<'a> {
         ensures limit { IfOk result (λ tables. IsWithinLimit tables) }
         ensures stays { IfOk result (λ tables. All (StaysOrIsTooLarge tables) units.now) }
     {
-        let mut tables = Tables::new(alloc, section);
+        let mut tables = Tables::new(alloc, section)?;
         let mut left = DECLARATIONS_LIMIT;
         for unit in units {
             tables.judge_unit(alloc, unit, &mut left)?;
@@ -67,16 +65,14 @@ impl<'a> Tables<'a> {
         Ok(tables)
     }
 
-    fn new(alloc: Global, section: &'a [u8]) -> Tables<'a>
-        ensures { result ≡ record { section = section.now; tables = []; kept = 0 } }
+    fn new(alloc: Global, section: &'a [u8]) -> Result<Tables<'a>, AllocError>
+        ensures { IfOk result (λ made. made
+            ≡ record { section = section.now; tables = []; kept = 0 }) }
     {
-        Tables {
-            section,
-            tables: Vec::new(alloc),
-            kept: 0,
-            room: 3 * section.len() as u128 + 65_536,
-            numbers: Numbers::new(alloc),
-        }
+        Ok(Tables {
+            lists: LinkedLists::new(alloc, section)?,
+            store: TableStore::new(alloc, 3 * section.len() as u128 + 65_536),
+        })
     }
 
     /// Reads the table of a unit, unless it is known. Its declarations are taken from those that are
@@ -103,12 +99,12 @@ impl<'a> Tables<'a> {
         ensures grows { OnOk result ((rest : List Table) × (take self.new.kept self.new.tables
             ≡ take self.old.kept self.old.tables ++ rest)) }
     {
+        let _ = &self.store; // what stays is bounded, also where no table is read
         if let Some(len) = self.known_len(unit, *left) {
             *left -= len;
             return Ok(());
         }
-        let table = UnitTable::read(alloc, self.section, unit.format, unit.abbreviations, left)?;
-        self.keep(table)?;
+        self.add(alloc, unit, left)?;
         Ok(())
     }
 
@@ -125,8 +121,8 @@ impl<'a> Tables<'a> {
             × (length table ≡ len) × (len ≤ left)) }
         ensures stays { IfSome result (λ _. StaysOrIsTooLarge self.now unit.now) }
     {
-        let number = self.known(unit)?;
-        let len = self.tables[number].len();
+        let number = self.store.known(unit)?;
+        let len = self.store.tables[number].len();
         if len > left {
             return None;
         }
@@ -153,13 +149,11 @@ impl<'a> Tables<'a> {
             × (self.new ≡ with_table self.old table)) }
         ensures limit { IsWithinLimit self.new }
     {
-        if let Some(number) = self.known(unit) {
+        if let Some(number) = self.store.known(unit) {
             return Ok(number);
         }
         let mut left = DECLARATIONS_LIMIT;
-        let place = unit.abbreviations;
-        let table = UnitTable::read(alloc, self.section, unit.format, place, &mut left)?;
-        Ok(self.keep(table)?)
+        self.add(alloc, unit, &mut left)
     }
 
     /// The same, where the table of a number may be that of the unit.
@@ -179,59 +173,46 @@ impl<'a> Tables<'a> {
             self.old.section unit.now.abbreviations) ≡ Err fault)) }
         ensures section { self.new.section ≡ self.old.section }
     {
-        match self.tables.get(guess) {
+        match self.store.tables.get(guess) {
             Some(table) if table.is_of(unit) => Ok(guess),
             _ => self.number_of(alloc, unit),
         }
     }
 
     /// The table of a number.
-    pub fn table(&self, number: usize) -> &UnitTable
+    pub fn table(&self, number: usize) -> UnitTable<'_>
         requires { number < length self.now.tables }
-        ensures { slice_get self.now.tables number ≡ Some result.now }
+        ensures { slice_get self.now.tables number ≡ Some result }
     {
-        &self.tables[number]
+        UnitTable::new(&self.store.tables[number], &self.lists)
     }
 
     /// Whether the table of a number stays. One that does not gives way to the next such one.
     pub fn stays(&self, number: usize) -> bool
         ensures { result ≡ nat_lt number self.now.kept }
     {
-        number < self.kept
+        number < self.store.kept
     }
 
-    /// The number of the table of a unit, where it is kept.
-    fn known(&self, unit: &UnitHeader) -> Option<usize>
-        ensures none { IfNone result (AreElsewhere unit.now.format unit.now.abbreviations
-            self.now.tables) }
-        ensures some { IfSome result (λ number. (table : Table)
-            × (slice_get self.now.tables number ≡ Some table)
-            × IsAt unit.now.format unit.now.abbreviations table) }
-    {
-        let number = self.numbers.get(unit.format, unit.abbreviations)?;
-        if self.tables.get(number)?.is_of(unit) {
-            return Some(number);
-        }
-        None
-    }
-
-    /// Keeps a table, and gives its number. One for which there is no room is kept up to the next one.
-    fn keep(&mut self, table: UnitTable) -> Result<usize, AllocError>
-        requires stands { StandsIn self.old.section table }
-        requires fresh { AreElsewhere table.format table.offset self.old.tables }
-        ensures ok { IfOk result (λ number. (self.new ≡ with_table self.old table)
-            × (slice_get self.new.tables number ≡ Some table)) }
+    /// Reads the table of a unit, which is none of those that are kept, and keeps it. Gives its
+    /// number. Its declarations are taken from those that are left.
+    fn add(&mut self, alloc: Global, unit: &UnitHeader, left: &mut u64) -> Result<usize, LoadFault>
+        requires few { left.old ≤ declarations_limit }
+        requires fresh { (table : List Declaration) → in_section sections.DebugAbbrev
+            (declarations_of left.old self.old.section unit.now.abbreviations) ≡ Ok table
+            → AreElsewhere unit.now.format unit.now.abbreviations self.old.tables }
+        ensures ok { IfOk result (λ number. IsAdded unit.now.format unit.now.abbreviations
+            left.old left.new self.old self.new number) }
+        ensures err { IfErr result (λ fault. (fault ≡ memory_fault)
+            ⊎ (in_section sections.DebugAbbrev
+            (declarations_of left.old self.old.section unit.now.abbreviations) ≡ Err fault)) }
         ensures section { self.new.section ≡ self.old.section }
+        ensures known { (number : ℕ) (table : Table) → slice_get self.old.tables number ≡ Some table
+            → IsAt unit.now.format unit.now.abbreviations table → self.new ≡ self.old }
         ensures limit { IsWithinLimit self.new }
     {
-        let size = table.size();
-        self.numbers
-            .insert(table.format(), table.offset(), self.kept)?;
-        let number = put_behind(&mut self.tables, self.kept, table)?;
-        if size <= self.room {
-            self.room -= size;
-            self.kept = self.tables.len();
-        }
-        Ok(number)
+        let place = unit.abbreviations;
+        let table = KeptTable::read(alloc, &mut self.lists, unit.format, place, left)?;
+        Ok(self.store.keep(table)?)
     }
 }

@@ -18,6 +18,9 @@ pub record Head : Type 0 where
   pub format : Format
   pub declaration : Declaration
 
+abbrev pub head_in : Table → Declaration → Head
+head_in table declaration = record { format = table.format; declaration = declaration }
+
 -- the head of what stands at a place, and the place after it; none of a null
 abbrev pub head_at : Table → ℕ → Bool → List ℕ → ℕ → Result (Option Head × ℕ) Cause
 head_at table depth rooted unit at = do
@@ -26,7 +29,7 @@ head_at table depth rooted unit at = do
     declaration ← ok_or (declaration_of table.declarations code.0) causes.AbbrevCode
     _ ← refuse_if ((depth == 0) && rooted) causes.TwoRoots
     _ ← refuse_if (nat_lt depth_limit depth) causes.TooDeep
-    Ok (Some (record { format = table.format; declaration = declaration }), code.1)
+    Ok (Some (head_in table declaration), code.1)
 
 -- the tag of the entry at a place and its attributes that are used, and the place after it
 abbrev pub used_entry_at : Table → List ℕ → ℕ → Result ((ℕ × List Attribute) × ℕ) Cause

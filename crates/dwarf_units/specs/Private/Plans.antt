@@ -1,5 +1,5 @@
 -- How the attributes of a declaration are read where only some are kept: runs of values of a known length are passed over.
-use Rattle.std.specs.Prelude.{◌≡◌, ℕ, ◌+◌, List, [], ◌∷◌, ◌++◌, length, Bool, true, false, Option, Some, None, Result, Ok, Err, nat_le, ◌&&◌, ◌||◌, not, if◌then◌else◌, filter, sum_by}
+use Rattle.std.specs.Prelude.{◌≡◌, ℕ, ◌+◌, List, [], ◌∷◌, ◌++◌, length, take, Bool, true, false, Option, Some, None, Result, Ok, Err, nat_le, ◌&&◌, ◌||◌, not, if◌then◌else◌, filter, sum_by}
 use Rattle.std.specs.Option.{option_map_or}
 use Rattle.dwarf_bytes.specs.declared.fault.Cause.{Cause}
 use Rattle.dwarf_bytes.specs.declared.format.Format.{Format}
@@ -14,6 +14,7 @@ use Rattle.dwarf_bytes.specs.Numbers.{block_at, offset_len}
 use Rattle.dwarf_bytes.specs.Position.{Position}
 use Rattle.dwarf_bytes.specs.Refusals.{Fails}
 use Rattle.dwarf_forms.specs.declared.attribute.AttributeSpecification.{AttributeSpecification}
+use Rattle.dwarf_forms.specs.declared.shared.TheConstants.{UNSHARED}
 use Rattle.dwarf_forms.specs.Declarations.{Declaration}
 use Rattle.dwarf_units.specs.declared.attributes.Attribute.{Attribute}
 use Rattle.dwarf_units.specs.declared.steps.AttributeStep.{AttributeStep}
@@ -124,12 +125,17 @@ abbrev pub in_front : {X : Type 0} → List X → Result (List X × ℕ) Cause �
 in_front front (Ok rest) = Ok (front ++ rest.0, rest.1)
 in_front front (Err cause) = Err cause
 
+-- what steps keep, one after another, and the place after them
+unfoldable pub steps_at : Format → List AttributeStep → List ℕ → ℕ → Result (List Attribute × ℕ) Cause
+steps_at format [] bytes at = Ok ([], at)
+steps_at format (step ∷ steps) bytes at = step_at format step bytes at >>= λ first. in_front first.0 (steps_at format steps bytes first.1)
+
 -- What a step left in its place is what is read, and the cursor stands after it, unless memory ran out.
 abbrev pub Fills : {Y : Type 0} → Result (Unit {0}) Cause → Y → (List ℕ → ℕ → Result (Y × ℕ) Cause) → Position → Position → Type 0
 Fills (Ok u) left read old new = (read old.bytes old.place ≡ Ok (left, new.place)) × (new.bytes ≡ old.bytes)
 Fills (Err cause) left read old new = Fails cause (read old.bytes old.place)
 
--- the steps of a declaration, where its attributes are kept and where they are not
+-- the steps of some attributes, where they are kept and where they are not
 pub record Planned : Type 0 where
   pub kept : List AttributeStep
   pub passed : List AttributeStep
@@ -147,7 +153,11 @@ pub record Table : Type 0 where
   pub format : Format
   pub declarations : List Declaration
 
--- the declarations of a table, their attributes, and the steps of their plans
+-- the first attributes of a declaration, which are kept with it; those behind them are shared
+abbrev pub own_attributes : Declaration → List AttributeSpecification
+own_attributes d = take UNSHARED d.attributes
+
+-- the declarations of a table, their own attributes, and the steps of the plans of these
 abbrev pub table_size : Table → ℕ
-table_size table = length table.declarations + sum_by (λ d. length d.attributes) table.declarations
-    + sum_by (λ d. plan_len (plan_of table.format d.attributes)) table.declarations
+table_size table = length table.declarations + sum_by (λ d. length (own_attributes d)) table.declarations
+    + sum_by (λ d. plan_len (plan_of table.format (own_attributes d))) table.declarations

@@ -2,12 +2,17 @@
 use Rattle.std.specs.Prelude.{◌≡◌, ℕ, ◌⊎◌, ◌+◌, ◌*◌, ◌<◌, ◌≤◌, List, [], ◌∷◌, ◌++◌, length, take, Some, Ok, nat_le, if◌then◌else◌, slice_get, sum_by}
 use Rattle.std.specs.List.{All}
 use Rattle.dwarf_bytes.specs.declared.format.Format.{Format}
+use Rattle.dwarf_bytes.specs.declared.fault.Section.TheVariants as sections
+use Rattle.dwarf_bytes.specs.Refusals.{in_section}
 use Rattle.dwarf_forms.specs.Tables.{declarations_of}
 use Rattle.dwarf_units.specs.declared.unit_headers.UnitHeader.{UnitHeader}
 use Rattle.dwarf_units.specs.declared.numbers.Numbers.{Numbers}
 use Rattle.dwarf_units.specs.Units.{declarations_limit}
 use Rattle.dwarf_units.specs.Private.Numbers.{number_at}
+use Rattle.dwarf_units.specs.declared.table_store.TableStore.{TableStore}
 use Rattle.dwarf_units.specs.Private.Plans.{Table, table_size}
+use Rattle.dwarf_units.specs.Private.Links.{LinkedPlaces}
+use Rattle.dwarf_units.specs.Private.SharedTables.{IsReadable, SharedTable, told_table, told_tables}
 
 -- tables of a section, by their numbers, and how many of them stay: one behind these is the last that was read
 pub record KeptTables : Type 0 where
@@ -56,3 +61,29 @@ pub record AreKept (section : List ℕ) (tables : List Table) (kept room : ℕ) 
   pub within : kept ≤ length tables
   pub one : length tables ≤ kept + 1
   pub past : (table : Table) → slice_get tables kept ≡ Some table → room < table_size table
+
+-- ---- tables whose declarations share attributes
+
+-- what is kept, as it is told by what is known
+abbrev pub seen : LinkedPlaces → TableStore → KeptTables
+seen lists store = record { section = lists.places.section; tables = told_tables lists.places.known store.tables.items; kept = store.kept }
+
+pub record AreStored (lists : LinkedPlaces) (store : TableStore) : Type 0 where
+  pub kept : AreKept lists.places.section (told_tables lists.places.known store.tables.items) store.kept store.room store.numbers
+  pub readable : All (IsReadable lists) store.tables.items
+
+-- A table may be kept: it stands in the section, and is none of those that are kept.
+pub record IsNew (lists : LinkedPlaces) (store : TableStore) (table : SharedTable) : Type 0 where
+  pub readable : IsReadable lists table
+  pub stands : StandsIn lists.places.section (told_table lists.places.known table)
+  pub fresh : AreElsewhere table.format table.offset (told_tables lists.places.known store.tables.items)
+
+-- The table that is read at an offset for units of a format, with room for so many declarations, is one more by this
+-- number, and there is room for so many more.
+pub record IsAdded (format : Format) (offset room left : ℕ) (old new : KeptTables) (number : ℕ) : Type 0 where
+  pub table : Table
+  pub at : IsAt format offset table
+  pub read : in_section sections.DebugAbbrev (declarations_of room old.section offset) ≡ Ok table.declarations
+  pub counted : left + length table.declarations ≡ room
+  pub found : slice_get new.tables number ≡ Some table
+  pub added : new ≡ with_table old table

@@ -1,9 +1,10 @@
-use Rattle.std.proofs.Common.{◌≡◌}
+use Rattle.std.proofs.Common.{◌≡◌, drop}
+use Rattle.dwarf_units.specs.Private.Plans.{in_front, steps_at}
 use Rattle.dwarf_units.proofs.PlanTurns.{KeptSoFar}
 use Rattle.dwarf_units.proofs.plans.read_steps.Given as goal
 
 abbrev pub invariant-loop-step : goal.invariant-loop-step
 invariant-loop-step l = record {
   bytes : l.cursor.bytes ≡ l.fn.cursor.bytes;
-  kept : KeptSoFar l.format l.steps l.fn.cursor.bytes l.fn.cursor.place l.step-index l.found.items l.cursor.place;
+  kept : KeptSoFar l.format (drop l.step-index l.steps) l.fn.cursor.bytes l.found.items l.cursor.place (in_front l.fn.found.items (steps_at l.format l.steps l.fn.cursor.bytes l.fn.cursor.place));
 }

@@ -1,30 +1,6 @@
-use Rattle.std.proofs.Common.{arith}
-use Rattle.dwarf_forms.proofs.Codes.{indexed_same, indexed_unpushed, indexed_pushed, indexed_own}
-use Rattle.dwarf_forms.proofs.table.Abbrevs.push.Goals.{then-code-place+in_ok-insert, else-code-place}
+use Rattle.dwarf_forms.specs.Declarations.{Declaration}
+use Rattle.dwarf_forms.proofs.CodeLaws.{codes-fresh}
 use Rattle.dwarf_forms.proofs.table.Abbrevs.push.Goals as goal
 
-pub invariant_of-self-in_err-push : goal.invariant_of-self-in_err-push
-invariant_of-self-in_err-push c =
-    let xs = c.self.inside.decls.items in
-    elim c.if-code-place.branch [
-      | then-code-place+in_ok-insert w ↦
-          rw w.self-inside-is
-          (indexed_unpushed xs c.args.self.now c.push.new.self.items c.self.inside.moved w.insert.new.self c.args.decl.code w.code-then-code-place.result c.len-place.result c.self.view_is
-          (rw w.self-inside-is at c.in_err-push.ensures.items) c.requires w.code-then-code-place.ensures w.in_ok-insert.ensures.updates.0 c.self.invariant)
-      | else-code-place w ↦
-          rw w.self-inside-is (indexed_same xs c.push.new.self.items c.self.inside.moved (rw w.self-inside-is at c.in_err-push.ensures.items) c.self.invariant)
-    ]
-
-pub invariant_of-self-2 : goal.invariant_of-self-2
-invariant_of-self-2 c =
-    let xs = c.self.inside.decls.items in
-    elim c.if-code-place.branch [
-      | then-code-place+in_ok-insert w ↦
-          rw w.self-inside-is
-          (indexed_pushed xs c.args.self.now c.push.new.self.items c.self.inside.moved w.insert.new.self c.args.decl w.code-then-code-place.result c.len-place.result c.self.view_is
-          (rw w.self-inside-is at c.in_ok-push.ensures.items) c.requires w.code-then-code-place.ensures (omega (arith, c.len-place.ensures, c.self.inside.decls.ok.0)) w.in_ok-insert.ensures.updates.0 w.in_ok-insert.ensures.updates.1 c.self.invariant)
-      | else-code-place w ↦
-          rw w.self-inside-is
-          (indexed_own xs c.args.self.now c.push.new.self.items c.self.inside.moved c.args.decl c.code.result c.len-place.result c.self.view_is
-          (rw w.self-inside-is at c.in_ok-push.ensures.items) c.requires c.code.ensures (omega (arith, c.len-place.ensures, c.self.inside.decls.ok.0)) w.if-code-place.false c.self.invariant)
-    ]
+pub push-requires-2 : goal.push-requires-2
+push-requires-2 c = codes-fresh (λ (d : Declaration). d.code) c.self.inside.decls.items c.args.self.now c.self.inside.codes c.args.decl.code _ c.self.invariant c.self.view_is c.code-code.ensures c.requires

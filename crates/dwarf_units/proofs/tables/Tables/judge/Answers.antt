@@ -6,7 +6,7 @@ use Rattle.dwarf_units.proofs.tables.Tables.judge.Goals as goal
 
 pub returns-in_err-judge_unit-clause-err : goal.returns-in_err-judge_unit-clause-err
 returns-in_err-judge_unit-clause-err c =
-    let p = err_from_is_err_and c.from_residual.result c.from_residual.ensures.1 in
+    let p = err_from_is_err_and c.from_residual-in_err-judge_unit.result c.from_residual-in_err-judge_unit.ensures.1 in
     rw (p.1, p.2)
     (judged_fault c.args.section.now c.args.units.now c.loop-unit.unit-index c.loop-unit.left _ c.in_err-judge_unit.field-0.0 c.loop-unit.invariant.judged c.loop-unit-test.true
     (rw c.loop-unit.invariant.section at c.in_err-judge_unit.ensures.err))

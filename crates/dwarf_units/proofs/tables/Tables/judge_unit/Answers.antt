@@ -1,24 +1,16 @@
-use Rattle.std.proofs.Common.{ap, arith}
-use Rattle.dwarf_units.specs.Private.Tables.{KeptTables}
-use Rattle.dwarf_units.proofs.TableLaws.{stands_read}
-use Rattle.dwarf_units.proofs.KeptLaws.{elsewhere_as}
+use Rattle.std.proofs.Common.{◌≤◌, length, subst}
+use Rattle.dwarf_units.specs.Private.Tables.{IsWithinLimit, KeptTables}
 use Rattle.dwarf_units.proofs.StayLaws.{stays_behind}
+use Rattle.dwarf_units.proofs.StoreLaws.{limit_of}
 use Rattle.dwarf_units.proofs.tables.Tables.judge_unit.Goals as goal
 
-pub keep-requires : goal.keep-requires
-keep-requires c =
-    let decodes = rw (ap (λ (k : KeptTables). k.section) c.self.view_is) at c.in_ok-table.ensures.decodes in
-    record {
-      stands = stands_read c.args.self.now.section c.args.left.now c.in_ok-table.table c.args.unit.now.abbreviations c.in_ok-table.ensures.place.0 decodes (omega (arith, c.in_ok-table.ensures.counted, c.requires));
-      fresh = elsewhere_as c.in_ok-table.table c.args.unit.now.format c.args.unit.now.abbreviations c.args.self.now.tables c.in_ok-table.ensures.place.0 c.in_ok-table.ensures.place.1 (c.in_default.ensures.none c.in_ok-table.table.declarations decodes);
-    }
+pub returns-in-Some-clause-limit : goal.returns-in-Some-clause-limit
+returns-in-Some-clause-limit c = subst IsWithinLimit c.self.view_is (limit_of c.self.inside.lists c.self.inside.store c.self.invariant)
 
 pub returns-clause-stays : goal.returns-clause-stays
 returns-clause-stays c =
-    (stays_behind c.self.inside.section.now c.self.inside.tables.items c.self.inside.kept c.args.left.now c.args.self.now c.keep.new.self c.args.unit.now c.in_ok-table.table c.self.view_is c.self.invariant.within c.in_ok-table.ensures.place c.in_ok-table.ensures.decodes
-    (omega (arith, c.in_ok-table.ensures.counted, c.requires)) c.in_ok-keep.ensures.ok.0).0
+    (stays_behind c.args.self.now c.add.new.self c.args.unit.now c.args.left.now c.add.new.left _ (subst (λ (k : KeptTables). k.kept ≤ length k.tables) c.self.view_is c.self.invariant.kept.within) c.requires c.in_ok-add.ensures.ok).0
 
 pub returns-clause-grows : goal.returns-clause-grows
 returns-clause-grows c =
-    (stays_behind c.self.inside.section.now c.self.inside.tables.items c.self.inside.kept c.args.left.now c.args.self.now c.keep.new.self c.args.unit.now c.in_ok-table.table c.self.view_is c.self.invariant.within c.in_ok-table.ensures.place c.in_ok-table.ensures.decodes
-    (omega (arith, c.in_ok-table.ensures.counted, c.requires)) c.in_ok-keep.ensures.ok.0).1
+    (stays_behind c.args.self.now c.add.new.self c.args.unit.now c.args.left.now c.add.new.left _ (subst (λ (k : KeptTables). k.kept ≤ length k.tables) c.self.view_is c.self.invariant.kept.within) c.requires c.in_ok-add.ensures.ok).1

@@ -1,24 +1,20 @@
-use Rattle.std.proofs.Common.{length, sym, ap, ◌∙◌, arith}
-use Rattle.std.proofs.lemmas.Option.{get_or_from_slice_get}
-use Rattle.dwarf_units.specs.Private.Plans.{Table}
-use Rattle.dwarf_units.specs.Private.Tables.{KeptTables}
-use Rattle.dwarf_units.proofs.TableLaws.{known_again}
-use Rattle.dwarf_units.proofs.KeptLaws.{known_too_long}
+use Rattle.std.proofs.Common.{subst}
+use Rattle.dwarf_units.specs.Private.Tables.{KeptTables, StaysOrIsTooLarge}
+use Rattle.dwarf_units.proofs.StoreLaws.{known-fits, known-stays, known-told, known-too_long}
 use Rattle.dwarf_units.proofs.tables.Tables.known_len.Goals as goal
 
 pub returns-then-len-left-clause-none : goal.returns-then-len-left-clause-none
 returns-then-len-left-clause-none c = λ read is_read.
-    let found = rw (sym c.self.view_is) at c.in_ok-number.ensures.some in
-    known_too_long c.self.inside.section.now c.self.inside.tables.items c.in_ok-number.number c.len-len.result found.0 c.index.result.now c.args.unit.now.abbreviations c.args.left read c.self.invariant.stand found.1 found.2.0
-    (rw (ap (λ (k : KeptTables). k.section) c.self.view_is) is_read) c.requires (c.len-len.ensures ∙ ap (λ (t : Table). length t.declarations) c.index.ensures) c.if-len-left.true
+    let found = c.in_ok-number.ensures.some in
+    known-too_long c.self.inside.lists c.self.inside.store c.args.self.now c.in_ok-number.number c.len-len.result found.0 c.index.result.now c.args.unit.now.abbreviations c.args.left read c.self.invariant c.self.view_is found.1 found.2 c.index.ensures c.len-len.ensures is_read c.requires c.if-len-left.true
 
 pub returns-clause-some : goal.returns-clause-some
 returns-clause-some c =
-    let found = rw (sym c.self.view_is) at c.in_ok-number.ensures.some in
-    let lens = c.len-len.ensures ∙ ap (λ (t : Table). length t.declarations) (c.index.ensures ∙ get_or_from_slice_get c.self.inside.tables.items c.in_ok-number.number found.0 c.index.result.now found.1) in (
-      found.0.declarations,
-      rw (ap (λ (k : KeptTables). k.section) (sym c.self.view_is))
-          (known_again c.self.inside.section.now c.self.inside.tables.items c.in_ok-number.number found.0 c.args.unit.now.abbreviations c.args.left c.self.invariant.stand found.1 found.2.0 (omega (arith, lens, c.if-len-left.false))),
-      sym lens,
-      c.if-len-left.false,
-    )
+    let found = c.in_ok-number.ensures.some in
+    known-fits c.self.inside.lists c.self.inside.store c.args.self.now c.in_ok-number.number c.len-len.result found.0 c.index.result.now c.args.unit.now.abbreviations c.args.left c.self.invariant c.self.view_is found.1 found.2 c.index.ensures c.len-len.ensures c.if-len-left.false
+
+pub returns-clause-stays : goal.returns-clause-stays
+returns-clause-stays c =
+    let found = c.in_ok-number.ensures.some in
+    subst (λ (k : KeptTables). StaysOrIsTooLarge k c.args.unit.now) c.self.view_is
+    (known-stays c.self.inside.lists c.self.inside.store c.in_ok-number.number _ c.args.unit.now c.self.invariant (known-told c.self.inside.lists.places.known c.self.inside.store.tables.items c.in_ok-number.number found.0 found.1) (found.2, found.3))

@@ -1,26 +1,21 @@
-use Rattle.std.proofs.Common.{◌≡◌, List, ap, sym, ◌∙◌}
-use Rattle.std.specs.Prelude.{Some, None, position, map, slice_get, option_copied, ◌==◌}
-use Rattle.dwarf_forms.specs.Declarations.{Declaration}
-use Rattle.dwarf_forms.proofs.Codes.{find-place, got}
-use Rattle.dwarf_units.specs.Private.Plans.{plan_of, Table}
-use Rattle.dwarf_units.proofs.TableLaws.{planned_at}
+use Rattle.std.proofs.Common.{ap, ◌∙◌}
+use Rattle.std.specs.Prelude.{None, Some, ◌==◌}
+use Rattle.dwarf_forms.specs.Private.SharedTables.{SharedDeclaration}
+use Rattle.dwarf_units.specs.Private.Heads.{Head}
+use Rattle.dwarf_units.specs.Private.Links.{IsLinked}
+use Rattle.dwarf_units.proofs.SharedTableLaws.{all_found, head_found}
 use Rattle.dwarf_units.proofs.unit_table.UnitTable.find.Goals as goal
 
-pub returns-in_err-place-clause-none : goal.returns-in_err-place-clause-none
-returns-in_err-place-clause-none c =
-    let same = ap (λ (t : Table). t.declarations) c.self.view_is in
-    rw c.from_residual.ensures
-    (find-place (λ (d : Declaration). d.code == c.args.code) c.args.self.now.declarations None (ap (λ (ds : List Declaration). position (λ d. d.code == c.args.code) ds) (sym same ∙ sym c.decls-decls.ensures) ∙ sym c.in_err-place.ensures))
+pub returns-in_err-declaration : goal.returns-in_err-declaration
+returns-in_err-declaration c = c.from_residual.ensures ∙ head_found c.self.inside.lists.now.places.known c.self.inside.table.now c.args.self.now c.args.code None c.self.view_is c.in_err-declaration.ensures.none
 
-pub returns-clause-some : goal.returns-clause-some
-returns-clause-some c =
-    let place = c.in_ok-place.place in
-    let same = ap (λ (t : Table). t.declarations) c.self.view_is in
-    let at : position (λ d. d.code == c.args.code) c.args.self.now.declarations ≡ Some place = ap (λ (ds : List Declaration). position (λ d. d.code == c.args.code) ds) (sym same ∙ sym c.decls-decls.ensures) ∙ sym c.in_ok-place.ensures in
-    let here : slice_get c.args.self.now.declarations place ≡ Some c.in_ok-declaration.declaration.now =
-    ap (λ (ds : List Declaration). slice_get ds place) (sym same ∙ sym c.decls-decls.ensures) ∙ sym (got c.decls-decls.result.now place c.get.result c.get.ensures.lookup.0 c.get.ensures.lookup.1) ∙ ap (λ r. option_copied r) c.in_ok-declaration.was in
-    let planned : slice_get c.deref.result.now place ≡ Some c.in_ok-plan.plan.now =
-    sym (got c.deref.result.now place c.get-2.result c.get-2.ensures.lookup.0 c.get-2.ensures.lookup.1) ∙ ap (λ r. option_copied r) c.in_ok-plan.was in
-    let plans : c.deref.result.now ≡ map (λ d. plan_of c.args.self.now.format d.attributes) c.args.self.now.declarations =
-    c.deref.ensures.value ∙ (c.self.invariant.0 ∙ ap (λ (t : Table). map (λ (d : Declaration). plan_of t.format d.attributes) t.declarations) c.self.view_is) in
-    planned_at c.args.code c.args.self.now.format c.args.self.now.declarations c.deref.result.now place c.in_ok-declaration.declaration.now c.in_ok-plan.plan.now at plans here planned
+pub new-requires-clause-linked : goal.new-requires-clause-linked
+new-requires-clause-linked c =
+    rw c.format.ensures
+    (all_found (λ (d : SharedDeclaration). IsLinked c.self.inside.lists.now c.self.inside.table.now.format d.list.rest) (λ (d : SharedDeclaration). d.code == c.args.code) c.self.inside.table.now.declarations c.in_ok-declaration.declaration.now c.self.invariant.linked
+    c.in_ok-declaration.ensures.some.0)
+
+pub returns : goal.returns
+returns c =
+    ap (λ (h : Head). Some h) (rw c.format.ensures at c.new.ensures)
+    ∙ head_found c.self.inside.lists.now.places.known c.self.inside.table.now c.args.self.now c.args.code (Some c.in_ok-declaration.declaration.now) c.self.view_is c.in_ok-declaration.ensures.some.0

@@ -1,0 +1,167 @@
+//! The attributes of a declaration, where the end of their list may be known (DWARF 5, 7.5.3).
+
+ghost use Rattle.std.specs.Prelude.{◌≡◌, ◌++◌, ◌≤◌, All, IfNone, IfOk, IfSome, length, true};
+ghost use Rattle.dwarf_forms.specs.Private.Known.{Grows, IsKnown, IsUnknown, is_known_at};
+ghost use Rattle.dwarf_forms.specs.Private.Known.{rest_attributes};
+ghost use Rattle.dwarf_forms.specs.Private.Shared.{IsShared, ReadsShared, ReadsStretch, StandAt};
+
+use crate::attribute::{AttributeSpecification, FEW, next_attribute};
+use crate::known_lists::KnownLists;
+use dwarf_bytes::{Cause, Cursor};
+use std::alloc::{AllocError, Global};
+use std::collections::BTreeSet;
+use std::marker::Model;
+
+/// How many attributes of a list, the first ones, are kept with it and not by their places:
+/// compilers write shorter lists.
+pub const UNSHARED: usize = 64;
+
+/// The attributes of a declaration: its own, and behind them those from a known one on.
+#[derive(Drop)]
+pub struct SharedList {
+    own: Vec<AttributeSpecification>,
+    rest: Option<usize>,
+}
+
+impl Model for SharedList {
+    ghost use Rattle.dwarf_forms.specs.Private.Shared.{SharedAttributes};
+
+    ghost Value = { SharedAttributes };
+
+    ghost view = { λ l. record { own = l.own.items; rest = l.rest } };
+}
+
+impl SharedList {
+    /// Its first attributes.
+    pub fn own(&self) -> &[AttributeSpecification]
+        ensures { result.now ≡ self.now.own }
+    {
+        &self.own
+    }
+
+    /// The number of the known attribute behind them.
+    pub fn rest(&self) -> Option<usize>
+        ensures { result ≡ self.now.rest }
+    {
+        self.rest
+    }
+}
+
+/// What was read of a list, up to its end or to an attribute that is known.
+#[derive(Drop)]
+pub(crate) struct Stretch {
+    attributes: Vec<AttributeSpecification>,
+    /// The places of the attributes, but of the first ones.
+    places: Vec<usize>,
+    /// The number of the known attribute behind them.
+    rest: Option<usize>,
+}
+
+/// The attributes of a declaration, up to the two zeros that end them. Behind the first ones each
+/// place is read once, and known from then on.
+pub(crate) fn shared_attributes(
+    alloc: Global,
+    lists: &mut KnownLists<'_>,
+    cursor: &mut Cursor,
+) -> Result<SharedList, Cause>
+    requires { cursor.old.bytes ≡ lists.old.section }
+    ensures reads { ReadsShared result lists.new.known cursor.old cursor.new }
+    ensures list { IfOk result (IsShared lists.new.known) }
+    ensures grows { Grows lists.old lists.new }
+{
+    let Stretch {
+        attributes,
+        places,
+        rest,
+    } = next_stretch(alloc, lists, cursor)?;
+    if attributes.len() <= UNSHARED {
+        return Ok(SharedList {
+            own: attributes,
+            rest,
+        });
+    }
+    let (first, behind) = attributes.split_at(UNSHARED);
+    let own = Vec::from_slice(alloc, first)?;
+    let rest = put_all(lists, behind, &places, rest, cursor.place())?;
+    Ok(SharedList { own, rest })
+}
+
+/// The attributes at the cursor, up to their end or to the first place, behind the first ones, that
+/// is known.
+fn next_stretch(
+    alloc: Global,
+    lists: &KnownLists<'_>,
+    cursor: &mut Cursor,
+) -> Result<Stretch, Cause>
+    requires { cursor.old.bytes ≡ lists.now.section }
+    ensures { ReadsStretch result lists.now cursor.old cursor.new }
+{
+    let mut attributes = Vec::new(alloc);
+    let mut places = Vec::new(alloc);
+    let mut later = BTreeSet::new(alloc);
+    loop {
+        let place = cursor.place();
+        let rest = known_behind(lists, attributes.len(), place);
+        if let Some(number) = rest {
+            lists.join(number, &attributes, cursor)?;
+            return Ok(Stretch {
+                attributes,
+                places,
+                rest: Some(number),
+            });
+        }
+        let Some(next) = next_attribute(&attributes, &later, cursor)? else {
+            return Ok(Stretch {
+                attributes,
+                places,
+                rest: None,
+            });
+        };
+        if attributes.len() >= UNSHARED {
+            places.push(place)?;
+        }
+        if attributes.len() >= FEW {
+            later.insert(next.name)?;
+        }
+        attributes.push(next)?;
+    }
+}
+
+/// The number of the known attribute at a place, behind so many others of its list.
+fn known_behind(lists: &KnownLists<'_>, count: usize, place: usize) -> Option<usize>
+    ensures none { IfNone result (UNSHARED ≤ count → IsUnknown lists.now.known place) }
+    ensures some { IfSome result (λ number. is_known_at lists.now.known number place ≡ true) }
+    ensures behind { IfSome result (λ _. UNSHARED ≤ count) }
+{
+    if count < UNSHARED {
+        return None;
+    }
+    lists.find(place)
+}
+
+/// Knows attributes at their places, which stand in front of a rest. Gives the number of the first.
+fn put_all(
+    lists: &mut KnownLists<'_>,
+    attributes: &[AttributeSpecification],
+    places: &[usize],
+    rest: Option<usize>,
+    after: usize,
+) -> Result<Option<usize>, AllocError>
+    requires lengths { length places.now ≡ length attributes.now }
+    requires rest { IsKnown lists.old.known rest }
+    requires stand { StandAt lists.old.section places.now attributes.now
+        (rest_attributes lists.old.known rest) after }
+    requires unknown { All (IsUnknown lists.old.known) places.now }
+    ensures list { IfOk result (λ first. rest_attributes lists.new.known first
+        ≡ attributes.now ++ rest_attributes lists.old.known rest) }
+    ensures known { IfOk result (IsKnown lists.new.known) }
+    ensures grows { Grows lists.old lists.new }
+{
+    let mut next = rest;
+    let mut left = places.len();
+    while left > 0 {
+        left -= 1;
+        next = Some(lists.put(places[left], attributes[left], next, after)?);
+    }
+    Ok(next)
+}

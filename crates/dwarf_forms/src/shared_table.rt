@@ -1,0 +1,168 @@
+//! Tables of abbreviation declarations whose attributes are shared (DWARF 5, 7.5.3).
+
+ghost use Rattle.std.specs.Prelude.{◌≡◌, ◌+◌, ◌≤◌, ◌==◌, ◌∷◌, ◌++◌, [], false, length, map};
+ghost use Rattle.std.specs.Prelude.{IfOk, IfSome, OnOk, OnErr, position};
+ghost use Rattle.std.specs.List.{list_any};
+ghost use Rattle.dwarf_bytes.specs.declared.fault.Section.TheVariants as sections;
+ghost use Rattle.dwarf_bytes.specs.Refusals.{Decodes, in_section, ReadsNext};
+ghost use Rattle.dwarf_forms.specs.Tables.{head_at, declarations_of};
+ghost use Rattle.dwarf_forms.specs.Private.Codes.{head_behind};
+ghost use Rattle.dwarf_forms.specs.Private.Known.{Grows};
+ghost use Rattle.dwarf_forms.specs.Private.SharedTables.{AreTold, tell};
+ghost use Rattle.dwarf_forms.specs.Private.TableSteps.{ExtendsTable};
+
+use crate::code_index::CodeIndex;
+use crate::declaration::Head;
+use crate::known_lists::KnownLists;
+use crate::shared::shared_attributes;
+use crate::shared_decl::SharedDecl;
+use dwarf_bytes::{Cause, Cursor, LoadFault, Section};
+use std::alloc::{AllocError, Global};
+use std::marker::Model;
+
+/// The declarations of one table of `.debug_abbrev`, as `Abbrevs` has them. What is told of their
+/// attributes is known of the section.
+#[derive(Drop)]
+pub struct SharedAbbrevs {
+    decls: Vec<SharedDecl>,
+    codes: CodeIndex,
+}
+
+impl Model for SharedAbbrevs {
+    ghost use Rattle.std.specs.Prelude.{◌≡◌, List, map};
+    ghost use Rattle.dwarf_forms.specs.Private.SharedTables.{SharedDeclaration};
+
+    ghost Value = { List SharedDeclaration };
+
+    ghost view = { λ t. t.decls.items };
+
+    ghost invariant = { λ t. t.codes ≡ map (λ declaration. declaration.code) t.decls.items };
+}
+
+impl SharedAbbrevs {
+    /// The table at an offset, as `Abbrevs::read` reads it. What is known of the section's lists
+    /// is not read again, and what is read of them is known from then on.
+    pub fn read(
+        alloc: Global,
+        lists: &mut KnownLists<'_>,
+        offset: u64,
+        left: &mut u64,
+    ) -> Result<SharedAbbrevs, LoadFault>
+        ensures decodes { Decodes (tell lists.new.known) result (in_section sections.DebugAbbrev
+            (declarations_of left.old lists.old.section offset)) }
+        ensures counted { IfOk result (λ table. left.new + length table ≡ left.old) }
+        ensures unchanged { OnErr result (left.new ≡ left.old) }
+        ensures known { IfOk result (AreTold lists.new.known) }
+        ensures grows { Grows lists.old lists.new }
+    {
+        let mut cursor = Cursor::new(lists.section());
+        if cursor.seek(offset as usize).is_err() {
+            return Err(LoadFault::told(Section::DebugAbbrev, Cause::Short, offset));
+        }
+        let table = declarations(alloc, lists, *left, &mut cursor)?;
+        *left -= table.len() as u64;
+        Ok(table)
+    }
+
+    /// The declarations, in their order.
+    pub fn decls(&self) -> &[SharedDecl]
+        ensures { result.now ≡ self.now }
+    {
+        self.decls.as_slice()
+    }
+
+    /// The place of the declaration of a code, counted from 0.
+    pub fn position(&self, code: u64) -> Option<usize>
+        ensures { result ≡ position (λ declaration. declaration.code == code) self.now }
+    {
+        self.codes.position(code)
+    }
+
+    fn new(alloc: Global) -> SharedAbbrevs
+        ensures { result ≡ [] }
+    {
+        SharedAbbrevs {
+            decls: Vec::new(alloc),
+            codes: CodeIndex::new(alloc),
+        }
+    }
+
+    fn len(&self) -> usize
+        ensures { result ≡ length self.now }
+    {
+        self.decls.len()
+    }
+
+    /// Adds a declaration behind the others.
+    fn push(&mut self, decl: SharedDecl) -> Result<(), AllocError>
+        requires { list_any (λ declaration. declaration.code == decl.code) self.old ≡ false }
+        ensures ok { OnOk result (self.new ≡ self.old ++ decl ∷ []) }
+        ensures err { OnErr result (self.new ≡ self.old) }
+    {
+        let code = decl.code();
+        self.decls.push(decl)?;
+        if let Err(error) = self.codes.push(code) {
+            let _ = self.decls.pop();
+            return Err(error);
+        }
+        Ok(())
+    }
+
+    /// Reads the next declaration and adds it; false where the code 0 stands.
+    fn extend(
+        &mut self,
+        alloc: Global,
+        lists: &mut KnownLists<'_>,
+        room: u64,
+        cursor: &mut Cursor,
+    ) -> Result<bool, Cause>
+        requires bytes { cursor.old.bytes ≡ lists.old.section }
+        requires told { AreTold lists.old.known self.old }
+        ensures table { ExtendsTable result room (tell lists.new.known self.old)
+            (tell lists.new.known self.new) cursor.old cursor.new }
+        ensures told { OnOk result (AreTold lists.new.known self.new) }
+        ensures grows { Grows lists.old lists.new }
+    {
+        let Some(head) = self.next_head(room, cursor)? else {
+            return Ok(false);
+        };
+        let list = shared_attributes(alloc, lists, cursor)?;
+        self.push(SharedDecl::new(head, list))?;
+        Ok(true)
+    }
+
+    /// What stands in the next declaration before its attributes, or none where the code 0 stands.
+    fn next_head(&self, room: u64, cursor: &mut Cursor) -> Result<Option<Head>, Cause>
+        ensures reads { ReadsNext result (λ bytes. head_behind room bytes
+            (map (λ declaration. declaration.code) self.now)) cursor.old cursor.new }
+        ensures fresh { IfOk result (λ next. IfSome next (λ head.
+            list_any (λ declaration. declaration.code == head.code) self.now ≡ false)) }
+    {
+        Head::next(&self.codes, room, cursor)
+    }
+}
+
+/// The table at the cursor, of `room` declarations at most.
+fn declarations(
+    alloc: Global,
+    lists: &mut KnownLists<'_>,
+    room: u64,
+    cursor: &mut Cursor,
+) -> Result<SharedAbbrevs, LoadFault>
+    requires { cursor.old.bytes ≡ lists.old.section }
+    ensures decodes { Decodes (tell lists.new.known) result (in_section sections.DebugAbbrev
+        (declarations_of room cursor.old.bytes cursor.old.place)) }
+    ensures few { IfOk result (λ table. length table ≤ room) }
+    ensures known { IfOk result (AreTold lists.new.known) }
+    ensures grows { Grows lists.old lists.new }
+{
+    let mut table = SharedAbbrevs::new(alloc);
+    loop {
+        let at = cursor.place() as u64;
+        match table.extend(alloc, lists, room, cursor) {
+            Ok(true) => {}
+            Ok(false) => return Ok(table),
+            Err(cause) => return Err(LoadFault::told(Section::DebugAbbrev, cause, at)),
+        }
+    }
+}

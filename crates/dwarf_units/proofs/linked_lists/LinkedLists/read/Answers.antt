@@ -1,0 +1,48 @@
+use Rattle.std.proofs.Common.{◌<◌, ◌∙◌, refl, arith}
+use Rattle.std.proofs.lemmas.Result.{err_from_is_err_and}
+use Rattle.dwarf_bytes.proofs.Turns.{None-from_no_Some}
+use Rattle.dwarf_units.proofs.LinkLaws.{before-both, linked-at, next-smaller}
+use Rattle.dwarf_units.proofs.PlanTurns.{kept-more, kept-fault, kept-end}
+use Rattle.dwarf_units.specs.Private.Links.{IsLink, linked_in}
+use Rattle.dwarf_units.specs.Private.Plans.{steps_of}
+use Rattle.dwarf_units.proofs.linked_lists.LinkedLists.read.Goals as goal
+
+pub returns-in_err-read_step : goal.returns-in_err-read_step
+returns-in_err-read_step c =
+    let p = err_from_is_err_and c.from_residual.result c.from_residual.ensures.1 in
+    let inv = c.loop-next.invariant in
+    let number = c.in-Some.number in
+    let within : number < linked_in c.args.self.now c.args.format = rw c.in-Some.is at inv.linked in
+    let link : IsLink c.args.keep c.args.format c.args.self.now.places.known number c.by-link.result.now =
+    linked-at c.args.keep c.args.format c.args.self.now.places.known c.links-links.result.now number _ c.by-link.result.now c.links-links.ensures.links (omega (arith, within, c.links-links.ensures.all)) c.by-link.ensures in
+    rw (p.1, p.2)
+    (kept-fault c.args.format c.by-link.result.now.step _ _ c.args.cursor.now.bytes c.loop-next.found.items c.loop-next.cursor c.in_err-read_step.field-0.0 _ link.steps inv.bytes (rw c.in-Some.is at inv.kept) c.in_err-read_step.ensures)
+
+pub loop-next-smaller : goal.loop-next-smaller
+loop-next-smaller c =
+    let inv = c.loop-next.invariant in
+    let number = c.in-Some.number in
+    let within : number < linked_in c.args.self.now c.args.format = rw c.in-Some.is at inv.linked in
+    let link : IsLink c.args.keep c.args.format c.args.self.now.places.known number c.by-link.result.now =
+    linked-at c.args.keep c.args.format c.args.self.now.places.known c.links-links.result.now number _ c.by-link.result.now c.links-links.ensures.links (omega (arith, within, c.links-links.ensures.all)) c.by-link.ensures in
+    rw c.in-Some.is (next-smaller c.by-link.result.now.next number link.before)
+
+pub loop-next-preserved : goal.loop-next-preserved
+loop-next-preserved c =
+    let inv = c.loop-next.invariant in
+    let number = c.in-Some.number in
+    let within : number < linked_in c.args.self.now c.args.format = rw c.in-Some.is at inv.linked in
+    let link : IsLink c.args.keep c.args.format c.args.self.now.places.known number c.by-link.result.now =
+    linked-at c.args.keep c.args.format c.args.self.now.places.known c.links-links.result.now number _ c.by-link.result.now c.links-links.ensures.links (omega (arith, within, c.links-links.ensures.all)) c.by-link.ensures in
+    record {
+      linked = before-both number c.by-link.result.now.next (linked_in c.args.self.now c.args.format) link.before within;
+      bytes = c.in_ok-read_step.ensures.1 ∙ inv.bytes;
+      kept =
+          kept-more c.args.format c.by-link.result.now.step _ _ c.args.cursor.now.bytes c.loop-next.found.items c.read_step.new.found.items c.loop-next.cursor c.read_step.new.cursor _ link.steps inv.bytes (rw c.in-Some.is at inv.kept) c.in_ok-read_step.ensures.0;
+    }
+
+pub returns : goal.returns
+unfolding steps_of
+returns c =
+    let inv = c.loop-next.invariant in
+    (kept-end c.args.format _ c.args.cursor.now.bytes c.loop-next.found.items c.loop-next.cursor.place _ (rw (None-from_no_Some _ c.in_default.not-Some) refl) inv.kept, inv.bytes)

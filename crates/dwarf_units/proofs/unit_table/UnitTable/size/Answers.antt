@@ -1,8 +1,0 @@
-use Rattle.std.proofs.Common.{◌∙◌}
-use Rattle.dwarf_units.proofs.TableLaws.{size_sum}
-use Rattle.dwarf_units.proofs.unit_table.UnitTable.size.Goals as goal
-
-pub returns : goal.returns
-returns c =
-    size_sum _ c.args.self.now c.decls.result.now c.deref.result.now c.from.result c.attribute_count-attributes.result c.step_count.result c.self.view_is c.decls.ensures (c.deref.ensures.value ∙ c.self.invariant.0)
-    (c.from.ensures ∙ c.len.ensures) c.attribute_count-attributes.ensures.sum c.step_count.ensures.sum

@@ -1,0 +1,31 @@
+-- Tables whose declarations share what is behind their first attributes.
+use Rattle.std.specs.Prelude.{ℕ, ◌+◌, List, length, map, sum_by}
+use Rattle.std.specs.List.{All}
+use Rattle.dwarf_bytes.specs.declared.format.Format.{Format}
+use Rattle.dwarf_forms.specs.declared.known_lists.KnownAttribute.{KnownAttribute}
+use Rattle.dwarf_forms.specs.Private.SharedTables.{AreTold, SharedDeclaration, tell}
+use Rattle.dwarf_units.specs.Private.Links.{IsLinked, LinkedPlaces}
+use Rattle.dwarf_units.specs.Private.Plans.{Table, plan_len, plan_of}
+
+-- a table of declarations that stands at an offset, for units of a format
+pub record SharedTable : Type 0 where
+  pub offset : ℕ
+  pub format : Format
+  pub declarations : List SharedDeclaration
+
+-- the same with all attributes
+abbrev pub told_table : List KnownAttribute → SharedTable → Table
+told_table known table = record { offset = table.offset; format = table.format; declarations = tell known table.declarations }
+
+abbrev pub told_tables : List KnownAttribute → List SharedTable → List Table
+told_tables known tables = map (told_table known) tables
+
+-- its declarations, their own attributes, and the steps of the plans of these
+abbrev pub own_size : SharedTable → ℕ
+own_size table = length table.declarations + sum_by (λ d. length d.list.own) table.declarations
+    + sum_by (λ d. plan_len (plan_of table.format d.list.own)) table.declarations
+
+-- What its declarations share is known, and has links for units of its format.
+pub record IsReadable (lists : LinkedPlaces) (table : SharedTable) : Type 0 where
+  pub told : AreTold lists.places.known table.declarations
+  pub linked : All (λ d. IsLinked lists table.format d.list.rest) table.declarations

@@ -1,0 +1,147 @@
+//! An abbreviation table that is kept, and how its own attributes are read (DWARF 5, 7.5.3).
+
+ghost use Rattle.std.specs.Prelude.{◌≡◌, ◌≤◌, ◌+◌, ◌-◌, ◌*◌, ◌^◌, ◌==◌, Some, None, length, sum_by, find, IsTrue, ◌↔◌, IfOk, IfNone, IfSome};
+ghost use Rattle.dwarf_bytes.specs.declared.fault.Section.TheVariants as sections;
+ghost use Rattle.dwarf_bytes.specs.Refusals.{Decodes, in_section};
+ghost use Rattle.dwarf_forms.specs.Tables.{declarations_of};
+ghost use Rattle.dwarf_forms.specs.Private.SharedTables.{tell};
+ghost use Rattle.dwarf_units.specs.Private.Links.{LinksGrow};
+ghost use Rattle.dwarf_units.specs.Private.Plans.{plan_of, plan_len};
+ghost use Rattle.dwarf_units.specs.Private.SharedTables.{IsReadable, own_size};
+
+use crate::linked_lists::LinkedLists;
+use crate::plans::{Plan, plans};
+use crate::unit_headers::UnitHeader;
+use dwarf_bytes::{Format, LoadFault};
+use dwarf_forms::{SharedAbbrevs, SharedDecl};
+use std::alloc::Global;
+use std::marker::Model;
+
+/// A table of `.debug_abbrev`, where it stands, and how the attributes that its declarations do not
+/// share are read in units of a format.
+#[derive(Drop)]
+pub(crate) struct KeptTable {
+    offset: u64,
+    format: Format,
+    declarations: SharedAbbrevs,
+    plans: Vec<Plan>,
+}
+
+impl Model for KeptTable {
+    ghost use Rattle.std.specs.Prelude.{◌≡◌, map};
+    ghost use Rattle.dwarf_units.specs.Private.Plans.{plan_of};
+    ghost use Rattle.dwarf_units.specs.Private.SharedTables.{SharedTable};
+
+    ghost Value = { SharedTable };
+
+    ghost view = { λ t. record {
+      offset = t.offset;
+      format = t.format;
+      declarations = t.declarations;
+    } };
+
+    ghost invariant = { λ t. t.plans.items ≡ map
+        (λ declaration. plan_of t.format declaration.list.own) t.declarations };
+}
+
+impl KeptTable {
+    /// Reads the table at an offset, as `SharedAbbrevs::read` does.
+    pub(crate) fn read(
+        alloc: Global,
+        lists: &mut LinkedLists<'_>,
+        format: Format,
+        offset: u64,
+        left: &mut u64,
+    ) -> Result<KeptTable, LoadFault>
+        ensures decodes { Decodes (λ table. tell lists.new.places.known table.declarations) result
+            (in_section sections.DebugAbbrev
+            (declarations_of left.old lists.old.places.section offset)) }
+        ensures counted { IfOk result (λ table. left.new + length table.declarations ≡ left.old) }
+        ensures place { IfOk result (λ table. (table.offset ≡ offset) × (table.format ≡ format)) }
+        ensures readable { IfOk result (IsReadable lists.new) }
+        ensures grows { LinksGrow lists.old lists.new }
+    {
+        let declarations = lists.table(alloc, format, offset, left)?;
+        let plans = plans(alloc, format, &declarations)?;
+        Ok(KeptTable {
+            offset,
+            format,
+            declarations,
+            plans,
+        })
+    }
+
+    /// The format of the units whose entries are read by the table.
+    pub(crate) fn format(&self) -> Format
+        ensures { result ≡ self.now.format }
+    {
+        self.format
+    }
+
+    pub(crate) fn offset(&self) -> u64
+        ensures { result ≡ self.now.offset }
+    {
+        self.offset
+    }
+
+    /// The declaration of a code, and how its own attributes are read.
+    pub(crate) fn find(&self, code: u64) -> Option<(&SharedDecl, &Plan)>
+        ensures some { IfSome result (λ found. (find
+            (λ declaration. declaration.code == code) self.now.declarations ≡ Some found.0.now)
+            × (found.1.now ≡ plan_of self.now.format found.0.now.list.own)) }
+        ensures none { IfNone result (find
+            (λ declaration. declaration.code == code) self.now.declarations ≡ None) }
+    {
+        let place = self.declarations.position(code)?;
+        let declaration = self.declarations.decls().get(place)?;
+        let plan = self.plans.get(place)?;
+        Some((declaration, plan))
+    }
+
+    /// How many declarations it has.
+    pub(crate) fn len(&self) -> u64
+        ensures { result ≡ length self.now.declarations }
+    {
+        self.declarations.decls().len() as u64
+    }
+
+    /// Its declarations, their own attributes, and the steps of their plans.
+    pub(crate) fn size(&self) -> u128
+        ensures { result ≡ own_size self.now }
+    {
+        let attributes = attribute_count(self.declarations.decls());
+        u128::from(self.len()) + attributes + step_count(&self.plans)
+    }
+
+    /// Whether a unit names the table.
+    pub(crate) fn is_of(&self, header: &UnitHeader) -> bool
+        ensures { IsTrue result ↔ ((self.now.offset ≡ header.now.abbreviations)
+            × (self.now.format ≡ header.now.format)) }
+    {
+        self.offset == header.abbreviations && self.format == header.format
+    }
+}
+
+/// How many attributes declarations have themselves.
+fn attribute_count(decls: &[SharedDecl]) -> u128
+    ensures small { result ≤ length decls.now * (2 ^ 64 - 1) }
+    ensures sum { result ≡ sum_by (λ declaration. length declaration.list.own) decls.now }
+{
+    let mut count = 0u128;
+    for declaration in decls {
+        count += declaration.list().own().len() as u128;
+    }
+    count
+}
+
+/// How many steps plans have.
+fn step_count(plans: &[Plan]) -> u128
+    ensures small { result ≤ length plans.now * (2 ^ 64 - 2) }
+    ensures sum { result ≡ sum_by plan_len plans.now }
+{
+    let mut count = 0u128;
+    for plan in plans {
+        count += plan.len();
+    }
+    count
+}

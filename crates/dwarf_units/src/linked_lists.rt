@@ -1,0 +1,129 @@
+//! The known attributes of a section, and how entries are read by them.
+
+ghost use Rattle.std.specs.Prelude.{◌≡◌, ◌≤◌, ◌+◌, [], IfOk, OnOk, length};
+ghost use Rattle.dwarf_bytes.specs.declared.format.Format.{Format};
+ghost use Rattle.dwarf_bytes.specs.declared.fault.Section.TheVariants as sections;
+ghost use Rattle.dwarf_bytes.specs.Refusals.{Decodes, in_section};
+ghost use Rattle.dwarf_forms.specs.Tables.{declarations_of};
+ghost use Rattle.dwarf_forms.specs.Private.Known.{rest_attributes};
+ghost use Rattle.dwarf_forms.specs.Private.SharedTables.{AreTold, tell};
+ghost use Rattle.std.specs.List.{All};
+ghost use Rattle.dwarf_units.specs.Private.Links.{AreLinked, IsLinked, LinksGrow, linked_in};
+ghost use Rattle.dwarf_units.specs.Private.Plans.{Fills, in_front, steps_at, steps_of};
+
+use crate::attributes::Attribute;
+use crate::plans::read_step;
+use crate::tails::{Links, link_all};
+use dwarf_bytes::{Cause, Cursor, Format, LoadFault};
+use dwarf_forms::{KnownLists, SharedAbbrevs};
+use std::alloc::{AllocError, Global};
+use std::marker::Model;
+
+/// The attributes that are known of a section, each once, with the steps by which they are read in
+/// units of the formats that were asked for.
+#[derive(Drop)]
+pub(crate) struct LinkedLists<'a> {
+    lists: KnownLists<'a>,
+    dwarf32: Vec<Links>,
+    dwarf64: Vec<Links>,
+}
+
+impl<'a> Model for LinkedLists<'a> {
+    ghost use Rattle.std.specs.Prelude.{length};
+    ghost use Rattle.dwarf_bytes.specs.declared.format.Format.TheVariants.{Dwarf32, Dwarf64};
+    ghost use Rattle.dwarf_units.specs.Private.Links.{AreLinked, LinkedPlaces};
+
+    ghost Value = { LinkedPlaces };
+
+    ghost view = { λ l. record {
+      places = l.lists;
+      dwarf32 = length l.dwarf32.items;
+      dwarf64 = length l.dwarf64.items;
+    } };
+
+    ghost invariant = { λ l. AreLinked Dwarf32 l.lists.known l.dwarf32.items
+        × AreLinked Dwarf64 l.lists.known l.dwarf64.items };
+}
+
+impl<'a> LinkedLists<'a> {
+    pub(crate) fn new(alloc: Global, section: &'a [u8]) -> Result<LinkedLists<'a>, AllocError>
+        ensures { IfOk result (λ lists. lists ≡ record {
+          places = record { section = section.now; known = [] };
+          dwarf32 = 0;
+          dwarf64 = 0;
+        }) }
+    {
+        Ok(LinkedLists {
+            lists: KnownLists::new(alloc, section)?,
+            dwarf32: Vec::new(alloc),
+            dwarf64: Vec::new(alloc),
+        })
+    }
+
+    /// Reads the table at an offset, as `SharedAbbrevs::read` does, for units of a format.
+    pub(crate) fn table(
+        &mut self,
+        alloc: Global,
+        format: Format,
+        offset: u64,
+        left: &mut u64,
+    ) -> Result<SharedAbbrevs, LoadFault>
+        ensures decodes { Decodes (tell self.new.places.known) result (in_section
+            sections.DebugAbbrev (declarations_of left.old self.old.places.section offset)) }
+        ensures counted { IfOk result (λ table. left.new + length table ≡ left.old) }
+        ensures known { IfOk result (AreTold self.new.places.known) }
+        ensures linked { IfOk result (λ table.
+            All (λ d. IsLinked self.new format d.list.rest) table) }
+        ensures grows { LinksGrow self.old self.new }
+    {
+        let table = SharedAbbrevs::read(alloc, &mut self.lists, offset, left)?;
+        self.link(format)?;
+        Ok(table)
+    }
+
+    /// Makes the links of the known attributes that have none yet, for units of a format.
+    fn link(&mut self, format: Format) -> Result<(), AllocError>
+        ensures places { self.new.places ≡ self.old.places }
+        ensures grows { (f : Format) → linked_in self.old f ≤ linked_in self.new f }
+        ensures all { OnOk result (linked_in self.new format ≡ length self.old.places.known) }
+    {
+        match format {
+            Format::Dwarf32 => link_all(Format::Dwarf32, &self.lists, &mut self.dwarf32),
+            Format::Dwarf64 => link_all(Format::Dwarf64, &self.lists, &mut self.dwarf64),
+        }
+    }
+
+    /// Takes the steps of the attributes from a known one on. What they keep is added to `found`.
+    pub(crate) fn read(
+        &self,
+        keep: bool,
+        format: Format,
+        first: Option<usize>,
+        cursor: &mut Cursor,
+        found: &mut Vec<Attribute>,
+    ) -> Result<(), Cause>
+        requires { IsLinked self.now format first }
+        ensures { Fills result found.new.items (λ bytes at. in_front found.old.items
+            (steps_at format (steps_of keep format
+            (rest_attributes self.now.places.known first)) bytes at)) cursor.old cursor.new }
+    {
+        let links = self.links(format);
+        let mut next = first;
+        while let Some(number) = next {
+            let link = links[number].by(keep);
+            read_step(format, &link.step, cursor, found)?;
+            next = link.next;
+        }
+        Ok(())
+    }
+
+    fn links(&self, format: Format) -> &[Links]
+        ensures links { AreLinked format self.now.places.known result.now }
+        ensures all { length result.now ≡ linked_in self.now format }
+    {
+        match format {
+            Format::Dwarf32 => &self.dwarf32,
+            Format::Dwarf64 => &self.dwarf64,
+        }
+    }
+}

@@ -1,0 +1,91 @@
+//! The tables that are kept, under their numbers.
+
+ghost use Rattle.std.specs.Prelude.{◌≡◌, ◌++◌, ◌∷◌, [], None, Some, take, length, slice_get, IfOk, IfNone, IfSome, OnErr};
+ghost use Rattle.dwarf_units.specs.Private.Links.{LinkedPlaces};
+ghost use Rattle.dwarf_units.specs.Private.SharedTables.{SharedTable, told_table};
+ghost use Rattle.dwarf_units.specs.Private.Tables.{AreStored, AreElsewhere, IsAt, IsNew, seen, with_table};
+ghost use Rattle.dwarf_units.specs.Private.Numbers.{number_at};
+ghost use Rattle.dwarf_bytes.specs.declared.format.Format.{Format};
+
+use crate::kept_table::KeptTable;
+use crate::numbers::Numbers;
+use crate::unit_headers::UnitHeader;
+use std::alloc::{AllocError, Global};
+
+/// The tables that stay, as far as there is room, and the last one that was read and had none.
+#[derive(Drop)]
+pub(crate) struct TableStore {
+    pub(crate) tables: Vec<KeptTable>,
+    /// How many of the tables stay: one behind them is the last one.
+    pub(crate) kept: usize,
+    /// How many more declarations, attributes and steps may stay.
+    pub(crate) room: u128,
+    pub(crate) numbers: Numbers,
+}
+
+impl TableStore {
+    pub(crate) fn new(alloc: Global, room: u128) -> TableStore
+        ensures tables { result.tables.items ≡ [] }
+        ensures kept { result.kept ≡ 0 }
+        ensures room { result.room ≡ room }
+    {
+        TableStore {
+            tables: Vec::new(alloc),
+            kept: 0,
+            room,
+            numbers: Numbers::new(alloc),
+        }
+    }
+
+    /// The number of the table of a unit, where it is kept.
+    pub(crate) fn known(&self, unit: &UnitHeader) -> Option<usize>
+        ensures none { IfNone result ((lists : LinkedPlaces) → AreStored lists self.now
+            → AreElsewhere unit.now.format unit.now.abbreviations (seen lists self.now).tables) }
+        ensures some { IfSome result (λ number. (table : SharedTable)
+            × (slice_get self.now.tables.items number ≡ Some table)
+            × (table.offset ≡ unit.now.abbreviations) × (table.format ≡ unit.now.format)) }
+    {
+        let number = self.numbers.get(unit.format, unit.abbreviations)?;
+        if self.tables.get(number)?.is_of(unit) {
+            return Some(number);
+        }
+        None
+    }
+
+    /// Keeps a table, and gives its number. One for which there is no room is kept up to the next one.
+    pub(crate) fn keep(&mut self, table: KeptTable) -> Result<usize, AllocError>
+        ensures stored { (lists : LinkedPlaces) → AreStored lists self.old
+            → IsNew lists self.old table → AreStored lists self.new }
+        ensures ok { IfOk result (λ number. (lists : LinkedPlaces) → AreStored lists self.old
+            → IsNew lists self.old table
+            → (seen lists self.new ≡ with_table (seen lists self.old) (told_table lists.places.known table))
+            × (slice_get (seen lists self.new).tables number ≡ Some (told_table lists.places.known table))) }
+    {
+        let size = table.size();
+        self.numbers
+            .insert(table.format(), table.offset(), self.kept)?;
+        let number = put_behind(&mut self.tables, self.kept, table)?;
+        if size <= self.room {
+            self.room -= size;
+            self.kept = self.tables.len();
+        }
+        Ok(number)
+    }
+}
+
+/// Puts a table behind so many others, in place of those that stand there, and gives its number.
+fn put_behind(
+    tables: &mut Vec<KeptTable>,
+    kept: usize,
+    table: KeptTable,
+) -> Result<usize, AllocError>
+    ensures ok { IfOk result (λ number.
+        (tables.new.items ≡ take kept tables.old.items ++ table ∷ [])
+        × (number ≡ length (take kept tables.old.items))) }
+    ensures err { OnErr result (tables.new.items ≡ take kept tables.old.items) }
+{
+    tables.truncate(kept);
+    let number = tables.len();
+    tables.push(table)?;
+    Ok(number)
+}

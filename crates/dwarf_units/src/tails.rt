@@ -1,0 +1,101 @@
+//! The steps by which known attributes are read, each in front of those behind it.
+
+ghost use Rattle.std.specs.Prelude.{◌≡◌, ◌<◌, ◌≤◌, ◌∷◌, List, ℕ, IfSome, OnOk, length};
+ghost use Rattle.dwarf_forms.specs.declared.known_lists.KnownAttribute.{KnownAttribute};
+ghost use Rattle.dwarf_forms.specs.Private.Known.{attributes_from, rest_attributes};
+ghost use Rattle.dwarf_units.specs.Private.Links.{AreLinked, IsLink, link_by};
+
+use crate::steps::{AttributeStep, joined, step_of};
+use dwarf_bytes::Format;
+use dwarf_forms::{AttributeSpecification, KnownLists};
+use std::alloc::AllocError;
+
+/// The step of a known attribute, or one in place of it and of some behind it.
+#[derive(Clone, Copy)]
+pub(crate) struct LinkedStep {
+    pub(crate) step: AttributeStep,
+    /// The number of the known attribute behind these.
+    pub(crate) next: Option<usize>,
+}
+
+/// The steps of a known attribute, where the used attributes are kept, and where none are.
+#[derive(Clone, Copy)]
+pub(crate) struct Links {
+    kept: LinkedStep,
+    passed: LinkedStep,
+}
+
+impl Links {
+    /// The step, by whether the used attributes are kept.
+    pub(crate) fn by(&self, keep: bool) -> &LinkedStep
+        ensures { result.now ≡ link_by keep self.now }
+    {
+        if keep { &self.kept } else { &self.passed }
+    }
+
+    /// The steps of an attribute, in front of those of the known one behind it.
+    fn of(
+        format: Format,
+        attribute: &AttributeSpecification,
+        next: Option<usize>,
+        links: &[Links],
+    ) -> Links
+        requires { IfSome next (λ number. number < length links.now) }
+        ensures { (known : List KnownAttribute) (number : ℕ) → AreLinked format known links.now
+            → attributes_from known number ≡ attribute.now ∷ rest_attributes known next
+            → IfSome next (λ behind. behind < number)
+            → (keep : _) → IsLink keep format known number (link_by keep result) }
+    {
+        Links {
+            kept: linked(true, format, attribute, next, links),
+            passed: linked(false, format, attribute, next, links),
+        }
+    }
+}
+
+/// The same, where the used attributes are kept or none are.
+fn linked(
+    keep: bool,
+    format: Format,
+    attribute: &AttributeSpecification,
+    next: Option<usize>,
+    links: &[Links],
+) -> LinkedStep
+    requires { IfSome next (λ number. number < length links.now) }
+    ensures { (known : List KnownAttribute) (number : ℕ) → AreLinked format known links.now
+        → attributes_from known number ≡ attribute.now ∷ rest_attributes known next
+        → IfSome next (λ behind. behind < number) → IsLink keep format known number result }
+{
+    let step = step_of(keep, format, attribute);
+    let Some(number) = next else {
+        return LinkedStep { step, next: None };
+    };
+    let behind = *links[number].by(keep);
+    match joined(step, behind.step) {
+        Some(both) => LinkedStep {
+            step: both,
+            next: behind.next,
+        },
+        None => LinkedStep { step, next },
+    }
+}
+
+/// Makes the links of the known attributes that have none yet.
+pub(crate) fn link_all(
+    format: Format,
+    lists: &KnownLists<'_>,
+    links: &mut Vec<Links>,
+) -> Result<(), AllocError>
+    requires { AreLinked format lists.now.known links.old.items }
+    ensures links { AreLinked format lists.now.known links.new.items }
+    ensures all { OnOk result (length links.new.items ≡ length lists.now.known) }
+    ensures grows { length links.old.items ≤ length links.new.items }
+{
+    while links.len() < lists.len() {
+        let number = links.len();
+        let attribute = lists.attribute(number);
+        let made = Links::of(format, attribute, lists.next(number), links);
+        links.push(made)?;
+    }
+    Ok(())
+}
