@@ -21,7 +21,8 @@ fn all_frames_on_a_line_each(rt: HostRuntime) -> Result<(), Fail> {
         rt.alloc(),
         b"afip",
         b"11004\n",
-        b"0x0000000000011004: leaf at /src/a.c:11\n (inlined by) mid at /src/a.c:5\n (inlined by) main at /src/a.c:20\n",
+        b"0x0000000000011004: leaf at /src/a.c:11\n (inlined by) \
+            mid at /src/a.c:5\n (inlined by) main at /src/a.c:20\n",
     )
 }
 

@@ -19,7 +19,9 @@ fn lists_modules_by_rising_address(rt: HostRuntime) -> Result<(), Fail> {
         rt.alloc(),
         b"",
         b"load b 0x11000 A\nlist\n",
-        b"loaded b 0x0000000000012000-0x0000000000013000\nmodule a 0x0000000000011000-0x0000000000012000 0x0000000000010000\nmodule b 0x0000000000012000-0x0000000000013000 0x0000000000011000\nend\n",
+        b"loaded b 0x0000000000012000-0x0000000000013000\n\
+            module a 0x0000000000011000-0x0000000000012000 0x0000000000010000\n\
+            module b 0x0000000000012000-0x0000000000013000 0x0000000000011000\nend\n",
     )
 }
 
@@ -30,7 +32,8 @@ fn moves_over_its_own_old_place(rt: HostRuntime) -> Result<(), Fail> {
         rt.alloc(),
         b"",
         b"load b 0x11000 A\nmove a 0x10800\nunload b\nmove a 0x10800\n11804\n",
-        b"loaded b 0x0000000000012000-0x0000000000013000\nrefused overlap b\nunloaded b\nmoved a 0x0000000000011800-0x0000000000012800\n/src/a.c:11\n",
+        b"loaded b 0x0000000000012000-0x0000000000013000\nrefused overlap b\nunloaded b\n\
+            moved a 0x0000000000011800-0x0000000000012800\n/src/a.c:11\n",
     )
 }
 

@@ -62,8 +62,8 @@ pub fn reserved_length(alloc: Global) -> Result<Vec<u8>, AllocError> {
 }
 
 /// All frames of `leaf` inlined into `mid` inlined into `main`.
-const FRAMES: &[u8] =
-    b"loaded a 0x0000000000011000-0x0000000000012000\nleaf\n/src/a.c:11\nmid\n/src/a.c:5\nmain\n/src/a.c:20\n";
+const FRAMES: &[u8] = b"loaded a 0x0000000000011000-0x0000000000012000\n\
+        leaf\n/src/a.c:11\nmid\n/src/a.c:5\nmain\n/src/a.c:20\n";
 
 #[test]
 fn units_and_programs_of_64_bits(rt: HostRuntime) {
@@ -126,7 +126,8 @@ fn dropped_rows(rt: HostRuntime) {
         rt.alloc(),
         b"fi",
         b"load a 0x10000 dropped rows\n11004\n",
-        b"loaded a 0x0000000000011000-0x0000000000012000\nleaf\n??:0\nmid\n/src/a.c:5\nmain\n/src/a.c:20\n",
+        b"loaded a 0x0000000000011000-0x0000000000012000\n\
+            leaf\n??:0\nmid\n/src/a.c:5\nmain\n/src/a.c:20\n",
     );
 }
 

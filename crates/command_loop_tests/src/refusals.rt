@@ -10,7 +10,8 @@ fn lines_that_are_no_commands(rt: HostRuntime) -> Result<(), Fail> {
         rt.alloc(),
         b"",
         b"load a 0x30000 A\nloads a\nload a\nload a! 0 A\nload c 0x A\nload c 0 \n",
-        b"refused name-taken\nrefused command\nrefused fields\nrefused name\nrefused number\nrefused path\n",
+        b"refused name-taken\nrefused command\nrefused fields\nrefused name\nrefused number\n\
+            refused path\n",
     )
 }
 
@@ -31,8 +32,11 @@ fn fields_of_each_command(rt: HostRuntime) {
         &rt,
         rt.alloc(),
         b"",
-        b"unload\nunload \nunload a b\nmove a\nmove a \nmove a! 0\nmove a 0 1\nmove a 0\nlist \n list\n \n\n",
-        b"refused fields\nrefused name\nrefused fields\nrefused fields\nrefused number\nrefused name\nrefused fields\nrefused no-module\nrefused fields\nrefused command\nrefused command\n",
+        b"unload\nunload \nunload a b\n\
+            move a\nmove a \nmove a! 0\nmove a 0 1\nmove a 0\nlist \n list\n \n\n",
+        b"refused fields\nrefused name\nrefused fields\nrefused fields\nrefused number\n\
+            refused name\nrefused fields\nrefused no-module\nrefused fields\nrefused command\n\
+            refused command\n",
     );
 }
 
@@ -88,7 +92,8 @@ fn objects_that_are_none(rt: HostRuntime) -> Result<(), Fail> {
         rt.alloc(),
         b"",
         b"load c 0 empty\nload c 0 cut\nload c 0 none\nload c 0 large\nload c 0 short\n",
-        b"refused object elf not-elf at 0\nrefused object elf not-elf at 0\nrefused file\nrefused too-large\nrefused memory\n",
+        b"refused object elf not-elf at 0\nrefused object elf not-elf at 0\nrefused file\n\
+            refused too-large\nrefused memory\n",
     )
 }
 

@@ -143,7 +143,8 @@ fn commands_after_the_first_object(rt: HostRuntime) -> Result<(), Fail> {
         &options,
         alloc,
         b"1004\nload exe 0x10000 A\nmove exe 0x10000\n11004\nunload exe\n",
-        b"/src/a.c:11\nrefused name-taken\nmoved exe 0x0000000000011000-0x0000000000012000\n/src/a.c:11\nunloaded exe\n",
+        b"/src/a.c:11\nrefused name-taken\nmoved exe 0x0000000000011000-0x0000000000012000\n\
+            /src/a.c:11\nunloaded exe\n",
     );
     Ok(())
 }

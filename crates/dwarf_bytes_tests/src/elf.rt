@@ -47,6 +47,18 @@ fn span(place: usize, len: usize) -> Span {
     Span { place, len }
 }
 
+/// The segment of the first program header, at 2^64-1.
+const HIGHEST_SEGMENT: [(usize, u8); 8] = [
+    (80, 0xff),
+    (81, 0xff),
+    (82, 0xff),
+    (83, 0xff),
+    (84, 0xff),
+    (85, 0xff),
+    (86, 0xff),
+    (87, 0xff),
+];
+
 #[test]
 fn refuses_each_changed_header(rt: HostRuntime) {
     let table: [(&[(usize, u8)], Cause, u64); 17] = [
@@ -56,20 +68,7 @@ fn refuses_each_changed_header(rt: HostRuntime) {
         (&[(54, 0)], Cause::Table, 0),
         (&[(60, 0)], Cause::Table, 0),
         (&[(62, 5)], Cause::Table, 0),
-        (
-            &[
-                (80, 0xff),
-                (81, 0xff),
-                (82, 0xff),
-                (83, 0xff),
-                (84, 0xff),
-                (85, 0xff),
-                (86, 0xff),
-                (87, 0xff),
-            ],
-            Cause::Range,
-            64,
-        ),
+        (&HIGHEST_SEGMENT, Cause::Range, 64),
         (&[(64, 0)], Cause::NoLoad, 0),
         (&[(673, 1)], Cause::Table, 639),
         (&[(575, 0x0f)], Cause::SectionTwice, 575),

@@ -2,6 +2,8 @@
 
 use crate::checks::are_equal;
 use dwarf_bytes::{Cursor, Format, ReadFault, text_at};
+use std::fmt::Debug;
+use std::process::Abort;
 use std::test::*;
 
 const HIGH: u8 = 0xff;
@@ -57,6 +59,20 @@ fn parts_end_with_the_whole(rt: HostRuntime) -> Result<(), Fail> {
     Ok(())
 }
 
+/// Checks what was read of these bytes, and where the cursor stands behind it: at their end, or
+/// where it was.
+fn is_read<T: Copy + Debug + PartialEq>(
+    rt: &impl Abort,
+    bytes: &[u8],
+    cursor: &Cursor,
+    got: Result<T, ReadFault>,
+    want: Result<T, ReadFault>,
+) {
+    are_equal(rt, (bytes, got), (bytes, want));
+    let place = if got.is_ok() { bytes.len() } else { 0 };
+    are_equal(rt, cursor.place(), place);
+}
+
 #[test]
 fn reads_unsigned_leb128(rt: HostRuntime) {
     let table: [(&[u8], Result<u64, ReadFault>); 11] = [
@@ -92,12 +108,7 @@ fn reads_unsigned_leb128(rt: HostRuntime) {
     for (bytes, want) in table {
         let mut cursor = Cursor::new(bytes);
         let got = cursor.uleb();
-        are_equal(&rt, (bytes, got), (bytes, want));
-        are_equal(
-            &rt,
-            cursor.place(),
-            if got.is_ok() { bytes.len() } else { 0 },
-        );
+        is_read(&rt, bytes, &cursor, got, want);
     }
 }
 
@@ -135,12 +146,7 @@ fn reads_signed_leb128(rt: HostRuntime) {
     for (bytes, want) in table {
         let mut cursor = Cursor::new(bytes);
         let got = cursor.sleb();
-        are_equal(&rt, (bytes, got), (bytes, want));
-        are_equal(
-            &rt,
-            cursor.place(),
-            if got.is_ok() { bytes.len() } else { 0 },
-        );
+        is_read(&rt, bytes, &cursor, got, want);
     }
 }
 

@@ -35,8 +35,8 @@ fn knows_the_forms(rt: HostRuntime) {
     }
 }
 
-/// Forms of blocks with a length of two and four bytes, the forms that are not direct, and numbers of
-/// no form.
+/// Forms of blocks with a length of two and four bytes, the forms that are not direct, and numbers
+/// of no form.
 #[test]
 fn knows_the_other_forms(rt: HostRuntime) {
     let blocks = [(0x03, Width::Two), (0x04, Width::Four)];

@@ -77,7 +77,8 @@ fn an_index_past_the_table(rt: HostRuntime) -> Result<(), Fail> {
     Ok(())
 }
 
-/// Headers of a table of addresses, each with one byte changed, and what is wrong at the root at 12.
+/// Headers of a table of addresses, each with one byte changed,
+/// and what is wrong at the root at 12.
 #[test]
 fn headers_of_addresses(rt: HostRuntime) -> Result<(), Fail> {
     let changes = [

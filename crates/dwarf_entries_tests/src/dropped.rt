@@ -48,8 +48,8 @@ fn lists(
     covers(rt, root, (&[0x55, 0x17], &[0, 0, 0, 0]), list, wanted)
 }
 
-/// Each list has an entry of dropped code, which would pass the highest address or go back, and then
-/// start_length 0x3000, 5.
+/// Each list has an entry of dropped code, which would pass the highest address or go back, and
+/// then start_length 0x3000, 5.
 #[test]
 fn entries_of_each_kind(rt: HostRuntime) -> Result<(), Fail> {
     let good = [range(0x3000, 0x3005)];
@@ -143,32 +143,20 @@ fn pairs(rt: HostRuntime) -> Result<(), Fail> {
 fn sums_and_ends_at_the_top(rt: HostRuntime) -> Result<(), Fail> {
     let last = [range(u64::MAX - 1, u64::MAX)];
     let none: [Range; 0] = [];
-    let entries: [(&[u8], Result<&[Range], Cause>); 6] = [
+    let pairs: [(u8, u8, Result<&[Range], Cause>); 4] = [
+        (0, 1, Ok(&last)),
+        (1, 1, Ok(&none)),
+        (1, 0, Err(Cause::RangeBackwards)),
+        (1, 2, Err(Cause::Overflow)),
+    ];
+    for (from, to, wanted) in pairs {
         // base_address 2^64-2, and offset_pair
-        (
-            &[
-                5, 0xfe, 0xff, 0xff, 0xff, 0xff, 0xff, 0xff, 0xff, 4, 0, 1, 0,
-            ],
-            Ok(&last),
-        ),
-        (
-            &[
-                5, 0xfe, 0xff, 0xff, 0xff, 0xff, 0xff, 0xff, 0xff, 4, 1, 1, 0,
-            ],
-            Ok(&none),
-        ),
-        (
-            &[
-                5, 0xfe, 0xff, 0xff, 0xff, 0xff, 0xff, 0xff, 0xff, 4, 1, 0, 0,
-            ],
-            Err(Cause::RangeBackwards),
-        ),
-        (
-            &[
-                5, 0xfe, 0xff, 0xff, 0xff, 0xff, 0xff, 0xff, 0xff, 4, 1, 2, 0,
-            ],
-            Err(Cause::Overflow),
-        ),
+        let list = [
+            5, 0xfe, 0xff, 0xff, 0xff, 0xff, 0xff, 0xff, 0xff, 4, from, to, 0,
+        ];
+        lists(&rt, &BELOW, &list, wanted)?;
+    }
+    let entries: [(&[u8], Result<&[Range], Cause>); 2] = [
         // start_length, and startx_endx 0 and 1
         (
             &[7, 0xfe, 0xff, 0xff, 0xff, 0xff, 0xff, 0xff, 0xff, 1, 0],

@@ -8,8 +8,9 @@ use std::alloc::{AllocError, Global};
 use std::process::Abort;
 use std::test::*;
 
-/// The scopes of the first object, where their unit starts at a place, so many scopes stand before it,
-/// its first subprogram stands so many bytes behind its start, and its second inlined one so many.
+/// The scopes of the first object, where their unit starts at a place, so many scopes stand before
+/// it, its first subprogram stands so many bytes behind its start,
+/// and its second inlined one so many.
 fn rows(start: usize, before: usize, first: usize, last: usize) -> [Row; 5] {
     let at = |offset: usize| start.saturating_add(offset);
     let end = |number: usize| before.saturating_add(number);
@@ -145,7 +146,7 @@ const SHORT_OFFSETS: [u8; 24] = [
     0, 0, 0, 0, 0, 0, 0, 0, 12, 0, 0, 0, 5, 0, 0, 0, 3, 0, 0, 0, 0, 0, 0, 0,
 ];
 
-/// Checks the name of a subprogram, which is an index, in a unit of the 64-bit format with this base.
+/// Checks the name of a subprogram, an index, in a unit of the 64-bit format with this base.
 fn is_indexed(
     rt: &(impl Abort + AllocGlobal),
     base: u8,
@@ -217,7 +218,8 @@ fn entries_by_index(addr_base: u8, rnglists_base: u8, index: u8) -> [u8; 20] {
     entries
 }
 
-/// Checks what a scope covers by tables in the 64-bit format, of these bases and an index of a list.
+/// Checks what a scope covers by tables in the 64-bit format,
+/// of these bases and an index of a list.
 fn is_list(
     rt: &(impl Abort + AllocGlobal),
     bases: (u8, u8),

@@ -84,8 +84,8 @@ fn empty_pairs(alloc: Global, count: usize) -> Result<Vec<u8>, AllocError> {
     Ok(list)
 }
 
-/// A list of 65,536 entries, which is 2^16, is read for each scope: 64 scopes take all 2^22. Entries of
-/// dropped code count too, and so does a pair.
+/// A list of 65,536 entries, which is 2^16, is read for each scope: 64 scopes take all 2^22.
+/// Entries of dropped code count too, and so does a pair.
 #[test]
 fn range_items_of_an_object(rt: HostRuntime) -> Result<(), Fail> {
     // unit: low_pc as addr; subprograms: ranges as sec_offset; and low_pc as addr, high_pc as data1
@@ -111,8 +111,8 @@ fn range_items_of_an_object(rt: HostRuntime) -> Result<(), Fail> {
     Ok(())
 }
 
-/// The declarations of a unit without attributes, and of a subprogram with so many attributes that are
-/// not used, 0x2000 and on, as flag_present.
+/// The declarations of a unit without attributes, and of a subprogram with so many attributes that
+/// are not used, 0x2000 and on, as flag_present.
 fn flags(alloc: Global, count: u32) -> Result<Vec<u8>, AllocError> {
     let mut declared = Vec::new(alloc);
     for number in 0..count {
@@ -122,8 +122,8 @@ fn flags(alloc: Global, count: u32) -> Result<Vec<u8>, AllocError> {
     declarations(alloc, (&[], &[]), (&declared, &[]))
 }
 
-/// A hundred thousand subprograms of a hundred thousand attributes each take one byte each. A step for
-/// each attribute of each entry would never end.
+/// A hundred thousand subprograms of a hundred thousand attributes each take one byte each. A step
+/// for each attribute of each entry would never end.
 #[test]
 fn entries_of_many_flags(rt: HostRuntime) -> Result<(), Fail> {
     let table = flags(rt.alloc(), 100_000)?;
@@ -143,7 +143,8 @@ fn entries_of_many_flags(rt: HostRuntime) -> Result<(), Fail> {
     Ok(())
 }
 
-/// Checks that so many units of 12 bytes and an entry each are read, whose roots are their only scopes.
+/// Checks that so many units of 12 bytes and an entry each are read,
+/// whose roots are their only scopes.
 fn are_units(
     rt: &(impl Abort + AllocGlobal),
     info: &[u8],
@@ -177,7 +178,8 @@ fn units_of_one_long_declaration(rt: HostRuntime) -> Result<(), Fail> {
     are_units(&rt, &info, &table, 20_000, 1)
 }
 
-/// Puts a unit of these entries, of at most 247 bytes, behind others, whose abbreviations stand anywhere.
+/// Puts a unit of these entries, of at most 247 bytes, behind others,
+/// whose abbreviations stand anywhere.
 pub fn add_unit_at(
     info: &mut Vec<u8>,
     abbreviations: usize,

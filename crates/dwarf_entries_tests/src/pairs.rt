@@ -16,7 +16,8 @@ const HIGH: [u8; 8] = [0x10, 0x10, 0, 0, 0, 0, 0, 0];
 /// The highest address but one.
 const BELOW_TOP: [u8; 8] = [0xfe, 0xff, 0xff, 0xff, 0xff, 0xff, 0xff, 0xff];
 
-/// Checks what a subprogram at 17 with these attributes covers, in a unit with a table of addresses.
+/// Checks what a subprogram at 17 with these attributes covers,
+/// in a unit with a table of addresses.
 fn pair(
     rt: &(impl Abort + AllocGlobal),
     declared: &[u8],

@@ -16,8 +16,8 @@ const TABLES: [u8; 44] = [
     1, 0x11, 2, 0, 0, 0,
 ];
 
-/// A unit with one fault: its type, the offset of its abbreviations, its entries, and the fault with
-/// its place in the unit.
+/// A unit with one fault: its type, the offset of its abbreviations, its entries, and the fault
+/// with its place in the unit.
 #[derive(Clone, Copy)]
 struct Bad<'a> {
     unit_type: u8,
@@ -50,8 +50,8 @@ impl<'a> Bad<'a> {
     }
 }
 
-/// A unit with a fault of each pass: of its header, its abbreviations, its entries, its root's tables
-/// and its scopes.
+/// A unit with a fault of each pass: of its header, its abbreviations, its entries, its root's
+/// tables and its scopes.
 const FAULTS: [Bad<'static>; 5] = [
     Bad {
         unit_type: 4,

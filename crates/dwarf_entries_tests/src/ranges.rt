@@ -66,8 +66,8 @@ fn a_list_without_a_base(rt: HostRuntime) -> Result<(), Fail> {
     Ok(())
 }
 
-/// Checks lists at 0 that a subprogram at 13 names, in a unit without bases: each covers nothing, or
-/// has this fault.
+/// Checks lists at 0 that a subprogram at 13 names, in a unit without bases: each covers nothing,
+/// or has this fault.
 fn are_lists(
     rt: &(impl Abort + AllocGlobal),
     lists: &[(&[u8], Option<Cause>)],

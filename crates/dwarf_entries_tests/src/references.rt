@@ -57,8 +57,8 @@ fn a_bad_reference_behind_the_last_hop(rt: HostRuntime) -> Result<(), Fail> {
     Ok(())
 }
 
-/// Two units whose roots are named `q`, at 12, and `r`, at 28. The abstract origin of the subprogram
-/// at 31 is this value.
+/// Two units whose roots are named `q`, at 12, and `r`, at 28. The abstract origin of the
+/// subprogram at 31 is this value.
 fn referring(alloc: Global, value: &[u8]) -> Result<Vec<u8>, AllocError> {
     let mut entries = Vec::new(alloc);
     entries.extend_from_slice(&[1, 0x72, 0, 2])?;

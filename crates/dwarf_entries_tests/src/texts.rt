@@ -7,8 +7,8 @@ use std::alloc::AllocError;
 use std::process::Abort;
 use std::test::*;
 
-/// A text of 10,000 bytes at 0, one of 2 at 10,001, and one without a NUL at 10,004: each is named by
-/// strp, from its start or from a place in it.
+/// A text of 10,000 bytes at 0, one of 2 at 10,001, and one without a NUL at 10,004: each is named
+/// by strp, from its start or from a place in it.
 #[test]
 fn long_texts(rt: HostRuntime) -> Result<(), Fail> {
     let mut texts = Vec::new(rt.alloc());
