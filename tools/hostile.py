@@ -135,6 +135,60 @@ def tables_in_turn(size):
     return elf([(".debug_abbrev", table * 2), (".debug_info", pair * count)])
 
 
+def attributes_of(form, count):
+    """Attributes of names that differ, each name in two bytes."""
+    return b"".join(uleb(128 + number) + bytes([form]) for number in range(count))
+
+
+def tables_in_one_list(size):
+    """Units without entries, each of which names another place of one list of attributes: at each
+    form stands a table, whose code and whether it has children are forms. The object has an eighth
+    of the size, since each of its units costs the 64 attributes that a declaration has itself."""
+    places = range(5, 3 * 16_000, 3)
+    table = bytes([1, 1, 0]) + attributes_of(1, 16_000) + bytes([0, 0, 0])
+    unit = struct.Struct("<IHBBI")
+    units = (unit.pack(8, 5, 1, 8, places[number % len(places)])
+             for number in range(size // 8 // unit.size))
+    return elf([(".debug_abbrev", table), (".debug_info", b"".join(units))])
+
+
+def entries_in_one_list(size):
+    """Units of one entry each, by tables that stand in one list of attributes of a byte: an entry
+    has as many as are behind the place of its table."""
+    count = 1_000
+    table = bytes([1, 1, 0]) + attributes_of(1, count) + bytes([0, 0, 0])
+    units = []
+    left = size - len(table)
+    while left > 0:
+        behind = len(units) % 200
+        values = bytes([1]) + bytes(8 * behind) + bytes([0])
+        unit = struct.pack("<HBBI", 5, 1, 8, 5 + 3 * (count - 2 - behind)) + values
+        units.append(struct.pack("<I", len(unit)) + unit)
+        left -= len(units[-1])
+    return elf([(".debug_abbrev", table), (".debug_info", b"".join(units))])
+
+
+def lists_that_meet(size):
+    """Units that name, in turn, the heads of two lists of attributes, one of which leads into the
+    other by a constant in its declaration: what is behind is known by both."""
+    count = size // 64
+    names = b"".join(uleb(0x4000 + number) + bytes([0x19]) for number in range(count))
+    heads = bytes([1, 0x11, 0, 0x3A, 0x21, 1, 0x49, 1])  # the second one begins at the constant
+    table = heads + names + bytes([0, 0, 0])
+    pair = struct.pack("<IHBBIB8x", 17, 5, 1, 8, 0, 1)
+    pair += struct.pack("<IHBBIBB", 10, 5, 1, 8, 5, 1, 0)
+    units = pair * ((size - len(table)) // len(pair))
+    return elf([(".debug_abbrev", table), (".debug_info", units)])
+
+
+def entries_without_bytes(size):
+    """Entries of a byte each, by one declaration of very many attributes without bytes."""
+    names = b"".join(uleb(0x4000 + number) + bytes([0x19]) for number in range(size // 32))
+    table = bytes([1, 0x11, 1, 0, 0, 2, 0x34, 0]) + names + bytes([0, 0, 0])
+    entries = bytes([1]) + bytes([2]) * (size // 2) + bytes([0])
+    return elf([(".debug_abbrev", table), (".debug_info", unit_of(entries))])
+
+
 def references_to_a_long_entry(size):
     """Subprograms that all refer to one, whose entry has very many attributes of a byte."""
     attributes = b"".join(uleb(0x2000 + number) + bytes([0x0F]) for number in range(size // 20))
@@ -207,6 +261,10 @@ SHAPES = [
     ("lines", segments),
     ("scopes", names_in_one_text),
     ("scopes", tables_in_turn),
+    ("scopes", tables_in_one_list),
+    ("scopes", entries_in_one_list),
+    ("scopes", lists_that_meet),
+    ("scopes", entries_without_bytes),
     ("scopes", references_to_a_long_entry),
     ("scopes", references_between_tables),
     ("scopes", one_byte_subprograms),

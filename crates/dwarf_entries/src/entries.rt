@@ -50,7 +50,7 @@ pub(crate) fn entries(
     alloc: Global,
     info: &[u8],
     header: UnitHeader,
-    table: &UnitTable,
+    table: &UnitTable<'_>,
     marks: &mut Marks,
 ) -> Result<UnitEntries, LoadFault>
     requires { table.now.format ≡ header.format }
@@ -89,7 +89,7 @@ impl Walk {
     /// for attributes.
     fn step(
         &mut self,
-        table: &UnitTable,
+        table: &UnitTable<'_>,
         marks: &mut Marks,
         cursor: &mut Cursor,
         found: &mut Vec<Attribute>,
@@ -156,7 +156,7 @@ fn walk_unit(
     alloc: Global,
     info: &[u8],
     header: UnitHeader,
-    table: &UnitTable,
+    table: &UnitTable<'_>,
     marks: &mut Marks,
 ) -> Result<Walk, LoadFault>
     requires { table.now.format ≡ header.format }
@@ -196,7 +196,7 @@ pub(crate) fn unit_bytes<'a>(info: &'a [u8], header: &UnitHeader) -> &'a [u8]
 /// The entry at the cursor, at a depth, or none for a null. `rooted` is whether the root of the
 /// unit stands before it. If not, its used attributes come into `found`.
 fn node(
-    table: &UnitTable,
+    table: &UnitTable<'_>,
     depth: u16,
     rooted: bool,
     cursor: &mut Cursor,

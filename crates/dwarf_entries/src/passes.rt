@@ -46,7 +46,7 @@ pub(crate) fn all_entries(
     for header in headers {
         let number = tables.number_of(alloc, header)?;
         let table = tables.table(number);
-        let unit = entries(alloc, sections.debug_info, *header, table, marks)?;
+        let unit = entries(alloc, sections.debug_info, *header, &table, marks)?;
         units.push(unit)?;
     }
     Ok(units)

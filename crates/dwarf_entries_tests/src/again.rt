@@ -31,3 +31,35 @@ fn entries_at_their_places(rt: HostRuntime) -> Result<(), Fail> {
     are_equal(&rt, null, Err(Cause::AbbrevCode));
     Ok(())
 }
+
+/// An entry whose used attributes stand behind 70 others in its declaration, most of which have no
+/// bytes.
+#[test]
+fn entry_of_a_long_list(rt: HostRuntime) -> Result<(), Fail> {
+    let mut forms = Vec::new(rt.alloc());
+    for name in 0u8..70 {
+        // the first and the last as data1, those between them as flag_present
+        let form = if name == 0 || name == 69 { 0x0b } else { 0x19 };
+        forms.extend_from_slice(&[0x80 | name, 0x40, form])?;
+    }
+    // name as string, high_pc as data1
+    forms.extend_from_slice(&[0x03, 0x08, 0x12, 0x0b])?;
+    let table = declarations(rt.alloc(), (&[], &[]), (&forms, &[]))?;
+    let info = one_scope(rt.alloc(), (&[], &[]), (&[], &[7, 8, 0x66, 0, 9]))?;
+    let headers = units(rt.alloc(), &info)?;
+    let mut tables = Tables::judge(rt.alloc(), &table, &headers)?;
+    let header = headers.first().ok_or("no unit")?;
+    let number = tables.number_of(rt.alloc(), header)?;
+    let mut cursor = Cursor::new(&info);
+    cursor.seek(13)?;
+    let mut found = Vec::new(rt.alloc());
+    let tag = tables.table(number).read_entry(&mut cursor, &mut found);
+    are_equal(&rt, tag, Ok(0x2e));
+    let mut read = Vec::new(rt.alloc());
+    for attribute in &found {
+        read.push((attribute.name, attribute.value.number))?;
+    }
+    are_equal(&rt, read.as_slice(), [(0x03, 16), (0x12, 9)].as_slice());
+    are_equal(&rt, cursor.place(), 19);
+    Ok(())
+}

@@ -27,14 +27,14 @@ pub returns-in_err-unit-clause-decodes : goal.returns-in_err-unit-clause-decodes
 returns-in_err-unit-clause-decodes c tables all =
     let p = err_from_is_err_and c.from_residual-in_err-unit.result c.from_residual-in_err-unit.ensures.1 in
     let found = rw c.loop-header.invariant.section at c.in_ok-number.ensures.ok in
-    let same : c.table-table.result.now ≡ found.0 = same_Some c.table-table.result.now found.0 (sym c.table-table.ensures ∙ found.1) in
+    let same : c.table-table.result ≡ found.0 = same_Some c.table-table.result found.0 (sym c.table-table.ensures ∙ found.1) in
     rw (p.1, p.2)
     (entries_fault c.args.sections.now.debug_info.now c.args.sections.now.debug_abbrev.now c.args.headers.now tables c.args.marks.now c.loop-header.marks c.loop-header.header-index _ _ found.0.declarations c.in_err-unit.field-0.0 (c.loop-header.invariant.so_far tables all) all c.loop-header-test.true found.2 (rw same at c.in_err-unit.ensures.decodes))
 
 pub loop-header-preserved : goal.loop-header-preserved
 loop-header-preserved c =
     let found = rw c.loop-header.invariant.section at c.in_ok-number.ensures.ok in
-    let same : c.table-table.result.now ≡ found.0 = same_Some c.table-table.result.now found.0 (sym c.table-table.ensures ∙ found.1) in
+    let same : c.table-table.result ≡ found.0 = same_Some c.table-table.result found.0 (sym c.table-table.ensures ∙ found.1) in
     record {
       so_far = λ tables all.
           rw (c.in_ok-push.ensures.items, map-append kept_of c.loop-header.units.items (c.in_ok-unit.unit ∷ []))
