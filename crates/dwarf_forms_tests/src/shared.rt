@@ -24,11 +24,7 @@ fn one_list(alloc: Global) -> Result<Vec<u8>, AllocError> {
 }
 
 /// The names of the attributes of a list.
-fn names(
-    alloc: Global,
-    lists: &KnownLists<'_>,
-    list: &SharedList,
-) -> Result<Vec<u64>, AllocError> {
+fn names(alloc: Global, lists: &KnownLists<'_>, list: &SharedList) -> Result<Vec<u64>, AllocError> {
     let mut names = Vec::new(alloc);
     for attribute in list.own() {
         names.push(attribute.name)?;
