@@ -83,6 +83,5 @@ table_before kind format section base =
     option_map_or (λ cause. Err cause) (first_failure (head_tests kind format section base))
     (Ok (record {
       end = table_end kind format section base;
-      items = item_count kind format section
-          base;
+      items = item_count kind format section base;
     }))

@@ -1,9 +1,11 @@
 //! The tables that a unit's bases point into.
 
-ghost use Rattle.std.specs.Prelude.{◌≡◌, MatchResult, Ok, Err};
-ghost use Rattle.std.specs.Prelude.{◌≤◌, ◌+◌, length};
+ghost use Rattle.std.specs.Prelude.{◌≡◌, MatchResult, Ok, Err, nat_lt, if◌then◌else◌};
+ghost use Rattle.std.specs.Prelude.{◌≤◌, ◌+◌, ◌*◌, length};
+ghost use Rattle.dwarf_bytes.specs.declared.fault.Cause.TheVariants as causes;
 ghost use Rattle.dwarf_bytes.specs.Tables.{head_len, table_before, is_cut, is_length, unit_length};
-ghost use Rattle.dwarf_bytes.specs.Numbers.{length_len};
+ghost use Rattle.dwarf_bytes.specs.Tables.{table_end, offset_count, item_count};
+ghost use Rattle.dwarf_bytes.specs.Numbers.{length_len, offset_len};
 
 use crate::fault::Cause;
 use crate::fields::{byte_at, u16_at, u32_at, u64_at};
@@ -77,18 +79,37 @@ impl TableHead {
                 return Err(Cause::SegmentSize);
             }
         }
-        let items = match kind {
-            TableKind::StrOffsets => (end - base) / format.offset_len(),
-            TableKind::Addr => (end - base) / 8,
-            TableKind::RngLists => {
-                let count = u64::from(u32_at(section, version + 4));
-                if base + format.offset_len() * count > end {
-                    return Err(Cause::Short);
-                }
-                count
-            }
-        };
+        let items = items_up_to(end, section, base, kind, format)?;
         Ok(TableHead { end, items })
+    }
+}
+
+/// The items that stand between the base and the end. Where the header tells how many offsets of
+/// lists follow the base, there must be room for them.
+fn items_up_to(
+    end: u64,
+    section: &[u8],
+    base: u64,
+    kind: TableKind,
+    format: Format,
+) -> Result<u64, Cause>
+    requires head { head_len kind format ≤ base }
+    requires inside { base ≤ end × end ≤ length section.now }
+    requires ends { end ≡ table_end kind format section.now base }
+    ensures { result ≡ (if
+        nat_lt end (base + offset_len format * offset_count kind format section.now base)
+        then Err causes.Short else Ok (item_count kind format section.now base)) }
+{
+    match kind {
+        TableKind::StrOffsets => Ok((end - base) / format.offset_len()),
+        TableKind::Addr => Ok((end - base) / 8),
+        TableKind::RngLists => {
+            let count = u64::from(u32_at(section, (base - 4) as usize));
+            if base + format.offset_len() * count > end {
+                return Err(Cause::Short);
+            }
+            Ok(count)
+        }
     }
 }
 

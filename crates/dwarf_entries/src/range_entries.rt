@@ -118,10 +118,8 @@ fn entry(
         RangeListKind::BaseAddress => return Ok(RangeListEntry::Base(cursor.u64()?)),
         RangeListKind::StartxEndx => {
             let start = indexed(sections, bases, cursor)?;
-            (
-                u128::from(start),
-                u128::from(indexed(sections, bases, cursor)?),
-            )
+            let end = indexed(sections, bases, cursor)?;
+            (u128::from(start), u128::from(end))
         }
         RangeListKind::StartxLength => {
             let start = u128::from(indexed(sections, bases, cursor)?);

@@ -182,7 +182,11 @@ fn a_dead_sequence_has_no_rows(rt: HostRuntime) -> Result<(), Fail> {
     )?;
     let tables = LineTables::read(rt.alloc(), line.as_slice(), &[], &[])?;
     assert_eq!(rt; tables.rows().len(), 0);
-    // the mark behind a row is an address as before
+    Ok(())
+}
+
+#[test]
+fn the_mark_behind_a_row_is_an_address(rt: HostRuntime) -> Result<(), Fail> {
     let line = with_instructions(
         rt.alloc(),
         &[1, 0, 9, 2, 255, 255, 255, 255, 255, 255, 255, 255, 0, 1, 1],
