@@ -4,8 +4,8 @@
 hostile.py MEASURE FOLDER [MEGABYTES] writes an object of each shape into FOLDER at a quarter of the
 size, half of it and the whole, reads each with `measure lines` or `measure scopes`, and prints the
 seconds of processor by size, and the most memory for a byte of the whole. It fails where doubling
-the size takes more than three times as long, the whole takes more than two seconds for each 20 MB,
-or a byte more than 100 bytes of memory.
+the size takes more than three times as long, the whole takes more than four seconds for each 20
+MB, or a byte more than 100 bytes of memory.
 """
 import os
 import struct
@@ -16,6 +16,7 @@ from pathlib import Path
 MEGABYTE = 1 << 20
 LEAST_TIME = 0.1  # seconds; shorter times say nothing of growth
 MOST_MEMORY = 100  # bytes for a byte of the object
+MOST_TIME = 4  # seconds for each 20 MB of the object
 
 
 def uleb(number):
@@ -307,7 +308,7 @@ def main():
     for command, shape in SHAPES:
         times, memory = try_shape(measure, command, shape, Path(folder) / "hostile", sizes)
         growth = max(b / a if b > LEAST_TIME else 0 for a, b in zip(times, times[1:]))
-        is_slow = growth > 3 or times[-1] > 2 * whole / 20
+        is_slow = growth > 3 or times[-1] > MOST_TIME * whole / 20
         failed = failed or is_slow or memory > MOST_MEMORY
         shown = ", ".join(f"{t:.3f} s" for t in times)
         name = shape.__name__.replace("_", " ")
