@@ -15,14 +15,24 @@ g++ -O2 -o out/load bench/load.cpp out/elf.o out/lines.o out/entries.o
 [ -f out/objects/huge ] || tools/make_large.sh out/objects/huge 150
 [ -f out/objects/hundred ] || tools/repeat_lines.sh out/objects/large out/objects/hundred
 
-# The least of five times in milliseconds that a command prints last, as `.., N ms`.
-best() {
-    for _ in 1 2 3 4 5; do "$@"; done | sed 's/.*, \([0-9]*\) ms$/\1/' | sort -n | head -1
+# The time in milliseconds that a command prints last, as `.., N ms`.
+time_of() {
+    "$@" | sed -n 's/.*, \([0-9]*\) ms$/\1/p'
+}
+
+# The least of nine times of ours and of the plain one, which take turns.
+least_of_both() {
+    local object=$1 plain=$2
+    shift 2
+    for _ in 1 2 3 4 5 6 7 8 9; do
+        echo "$(time_of "$measure" "$@" "$object") $(time_of "$plain" "$object")"
+    done | awk 'NR == 1 || $1 < a { a = $1 } NR == 1 || $2 < b { b = $2 } END { print a, b }'
 }
 
 # Prints both times and how fast ours is beside the plain one.
 compare() {
-    local what=$1 ours=$2 plain=$3
+    local what=$1
+    read -r ours plain <<< "$(least_of_both "$2" "$3" "$4")"
     awk -v w="$what" -v a="$ours" -v b="$plain" 'BEGIN {
         printf "%-40s %6d ms, plain C %6d ms, ratio %.2f\n", w, a, b, b / (a > 0 ? a : 1)
     }'
@@ -60,11 +70,9 @@ count_of() {
 
 # The scopes and the whole load of a program.
 measure_program() {
-    local name=$1 object=$2 ours plain told
+    local name=$1 object=$2 told
     told=$(out/entries "$object")
-    ours=$(best $measure scopes "$object")
-    plain=$(best out/entries "$object")
-    compare "scopes of $name" "$ours" "$plain"
+    compare "scopes of $name" "$object" out/entries scopes
     for what in entries scopes; do
         awk -v n="$(count_of $what "$told")" -v w="$what a second: $name" -v a="$ours" \
             -v b="$plain" 'BEGIN { printf "%s: %d, plain C %d\n", w, n * 1000 / a, n * 1000 / b }'
@@ -73,18 +81,16 @@ measure_program() {
     echo "$told"
     compare_peaks "scopes of $name" "$(peak $measure scopes "$object")" \
         "$(peak out/entries "$object")"
-    compare "whole load of $name" "$(best $measure module "$object")" "$(best out/load "$object")"
+    compare "whole load of $name" "$object" out/load module
     $measure module "$object"
     out/load "$object"
     compare_peaks "whole load of $name" "$(peak $measure module "$object")" \
         "$(peak out/load "$object")"
 }
 
-compare 'LEB128, 100 MB' "$(best $measure leb out/leb.bin)" "$(best out/leb out/leb.bin)"
-compare 'line programs of a C++ program' "$(best $measure lines out/objects/large)" \
-    "$(best out/lines out/objects/large)"
-compare 'line programs, 100 MB' "$(best $measure lines out/objects/hundred)" \
-    "$(best out/lines out/objects/hundred)"
+compare 'LEB128, 100 MB' out/leb.bin out/leb leb
+compare 'line programs of a C++ program' out/objects/large out/lines lines
+compare 'line programs, 100 MB' out/objects/hundred out/lines lines
 measure_program 'a C++ program' out/objects/large
 measure_program 'a C++ program of 162 MB' out/objects/huge
 for peer in 'llvm-dwarfdump --debug-info' 'readelf --debug-dump=info'; do

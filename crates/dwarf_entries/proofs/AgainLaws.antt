@@ -1,7 +1,7 @@
 -- The entries of a unit, read again at their places.
-use Rattle.std.proofs.Common.{◌≡◌, ℕ, ◌≤◌, ◌⊎◌, inl, inr, List, length, take, true, refl, ap, sym, ◌∙◌, arith}
+use Rattle.std.proofs.Common.{◌≡◌, ℕ, ◌-◌, ◌≤◌, ◌⊎◌, inl, inr, List, length, take, true, refl, ap, sym, ◌∙◌, arith, Bool, ◌==◌, if◌then◌else◌}
 use Rattle.std.specs.Prelude.{Option, Some, None, Result, Ok, Err, ok_or, slice_get}
-use Rattle.std.proofs.lemmas.Bool.{le-ltb}
+use Rattle.std.proofs.lemmas.Bool.{le-ltb, eq-eqb, ne_eqb}
 use Rattle.dwarf_bytes.specs.declared.constants.TheConstants.{DW_AT_CALL_FILE, DW_AT_CALL_LINE, DW_AT_HIGH_PC, DW_AT_LOW_PC, DW_AT_RANGES}
 use Rattle.dwarf_bytes.specs.declared.fault.Cause.{Cause}
 use Rattle.dwarf_bytes.specs.declared.fault.Cause.TheVariants as causes
@@ -24,13 +24,14 @@ use Rattle.dwarf_units.specs.Private.Heads.{used_entry_at}
 use Rattle.dwarf_units.specs.Private.Plans.{Table, kept_attributes}
 use Rattle.dwarf_units.proofs.TableLaws.{in_section_ok}
 use Rattle.dwarf_entries.specs.declared.kept.NamedEntry.{NamedEntry}
+use Rattle.dwarf_entries.specs.declared.long_entries.LongEntry.{LongEntry}
 use Rattle.dwarf_entries.specs.declared.kept.ScopeEntry.{ScopeEntry}
 use Rattle.dwarf_entries.specs.declared.scope.ScopeKind.{ScopeKind}
 use Rattle.dwarf_entries.specs.Sections.{Sections}
 use Rattle.dwarf_entries.specs.Bases.{CompilationUnit}
 use Rattle.dwarf_entries.specs.Scopes.{kind_of}
 use Rattle.dwarf_entries.specs.Private.Kept.{named_entry, scope_entry, scope_entry_of}
-use Rattle.dwarf_entries.specs.Private.Again.{scope_entry_at, IsReadIn}
+use Rattle.dwarf_entries.specs.Private.Again.{len_at, scope_entry_at, IsReadIn}
 use Rattle.dwarf_entries.specs.Private.Named.{entry_with, used_at, named_entry_at}
 use Rattle.dwarf_entries.proofs.KeptNodes.{value-kept, die_of_kept, named-kept}
 
@@ -68,6 +69,14 @@ used-fails table unit offset cause within (inr bad) = inr (inside-is table.forma
         same : (let f : Cause → Result ((ℕ × List Attribute) × ℕ) Cause = λ z. Err z in f e ≡ f cause) → (let f : Cause → Result (ℕ × List Attribute) Cause = λ z. Err z in f e ≡ f cause)
         same h = cc
 
+-- how many bytes were read
+pub len-read : (table : Table) (unit : List ℕ) (offset tag after : ℕ) (found : List Attribute) → used_entry_at table unit offset ≡ Ok ((tag, found), after) → len_at table.format table.declarations unit offset ≡ Ok (after - offset)
+len-read table unit offset tag after found read = by_entry (entry_at table.format table.declarations unit offset) read
+  where
+    by_entry : (entry : Result ((ℕ × List Attribute) × ℕ) Cause) → with_place entry ≡ Ok ((tag, found), after) → (entry >>= λ entry. Ok (entry.1 - offset)) ≡ Ok (after - offset)
+    by_entry (Err e) h = cc
+    by_entry (Ok e) h = ap (λ (p : (ℕ × List Attribute) × ℕ). Ok (p.1 - offset)) (same_ok ((e.0.0, kept_attributes true e.0.1), e.1) ((tag, found), after) h)
+
 -- the table of a unit is the one that it is said to be
 pub table-same : (section : List ℕ) (place : ℕ) (table found : List Declaration) → declarations_of declarations_limit section place ≡ Ok table → in_section sections.DebugAbbrev (declarations_of declarations_limit section place) ≡ Ok found → found ≡ table
 table-same section place table found is read = same_ok found table (sym (in_section_ok sections.DebugAbbrev (declarations_of declarations_limit section place) found read) ∙ is)
@@ -85,6 +94,19 @@ table-memory section place table fault is (inr bad) = absurd (never (sym (ap (λ
 pub ok-some : {X : Type 0} (o : Option X) (e : Cause) (x : X) → Ok x ≡ ok_or o e → o ≡ Some x
 ok-some (Some y) e x h = cc
 ok-some None e x h = cc
+
+-- ---- what is held
+
+abbrev if_there : Option LongEntry → Option LongEntry → Bool → Option LongEntry
+if_there there elsewhere here = if here then there else elsewhere
+
+-- .. where one more was put
+pub put-there : (at offset : ℕ) (new there elsewhere : Option LongEntry) → new ≡ (if at == offset then there else elsewhere) → at ≡ offset → new ≡ there
+put-there at offset new there elsewhere put is = put ∙ ap (if_there there elsewhere) (eq-eqb at offset is)
+
+-- .. and elsewhere
+pub put-elsewhere : (at offset : ℕ) (new there elsewhere : Option LongEntry) → new ≡ (if at == offset then there else elsewhere) → (at ≡ offset → ⊥) → new ≡ elsewhere
+put-elsewhere at offset new there elsewhere put other = put ∙ ap (if_there there elsewhere) (ne_eqb at offset other)
 
 -- ---- the entries that were read before
 

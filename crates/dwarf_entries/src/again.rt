@@ -1,12 +1,18 @@
 //! The entries of units, read again at their places.
 
-ghost use Rattle.std.specs.Prelude.{◌≡◌, List, Ok, take};
+ghost use Rattle.std.specs.Prelude.{◌≡◌, ◌<◌, ◌≤◌, ◌==◌, ◌⊎◌, ℕ, true, if◌then◌else◌};
+ghost use Rattle.std.specs.Prelude.{List, Some, Ok, OnOk, take};
+ghost use Rattle.dwarf_bytes.specs.declared.fault.Cause.TheVariants as causes;
 ghost use Rattle.dwarf_bytes.specs.Refusals.{Gives};
 ghost use Rattle.dwarf_forms.specs.Declarations.{Declaration};
 ghost use Rattle.dwarf_forms.specs.Tables.{declarations_of};
 ghost use Rattle.dwarf_units.specs.Units.{declarations_limit};
+ghost use Rattle.dwarf_entries.specs.declared.kept.NamedEntry.{NamedEntry as Named};
 ghost use Rattle.dwarf_entries.specs.Sections.{Sections as SectionBytes, sections_of};
 ghost use Rattle.dwarf_entries.specs.Private.Again.{TellsAndLeaves, scope_entry_at, IsReaderOf};
+ghost use Rattle.dwarf_entries.specs.Private.Again.{len_at, HasTableOf, Stays, IsShort, HoldsAt};
+ghost use Rattle.dwarf_entries.specs.Private.Marks.{is_marked};
+ghost use Rattle.dwarf_entries.specs.Private.Long.{held_at, long_entry};
 ghost use Rattle.dwarf_entries.specs.Private.Named.{used_at, named_entry_at};
 
 use crate::entries::unit_bytes;
@@ -62,6 +68,11 @@ impl<'a> EntryReader<'a> {
         ensures section { self.new.tables.section ≡ self.old.tables.section }
         ensures info { self.new.info.now ≡ self.old.info.now }
         ensures long { self.new.long ≡ self.old.long }
+        ensures number { OnOk result (HasTableOf header.now self.new) }
+        ensures len { OnOk result ((table : List Declaration) → declarations_of declarations_limit
+            self.old.tables.section header.now.abbreviations ≡ Ok table
+            → len_at header.now.format table (take header.now.«end» self.old.info.now) offset
+            ≡ Ok self.new.len) }
     {
         let number = match self.tables.number_by(self.alloc, header, self.number) {
             Ok(number) => number,
@@ -97,6 +108,15 @@ impl<'a> EntryReader<'a> {
         marks: &Marks,
         offset: usize,
     ) -> Result<NamedEntry, Cause>
+        ensures holds { OnOk result ((s : SectionBytes) (table : List Declaration)
+            → IsReaderOf s self.old
+            → declarations_of declarations_limit s.debug_abbrev header.now.abbreviations ≡ Ok table
+            → header.now.first ≤ offset → offset < header.now.«end»
+            → is_marked marks.now offset ≡ true → HoldsAt s header.now self.new offset
+            ⊎ (Stays header.now self.new × IsShort header.now.format table
+            (take header.now.«end» s.debug_info) offset)) }
+        ensures held { (entry : Named) → held_at self.old.long offset
+            ≡ Some (long_entry header.now entry) → (result ≡ Ok entry) × (self.new ≡ self.old) }
         ensures named { (s : SectionBytes) (table : List Declaration) → IsReaderOf s self.old
             → declarations_of declarations_limit s.debug_abbrev header.now.abbreviations ≡ Ok table
             → Gives (λ entry. entry) result (named_entry_at header.now.format table
@@ -117,7 +137,10 @@ impl<'a> EntryReader<'a> {
 
     /// Remembers what paths need of the entries of the unit of the header, as far as they are read.
     fn hold(&mut self, header: &UnitHeader, marks: &Marks) -> Result<(), AllocError>
-        ensures { (s : SectionBytes) → IsReaderOf s self.old → IsReaderOf s self.new }
+        ensures reader { (s : SectionBytes) → IsReaderOf s self.old → IsReaderOf s self.new }
+        ensures held { OnOk result ((s : SectionBytes) (at : ℕ) → IsReaderOf s self.old
+            → header.now.first ≤ at → at < header.now.«end» → is_marked marks.now at ≡ true
+            → HoldsAt s header.now self.new at) }
     {
         for offset in header.first..header.end {
             if marks.is_marked(offset) {
@@ -129,12 +152,22 @@ impl<'a> EntryReader<'a> {
 
     /// Remembers what paths need of the entry at an offset, if it is read.
     fn hold_at(&mut self, header: &UnitHeader, offset: usize) -> Result<(), AllocError>
-        ensures { (s : SectionBytes) → IsReaderOf s self.old → IsReaderOf s self.new }
+        ensures reader { (s : SectionBytes) → IsReaderOf s self.old → IsReaderOf s self.new }
+        ensures held { OnOk result ((s : SectionBytes) → IsReaderOf s self.old
+            → HoldsAt s header.now self.new offset) }
+        ensures others { OnOk result ((at : ℕ) → (at ≡ offset → ⊥)
+            → held_at self.new.long at ≡ held_at self.old.long at) }
     {
-        if let Ok(entry) = self.named_again(header, offset) {
-            self.remember(header, offset, entry)?;
+        match self.named_again(header, offset) {
+            Ok(entry) => {
+                self.remember(header, offset, entry)?;
+                Ok(())
+            }
+            Err(cause) => {
+                refuse_memory(cause)?;
+                Ok(())
+            }
         }
-        Ok(())
     }
 
     /// Remembers what was read of the entry at an offset, in the unit of the header.
@@ -144,7 +177,9 @@ impl<'a> EntryReader<'a> {
         offset: usize,
         entry: NamedEntry,
     ) -> Result<(), AllocError>
-        ensures { (s : SectionBytes) → IsReaderOf s self.old
+        ensures held { OnOk result ((at : _) → held_at self.new.long at ≡ if at == offset
+            then Some (long_entry header.now entry) else held_at self.old.long at) }
+        ensures reader { (s : SectionBytes) → IsReaderOf s self.old
             → ((table : List Declaration) → declarations_of declarations_limit s.debug_abbrev
             header.now.abbreviations ≡ Ok table → named_entry_at header.now.format table
             (take header.now.«end» s.debug_info) offset ≡ Ok entry) → IsReaderOf s self.new }
@@ -159,8 +194,25 @@ impl<'a> EntryReader<'a> {
             → Gives (λ entry. entry) result (named_entry_at header.now.format table
             (take header.now.«end» s.debug_info) offset) }
         ensures reader { (s : SectionBytes) → IsReaderOf s self.old → IsReaderOf s self.new }
+        ensures long { self.new.long ≡ self.old.long }
+        ensures number { OnOk result (HasTableOf header.now self.new) }
+        ensures len { OnOk result ((s : SectionBytes) (table : List Declaration)
+            → IsReaderOf s self.old
+            → declarations_of declarations_limit s.debug_abbrev header.now.abbreviations ≡ Ok table
+            → len_at header.now.format table (take header.now.«end» s.debug_info) offset
+            ≡ Ok self.new.len) }
     {
         self.entry(header, offset)?;
         Ok(NamedEntry::of(offset, &self.found))
+    }
+}
+
+/// Refuses a cause that is want of memory, and no other one.
+fn refuse_memory(cause: Cause) -> Result<(), AllocError>
+    ensures { OnOk result (cause ≡ causes.Memory → ⊥) }
+{
+    match cause {
+        Cause::Memory => Err(AllocError),
+        _ => Ok(()),
     }
 }

@@ -1,9 +1,10 @@
 //! The file and the line of a call, in few bytes (DWARF 5, 3.3.8.1).
 
-ghost use Rattle.std.specs.Prelude.{◌≡◌, ◌++◌, ℕ, List, length, IfOk, IfSome};
+ghost use Rattle.std.specs.Prelude.{◌≡◌, ◌<◌, ◌++◌, ◌^◌, ℕ, List, length, IfOk, IfSome};
+ghost use Rattle.std.specs.Prelude.{IsSome, SomeIff};
 ghost use Rattle.dwarf_entries.specs.declared.calls.CallSite.{CallSite as Site};
 ghost use Rattle.dwarf_entries.specs.Scopes.{call_site};
-ghost use Rattle.dwarf_entries.specs.Private.Shared.{IsHeldIn};
+ghost use Rattle.dwarf_entries.specs.Private.Shared.{IsHeldIn, IsNarrow};
 
 use crate::packed::narrow;
 use std::alloc::AllocError;
@@ -53,6 +54,8 @@ impl CallSite {
         ensures held { IfOk result (λ parts. IsHeldIn (length wide.new.items) parts.0 parts.1) }
         ensures added { IfOk result (λ parts. (more : List Site)
             × (wide.new.items ≡ wide.old.items ++ more)) }
+        ensures few { IsNarrow self.file → IsNarrow self.line
+            → IfOk result (λ _. wide.new.items ≡ wide.old.items) }
     {
         if let Some(parts) = self.narrow_parts() {
             return Ok(parts);
@@ -67,6 +70,7 @@ impl CallSite {
         ensures told { IfSome result (λ parts. (wide : List Site)
             → call_site wide parts.0 parts.1 parts.2 ≡ self) }
         ensures held { IfSome result (λ parts. (many : ℕ) → IsHeldIn many parts.0 parts.1) }
+        ensures some { IsNarrow self.file → IsNarrow self.line → IsSome result }
     {
         match (self.file, self.line) {
             (None, None) => Some((Calls::Missing, 0, 0)),
@@ -80,7 +84,7 @@ impl CallSite {
 }
 
 fn narrow_number(number: u64) -> Option<u32>
-    ensures { IfSome result (λ narrow. narrow ≡ number) }
+    ensures { SomeIff result (number < 2 ^ 32) number }
 {
     match u32::try_from(number) {
         Ok(narrow) => Some(narrow),

@@ -2,6 +2,7 @@
 
 ghost use Rattle.std.specs.Prelude.{◌≡◌, List, None, Some, IfSome, map, slice_get};
 ghost use Rattle.dwarf_bytes.specs.Refusals.{Gives};
+ghost use Rattle.dwarf_units.specs.declared.attributes.AttributeValue.{AttributeValue as Value};
 ghost use Rattle.dwarf_entries.specs.Sections.{Sections as SectionBytes, sections_of};
 ghost use Rattle.dwarf_entries.specs.Bases.{CompilationUnit};
 ghost use Rattle.dwarf_entries.specs.Names.{Member, names_of};
@@ -92,8 +93,10 @@ impl<'a> Units<'a> {
 
 /// The reference to the next entry, if all names of an entry are those to which it leads.
 fn reference_to_names(entry: &NamedEntry) -> Option<AttributeValue>
-    ensures { IfSome result (λ reference. (entry.now.next ≡ Some reference)
+    ensures some { IfSome result (λ reference. (entry.now.next ≡ Some reference)
         × (entry.now.name ≡ None) × (entry.now.linkage_name ≡ None)) }
+    ensures found { (reference : Value) → entry.now.next ≡ Some reference
+        → entry.now.name ≡ None → entry.now.linkage_name ≡ None → result ≡ Some reference }
 {
     match (entry.next, entry.name, entry.linkage_name) {
         (Some(reference), None, None) => Some(reference),

@@ -3,6 +3,7 @@
 
 ghost use Rattle.std.specs.Prelude.{◌≡◌, ◌==◌, ℕ, ◌<◌, length, None, Some};
 ghost use Rattle.std.specs.Prelude.{IfSome, OnOk, OnErr, if◌then◌else◌};
+ghost use Rattle.dwarf_entries.specs.declared.paths.EntryNames.{EntryNames as Names};
 ghost use Rattle.dwarf_entries.specs.Private.KnownNames.{slot_at, slot_of};
 
 use crate::paths::{EntryNames, UnitPlace};
@@ -36,8 +37,10 @@ impl KnownNames {
 
     /// The names to which a reference to the entry at a place leads, if they are known.
     pub(crate) fn get(&self, place: UnitPlace) -> Option<EntryNames>
-        ensures { IfSome result (λ names. slot_at self.now (slot_of place)
+        ensures some { IfSome result (λ names. slot_at self.now (slot_of place)
             ≡ Some (record { place = place; names = names })) }
+        ensures found { (names : Names) → slot_at self.now (slot_of place)
+            ≡ Some (record { place = place; names = names }) → result ≡ Some names }
     {
         let led = self.slots.get(place.offset % SLOTS)?.as_ref()?;
         if led.place.unit == place.unit && led.place.offset == place.offset {

@@ -2,6 +2,7 @@
 
 ghost use Rattle.std.specs.Prelude.{◌≡◌, ◌==◌, ◌↔◌, None, Some, IfSome};
 ghost use Rattle.std.specs.Prelude.{IsTrue, OnOk, OnErr, if◌then◌else◌};
+ghost use Rattle.dwarf_entries.specs.declared.kept.NamedEntry.{NamedEntry as Named};
 ghost use Rattle.dwarf_entries.specs.Private.Long.{held_at, long_entry};
 
 use crate::kept::NamedEntry;
@@ -49,8 +50,10 @@ impl LongEntries {
 
     /// What was read of the entry at an offset, in the unit of the header.
     pub(crate) fn get(&self, header: &UnitHeader, offset: usize) -> Option<NamedEntry>
-        ensures { IfSome result (λ entry.
+        ensures some { IfSome result (λ entry.
             held_at self.now offset ≡ Some (long_entry header.now entry)) }
+        ensures found { (entry : Named) → held_at self.now offset
+            ≡ Some (long_entry header.now entry) → result ≡ Some entry }
     {
         let held = self.held.get(&offset)?;
         if held.is_in(header) {

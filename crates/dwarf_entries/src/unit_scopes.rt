@@ -1,7 +1,7 @@
 //! The pass over the scopes of all units (DWARF 5, 3.3): their names, then their ranges.
 
 ghost use Rattle.std.specs.Prelude.{◌≡◌, ◌≤◌, ◌<◌, ◌+◌, ◌^◌, List, Some};
-ghost use Rattle.std.specs.Prelude.{length, slice_get, IfOk, OnOk};
+ghost use Rattle.std.specs.Prelude.{◌-◌, length, min, slice_get, IfOk, OnOk};
 ghost use Rattle.dwarf_bytes.specs.declared.fault.Section.TheVariants as names;
 ghost use Rattle.dwarf_bytes.specs.Refusals.{Decodes, in_section};
 ghost use Rattle.dwarf_entries.specs.Sections.{Sections as SectionBytes, sections_of};
@@ -11,6 +11,7 @@ ghost use Rattle.dwarf_entries.specs.Scopes.{Judged, ScopeSite, scope_at};
 ghost use Rattle.dwarf_entries.specs.Scopes.{sites_in, roots_from, scopes_of};
 ghost use Rattle.dwarf_entries.specs.Private.Passes.{AreUnits, IsRootOf, IsScopeSite, AreJudged};
 ghost use Rattle.dwarf_entries.specs.Private.Passes.{AddsScopes, scope_facts, all_scopes};
+ghost use Rattle.dwarf_entries.specs.Private.Kept.{scope_count};
 ghost use Rattle.dwarf_entries.specs.Private.Marks.{AreMarked};
 ghost use Rattle.dwarf_entries.specs.Private.Again.{AreReadIn, IsReaderOf};
 ghost use Rattle.dwarf_entries.specs.Private.KnownNames.{AreKnownOf};
@@ -208,7 +209,9 @@ fn facts(numbers: ScopeNumbers, entry: &ScopeEntry, names: EntryNames) -> ScopeF
 }
 
 /// How many scopes the units have, as far as the machine counts.
-fn scope_count(units: &[UnitEntries]) -> usize {
+fn scope_count(units: &[UnitEntries]) -> usize
+    ensures { result ≡ min (scope_count units.now) (2 ^ 64 - 1) }
+{
     let mut count: usize = 0;
     for unit in units {
         count = count.saturating_add(unit.scopes.len());

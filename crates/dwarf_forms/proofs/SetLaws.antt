@@ -1,10 +1,10 @@
 -- Sets of names, as branches are put beside them.
-use Rattle.std.proofs.Common.{◌≡◌, ◌≢◌, ◌⊎◌, inl, inr, ℕ, zero, suc, ◌/◌, ◌%◌, ◌<◌, ◌≤◌, List, [], ◌∷◌, ◌++◌, length, reverse, get_or, Bool, true, false, refl, ap, sym, ◌∙◌, subst, arith, length-append}
-use Rattle.std.specs.Prelude.{◌==◌, ◌||◌, if◌then◌else◌}
+use Rattle.std.proofs.Common.{◌≡◌, ◌≢◌, ◌⊎◌, inl, inr, ℕ, zero, suc, ◌+◌, ◌/◌, ◌%◌, ◌<◌, ◌≤◌, List, [], ◌∷◌, ◌++◌, length, reverse, get_or, Bool, true, false, refl, ap, sym, ◌∙◌, subst, arith, length-append}
+use Rattle.std.specs.Prelude.{◌==◌, ◌||◌, if◌then◌else◌, Result, Ok, Err, IfOk, OnErr}
 use Rattle.std.specs.Int.Digits.{digits_of}
 use Rattle.std.proofs.Math.ListN.{get_or-append}
 use Rattle.std.proofs.Math.Seq.{get_or-append_seam}
-use Rattle.std.proofs.lemmas.Int.Digits.{digits_of_step}
+use Rattle.std.proofs.lemmas.Int.Digits.{digits_of_step, length-digits_of_step}
 use Rattle.std.proofs.lemmas.List.{reverse-append, get_or_past}
 use Rattle.std.proofs.lemmas.Bool.{cases_lt, eqb-true, eqb-false}
 use Rattle.std.proofs.lemmas.Option.{slice_get_within}
@@ -63,6 +63,22 @@ stay-more bs now more sets is =
       longer = omega (arith, length-append bs more);
       same = λ set name lt. ap (λ (b : Branch). b.ends) (along-stays bs more (reverse (digits_of 2 name)) set sets lt);
     })
+
+-- ---- how many branches there are more
+
+pub put-few : {E : Type 0} (old new : List Branch) (b : Branch) (r : Result ℕ E) → IfOk r (λ set. (set ≡ length old) × (new ≡ old ++ b ∷ [])) → OnErr r (new ≡ old) → length new ≤ length old + 1
+put-few old new b (Ok set) made none = omega (arith, ap length made.1, length-append old (b ∷ []))
+put-few old new b (Err e) made none = omega (arith, ap length none)
+
+-- at most one for each bit of a name, and one more
+abbrev pub HasFewMore : List Branch → List Branch → ℕ → Type 0
+HasFewMore old new name = length new ≤ length old + length (digits_of 2 name) + 1
+
+pub few-behind : (old mid : List Branch) (name : ℕ) → 0 < name → HasFewMore old mid (name / 2) → HasFewMore old mid name
+few-behind old mid name some few = omega (arith, few, length-digits_of_step 2 name (omega arith) some)
+
+pub few-bits : (old mid new : List Branch) (name : ℕ) → 0 < name → HasFewMore old mid (name / 2) → length new ≤ length mid + 1 → HasFewMore old new name
+few-bits old mid new name some few one = omega (arith, few, one, length-digits_of_step 2 name (omega arith) some)
 
 -- ---- a set with one more name
 

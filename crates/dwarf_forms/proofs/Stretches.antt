@@ -4,7 +4,7 @@ use Rattle.std.specs.Prelude.{Ok, nat_lt}
 use Rattle.std.proofs.lemmas.List.{take_at, drop_at, drop-drop}
 use Rattle.std.proofs.lemmas.Bool.{le-ltb}
 use Rattle.dwarf_bytes.specs.Numbers.{StandsAt, block_at, fixed_at, little_endian}
-use Rattle.dwarf_bytes.proofs.Moves.{block_at-moves, fixed_at-moves}
+use Rattle.dwarf_bytes.proofs.Moves.{fixed_at-moves}
 
 -- the stretch from one place to another, and what follows it
 pub record Stretch (bytes : List ℕ) (at : ℕ) (stretch : List ℕ) (next : ℕ) (rest : List ℕ) : Type 0 where
@@ -51,19 +51,6 @@ pub within : (bytes : List ℕ) (at : ℕ) (stretch : List ℕ) (next : ℕ) (re
 within bytes at stretch next rest s some = omega (arith, s.next_is, ap length s.parts, length-drop at bytes, length-append stretch rest)
 
 -- ---- fields
-
-pub block_stands : (n : ℕ) (bytes : List ℕ) (at : ℕ) (read : List ℕ × ℕ) → block_at n bytes at ≡ Ok read → Stretch bytes at read.0 read.1 (drop n (drop at bytes)) × (length read.0 ≡ n)
-block_stands n bytes at read h =
-    let moved = block_at-moves n bytes at read h in
-    let block : read.0 ≡ take n (drop at bytes) = ap (λ (r : List ℕ × ℕ). r.0) moved.1 in
-    let place : read.1 ≡ at + n = ap (λ (r : List ℕ × ℕ). r.1) moved.1 in
-    let len : length read.0 ≡ n = ap length block ∙ omega (arith, length-take n (drop at bytes), length-drop at bytes, moved.0) in (
-      record {
-        parts = sym (take-append-drop n (drop at bytes)) ∙ ap (λ (b : List ℕ). b ++ drop n (drop at bytes)) (sym block);
-        next_is = omega (arith, place, len);
-      },
-      len,
-    )
 
 pub block_again : (n : ℕ) (bytes : List ℕ) (at : ℕ) (block : List ℕ) (next : ℕ) (rest : List ℕ) → Stretch bytes at block next rest → length block ≡ n → at + n ≤ length bytes → block_at n bytes at ≡ Ok (block, next)
 unfolding block_at

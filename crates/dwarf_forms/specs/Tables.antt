@@ -1,12 +1,11 @@
 -- Reading a table of abbreviation declarations (DWARF 5, 7.5.3), up to its first fault.
-use Rattle.std.specs.Prelude.{◌≡◌, ℕ, ℤ, List, [], length, Option, Some, None, is_none, Result, Ok}
-use Rattle.std.specs.Prelude.{Bool, Err, nat_lt, nat_le, ◌==◌, ◌||◌, ◌&&◌, if◌then◌else◌}
+use Rattle.std.specs.Prelude.{ℕ, ℤ, List, [], length, Option, Some, None, is_none, Result, Ok}
+use Rattle.std.specs.Prelude.{Bool, nat_lt, nat_le, ◌==◌, ◌||◌, ◌&&◌, if◌then◌else◌}
 use Rattle.std.specs.List.{list_any}
 use Rattle.dwarf_bytes.specs.declared.fault.Cause.{Cause}
 use Rattle.dwarf_bytes.specs.declared.fault.Cause.TheVariants as causes
 use Rattle.dwarf_bytes.specs.Bind.{◌>>=◌}
 use Rattle.dwarf_bytes.specs.Items.{Next, Item, End, At, reading, refuse_if, untold, items_from}
-use Rattle.dwarf_bytes.specs.Position.{Position}
 use Rattle.dwarf_bytes.specs.Numbers.{u8_at, uleb_at, sleb_at}
 use Rattle.dwarf_bytes.specs.Forms.{form_of}
 use Rattle.dwarf_forms.specs.declared.attribute.AttributeSpecification.{AttributeSpecification}
@@ -74,13 +73,3 @@ table_at room section offset = items_from (length section) (declaration_at room 
 -- its declarations alone
 abbrev pub declarations_of : ℕ → List ℕ → ℕ → Result (List Declaration) At
 declarations_of room section offset = table_at room section offset >>= λ table. Ok table.0
-
--- What a step on a cursor finds is the next item, or the end of the items, and the cursor stands
--- after it. After a fault nothing is said of the cursor.
-abbrev pub ReadsNext : {X : Type 0} → Result (Option X) Cause → (List ℕ → ℕ → Result (Next X) Cause)
-    → Position → Position → Type 0
-ReadsNext (Ok (Some x)) step old new =
-    (step old.bytes old.place ≡ Ok (Item x new.place)) × (new.bytes ≡ old.bytes)
-ReadsNext (Ok None) step old new =
-    (step old.bytes old.place ≡ Ok (End new.place)) × (new.bytes ≡ old.bytes)
-ReadsNext (Err cause) step old new = step old.bytes old.place ≡ Err cause

@@ -25,7 +25,7 @@ pub struct KnownAttribute {
     /// The number of the attribute behind it.
     next: Option<usize>,
     /// The set of the names from it on.
-    names: usize,
+    names: u32,
     /// The place after the two zeros.
     after: usize,
 }
@@ -169,7 +169,7 @@ fn is_known_at(known: &[KnownAttribute], number: usize, place: usize) -> bool
 }
 
 /// The set of the names of the attributes behind one.
-fn names_behind(known: &[KnownAttribute], next: Option<usize>) -> usize
+fn names_behind(known: &[KnownAttribute], next: Option<usize>) -> u32
     ensures { result ≡ names_behind known.now next }
 {
     let Some(number) = next else {
@@ -179,7 +179,7 @@ fn names_behind(known: &[KnownAttribute], next: Option<usize>) -> usize
 }
 
 /// Whether a set has the name of an attribute.
-fn has_any(names: &NameSets, set: usize, own: &[AttributeSpecification]) -> bool
+fn has_any(names: &NameSets, set: u32, own: &[AttributeSpecification]) -> bool
     ensures { result ≡ list_any (λ attribute. is_in names.now set attribute.name) own.now }
 {
     own.iter().any(|attribute| names.has(set, attribute.name))

@@ -7,7 +7,9 @@ ghost use Rattle.dwarf_bytes.specs.Items.{untold, items_from};
 ghost use Rattle.dwarf_bytes.specs.Numbers.{StandsAt};
 ghost use Rattle.dwarf_bytes.specs.declared.format.Format.{Format};
 ghost use Rattle.dwarf_forms.specs.Declarations.{Declaration, SpellsTable, AreGood};
-ghost use Rattle.dwarf_forms.specs.declared.attribute.AttributeSpecification.{AttributeSpecification as Specification};
+ghost use Rattle.dwarf_forms.specs.declared.attribute.AttributeSpecification.{
+  AttributeSpecification as Specification,
+};
 ghost use Rattle.dwarf_forms.specs.Tables.{attribute_at, attributes_at, shares_name, table_at};
 ghost use Rattle.dwarf_forms.specs.Values.{Value, Spells, value_at};
 
@@ -25,8 +27,8 @@ pub fn table_is_unique()
         → SpellsTable b t → AreGood t → a ++ x ≡ b ++ y → (a ≡ b) × (s ≡ t) }
 {}
 
-/// Attributes that are read from a place on are read so behind others too, where none of those has a
-/// name of theirs; where one has, it is a name twice, whichever of them it is.
+/// Attributes that are read from a place on are read so behind others too, where none of those has
+/// a name of theirs; where one has, it is a name twice, whichever of them it is.
 pub fn attributes_are_joined()
     ensures { (section : List ℕ) (own : List Specification) (at : ℕ)
         (rest : List Specification) (next : ℕ)

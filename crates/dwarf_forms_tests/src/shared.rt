@@ -79,7 +79,7 @@ fn tables_within_one_list(rt: HostRuntime) -> Result<(), Fail> {
     let mut lists = KnownLists::new(rt.alloc(), &section)?;
     let behind = 100 - UNSHARED;
     is_shared(&rt, &mut lists, &section, 0, UNSHARED, behind)?;
-    // from the forms of the attributes 9, 34 and 35, whose tables have the attributes behind the next
+    // from the forms of the attributes 9, 34 and 35: their tables have what is behind the next one
     is_shared(&rt, &mut lists, &section, 32, UNSHARED, behind)?;
     is_shared(&rt, &mut lists, &section, 107, UNSHARED, behind)?;
     is_shared(&rt, &mut lists, &section, 110, 63, behind)

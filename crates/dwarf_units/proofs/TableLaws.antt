@@ -32,13 +32,6 @@ pub record Judged (section : List ℕ) (units : List UnitHeader) (index left : �
   pub counted : left + sum_by length made ≡ declarations_limit
   pub read : made_front made (each_from (table_for section) made (drop index units)) ≡ each_from (table_for section) [] units
 
-pub judged_none : (section : List ℕ) (units : List UnitHeader) → Judged section units 0 declarations_limit
-judged_none section units = record { made = []; counted = refl; read = same (each_from (table_for section) [] units) }
-  where
-    same : (r : Result (List (List Declaration)) At) → made_front [] r ≡ r
-    same (Ok x) = refl
-    same (Err e) = refl
-
 pub in_section_ok : {X : Type 0} (section : Section) (r : Result X At) (x : X) → in_section section r ≡ Ok x → r ≡ Ok x
 in_section_ok section (Ok y) x h = cc
 in_section_ok section (Err e) x h = cc

@@ -1,29 +1,56 @@
 -- The attributes that are used, and the forms that each may have (DWARF 5, 2.2 and 7.5.4 to 7.5.6).
-use Rattle.std.specs.Prelude.{ℕ, ◌-◌, pos, negsuc, List, [], ◌∷◌, ◌++◌, length, Bool, true, false, Option, is_some, find, option_map, ◌==◌, ◌&&◌}
+use Rattle.std.specs.Prelude.{ℕ, ◌-◌, pos, negsuc, List, [], ◌∷◌, ◌++◌, length, Bool, true, false}
+use Rattle.std.specs.Prelude.{Option, is_some, find, option_map, ◌==◌, ◌&&◌}
 use Rattle.std.specs.Option.{option_map_or}
 use Rattle.std.specs.List.{list_any}
-use Rattle.dwarf_bytes.specs.declared.constants.TheConstants.{DW_AT_ABSTRACT_ORIGIN, DW_AT_ADDR_BASE, DW_AT_CALL_FILE, DW_AT_CALL_LINE, DW_AT_HIGH_PC, DW_AT_LINKAGE_NAME, DW_AT_LOW_PC, DW_AT_NAME, DW_AT_RANGES, DW_AT_RNGLISTS_BASE, DW_AT_SPECIFICATION, DW_AT_STMT_LIST, DW_AT_STR_OFFSETS_BASE, DW_FORM_ADDR, DW_FORM_ADDRX, DW_FORM_ADDRX1, DW_FORM_ADDRX2, DW_FORM_ADDRX3, DW_FORM_ADDRX4, DW_FORM_DATA1, DW_FORM_DATA2, DW_FORM_DATA4, DW_FORM_DATA8, DW_FORM_IMPLICIT_CONST, DW_FORM_LINE_STRP, DW_FORM_REF1, DW_FORM_REF2, DW_FORM_REF4, DW_FORM_REF8, DW_FORM_REF_ADDR, DW_FORM_REF_SIG8, DW_FORM_REF_UDATA, DW_FORM_RNGLISTX, DW_FORM_SDATA, DW_FORM_SEC_OFFSET, DW_FORM_STRING, DW_FORM_STRP, DW_FORM_STRX, DW_FORM_STRX1, DW_FORM_STRX2, DW_FORM_STRX3, DW_FORM_STRX4, DW_FORM_UDATA}
+use Rattle.dwarf_bytes.specs.declared.constants.TheConstants.{DW_AT_ABSTRACT_ORIGIN}
+use Rattle.dwarf_bytes.specs.declared.constants.TheConstants.{DW_AT_ADDR_BASE, DW_AT_CALL_FILE}
+use Rattle.dwarf_bytes.specs.declared.constants.TheConstants.{DW_AT_CALL_LINE, DW_AT_HIGH_PC}
+use Rattle.dwarf_bytes.specs.declared.constants.TheConstants.{DW_AT_LINKAGE_NAME, DW_AT_LOW_PC}
+use Rattle.dwarf_bytes.specs.declared.constants.TheConstants.{DW_AT_NAME, DW_AT_RANGES}
+use Rattle.dwarf_bytes.specs.declared.constants.TheConstants.{DW_AT_RNGLISTS_BASE}
+use Rattle.dwarf_bytes.specs.declared.constants.TheConstants.{DW_AT_SPECIFICATION, DW_AT_STMT_LIST}
+use Rattle.dwarf_bytes.specs.declared.constants.TheConstants.{DW_AT_STR_OFFSETS_BASE, DW_FORM_ADDR}
+use Rattle.dwarf_bytes.specs.declared.constants.TheConstants.{DW_FORM_ADDRX, DW_FORM_ADDRX1}
+use Rattle.dwarf_bytes.specs.declared.constants.TheConstants.{DW_FORM_ADDRX2, DW_FORM_ADDRX3}
+use Rattle.dwarf_bytes.specs.declared.constants.TheConstants.{DW_FORM_ADDRX4, DW_FORM_DATA1}
+use Rattle.dwarf_bytes.specs.declared.constants.TheConstants.{DW_FORM_DATA2, DW_FORM_DATA4}
+use Rattle.dwarf_bytes.specs.declared.constants.TheConstants.{DW_FORM_DATA8, DW_FORM_IMPLICIT_CONST}
+use Rattle.dwarf_bytes.specs.declared.constants.TheConstants.{DW_FORM_LINE_STRP, DW_FORM_REF1}
+use Rattle.dwarf_bytes.specs.declared.constants.TheConstants.{DW_FORM_REF2, DW_FORM_REF4}
+use Rattle.dwarf_bytes.specs.declared.constants.TheConstants.{DW_FORM_REF8, DW_FORM_REF_ADDR}
+use Rattle.dwarf_bytes.specs.declared.constants.TheConstants.{DW_FORM_REF_SIG8, DW_FORM_REF_UDATA}
+use Rattle.dwarf_bytes.specs.declared.constants.TheConstants.{DW_FORM_RNGLISTX, DW_FORM_SDATA}
+use Rattle.dwarf_bytes.specs.declared.constants.TheConstants.{DW_FORM_SEC_OFFSET, DW_FORM_STRING}
+use Rattle.dwarf_bytes.specs.declared.constants.TheConstants.{DW_FORM_STRP, DW_FORM_STRX}
+use Rattle.dwarf_bytes.specs.declared.constants.TheConstants.{DW_FORM_STRX1, DW_FORM_STRX2}
+use Rattle.dwarf_bytes.specs.declared.constants.TheConstants.{DW_FORM_STRX3, DW_FORM_STRX4}
+use Rattle.dwarf_bytes.specs.declared.constants.TheConstants.{DW_FORM_UDATA}
 use Rattle.dwarf_bytes.specs.Contents.{Content, Number, Signed, Bytes}
 
 -- class string
 abbrev pub string_forms : List ℕ
 string_forms =
-    DW_FORM_STRING ∷ DW_FORM_STRP ∷ DW_FORM_LINE_STRP ∷ DW_FORM_STRX ∷ DW_FORM_STRX1 ∷ DW_FORM_STRX2 ∷ DW_FORM_STRX3 ∷ DW_FORM_STRX4 ∷ []
+    DW_FORM_STRING ∷ DW_FORM_STRP ∷ DW_FORM_LINE_STRP ∷ DW_FORM_STRX ∷ DW_FORM_STRX1 ∷
+    DW_FORM_STRX2 ∷ DW_FORM_STRX3 ∷ DW_FORM_STRX4 ∷ []
 
 -- class address
 abbrev pub address_forms : List ℕ
 address_forms =
-    DW_FORM_ADDR ∷ DW_FORM_ADDRX ∷ DW_FORM_ADDRX1 ∷ DW_FORM_ADDRX2 ∷ DW_FORM_ADDRX3 ∷ DW_FORM_ADDRX4 ∷ []
+    DW_FORM_ADDR ∷ DW_FORM_ADDRX ∷ DW_FORM_ADDRX1 ∷ DW_FORM_ADDRX2 ∷ DW_FORM_ADDRX3 ∷
+    DW_FORM_ADDRX4 ∷ []
 
 -- class constant, as a count; sdata and implicit_const where not negative
 abbrev pub count_forms : List ℕ
 count_forms =
-    DW_FORM_DATA2 ∷ DW_FORM_DATA4 ∷ DW_FORM_DATA8 ∷ DW_FORM_DATA1 ∷ DW_FORM_UDATA ∷ DW_FORM_SDATA ∷ DW_FORM_IMPLICIT_CONST ∷ []
+    DW_FORM_DATA2 ∷ DW_FORM_DATA4 ∷ DW_FORM_DATA8 ∷ DW_FORM_DATA1 ∷ DW_FORM_UDATA ∷
+    DW_FORM_SDATA ∷ DW_FORM_IMPLICIT_CONST ∷ []
 
 -- class reference
 abbrev pub reference_forms : List ℕ
 reference_forms =
-    DW_FORM_REF_ADDR ∷ DW_FORM_REF1 ∷ DW_FORM_REF2 ∷ DW_FORM_REF4 ∷ DW_FORM_REF8 ∷ DW_FORM_REF_UDATA ∷ DW_FORM_REF_SIG8 ∷ []
+    DW_FORM_REF_ADDR ∷ DW_FORM_REF1 ∷ DW_FORM_REF2 ∷ DW_FORM_REF4 ∷ DW_FORM_REF8 ∷
+    DW_FORM_REF_UDATA ∷ DW_FORM_REF_SIG8 ∷ []
 
 -- class rnglist
 abbrev pub range_list_forms : List ℕ
@@ -38,10 +65,12 @@ pointer_forms =
 -- the forms that each used attribute may have
 abbrev pub used_attributes : List (ℕ × List ℕ)
 used_attributes =
-    (DW_AT_NAME, string_forms) ∷ (DW_AT_LINKAGE_NAME, string_forms) ∷ (DW_AT_LOW_PC, address_forms) ∷
-    (DW_AT_HIGH_PC, address_forms ++ count_forms) ∷ (DW_AT_CALL_FILE, count_forms) ∷ (DW_AT_CALL_LINE, count_forms) ∷
-    (DW_AT_ABSTRACT_ORIGIN, reference_forms) ∷ (DW_AT_SPECIFICATION, reference_forms) ∷ (DW_AT_RANGES, range_list_forms) ∷
-    (DW_AT_STMT_LIST, pointer_forms) ∷ (DW_AT_STR_OFFSETS_BASE, pointer_forms) ∷ (DW_AT_ADDR_BASE, pointer_forms) ∷
+    (DW_AT_NAME, string_forms) ∷ (DW_AT_LINKAGE_NAME, string_forms) ∷
+    (DW_AT_LOW_PC, address_forms) ∷ (DW_AT_HIGH_PC, address_forms ++ count_forms) ∷
+    (DW_AT_CALL_FILE, count_forms) ∷ (DW_AT_CALL_LINE, count_forms) ∷
+    (DW_AT_ABSTRACT_ORIGIN, reference_forms) ∷ (DW_AT_SPECIFICATION, reference_forms) ∷
+    (DW_AT_RANGES, range_list_forms) ∷ (DW_AT_STMT_LIST, pointer_forms) ∷
+    (DW_AT_STR_OFFSETS_BASE, pointer_forms) ∷ (DW_AT_ADDR_BASE, pointer_forms) ∷
     (DW_AT_RNGLISTS_BASE, pointer_forms) ∷ []
 
 -- the forms of an attribute, if it is used
@@ -63,11 +92,15 @@ abbrev pub is_negative : Content → Bool
 is_negative (Signed (negsuc n)) = true
 is_negative content = false
 
--- whether the value of a used attribute is a count below 0; of those, counts alone may have the form sdata
+-- whether the value of a used attribute is a count below 0; of those, counts alone may have the
+-- form sdata
 abbrev pub is_negative_count : ℕ → Content → Bool
-is_negative_count name content = option_map_or (λ allowed. is_among allowed DW_FORM_SDATA) (forms_of name) false && is_negative content
+is_negative_count name content =
+    option_map_or (λ allowed. is_among allowed DW_FORM_SDATA) (forms_of name) false
+    && is_negative content
 
--- the number that a content is, where its bytes end at a place; of a text that stands there with its NUL, its place
+-- the number that a content is, where its bytes end at a place; of a text that stands there with
+-- its NUL, its place
 abbrev pub number_of : Content → ℕ → ℕ
 number_of (Number n) after = n
 number_of (Signed (pos n)) after = n

@@ -1,5 +1,9 @@
--- Debugging information entries (DWARF 5, 2.1 to 2.3, 7.5.2 and 7.5.3): a flat list of entries and nulls.
-use Rattle.std.specs.Prelude.{◌≡◌, ℕ, ◌-◌, ◌<◌, ◌≤◌, List, [], ◌∷◌, length, take, Bool, true, false, Option, Some, None, Result, Ok, Err, nat_lt, nat_le, ◌==◌, not, ◌&&◌, if◌then◌else◌, find, count_by, take_while, ok_or, option_map, slice_index_or}
+-- Debugging information entries (DWARF 5, 2.1 to 2.3, 7.5.2 and 7.5.3): a flat list of entries
+-- and nulls.
+use Rattle.std.specs.Prelude.{◌≡◌, ℕ, ◌-◌, ◌<◌, ◌≤◌, List, [], ◌∷◌, length, take, Bool, true, false}
+use Rattle.std.specs.Prelude.{Option, Some, None, Result, Ok, Err, nat_lt, nat_le, ◌==◌, not, ◌&&◌}
+use Rattle.std.specs.Prelude.{if◌then◌else◌, find, count_by, take_while, ok_or, option_map}
+use Rattle.std.specs.Prelude.{slice_index_or}
 use Rattle.std.specs.List.{list_any, filter_map}
 use Rattle.dwarf_bytes.specs.declared.constants.TheConstants.{DW_FORM_INDIRECT}
 use Rattle.dwarf_bytes.specs.declared.fault.Cause.{Cause}
@@ -22,8 +26,8 @@ use Rattle.dwarf_units.specs.declared.attributes.AttributeValue.{AttributeValue}
 use Rattle.dwarf_units.specs.declared.attributes.Attribute.{Attribute}
 use Rattle.dwarf_units.specs.Attributes.{accepts, is_negative_count, number_of}
 
--- An entry (its tag, whether it has children, its attributes) or a null entry. The children of an entry follow it,
--- up to a null entry.
+-- An entry (its tag, whether it has children, its attributes) or a null entry. The children of an
+-- entry follow it, up to a null entry.
 pub data Node : Type 0 where
   Entry : ℕ → Bool → List Attribute → Node
   Null : Node
@@ -55,7 +59,8 @@ depth_after before = count_by opens before - count_by closes before
 
 -- The whole-list form: each stands at the depth behind those before it.
 abbrev pub AreDepths : List Standing → Type 0
-AreDepths all = (i : ℕ) (d : Standing) → i < length all → (slice_index_or all i d).depth ≡ depth_after (take i all)
+AreDepths all = (i : ℕ) (d : Standing) → i < length all
+    → (slice_index_or all i d).depth ≡ depth_after (take i all)
 
 -- the entry at depth 0 is the root of its unit
 abbrev pub is_root : Standing → Bool
@@ -86,16 +91,24 @@ form_at form bytes at = if form == DW_FORM_INDIRECT then (do
   Ok inner) else Ok (form, at)
 
 -- the attribute at a place, as its declaration names it
-abbrev pub attribute_at : Format → AttributeSpecification → List ℕ → ℕ → Result (Attribute × ℕ) Cause
+abbrev pub attribute_at : Format → AttributeSpecification → List ℕ → ℕ
+    → Result (Attribute × ℕ) Cause
 attribute_at format s bytes at = do
   form ← form_at s.form bytes at
   _ ← refuse_if (not (accepts s.name form.0)) causes.AttrForm
   value ← reading_value (value_at form.0 format s.constant bytes form.1)
   _ ← refuse_if (is_negative_count s.name value.0.content) causes.AttrForm
-  Ok (record { name = s.name; value = record { form = form.0; number = number_of value.0.content value.1 } }, value.1)
+  Ok (
+    record {
+      name = s.name;
+      value = record { form = form.0; number = number_of value.0.content value.1 };
+    },
+    value.1,
+  )
 
 -- the attributes of a declaration, one after another from a place on, and the place after them
-unfoldable pub attributes_at : Format → List AttributeSpecification → List ℕ → ℕ → Result (List Attribute × ℕ) Cause
+unfoldable pub attributes_at : Format → List AttributeSpecification → List ℕ → ℕ
+    → Result (List Attribute × ℕ) Cause
 attributes_at format [] bytes at = Ok ([], at)
 attributes_at format (s ∷ ss) bytes at = do
   first ← attribute_at format s bytes at
@@ -106,8 +119,10 @@ attributes_at format (s ∷ ss) bytes at = do
 abbrev pub declaration_of : List Declaration → ℕ → Option Declaration
 declaration_of table code = find (λ declaration. declaration.code == code) table
 
--- what stands at a place of a unit, at a depth, and the place after it; rooted is whether the unit's root stands before it
-abbrev pub node_behind : Format → List Declaration → ℕ → Bool → List ℕ → ℕ → Result (Node × ℕ) Cause
+-- what stands at a place of a unit, at a depth, and the place after it; rooted is whether the
+-- unit's root stands before it
+abbrev pub node_behind : Format → List Declaration → ℕ → Bool → List ℕ → ℕ
+    → Result (Node × ℕ) Cause
 node_behind format table depth rooted unit at = do
   code ← reading (uleb_at unit at)
   if code.0 == 0 then Ok (Null, code.1) else do
@@ -118,13 +133,16 @@ node_behind format table depth rooted unit at = do
     Ok (Entry declaration.tag declaration.children attributes.0, attributes.1)
 
 -- the same, behind what stands before it; the bytes end with the unit
-abbrev pub node_at : Format → List Declaration → List ℕ → List Standing → ℕ → Result (Next Standing) Cause
+abbrev pub node_at : Format → List Declaration → List ℕ → List Standing → ℕ
+    → Result (Next Standing) Cause
 node_at format table unit before at = if nat_le (length unit) at then Ok (End at) else do
   node ← node_behind format table (depth_after before) (list_any is_root before) unit at
   Ok (Item (record { offset = at; depth = depth_after before; node = node.0 }) node.1)
 
--- the entry at a place of a unit, whatever stands before it: its tag and attributes, and the place after it
-unfoldable pub entry_at : Format → List Declaration → List ℕ → ℕ → Result ((ℕ × List Attribute) × ℕ) Cause
+-- the entry at a place of a unit, whatever stands before it: its tag and attributes, and the place
+-- after it
+unfoldable pub entry_at : Format → List Declaration → List ℕ → ℕ
+    → Result ((ℕ × List Attribute) × ℕ) Cause
 entry_at format table unit at = do
   code ← reading (uleb_at unit at)
   declaration ← ok_or (declaration_of table code.0) causes.AbbrevCode
@@ -139,7 +157,8 @@ pub record Die : Type 0 where
   pub attributes : List Attribute
 
 abbrev pub die_in : ℕ → ℕ → Node → Option Die
-die_in offset depth (Entry tag children attributes) = Some (record { offset = offset; depth = depth; tag = tag; attributes = attributes })
+die_in offset depth (Entry tag children attributes) =
+    Some (record { offset = offset; depth = depth; tag = tag; attributes = attributes })
 die_in offset depth Null = None
 
 abbrev pub die_of : Standing → Option Die
@@ -152,13 +171,15 @@ entries_of info header table = do
   _ ← told_at header.start (refuse_if (nat_lt 0 (depth_after all.0)) causes.TreeOpen)
   Ok (filter_map die_of all.0)
 
--- the entries below the first one of a list: those after it that are deeper, up to the first that is not
+-- the entries below the first one of a list: those after it that are deeper, up to the first that
+-- is not
 abbrev pub below : Die → List Die → List Die
 below die rest = take_while (λ d. nat_lt die.depth d.depth) rest
 
 -- Entry j is below entry i when i stands before j and every entry after i up to j is deeper than i.
 abbrev pub IsBelow : List Die → ℕ → ℕ → Type 0
-IsBelow all j i = (i < j) × (j < length all) × ((k : ℕ) (d : Die) → i < k → k ≤ j → (slice_index_or all i d).depth < (slice_index_or all k d).depth)
+IsBelow all j i = (i < j) × (j < length all) × ((k : ℕ) (d : Die) → i < k → k ≤ j
+    → (slice_index_or all i d).depth < (slice_index_or all k d).depth)
 
 -- the value of an attribute among these, if it is there
 abbrev pub value_of : List Attribute → ℕ → Option AttributeValue

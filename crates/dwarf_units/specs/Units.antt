@@ -1,6 +1,9 @@
 -- Unit headers (DWARF 5, 7.5.1) and the abbreviation tables of the units.
-use Rattle.std.specs.Prelude.{ℕ, ◌+◌, ◌-◌, List, [], length, take, Bool, true, false, Option, Some, None, Result, Ok, nat_lt, nat_le, ◌==◌, not, if◌then◌else◌, filter, sum_by, ok_or}
-use Rattle.dwarf_bytes.specs.declared.constants.TheConstants.{DW_UT_COMPILE, DW_UT_TYPE, DW_UT_PARTIAL}
+use Rattle.std.specs.Prelude.{ℕ, ◌+◌, ◌-◌, List, [], length, take, Bool, true, false, Option, Some}
+use Rattle.std.specs.Prelude.{None, Result, Ok, nat_lt, nat_le, ◌==◌, not, if◌then◌else◌, filter}
+use Rattle.std.specs.Prelude.{sum_by, ok_or}
+use Rattle.dwarf_bytes.specs.declared.constants.TheConstants.{DW_UT_COMPILE, DW_UT_TYPE}
+use Rattle.dwarf_bytes.specs.declared.constants.TheConstants.{DW_UT_PARTIAL}
 use Rattle.dwarf_bytes.specs.declared.fault.Cause.{Cause}
 use Rattle.dwarf_bytes.specs.declared.fault.Cause.TheVariants as causes
 use Rattle.dwarf_bytes.specs.declared.format.Format.{Format}
@@ -16,7 +19,9 @@ use Rattle.dwarf_units.specs.declared.unit_headers.UnitHeader.{UnitHeader}
 -- the types of units (7.5.1, table 7.2); other units are refused
 abbrev pub unit_type_of : ℕ → Option UnitType
 unit_type_of number =
-    if number == DW_UT_COMPILE then Some types.Compile else (if number == DW_UT_TYPE then Some types.Type else (if number == DW_UT_PARTIAL then Some types.Partial else None))
+    if number == DW_UT_COMPILE then Some types.Compile
+    else (if number == DW_UT_TYPE then Some types.Type
+    else (if number == DW_UT_PARTIAL then Some types.Partial else None))
 
 -- whether a unit is read
 abbrev pub is_read_type : UnitType → Bool
@@ -34,11 +39,25 @@ header_in start format unit at = do
   _ ← refuse_if (not (version.0 == 5)) causes.Version
   number ← reading (u8_at unit version.1)
   unit_type ← ok_or (unit_type_of number.0) causes.UnitType
-  if not (is_read_type unit_type) then Ok (record { start = start; format = format; unit_type = unit_type; abbreviations = 0; first = length unit; end = length unit }) else do
+  if not (is_read_type unit_type) then Ok (record {
+    start = start;
+    format = format;
+    unit_type = unit_type;
+    abbreviations = 0;
+    first = length unit;
+    end = length unit;
+  }) else do
     size ← reading (u8_at unit number.1)
     _ ← refuse_if (not (size.0 == 8)) causes.AddressSize
     abbreviations ← reading (offset_at format unit size.1)
-    Ok (record { start = start; format = format; unit_type = unit_type; abbreviations = abbreviations.0; first = abbreviations.1; end = length unit })
+    Ok (record {
+      start = start;
+      format = format;
+      unit_type = unit_type;
+      abbreviations = abbreviations.0;
+      first = abbreviations.1;
+      end = length unit;
+    })
 
 -- the header of the unit at a place of .debug_info
 unfoldable pub unit_at : List ℕ → ℕ → Result UnitHeader Cause
@@ -51,7 +70,8 @@ unit_at info at = do
 -- the units stand one after another up to the section's end
 abbrev pub header_at : List ℕ → List UnitHeader → ℕ → Result (Next UnitHeader) Cause
 header_at info before at =
-    if nat_le (length info) at then Ok (End at) else (unit_at info at >>= λ header. Ok (Item header header.end))
+    if nat_le (length info) at then Ok (End at)
+    else (unit_at info at >>= λ header. Ok (Item header header.end))
 
 -- the headers of all units
 unfoldable pub headers_of : List ℕ → Result (List UnitHeader) At
@@ -67,4 +87,6 @@ declarations_limit = 4194304
 
 -- the table of each unit, where the tables before it have taken their part of the limit
 unfoldable pub tables_of : List ℕ → List UnitHeader → Result (List (List Declaration)) At
-tables_of section headers = each (λ before header. declarations_of (declarations_limit - sum_by length before) section header.abbreviations) headers
+tables_of section headers = each
+    (λ before header. declarations_of (declarations_limit - sum_by length before) section
+    header.abbreviations) headers

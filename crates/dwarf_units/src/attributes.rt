@@ -4,16 +4,19 @@ ghost use Rattle.std.specs.Prelude.{◌≡◌};
 ghost use Rattle.dwarf_bytes.specs.Contents.{content_of};
 ghost use Rattle.dwarf_bytes.specs.Refusals.{ReadsField};
 ghost use Rattle.dwarf_bytes.specs.Forms.{form_of};
-ghost use Rattle.dwarf_units.specs.Attributes.{is_used, accepts, is_negative_count, number_of, is_among, string_forms, address_forms, count_forms, reference_forms};
+ghost use Rattle.dwarf_units.specs.Attributes.{is_used, accepts, is_negative_count, number_of};
+ghost use Rattle.dwarf_units.specs.Attributes.{is_among, string_forms, address_forms, count_forms};
+ghost use Rattle.dwarf_units.specs.Attributes.{reference_forms};
 ghost use Rattle.dwarf_forms.specs.Values.{value_of as form_value, value_at};
-ghost use Rattle.dwarf_units.specs.Entries.{is_direct, form_at, reading_value, attribute_at, value_of};
+ghost use Rattle.dwarf_units.specs.Entries.{is_direct, form_at, reading_value, attribute_at};
+ghost use Rattle.dwarf_units.specs.Entries.{value_of};
 
 use dwarf_bytes::constants::*;
 use dwarf_bytes::{Cause, Content, Cursor, Form, Format};
 use dwarf_forms::{AttributeSpecification, Value, ValueFault, value};
 
-/// The value of an attribute: its form behind DW_FORM_indirect, and its number. The number of a text
-/// that stands in the entry is its offset in the section.
+/// The value of an attribute: its form behind DW_FORM_indirect, and its number. The number of a
+/// text that stands in the entry is its offset in the section.
 #[derive(Clone, Copy)]
 pub struct AttributeValue {
     pub form: u64,

@@ -75,7 +75,8 @@ impl UnitTable<'_> {
     }
 
     /// Reads the entry at the cursor again, whatever stands before it: its used attributes into
-    /// `found`, in place of what is there. Tells its tag. A null is no entry: it has no declaration.
+    /// `found`, in place of what is there. Tells its tag. A null is no entry: it has no
+    /// declaration.
     #[tactic(auto, unfolding(crate::specs::Entries::entry_at))]
     pub fn read_entry(&self, cursor: &mut Cursor, found: &mut Vec<Attribute>) -> Result<u64, Cause>
         ensures { TellsAndFills result found.new.items (used_entry_at self.now)

@@ -6,7 +6,8 @@ ghost use Rattle.dwarf_bytes.specs.declared.format.Format.{Format};
 ghost use Rattle.dwarf_bytes.specs.Items.{items_from};
 ghost use Rattle.dwarf_forms.specs.Declarations.{Declaration};
 ghost use Rattle.dwarf_units.specs.declared.unit_headers.UnitHeader.{UnitHeader};
-ghost use Rattle.dwarf_units.specs.Entries.{Standing, Die, AreDepths, node_at, entry_at, entries_of};
+ghost use Rattle.dwarf_units.specs.Entries.{Standing, Die, AreDepths, node_at, entry_at};
+ghost use Rattle.dwarf_units.specs.Entries.{entries_of};
 
 /// Whatever is read of a unit stands at counted depths: behind the entries with children before it,
 /// less the nulls before it that stand at a depth above 0.

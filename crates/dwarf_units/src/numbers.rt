@@ -8,8 +8,8 @@ use dwarf_bytes::Format;
 use std::alloc::{AllocError, Global};
 use std::collections::BTreeMap;
 
-/// The numbers of tables by their offsets, for units of each format. A number may be that of another
-/// table in the meantime.
+/// The numbers of tables by their offsets, for units of each format. A number may be that of
+/// another table in the meantime.
 #[derive(Drop)]
 pub(crate) struct Numbers {
     dwarf32: BTreeMap<u64, usize>,

@@ -1,9 +1,12 @@
 //! Plans of reading the attributes of entries, which pass over runs of those that are not kept.
 
 ghost use Rattle.std.specs.Prelude.{◌≡◌, ◌≤◌, ◌-◌, ◌^◌, List, [], ◌∷◌, IfOk, OnOk, map, reverse};
-ghost use Rattle.dwarf_forms.specs.declared.attribute.AttributeSpecification.{AttributeSpecification as Specification};
+ghost use Rattle.dwarf_forms.specs.declared.attribute.AttributeSpecification.{
+  AttributeSpecification as Specification,
+};
 ghost use Rattle.dwarf_units.specs.declared.steps.AttributeStep.TheVariants.{Pass, Keep};
-ghost use Rattle.dwarf_units.specs.Private.Plans.{step_before, steps_of, step_at, steps_at, in_front, Fills, plan_of, plan_len, taken_at};
+ghost use Rattle.dwarf_units.specs.Private.Plans.{step_before, steps_of, step_at, steps_at};
+ghost use Rattle.dwarf_units.specs.Private.Plans.{in_front, Fills, plan_of, plan_len, taken_at};
 ghost use Rattle.dwarf_bytes.specs.Refusals.{ReadsField};
 
 use crate::attributes::{Attribute, AttributeValue, number_of, read_attribute};

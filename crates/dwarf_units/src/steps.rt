@@ -2,7 +2,8 @@
 
 ghost use Rattle.std.specs.Prelude.{◌≡◌};
 ghost use Rattle.dwarf_bytes.specs.Forms.{byte_len};
-ghost use Rattle.dwarf_units.specs.Private.Plans.{layout_len, constant_len, fixed_len, step_of, joined, is_plain, known_layout};
+ghost use Rattle.dwarf_units.specs.Private.Plans.{layout_len, constant_len, fixed_len, step_of};
+ghost use Rattle.dwarf_units.specs.Private.Plans.{joined, is_plain, known_layout};
 
 use crate::attributes::{accepts, is_negative_count, is_used};
 use dwarf_bytes::{Content, Form, Format, ValueLayout, Width};

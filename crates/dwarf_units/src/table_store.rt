@@ -1,9 +1,11 @@
 //! The tables that are kept, under their numbers.
 
-ghost use Rattle.std.specs.Prelude.{◌≡◌, ◌++◌, ◌∷◌, [], None, Some, take, length, slice_get, IfOk, IfNone, IfSome, OnErr};
+ghost use Rattle.std.specs.Prelude.{◌≡◌, ◌++◌, ◌∷◌, [], None, Some, take, length, slice_get, IfOk};
+ghost use Rattle.std.specs.Prelude.{IfNone, IfSome, OnErr};
 ghost use Rattle.dwarf_units.specs.Private.Links.{LinkedPlaces};
 ghost use Rattle.dwarf_units.specs.Private.SharedTables.{SharedTable, told_table};
-ghost use Rattle.dwarf_units.specs.Private.Tables.{AreStored, AreElsewhere, IsAt, IsNew, seen, with_table};
+ghost use Rattle.dwarf_units.specs.Private.Tables.{AreStored, AreElsewhere, IsAt, IsNew, seen};
+ghost use Rattle.dwarf_units.specs.Private.Tables.{with_table};
 ghost use Rattle.dwarf_units.specs.Private.Numbers.{number_at};
 ghost use Rattle.dwarf_bytes.specs.declared.format.Format.{Format};
 
@@ -52,14 +54,17 @@ impl TableStore {
         None
     }
 
-    /// Keeps a table, and gives its number. One for which there is no room is kept up to the next one.
+    /// Keeps a table, and gives its number. One for which there is no room is kept up to the next
+    /// one.
     pub(crate) fn keep(&mut self, table: KeptTable) -> Result<usize, AllocError>
         ensures stored { (lists : LinkedPlaces) → AreStored lists self.old
             → IsNew lists self.old table → AreStored lists self.new }
         ensures ok { IfOk result (λ number. (lists : LinkedPlaces) → AreStored lists self.old
             → IsNew lists self.old table
-            → (seen lists self.new ≡ with_table (seen lists self.old) (told_table lists.places.known table))
-            × (slice_get (seen lists self.new).tables number ≡ Some (told_table lists.places.known table))) }
+            → (seen lists self.new
+            ≡ with_table (seen lists self.old) (told_table lists.places.known table))
+            × (slice_get (seen lists self.new).tables number
+            ≡ Some (told_table lists.places.known table))) }
     {
         let size = table.size();
         self.numbers

@@ -1,6 +1,8 @@
 //! The abbreviation tables of all units (DWARF 5, 7.5.3), each read once.
 
-ghost use Rattle.std.specs.Prelude.{◌≡◌, ℕ, ◌⊎◌, ◌+◌, ◌<◌, ◌≤◌, ◌++◌, [], take, List, Some, Ok, Err, length, slice_get, IfOk, IfErr, OnOk, IfSome, IfNone, nat_lt};
+ghost use Rattle.std.specs.Prelude.{◌≡◌, ℕ, ◌⊎◌, ◌+◌, ◌<◌, ◌≤◌, ◌++◌, [], take, List, Some, Ok};
+ghost use Rattle.std.specs.Prelude.{Err, length, slice_get, IfOk, IfErr, OnOk, IfSome, IfNone};
+ghost use Rattle.std.specs.Prelude.{nat_lt};
 ghost use Rattle.std.specs.List.{All};
 ghost use Rattle.dwarf_bytes.specs.declared.fault.Section.TheVariants as sections;
 ghost use Rattle.dwarf_bytes.specs.Refusals.{memory_fault, in_section};
@@ -8,7 +10,8 @@ ghost use Rattle.dwarf_forms.specs.Declarations.{Declaration};
 ghost use Rattle.dwarf_forms.specs.Tables.{declarations_of};
 ghost use Rattle.dwarf_units.specs.Units.{declarations_limit, tables_of};
 ghost use Rattle.dwarf_units.specs.Private.Plans.{Table};
-ghost use Rattle.dwarf_units.specs.Private.Tables.{IsAdded, IsAt, AreElsewhere, IsWithinLimit, StaysOrIsTooLarge, with_table};
+ghost use Rattle.dwarf_units.specs.Private.Tables.{IsAdded, IsAt, AreElsewhere, IsWithinLimit};
+ghost use Rattle.dwarf_units.specs.Private.Tables.{StaysOrIsTooLarge, with_table};
 
 use crate::kept_table::KeptTable;
 use crate::linked_lists::LinkedLists;
@@ -41,9 +44,9 @@ impl<'a> Model for Tables<'a> {
 
 impl<'a> Tables<'a> {
     /// Reads the table of each unit, those of a place and a format once. A fault is told at its
-    /// declaration. What is kept is bounded: attributes behind the first ones of their list are kept
-    /// once for each place of the section, and the declarations, first attributes and steps of the
-    /// tables that stay are at most three times the bytes of the section, and 65,536.
+    /// declaration. What is kept is bounded: attributes behind the first ones of their list are
+    /// kept once for each place of the section, and the declarations, first attributes and steps of
+    /// the tables that stay are at most three times the bytes of the section, and 65,536.
     pub fn judge(
         alloc: Global,
         section: &'a [u8],
@@ -75,8 +78,8 @@ impl<'a> Tables<'a> {
         })
     }
 
-    /// Reads the table of a unit, unless it is known. Its declarations are taken from those that are
-    /// left in both cases.
+    /// Reads the table of a unit, unless it is known. Its declarations are taken from those that
+    /// are left in both cases.
     fn judge_unit(
         &mut self,
         alloc: Global,
@@ -129,8 +132,8 @@ impl<'a> Tables<'a> {
         Some(len)
     }
 
-    /// The number of the table of a unit, good up to the next call. A table that is not kept is read
-    /// again, in place of the last one that was not kept.
+    /// The number of the table of a unit, good up to the next call. A table that is not kept is
+    /// read again, in place of the last one that was not kept.
     pub fn number_of(&mut self, alloc: Global, unit: &UnitHeader) -> Result<usize, LoadFault>
         ensures ok { IfOk result (λ number. (table : Table)
             × (slice_get self.new.tables number ≡ Some table)
@@ -145,7 +148,8 @@ impl<'a> Tables<'a> {
             → IsAt unit.now.format unit.now.abbreviations table
             → (result ≡ Ok number) × (self.new ≡ self.old) }
         ensures added { AreElsewhere unit.now.format unit.now.abbreviations self.old.tables
-            → IfOk result (λ number. (table : Table) × (slice_get self.new.tables number ≡ Some table)
+            → IfOk result (λ number. (table : Table)
+            × (slice_get self.new.tables number ≡ Some table)
             × (self.new ≡ with_table self.old table)) }
         ensures limit { IsWithinLimit self.new }
     {

@@ -10,7 +10,8 @@ use crate::kept_table::KeptTable;
 use crate::linked_lists::LinkedLists;
 use std::marker::Model;
 
-/// A table of `.debug_abbrev`, where it stands, and how attributes are read by it in units of a format.
+/// A table of `.debug_abbrev`, where it stands, and how attributes are read by it in units of a
+/// format.
 #[derive(Drop)]
 pub struct UnitTable<'a> {
     table: &'a KeptTable,
@@ -38,7 +39,8 @@ impl<'a> UnitTable<'a> {
 
     /// The declaration of a code, and how its attributes are read.
     pub(crate) fn find(&self, code: u64) -> Option<EntryHead<'a>>
-        ensures { result ≡ option_map (head_in self.now) (declaration_of self.now.declarations code) }
+        ensures { result
+            ≡ option_map (head_in self.now) (declaration_of self.now.declarations code) }
     {
         let (declaration, plan) = self.table.find(code)?;
         Some(EntryHead::new(self.table.format(), declaration, plan, self.lists))

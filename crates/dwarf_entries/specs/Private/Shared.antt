@@ -1,6 +1,7 @@
 -- What scopes share, for the contracts of the pass over scopes.
 use Rattle.std.specs.Prelude.{◌≡◌, ℕ, ◌-◌, ◌≤◌, ◌<◌, List, [], ◌∷◌, ◌++◌, length}
 use Rattle.std.specs.Prelude.{Result, Ok, Err, ◌==◌, if◌then◌else◌, slice_get}
+use Rattle.std.specs.Prelude.{◌^◌, Option, IfSome}
 use Rattle.std.specs.Option.{option_map_or}
 use Rattle.dwarf_bytes.specs.declared.fault.Cause.{Cause}
 use Rattle.dwarf_bytes.specs.Refusals.{Fails}
@@ -48,6 +49,10 @@ AddsFacts roots (Ok told) old new outcome =
     × (new ≡ old ++ found)
 AddsFacts roots (Err cause) old new outcome = Fails cause outcome
 
+-- A number of a call has no more than 32 bits, if there is one.
+abbrev pub IsNarrow : Option ℕ → Type 0
+IsNarrow number = IfSome number (λ n. n < 2 ^ 32)
+
 -- A call that stands in a list of so many has a place in it.
 abbrev pub IsHeldIn : ℕ → Calls → ℕ → Type 0
 IsHeldIn many calls.Missing place = Unit {0}
@@ -71,11 +76,12 @@ ranges_start first scopes number =
     else option_map_or (λ s. s.ranges_end) (slice_get scopes (number - 1)) 0
 
 -- A scope that ends the ranges at a place tells the facts, by the roots, by its ranges and by the
--- wide calls, to which its own may have been added.
+-- wide calls, to which its own is added where it is wide.
 pub record Packs (facts : ScopeFacts) (ranges_end : ℕ) (old new : List CallSite) (s : Kept)
     : Type 0 where
   pub more : List CallSite
   pub added : new ≡ old ++ more
+  pub few : IsNarrow facts.site.file → IsNarrow facts.site.line → new ≡ old
   pub held : IsHeldIn (length new) s.calls s.call_file
   pub ends : s.ranges_end ≡ ranges_end
   pub tells :

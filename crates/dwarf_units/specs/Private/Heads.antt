@@ -1,5 +1,6 @@
 -- What stands at a place of a unit, without its attributes, or with those that are used.
-use Rattle.std.specs.Prelude.{◌≡◌, ℕ, List, Bool, true, Option, Some, None, Result, Ok, Err, nat_lt, ◌==◌, ◌&&◌, if◌then◌else◌, ok_or}
+use Rattle.std.specs.Prelude.{◌≡◌, ℕ, List, Bool, true, Option, Some, None, Result, Ok, Err, nat_lt}
+use Rattle.std.specs.Prelude.{◌==◌, ◌&&◌, if◌then◌else◌, ok_or}
 use Rattle.dwarf_bytes.specs.declared.fault.Cause.{Cause}
 use Rattle.dwarf_bytes.specs.declared.fault.Cause.TheVariants as causes
 use Rattle.dwarf_bytes.specs.declared.format.Format.{Format}
@@ -33,10 +34,13 @@ head_at table depth rooted unit at = do
 
 -- the tag of the entry at a place and its attributes that are used, and the place after it
 abbrev pub used_entry_at : Table → List ℕ → ℕ → Result ((ℕ × List Attribute) × ℕ) Cause
-used_entry_at table unit at = entry_at table.format table.declarations unit at >>= λ entry. Ok ((entry.0.0, kept_attributes true entry.0.1), entry.1)
+used_entry_at table unit at = entry_at table.format table.declarations unit at
+    >>= λ entry. Ok ((entry.0.0, kept_attributes true entry.0.1), entry.1)
 
--- What was read is told in part, and in part stands in its place; the cursor stands after it, unless
--- memory ran out.
-abbrev pub TellsAndFills : {X Y : Type 0} → Result X Cause → Y → (List ℕ → ℕ → Result ((X × Y) × ℕ) Cause) → Position → Position → Type 0
-TellsAndFills (Ok x) left read old new = (read old.bytes old.place ≡ Ok ((x, left), new.place)) × (new.bytes ≡ old.bytes)
+-- What was read is told in part, and in part stands in its place; the cursor stands after it,
+-- unless memory ran out.
+abbrev pub TellsAndFills : {X Y : Type 0} → Result X Cause → Y
+    → (List ℕ → ℕ → Result ((X × Y) × ℕ) Cause) → Position → Position → Type 0
+TellsAndFills (Ok x) left read old new =
+    (read old.bytes old.place ≡ Ok ((x, left), new.place)) × (new.bytes ≡ old.bytes)
 TellsAndFills (Err cause) left read old new = Fails cause (read old.bytes old.place)

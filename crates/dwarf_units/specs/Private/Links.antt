@@ -1,5 +1,6 @@
 -- The attributes that are known of a section, and the steps by which they are read.
-use Rattle.std.specs.Prelude.{◌≡◌, ℕ, ◌<◌, ◌≤◌, List, ◌∷◌, length, Bool, true, false, Option, Some, IfSome, slice_get}
+use Rattle.std.specs.Prelude.{◌≡◌, ℕ, ◌<◌, ◌≤◌, List, ◌∷◌, length, Bool, true, false, Option, Some}
+use Rattle.std.specs.Prelude.{IfSome, slice_get}
 use Rattle.dwarf_bytes.specs.declared.format.Format.{Format}
 use Rattle.dwarf_bytes.specs.declared.format.Format.TheVariants.{Dwarf32, Dwarf64}
 use Rattle.dwarf_forms.specs.declared.known_lists.KnownAttribute.{KnownAttribute}
@@ -8,9 +9,12 @@ use Rattle.dwarf_units.specs.declared.tails.LinkedStep.{LinkedStep}
 use Rattle.dwarf_units.specs.declared.tails.Links.{Links}
 use Rattle.dwarf_units.specs.Private.Plans.{steps_of}
 
--- The steps of a known attribute and those behind it: the step of the link, and those of the attributes behind it.
-pub record IsLink (keep : Bool) (format : Format) (known : List KnownAttribute) (number : ℕ) (link : LinkedStep) : Type 0 where
-  pub steps : steps_of keep format (attributes_from known number) ≡ link.step ∷ steps_of keep format (rest_attributes known link.next)
+-- The steps of a known attribute and those behind it: the step of the link, and those of the
+-- attributes behind it.
+pub record IsLink (keep : Bool) (format : Format) (known : List KnownAttribute) (number : ℕ)
+    (link : LinkedStep) : Type 0 where
+  pub steps : steps_of keep format (attributes_from known number)
+      ≡ link.step ∷ steps_of keep format (rest_attributes known link.next)
   pub before : IfSome link.next (λ next. next < number)
 
 -- the link by whether the used attributes are kept
@@ -19,11 +23,14 @@ link_by true links = links.kept
 link_by false links = links.passed
 
 -- the links of the known attributes, or of the first ones of them, for units of a format
-pub record AreLinked (format : Format) (known : List KnownAttribute) (links : List Links) : Type 0 where
+pub record AreLinked (format : Format) (known : List KnownAttribute) (links : List Links)
+    : Type 0 where
   pub within : length links ≤ length known
-  pub each : (number : ℕ) (l : Links) → slice_get links number ≡ Some l → (keep : Bool) → IsLink keep format known number (link_by keep l)
+  pub each : (number : ℕ) (l : Links) → slice_get links number ≡ Some l → (keep : Bool)
+      → IsLink keep format known number (link_by keep l)
 
--- the attributes that are known of a section, and how many of them have links for units of each format
+-- the attributes that are known of a section, and how many of them have links for units of each
+-- format
 pub record LinkedPlaces : Type 0 where
   pub places : KnownPlaces
   pub dwarf32 : ℕ

@@ -1,10 +1,15 @@
--- How the attributes of a declaration are read where only some are kept: runs of values of a known length are passed over.
-use Rattle.std.specs.Prelude.{◌≡◌, ℕ, ◌+◌, List, [], ◌∷◌, ◌++◌, length, take, Bool, true, false, Option, Some, None, Result, Ok, Err, nat_le, ◌&&◌, ◌||◌, not, if◌then◌else◌, filter, sum_by}
+-- How the attributes of a declaration are read where only some are kept: runs of values of a known
+-- length are passed over.
+use Rattle.std.specs.Prelude.{◌≡◌, ℕ, ◌+◌, List, [], ◌∷◌, ◌++◌, length, take, Bool, true, false}
+use Rattle.std.specs.Prelude.{Option, Some, None, Result, Ok, Err, nat_le, ◌&&◌, ◌||◌, not}
+use Rattle.std.specs.Prelude.{if◌then◌else◌, filter, sum_by}
 use Rattle.std.specs.Option.{option_map_or}
 use Rattle.dwarf_bytes.specs.declared.fault.Cause.{Cause}
 use Rattle.dwarf_bytes.specs.declared.format.Format.{Format}
 use Rattle.dwarf_bytes.specs.declared.form.ValueLayout.{ValueLayout}
-use Rattle.dwarf_bytes.specs.declared.form.ValueLayout.TheVariants.{Fixed, Offset, Present, Signed, Unsigned, Text, Sixteen, Block, LongBlock}
+use Rattle.dwarf_bytes.specs.declared.form.ValueLayout.TheVariants.{Fixed, Offset, Present, Signed}
+use Rattle.dwarf_bytes.specs.declared.form.ValueLayout.TheVariants.{Unsigned, Text, Sixteen, Block}
+use Rattle.dwarf_bytes.specs.declared.form.ValueLayout.TheVariants.{LongBlock}
 use Rattle.dwarf_bytes.specs.declared.form.Form.TheVariants.{Direct, ImplicitConst, Indirect}
 use Rattle.dwarf_bytes.specs.Bind.{◌>>=◌}
 use Rattle.dwarf_bytes.specs.Contents.{Signed as SignedContent, content_at}
@@ -26,9 +31,12 @@ use Rattle.dwarf_units.specs.Entries.{attribute_at, attributes_at}
 abbrev pub kept_attributes : Bool → List Attribute → List Attribute
 kept_attributes keep attributes = if keep then filter (λ a. is_used a.name) attributes else []
 
--- the attributes of a declaration from a place on, of which these are kept, and the place after them all
-abbrev pub kept_attributes_at : Bool → Format → List AttributeSpecification → List ℕ → ℕ → Result (List Attribute × ℕ) Cause
-kept_attributes_at keep format declared bytes at = attributes_at format declared bytes at >>= λ all. Ok (kept_attributes keep all.0, all.1)
+-- the attributes of a declaration from a place on, of which these are kept, and the place after
+-- them all
+abbrev pub kept_attributes_at : Bool → Format → List AttributeSpecification → List ℕ → ℕ
+    → Result (List Attribute × ℕ) Cause
+kept_attributes_at keep format declared bytes at = attributes_at format declared bytes at
+    >>= λ all. Ok (kept_attributes keep all.0, all.1)
 
 -- the bytes of a value in a layout, where all values have as many and any bytes are a value
 abbrev pub layout_len : Format → ValueLayout → Option ℕ
@@ -70,7 +78,8 @@ is_plain Sixteen = false
 is_plain (Block width) = false
 is_plain LongBlock = false
 
--- the layout of the values of an attribute, where none of them is refused, as none is of one that is not used
+-- the layout of the values of an attribute, where none of them is refused, as none is of one that
+-- is not used
 abbrev pub known_layout : AttributeSpecification → Option ValueLayout
 known_layout s = if accepts s.name s.form then (elim (form_of s.form) [
   | None ↦ None
@@ -101,7 +110,8 @@ joined (Keep s layout) next = None
 -- a step in front of others
 abbrev pub step_before : AttributeStep → List AttributeStep → List AttributeStep
 step_before step [] = step ∷ []
-step_before step (next ∷ rest) = option_map_or (λ both. both ∷ rest) (joined step next) (step ∷ next ∷ rest)
+step_before step (next ∷ rest) =
+    option_map_or (λ both. both ∷ rest) (joined step next) (step ∷ next ∷ rest)
 
 -- the steps of a declaration
 unfoldable pub steps_of : Bool → Format → List AttributeSpecification → List AttributeStep
@@ -109,15 +119,25 @@ steps_of keep format [] = []
 steps_of keep format (s ∷ ss) = step_before (step_of keep format s) (steps_of keep format ss)
 
 -- the attribute whose value stands at a place in a layout
-abbrev pub taken_at : Format → AttributeSpecification → ValueLayout → List ℕ → ℕ → Result (Attribute × ℕ) Cause
-taken_at format s layout bytes at = reading (content_at layout format bytes at) >>= λ c. Ok (record { name = s.name; value = record { form = s.form; number = number_of c.0 c.1 } }, c.1)
+abbrev pub taken_at : Format → AttributeSpecification → ValueLayout → List ℕ → ℕ
+    → Result (Attribute × ℕ) Cause
+taken_at format s layout bytes at = reading (content_at layout format bytes at)
+    >>= λ c. Ok (
+      record {
+        name = s.name;
+        value = record { form = s.form; number = number_of c.0 c.1 };
+      },
+      c.1,
+    )
 
 -- what a step keeps, and the place after it
 abbrev pub step_at : Format → AttributeStep → List ℕ → ℕ → Result (List Attribute × ℕ) Cause
 step_at format (Skip n) bytes at = reading (block_at n bytes at) >>= λ block. Ok ([], block.1)
-step_at format (Pass s (Some layout)) bytes at = reading (content_at layout format bytes at) >>= λ c. Ok ([], c.1)
+step_at format (Pass s (Some layout)) bytes at =
+    reading (content_at layout format bytes at) >>= λ c. Ok ([], c.1)
 step_at format (Pass s None) bytes at = attribute_at format s bytes at >>= λ a. Ok ([], a.1)
-step_at format (Keep s (Some layout)) bytes at = taken_at format s layout bytes at >>= λ a. Ok (a.0 ∷ [], a.1)
+step_at format (Keep s (Some layout)) bytes at =
+    taken_at format s layout bytes at >>= λ a. Ok (a.0 ∷ [], a.1)
 step_at format (Keep s None) bytes at = attribute_at format s bytes at >>= λ a. Ok (a.0 ∷ [], a.1)
 
 -- what is kept already, and what a read keeps behind it
@@ -126,13 +146,18 @@ in_front front (Ok rest) = Ok (front ++ rest.0, rest.1)
 in_front front (Err cause) = Err cause
 
 -- what steps keep, one after another, and the place after them
-unfoldable pub steps_at : Format → List AttributeStep → List ℕ → ℕ → Result (List Attribute × ℕ) Cause
+unfoldable pub steps_at : Format → List AttributeStep → List ℕ → ℕ
+    → Result (List Attribute × ℕ) Cause
 steps_at format [] bytes at = Ok ([], at)
-steps_at format (step ∷ steps) bytes at = step_at format step bytes at >>= λ first. in_front first.0 (steps_at format steps bytes first.1)
+steps_at format (step ∷ steps) bytes at = step_at format step bytes at
+    >>= λ first. in_front first.0 (steps_at format steps bytes first.1)
 
--- What a step left in its place is what is read, and the cursor stands after it, unless memory ran out.
-abbrev pub Fills : {Y : Type 0} → Result (Unit {0}) Cause → Y → (List ℕ → ℕ → Result (Y × ℕ) Cause) → Position → Position → Type 0
-Fills (Ok u) left read old new = (read old.bytes old.place ≡ Ok (left, new.place)) × (new.bytes ≡ old.bytes)
+-- What a step left in its place is what is read, and the cursor stands after it, unless memory ran
+-- out.
+abbrev pub Fills : {Y : Type 0} → Result (Unit {0}) Cause → Y
+    → (List ℕ → ℕ → Result (Y × ℕ) Cause) → Position → Position → Type 0
+Fills (Ok u) left read old new =
+    (read old.bytes old.place ≡ Ok (left, new.place)) × (new.bytes ≡ old.bytes)
 Fills (Err cause) left read old new = Fails cause (read old.bytes old.place)
 
 -- the steps of some attributes, where they are kept and where they are not
@@ -141,7 +166,10 @@ pub record Planned : Type 0 where
   pub passed : List AttributeStep
 
 abbrev pub plan_of : Format → List AttributeSpecification → Planned
-plan_of format declared = record { kept = steps_of true format declared; passed = steps_of false format declared }
+plan_of format declared = record {
+  kept = steps_of true format declared;
+  passed = steps_of false format declared;
+}
 
 -- how many steps a plan has
 abbrev pub plan_len : Planned → ℕ
@@ -159,5 +187,6 @@ own_attributes d = take UNSHARED d.attributes
 
 -- the declarations of a table, their own attributes, and the steps of the plans of these
 abbrev pub table_size : Table → ℕ
-table_size table = length table.declarations + sum_by (λ d. length (own_attributes d)) table.declarations
+table_size table = length table.declarations
+    + sum_by (λ d. length (own_attributes d)) table.declarations
     + sum_by (λ d. plan_len (plan_of table.format (own_attributes d))) table.declarations

@@ -15,7 +15,11 @@ pub record SharedTable : Type 0 where
 
 -- the same with all attributes
 abbrev pub told_table : List KnownAttribute → SharedTable → Table
-told_table known table = record { offset = table.offset; format = table.format; declarations = tell known table.declarations }
+told_table known table = record {
+  offset = table.offset;
+  format = table.format;
+  declarations = tell known table.declarations;
+}
 
 abbrev pub told_tables : List KnownAttribute → List SharedTable → List Table
 told_tables known tables = map (told_table known) tables

@@ -1,5 +1,6 @@
 -- The tables of units that are kept, for the contracts of what reads by them.
-use Rattle.std.specs.Prelude.{◌≡◌, ℕ, ◌⊎◌, ◌+◌, ◌*◌, ◌<◌, ◌≤◌, List, [], ◌∷◌, ◌++◌, length, take, Some, Ok, nat_le, if◌then◌else◌, slice_get, sum_by}
+use Rattle.std.specs.Prelude.{◌≡◌, ℕ, ◌⊎◌, ◌+◌, ◌*◌, ◌<◌, ◌≤◌, List, [], ◌∷◌, ◌++◌, length, take}
+use Rattle.std.specs.Prelude.{Some, Ok, nat_le, if◌then◌else◌, slice_get, sum_by}
 use Rattle.std.specs.List.{All}
 use Rattle.dwarf_bytes.specs.declared.format.Format.{Format}
 use Rattle.dwarf_bytes.specs.declared.fault.Section.TheVariants as sections
@@ -14,7 +15,8 @@ use Rattle.dwarf_units.specs.Private.Plans.{Table, table_size}
 use Rattle.dwarf_units.specs.Private.Links.{LinkedPlaces}
 use Rattle.dwarf_units.specs.Private.SharedTables.{IsReadable, SharedTable, told_table, told_tables}
 
--- tables of a section, by their numbers, and how many of them stay: one behind these is the last that was read
+-- tables of a section, by their numbers, and how many of them stay: one behind these is the last
+-- that was read
 pub record KeptTables : Type 0 where
   pub section : List ℕ
   pub tables : List Table
@@ -31,7 +33,8 @@ IsAt format offset table = (table.offset ≡ offset) × (table.format ≡ format
 
 -- None of the tables is.
 abbrev pub AreElsewhere : Format → ℕ → List Table → Type 0
-AreElsewhere format offset tables = (i : ℕ) (table : Table) → slice_get tables i ≡ Some table → IsAt format offset table → ⊥
+AreElsewhere format offset tables = (i : ℕ) (table : Table) → slice_get tables i ≡ Some table
+    → IsAt format offset table → ⊥
 
 -- the most that stays of all tables of a section: declarations, attributes and steps
 abbrev pub size_limit : List ℕ → ℕ
@@ -39,24 +42,34 @@ size_limit section = 3 * length section + 65536
 
 -- What stays is within the limit, and at most one table does not stay.
 abbrev pub IsWithinLimit : KeptTables → Type 0
-IsWithinLimit k = (sum_by table_size (take k.kept k.tables) ≤ size_limit k.section) × (length k.tables ≤ k.kept + 1)
+IsWithinLimit k = (sum_by table_size (take k.kept k.tables) ≤ size_limit k.section)
+    × (length k.tables ≤ k.kept + 1)
 
 -- The table of a unit stays, or would not be within the limit beside those that stay.
 abbrev pub StaysOrIsTooLarge : KeptTables → UnitHeader → Type 0
-StaysOrIsTooLarge k unit = (table : Table) × IsAt unit.format unit.abbreviations table × StandsIn k.section table
-    × (((number : ℕ) × (slice_get (take k.kept k.tables) number ≡ Some table)) ⊎ (size_limit k.section < sum_by table_size (take k.kept k.tables) + table_size table))
+StaysOrIsTooLarge k unit = (table : Table) × IsAt unit.format unit.abbreviations table
+    × StandsIn k.section table
+    × (((number : ℕ) × (slice_get (take k.kept k.tables) number ≡ Some table))
+    ⊎ (size_limit k.section < sum_by table_size (take k.kept k.tables) + table_size table))
 
 -- One more table, behind those that stay. It stays too if all of them are within the limit.
 abbrev pub with_table : KeptTables → Table → KeptTables
 with_table k table =
     let tables = take k.kept k.tables ++ table ∷ [] in
-    record { section = k.section; tables = tables; kept = if nat_le (sum_by table_size tables) (size_limit k.section) then length tables else k.kept }
+    record {
+      section = k.section;
+      tables = tables;
+      kept = if nat_le (sum_by table_size tables) (size_limit k.section)
+          then length tables else k.kept;
+    }
 
--- Each table stands in the section and is found by its format and offset. There is room for so much more, and for the
--- one behind those that stay there was none.
-pub record AreKept (section : List ℕ) (tables : List Table) (kept room : ℕ) (numbers : Numbers) : Type 0 where
+-- Each table stands in the section and is found by its format and offset. There is room for so much
+-- more, and for the one behind those that stay there was none.
+pub record AreKept (section : List ℕ) (tables : List Table) (kept room : ℕ) (numbers : Numbers)
+    : Type 0 where
   pub stand : All (StandsIn section) tables
-  pub found : (i : ℕ) (table : Table) → slice_get tables i ≡ Some table → number_at numbers table.format table.offset ≡ Some i
+  pub found : (i : ℕ) (table : Table) → slice_get tables i ≡ Some table
+      → number_at numbers table.format table.offset ≡ Some i
   pub counted : room + sum_by table_size (take kept tables) ≡ size_limit section
   pub within : kept ≤ length tables
   pub one : length tables ≤ kept + 1
@@ -66,24 +79,32 @@ pub record AreKept (section : List ℕ) (tables : List Table) (kept room : ℕ) 
 
 -- what is kept, as it is told by what is known
 abbrev pub seen : LinkedPlaces → TableStore → KeptTables
-seen lists store = record { section = lists.places.section; tables = told_tables lists.places.known store.tables.items; kept = store.kept }
+seen lists store = record {
+  section = lists.places.section;
+  tables = told_tables lists.places.known store.tables.items;
+  kept = store.kept;
+}
 
 pub record AreStored (lists : LinkedPlaces) (store : TableStore) : Type 0 where
-  pub kept : AreKept lists.places.section (told_tables lists.places.known store.tables.items) store.kept store.room store.numbers
+  pub kept : AreKept lists.places.section (told_tables lists.places.known store.tables.items)
+      store.kept store.room store.numbers
   pub readable : All (IsReadable lists) store.tables.items
 
 -- A table may be kept: it stands in the section, and is none of those that are kept.
 pub record IsNew (lists : LinkedPlaces) (store : TableStore) (table : SharedTable) : Type 0 where
   pub readable : IsReadable lists table
   pub stands : StandsIn lists.places.section (told_table lists.places.known table)
-  pub fresh : AreElsewhere table.format table.offset (told_tables lists.places.known store.tables.items)
+  pub fresh : AreElsewhere table.format table.offset
+      (told_tables lists.places.known store.tables.items)
 
--- The table that is read at an offset for units of a format, with room for so many declarations, is one more by this
--- number, and there is room for so many more.
-pub record IsAdded (format : Format) (offset room left : ℕ) (old new : KeptTables) (number : ℕ) : Type 0 where
+-- The table that is read at an offset for units of a format, with room for so many declarations, is
+-- one more by this number, and there is room for so many more.
+pub record IsAdded (format : Format) (offset room left : ℕ) (old new : KeptTables) (number : ℕ)
+    : Type 0 where
   pub table : Table
   pub at : IsAt format offset table
-  pub read : in_section sections.DebugAbbrev (declarations_of room old.section offset) ≡ Ok table.declarations
+  pub read : in_section sections.DebugAbbrev (declarations_of room old.section offset)
+      ≡ Ok table.declarations
   pub counted : left + length table.declarations ≡ room
   pub found : slice_get new.tables number ≡ Some table
   pub added : new ≡ with_table old table

@@ -1,4 +1,4 @@
-use Rattle.std.proofs.Common.{inl, inr, subst}
+use Rattle.std.proofs.Common.{inl, subst}
 use Rattle.std.specs.Prelude.{Option}
 use Rattle.std.proofs.lemmas.Result.{err_from_is_err_and}
 use Rattle.dwarf_entries.specs.declared.paths.UnitPlace.{UnitPlace}
@@ -10,7 +10,7 @@ use Rattle.dwarf_entries.proofs.unit_scopes.Units.names_behind.Goals as goal
 
 pub returns-in-Some-clause-names : goal.returns-in-Some-clause-names
 returns-in-Some-clause-names c us are marked same read reader knew u is =
-    led-known (sections_of c.args.self.sections.now) us u c.args.reference c.in_ok-place.place c.in-Some.names c.args.known.now knew c.in-Some.ensures
+    led-known (sections_of c.args.self.sections.now) us u c.args.reference c.in_ok-place.place c.in-Some.names c.args.known.now knew c.in-Some.ensures.some
     (subst (λ (found : Option UnitPlace). Finds us found (target_of us u c.args.reference)) c.in_ok-place.ensures.ok_part (c.target.ensures us are marked u is))
 
 pub returns-in_err-next-clause-names : goal.returns-in_err-next-clause-names

@@ -2,7 +2,7 @@ use Rattle.std.proofs.Common.{◌≡◌, ℕ, ◌%◌, ◌/◌, ◌<◌, ◌++�
 use Rattle.dwarf_forms.specs.declared.name_sets.Branch.{Branch}
 use Rattle.dwarf_forms.specs.Private.NameSets.{side}
 use Rattle.dwarf_forms.proofs.Elements.{if_ok}
-use Rattle.dwarf_forms.proofs.SetLaws.{HasMore, more-bits, more-ends}
+use Rattle.dwarf_forms.proofs.SetLaws.{HasMore, few-behind, few-bits, more-bits, more-ends, put-few}
 use Rattle.dwarf_forms.proofs.name_sets.NameSets.+with.Goals as goal
 
 pub returns-then-name-eq0-clause-names : goal.returns-then-name-eq0-clause-names
@@ -28,3 +28,14 @@ returns-clause-names t c =
     (λ more made.
     more-bits old mid new c.args.set behind more c.args.name b turned c.branch-branch.ensures.value c.branch-branch.ensures.within some made.0 made.1 c.in_ok-behind.ensures.within c.with_side.ensures.ends c.with_side.ensures.behind c.with_side.ensures.others c.in_ok-behind.ensures.stay
     c.put-2.ensures.stay rest)
+
+pub returns-in_err-behind-clause-few : goal.returns-in_err-behind-clause-few
+returns-in_err-behind-clause-few t c =
+    let some : 0 < c.args.name = omega (arith, c.if-name-eq0.false) in
+    few-behind c.args.self.now c.with.new.self c.args.name some c.with.ensures.few
+
+pub returns-clause-few : goal.returns-clause-few
+returns-clause-few t c =
+    let some : 0 < c.args.name = omega (arith, c.if-name-eq0.false) in
+    let one = put-few c.with.new.self c.put-2.new.self c.with_side.result c.put-2.result c.put-2.ensures.ok c.put-2.ensures.err in
+    few-bits c.args.self.now c.with.new.self c.put-2.new.self c.args.name some c.with.ensures.few one
