@@ -17,6 +17,7 @@ pub mod ChainWalks
 pub mod EndLaws
 pub mod RangeEnds
 pub mod SweepLaws
+pub mod EndListLaws
 pub mod EndTurns
 pub mod RoomLaws
 pub mod BuildLaws

@@ -4,6 +4,7 @@
 mod active;
 mod bits;
 mod decode;
+mod end_list;
 mod ends;
 mod frames;
 mod joins;

@@ -1,6 +1,6 @@
 //! How many ranges and ends there are, so that lists of them are made with room for all.
 
-ghost use Rattle.std.specs.Prelude.{◌≡◌, ◌+◌, ◌-◌, ◌^◌, ◌≤◌, List, length, min, sum_by};
+ghost use Rattle.std.specs.Prelude.{◌≡◌, ◌+◌, ◌-◌, ◌^◌, ◌<◌, ◌≤◌, List, length, min, sum_by};
 ghost use Rattle.std.specs.Prelude.{take, drop, not, ◌&&◌, nat_lt};
 ghost use Rattle.std.specs.List.Sorted.{IsNonDecreasingBy};
 ghost use Rattle.dwarf_lines.specs.declared.row.Row.{Row as RowSeen};
@@ -11,7 +11,7 @@ ghost use Rattle.addr_table.specs.Cuts.{ends_of, ranges_of};
 ghost use Rattle.addr_table.specs.Private.Sweep.{reaches_of, row_reaches, nonempty};
 ghost use Rattle.addr_table.specs.Private.Sweep.{AreEnds, UpTo, Above};
 
-use crate::ends::End;
+use crate::end_list::EndList;
 use crate::scopes::{count, scope_at};
 use crate::sweep::next_end;
 use dwarf_entries::Scopes;
@@ -60,7 +60,7 @@ pub(crate) fn room_for_ranges(rows: &[Row], scopes: &Scopes) -> usize
 }
 
 /// How many ends are at an address or before it, where so many are.
-fn reached(ends: &[End], passed: usize, end: u64) -> usize
+fn reached(ends: &EndList, passed: usize, end: u64) -> usize
     requires rise { IsNonDecreasingBy (λ (e : Ended). e.at) ends.now }
     requires upto { UpTo end (take passed ends.now) }
     requires within { passed ≤ length ends.now }
@@ -70,16 +70,17 @@ fn reached(ends: &[End], passed: usize, end: u64) -> usize
     ensures within { result ≤ length ends.now }
 {
     let mut passed = passed;
-    while passed < ends.len() && ends[passed].at <= end {
+    while passed < ends.len() && ends.get(passed).at <= end {
         passed += 1;
     }
     passed
 }
 
 /// How many addresses there are at which ranges begin or end.
-pub(crate) fn count_ends(opens: &[End], closes: &[End]) -> usize
+pub(crate) fn count_ends(opens: &EndList, closes: &EndList) -> usize
     requires opens { IsNonDecreasingBy (λ (e : Ended). e.at) opens.now }
     requires closes { IsNonDecreasingBy (λ (e : Ended). e.at) closes.now }
+    requires few { length opens.now + length closes.now < 2 ^ 32 }
     ensures { (rows : List RowSeen) (scopes : List ScopeSeen)
         → AreEnds (reaches_of rows scopes) opens.now closes.now
         → result ≡ length (ends_of (ranges_of rows scopes)) }

@@ -4,8 +4,8 @@ ghost use Rattle.std.specs.Prelude.{◌≡◌, ◌≤◌, ◌-◌, ◌^◌, List
 ghost use Rattle.dwarf_forms.specs.declared.attribute.AttributeSpecification.{
   AttributeSpecification as Specification,
 };
-ghost use Rattle.dwarf_units.specs.declared.steps.AttributeStep.TheVariants.{Pass, Keep};
-ghost use Rattle.dwarf_units.specs.Private.Plans.{step_before, steps_of, step_at, steps_at};
+ghost use Rattle.dwarf_units.specs.declared.steps.AttributeStep.TheVariants.{Pass};
+ghost use Rattle.dwarf_units.specs.Private.Plans.{step_before, steps_of, step_at, steps_at, kept_at};
 ghost use Rattle.dwarf_units.specs.Private.Plans.{in_front, Fills, plan_of, plan_len, taken_at};
 ghost use Rattle.dwarf_bytes.specs.Refusals.{ReadsField};
 
@@ -111,7 +111,8 @@ pub(crate) fn read_step(
         AttributeStep::Pass(specification, layout) => {
             pass_attribute(format, specification, *layout, cursor)?;
         }
-        AttributeStep::Keep(specification, layout) => {
+        AttributeStep::Keep(before, specification, layout) => {
+            cursor.block(u64::from(*before))?;
             found.push(keep_attribute(format, specification, *layout, cursor)?)?;
         }
     }
@@ -146,7 +147,7 @@ fn keep_attribute(
     layout: Option<ValueLayout>,
     cursor: &mut Cursor,
 ) -> Result<Attribute, Cause>
-    ensures { ReadsField (λ a. a ∷ []) result (step_at format (Keep specification.now layout))
+    ensures { ReadsField (λ a. a ∷ []) result (kept_at format specification.now layout)
         cursor.old cursor.new }
 {
     match layout {

@@ -17,11 +17,12 @@ pub(crate) enum AttributeStep {
     /// An attribute is read and not kept. It is judged, unless a layout is known in which none of
     /// its values is refused.
     Pass(AttributeSpecification, Option<ValueLayout>),
-    /// An attribute is read and kept. It is judged, unless such a layout is known.
-    Keep(AttributeSpecification, Option<ValueLayout>),
+    /// So many bytes are passed over, and the attribute behind them is read and kept. It is judged,
+    /// unless such a layout is known.
+    Keep(u16, AttributeSpecification, Option<ValueLayout>),
 }
 
-/// One step in place of two, where both pass over bytes.
+/// One step in place of two, where the first passes over bytes and the other begins so.
 pub(crate) fn joined(step: AttributeStep, next: AttributeStep) -> Option<AttributeStep>
     ensures { result ≡ joined step next }
 {
@@ -29,6 +30,10 @@ pub(crate) fn joined(step: AttributeStep, next: AttributeStep) -> Option<Attribu
         (AttributeStep::Skip(len), AttributeStep::Skip(behind)) => {
             let both = len.checked_add(behind)?;
             Some(AttributeStep::Skip(both))
+        }
+        (AttributeStep::Skip(len), AttributeStep::Keep(behind, specification, layout)) => {
+            let both = len.checked_add(behind)?;
+            Some(AttributeStep::Keep(both, specification, layout))
         }
         _ => None,
     }
@@ -43,7 +48,7 @@ pub(crate) fn step_of(
     ensures { result ≡ step_of keep format specification.now }
 {
     if keep && is_used(specification.name) {
-        return AttributeStep::Keep(*specification, known_layout(specification));
+        return AttributeStep::Keep(0, *specification, known_layout(specification));
     }
     match fixed_len(format, specification) {
         Some(len) => AttributeStep::Skip(len),

@@ -93,19 +93,20 @@ abbrev pub pass_of : Format → AttributeSpecification → AttributeStep
 pass_of format s = option_map_or (λ n. Skip n) (fixed_len format s) (Pass s (known_layout s))
 
 abbrev pub step_of : Bool → Format → AttributeSpecification → AttributeStep
-step_of keep format s = if keep && is_used s.name then Keep s (known_layout s) else pass_of format s
+step_of keep format s = if keep && is_used s.name then Keep 0 s (known_layout s) else pass_of format s
 
 -- the most bytes of one step
 abbrev pub skip_limit : ℕ
 skip_limit = 65535
 
--- one step in place of two, where both pass over bytes
+-- one step in place of two, where the first passes over bytes and the other begins so
 abbrev pub joined : AttributeStep → AttributeStep → Option AttributeStep
 joined (Skip n) (Skip m) = if nat_le (n + m) skip_limit then Some (Skip (n + m)) else None
 joined (Skip n) (Pass t layout) = None
-joined (Skip n) (Keep t layout) = None
+joined (Skip n) (Keep m t layout) =
+    if nat_le (n + m) skip_limit then Some (Keep (n + m) t layout) else None
 joined (Pass s layout) next = None
-joined (Keep s layout) next = None
+joined (Keep n s layout) next = None
 
 -- a step in front of others
 abbrev pub step_before : AttributeStep → List AttributeStep → List AttributeStep
@@ -130,15 +131,21 @@ taken_at format s layout bytes at = reading (content_at layout format bytes at)
       c.1,
     )
 
+-- the attribute at a place alone, and the place after it
+abbrev pub kept_at : Format → AttributeSpecification → Option ValueLayout → List ℕ → ℕ
+    → Result (List Attribute × ℕ) Cause
+kept_at format s (Some layout) bytes at =
+    taken_at format s layout bytes at >>= λ a. Ok (a.0 ∷ [], a.1)
+kept_at format s None bytes at = attribute_at format s bytes at >>= λ a. Ok (a.0 ∷ [], a.1)
+
 -- what a step keeps, and the place after it
 abbrev pub step_at : Format → AttributeStep → List ℕ → ℕ → Result (List Attribute × ℕ) Cause
 step_at format (Skip n) bytes at = reading (block_at n bytes at) >>= λ block. Ok ([], block.1)
 step_at format (Pass s (Some layout)) bytes at =
     reading (content_at layout format bytes at) >>= λ c. Ok ([], c.1)
 step_at format (Pass s None) bytes at = attribute_at format s bytes at >>= λ a. Ok ([], a.1)
-step_at format (Keep s (Some layout)) bytes at =
-    taken_at format s layout bytes at >>= λ a. Ok (a.0 ∷ [], a.1)
-step_at format (Keep s None) bytes at = attribute_at format s bytes at >>= λ a. Ok (a.0 ∷ [], a.1)
+step_at format (Keep n s layout) bytes at =
+    reading (block_at n bytes at) >>= λ block. kept_at format s layout bytes block.1
 
 -- what is kept already, and what a read keeps behind it
 abbrev pub in_front : {X : Type 0} → List X → Result (List X × ℕ) Cause → Result (List X × ℕ) Cause

@@ -1,6 +1,6 @@
 use Rattle.std.proofs.Common.{◌+◌, ◌<◌, arith}
 use Rattle.addr_table.proofs.EndLaws.{moves-on}
-use Rattle.addr_table.proofs.RoomLaws.{passed-closes, counting-more, counting-end}
+use Rattle.addr_table.proofs.RoomLaws.{passed-opens, passed-closes, counting-more, counting-end}
 use Rattle.addr_table.proofs.room.count_ends.Goals as goal
 use Rattle.addr_table.proofs.room.count_ends.Goals.{After-reached-closed}
 
@@ -8,6 +8,19 @@ onwards : (c : After-reached-closed) → c.loop-end.opened + c.loop-end.closed <
 onwards c =
     moves-on _ _ _ _ _ _ _ c.in-Some.ensures c.reached-opened.ensures.above c.reached-closed.ensures.above c.reached-opened.ensures.more
     c.reached-closed.ensures.more
+
+pub overflow_add-ends : goal.overflow_add-ends
+overflow_add-ends c =
+    omega (
+      arith,
+      c.requires.few,
+      c.loop-end.invariant.few,
+      c.loop-end.invariant.opened_few,
+      c.loop-end.invariant.closed_few,
+    )
+
+pub reached-opened-requires-clause-upto : goal.reached-opened-requires-clause-upto
+reached-opened-requires-clause-upto c = passed-opens _ _ _ _ _ _ c.loop-end.invariant c.in-Some.ensures
 
 pub reached-closed-requires-clause-upto : goal.reached-closed-requires-clause-upto
 reached-closed-requires-clause-upto c = passed-closes _ _ _ _ _ _ c.loop-end.invariant c.in-Some.ensures

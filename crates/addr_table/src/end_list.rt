@@ -1,0 +1,104 @@
+//! Lists of ends, in half the bytes where addresses have 32 bits.
+
+ghost use Rattle.std.specs.Prelude.{◌≡◌, ◌<◌, ◌^◌, ◌∷◌, [], ◌++◌, length, get_or, IfOk, OnOk};
+ghost use Rattle.std.specs.List.Sorted.{IsPermutation, IsNonDecreasingBy};
+ghost use Rattle.addr_table.specs.declared.ends.End.{End as Ended};
+ghost use Rattle.addr_table.specs.Private.EndLists.{end_of};
+
+use crate::ends::End;
+use crate::packed::narrow;
+use std::alloc::{AllocError, Global};
+use std::marker::Model;
+
+/// An end at an address below 2^32, in half the bytes.
+#[derive(Clone, Copy)]
+struct LowEnd {
+    at: u32,
+    key: u32,
+}
+
+/// Ends: first those at addresses below 2^32, as hardly an object has others.
+#[derive(Drop)]
+pub(crate) struct EndList {
+    low: Vec<LowEnd>,
+    high: Vec<End>,
+}
+
+impl Model for EndList {
+    ghost use Rattle.std.specs.Prelude.{List, map, ◌++◌, ◌<◌, ◌≤◌, ◌^◌};
+    ghost use Rattle.std.specs.List.{All};
+    ghost use Rattle.addr_table.specs.declared.ends.End.{End};
+    ghost use Rattle.addr_table.specs.declared.end_list.LowEnd.{LowEnd as Low};
+    ghost use Rattle.addr_table.specs.Private.EndLists.{end_of};
+
+    ghost Value = { List End };
+
+    ghost view = { λ e. map end_of e.low.items ++ e.high.items };
+
+    ghost invariant = { λ e. All (λ (l : Low). l.at < 2 ^ 32) e.low.items
+        × All (λ (h : End). 2 ^ 32 ≤ h.at) e.high.items };
+}
+
+/// The end that is kept in half the bytes.
+fn end_of(low: LowEnd) -> End
+    ensures { result ≡ end_of low }
+{
+    End {
+        at: u64::from(low.at),
+        key: low.key as usize,
+    }
+}
+
+impl EndList {
+    /// None yet, with room for so many at low addresses.
+    pub(crate) fn new(alloc: Global, room: usize) -> Result<EndList, AllocError>
+        ensures { IfOk result (λ list. list ≡ []) }
+    {
+        Ok(EndList {
+            low: Vec::with_capacity(alloc, room)?,
+            high: Vec::new(alloc),
+        })
+    }
+
+    /// How many there are.
+    pub(crate) fn len(&self) -> usize
+        ensures { result ≡ length self.now }
+    {
+        self.low.len() + self.high.len()
+    }
+
+    /// Adds one.
+    pub(crate) fn push(&mut self, end: End) -> Result<(), AllocError>
+        requires key { end.key < 2 ^ 32 }
+        ensures { OnOk result (IsPermutation (self.old ++ end ∷ []) self.new) }
+    {
+        match u32::try_from(end.at) {
+            Ok(at) => self.low.push(LowEnd {
+                at,
+                key: narrow(end.key),
+            })?,
+            Err(_) => self.high.push(end)?,
+        }
+        Ok(())
+    }
+
+    /// The end at an index.
+    pub(crate) fn get(&self, index: usize) -> End
+        requires within { index < length self.now }
+        ensures { (d : Ended) → result ≡ get_or self.now index d }
+    {
+        if index < self.low.len() {
+            return end_of(self.low[index]);
+        }
+        self.high[index - self.low.len()]
+    }
+
+    /// Puts them in the order of addresses.
+    pub(crate) fn sort(&mut self)
+        ensures permutation { IsPermutation self.old self.new }
+        ensures rise { IsNonDecreasingBy (λ (e : Ended). e.at) self.new }
+    {
+        self.low.sort_unstable_by_key(|end| end.at);
+        self.high.sort_unstable_by_key(|end| end.at);
+    }
+}
