@@ -3,15 +3,21 @@
 use crate::fixtures::*;
 use dwarf_bytes::{Cause, Cursor};
 use dwarf_units::{Tables, units};
+use std::process::Abort;
 use std::test::*;
 
-/// The name and the number of each used attribute, at the place of an entry and at that of a null.
-#[test]
-fn entries_at_their_places(rt: HostRuntime) -> Result<(), Fail> {
-    // subprogram: decl_file as data1, name as string, high_pc as data1
-    let forms = [0x3a, 0x0b, 0x03, 0x08, 0x12, 0x0b];
-    let table = declarations(rt.alloc(), (&[], &[]), (&forms, &[]))?;
-    let info = one_scope(rt.alloc(), (&[], &[]), (&[], &[7, 0x66, 0, 9]))?;
+/// Reads the subprogram of a unit, which stands at 13, by attributes of these names and forms.
+/// Checks the name and the number of each used one, where the entry ends, and that the null behind
+/// it is no entry.
+fn is_read(
+    rt: &(impl Abort + AllocGlobal),
+    forms: &[u8],
+    values: &[u8],
+    wanted: &[(u64, u64)],
+    end: usize,
+) -> Result<(), Fail> {
+    let table = declarations(rt.alloc(), (&[], &[]), (forms, &[]))?;
+    let info = one_scope(rt.alloc(), (&[], &[]), (&[], values))?;
     let headers = units(rt.alloc(), &info)?;
     let mut tables = Tables::judge(rt.alloc(), &table, &headers)?;
     let header = headers.first().ok_or("no unit")?;
@@ -20,16 +26,23 @@ fn entries_at_their_places(rt: HostRuntime) -> Result<(), Fail> {
     cursor.seek(13)?;
     let mut found = Vec::new(rt.alloc());
     let tag = tables.table(number).read_entry(&mut cursor, &mut found);
-    are_equal(&rt, tag, Ok(0x2e));
+    are_equal(rt, tag, Ok(0x2e));
     let mut read = Vec::new(rt.alloc());
     for attribute in &found {
         read.push((attribute.name, attribute.value.number))?;
     }
-    are_equal(&rt, read.as_slice(), [(0x03, 15), (0x12, 9)].as_slice());
-    are_equal(&rt, cursor.place(), 18);
+    are_equal(rt, read.as_slice(), wanted);
+    are_equal(rt, cursor.place(), end);
     let null = tables.table(number).read_entry(&mut cursor, &mut found);
-    are_equal(&rt, null, Err(Cause::AbbrevCode));
+    are_equal(rt, null, Err(Cause::AbbrevCode));
     Ok(())
+}
+
+#[test]
+fn entries_at_their_places(rt: HostRuntime) -> Result<(), Fail> {
+    // subprogram: decl_file as data1, name as string, high_pc as data1
+    let forms = [0x3a, 0x0b, 0x03, 0x08, 0x12, 0x0b];
+    is_read(&rt, &forms, &[7, 0x66, 0, 9], &[(0x03, 15), (0x12, 9)], 18)
 }
 
 /// An entry whose used attributes stand behind 70 others in its declaration, most of which have no
@@ -44,22 +57,5 @@ fn entry_of_a_long_list(rt: HostRuntime) -> Result<(), Fail> {
     }
     // name as string, high_pc as data1
     forms.extend_from_slice(&[0x03, 0x08, 0x12, 0x0b])?;
-    let table = declarations(rt.alloc(), (&[], &[]), (&forms, &[]))?;
-    let info = one_scope(rt.alloc(), (&[], &[]), (&[], &[7, 8, 0x66, 0, 9]))?;
-    let headers = units(rt.alloc(), &info)?;
-    let mut tables = Tables::judge(rt.alloc(), &table, &headers)?;
-    let header = headers.first().ok_or("no unit")?;
-    let number = tables.number_of(rt.alloc(), header)?;
-    let mut cursor = Cursor::new(&info);
-    cursor.seek(13)?;
-    let mut found = Vec::new(rt.alloc());
-    let tag = tables.table(number).read_entry(&mut cursor, &mut found);
-    are_equal(&rt, tag, Ok(0x2e));
-    let mut read = Vec::new(rt.alloc());
-    for attribute in &found {
-        read.push((attribute.name, attribute.value.number))?;
-    }
-    are_equal(&rt, read.as_slice(), [(0x03, 16), (0x12, 9)].as_slice());
-    are_equal(&rt, cursor.place(), 19);
-    Ok(())
+    is_read(&rt, &forms, &[7, 8, 0x66, 0, 9], &[(0x03, 16), (0x12, 9)], 19)
 }

@@ -176,6 +176,14 @@ impl<'a> Tables<'a> {
             ⊎ (in_section sections.DebugAbbrev (declarations_of declarations_limit
             self.old.section unit.now.abbreviations) ≡ Err fault)) }
         ensures section { self.new.section ≡ self.old.section }
+        ensures known { (number : ℕ) (table : Table) → slice_get self.old.tables number ≡ Some table
+            → IsAt unit.now.format unit.now.abbreviations table
+            → (result ≡ Ok number) × (self.new ≡ self.old) }
+        ensures added { AreElsewhere unit.now.format unit.now.abbreviations self.old.tables
+            → IfOk result (λ number. (table : Table)
+            × (slice_get self.new.tables number ≡ Some table)
+            × (self.new ≡ with_table self.old table)) }
+        ensures limit { IsWithinLimit self.new }
     {
         match self.store.tables.get(guess) {
             Some(table) if table.is_of(unit) => Ok(guess),
