@@ -13,8 +13,6 @@ use Rattle.std.proofs.lemmas.List.{length-map}
 use Rattle.std.proofs.lemmas.List.Sums.{position_or_len_is}
 use Rattle.std.proofs.lemmas.Bool.{false≢true, ltb-true, lt-ltb, eqb-true, eqb-false}
 use Rattle.dwarf_bytes.specs.declared.fault.Cause.{Cause}
-use Rattle.dwarf_bytes.specs.Position.{Position}
-use Rattle.dwarf_bytes.specs.Refusals.{ReadsNext}
 use Rattle.dwarf_forms.specs.declared.declaration.Head.{Head}
 use Rattle.dwarf_forms.specs.Declarations.{Declaration}
 use Rattle.dwarf_forms.specs.Tables.{head_at}
@@ -202,21 +200,6 @@ is_some-position p xs = by_test (nat_lt (position_or_len p xs) (length xs)) ∙ 
 -- what stands before a declaration's attributes, by the codes of those before it
 pub head-is : (room : ℕ) (section : List ℕ) (before : List Declaration) (at : ℕ) → head_behind room section (map (λ (d : Declaration). d.code) before) at ≡ head_at room section before at
 head-is room section before at = simp (any-map, length-map)
-
-abbrev code_of : Declaration → ℕ
-code_of d = d.code
-
--- .. where the codes go by other names
-pub reads-head : (room : ℕ) (codes : List ℕ) (xs before : List Declaration) (found : Result (Option Head) Cause) (old new : Position) → codes ≡ map code_of xs → xs ≡ before → ReadsNext found (λ bytes. head_behind room bytes codes) old new → ReadsNext found (λ bytes. head_at room bytes before) old new
-reads-head room codes xs before found old new are seen read = by_result found read
-  where
-    same : head_behind room old.bytes codes old.place ≡ head_at room old.bytes before old.place
-    same = ap (λ (cs : List ℕ). head_behind room old.bytes cs old.place) (are ∙ ap (map code_of) seen) ∙ head-is room old.bytes before old.place
-
-    by_result : (r : Result (Option Head) Cause) → ReadsNext r (λ bytes. head_behind room bytes codes) old new → ReadsNext r (λ bytes. head_at room bytes before) old new
-    by_result (Ok (Some head)) h = (sym same ∙ h.0, h.1)
-    by_result (Ok None) h = (sym same ∙ h.0, h.1)
-    by_result (Err cause) h = sym same ∙ h
 
 -- ---- codes of what a table has
 

@@ -9,8 +9,8 @@ use std::collections::BTreeMap;
 use std::marker::Model;
 
 /// Codes in their order, none of them twice.
-#[derive(Debug, Drop)]
-pub struct CodeIndex {
+#[derive(Drop)]
+pub(crate) struct CodeIndex {
     codes: Vec<u64>,
     /// The places of the codes that are not their places, counted from 1.
     moved: BTreeMap<u64, usize>,
@@ -28,7 +28,7 @@ impl Model for CodeIndex {
 }
 
 impl CodeIndex {
-    pub fn new(alloc: Global) -> CodeIndex
+    pub(crate) fn new(alloc: Global) -> CodeIndex
         ensures { result ≡ [] }
     {
         CodeIndex {
@@ -38,7 +38,7 @@ impl CodeIndex {
     }
 
     /// How many codes there are.
-    pub fn len(&self) -> usize
+    pub(crate) fn len(&self) -> usize
         ensures { result ≡ length self.now }
     {
         self.codes.len()
@@ -46,7 +46,7 @@ impl CodeIndex {
 
     /// The place of a code, counted from 0. It is found in constant time where codes count up from
     /// 1, and by the logarithm of their number otherwise.
-    pub fn position(&self, code: u64) -> Option<usize>
+    pub(crate) fn position(&self, code: u64) -> Option<usize>
         ensures { result ≡ position (λ other. other == code) self.now }
     {
         let own = code.saturating_sub(1) as usize;
@@ -61,14 +61,14 @@ impl CodeIndex {
     }
 
     /// Whether a code is one of them.
-    pub fn has(&self, code: u64) -> bool
+    pub(crate) fn has(&self, code: u64) -> bool
         ensures { result ≡ list_any (λ other. other == code) self.now }
     {
         self.position(code).is_some()
     }
 
     /// Adds a code behind the others.
-    pub fn push(&mut self, code: u64) -> Result<(), AllocError>
+    pub(crate) fn push(&mut self, code: u64) -> Result<(), AllocError>
         requires { list_any (λ other. other == code) self.old ≡ false }
         ensures ok { OnOk result (self.new ≡ self.old ++ code ∷ []) }
         ensures err { OnErr result (self.new ≡ self.old) }

@@ -12,17 +12,13 @@ mod reading;
 mod shared;
 mod shared_decl;
 mod shared_table;
-mod table;
 mod values;
 
 pub use attribute::AttributeSpecification;
-pub use code_index::CodeIndex;
-pub use declaration::Decl;
 pub use dwarf_bytes::Content;
 pub use known_lists::{KnownAttribute, KnownLists};
 pub use reading::value;
 pub use shared::{SharedList, UNSHARED};
 pub use shared_decl::SharedDecl;
 pub use shared_table::SharedAbbrevs;
-pub use table::Abbrevs;
 pub use values::{Value, ValueFault};

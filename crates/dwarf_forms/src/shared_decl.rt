@@ -6,7 +6,7 @@ use crate::declaration::Head;
 use crate::shared::SharedList;
 use std::marker::Model;
 
-/// An abbreviation declaration, as `Decl` is one.
+/// An abbreviation declaration.
 #[derive(Drop)]
 pub struct SharedDecl {
     head: Head,

@@ -5,7 +5,7 @@ ghost use Rattle.std.specs.Prelude.{IfOk, IfSome, OnOk, OnErr, position};
 ghost use Rattle.std.specs.List.{list_any};
 ghost use Rattle.dwarf_bytes.specs.declared.fault.Section.TheVariants as sections;
 ghost use Rattle.dwarf_bytes.specs.Refusals.{Decodes, in_section, ReadsNext};
-ghost use Rattle.dwarf_forms.specs.Tables.{head_at, declarations_of};
+ghost use Rattle.dwarf_forms.specs.Tables.{declarations_of};
 ghost use Rattle.dwarf_forms.specs.Private.Codes.{head_behind};
 ghost use Rattle.dwarf_forms.specs.Private.Known.{Grows};
 ghost use Rattle.dwarf_forms.specs.Private.SharedTables.{AreTold, tell};
@@ -20,8 +20,8 @@ use dwarf_bytes::{Cause, Cursor, LoadFault, Section};
 use std::alloc::{AllocError, Global};
 use std::marker::Model;
 
-/// The declarations of one table of `.debug_abbrev`, as `Abbrevs` has them. What is told of their
-/// attributes is known of the section.
+/// The declarations of one table of `.debug_abbrev`, in their order. No code stands twice. What is
+/// told of their attributes is known of the section.
 #[derive(Drop)]
 pub struct SharedAbbrevs {
     decls: Vec<SharedDecl>,
@@ -40,8 +40,10 @@ impl Model for SharedAbbrevs {
 }
 
 impl SharedAbbrevs {
-    /// The table at an offset, as `Abbrevs::read` reads it. What is known of the section's lists
-    /// is not read again, and what is read of them is known from then on.
+    /// The table at an offset from the section's start, up to the code 0 that ends it. `left` is
+    /// how many more declarations may be read; it falls by one for each of the table's. A fault is
+    /// told at the declaration that holds it, in `.debug_abbrev`. What is known of the section's
+    /// lists is not read again, and what is read of them is known from then on.
     pub fn read(
         alloc: Global,
         lists: &mut KnownLists<'_>,
