@@ -1,6 +1,7 @@
 //! Tables that stand within one list of attributes.
 
-use dwarf_forms::{Abbrevs, KnownLists, SharedAbbrevs, SharedList, UNSHARED};
+use crate::listed::attributes_of;
+use dwarf_forms::{AttributeSpecification, KnownLists, SharedAbbrevs, UNSHARED};
 use std::alloc::{AllocError, Global};
 use std::process::Abort;
 use std::test::*;
@@ -23,54 +24,61 @@ fn one_list(alloc: Global) -> Result<Vec<u8>, AllocError> {
     Ok(section)
 }
 
-/// The names of the attributes of a list.
-fn names(alloc: Global, lists: &KnownLists<'_>, list: &SharedList) -> Result<Vec<u64>, AllocError> {
-    let mut names = Vec::new(alloc);
-    for attribute in list.own() {
-        names.push(attribute.name)?;
+/// The attributes of that list from a name on.
+fn attributes_from(alloc: Global, first: u64) -> Result<Vec<AttributeSpecification>, AllocError> {
+    let mut attributes = Vec::new(alloc);
+    for name in first..0x80 + 100 {
+        attributes.push(AttributeSpecification {
+            name,
+            form: 1,
+            constant: None,
+        })?;
     }
-    let mut next = list.rest();
-    for _ in 0..lists.len() {
-        if let Some(number) = next {
-            if number < lists.len() {
-                names.push(lists.attribute(number).name)?;
-                next = lists.next(number);
-            }
-        }
-    }
-    Ok(names)
+    Ok(attributes)
 }
 
-/// The same, of the first declaration of a table that is read by itself.
-fn names_alone(alloc: Global, section: &[u8], offset: u64) -> Result<Vec<u64>, Fail> {
+/// What is read of the table at an offset: the attributes of its first declaration, and how many
+/// of them it has itself.
+fn first_of(
+    alloc: Global,
+    lists: &mut KnownLists<'_>,
+    offset: u64,
+) -> Result<(Vec<AttributeSpecification>, usize), Fail> {
     let mut left = 1;
-    let table = Abbrevs::read(alloc, section, offset, &mut left)?;
-    let mut names = Vec::new(alloc);
-    let first = table.decls().first().ok_or("no declaration")?;
-    for attribute in first.attributes() {
-        names.push(attribute.name)?;
-    }
-    Ok(names)
+    let table = SharedAbbrevs::read(alloc, lists, offset, &mut left)?;
+    let declaration = table.decls().first().ok_or("no declaration")?;
+    let attributes = attributes_of(alloc, lists, declaration)?;
+    Ok((attributes, declaration.list().own().len()))
 }
 
-/// Checks that the table at an offset has a declaration with the attributes that it has alone, and
+/// Checks that the table at an offset has a declaration with the attributes from a name on, and
 /// how many it has itself, where so many are known behind it.
 fn is_shared(
     rt: &(impl Abort + AllocGlobal),
     lists: &mut KnownLists<'_>,
-    section: &[u8],
     offset: u64,
+    first: u64,
     own: usize,
     known: usize,
 ) -> Result<(), Fail> {
-    let mut left = 1;
-    let table = SharedAbbrevs::read(rt.alloc(), lists, offset, &mut left)?;
-    let list = table.decls().first().ok_or("no declaration")?.list();
-    assert_eq!(rt; (list.own().len(), lists.len()), (own, known));
-    let shared = names(rt.alloc(), lists, list)?;
-    let alone = names_alone(rt.alloc(), section, offset)?;
-    assert_eq!(rt; shared.as_slice() == alone.as_slice(), true);
+    let (shared, count) = first_of(rt.alloc(), lists, offset)?;
+    assert_eq!(rt; (count, lists.len()), (own, known));
+    let wanted = attributes_from(rt.alloc(), first)?;
+    assert_eq!(rt; shared.as_slice() == wanted.as_slice(), true);
     Ok(())
+}
+
+/// Checks the same where nothing else is known of the section.
+fn is_alone(
+    rt: &(impl Abort + AllocGlobal),
+    section: &[u8],
+    offset: u64,
+    first: u64,
+    own: usize,
+    known: usize,
+) -> Result<(), Fail> {
+    let mut lists = KnownLists::new(rt.alloc(), section)?;
+    is_shared(rt, &mut lists, offset, first, own, known)
 }
 
 #[test]
@@ -78,9 +86,18 @@ fn tables_within_one_list(rt: HostRuntime) -> Result<(), Fail> {
     let section = one_list(rt.alloc())?;
     let mut lists = KnownLists::new(rt.alloc(), &section)?;
     let behind = 100 - UNSHARED;
-    is_shared(&rt, &mut lists, &section, 0, UNSHARED, behind)?;
+    is_shared(&rt, &mut lists, 0, 0x80, UNSHARED, behind)?;
     // from the forms of the attributes 9, 34 and 35: their tables have what is behind the next one
-    is_shared(&rt, &mut lists, &section, 32, UNSHARED, behind)?;
-    is_shared(&rt, &mut lists, &section, 107, UNSHARED, behind)?;
-    is_shared(&rt, &mut lists, &section, 110, 63, behind)
+    is_shared(&rt, &mut lists, 32, 0x8b, UNSHARED, behind)?;
+    is_shared(&rt, &mut lists, 107, 0xa4, UNSHARED, behind)?;
+    is_shared(&rt, &mut lists, 110, 0xa5, 63, behind)
+}
+
+#[test]
+fn tables_within_one_list_alone(rt: HostRuntime) -> Result<(), Fail> {
+    let section = one_list(rt.alloc())?;
+    is_alone(&rt, &section, 0, 0x80, UNSHARED, 100 - UNSHARED)?;
+    is_alone(&rt, &section, 32, 0x8b, UNSHARED, 89 - UNSHARED)?;
+    is_alone(&rt, &section, 107, 0xa4, UNSHARED, 0)?;
+    is_alone(&rt, &section, 110, 0xa5, 63, 0)
 }

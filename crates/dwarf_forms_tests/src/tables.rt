@@ -1,7 +1,8 @@
 //! Tables of declarations, good and bad.
 
+use crate::listed::{declarations_of, fault_at};
 use dwarf_bytes::{Cause, LoadFault, Section};
-use dwarf_forms::{Abbrevs, AttributeSpecification};
+use dwarf_forms::AttributeSpecification;
 use dwarf_samples::inlined;
 use std::alloc::{AllocError, Global};
 use std::process::Abort;
@@ -11,26 +12,29 @@ use std::test::*;
 const MOST: u64 = 4_194_304;
 
 /// Checks that the table at the section's start has this fault, and that the count stays.
-fn is_refused(rt: &(impl Abort + AllocGlobal), table: &[u8], cause: Cause, at: u64) {
+fn is_refused(
+    rt: &(impl Abort + AllocGlobal),
+    table: &[u8],
+    cause: Cause,
+    at: u64,
+) -> Result<(), Fail> {
     let mut left = 4;
     let fault = LoadFault {
         section: Section::DebugAbbrev,
         cause,
         at,
     };
-    assert_eq!(rt;
-        Abbrevs::read(rt.alloc(), table, 0, &mut left).err(),
-        Some(fault)
-    );
+    let told = fault_at(rt.alloc(), table, 0, &mut left)?;
+    assert_eq!(rt; told, Some(fault));
     assert_eq!(rt; left, 4);
+    Ok(())
 }
 
 #[test]
 fn declarations_of_a_unit(rt: HostRuntime) -> Result<(), Fail> {
     let mut left = MOST;
-    let table = Abbrevs::read(rt.alloc(), &inlined()[120..163], 0, &mut left)?;
+    let decls = declarations_of(rt.alloc(), &inlined()[120..163], &mut left)?;
     assert_eq!(rt; left, MOST - 4);
-    let decls = table.decls();
     assert_eq!(rt; decls.len(), 4);
     for (decl, (code, tag, children, attributes)) in decls.iter().zip([
         (1, 0x11, true, 2),
@@ -38,10 +42,10 @@ fn declarations_of_a_unit(rt: HostRuntime) -> Result<(), Fail> {
         (3, 0x1d, true, 5),
         (4, 0x2e, false, 1),
     ]) {
-        assert_eq!(rt; decl.code(), code);
-        assert_eq!(rt; decl.tag(), tag);
-        assert_eq!(rt; decl.children(), children);
-        assert_eq!(rt; decl.attributes().len(), attributes);
+        assert_eq!(rt; decl.code, code);
+        assert_eq!(rt; decl.tag, tag);
+        assert_eq!(rt; decl.children, children);
+        assert_eq!(rt; decl.attributes.len(), attributes);
     }
     let names = [
         (0x31, 0x13),
@@ -51,7 +55,7 @@ fn declarations_of_a_unit(rt: HostRuntime) -> Result<(), Fail> {
         (0x59, 0x0b),
     ];
     let inlined = decls.get(2).ok_or("no declaration 3")?;
-    for (attribute, (name, form)) in inlined.attributes().iter().zip(names) {
+    for (attribute, (name, form)) in inlined.attributes.iter().zip(names) {
         let wanted = AttributeSpecification {
             name,
             form,
@@ -64,72 +68,71 @@ fn declarations_of_a_unit(rt: HostRuntime) -> Result<(), Fail> {
 
 /// Where the declarations of the sample start: a bad first byte of each is told there.
 #[test]
-fn faults_stand_at_declarations(rt: HostRuntime) {
+fn faults_stand_at_declarations(rt: HostRuntime) -> Result<(), Fail> {
     for (place, at) in [(2, 0), (11, 9), (22, 20), (37, 35)] {
         let mut object = *inlined();
         object[120 + place] = 2;
-        is_refused(&rt, &object[120..163], Cause::Children, at);
+        is_refused(&rt, &object[120..163], Cause::Children, at)?;
     }
+    Ok(())
 }
 
 #[test]
 fn constants_in_declarations(rt: HostRuntime) -> Result<(), Fail> {
-    let mut left = MOST;
     let section = [1, 0x11, 0, 3, 0x21, 0x7f, 0, 0, 0];
-    let table = Abbrevs::read(rt.alloc(), &section, 0, &mut left)?;
-    assert_eq!(rt; table.decls().len(), 1);
-    let attributes = table.decls().first().ok_or("no declaration")?.attributes();
+    let mut left = MOST;
+    let decls = declarations_of(rt.alloc(), &section, &mut left)?;
+    assert_eq!(rt; decls.len(), 1);
+    let decl = decls.first().ok_or("no declaration")?;
     assert_eq!(rt;
-        attributes.first().map(|attribute| attribute.constant),
+        decl.attributes.first().map(|attribute| attribute.constant),
         Some(Some(-1))
     );
     Ok(())
 }
 
 #[test]
-fn refused_tables(rt: HostRuntime) {
-    is_refused(&rt, &[1, 0x11, 2, 0, 0, 0], Cause::Children, 0);
-    is_refused(&rt, &[1, 0x11, 0, 3, 0, 0, 0, 0], Cause::Form, 0);
-    is_refused(&rt, &[1, 0x11, 0, 0, 3, 0, 0, 0], Cause::Form, 0);
-    is_refused(&rt, &[1, 0x11, 0, 3, 0x1c, 0, 0, 0], Cause::Form, 0);
-    is_refused(&rt, &[1, 0x11, 0, 3, 8, 3, 8, 0, 0, 0], Cause::AttrTwice, 0);
+fn refused_tables(rt: HostRuntime) -> Result<(), Fail> {
+    is_refused(&rt, &[1, 0x11, 2, 0, 0, 0], Cause::Children, 0)?;
+    is_refused(&rt, &[1, 0x11, 0, 3, 0, 0, 0, 0], Cause::Form, 0)?;
+    is_refused(&rt, &[1, 0x11, 0, 0, 3, 0, 0, 0], Cause::Form, 0)?;
+    is_refused(&rt, &[1, 0x11, 0, 3, 0x1c, 0, 0, 0], Cause::Form, 0)?;
+    is_refused(&rt, &[1, 0x11, 0, 3, 8, 3, 8, 0, 0, 0], Cause::AttrTwice, 0)?;
     // the form is judged before the name is
-    is_refused(&rt, &[1, 0x11, 0, 3, 8, 3, 0x1c, 0, 0, 0], Cause::Form, 0);
+    is_refused(&rt, &[1, 0x11, 0, 3, 8, 3, 0x1c, 0, 0, 0], Cause::Form, 0)?;
     is_refused(
         &rt,
         &[1, 0x11, 0, 0, 0, 1, 0x11, 0, 0, 0, 0],
         Cause::AbbrevTwice,
         5,
-    );
+    )?;
     is_refused(
         &rt,
         &[7, 0x11, 0, 0, 0, 7, 0x11, 0, 0, 0, 0],
         Cause::AbbrevTwice,
         5,
-    );
-    is_refused(&rt, &[1, 0x11, 0, 0, 0], Cause::Short, 5);
-    is_refused(&rt, &[1, 0x11, 0, 3, 0x21, 0xff], Cause::Short, 0);
-    is_refused(&rt, &[], Cause::Short, 0);
+    )?;
+    is_refused(&rt, &[1, 0x11, 0, 0, 0], Cause::Short, 5)?;
+    is_refused(&rt, &[1, 0x11, 0, 3, 0x21, 0xff], Cause::Short, 0)?;
+    is_refused(&rt, &[], Cause::Short, 0)?;
     let long = [
         0x80, 0x80, 0x80, 0x80, 0x80, 0x80, 0x80, 0x80, 0x80, 0x80, 0,
     ];
-    is_refused(&rt, &long, Cause::Leb, 0);
+    is_refused(&rt, &long, Cause::Leb, 0)?;
     let five = [
         1, 9, 0, 0, 0, 2, 9, 0, 0, 0, 3, 9, 0, 0, 0, 4, 9, 0, 0, 0, 5, 9, 0, 0, 0, 0,
     ];
-    is_refused(&rt, &five, Cause::TooMany, 20);
+    is_refused(&rt, &five, Cause::TooMany, 20)
 }
 
 #[test]
 fn limits(rt: HostRuntime) -> Result<(), Fail> {
     // an end code is no declaration
     let mut left = 0;
-    let table = Abbrevs::read(rt.alloc(), &[0], 0, &mut left)?;
-    assert!(rt; table.decls().is_empty());
+    assert_eq!(rt; declarations_of(rt.alloc(), &[0], &mut left)?.len(), 0);
     let mut left = 3;
     let three = [1, 9, 0, 0, 0, 2, 9, 0, 0, 0, 3, 9, 0, 0, 0, 0];
-    let table = Abbrevs::read(rt.alloc(), &three, 0, &mut left)?;
-    assert_eq!(rt; table.decls().len(), 3);
+    assert_eq!(rt; declarations_of(rt.alloc(), &three, &mut left)?.len(), 3);
     assert_eq!(rt; left, 0);
     for offset in [16, 17, u64::MAX] {
         let fault = LoadFault {
@@ -137,10 +140,8 @@ fn limits(rt: HostRuntime) -> Result<(), Fail> {
             cause: Cause::Short,
             at: offset,
         };
-        assert_eq!(rt;
-            Abbrevs::read(rt.alloc(), &three, offset, &mut left).err(),
-            Some(fault)
-        );
+        let told = fault_at(rt.alloc(), &three, offset, &mut left)?;
+        assert_eq!(rt; told, Some(fault));
     }
     Ok(())
 }
@@ -152,21 +153,20 @@ fn codes_out_of_order(rt: HostRuntime) -> Result<(), Fail> {
         5, 9, 0, 0, 0, 2, 10, 0, 0, 0, 1, 11, 0, 0, 0, 0x80, 0x02, 12, 0, 0, 0, 0,
     ];
     let mut left = MOST;
-    let table = Abbrevs::read(rt.alloc(), &section, 0, &mut left)?;
-    for (decl, code) in table.decls().iter().zip([5, 2, 1, 256]) {
-        assert_eq!(rt; decl.code(), code);
+    let decls = declarations_of(rt.alloc(), &section, &mut left)?;
+    for (decl, code) in decls.iter().zip([5, 2, 1, 256]) {
+        assert_eq!(rt; decl.code, code);
     }
     let again = [
         5, 9, 0, 0, 0, 2, 10, 0, 0, 0, 0x80, 0x02, 11, 0, 0, 0, 0x80, 0x02, 12, 0, 0, 0, 0,
     ];
-    is_refused(&rt, &again, Cause::AbbrevTwice, 16);
+    is_refused(&rt, &again, Cause::AbbrevTwice, 16)?;
     is_refused(
         &rt,
         &[2, 9, 0, 0, 0, 1, 9, 0, 0, 0, 2, 9, 0, 0, 0, 0],
         Cause::AbbrevTwice,
         10,
-    );
-    Ok(())
+    )
 }
 
 /// A table of one declaration with so many attributes, of names that count up from 1.
@@ -184,11 +184,11 @@ fn wide(alloc: Global, attributes: u8, again: u8) -> Result<Vec<u8>, AllocError>
 fn many_names(rt: HostRuntime) -> Result<(), Fail> {
     let table = wide(rt.alloc(), 100, 100)?;
     let mut left = 1;
-    let read = Abbrevs::read(rt.alloc(), &table, 0, &mut left)?;
-    let decl = read.decls().first().ok_or("no declaration")?;
-    assert_eq!(rt; decl.attributes().len(), 100);
+    let decls = declarations_of(rt.alloc(), &table, &mut left)?;
+    let decl = decls.first().ok_or("no declaration")?;
+    assert_eq!(rt; decl.attributes.len(), 100);
     for again in [1, 32, 33, 99] {
-        is_refused(&rt, &wide(rt.alloc(), 100, again)?, Cause::AttrTwice, 0);
+        is_refused(&rt, &wide(rt.alloc(), 100, again)?, Cause::AttrTwice, 0)?;
     }
     Ok(())
 }

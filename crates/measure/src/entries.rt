@@ -1,7 +1,7 @@
 //! The abbreviation tables of an object's units, and the values of their entries.
 
 use dwarf_bytes::{Cause, Cursor, Format, LoadFault, Object, Section};
-use dwarf_forms::{Abbrevs, Decl, value};
+use dwarf_forms::{AttributeSpecification, KnownLists, SharedAbbrevs, SharedDecl, value};
 use std::alloc::Global;
 
 /// The most declarations of an object.
@@ -29,7 +29,7 @@ struct Unit {
 pub fn read(alloc: Global, bytes: &[u8]) -> Result<Counts, LoadFault> {
     let layout = Object::find(bytes)?;
     let info = layout.debug_info.of(bytes);
-    let abbrev = layout.debug_abbrev.of(bytes);
+    let mut lists = no_lists(alloc, layout.debug_abbrev.of(bytes))?;
     let mut counts = Counts {
         units: 0,
         declarations: 0,
@@ -38,9 +38,9 @@ pub fn read(alloc: Global, bytes: &[u8]) -> Result<Counts, LoadFault> {
     };
     let mut left = DECLARATIONS;
     for unit in &units(alloc, info)? {
-        let table = Abbrevs::read(alloc, abbrev, unit.abbreviations, &mut left)?;
+        let table = SharedAbbrevs::read(alloc, &mut lists, unit.abbreviations, &mut left)?;
         counts.units = counts.units.wrapping_add(1);
-        read_entries(info, unit, &table, &mut counts);
+        read_entries(info, unit, &table, &lists, &mut counts);
     }
     counts.declarations = DECLARATIONS.saturating_sub(left);
     Ok(counts)
@@ -60,11 +60,20 @@ pub fn count_declarations(alloc: Global, bytes: &[u8], rounds: u64) -> Result<u6
 
 /// Reads the table of each unit, and counts their declarations.
 fn read_tables(alloc: Global, abbrev: &[u8], units: &[Unit]) -> Result<u64, LoadFault> {
+    let mut lists = no_lists(alloc, abbrev)?;
     let mut left = DECLARATIONS;
     for unit in units {
-        let _ = Abbrevs::read(alloc, abbrev, unit.abbreviations, &mut left)?;
+        let _ = SharedAbbrevs::read(alloc, &mut lists, unit.abbreviations, &mut left)?;
     }
     Ok(DECLARATIONS.saturating_sub(left))
+}
+
+/// The lists of a section of which nothing was read.
+fn no_lists(alloc: Global, abbrev: &[u8]) -> Result<KnownLists<'_>, LoadFault> {
+    match KnownLists::new(alloc, abbrev) {
+        Ok(lists) => Ok(lists),
+        Err(_) => Err(LoadFault::told(Section::DebugAbbrev, Cause::Memory, 0)),
+    }
 }
 
 /// All units, one after the other.
@@ -118,47 +127,79 @@ fn read_unit(info: &[u8], place: usize) -> Result<Unit, Cause> {
 }
 
 /// Reads the values of a unit's entries, up to its end or a fault.
-fn read_entries(info: &[u8], unit: &Unit, table: &Abbrevs, counts: &mut Counts) {
+fn read_entries(
+    info: &[u8],
+    unit: &Unit,
+    table: &SharedAbbrevs,
+    lists: &KnownLists<'_>,
+    counts: &mut Counts,
+) {
     let mut cursor = Cursor::new(info);
     let _ = cursor.seek(unit.first);
     for _ in 0..info.len() {
-        if cursor.place() >= unit.end
-            || read_entry(&mut cursor, unit.format, table, counts).is_err()
-        {
+        if cursor.place() >= unit.end {
             break;
+        }
+        let Ok(declaration) = next_declaration(&mut cursor, table) else {
+            break;
+        };
+        if let Some(declaration) = declaration {
+            counts.entries = counts.entries.wrapping_add(1);
+            if read_values(&mut cursor, unit.format, declaration, lists, counts).is_err() {
+                break;
+            }
         }
     }
 }
 
-/// Reads the values of the entry at the cursor.
-fn read_entry(
+/// The declaration that the entry at the cursor names, or none where a code 0 stands.
+fn next_declaration<'a>(
     cursor: &mut Cursor<'_>,
-    format: Format,
-    table: &Abbrevs,
-    counts: &mut Counts,
-) -> Result<(), Cause> {
+    table: &'a SharedAbbrevs,
+) -> Result<Option<&'a SharedDecl>, Cause> {
     let code = cursor.uleb()?;
     if code == 0 {
-        return Ok(());
+        return Ok(None);
     }
-    let Some(declaration) = find(table.decls(), code) else {
+    let Some(place) = table.position(code) else {
         return Err(Cause::AbbrevCode);
     };
-    counts.entries = counts.entries.wrapping_add(1);
-    for attribute in declaration.attributes() {
-        if value(attribute.form, format, attribute.constant, cursor).is_err() {
-            return Err(Cause::Form);
+    Ok(table.decls().get(place))
+}
+
+/// Reads the values of a declaration's own attributes, and of those that are known behind them.
+fn read_values(
+    cursor: &mut Cursor<'_>,
+    format: Format,
+    declaration: &SharedDecl,
+    lists: &KnownLists<'_>,
+    counts: &mut Counts,
+) -> Result<(), Cause> {
+    for attribute in declaration.list().own() {
+        read_value(cursor, format, attribute, counts)?;
+    }
+    let mut next = declaration.list().rest();
+    for _ in 0..lists.len() {
+        if let Some(number) = next {
+            if number < lists.len() {
+                read_value(cursor, format, lists.attribute(number), counts)?;
+                next = lists.next(number);
+            }
         }
-        counts.values = counts.values.wrapping_add(1);
     }
     Ok(())
 }
 
-/// The declaration of a code. Codes mostly count up from 1.
-fn find(decls: &[Decl], code: u64) -> Option<&Decl> {
-    let own = decls.get(code.saturating_sub(1) as usize);
-    match own.filter(|decl| decl.code() == code) {
-        Some(decl) => Some(decl),
-        None => decls.iter().find(|decl| decl.code() == code),
+/// Reads the value of an attribute.
+fn read_value(
+    cursor: &mut Cursor<'_>,
+    format: Format,
+    attribute: &AttributeSpecification,
+    counts: &mut Counts,
+) -> Result<(), Cause> {
+    if value(attribute.form, format, attribute.constant, cursor).is_err() {
+        return Err(Cause::Form);
     }
+    counts.values = counts.values.wrapping_add(1);
+    Ok(())
 }
