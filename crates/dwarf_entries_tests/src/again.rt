@@ -57,5 +57,11 @@ fn entry_of_a_long_list(rt: HostRuntime) -> Result<(), Fail> {
     }
     // name as string, high_pc as data1
     forms.extend_from_slice(&[0x03, 0x08, 0x12, 0x0b])?;
-    is_read(&rt, &forms, &[7, 8, 0x66, 0, 9], &[(0x03, 16), (0x12, 9)], 19)
+    is_read(
+        &rt,
+        &forms,
+        &[7, 8, 0x66, 0, 9],
+        &[(0x03, 16), (0x12, 9)],
+        19,
+    )
 }

@@ -180,12 +180,14 @@ fn read_values(
     }
     let mut next = declaration.list().rest();
     for _ in 0..lists.len() {
-        if let Some(number) = next {
-            if number < lists.len() {
-                read_value(cursor, format, lists.attribute(number), counts)?;
-                next = lists.next(number);
-            }
+        let Some(number) = next else {
+            break;
+        };
+        if number >= lists.len() {
+            break;
         }
+        read_value(cursor, format, lists.attribute(number), counts)?;
+        next = lists.next(number);
     }
     Ok(())
 }
