@@ -126,6 +126,7 @@ impl<'a> EntryHead<'a> {
 
     /// Reads its attributes, which stand behind it: the used ones into `found`, in place of what is
     /// there, where they are kept, or none.
+    #[inline(always)]
     pub fn read_attributes(
         &self,
         keep: bool,

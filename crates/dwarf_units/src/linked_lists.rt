@@ -94,6 +94,7 @@ impl<'a> LinkedLists<'a> {
     }
 
     /// Takes the steps of the attributes from a known one on. What they keep is added to `found`.
+    #[inline(always)]
     pub(crate) fn read(
         &self,
         keep: bool,

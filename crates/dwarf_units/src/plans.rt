@@ -79,6 +79,7 @@ pub(crate) fn plans(
 }
 
 /// Takes steps, one after another. What they keep is added to `found`.
+#[inline(always)]
 pub(crate) fn read_steps(
     format: Format,
     steps: &[AttributeStep],
@@ -95,6 +96,7 @@ pub(crate) fn read_steps(
 }
 
 /// Takes a step. What it keeps is added to `found`.
+#[inline(always)]
 pub(crate) fn read_step(
     format: Format,
     step: &AttributeStep,
@@ -113,7 +115,7 @@ pub(crate) fn read_step(
         }
         AttributeStep::Keep(before, specification, layout) => {
             cursor.block(u64::from(*before))?;
-            found.push(keep_attribute(format, specification, *layout, cursor)?)?;
+            keep_attribute(format, specification, *layout, cursor, found)?;
         }
     }
     Ok(())
@@ -140,24 +142,28 @@ fn pass_attribute(
     Ok(())
 }
 
-/// The attribute at the cursor. It is judged where no layout is known.
+/// Adds the attribute at the cursor to those found. It is judged where no layout is known.
+#[inline(always)]
 fn keep_attribute(
     format: Format,
     specification: &AttributeSpecification,
     layout: Option<ValueLayout>,
     cursor: &mut Cursor,
-) -> Result<Attribute, Cause>
-    ensures { ReadsField (λ a. a ∷ []) result (kept_at format specification.now layout)
-        cursor.old cursor.new }
+    found: &mut Vec<Attribute>,
+) -> Result<(), Cause>
+    ensures { Fills result found.new.items (λ bytes at. in_front found.old.items
+        (kept_at format specification.now layout bytes at)) cursor.old cursor.new }
 {
     match layout {
-        None => read_attribute(format, specification, cursor),
-        Some(layout) => take_attribute(format, specification, layout, cursor),
+        None => found.push(read_attribute(format, specification, cursor)?)?,
+        Some(layout) => found.push(take_attribute(format, specification, layout, cursor)?)?,
     }
+    Ok(())
 }
 
 /// The attribute at the cursor, whose value stands there in a layout. The layouts of most values
 /// have an arm of their own, since every attribute that is kept comes here.
+#[inline(always)]
 #[tactic(auto, unfolding(dwarf_bytes::specs::Contents::content_at))]
 fn take_attribute(
     format: Format,
