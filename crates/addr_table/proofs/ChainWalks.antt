@@ -2,7 +2,7 @@
 use Rattle.std.proofs.Common.{◌≡◌, ℕ, suc, ◌+◌, ◌<◌, ◌≤◌, List, [], ◌∷◌, length, get_or}
 use Rattle.std.proofs.Common.{ap, sym, ◌∙◌, subst, arith}
 use Rattle.std.specs.Prelude.{Some, None, option_map}
-use Rattle.dwarf_entries.specs.declared.scope.ScopeKind.TheVariants.{Subprogram}
+use Rattle.dwarf_walk.specs.declared.scope_kind.ScopeKind.TheVariants.{Subprogram}
 use Rattle.dwarf_entries.specs.Scopes.{Scope}
 use Rattle.dwarf_entries.specs.Order.{AreNumbered}
 use Rattle.addr_table.specs.Chains.{chain_of}

@@ -5,7 +5,7 @@ use Rattle.std.specs.Prelude.{Option, Some, None, option_map, find, filter}
 use Rattle.std.specs.Option.{option_or}
 use Rattle.std.specs.List.{AllByRecursion, list_any}
 use Rattle.std.proofs.lemmas.List.Folds.{find-append}
-use Rattle.dwarf_entries.specs.declared.scope.ScopeKind.TheVariants.{Subprogram, Inlined}
+use Rattle.dwarf_walk.specs.declared.scope_kind.ScopeKind.TheVariants.{Subprogram, Inlined}
 use Rattle.dwarf_entries.specs.Scopes.{Scope}
 use Rattle.addr_table.specs.Chains.{is_at, enclosing, held_among}
 use Rattle.addr_table.specs.Private.Parents.{around, IsParent}

@@ -10,11 +10,11 @@ use Rattle.dwarf_bytes.specs.Refusals.{memory_fault, in_section}
 use Rattle.dwarf_bytes.proofs.EachLaws.{made_front, each-next, each-fault, each-end}
 use Rattle.dwarf_units.specs.declared.unit_headers.UnitHeader.{UnitHeader}
 use Rattle.dwarf_entries.specs.declared.bases.Bases.{Bases}
-use Rattle.dwarf_entries.specs.declared.kept.UnitEntries.{UnitEntries}
-use Rattle.dwarf_entries.specs.Sections.{Sections}
+use Rattle.dwarf_walk.specs.declared.kept.UnitEntries.{UnitEntries}
+use Rattle.dwarf_walk.specs.Sections.{Sections}
 use Rattle.dwarf_units.specs.Entries.{Die}
 use Rattle.dwarf_entries.specs.Bases.{CompilationUnit, unit_of}
-use Rattle.dwarf_entries.specs.Private.Kept.{KeptUnit, root_in, kept_unit, kept_of}
+use Rattle.dwarf_walk.specs.Private.Kept.{KeptUnit, root_in, kept_unit, kept_of}
 use Rattle.dwarf_entries.specs.Private.Passes.{kept_units, bases_in, all_units, bases_of, all_bases}
 use Rattle.dwarf_units.proofs.TableLaws.{in_section_ok}
 

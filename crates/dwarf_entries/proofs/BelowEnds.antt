@@ -8,9 +8,10 @@ use Rattle.std.proofs.lemmas.List.Kept.{AllPairs-from_increasing}
 use Rattle.std.proofs.lemmas.List.Sums.{sum_by_more_le, sum_by-take-drop, count_by_more_yes}
 use Rattle.std.proofs.lemmas.Option.{get_or_from_slice_get, slice_get_within}
 use Rattle.dwarf_units.specs.Entries.{Die, below, IsBelow}
-use Rattle.dwarf_entries.specs.Sections.{Sections}
+use Rattle.dwarf_walk.specs.Sections.{Sections}
 use Rattle.dwarf_entries.specs.Bases.{CompilationUnit}
-use Rattle.dwarf_entries.specs.Scopes.{Scope, Tree, is_scope, tree_of}
+use Rattle.dwarf_entries.specs.Scopes.{Scope, Tree, tree_of}
+use Rattle.dwarf_walk.specs.ScopeEntries.{is_scope}
 use Rattle.dwarf_entries.specs.TreeLaws.{IsEntry, units_read}
 use Rattle.dwarf_entries.proofs.BelowLaws.{scopes-between}
 use Rattle.dwarf_entries.proofs.OffsetLaws.{scopes-rise}

@@ -7,7 +7,7 @@ use Rattle.std.proofs.lemmas.List.{get_or-drop}
 use Rattle.std.proofs.lemmas.List.Sums.{sum_by-append, count_by_more_yes, prefix_len_passes, prefix_len_stops, prefix_len-le-length}
 use Rattle.std.proofs.lemmas.Option.{get_or_from_slice_get, slice_get_cases}
 use Rattle.dwarf_units.specs.Entries.{Die, below, IsBelow}
-use Rattle.dwarf_entries.specs.Scopes.{is_scope}
+use Rattle.dwarf_walk.specs.ScopeEntries.{is_scope}
 
 module _ {X : Type 0} (p : X → Bool) (xs : List X) where
   -- how many pass before a place

@@ -21,7 +21,7 @@ use Rattle.dwarf_entries.specs.declared.range_entries.RangeListEntry.{RangeListE
 use Rattle.dwarf_entries.specs.declared.range_entries.RangeListEntry.TheVariants.{Base, Covers}
 use Rattle.dwarf_units.specs.declared.attributes.AttributeValue.{AttributeValue}
 use Rattle.dwarf_units.specs.Entries.{Die, attribute}
-use Rattle.dwarf_entries.specs.Sections.{Sections}
+use Rattle.dwarf_walk.specs.Sections.{Sections}
 use Rattle.dwarf_entries.specs.Bases.{CompilationUnit, address_of}
 use Rattle.dwarf_entries.specs.Ranges.{Covering, covered, dropped, covered_from, covered_pair, ranges_in, index_at, address_at, start_and_end, start_and_length, offset_pair, sets_base, covers, entry_at, kind_of, base_after, listed_behind, listed_at, list_place, list_at, high_of, pair_range, pair_at, covers_by, covers_of}
 use Rattle.dwarf_entries.specs.Scopes.{Scope, Tree, ScopeSite, Judged, items_limit, tree_of}

@@ -14,12 +14,13 @@ use Rattle.dwarf_forms.specs.Tables.{declarations_of}
 use Rattle.dwarf_units.specs.declared.unit_headers.UnitHeader.{UnitHeader}
 use Rattle.dwarf_units.specs.Units.{declarations_limit, tables_of}
 use Rattle.dwarf_units.specs.Entries.{Die, entries_of}
-use Rattle.dwarf_entries.specs.Private.Kept.{KeptUnit, kept_unit, kept_entries}
-use Rattle.dwarf_entries.specs.declared.marks.Marks.{Marks}
-use Rattle.dwarf_entries.specs.Private.Marks.{AddsMarks, offsets_of, all_offsets}
+use Rattle.dwarf_walk.specs.Private.Kept.{KeptUnit, kept_unit, kept_entries}
+use Rattle.dwarf_walk.specs.declared.marks.Marks.{Marks}
+use Rattle.dwarf_walk.specs.Private.Marks.{AddsMarks, offsets_of}
+use Rattle.dwarf_entries.specs.Private.Walked.{all_offsets}
 use Rattle.dwarf_entries.specs.Private.Passes.{all_entries, kept_units, all_kept}
 use Rattle.dwarf_bytes.proofs.Moves.{same_ok}
-use Rattle.dwarf_entries.proofs.MarkLaws.{adds-none, adds-more}
+use Rattle.dwarf_walk.proofs.MarkLaws.{adds-none, adds-more}
 use Rattle.dwarf_bytes.proofs.EachPlaces.{each-length}
 use Rattle.dwarf_units.proofs.TableLaws.{table_for, table_is, in_section_ok}
 

@@ -6,10 +6,11 @@ use Rattle.std.proofs.lemmas.List.Elements.{All-nil, All-cons, All-append, All-c
 use Rattle.std.proofs.lemmas.List.Sums.{sum_by-cons}
 use Rattle.dwarf_bytes.proofs.Moves.{same_ok}
 use Rattle.dwarf_units.specs.Entries.{Die, below}
-use Rattle.dwarf_entries.specs.declared.scope.ScopeKind.{ScopeKind}
-use Rattle.dwarf_entries.specs.Sections.{Sections}
+use Rattle.dwarf_walk.specs.declared.scope_kind.ScopeKind.{ScopeKind}
+use Rattle.dwarf_walk.specs.Sections.{Sections}
 use Rattle.dwarf_entries.specs.Bases.{CompilationUnit}
-use Rattle.dwarf_entries.specs.Scopes.{Scope, Tree, Judged, kind_of, is_scope, site_of, sites_in, roots_from, tree_of}
+use Rattle.dwarf_entries.specs.Scopes.{Scope, Tree, Judged, site_of, sites_in, roots_from, tree_of}
+use Rattle.dwarf_walk.specs.ScopeEntries.{kind_of, is_scope}
 use Rattle.dwarf_entries.specs.TreeLaws.{IsEntry, units_read}
 use Rattle.dwarf_entries.proofs.ScopeOrder.{all_sites}
 use Rattle.dwarf_entries.proofs.TreeParts.{AreJudged, IsRead, is-read}

@@ -11,14 +11,15 @@ use Rattle.dwarf_bytes.specs.Refusals.{Fails}
 use Rattle.dwarf_bytes.proofs.Moves.{same_ok}
 use Rattle.dwarf_units.specs.declared.attributes.AttributeValue.{AttributeValue}
 use Rattle.dwarf_units.specs.Entries.{Die, attribute}
-use Rattle.dwarf_entries.specs.declared.kept.NamedEntry.{NamedEntry}
+use Rattle.dwarf_walk.specs.declared.kept.NamedEntry.{NamedEntry}
 use Rattle.dwarf_entries.specs.declared.known_names.KnownNames.{KnownNames}
 use Rattle.dwarf_entries.specs.declared.known_names.LedNames.{LedNames}
 use Rattle.dwarf_entries.specs.declared.paths.EntryNames.{EntryNames}
 use Rattle.dwarf_entries.specs.declared.paths.UnitPlace.{UnitPlace}
-use Rattle.dwarf_entries.specs.Sections.{Sections}
+use Rattle.dwarf_walk.specs.Sections.{Sections}
 use Rattle.dwarf_entries.specs.Bases.{CompilationUnit, optional}
-use Rattle.dwarf_entries.specs.Names.{Member, or_else, next_of, members_of, member_at, target_of, path_within, first_on, text_of, name_on, names_of, hops_limit}
+use Rattle.dwarf_entries.specs.Names.{Member, members_of, member_at, target_of, path_within, first_on, text_of, name_on, names_of, hops_limit}
+use Rattle.dwarf_walk.specs.References.{or_else, next_of}
 use Rattle.dwarf_entries.specs.Private.KnownNames.{slot_of, slot_at, led_names, names_behind, AreKnownOf}
 use Rattle.dwarf_entries.specs.Private.Members.{IsMember, IsPlaceOf, Finds, member_in}
 use Rattle.dwarf_entries.proofs.PathLaws.{both_names, in_front, stepped}

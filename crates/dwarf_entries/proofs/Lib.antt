@@ -12,14 +12,10 @@ pub mod ScopesPass
 pub mod ReferenceLaws
 pub mod PathLaws
 pub mod KnownLaws
-pub mod KeptNodes
 pub mod OrderLaws
 pub mod BelowLaws
 pub mod BaseInForce
 pub mod RootsPass
-pub mod WalkLaws
-pub mod EndLaws
-pub mod MarkLaws
 pub mod ReadLaws
 pub mod ScopeOrder
 pub mod TellLaws

@@ -20,7 +20,7 @@ use Rattle.dwarf_bytes.proofs.TextLaws.{text_stands}
 use Rattle.dwarf_units.specs.declared.attributes.AttributeValue.{AttributeValue}
 use Rattle.dwarf_entries.specs.declared.bases.Table.{Table}
 use Rattle.dwarf_entries.specs.declared.paths.EntryNames.{EntryNames}
-use Rattle.dwarf_entries.specs.Sections.{Sections}
+use Rattle.dwarf_walk.specs.Sections.{Sections}
 use Rattle.dwarf_entries.specs.Bases.{CompilationUnit, item_at, optional}
 use Rattle.dwarf_entries.specs.Names.{Member, path_of, text, text_len, text_in, text_of, first_on, name_on, names_of}
 use Rattle.dwarf_entries.specs.Scopes.{Scope, Tree, ScopeSite, Judged, tree_of}

@@ -10,10 +10,11 @@ use Rattle.dwarf_units.specs.Entries.{Die}
 use Rattle.dwarf_units.specs.Private.Rising.{RiseWithin}
 use Rattle.dwarf_units.proofs.EntryOrder.{entries-rise}
 use Rattle.dwarf_entries.specs.declared.scope.Root.{Root}
-use Rattle.dwarf_entries.specs.declared.scope.ScopeKind.{ScopeKind}
-use Rattle.dwarf_entries.specs.Sections.{Sections}
+use Rattle.dwarf_walk.specs.declared.scope_kind.ScopeKind.{ScopeKind}
+use Rattle.dwarf_walk.specs.Sections.{Sections}
 use Rattle.dwarf_entries.specs.Bases.{CompilationUnit}
-use Rattle.dwarf_entries.specs.Scopes.{Scope, Tree, ScopeSite, Judged, kind_of, is_scope, site_of, sites_in, root_of, roots_from, tree_of}
+use Rattle.dwarf_entries.specs.Scopes.{Scope, Tree, ScopeSite, Judged, site_of, sites_in, root_of, roots_from, tree_of}
+use Rattle.dwarf_walk.specs.ScopeEntries.{kind_of, is_scope}
 use Rattle.dwarf_entries.specs.TreeLaws.{RiseBelow}
 use Rattle.dwarf_entries.proofs.OrderLaws.{HeadersInOrder, headers-in-order, unit_of-parts}
 use Rattle.dwarf_entries.proofs.ScopeOrder.{all_sites}

@@ -16,16 +16,16 @@ use Rattle.dwarf_forms.specs.Declarations.{Declaration}
 use Rattle.dwarf_forms.specs.Tables.{declarations_of}
 use Rattle.dwarf_units.proofs.AgainLaws.{entries-again}
 use Rattle.dwarf_units.proofs.TableLaws.{table_for, table_few, table_again}
-use Rattle.dwarf_entries.specs.Private.Again.{IsReadIn, AreReadIn}
+use Rattle.dwarf_entries.specs.Private.Walked.{IsReadIn, AreReadIn, AreInOrder}
 use Rattle.dwarf_bytes.proofs.Moves.{same_ok, same_item}
 use Rattle.dwarf_units.specs.declared.unit_headers.UnitHeader.{UnitHeader}
 use Rattle.dwarf_units.specs.declared.unit_headers.UnitType.{UnitType}
 use Rattle.dwarf_entries.specs.declared.bases.Bases.{Bases}
-use Rattle.dwarf_entries.specs.Sections.{Sections}
+use Rattle.dwarf_walk.specs.Sections.{Sections}
 use Rattle.dwarf_units.specs.Units.{unit_type_of, is_read_type, is_read, header_in, unit_at, header_at, headers_of, units_of, declarations_limit, tables_of}
 use Rattle.dwarf_units.specs.Entries.{Die, entries_of}
 use Rattle.dwarf_entries.specs.Bases.{CompilationUnit, no_bases, bases_at, unit_of}
-use Rattle.dwarf_entries.specs.Private.Kept.{KeptUnit, kept_unit, AreInOrder}
+use Rattle.dwarf_walk.specs.Private.Kept.{KeptUnit, kept_unit}
 use Rattle.dwarf_units.specs.Private.Rising.{RiseWithin}
 use Rattle.dwarf_entries.specs.Private.Passes.{kept_units, kept_unit_of, all_entries, all_units}
 use Rattle.dwarf_units.proofs.EntryMoves.{fixed-stays, offset-stays}

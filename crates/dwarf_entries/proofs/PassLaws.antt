@@ -7,8 +7,8 @@ use Rattle.dwarf_bytes.specs.declared.fault.Section.TheVariants as names
 use Rattle.dwarf_bytes.specs.declared.fault.LoadFault.{LoadFault}
 use Rattle.dwarf_bytes.specs.declared.format.Format.{Format}
 use Rattle.dwarf_bytes.specs.Refusals.{memory_fault, told, in_section}
-use Rattle.dwarf_entries.specs.declared.kept.RootEntry.{RootEntry}
-use Rattle.dwarf_entries.specs.Sections.{Sections}
+use Rattle.dwarf_walk.specs.declared.kept.RootEntry.{RootEntry}
+use Rattle.dwarf_walk.specs.Sections.{Sections}
 use Rattle.dwarf_entries.specs.Bases.{bases_by}
 use Rattle.dwarf_entries.specs.Private.Passes.{bases_in}
 

@@ -12,16 +12,17 @@ use Rattle.dwarf_units.specs.declared.attributes.AttributeValue.{AttributeValue}
 use Rattle.dwarf_entries.specs.declared.bases.Bases.{Bases}
 use Rattle.dwarf_entries.specs.declared.bases.Table.{Table}
 use Rattle.dwarf_bytes.specs.declared.text.Text.{Text}
-use Rattle.dwarf_entries.specs.declared.kept.NamedEntry.{NamedEntry}
+use Rattle.dwarf_walk.specs.declared.kept.NamedEntry.{NamedEntry}
 use Rattle.dwarf_entries.specs.declared.paths.UnitAttribute.{UnitAttribute}
 use Rattle.dwarf_entries.specs.declared.paths.UnitEntry.{UnitEntry}
 use Rattle.dwarf_entries.specs.declared.paths.UnitPlace.{UnitPlace}
 use Rattle.dwarf_entries.specs.declared.paths.FirstNames.{FirstNames}
 use Rattle.dwarf_entries.specs.declared.paths.EntryNames.{EntryNames}
-use Rattle.dwarf_entries.specs.Sections.{Sections}
+use Rattle.dwarf_walk.specs.Sections.{Sections}
 use Rattle.dwarf_units.specs.Entries.{attribute}
 use Rattle.dwarf_entries.specs.Bases.{CompilationUnit, optional}
-use Rattle.dwarf_entries.specs.Names.{Member, or_else, next_of, target_of, path_within, of_member, first_on, text_of, name_on}
+use Rattle.dwarf_entries.specs.Names.{Member, target_of, path_within, of_member, first_on, text_of, name_on}
+use Rattle.dwarf_walk.specs.References.{or_else, next_of}
 use Rattle.dwarf_entries.specs.Private.KnownNames.{names_within}
 use Rattle.dwarf_entries.specs.Private.Members.{IsMember, IsPlaceOf, Finds, IsFirst, AreFirst, FindsFirst, str_offsets_of}
 

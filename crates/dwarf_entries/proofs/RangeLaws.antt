@@ -23,7 +23,7 @@ use Rattle.dwarf_entries.specs.declared.range_entries.RangeListKind.{RangeListKi
 use Rattle.dwarf_entries.specs.declared.range_entries.RangeListKind.TheVariants.{BaseAddressx, StartxEndx, StartxLength, OffsetPair, BaseAddress, StartEnd, StartLength}
 use Rattle.dwarf_entries.specs.declared.range_entries.RangeListEntry.{RangeListEntry}
 use Rattle.dwarf_entries.specs.declared.range_entries.RangeListEntry.TheVariants.{Base, Covers}
-use Rattle.dwarf_entries.specs.Sections.{Sections}
+use Rattle.dwarf_walk.specs.Sections.{Sections}
 use Rattle.dwarf_entries.specs.Private.Shared.{AddsRanges}
 use Rattle.dwarf_entries.specs.Bases.{item_at}
 use Rattle.dwarf_entries.specs.Ranges.{base_after, ranges_in, covered_from, covered_pair, index_at, address_at, number_at, start_and_end, start_and_length, offset_pair, sets_base, covers, entry_at, kind_of, listed_behind, listed_at, list_at, Covering}

@@ -12,23 +12,23 @@ use Rattle.dwarf_forms.specs.Declarations.{Declaration}
 use Rattle.dwarf_units.specs.declared.unit_headers.UnitHeader.{UnitHeader}
 use Rattle.dwarf_entries.specs.declared.bases.Bases.{Bases}
 use Rattle.dwarf_entries.specs.declared.scope.Root.{Root}
-use Rattle.dwarf_entries.specs.declared.kept.UnitEntries.{UnitEntries}
-use Rattle.dwarf_entries.specs.declared.kept.ScopePlace.{ScopePlace}
-use Rattle.dwarf_entries.specs.Sections.{Sections}
+use Rattle.dwarf_walk.specs.declared.kept.UnitEntries.{UnitEntries}
+use Rattle.dwarf_walk.specs.declared.kept.ScopePlace.{ScopePlace}
+use Rattle.dwarf_walk.specs.Sections.{Sections}
 use Rattle.dwarf_units.specs.Units.{units_of, tables_of}
 use Rattle.dwarf_units.specs.Entries.{Die}
 use Rattle.dwarf_entries.specs.Bases.{CompilationUnit}
 use Rattle.dwarf_entries.specs.Scopes.{Tree, Scope, Judged, sites_in, roots_from, scopes_of, tree_of}
 use Rattle.dwarf_entries.specs.declared.scope_lists.ScopeLists.{ScopeLists}
-use Rattle.dwarf_entries.specs.Private.Kept.{KeptUnit, kept_of, scope_count}
+use Rattle.dwarf_walk.specs.Private.Kept.{KeptUnit, kept_of}
+use Rattle.dwarf_entries.specs.Private.Walked.{scope_count, AreReadIn, AreMarked, all_offsets}
 use Rattle.dwarf_entries.specs.Private.Passes.{all_entries, kept_units, all_kept, all_units, bases_of, all_bases, kept_unit_of, AreUnits, judge, all_sites, all_scopes, TablesRead, tree_of_units, tree_of_dies, tree_with}
 use Rattle.dwarf_bytes.proofs.EachPlaces.{each-length}
 use Rattle.dwarf_units.proofs.TableLaws.{in_section_ok}
 use Rattle.dwarf_entries.proofs.SiteLaws.{places_are, place_in}
-use Rattle.dwarf_entries.specs.Private.Again.{AreReadIn}
 use Rattle.dwarf_entries.proofs.OrderLaws.{dies_of, units-in-order, read-in}
-use Rattle.dwarf_entries.specs.declared.marks.Marks.{Marks}
-use Rattle.dwarf_entries.specs.Private.Marks.{is_marked, AddsMarks, AreMarked, offsets_of, all_offsets}
+use Rattle.dwarf_walk.specs.declared.marks.Marks.{Marks}
+use Rattle.dwarf_walk.specs.Private.Marks.{is_marked, AddsMarks, offsets_of}
 use Rattle.dwarf_entries.specs.Names.{Member, members_of}
 use Rattle.std.specs.List.{list_any}
 use Rattle.std.proofs.lemmas.List.Folds.{list_any-append}

@@ -13,15 +13,15 @@ use Rattle.dwarf_bytes.specs.declared.constants.TheConstants.{DW_FORM_REF_ADDR}
 use Rattle.dwarf_bytes.specs.declared.fault.Cause.TheVariants as causes
 use Rattle.dwarf_units.specs.declared.unit_headers.UnitHeader.{UnitHeader}
 use Rattle.dwarf_units.specs.declared.attributes.AttributeValue.{AttributeValue}
-use Rattle.dwarf_entries.specs.declared.kept.UnitEntries.{UnitEntries}
+use Rattle.dwarf_walk.specs.declared.kept.UnitEntries.{UnitEntries}
 use Rattle.dwarf_entries.specs.declared.paths.UnitPlace.{UnitPlace}
 use Rattle.dwarf_units.specs.Entries.{Die}
 use Rattle.dwarf_entries.specs.Bases.{CompilationUnit}
 use Rattle.dwarf_entries.specs.Names.{Member, members_of, member_at, target_of}
-use Rattle.dwarf_entries.specs.Private.Kept.{AreInOrder}
+use Rattle.dwarf_entries.specs.Private.Walked.{AreInOrder, AreMarked}
 use Rattle.dwarf_units.specs.Private.Rising.{RiseWithin}
-use Rattle.dwarf_entries.specs.Private.Marks.{is_marked, AreMarked}
-use Rattle.dwarf_entries.specs.declared.marks.Marks.{Marks}
+use Rattle.dwarf_walk.specs.Private.Marks.{is_marked}
+use Rattle.dwarf_walk.specs.declared.marks.Marks.{Marks}
 use Rattle.dwarf_entries.specs.Private.Members.{header_of, kept_header, AreKept, Finds, member_in}
 
 -- ---- lists of numbers that do not fall

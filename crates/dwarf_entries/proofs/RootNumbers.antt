@@ -6,8 +6,9 @@ use Rattle.dwarf_bytes.specs.declared.constants.TheConstants.{DW_AT_STMT_LIST}
 use Rattle.dwarf_entries.specs.declared.scope.Root.{Root}
 use Rattle.dwarf_units.specs.Entries.{Die}
 use Rattle.dwarf_entries.specs.Bases.{CompilationUnit}
-use Rattle.dwarf_entries.specs.Scopes.{is_scope, number_of, stmt_list_of, root_of, roots_from}
-use Rattle.dwarf_entries.specs.Private.Kept.{root_in}
+use Rattle.dwarf_walk.specs.ScopeEntries.{is_scope, number_of}
+use Rattle.dwarf_entries.specs.Scopes.{stmt_list_of, root_of, roots_from}
+use Rattle.dwarf_walk.specs.Private.Kept.{root_in}
 use Rattle.dwarf_entries.specs.Private.Passes.{IsRootOf}
 
 -- the units from an index on

@@ -9,10 +9,11 @@ use Rattle.dwarf_bytes.specs.declared.constants.TheConstants.{DW_AT_STMT_LIST}
 use Rattle.dwarf_units.specs.Entries.{Die, below}
 use Rattle.dwarf_units.specs.Private.Rising.{RiseWithin}
 use Rattle.dwarf_entries.specs.declared.scope.Root.{Root}
-use Rattle.dwarf_entries.specs.declared.scope.ScopeKind.{ScopeKind}
-use Rattle.dwarf_entries.specs.Sections.{Sections}
+use Rattle.dwarf_walk.specs.declared.scope_kind.ScopeKind.{ScopeKind}
+use Rattle.dwarf_walk.specs.Sections.{Sections}
 use Rattle.dwarf_entries.specs.Bases.{CompilationUnit}
-use Rattle.dwarf_entries.specs.Scopes.{Scope, Tree, ScopeSite, Judged, kind_of, is_scope, site_of, sites_in, number_of, stmt_list_of, root_of, roots_from, tree_of}
+use Rattle.dwarf_entries.specs.Scopes.{Scope, Tree, ScopeSite, Judged, site_of, sites_in, stmt_list_of, root_of, roots_from, tree_of}
+use Rattle.dwarf_walk.specs.ScopeEntries.{kind_of, is_scope, number_of}
 use Rattle.dwarf_entries.specs.TreeLaws.{ArePartsFrom, IsOfUnit}
 use Rattle.dwarf_entries.proofs.ScopeOrder.{all_sites}
 use Rattle.dwarf_entries.proofs.TreeParts.{AreJudged, is-read}

@@ -4,12 +4,14 @@ use Rattle.std.specs.Prelude.{Option, Some, None, count_by, sum_by}
 use Rattle.std.proofs.lemmas.List.{drop_all, get_or-map, length-map, take_more, take-append-drop}
 use Rattle.std.proofs.lemmas.List.Sums.{sum_by-append}
 use Rattle.dwarf_entries.specs.declared.scope.Root.{Root}
-use Rattle.dwarf_entries.specs.declared.kept.RootEntry.{RootEntry}
-use Rattle.dwarf_entries.specs.declared.kept.UnitEntries.{UnitEntries}
+use Rattle.dwarf_walk.specs.declared.kept.RootEntry.{RootEntry}
+use Rattle.dwarf_walk.specs.declared.kept.UnitEntries.{UnitEntries}
 use Rattle.dwarf_units.specs.Entries.{Die}
 use Rattle.dwarf_entries.specs.Bases.{CompilationUnit}
-use Rattle.dwarf_entries.specs.Scopes.{is_scope, root_of, roots_from}
-use Rattle.dwarf_entries.specs.Private.Kept.{KeptUnit, root_in, kept_of, scope_count}
+use Rattle.dwarf_walk.specs.ScopeEntries.{is_scope}
+use Rattle.dwarf_entries.specs.Scopes.{root_of, roots_from}
+use Rattle.dwarf_walk.specs.Private.Kept.{KeptUnit, root_in, kept_of}
+use Rattle.dwarf_entries.specs.Private.Walked.{scope_count}
 use Rattle.dwarf_entries.specs.Private.Passes.{kept_unit_of}
 use Rattle.dwarf_entries.proofs.SiteLaws.{places-counted}
 

@@ -19,16 +19,17 @@ use Rattle.dwarf_bytes.specs.Bind.{◌>>=◌}
 use Rattle.dwarf_bytes.specs.Refusals.{Fails}
 use Rattle.dwarf_entries.specs.declared.bases.Bases.{Bases}
 use Rattle.dwarf_entries.specs.declared.paths.EntryNames.{EntryNames}
-use Rattle.dwarf_entries.specs.declared.kept.UnitEntries.{UnitEntries}
-use Rattle.dwarf_entries.specs.declared.kept.ScopeEntry.{ScopeEntry}
+use Rattle.dwarf_walk.specs.declared.kept.UnitEntries.{UnitEntries}
+use Rattle.dwarf_walk.specs.declared.kept.ScopeEntry.{ScopeEntry}
 use Rattle.dwarf_entries.specs.declared.unit_scopes.ScopeNumbers.{ScopeNumbers}
-use Rattle.dwarf_entries.specs.Sections.{Sections}
+use Rattle.dwarf_walk.specs.Sections.{Sections}
 use Rattle.dwarf_entries.specs.Bases.{CompilationUnit}
 use Rattle.dwarf_entries.specs.Names.{names_of}
 use Rattle.dwarf_entries.specs.Ranges.{Covering, kind_of, base_after, ranges_in, entry_at, listed_at, list_place, list_at, pair_range, covers_by, covers_of}
-use Rattle.dwarf_entries.specs.Scopes.{Judged, ScopeSite, scope_at, items_limit, stmt_list_of, number_of, roots_from}
+use Rattle.dwarf_entries.specs.Scopes.{Judged, ScopeSite, scope_at, items_limit, stmt_list_of, roots_from}
+use Rattle.dwarf_walk.specs.ScopeEntries.{number_of}
 use Rattle.dwarf_entries.specs.declared.scope.Range.{Range}
-use Rattle.dwarf_entries.specs.Private.Kept.{KeptUnit, named_entry, kept_unit, kept_of}
+use Rattle.dwarf_walk.specs.Private.Kept.{KeptUnit, named_entry, kept_unit, kept_of}
 use Rattle.dwarf_entries.specs.Private.Shared.{AddsRanges, AddsFacts}
 use Rattle.dwarf_entries.specs.Private.Members.{IsMember, AreKept}
 use Rattle.dwarf_entries.specs.Private.Passes.{AreUnits, IsScopeSite, kept_unit_of, scope_facts}

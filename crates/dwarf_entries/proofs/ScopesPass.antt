@@ -14,14 +14,16 @@ use Rattle.dwarf_bytes.proofs.Moves.{same_ok}
 use Rattle.dwarf_units.specs.declared.unit_headers.UnitHeader.{UnitHeader}
 use Rattle.dwarf_forms.specs.Tables.{declarations_of}
 use Rattle.dwarf_units.specs.Units.{declarations_limit}
-use Rattle.dwarf_entries.specs.Private.Again.{scope_entry_at, IsReadIn, AreReadIn}
-use Rattle.dwarf_entries.proofs.AgainLaws.{bytes_in, scope-there, again-memory}
+use Rattle.dwarf_walk.specs.Private.Again.{scope_entry_at}
+use Rattle.dwarf_entries.specs.Private.Walked.{IsReadIn, AreReadIn}
+use Rattle.dwarf_entries.proofs.AgainLaws.{bytes_in, scope-there}
+use Rattle.dwarf_walk.proofs.AgainLaws.{again-memory}
 use Rattle.dwarf_bytes.proofs.EachLaws.{made_front, each-next, each-fault, each-end}
 use Rattle.dwarf_entries.specs.declared.bases.Bases.{Bases}
-use Rattle.dwarf_entries.specs.declared.kept.UnitEntries.{UnitEntries}
-use Rattle.dwarf_entries.specs.declared.kept.ScopeEntry.{ScopeEntry}
-use Rattle.dwarf_entries.specs.declared.kept.ScopePlace.{ScopePlace}
-use Rattle.dwarf_entries.specs.declared.kept.RootEntry.{RootEntry}
+use Rattle.dwarf_walk.specs.declared.kept.UnitEntries.{UnitEntries}
+use Rattle.dwarf_walk.specs.declared.kept.ScopeEntry.{ScopeEntry}
+use Rattle.dwarf_walk.specs.declared.kept.ScopePlace.{ScopePlace}
+use Rattle.dwarf_walk.specs.declared.kept.RootEntry.{RootEntry}
 use Rattle.dwarf_entries.specs.declared.scope.Range.{Range}
 use Rattle.dwarf_entries.specs.declared.scope.Root.{Root}
 use Rattle.dwarf_entries.specs.declared.scope.Scope.{Scope as Kept}
@@ -32,13 +34,13 @@ use Rattle.dwarf_units.specs.Entries.{Die}
 use Rattle.dwarf_entries.specs.Private.Shared.{AddsFacts, AreHeld, facts_of, IsPushed}
 use Rattle.dwarf_entries.proofs.SharedLaws.{scopes-length, pushed}
 use Rattle.dwarf_entries.proofs.RootNumbers.{RootsFrom, units_from, rooted, roots_behind}
-use Rattle.dwarf_entries.specs.Sections.{Sections}
+use Rattle.dwarf_walk.specs.Sections.{Sections}
 use Rattle.dwarf_entries.specs.Bases.{CompilationUnit}
 use Rattle.dwarf_entries.specs.Scopes.{scope_at, Judged, ScopeSite, Scope, items_limit, sites_in, stmt_list_of, roots_from, scopes_from, scopes_of}
 use Rattle.dwarf_entries.specs.Private.Passes.{AreUnits, IsRootOf, IsScopeSite, judge, AreJudged, AddsScopes, all_sites, all_scopes}
 use Rattle.dwarf_bytes.proofs.EachPlaces.{each-append}
 use Rattle.dwarf_entries.proofs.PassLaws.{told_cases}
-use Rattle.dwarf_entries.specs.Private.Kept.{KeptUnit, scope_entry, scope_places, root_in, kept_of}
+use Rattle.dwarf_walk.specs.Private.Kept.{KeptUnit, scope_entry, scope_places, root_in, kept_of}
 use Rattle.dwarf_entries.proofs.ScopeLaws.{kept_in, unit_at}
 use Rattle.dwarf_entries.proofs.SiteLaws.{SiteAt, site_at, places_are, place_in}
 

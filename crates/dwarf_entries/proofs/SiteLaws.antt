@@ -3,13 +3,14 @@ use Rattle.std.proofs.Common.{◌≡◌, ℕ, zero, suc, ◌+◌, ◌<◌, List,
 use Rattle.std.specs.Prelude.{Option, Some, None, is_some, count_by, sum_by, slice_get}
 use Rattle.std.proofs.lemmas.List.{get_or-map, length-map}
 use Rattle.std.proofs.lemmas.List.Sums.{sum_by-cons}
-use Rattle.dwarf_entries.specs.declared.scope.ScopeKind.TheVariants.{Subprogram}
-use Rattle.dwarf_entries.specs.declared.scope.ScopeKind.{ScopeKind}
-use Rattle.dwarf_entries.specs.declared.kept.ScopePlace.{ScopePlace}
+use Rattle.dwarf_walk.specs.declared.scope_kind.ScopeKind.TheVariants.{Subprogram}
+use Rattle.dwarf_walk.specs.declared.scope_kind.ScopeKind.{ScopeKind}
+use Rattle.dwarf_walk.specs.declared.kept.ScopePlace.{ScopePlace}
 use Rattle.dwarf_units.specs.Entries.{Die, below}
 use Rattle.dwarf_entries.specs.Bases.{CompilationUnit}
-use Rattle.dwarf_entries.specs.Scopes.{ScopeSite, kind_of, is_scope, site_of, sites_in}
-use Rattle.dwarf_entries.specs.Private.Kept.{scope_place, scope_places}
+use Rattle.dwarf_entries.specs.Scopes.{ScopeSite, site_of, sites_in}
+use Rattle.dwarf_walk.specs.ScopeEntries.{kind_of, is_scope}
+use Rattle.dwarf_walk.specs.Private.Kept.{scope_place, scope_places}
 
 abbrev pub place_in : ScopeSite → ScopePlace
 place_in p = record { offset = p.member.die.offset; inside = p.inside }

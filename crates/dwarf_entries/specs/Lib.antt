@@ -1,4 +1,3 @@
-pub mod Sections
 pub mod Bases
 pub mod Names
 pub mod Ranges

@@ -2,13 +2,10 @@
 use Rattle.std.specs.Prelude.{ℕ, zero, suc, ◌+◌, List, [], ◌∷◌, length, Option, Some, None, Result}
 use Rattle.std.specs.Prelude.{Ok, Err, ◌==◌, if◌then◌else◌, find, ok_or, option_map, map, flat_map}
 use Rattle.dwarf_bytes.specs.declared.constants.TheConstants.{
-  DW_AT_ABSTRACT_ORIGIN,
   DW_AT_LINKAGE_NAME,
   DW_AT_NAME,
-  DW_AT_SPECIFICATION,
   DW_FORM_LINE_STRP,
   DW_FORM_REF_ADDR,
-  DW_FORM_REF_SIG8,
   DW_FORM_STRING,
   DW_FORM_STRP,
 }
@@ -23,9 +20,10 @@ use Rattle.dwarf_bytes.specs.Numbers.{text_at}
 use Rattle.dwarf_bytes.specs.declared.text.Text.{Text}
 use Rattle.dwarf_entries.specs.declared.bases.Table.{Table}
 use Rattle.dwarf_entries.specs.declared.paths.EntryNames.{EntryNames}
-use Rattle.dwarf_entries.specs.Sections.{Sections}
 use Rattle.dwarf_units.specs.declared.attributes.AttributeValue.{AttributeValue}
 use Rattle.dwarf_units.specs.Entries.{Die, attribute}
+use Rattle.dwarf_walk.specs.Sections.{Sections}
+use Rattle.dwarf_walk.specs.References.{or_else, next_of}
 use Rattle.dwarf_entries.specs.Bases.{CompilationUnit, item_at, optional}
 
 -- an entry with its unit
@@ -36,21 +34,6 @@ pub record Member : Type 0 where
 -- the entries of some units, in file order
 abbrev pub members_of : List CompilationUnit → List Member
 members_of units = flat_map (λ unit. map (λ die. record { unit = unit; die = die }) unit.dies) units
-
--- the first of two that is there
-abbrev pub or_else : {X : Type 0} → Option X → Option X → Option X
-or_else (Some x) other = Some x
-or_else None other = other
-
--- a reference, unless it is one by a signature
-abbrev pub followed : Option AttributeValue → Option AttributeValue
-followed None = None
-followed (Some value) = if value.form == DW_FORM_REF_SIG8 then None else Some value
-
--- the reference to the next entry: abstract_origin, else specification
-abbrev pub next_of : Die → Option AttributeValue
-next_of die =
-    followed (or_else (attribute die DW_AT_ABSTRACT_ORIGIN) (attribute die DW_AT_SPECIFICATION))
 
 -- the entry at an offset of .debug_info, among these
 abbrev pub member_at : List Member → ℕ → Result Member Cause

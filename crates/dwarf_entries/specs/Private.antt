@@ -1,13 +1,6 @@
-pub mod Kept
-pub mod Again
-pub mod Ends
-pub mod Found
-pub mod Long
-pub mod Marks
-pub mod Named
+pub mod Walked
 pub mod Texts
 pub mod Members
 pub mod KnownNames
-pub mod Readers
 pub mod Shared
 pub mod Passes

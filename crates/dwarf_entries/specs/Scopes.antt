@@ -1,11 +1,10 @@
 -- The subprograms and inlined subroutines of all units (DWARF 5, 3.3),
 -- and the faults of .debug_info.
-use Rattle.std.specs.Prelude.{ℕ, ◌+◌, ◌-◌, List, [], ◌∷◌, length, Bool, Option, Some, None, Result}
-use Rattle.std.specs.Prelude.{Ok, ◌==◌, if◌then◌else◌, is_some, option_map, option_and_then, map}
+use Rattle.std.specs.Prelude.{ℕ, ◌+◌, ◌-◌, List, [], ◌∷◌, length, Option, Some, None, Result}
+use Rattle.std.specs.Prelude.{Ok, option_map, option_and_then, map}
 use Rattle.std.specs.Prelude.{flat_map, count_by, sum_by, slice_get, zip, take, drop}
 use Rattle.std.specs.Option.{option_map_or, unwrap_or}
-use Rattle.dwarf_bytes.specs.declared.constants.TheConstants.{DW_TAG_INLINED_SUBROUTINE}
-use Rattle.dwarf_bytes.specs.declared.constants.TheConstants.{DW_TAG_SUBPROGRAM, DW_AT_CALL_FILE}
+use Rattle.dwarf_bytes.specs.declared.constants.TheConstants.{DW_AT_CALL_FILE}
 use Rattle.dwarf_bytes.specs.declared.constants.TheConstants.{DW_AT_CALL_LINE, DW_AT_STMT_LIST}
 use Rattle.dwarf_bytes.specs.declared.fault.Cause.{Cause}
 use Rattle.dwarf_bytes.specs.declared.fault.Section.{Section}
@@ -23,11 +22,11 @@ use Rattle.dwarf_entries.specs.declared.scope_lists.ScopeLists.{ScopeLists}
 use Rattle.dwarf_entries.specs.declared.scope.Range.{Range}
 use Rattle.dwarf_entries.specs.declared.scope.Root.{Root}
 use Rattle.dwarf_entries.specs.declared.scope.Scope.{Scope as Kept}
-use Rattle.dwarf_entries.specs.declared.scope.ScopeKind.{ScopeKind}
-use Rattle.dwarf_entries.specs.declared.scope.ScopeKind.TheVariants.{Subprogram, Inlined}
-use Rattle.dwarf_entries.specs.Sections.{Sections}
 use Rattle.dwarf_units.specs.Units.{units_of, tables_of}
-use Rattle.dwarf_units.specs.Entries.{Die, attribute, below, entries_of}
+use Rattle.dwarf_units.specs.Entries.{Die, below, entries_of}
+use Rattle.dwarf_walk.specs.declared.scope_kind.ScopeKind.{ScopeKind}
+use Rattle.dwarf_walk.specs.Sections.{Sections}
+use Rattle.dwarf_walk.specs.ScopeEntries.{kind_of, is_scope, number_of}
 use Rattle.dwarf_entries.specs.Bases.{CompilationUnit, unit_of}
 use Rattle.dwarf_entries.specs.Names.{Member, names_of}
 use Rattle.dwarf_entries.specs.Ranges.{covers_of}
@@ -133,15 +132,6 @@ pub record Tree : Type 0 where
   pub roots : List Root
   pub scopes : List Scope
 
--- the tags of scopes (7.5.3, table 7.3)
-abbrev pub kind_of : ℕ → Option ScopeKind
-kind_of tag =
-    if tag == DW_TAG_SUBPROGRAM then Some Subprogram
-    else (if tag == DW_TAG_INLINED_SUBROUTINE then Some Inlined else None)
-
-abbrev pub is_scope : Die → Bool
-is_scope die = is_some (kind_of die.tag)
-
 -- a scope before its names and ranges: its entry, its kind, and how many scopes are below it
 pub record ScopeSite : Type 0 where
   pub member : Member
@@ -163,9 +153,6 @@ site_of unit die rest (Some kind) places =
 abbrev pub sites_in : CompilationUnit → List Die → List ScopeSite
 sites_in unit [] = []
 sites_in unit (die ∷ rest) = site_of unit die rest (kind_of die.tag) (sites_in unit rest)
-
-abbrev pub number_of : ℕ → Die → Option ℕ
-number_of name die = option_map (λ value. value.number) (attribute die name)
 
 -- the stmt_list of a unit, which is its root's
 abbrev pub stmt_list_of : List Die → Option ℕ

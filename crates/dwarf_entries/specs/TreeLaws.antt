@@ -16,9 +16,10 @@ use Rattle.dwarf_units.specs.Units.{unit_at, units_of, tables_of}
 use Rattle.dwarf_units.specs.Entries.{Standing, Die, node_at, entries_of}
 use Rattle.dwarf_entries.specs.declared.scope.Range.{Range}
 use Rattle.dwarf_entries.specs.declared.scope.Root.{Root}
-use Rattle.dwarf_entries.specs.Sections.{Sections}
+use Rattle.dwarf_walk.specs.Sections.{Sections}
 use Rattle.dwarf_entries.specs.Bases.{CompilationUnit, unit_of}
-use Rattle.dwarf_entries.specs.Scopes.{Scope, kind_of}
+use Rattle.dwarf_entries.specs.Scopes.{Scope}
+use Rattle.dwarf_walk.specs.ScopeEntries.{kind_of}
 
 -- Offsets rise strictly, and stand before an end.
 abbrev pub RiseBelow : ℕ → List ℕ → Type 0

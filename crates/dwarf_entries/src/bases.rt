@@ -4,12 +4,12 @@
 ghost use Rattle.std.specs.Prelude.{◌≡◌, ◌+◌, ◌*◌};
 ghost use Rattle.dwarf_bytes.specs.Position.{Reads};
 ghost use Rattle.dwarf_entries.specs.Bases.{item_len, item_in, item_at, address_of};
-ghost use Rattle.dwarf_entries.specs.Sections.{sections_of};
+ghost use Rattle.dwarf_walk.specs.Sections.{sections_of};
 
-use crate::sections::Sections;
 use dwarf_bytes::constants::DW_FORM_ADDR;
 use dwarf_bytes::{Cause, Cursor, Format, ReadFault, TableHead, TableKind};
 use dwarf_units::AttributeValue;
+use dwarf_walk::Sections;
 
 /// A table of a unit: its base, what its header says, and the unit's format.
 #[derive(Clone, Copy)]

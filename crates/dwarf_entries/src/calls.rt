@@ -6,7 +6,7 @@ ghost use Rattle.dwarf_entries.specs.declared.calls.CallSite.{CallSite as Site};
 ghost use Rattle.dwarf_entries.specs.Scopes.{call_site};
 ghost use Rattle.dwarf_entries.specs.Private.Shared.{IsHeldIn, IsNarrow};
 
-use crate::packed::narrow;
+use dwarf_walk::narrow;
 use std::alloc::AllocError;
 
 /// The file and the line that a subroutine was called from, by the numbers that its entry gives.

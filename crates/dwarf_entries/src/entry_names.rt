@@ -3,22 +3,21 @@
 ghost use Rattle.std.specs.Prelude.{◌≡◌, List, None, Some, IfSome, map, slice_get};
 ghost use Rattle.dwarf_bytes.specs.Refusals.{Gives};
 ghost use Rattle.dwarf_units.specs.declared.attributes.AttributeValue.{AttributeValue as Value};
-ghost use Rattle.dwarf_entries.specs.Sections.{Sections as SectionBytes, sections_of};
+ghost use Rattle.dwarf_walk.specs.Sections.{Sections as SectionBytes, sections_of};
 ghost use Rattle.dwarf_entries.specs.Bases.{CompilationUnit};
 ghost use Rattle.dwarf_entries.specs.Names.{Member, names_of};
-ghost use Rattle.dwarf_entries.specs.Private.Again.{AreReadIn, IsReaderOf};
+ghost use Rattle.dwarf_entries.specs.Private.Walked.{AreReadIn, AreMarked};
+ghost use Rattle.dwarf_walk.specs.Private.Again.{IsReaderOf};
 ghost use Rattle.dwarf_entries.specs.Private.KnownNames.{AreKnownOf, names_behind};
-ghost use Rattle.dwarf_entries.specs.Private.Marks.{AreMarked};
 ghost use Rattle.dwarf_entries.specs.Private.Members.{AreKept, IsMember};
 ghost use Rattle.dwarf_entries.specs.Private.Texts.{AreTexts};
 
-use crate::again::EntryReader;
-use crate::kept::NamedEntry;
 use crate::known_names::KnownNames;
 use crate::paths::{EntryNames, HOPS_LIMIT, UnitEntry, entry_again, path_names, target};
 use crate::unit_scopes::Units;
 use dwarf_bytes::Cause;
 use dwarf_units::AttributeValue;
+use dwarf_walk::{EntryReader, NamedEntry};
 
 impl<'a> Units<'a> {
     /// The names of an entry of a unit: of each attribute the first on the path from the entry to

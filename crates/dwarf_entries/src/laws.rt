@@ -9,8 +9,9 @@ ghost use Rattle.dwarf_entries.specs.declared.range_entries.RangeListEntry.TheVa
 ghost use Rattle.dwarf_units.specs.Entries.{Die, below, IsBelow};
 ghost use Rattle.dwarf_entries.specs.Ranges.{base_after};
 ghost use Rattle.dwarf_entries.specs.declared.scope.Scope.{Scope as Kept};
-ghost use Rattle.dwarf_entries.specs.Scopes.{is_scope, own, own_of, Scope, Tree, tree_of};
-ghost use Rattle.dwarf_entries.specs.Sections.{Sections};
+ghost use Rattle.dwarf_walk.specs.ScopeEntries.{is_scope};
+ghost use Rattle.dwarf_entries.specs.Scopes.{own, own_of, Scope, Tree, tree_of};
+ghost use Rattle.dwarf_walk.specs.Sections.{Sections};
 ghost use Rattle.dwarf_entries.specs.Order.{AreInOrder, TellsOf};
 
 pub use crate::tree_laws::{

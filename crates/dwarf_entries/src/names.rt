@@ -2,15 +2,15 @@
 
 ghost use Rattle.std.specs.Prelude.{◌≡◌};
 ghost use Rattle.dwarf_entries.specs.Names.{text_in, text_of};
-ghost use Rattle.dwarf_entries.specs.Sections.{sections_of};
+ghost use Rattle.dwarf_walk.specs.Sections.{sections_of};
 ghost use Rattle.dwarf_entries.specs.Private.Texts.{AreTexts};
 
 use crate::bases::{Table, item_at};
-use crate::sections::Sections;
 use crate::texts::Texts;
 use dwarf_bytes::constants::{DW_FORM_LINE_STRP, DW_FORM_STRING, DW_FORM_STRP};
 use dwarf_bytes::{Cause, Section, Span, TableKind, Text, TextIndex};
 use dwarf_units::AttributeValue;
+use dwarf_walk::Sections;
 
 /// The text that a value is, by the table of string offsets of the unit in which it stands.
 #[inline(always)]

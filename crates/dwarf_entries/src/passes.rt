@@ -6,21 +6,19 @@ ghost use Rattle.dwarf_bytes.specs.Refusals.{Decodes, in_section};
 ghost use Rattle.dwarf_forms.specs.Declarations.{Declaration};
 ghost use Rattle.dwarf_units.specs.declared.unit_headers.UnitHeader.{UnitHeader};
 ghost use Rattle.dwarf_units.specs.Entries.{Die};
-ghost use Rattle.dwarf_entries.specs.Sections.{sections_of};
+ghost use Rattle.dwarf_walk.specs.Sections.{sections_of};
 ghost use Rattle.dwarf_units.specs.Units.{tables_of};
-ghost use Rattle.dwarf_entries.specs.Private.Kept.{kept_of};
-ghost use Rattle.dwarf_entries.specs.Private.Marks.{AddsMarks, all_offsets};
+ghost use Rattle.dwarf_walk.specs.Private.Kept.{kept_of};
+ghost use Rattle.dwarf_walk.specs.Private.Marks.{AddsMarks};
+ghost use Rattle.dwarf_entries.specs.Private.Walked.{all_offsets};
 ghost use Rattle.dwarf_entries.specs.Private.Passes.{all_entries, all_kept};
 ghost use Rattle.dwarf_entries.specs.Private.Passes.{kept_units, bases_in, all_bases};
 
 use crate::bases::Bases;
-use crate::entries::entries;
-use crate::kept::UnitEntries;
-use crate::marks::Marks;
 use crate::roots::bases;
-use crate::sections::Sections;
 use dwarf_bytes::{LoadFault, Section};
 use dwarf_units::{Tables, UnitHeader};
+use dwarf_walk::{Marks, Sections, UnitEntries, entries};
 use std::alloc::Global;
 
 /// The entries of all units, whose tables are good. Each entry is marked.

@@ -4,29 +4,26 @@ ghost use Rattle.std.specs.Prelude.{◌≡◌, ◌<◌, ◌≤◌, ◌⊎◌, �
 ghost use Rattle.std.specs.Prelude.{MatchOption, length, map, slice_get, option_map};
 ghost use Rattle.std.specs.Option.{option_or};
 ghost use Rattle.std.specs.List.Sorted.{IsNonDecreasingBy, IsPartitionPoint};
-ghost use Rattle.dwarf_entries.specs.Sections.{Sections as SectionBytes, sections_of};
+ghost use Rattle.dwarf_walk.specs.Sections.{Sections as SectionBytes, sections_of};
 ghost use Rattle.dwarf_entries.specs.Private.Texts.{AreTexts};
 ghost use Rattle.dwarf_entries.specs.Bases.{CompilationUnit, optional};
 ghost use Rattle.dwarf_entries.specs.Names.{Member, target_of, path_within, text_of};
 ghost use Rattle.dwarf_bytes.specs.Refusals.{Gives};
-ghost use Rattle.dwarf_entries.specs.Private.Again.{AreReadIn, IsReaderOf};
+ghost use Rattle.dwarf_entries.specs.Private.Walked.{AreReadIn, AreMarked};
+ghost use Rattle.dwarf_walk.specs.Private.Again.{IsReaderOf};
 ghost use Rattle.dwarf_entries.specs.Private.KnownNames.{names_within};
-ghost use Rattle.dwarf_entries.specs.Private.Marks.{AreMarked};
 ghost use Rattle.dwarf_entries.specs.Private.Members.{AreKept, IsMember, IsPlaceOf, Finds};
 ghost use Rattle.dwarf_entries.specs.Private.Members.{TellsMember, member_in, AreFirst};
 ghost use Rattle.dwarf_entries.specs.Private.Members.{FindsFirst, str_offsets_of};
 
-use crate::again::EntryReader;
 use crate::bases::Bases;
-use crate::kept::{NamedEntry, UnitEntries};
-use crate::marks::Marks;
 use crate::names::text_of;
-use crate::sections::Sections;
 use crate::texts::Texts;
 use crate::unit_scopes::Units;
 use dwarf_bytes::constants::DW_FORM_REF_ADDR;
 use dwarf_bytes::{Cause, Text};
 use dwarf_units::{AttributeValue, UnitHeader};
+use dwarf_walk::{EntryReader, Marks, NamedEntry, Sections, UnitEntries};
 
 /// The hops that a path may have.
 pub(crate) const HOPS_LIMIT: u32 = 16;

@@ -4,13 +4,13 @@ ghost use Rattle.std.specs.Prelude.{◌≡◌, ◌<◌, IsSome, IfOk};
 ghost use Rattle.dwarf_bytes.specs.Refusals.{ReadsField, ReadsNext};
 ghost use Rattle.dwarf_entries.specs.Ranges.{kind_of, covered, covered_from, covered_pair};
 ghost use Rattle.dwarf_entries.specs.Ranges.{index_at, entry_at, listed_behind};
-ghost use Rattle.dwarf_entries.specs.Sections.{sections_of};
+ghost use Rattle.dwarf_walk.specs.Sections.{sections_of};
 
 use crate::bases::{Bases, item_at};
 use crate::scope::Range;
-use crate::sections::Sections;
 use dwarf_bytes::constants::*;
 use dwarf_bytes::{Cause, Cursor, TableKind};
+use dwarf_walk::Sections;
 
 /// The start of dropped code, which no code has.
 const DROPPED: u64 = u64::MAX;

@@ -4,16 +4,15 @@ ghost use Rattle.std.specs.Prelude.{◌≡◌};
 ghost use Rattle.dwarf_entries.specs.Ranges.{list_place, list_at, list_of, high_of};
 ghost use Rattle.dwarf_entries.specs.Ranges.{pair_range, pair_at, covers_by};
 ghost use Rattle.dwarf_entries.specs.Private.Shared.{AddsRanges};
-ghost use Rattle.dwarf_entries.specs.Sections.{sections_of};
+ghost use Rattle.dwarf_walk.specs.Sections.{sections_of};
 
 use crate::bases::{Bases, address_of, item_at};
-use crate::kept::ScopeEntry;
 use crate::range_entries::{RangeListEntry, covered_from, next_entry};
 use crate::scope::Range;
-use crate::sections::Sections;
 use dwarf_bytes::constants::DW_FORM_RNGLISTX;
 use dwarf_bytes::{Cause, Cursor, TableKind};
 use dwarf_units::{AttributeValue, is_address};
+use dwarf_walk::{ScopeEntry, Sections};
 
 /// Adds what a scope covers, by its low_pc, high_pc and ranges, to the ranges of all, and tells how
 /// many items it was read from. `room` is how many these may be.

@@ -2,13 +2,12 @@
 
 ghost use Rattle.std.specs.Prelude.{◌≡◌};
 ghost use Rattle.dwarf_entries.specs.Bases.{optional, table_of, address_of, bases_by};
-ghost use Rattle.dwarf_entries.specs.Sections.{sections_of};
+ghost use Rattle.dwarf_walk.specs.Sections.{sections_of};
 
 use crate::bases::{Bases, Table, address_of};
-use crate::kept::RootEntry;
-use crate::sections::Sections;
 use dwarf_bytes::{Cause, Format, TableHead, TableKind};
 use dwarf_units::AttributeValue;
+use dwarf_walk::{RootEntry, Sections};
 
 /// What the root of a unit of the format tells, judged in this order.
 pub(crate) fn bases(

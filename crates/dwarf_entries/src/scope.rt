@@ -7,9 +7,9 @@ ghost use Rattle.dwarf_entries.specs.Scopes.{text_by};
 ghost use Rattle.dwarf_entries.specs.Private.Shared.{Packs};
 
 use crate::calls::{CallSite, Calls};
-use crate::packed::narrow;
 use crate::scopes::Scopes;
 use dwarf_bytes::{Section, Span, Text};
+use dwarf_walk::{ScopeKind, narrow};
 use std::alloc::AllocError;
 
 /// The addresses from one up to another, which is not of them.
@@ -17,13 +17,6 @@ use std::alloc::AllocError;
 pub struct Range {
     pub from: u64,
     pub to: u64,
-}
-
-/// The entries that are scopes.
-#[derive(Clone, Copy, Debug, PartialEq, Eq)]
-pub enum ScopeKind {
-    Subprogram,
-    Inlined,
 }
 
 /// A subprogram or an inlined subroutine. Its number is its place among all scopes of the object in

@@ -2,27 +2,25 @@
 
 ghost use Rattle.std.specs.Prelude.{◌≡◌, ◌<◌, ◌^◌, map, List};
 ghost use Rattle.dwarf_bytes.specs.Refusals.{Decodes, Builds};
-ghost use Rattle.dwarf_entries.specs.Sections.{sections_of};
+ghost use Rattle.dwarf_walk.specs.Sections.{sections_of};
 ghost use Rattle.dwarf_entries.specs.Bases.{CompilationUnit};
 ghost use Rattle.dwarf_entries.specs.Scopes.{own, own_of, ranges_at, stmt_list_at};
 ghost use Rattle.dwarf_entries.specs.Scopes.{call_file_at, call_line_at, roots_from, tree_of};
 ghost use Rattle.dwarf_entries.specs.Private.Texts.{AreTexts};
-ghost use Rattle.dwarf_entries.specs.Private.Again.{IsReaderOf};
+ghost use Rattle.dwarf_walk.specs.Private.Again.{IsReaderOf};
 ghost use Rattle.dwarf_entries.specs.Private.Passes.{kept_unit_of, TablesRead, tree_with};
-ghost use Rattle.dwarf_entries.specs.Private.Kept.{kept_of, scope_count};
+ghost use Rattle.dwarf_walk.specs.Private.Kept.{kept_of};
+ghost use Rattle.dwarf_entries.specs.Private.Walked.{scope_count};
 
-use crate::again::EntryReader;
 use crate::calls::CallSite;
-use crate::kept::UnitEntries;
-use crate::marks::Marks;
 use crate::passes::{all_bases, all_entries};
 use crate::scope::{Range, Root, Scope};
 use crate::scope_lists::ScopeLists;
-use crate::sections::Sections;
 use crate::texts::Texts;
 use crate::unit_scopes::Units;
 use dwarf_bytes::LoadFault;
 use dwarf_units::{Tables, UnitHeader, units};
+use dwarf_walk::{EntryReader, Marks, Sections, UnitEntries};
 use std::alloc::{AllocError, Global};
 use std::marker::Model;
 

@@ -1,11 +1,11 @@
 //! The sections that texts stand in (DWARF 5, 7.5.5).
 
 ghost use Rattle.std.specs.Prelude.{IfOk};
-ghost use Rattle.dwarf_entries.specs.Sections.{sections_of};
+ghost use Rattle.dwarf_walk.specs.Sections.{sections_of};
 ghost use Rattle.dwarf_entries.specs.Private.Texts.{AreTexts};
 
-use crate::sections::Sections;
 use dwarf_bytes::TextIndex;
+use dwarf_walk::Sections;
 use std::alloc::{AllocError, Global};
 
 /// The sections that texts stand in, each with an index of where they end.

@@ -4,32 +4,28 @@ ghost use Rattle.std.specs.Prelude.{◌≡◌, ◌≤◌, ◌<◌, ◌+◌, ◌^
 ghost use Rattle.std.specs.Prelude.{◌-◌, length, min, slice_get, IfOk, OnOk};
 ghost use Rattle.dwarf_bytes.specs.declared.fault.Section.TheVariants as names;
 ghost use Rattle.dwarf_bytes.specs.Refusals.{Decodes, in_section};
-ghost use Rattle.dwarf_entries.specs.Sections.{Sections as SectionBytes, sections_of};
+ghost use Rattle.dwarf_walk.specs.Sections.{Sections as SectionBytes, sections_of};
 ghost use Rattle.dwarf_entries.specs.Private.Texts.{AreTexts};
 ghost use Rattle.dwarf_entries.specs.Bases.{CompilationUnit};
 ghost use Rattle.dwarf_entries.specs.Scopes.{Judged, ScopeSite, scope_at};
 ghost use Rattle.dwarf_entries.specs.Scopes.{sites_in, roots_from, scopes_of};
 ghost use Rattle.dwarf_entries.specs.Private.Passes.{AreUnits, IsRootOf, IsScopeSite, AreJudged};
 ghost use Rattle.dwarf_entries.specs.Private.Passes.{AddsScopes, scope_facts, all_scopes};
-ghost use Rattle.dwarf_entries.specs.Private.Kept.{scope_count};
-ghost use Rattle.dwarf_entries.specs.Private.Marks.{AreMarked};
-ghost use Rattle.dwarf_entries.specs.Private.Again.{AreReadIn, IsReaderOf};
+ghost use Rattle.dwarf_entries.specs.Private.Walked.{scope_count, AreMarked, AreReadIn};
+ghost use Rattle.dwarf_walk.specs.Private.Again.{IsReaderOf};
 ghost use Rattle.dwarf_entries.specs.Private.KnownNames.{AreKnownOf};
 ghost use Rattle.dwarf_entries.specs.Private.Shared.{AddsFacts};
 
-use crate::again::EntryReader;
 use crate::bases::Bases;
 use crate::calls::CallSite;
-use crate::kept::{ScopeEntry, UnitEntries};
 use crate::known_names::KnownNames;
-use crate::marks::Marks;
 use crate::paths::{EntryNames, UnitEntry};
 use crate::ranges::covers;
 use crate::scope::{Range, ScopeFacts};
 use crate::scope_lists::ScopeLists;
-use crate::sections::Sections;
 use crate::texts::Texts;
 use dwarf_bytes::{Cause, LoadFault, Section};
+use dwarf_walk::{EntryReader, Marks, ScopeEntry, Sections, UnitEntries};
 use std::alloc::Global;
 
 /// The range items that may be read for an object.

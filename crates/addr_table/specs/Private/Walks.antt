@@ -1,7 +1,7 @@
 -- A walk over the scopes of a chain, from the innermost outwards.
 use Rattle.std.specs.Prelude.{◌≡◌, ◌≢◌, ℕ, suc, ◌≤◌, ◌⊎◌, true, List, length, get_or, ◌==◌}
 use Rattle.std.specs.Prelude.{nat_lt, find, Option, Some, None, option_map, if◌then◌else◌}
-use Rattle.dwarf_entries.specs.declared.scope.ScopeKind.TheVariants.{Subprogram, Inlined}
+use Rattle.dwarf_walk.specs.declared.scope_kind.ScopeKind.TheVariants.{Subprogram, Inlined}
 use Rattle.dwarf_entries.specs.Scopes.{Scope}
 use Rattle.dwarf_entries.specs.Order.{AreInOrder}
 use Rattle.addr_table.specs.Chains.{is_at, held_among}

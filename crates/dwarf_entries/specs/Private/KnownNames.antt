@@ -8,7 +8,7 @@ use Rattle.dwarf_entries.specs.declared.known_names.KnownNames.{KnownNames}
 use Rattle.dwarf_entries.specs.declared.known_names.LedNames.{LedNames}
 use Rattle.dwarf_entries.specs.declared.paths.EntryNames.{EntryNames}
 use Rattle.dwarf_entries.specs.declared.paths.UnitPlace.{UnitPlace}
-use Rattle.dwarf_entries.specs.Sections.{Sections}
+use Rattle.dwarf_walk.specs.Sections.{Sections}
 use Rattle.dwarf_entries.specs.Bases.{CompilationUnit}
 use Rattle.dwarf_entries.specs.Names.{Member, target_of, path_within, name_on}
 use Rattle.dwarf_entries.specs.Private.Members.{member_in}

@@ -6,8 +6,8 @@ use Rattle.dwarf_bytes.specs.declared.constants.TheConstants.{DW_AT_LINKAGE_NAME
 use Rattle.dwarf_bytes.specs.declared.fault.Cause.{Cause}
 use Rattle.dwarf_bytes.specs.declared.fault.Cause.TheVariants as causes
 use Rattle.dwarf_units.specs.declared.unit_headers.UnitHeader.{UnitHeader}
-use Rattle.dwarf_entries.specs.declared.kept.NamedEntry.{NamedEntry}
-use Rattle.dwarf_entries.specs.declared.kept.UnitEntries.{UnitEntries}
+use Rattle.dwarf_walk.specs.declared.kept.NamedEntry.{NamedEntry}
+use Rattle.dwarf_walk.specs.declared.kept.UnitEntries.{UnitEntries}
 use Rattle.dwarf_entries.specs.declared.paths.UnitEntry.{UnitEntry}
 use Rattle.dwarf_entries.specs.declared.paths.UnitPlace.{UnitPlace}
 use Rattle.dwarf_entries.specs.declared.paths.UnitAttribute.{UnitAttribute}
@@ -18,7 +18,8 @@ use Rattle.dwarf_entries.specs.declared.bases.Bases.{Bases}
 use Rattle.dwarf_entries.specs.Bases.{CompilationUnit}
 use Rattle.dwarf_entries.specs.Names.{Member, members_of, member_at, first_on}
 use Rattle.dwarf_bytes.specs.Refusals.{Fails}
-use Rattle.dwarf_entries.specs.Private.Kept.{named_entry, AreInOrder}
+use Rattle.dwarf_walk.specs.Private.Kept.{named_entry}
+use Rattle.dwarf_entries.specs.Private.Walked.{AreInOrder}
 
 abbrev pub header_of : CompilationUnit → UnitHeader
 header_of unit = unit.header

@@ -10,22 +10,23 @@ use Rattle.dwarf_bytes.specs.Refusals.{memory_fault, in_section}
 use Rattle.dwarf_forms.specs.Declarations.{Declaration}
 use Rattle.dwarf_units.specs.declared.unit_headers.UnitHeader.{UnitHeader}
 use Rattle.dwarf_entries.specs.declared.bases.Bases.{Bases}
-use Rattle.dwarf_entries.specs.declared.kept.RootEntry.{RootEntry}
-use Rattle.dwarf_entries.specs.declared.kept.UnitEntries.{UnitEntries}
+use Rattle.dwarf_walk.specs.declared.kept.RootEntry.{RootEntry}
+use Rattle.dwarf_walk.specs.declared.kept.UnitEntries.{UnitEntries}
 use Rattle.dwarf_entries.specs.declared.scope.Root.{Root}
 use Rattle.dwarf_entries.specs.declared.scope.ScopeFacts.{ScopeFacts}
 use Rattle.dwarf_entries.specs.declared.scope_lists.ScopeLists.{ScopeLists}
 use Rattle.dwarf_entries.specs.declared.paths.EntryNames.{EntryNames}
 use Rattle.dwarf_entries.specs.declared.unit_scopes.ScopeNumbers.{ScopeNumbers}
-use Rattle.dwarf_entries.specs.Sections.{Sections}
+use Rattle.dwarf_walk.specs.Sections.{Sections}
 use Rattle.dwarf_units.specs.Entries.{Die, entries_of}
 use Rattle.dwarf_entries.specs.Bases.{CompilationUnit, no_bases, bases_by, unit_of}
 use Rattle.dwarf_entries.specs.Scopes.{Tree, Judged, ScopeSite, Scope, items_limit}
 use Rattle.dwarf_entries.specs.Scopes.{sites_in, roots_from, root_stmt_list}
 use Rattle.dwarf_entries.specs.Scopes.{scopes_of, scope_at, stmt_list_of}
-use Rattle.dwarf_entries.specs.declared.kept.ScopeEntry.{ScopeEntry}
+use Rattle.dwarf_walk.specs.declared.kept.ScopeEntry.{ScopeEntry}
 use Rattle.dwarf_units.specs.Units.{units_of, tables_of}
-use Rattle.dwarf_entries.specs.Private.Kept.{KeptUnit, scope_entry, kept_unit, kept_of, AreInOrder}
+use Rattle.dwarf_walk.specs.Private.Kept.{KeptUnit, scope_entry, kept_unit, kept_of}
+use Rattle.dwarf_entries.specs.Private.Walked.{AreInOrder}
 use Rattle.dwarf_entries.specs.Private.Shared.{AreHeld}
 
 -- the entries of each unit

@@ -1,6 +1,6 @@
 use Rattle.std.proofs.Common.{◌≡◌, ◌∙◌, Bool, false, ◌&&◌, sym, ap}
-use Rattle.dwarf_entries.specs.declared.scope.ScopeKind.{ScopeKind}
-use Rattle.dwarf_entries.specs.declared.scope.ScopeKind.TheVariants.{Subprogram, Inlined}
+use Rattle.dwarf_walk.specs.declared.scope_kind.ScopeKind.{ScopeKind}
+use Rattle.dwarf_walk.specs.declared.scope_kind.ScopeKind.TheVariants.{Subprogram, Inlined}
 use Rattle.addr_table.specs.Chains.{is_kind}
 use Rattle.addr_table.proofs.JoinLaws.{told-bad}
 use Rattle.addr_table.proofs.joins.is_bad_scope.Goals as goal

@@ -1,5 +1,5 @@
 use Rattle.std.proofs.lemmas.Result.{err_from_is_err_and}
-use Rattle.dwarf_entries.specs.Sections.{sections_of}
+use Rattle.dwarf_walk.specs.Sections.{sections_of}
 use Rattle.dwarf_entries.proofs.BasesPass.{bases_none, bases_next, bases_end, bases_fault}
 use Rattle.dwarf_entries.proofs.passes.all_bases.Goals as goal
 

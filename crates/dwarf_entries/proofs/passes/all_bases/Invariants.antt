@@ -1,8 +1,8 @@
 use Rattle.std.proofs.Common.{◌≡◌, List, map}
 use Rattle.dwarf_units.specs.declared.unit_headers.UnitHeader.{UnitHeader}
 use Rattle.dwarf_units.specs.Entries.{Die}
-use Rattle.dwarf_entries.specs.Sections.{sections_of}
-use Rattle.dwarf_entries.specs.Private.Kept.{kept_of}
+use Rattle.dwarf_walk.specs.Sections.{sections_of}
+use Rattle.dwarf_walk.specs.Private.Kept.{kept_of}
 use Rattle.dwarf_entries.specs.Private.Passes.{kept_units}
 use Rattle.dwarf_entries.proofs.BasesPass.{BasesSoFar}
 use Rattle.dwarf_entries.proofs.passes.all_bases.Given as goal

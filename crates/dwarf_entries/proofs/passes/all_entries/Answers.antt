@@ -2,7 +2,7 @@ use Rattle.std.proofs.Common.{◌≡◌, ◌∙◌, sym, ◌∷◌, [], inl}
 use Rattle.std.proofs.lemmas.List.{map-append}
 use Rattle.std.proofs.lemmas.Option.{same_Some, slice_get_within}
 use Rattle.std.proofs.lemmas.Result.{err_from_is_err_and}
-use Rattle.dwarf_entries.specs.Private.Kept.{kept_of}
+use Rattle.dwarf_walk.specs.Private.Kept.{kept_of}
 use Rattle.dwarf_entries.proofs.EntriesPass.{entries_none, entries_next, entries_end, entries_marked, entries_table_fault, entries_fault}
 use Rattle.dwarf_entries.proofs.passes.all_entries.Goals as goal
 

@@ -1,7 +1,7 @@
 use Rattle.std.proofs.Common.{◌≡◌, List, Ok, map}
 use Rattle.dwarf_forms.specs.Declarations.{Declaration}
 use Rattle.dwarf_units.specs.Units.{tables_of}
-use Rattle.dwarf_entries.specs.Private.Kept.{kept_of}
+use Rattle.dwarf_walk.specs.Private.Kept.{kept_of}
 use Rattle.dwarf_entries.proofs.EntriesPass.{EntriesSoFar}
 use Rattle.dwarf_entries.proofs.passes.all_entries.Given as goal
 

@@ -1,4 +1,4 @@
-use Rattle.dwarf_entries.specs.Sections.{sections_of}
+use Rattle.dwarf_walk.specs.Sections.{sections_of}
 use Rattle.dwarf_entries.proofs.PassLaws.{root_fault}
 use Rattle.dwarf_entries.proofs.passes.unit_bases.Goals as goal
 

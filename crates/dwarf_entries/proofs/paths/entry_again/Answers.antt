@@ -6,9 +6,10 @@ use Rattle.dwarf_forms.specs.Tables.{declarations_of}
 use Rattle.dwarf_units.specs.Units.{declarations_limit}
 use Rattle.dwarf_units.specs.declared.unit_headers.UnitHeader.{UnitHeader}
 use Rattle.dwarf_entries.specs.Bases.{CompilationUnit}
-use Rattle.dwarf_entries.specs.Private.Named.{named_entry_at}
-use Rattle.dwarf_entries.specs.Private.Kept.{named_entry}
-use Rattle.dwarf_entries.proofs.AgainLaws.{named-at, again-memory}
+use Rattle.dwarf_walk.specs.Private.Named.{named_entry_at}
+use Rattle.dwarf_walk.specs.Private.Kept.{named_entry}
+use Rattle.dwarf_entries.proofs.AgainLaws.{named-at}
+use Rattle.dwarf_walk.proofs.AgainLaws.{again-memory}
 use Rattle.dwarf_entries.proofs.ReferenceLaws.{unit-at, kept-length}
 use Rattle.dwarf_entries.proofs.paths.entry_again.Goals as goal
 

@@ -1,9 +1,9 @@
 use Rattle.std.proofs.Common.{List}
-use Rattle.dwarf_entries.specs.Sections.{Sections}
+use Rattle.dwarf_walk.specs.Sections.{Sections}
 use Rattle.dwarf_entries.specs.Bases.{CompilationUnit}
 use Rattle.dwarf_entries.specs.Names.{Member}
-use Rattle.dwarf_entries.specs.Private.Again.{AreReadIn, IsReaderOf}
-use Rattle.dwarf_entries.specs.Private.Marks.{AreMarked}
+use Rattle.dwarf_entries.specs.Private.Walked.{AreReadIn, AreMarked}
+use Rattle.dwarf_walk.specs.Private.Again.{IsReaderOf}
 use Rattle.dwarf_entries.specs.Private.Members.{AreKept, IsMember}
 use Rattle.dwarf_entries.proofs.PathLaws.{Followed}
 use Rattle.dwarf_entries.proofs.paths.first_names.Given as goal

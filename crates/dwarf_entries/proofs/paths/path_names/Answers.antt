@@ -1,6 +1,6 @@
 use Rattle.std.proofs.Common.{Err, Ok, inr, refl, sym}
 use Rattle.std.proofs.lemmas.Result.{err_from_is_err_and}
-use Rattle.dwarf_entries.specs.Sections.{sections_of}
+use Rattle.dwarf_walk.specs.Sections.{sections_of}
 use Rattle.dwarf_entries.proofs.PathLaws.{text_kept, names-found, path-fails}
 use Rattle.dwarf_entries.proofs.paths.path_names.Goals as goal
 

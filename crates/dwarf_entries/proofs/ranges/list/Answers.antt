@@ -5,7 +5,7 @@ use Rattle.dwarf_bytes.specs.Position.{Position}
 use Rattle.dwarf_entries.specs.declared.scope.Range.{Range}
 use Rattle.dwarf_entries.specs.declared.range_entries.RangeListEntry.{RangeListEntry}
 use Rattle.dwarf_entries.specs.declared.range_entries.RangeListEntry.TheVariants.{Base, Covers}
-use Rattle.dwarf_entries.specs.Sections.{sections_of}
+use Rattle.dwarf_walk.specs.Sections.{sections_of}
 use Rattle.dwarf_entries.proofs.RangeLaws.{ListedSoFar, list_item, list_end, list_fault, list_unsought}
 use Rattle.dwarf_bytes.proofs.Turns.{None-from_no_Some}
 use Rattle.dwarf_entries.proofs.ranges.list.Goals as goal

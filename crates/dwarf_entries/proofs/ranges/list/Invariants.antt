@@ -1,5 +1,5 @@
 use Rattle.std.proofs.Common.{◌≡◌, ◌-◌, length}
-use Rattle.dwarf_entries.specs.Sections.{sections_of}
+use Rattle.dwarf_walk.specs.Sections.{sections_of}
 use Rattle.dwarf_entries.proofs.RangeLaws.{ListedSoFar}
 use Rattle.dwarf_entries.proofs.ranges.list.Given as goal
 

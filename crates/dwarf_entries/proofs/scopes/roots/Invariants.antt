@@ -1,6 +1,7 @@
 use Rattle.std.proofs.Common.{◌≡◌, List, map, take}
 use Rattle.dwarf_entries.specs.Bases.{CompilationUnit}
-use Rattle.dwarf_entries.specs.Private.Kept.{kept_of, scope_count}
+use Rattle.dwarf_walk.specs.Private.Kept.{kept_of}
+use Rattle.dwarf_entries.specs.Private.Walked.{scope_count}
 use Rattle.dwarf_entries.specs.Private.Passes.{kept_unit_of}
 use Rattle.dwarf_entries.proofs.RootsPass.{RootsSoFar}
 use Rattle.dwarf_entries.proofs.scopes.roots.Given as goal

@@ -1,5 +1,5 @@
 use Rattle.std.proofs.lemmas.Result.{err_from_is_err_and}
-use Rattle.dwarf_entries.specs.Sections.{sections_of}
+use Rattle.dwarf_walk.specs.Sections.{sections_of}
 use Rattle.dwarf_entries.proofs.ReadLaws.{tables_read, units_fault, tables_fault, after_tables}
 use Rattle.dwarf_entries.proofs.scopes.Scopes.read.Goals as goal
 

@@ -1,7 +1,7 @@
 use Rattle.std.proofs.Common.{◌∙◌, arith, inl}
 use Rattle.std.proofs.lemmas.Result.{err_from_is_err_and}
-use Rattle.dwarf_entries.specs.Sections.{sections_of}
-use Rattle.dwarf_entries.specs.Private.Again.{IsReaderOf}
+use Rattle.dwarf_walk.specs.Sections.{sections_of}
+use Rattle.dwarf_walk.specs.Private.Again.{IsReaderOf}
 use Rattle.dwarf_entries.proofs.ReadLaws.{entries_read, units_read, as_many, entries_pass_fault, bases_pass_fault, scopes_pass_fault, tree_read, scopes_counted, all-marked}
 use Rattle.dwarf_entries.specs.Scopes.{roots_from, scopes_of}
 use Rattle.dwarf_entries.proofs.SharedLaws.{scopes-length}

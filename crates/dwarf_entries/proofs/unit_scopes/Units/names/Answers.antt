@@ -3,7 +3,7 @@ use Rattle.std.specs.Prelude.{Result}
 use Rattle.dwarf_bytes.specs.declared.fault.Cause.{Cause}
 use Rattle.dwarf_bytes.specs.Refusals.{Gives}
 use Rattle.dwarf_entries.specs.declared.paths.EntryNames.{EntryNames}
-use Rattle.dwarf_entries.specs.Sections.{sections_of}
+use Rattle.dwarf_walk.specs.Sections.{sections_of}
 use Rattle.dwarf_entries.proofs.KnownLaws.{names-by-reference}
 use Rattle.dwarf_entries.proofs.unit_scopes.Units.names.Goals as goal
 

@@ -2,7 +2,7 @@ use Rattle.std.proofs.Common.{inl, subst}
 use Rattle.std.specs.Prelude.{Option}
 use Rattle.std.proofs.lemmas.Result.{err_from_is_err_and}
 use Rattle.dwarf_entries.specs.declared.paths.UnitPlace.{UnitPlace}
-use Rattle.dwarf_entries.specs.Sections.{sections_of}
+use Rattle.dwarf_walk.specs.Sections.{sections_of}
 use Rattle.dwarf_entries.specs.Names.{target_of}
 use Rattle.dwarf_entries.specs.Private.Members.{Finds}
 use Rattle.dwarf_entries.proofs.KnownLaws.{place-of, known-more, led-known, led-names, led-fails}

@@ -1,5 +1,5 @@
 use Rattle.std.proofs.lemmas.Result.{err_from_is_err_and}
-use Rattle.dwarf_entries.specs.Sections.{sections_of}
+use Rattle.dwarf_walk.specs.Sections.{sections_of}
 use Rattle.dwarf_entries.proofs.ScopeLaws.{are_kept, names_fault, covers_fault, scope_is, room-left}
 use Rattle.dwarf_entries.proofs.unit_scopes.Units.scope.Goals as goal
 

@@ -1,7 +1,7 @@
 use Rattle.std.proofs.Common.{◌≡◌, ◌+◌, ◌≤◌, cond, sym, ap, ◌∙◌, arith}
 use Rattle.std.specs.Prelude.{Bool, true, false}
 use Rattle.std.proofs.lemmas.Result.{err_from_is_err_and}
-use Rattle.dwarf_entries.specs.Sections.{sections_of}
+use Rattle.dwarf_walk.specs.Sections.{sections_of}
 use Rattle.dwarf_entries.proofs.ScopesPass.{scopes_none, scopes_next, scopes_fault, scopes_end}
 use Rattle.dwarf_entries.proofs.KnownLaws.{known-none}
 use Rattle.dwarf_entries.proofs.unit_scopes.Units.scopes.Goals as goal

@@ -1,8 +1,8 @@
 use Rattle.std.proofs.Common.{◌≤◌, List}
-use Rattle.dwarf_entries.specs.Sections.{Sections, sections_of}
+use Rattle.dwarf_walk.specs.Sections.{Sections, sections_of}
 use Rattle.dwarf_entries.specs.Bases.{CompilationUnit}
-use Rattle.dwarf_entries.specs.Private.Marks.{AreMarked}
-use Rattle.dwarf_entries.specs.Private.Again.{AreReadIn, IsReaderOf}
+use Rattle.dwarf_entries.specs.Private.Walked.{AreMarked, AreReadIn}
+use Rattle.dwarf_walk.specs.Private.Again.{IsReaderOf}
 use Rattle.dwarf_entries.specs.Private.KnownNames.{AreKnownOf}
 use Rattle.dwarf_entries.specs.Private.Passes.{AreUnits}
 use Rattle.dwarf_entries.proofs.ScopesPass.{ScopesSoFar}

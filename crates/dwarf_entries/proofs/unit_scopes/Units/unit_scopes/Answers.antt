@@ -1,8 +1,8 @@
 use Rattle.std.proofs.Common.{ℕ, refl, arith, ap, ◌∙◌}
 use Rattle.dwarf_bytes.specs.declared.fault.Section.TheVariants as names
 use Rattle.dwarf_bytes.specs.Refusals.{told}
-use Rattle.dwarf_entries.specs.declared.kept.ScopePlace.{ScopePlace}
-use Rattle.dwarf_entries.specs.Sections.{sections_of}
+use Rattle.dwarf_walk.specs.declared.kept.ScopePlace.{ScopePlace}
+use Rattle.dwarf_walk.specs.Sections.{sections_of}
 use Rattle.dwarf_entries.proofs.ScopesPass.{place_known, all_there, is_place, judged_next, judged_end, judged_fault, again_fault}
 use Rattle.dwarf_entries.proofs.unit_scopes.Units.unit_scopes.Goals as goal
 

@@ -1,0 +1,5 @@
+pub mod KeptNodes
+pub mod MarkLaws
+pub mod EndLaws
+pub mod WalkLaws
+pub mod AgainLaws

@@ -1,0 +1,4 @@
+pub mod Sections
+pub mod ScopeEntries
+pub mod References
+pub mod Private

@@ -1,0 +1,101 @@
+-- What is kept of the entries of a unit, for the contracts of the walk.
+use Rattle.std.specs.Prelude.{ℕ, List, [], ◌∷◌, Option, Some, None}
+use Rattle.std.specs.Prelude.{Result, Ok, option_map, count_by}
+use Rattle.dwarf_bytes.specs.declared.constants.TheConstants.{
+  DW_AT_ADDR_BASE,
+  DW_AT_CALL_FILE,
+  DW_AT_CALL_LINE,
+  DW_AT_HIGH_PC,
+  DW_AT_LINKAGE_NAME,
+  DW_AT_LOW_PC,
+  DW_AT_NAME,
+  DW_AT_RANGES,
+  DW_AT_RNGLISTS_BASE,
+  DW_AT_STMT_LIST,
+  DW_AT_STR_OFFSETS_BASE,
+}
+use Rattle.dwarf_bytes.specs.Bind.{◌>>=◌}
+use Rattle.dwarf_bytes.specs.Items.{At}
+use Rattle.dwarf_forms.specs.Declarations.{Declaration}
+use Rattle.dwarf_walk.specs.declared.scope_kind.ScopeKind.{ScopeKind}
+use Rattle.dwarf_units.specs.declared.unit_headers.UnitHeader.{UnitHeader}
+use Rattle.dwarf_walk.specs.declared.kept.NamedEntry.{NamedEntry}
+use Rattle.dwarf_walk.specs.declared.kept.ScopeEntry.{ScopeEntry}
+use Rattle.dwarf_walk.specs.declared.kept.ScopePlace.{ScopePlace}
+use Rattle.dwarf_walk.specs.declared.kept.RootEntry.{RootEntry}
+use Rattle.dwarf_walk.specs.declared.kept.UnitEntries.{UnitEntries}
+use Rattle.dwarf_units.specs.Entries.{Die, attribute, below, entries_of}
+use Rattle.dwarf_walk.specs.References.{next_of}
+use Rattle.dwarf_walk.specs.ScopeEntries.{kind_of, is_scope, number_of}
+
+abbrev pub named_entry : Die → NamedEntry
+named_entry die = record {
+  offset = die.offset;
+  next = next_of die;
+  name = attribute die DW_AT_NAME;
+  linkage_name = attribute die DW_AT_LINKAGE_NAME;
+}
+
+abbrev pub scope_entry : Die → ScopeKind → ScopeEntry
+scope_entry die kind = record {
+  entry = named_entry die;
+  kind = kind;
+  low_pc = attribute die DW_AT_LOW_PC;
+  high_pc = attribute die DW_AT_HIGH_PC;
+  ranges = attribute die DW_AT_RANGES;
+  call_file = number_of DW_AT_CALL_FILE die;
+  call_line = number_of DW_AT_CALL_LINE die;
+}
+
+-- an entry that is a scope
+abbrev pub scope_entry_of : Die → Option ScopeEntry
+scope_entry_of die = option_map (scope_entry die) (kind_of die.tag)
+
+abbrev pub root_entry : Die → RootEntry
+root_entry die = record {
+  offset = die.offset;
+  stmt_list = number_of DW_AT_STMT_LIST die;
+  str_offsets_base = attribute die DW_AT_STR_OFFSETS_BASE;
+  addr_base = attribute die DW_AT_ADDR_BASE;
+  rnglists_base = attribute die DW_AT_RNGLISTS_BASE;
+  low_pc = attribute die DW_AT_LOW_PC;
+}
+
+-- the root of a unit, which is its first entry
+abbrev pub root_in : List Die → Option RootEntry
+root_in [] = None
+root_in (root ∷ dies) = Some (root_entry root)
+
+-- where an entry stands and how many scopes are below it, in front of the places behind it, if it
+-- is a scope
+abbrev pub scope_place : Die → List Die → Option ScopeKind → List ScopePlace → List ScopePlace
+scope_place die rest None places = places
+scope_place die rest (Some kind) places =
+    record { offset = die.offset; inside = count_by is_scope (below die rest) } ∷ places
+
+-- .. of each scope
+abbrev pub scope_places : List Die → List ScopePlace
+scope_places [] = []
+scope_places (die ∷ rest) = scope_place die rest (kind_of die.tag) (scope_places rest)
+
+-- what is kept of a unit
+pub record KeptUnit : Type 0 where
+  pub header : UnitHeader
+  pub root : Option RootEntry
+  pub scopes : List ScopePlace
+
+-- .. of these entries
+abbrev pub kept_unit : UnitHeader → List Die → KeptUnit
+kept_unit header dies = record {
+  header = header;
+  root = root_in dies;
+  scopes = scope_places dies;
+}
+
+-- .. of those that stand in it, by the declarations of its table
+abbrev pub kept_entries : List ℕ → UnitHeader → List Declaration → Result KeptUnit At
+kept_entries info header table = entries_of info header table >>= λ dies. Ok (kept_unit header dies)
+
+-- .. by the program
+abbrev pub kept_of : UnitEntries → KeptUnit
+kept_of unit = record { header = unit.header; root = unit.root; scopes = unit.scopes.items }

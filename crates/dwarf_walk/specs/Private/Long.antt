@@ -1,0 +1,33 @@
+-- What was read of long entries, for the contracts of reading entries again.
+use Rattle.std.specs.Prelude.{◌≡◌, ℕ, List, take, Option, Some, Ok}
+use Rattle.std.specs.BTreeMap.{get}
+use Rattle.std.specs.Ordering.{nat_cmp}
+use Rattle.dwarf_forms.specs.Declarations.{Declaration}
+use Rattle.dwarf_forms.specs.Tables.{declarations_of}
+use Rattle.dwarf_units.specs.declared.unit_headers.UnitHeader.{UnitHeader}
+use Rattle.dwarf_units.specs.Units.{declarations_limit}
+use Rattle.dwarf_walk.specs.declared.kept.NamedEntry.{NamedEntry}
+use Rattle.dwarf_walk.specs.declared.long_entries.LongEntry.{LongEntry}
+use Rattle.dwarf_walk.specs.declared.long_entries.LongEntries.{LongEntries}
+use Rattle.dwarf_walk.specs.Private.Named.{named_entry_at}
+
+-- what is held of the entry at an offset
+abbrev pub held_at : LongEntries → ℕ → Option LongEntry
+held_at long offset = get nat_cmp long.held offset
+
+-- what was read in a unit with the header
+abbrev pub long_entry : UnitHeader → NamedEntry → LongEntry
+long_entry header entry = record {
+  format = header.format;
+  abbreviations = header.abbreviations;
+  end = header.«end»;
+  entry = entry;
+}
+
+-- What is held is what is read of these sections.
+abbrev pub AreHeldOf : List ℕ → List ℕ → LongEntries → Type 0
+AreHeldOf section info long =
+    (offset : ℕ) (held : LongEntry) → held_at long offset ≡ Some held
+    → (table : List Declaration)
+    → declarations_of declarations_limit section held.abbreviations ≡ Ok table
+    → named_entry_at held.format table (take held.«end» info) offset ≡ Ok held.entry

@@ -1,0 +1,223 @@
+//! The entries of units, read again at their places.
+
+ghost use Rattle.std.specs.Prelude.{◌≡◌, ◌<◌, ◌≤◌, ◌==◌, ◌⊎◌, ℕ, true, if◌then◌else◌};
+ghost use Rattle.std.specs.Prelude.{List, Some, Ok, OnOk, take};
+ghost use Rattle.dwarf_bytes.specs.declared.fault.Cause.TheVariants as causes;
+ghost use Rattle.dwarf_bytes.specs.Refusals.{Gives};
+ghost use Rattle.dwarf_forms.specs.Declarations.{Declaration};
+ghost use Rattle.dwarf_forms.specs.Tables.{declarations_of};
+ghost use Rattle.dwarf_units.specs.Units.{declarations_limit};
+ghost use Rattle.dwarf_walk.specs.declared.kept.NamedEntry.{NamedEntry as Named};
+ghost use Rattle.dwarf_walk.specs.Sections.{Sections as SectionBytes, sections_of};
+ghost use Rattle.dwarf_walk.specs.Private.Again.{TellsAndLeaves, scope_entry_at, IsReaderOf};
+ghost use Rattle.dwarf_walk.specs.Private.Again.{len_at, held_by, HasTableOf, Stays, IsShort};
+ghost use Rattle.dwarf_walk.specs.Private.Again.{HoldsAt};
+ghost use Rattle.dwarf_walk.specs.Private.Marks.{is_marked};
+ghost use Rattle.dwarf_walk.specs.Private.Long.{held_at, long_entry};
+ghost use Rattle.dwarf_walk.specs.Private.Named.{used_at, named_entry_at};
+
+use crate::kept::{NamedEntry, ScopeEntry};
+use crate::long_entries::LongEntries;
+use crate::marks::Marks;
+use crate::scope_kind::kind_of;
+use crate::sections::Sections;
+use crate::walk::unit_bytes;
+use dwarf_bytes::{Cause, Cursor};
+use dwarf_units::{Attribute, Tables, UnitHeader};
+use std::alloc::{AllocError, Global};
+
+/// The bytes of an entry past which it is not read again for each reference to it.
+const LONG: usize = 256;
+
+/// Reads entries of units again, by the tables of the units. Offsets count from the start of
+/// `.debug_info`.
+#[derive(Drop)]
+pub struct EntryReader<'a> {
+    alloc: Global,
+    info: &'a [u8],
+    /// The tables of the units, by which it reads.
+    pub tables: Tables<'a>,
+    /// The number of the table that was used last.
+    number: usize,
+    /// The used attributes of the entry that was read last.
+    found: Vec<Attribute>,
+    /// How many bytes that entry has.
+    len: usize,
+    /// What paths need of long entries that were read.
+    pub(crate) long: LongEntries,
+}
+
+impl<'a> EntryReader<'a> {
+    /// Of the entries in these sections, by the tables of their units.
+    pub fn new(alloc: Global, sections: &Sections<'a>, tables: Tables<'a>) -> EntryReader<'a>
+        requires { tables.section ≡ sections.now.debug_abbrev.now }
+        ensures { IsReaderOf (sections_of sections.now) result }
+    {
+        EntryReader {
+            alloc,
+            info: sections.debug_info,
+            tables,
+            number: 0,
+            found: Vec::new(alloc),
+            len: 0,
+            long: LongEntries::new(alloc),
+        }
+    }
+
+    /// Reads the entry at an offset, in the unit of the header, and tells its tag.
+    fn entry(&mut self, header: &UnitHeader, offset: usize) -> Result<u64, Cause>
+        ensures entry { (table : List Declaration) → declarations_of declarations_limit
+            self.old.tables.section header.now.abbreviations ≡ Ok table
+            → TellsAndLeaves result self.new.found.items (used_at header.now.format table
+            (take header.now.«end» self.old.info.now) offset) }
+        ensures section { self.new.tables.section ≡ self.old.tables.section }
+        ensures info { self.new.info.now ≡ self.old.info.now }
+        ensures long { self.new.long ≡ self.old.long }
+        ensures number { OnOk result (HasTableOf header.now self.new) }
+        ensures len { OnOk result ((table : List Declaration) → declarations_of declarations_limit
+            self.old.tables.section header.now.abbreviations ≡ Ok table
+            → len_at header.now.format table (take header.now.«end» self.old.info.now) offset
+            ≡ Ok self.new.len) }
+    {
+        let number = match self.tables.number_by(self.alloc, header, self.number) {
+            Ok(number) => number,
+            Err(fault) => return Err(fault.cause),
+        };
+        self.number = number;
+        let mut cursor = Cursor::new(unit_bytes(self.info, header));
+        cursor.seek(offset)?;
+        let table = self.tables.table(number);
+        let tag = table.read_entry(&mut cursor, &mut self.found)?;
+        self.len = cursor.place().saturating_sub(offset);
+        Ok(tag)
+    }
+
+    /// The scope whose entry stands at an offset, in the unit of the header.
+    pub fn scope(&mut self, header: &UnitHeader, offset: usize) -> Result<ScopeEntry, Cause>
+        ensures scope { (s : SectionBytes) (table : List Declaration) → IsReaderOf s self.old
+            → declarations_of declarations_limit s.debug_abbrev header.now.abbreviations ≡ Ok table
+            → Gives (λ entry. entry) result (scope_entry_at header.now.format table
+            (take header.now.«end» s.debug_info) offset) }
+        ensures reader { (s : SectionBytes) → IsReaderOf s self.old → IsReaderOf s self.new }
+    {
+        let tag = self.entry(header, offset)?;
+        let kind = kind_of(tag).ok_or(Cause::Reference)?;
+        Ok(ScopeEntry::of(offset, kind, &self.found))
+    }
+
+    /// What a path needs of the entry at an offset, in the unit of the header. A long entry is read
+    /// once, and so are the entries of a unit, which are marked, if its table does not stay.
+    pub fn named(
+        &mut self,
+        header: &UnitHeader,
+        marks: &Marks,
+        offset: usize,
+    ) -> Result<NamedEntry, Cause>
+        ensures holds { OnOk result ((s : SectionBytes) (table : List Declaration)
+            → IsReaderOf s self.old
+            → declarations_of declarations_limit s.debug_abbrev header.now.abbreviations ≡ Ok table
+            → header.now.first ≤ offset → offset < header.now.«end»
+            → is_marked marks.now offset ≡ true → HoldsAt s header.now self.new offset
+            ⊎ (Stays header.now self.new × IsShort header.now.format table
+            (take header.now.«end» s.debug_info) offset)) }
+        ensures held { (entry : Named) → held_by self.old offset
+            ≡ Some (long_entry header.now entry) → (result ≡ Ok entry) × (self.new ≡ self.old) }
+        ensures named { (s : SectionBytes) (table : List Declaration) → IsReaderOf s self.old
+            → declarations_of declarations_limit s.debug_abbrev header.now.abbreviations ≡ Ok table
+            → Gives (λ entry. entry) result (named_entry_at header.now.format table
+            (take header.now.«end» s.debug_info) offset) }
+        ensures reader { (s : SectionBytes) → IsReaderOf s self.old → IsReaderOf s self.new }
+    {
+        if let Some(entry) = self.long.get(header, offset) {
+            return Ok(entry);
+        }
+        let entry = self.named_again(header, offset)?;
+        if !self.tables.stays(self.number) {
+            self.hold(header, marks)?;
+        } else if self.len > LONG {
+            self.remember(header, offset, entry)?;
+        }
+        Ok(entry)
+    }
+
+    /// Remembers what paths need of the entries of the unit of the header, as far as they are read.
+    fn hold(&mut self, header: &UnitHeader, marks: &Marks) -> Result<(), AllocError>
+        ensures reader { (s : SectionBytes) → IsReaderOf s self.old → IsReaderOf s self.new }
+        ensures held { OnOk result ((s : SectionBytes) (at : ℕ) → IsReaderOf s self.old
+            → header.now.first ≤ at → at < header.now.«end» → is_marked marks.now at ≡ true
+            → HoldsAt s header.now self.new at) }
+    {
+        for offset in header.first..header.end {
+            if marks.is_marked(offset) {
+                self.hold_at(header, offset)?;
+            }
+        }
+        Ok(())
+    }
+
+    /// Remembers what paths need of the entry at an offset, if it is read.
+    fn hold_at(&mut self, header: &UnitHeader, offset: usize) -> Result<(), AllocError>
+        ensures reader { (s : SectionBytes) → IsReaderOf s self.old → IsReaderOf s self.new }
+        ensures held { OnOk result ((s : SectionBytes) → IsReaderOf s self.old
+            → HoldsAt s header.now self.new offset) }
+        ensures others { OnOk result ((at : ℕ) → (at ≡ offset → ⊥)
+            → held_at self.new.long at ≡ held_at self.old.long at) }
+    {
+        match self.named_again(header, offset) {
+            Ok(entry) => {
+                self.remember(header, offset, entry)?;
+                Ok(())
+            }
+            Err(cause) => {
+                refuse_memory(cause)?;
+                Ok(())
+            }
+        }
+    }
+
+    /// Remembers what was read of the entry at an offset, in the unit of the header.
+    fn remember(
+        &mut self,
+        header: &UnitHeader,
+        offset: usize,
+        entry: NamedEntry,
+    ) -> Result<(), AllocError>
+        ensures held { OnOk result ((at : _) → held_at self.new.long at ≡ if at == offset
+            then Some (long_entry header.now entry) else held_at self.old.long at) }
+        ensures reader { (s : SectionBytes) → IsReaderOf s self.old
+            → ((table : List Declaration) → declarations_of declarations_limit s.debug_abbrev
+            header.now.abbreviations ≡ Ok table → named_entry_at header.now.format table
+            (take header.now.«end» s.debug_info) offset ≡ Ok entry) → IsReaderOf s self.new }
+    {
+        self.long.insert(header, offset, entry)
+    }
+
+    /// The same, read at its place.
+    fn named_again(&mut self, header: &UnitHeader, offset: usize) -> Result<NamedEntry, Cause>
+        ensures named { (s : SectionBytes) (table : List Declaration) → IsReaderOf s self.old
+            → declarations_of declarations_limit s.debug_abbrev header.now.abbreviations ≡ Ok table
+            → Gives (λ entry. entry) result (named_entry_at header.now.format table
+            (take header.now.«end» s.debug_info) offset) }
+        ensures reader { (s : SectionBytes) → IsReaderOf s self.old → IsReaderOf s self.new }
+        ensures long { self.new.long ≡ self.old.long }
+        ensures number { OnOk result (HasTableOf header.now self.new) }
+        ensures len { OnOk result ((s : SectionBytes) (table : List Declaration)
+            → IsReaderOf s self.old
+            → declarations_of declarations_limit s.debug_abbrev header.now.abbreviations ≡ Ok table
+            → len_at header.now.format table (take header.now.«end» s.debug_info) offset
+            ≡ Ok self.new.len) }
+    {
+        self.entry(header, offset)?;
+        Ok(NamedEntry::of(offset, &self.found))
+    }
+}
+
+/// Refuses a cause that is want of memory, and no other one.
+fn refuse_memory(cause: Cause) -> Result<(), AllocError>
+    ensures { OnOk result (cause ≡ causes.Memory → ⊥) }
+{
+    match cause {
+        Cause::Memory => Err(AllocError),
+        _ => Ok(()),
+    }
+}

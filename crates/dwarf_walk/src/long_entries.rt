@@ -1,0 +1,85 @@
+//! What paths need of long entries, which are read once however many references lead to them.
+
+ghost use Rattle.std.specs.Prelude.{◌≡◌, ◌==◌, ◌↔◌, None, Some, IfSome};
+ghost use Rattle.std.specs.Prelude.{IsTrue, OnOk, OnErr, if◌then◌else◌};
+ghost use Rattle.dwarf_walk.specs.declared.kept.NamedEntry.{NamedEntry as Named};
+ghost use Rattle.dwarf_walk.specs.Private.Long.{held_at, long_entry};
+
+use crate::kept::NamedEntry;
+use dwarf_bytes::Format;
+use dwarf_units::UnitHeader;
+use std::alloc::{AllocError, Global};
+use std::collections::BTreeMap;
+
+/// What a path needs of an entry, and what of its unit it was read by.
+#[derive(Clone, Copy)]
+pub(crate) struct LongEntry {
+    format: Format,
+    abbreviations: u64,
+    end: usize,
+    entry: NamedEntry,
+}
+
+/// What was read of long entries, by their offsets.
+#[derive(Drop)]
+pub(crate) struct LongEntries {
+    held: BTreeMap<usize, LongEntry>,
+}
+
+impl LongEntry {
+    /// Whether it was read in a unit with the header.
+    fn is_in(&self, header: &UnitHeader) -> bool
+        ensures { IsTrue result ↔ ((self.now.format ≡ header.now.format)
+            × (self.now.abbreviations ≡ header.now.abbreviations)
+            × (self.now.«end» ≡ header.now.«end»)) }
+    {
+        self.format == header.format
+            && self.abbreviations == header.abbreviations
+            && self.end == header.end
+    }
+}
+
+impl LongEntries {
+    pub(crate) fn new(alloc: Global) -> LongEntries
+        ensures { (offset : _) → held_at result offset ≡ None }
+    {
+        LongEntries {
+            held: BTreeMap::new(alloc),
+        }
+    }
+
+    /// What was read of the entry at an offset, in the unit of the header.
+    pub(crate) fn get(&self, header: &UnitHeader, offset: usize) -> Option<NamedEntry>
+        ensures some { IfSome result (λ entry.
+            held_at self.now offset ≡ Some (long_entry header.now entry)) }
+        ensures found { (entry : Named) → held_at self.now offset
+            ≡ Some (long_entry header.now entry) → result ≡ Some entry }
+    {
+        let held = self.held.get(&offset)?;
+        if held.is_in(header) {
+            return Some(held.entry);
+        }
+        None
+    }
+
+    /// Holds what was read of the entry at an offset, in the unit of the header.
+    pub(crate) fn insert(
+        &mut self,
+        header: &UnitHeader,
+        offset: usize,
+        entry: NamedEntry,
+    ) -> Result<(), AllocError>
+        ensures ok { OnOk result ((at : _) → held_at self.new at
+            ≡ if at == offset then Some (long_entry header.now entry) else held_at self.old at) }
+        ensures err { OnErr result ((at : _) → held_at self.new at ≡ held_at self.old at) }
+    {
+        let held = LongEntry {
+            format: header.format,
+            abbreviations: header.abbreviations,
+            end: header.end,
+            entry,
+        };
+        self.held.insert(offset, held)?;
+        Ok(())
+    }
+}

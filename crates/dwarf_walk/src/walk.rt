@@ -1,0 +1,249 @@
+//! The entries of a unit (DWARF 5, 2.3, 7.5.2 and 7.5.3).
+
+ghost use Rattle.std.specs.Prelude.{◌≡◌, ◌≤◌, ℕ, List, [], None, Ok, is_some};
+ghost use Rattle.std.specs.Prelude.{IsSome, IfOk, OnOk, not, take, reverse};
+ghost use Rattle.dwarf_bytes.specs.declared.fault.Section.TheVariants as sections;
+ghost use Rattle.dwarf_bytes.specs.Refusals.{Decodes, in_section};
+ghost use Rattle.std.specs.List.{filter_map};
+ghost use Rattle.dwarf_units.specs.Entries.{Die, Node, Standing, depth_limit};
+ghost use Rattle.dwarf_units.specs.Entries.{die_of, node_behind, entries_of};
+ghost use Rattle.dwarf_walk.specs.Private.Kept.{kept_of, kept_entries};
+ghost use Rattle.dwarf_walk.specs.Private.Marks.{AddsMarks, offsets_of};
+ghost use Rattle.dwarf_walk.specs.Private.Readers.{ReadsNode, walked_of, after_die, with_scope};
+ghost use Rattle.dwarf_walk.specs.Private.Readers.{walked_at, nodes_of, places_of, walk_of};
+ghost use Rattle.dwarf_walk.specs.Private.Ends.{ended_at, left_open, with_end};
+ghost use Rattle.dwarf_units.specs.Private.Plans.{Fills};
+
+use crate::kept::{RootEntry, ScopePlace, UnitEntries};
+use crate::marks::Marks;
+use crate::packed::narrow;
+use crate::scope_kind::kind_of;
+use dwarf_bytes::{Cause, Cursor, LoadFault, Section, Span};
+use dwarf_units::{Attribute, UnitHeader, UnitTable};
+use std::alloc::{AllocError, Global};
+
+/// What the declaration of an entry tells of it, but its attributes.
+#[derive(Clone, Copy)]
+pub(crate) struct NodeHead {
+    pub(crate) tag: u64,
+    pub(crate) children: bool,
+}
+
+/// A scope that the next entry may be below: how deep its entry stands, and its number in the unit.
+#[derive(Clone, Copy)]
+pub(crate) struct OpenScope {
+    pub(crate) depth: u16,
+    pub(crate) number: u32,
+}
+
+/// What is kept of the entries so far, and the depth behind them.
+#[derive(Drop)]
+pub(crate) struct Walk {
+    pub(crate) depth: u16,
+    pub(crate) root: Option<RootEntry>,
+    pub(crate) scopes: Vec<ScopePlace>,
+    pub(crate) opened: Vec<OpenScope>,
+}
+
+/// What is kept of the entries of a unit, each of which is marked. A fault is told at its entry,
+/// and a list of children that is not ended at the unit, by offsets from the section's start.
+pub fn entries(
+    alloc: Global,
+    info: &[u8],
+    header: UnitHeader,
+    table: &UnitTable<'_>,
+    marks: &mut Marks,
+) -> Result<UnitEntries, LoadFault>
+    requires { table.now.format ≡ header.format }
+    ensures decodes { Decodes (λ unit. kept_of unit) result (in_section sections.DebugInfo
+        (kept_entries info.now header table.now.declarations)) }
+    ensures marks { OnOk result ((dies : List Die) → entries_of info.now header
+        table.now.declarations ≡ Ok dies → AddsMarks marks.old marks.new (offsets_of dies)) }
+{
+    let mut walk = walk_unit(alloc, info, header, table, marks)?;
+    if walk.depth > 0 {
+        let at = header.start as u64;
+        return Err(LoadFault::told(Section::DebugInfo, Cause::TreeOpen, at));
+    }
+    end_scopes(&mut walk.scopes, &mut walk.opened, 0)?;
+    Ok(UnitEntries {
+        header,
+        root: walk.root,
+        scopes: walk.scopes,
+    })
+}
+
+impl Walk {
+    fn new(alloc: Global) -> Walk
+        ensures { walked_of result
+            ≡ record { depth = 0; root = None; scopes = []; opened = [] } }
+    {
+        Walk {
+            depth: 0,
+            root: None,
+            scopes: Vec::new(alloc),
+            opened: Vec::new(alloc),
+        }
+    }
+
+    /// Takes what stands at the cursor, and marks its place if it is an entry. `found` is a buffer
+    /// for attributes.
+    fn step(
+        &mut self,
+        table: &UnitTable<'_>,
+        marks: &mut Marks,
+        cursor: &mut Cursor,
+        found: &mut Vec<Attribute>,
+    ) -> Result<(), Cause>
+        ensures fills { Fills result (walked_of self.new)
+            (walked_at table.now.format table.now.declarations
+            (walked_of self.old)) cursor.old cursor.new }
+        ensures marks { OnOk result ((node : Node × ℕ) → node_behind table.now.format
+            table.now.declarations self.old.depth (is_some self.old.root) cursor.old.bytes
+            cursor.old.place ≡ Ok node
+            → AddsMarks marks.old marks.new (places_of cursor.old.place node.0)) }
+    {
+        let offset = cursor.place();
+        let rooted = self.root.is_some();
+        match node(table, self.depth, rooted, cursor, found)? {
+            None => self.depth = self.depth.saturating_sub(1),
+            Some(head) => {
+                marks.mark(offset)?;
+                self.keep(offset, head.tag, found)?;
+                if head.children {
+                    self.depth += 1;
+                }
+            }
+        }
+        Ok(())
+    }
+
+    /// Takes a scope whose entry stands at an offset.
+    fn open(&mut self, offset: u32) -> Result<(), AllocError>
+        ensures { OnOk result (walked_of self.new ≡ with_scope offset (walked_of self.old)) }
+    {
+        let number = narrow(self.scopes.len())?;
+        self.opened.push(OpenScope {
+            depth: self.depth,
+            number,
+        })?;
+        self.scopes.push(ScopePlace { offset, inside: 0 })?;
+        Ok(())
+    }
+
+    /// Keeps what is wanted of the entry at an offset.
+    fn keep(&mut self, offset: usize, tag: u64, attributes: &[Attribute]) -> Result<(), AllocError>
+        ensures { OnOk result (walked_of self.new
+            ≡ after_die (walked_of self.old) (record {
+              offset = offset;
+              depth = self.old.depth;
+              tag = tag;
+              attributes = attributes.now;
+            })) }
+    {
+        if self.root.is_none() {
+            self.root = Some(RootEntry::of(offset, attributes));
+        }
+        end_scopes(&mut self.scopes, &mut self.opened, self.depth)?;
+        if kind_of(tag).is_some() {
+            self.open(narrow(offset)?)?;
+        }
+        Ok(())
+    }
+}
+
+/// The entries of a unit, each of which is marked. A fault is told at what stands there.
+fn walk_unit(
+    alloc: Global,
+    info: &[u8],
+    header: UnitHeader,
+    table: &UnitTable<'_>,
+    marks: &mut Marks,
+) -> Result<Walk, LoadFault>
+    requires { table.now.format ≡ header.format }
+    ensures decodes { Decodes (λ walk. walked_of walk) result (in_section sections.DebugInfo
+        (walk_of info.now header table.now.declarations)) }
+    ensures marks { OnOk result ((all : List Standing × ℕ) → nodes_of info.now header
+        table.now.declarations ≡ Ok all
+        → AddsMarks marks.old marks.new (offsets_of (filter_map die_of all.0))) }
+{
+    let unit = unit_bytes(info, &header);
+    let mut cursor = Cursor::new(unit);
+    let mut walk = Walk::new(alloc);
+    let mut found = Vec::new(alloc);
+    if cursor.seek(header.first).is_err() {
+        return Ok(walk);
+    }
+    while cursor.place() < unit.len() {
+        let at = cursor.place();
+        if let Err(cause) = walk.step(table, marks, &mut cursor, &mut found) {
+            return Err(LoadFault::told(Section::DebugInfo, cause, at as u64));
+        }
+    }
+    Ok(walk)
+}
+
+/// The section up to the end of a unit.
+pub(crate) fn unit_bytes<'a>(info: &'a [u8], header: &UnitHeader) -> &'a [u8]
+    ensures { result.now ≡ take header.now.«end» info.now }
+{
+    Span {
+        place: 0,
+        len: header.end,
+    }
+    .of(info)
+}
+
+/// The entry at the cursor, at a depth, or none for a null. `rooted` is whether the root of the
+/// unit stands before it. If not, its used attributes come into `found`.
+fn node(
+    table: &UnitTable<'_>,
+    depth: u16,
+    rooted: bool,
+    cursor: &mut Cursor,
+    found: &mut Vec<Attribute>,
+) -> Result<Option<NodeHead>, Cause>
+    ensures reads { ReadsNode (not rooted) result found.new.items
+        (node_behind table.now.format table.now.declarations depth rooted) cursor.old cursor.new }
+    ensures limit { IfOk result (λ entry. IsSome entry → depth ≤ depth_limit) }
+{
+    let Some(head) = table.head(depth, rooted, cursor)? else {
+        return Ok(None);
+    };
+    let tag = head.tag();
+    let children = head.children();
+    head.read_attributes(!rooted, cursor, found)?;
+    Ok(Some(NodeHead { tag, children }))
+}
+
+/// Ends the open scopes that an entry at a depth is not below:
+/// all scopes behind them are below them.
+fn end_scopes(
+    scopes: &mut Vec<ScopePlace>,
+    opened: &mut Vec<OpenScope>,
+    depth: u16,
+) -> Result<(), AllocError>
+    ensures { OnOk result (
+        (scopes.new.items ≡ ended_at depth (reverse opened.old.items) scopes.old.items)
+        × (reverse opened.new.items ≡ left_open depth (reverse opened.old.items))) }
+{
+    while let Some(last) = opened.last() {
+        if last.depth < depth {
+            return Ok(());
+        }
+        end_scope(scopes, last.number as usize)?;
+        opened.pop();
+    }
+    Ok(())
+}
+
+/// Ends the scope of a number: all scopes behind it are below it.
+fn end_scope(scopes: &mut Vec<ScopePlace>, number: usize) -> Result<(), AllocError>
+    ensures { OnOk result (scopes.new.items ≡ with_end number scopes.old.items) }
+{
+    if number >= scopes.len() {
+        return Ok(());
+    }
+    scopes[number].inside = narrow(scopes.len() - number - 1)?;
+    Ok(())
+}
