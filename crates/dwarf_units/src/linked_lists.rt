@@ -108,6 +108,10 @@ impl<'a> LinkedLists<'a> {
             (steps_at format (steps_of keep format
             (rest_attributes self.now.places.known first)) bytes at)) cursor.old cursor.new }
     {
+        // Most declarations share none of their attributes, and need no links.
+        if first.is_none() {
+            return Ok(());
+        }
         let links = self.links(format);
         let mut next = first;
         while let Some(number) = next {

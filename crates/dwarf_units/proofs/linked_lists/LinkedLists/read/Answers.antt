@@ -1,4 +1,5 @@
-use Rattle.std.proofs.Common.{◌<◌, ◌∙◌, refl, arith}
+use Rattle.std.proofs.Common.{◌≡◌, ◌<◌, ◌∙◌, ℕ, false, refl, ap, arith}
+use Rattle.std.specs.Prelude.{Option, Some, None, is_some, not}
 use Rattle.std.proofs.lemmas.Result.{err_from_is_err_and}
 use Rattle.dwarf_bytes.proofs.Turns.{None-from_no_Some}
 use Rattle.dwarf_units.proofs.LinkLaws.{before-both, linked-at, next-smaller}
@@ -6,6 +7,16 @@ use Rattle.dwarf_units.proofs.PlanTurns.{kept-more, kept-fault, kept-end}
 use Rattle.dwarf_units.specs.Private.Links.{IsLink, linked_in}
 use Rattle.dwarf_units.specs.Private.Plans.{steps_of}
 use Rattle.dwarf_units.proofs.linked_lists.LinkedLists.read.Goals as goal
+
+-- of no known attribute nothing is kept
+pub returns-then-is_none : goal.returns-then-is_none
+unfolding steps_of
+returns-then-is_none c =
+    (kept-end c.args.format _ c.args.cursor.now.bytes c.args.found.now.items c.args.cursor.now.place _ (rw (absent c.args.first (c.is_none.ensures ∙ ap not c.if-is_none.true)) refl) refl, refl)
+  where
+    absent : (first : Option ℕ) → is_some first ≡ false → first ≡ None
+    absent None is = refl
+    absent (Some number) is = cc
 
 pub returns-in_err-read_step : goal.returns-in_err-read_step
 returns-in_err-read_step c =
