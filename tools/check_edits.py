@@ -2,7 +2,9 @@
 """Shows each must-fail edit that no longer fits the files it changes, before proofs take an hour.
 
 An edit is lines `file: PATH` and pairs of lines `old: TEXT`, `new: TEXT`; each old text stands in
-its file exactly once. Ends with 1 where one does not.
+its file exactly once. Those of the gate stand in their crate's must-fail/, those of private
+functions, which the gate leaves out, in edits/CRATE, under names of their own. Ends with 1 where
+one does not fit.
 """
 import sys
 from pathlib import Path
@@ -10,9 +12,16 @@ from pathlib import Path
 TOP = Path(__file__).resolve().parent.parent
 
 
+def crate_of(edit: Path) -> Path:
+    """The folder of the crate that an edit changes."""
+    if edit.parent.name == "must-fail":
+        return edit.parent.parent
+    return TOP / "crates" / edit.parent.name
+
+
 def misfits(edit: Path):
     """The old texts of an edit that do not stand exactly once, each with its file."""
-    crate = edit.parent.parent
+    crate = crate_of(edit)
     texts: dict[str, str] = {}
     path = old = ""
     for line in edit.read_text(encoding="utf-8").splitlines():
@@ -30,14 +39,20 @@ def misfits(edit: Path):
 
 
 def main():
-    edits = sorted(TOP.glob("crates/*/must-fail/*.edit"))
+    gate = sorted(TOP.glob("crates/*/must-fail/*.edit"))
+    left_out = sorted(TOP.glob("edits/*/*.edit"))
     faults = 0
+    for edit in left_out:
+        if (crate_of(edit) / "must-fail" / edit.name).exists():
+            print(f"{edit.relative_to(TOP)}: the gate has one of this name")
+            faults += 1
+    edits = gate + left_out
     for edit in edits:
         for path, old in misfits(edit):
             print(f"{edit.relative_to(TOP)}: not once in {path}: {old}")
             faults += 1
-    print(f"check_edits: {len(edits)} edits, {faults} faults")
-    return 1 if faults or not edits else 0
+    print(f"check_edits: {len(gate)} edits of the gate, {len(left_out)} others, {faults} faults")
+    return 1 if faults or not gate else 0
 
 
 if __name__ == "__main__":
