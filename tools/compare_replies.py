@@ -4,7 +4,8 @@
 compare_replies.py PROGRAM COUNT OBJECT.. asks each for COUNT addresses, spread evenly over the
 executable sections, with -a -f -i -p -s and linkage names. Of the others' text is taken away what
 ours never has: a discriminator, and what a compiler puts behind the symbol of a copy of a
-function. Where this program tells no function, names of the symbol table agree, and where it
+function; and llvm-symbolizer's -s leaves an absolute file name whole, of which the last part is
+taken. Where this program tells no function, names of the symbol table agree, and where it
 knows nothing, all that tells no line, for it reads no symbols; of symbols with one value, as
 those of a destructor, others may tell another one. Fails where a reply is neither that of
 addr2line nor that of llvm-symbolizer.
@@ -46,6 +47,12 @@ def replies(command, asked):
     return found
 
 
+def last_parts(found):
+    """The same frames with the last part of each file's path."""
+    cut = [(a, [(n, f.rsplit("/", 1)[-1], line) for n, f, line in found[a]]) for a in found]
+    return dict(cut)
+
+
 def values(path):
     """The value of each symbol."""
     how = {"capture_output": True, "text": True, "check": True}
@@ -74,7 +81,8 @@ def main():
         ours = replies([program, "-e", path, "--linkage", *OPTIONS], asked)
         binutils = replies(["addr2line", "-e", path, *OPTIONS], asked)
         style = ["--output-style=GNU", "--no-demangle"]
-        llvm = replies(["llvm-symbolizer", *style, f"--obj={path}", *OPTIONS], asked)
+        command = ["llvm-symbolizer", *style, f"--obj={path}", *OPTIONS]
+        llvm = last_parts(replies(command, asked))
         symbols = values(path)
         with_binutils = {a for a in asked if agree(ours[a], binutils[a], symbols)}
         with_llvm = {a for a in asked if agree(ours[a], llvm[a], symbols)}
