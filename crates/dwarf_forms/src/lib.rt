@@ -2,6 +2,8 @@
 //! to 7.5.6.
 #![tactic(auto)]
 
+mod abbreviation_declaration;
+mod abbreviation_table;
 mod attribute;
 mod code_index;
 mod declaration;
@@ -10,15 +12,13 @@ pub mod laws;
 mod name_sets;
 mod reading;
 mod shared;
-mod shared_decl;
-mod shared_table;
 mod values;
 
+pub use abbreviation_declaration::AbbreviationDeclaration;
+pub use abbreviation_table::AbbreviationTable;
 pub use attribute::AttributeSpecification;
 pub use dwarf_bytes::Content;
 pub use known_lists::{KnownAttribute, KnownLists};
 pub use reading::value;
 pub use shared::{SharedList, UNSHARED};
-pub use shared_decl::SharedDecl;
-pub use shared_table::SharedAbbrevs;
 pub use values::{Value, ValueFault};

@@ -1,7 +1,7 @@
 //! Declarations with all of their attributes.
 
 use dwarf_bytes::LoadFault;
-use dwarf_forms::{AttributeSpecification, KnownLists, SharedAbbrevs, SharedDecl};
+use dwarf_forms::{AbbreviationDeclaration, AbbreviationTable, AttributeSpecification, KnownLists};
 use std::alloc::{AllocError, Global};
 use std::test::*;
 
@@ -17,14 +17,14 @@ pub struct Listed {
 /// The declarations of the table at a section's start.
 pub fn declarations_of(alloc: Global, section: &[u8], left: &mut u64) -> Result<Vec<Listed>, Fail> {
     let mut lists = KnownLists::new(alloc, section)?;
-    let table = SharedAbbrevs::read(alloc, &mut lists, 0, left)?;
-    Ok(all_of(alloc, &lists, table.decls())?)
+    let table = AbbreviationTable::read(alloc, &mut lists, 0, left)?;
+    Ok(all_of(alloc, &lists, table.declarations())?)
 }
 
 fn all_of(
     alloc: Global,
     lists: &KnownLists<'_>,
-    declarations: &[SharedDecl],
+    declarations: &[AbbreviationDeclaration],
 ) -> Result<Vec<Listed>, AllocError> {
     let mut all = Vec::new(alloc);
     for declaration in declarations {
@@ -42,7 +42,7 @@ fn all_of(
 pub fn attributes_of(
     alloc: Global,
     lists: &KnownLists<'_>,
-    declaration: &SharedDecl,
+    declaration: &AbbreviationDeclaration,
 ) -> Result<Vec<AttributeSpecification>, AllocError> {
     let list = declaration.list();
     let mut attributes = Vec::from_slice(alloc, list.own())?;
@@ -66,5 +66,5 @@ pub fn fault_at(
     left: &mut u64,
 ) -> Result<Option<LoadFault>, AllocError> {
     let mut lists = KnownLists::new(alloc, section)?;
-    Ok(SharedAbbrevs::read(alloc, &mut lists, offset, left).err())
+    Ok(AbbreviationTable::read(alloc, &mut lists, offset, left).err())
 }

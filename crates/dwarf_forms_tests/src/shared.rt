@@ -1,7 +1,7 @@
 //! Tables that stand within one list of attributes.
 
 use crate::listed::attributes_of;
-use dwarf_forms::{AttributeSpecification, KnownLists, SharedAbbrevs, UNSHARED};
+use dwarf_forms::{AbbreviationTable, AttributeSpecification, KnownLists, UNSHARED};
 use std::alloc::{AllocError, Global};
 use std::process::Abort;
 use std::test::*;
@@ -45,8 +45,8 @@ fn first_of(
     offset: u64,
 ) -> Result<(Vec<AttributeSpecification>, usize), Fail> {
     let mut left = 1;
-    let table = SharedAbbrevs::read(alloc, lists, offset, &mut left)?;
-    let declaration = table.decls().first().ok_or("no declaration")?;
+    let table = AbbreviationTable::read(alloc, lists, offset, &mut left)?;
+    let declaration = table.declarations().first().ok_or("no declaration")?;
     let attributes = attributes_of(alloc, lists, declaration)?;
     Ok((attributes, declaration.list().own().len()))
 }

@@ -33,10 +33,10 @@ fn is_refused(
 #[test]
 fn declarations_of_a_unit(rt: HostRuntime) -> Result<(), Fail> {
     let mut left = MOST;
-    let decls = declarations_of(rt.alloc(), &inlined()[120..163], &mut left)?;
+    let declarations = declarations_of(rt.alloc(), &inlined()[120..163], &mut left)?;
     assert_eq!(rt; left, MOST - 4);
-    assert_eq!(rt; decls.len(), 4);
-    for (decl, (code, tag, children, attributes)) in decls.iter().zip([
+    assert_eq!(rt; declarations.len(), 4);
+    for (decl, (code, tag, children, attributes)) in declarations.iter().zip([
         (1, 0x11, true, 2),
         (2, 0x2e, true, 3),
         (3, 0x1d, true, 5),
@@ -54,7 +54,7 @@ fn declarations_of_a_unit(rt: HostRuntime) -> Result<(), Fail> {
         (0x58, 0x0b),
         (0x59, 0x0b),
     ];
-    let inlined = decls.get(2).ok_or("no declaration 3")?;
+    let inlined = declarations.get(2).ok_or("no declaration 3")?;
     for (attribute, (name, form)) in inlined.attributes.iter().zip(names) {
         let wanted = AttributeSpecification {
             name,
@@ -81,9 +81,9 @@ fn faults_stand_at_declarations(rt: HostRuntime) -> Result<(), Fail> {
 fn constants_in_declarations(rt: HostRuntime) -> Result<(), Fail> {
     let section = [1, 0x11, 0, 3, 0x21, 0x7f, 0, 0, 0];
     let mut left = MOST;
-    let decls = declarations_of(rt.alloc(), &section, &mut left)?;
-    assert_eq!(rt; decls.len(), 1);
-    let decl = decls.first().ok_or("no declaration")?;
+    let declarations = declarations_of(rt.alloc(), &section, &mut left)?;
+    assert_eq!(rt; declarations.len(), 1);
+    let decl = declarations.first().ok_or("no declaration")?;
     assert_eq!(rt;
         decl.attributes.first().map(|attribute| attribute.constant),
         Some(Some(-1))
@@ -153,8 +153,8 @@ fn codes_out_of_order(rt: HostRuntime) -> Result<(), Fail> {
         5, 9, 0, 0, 0, 2, 10, 0, 0, 0, 1, 11, 0, 0, 0, 0x80, 0x02, 12, 0, 0, 0, 0,
     ];
     let mut left = MOST;
-    let decls = declarations_of(rt.alloc(), &section, &mut left)?;
-    for (decl, code) in decls.iter().zip([5, 2, 1, 256]) {
+    let declarations = declarations_of(rt.alloc(), &section, &mut left)?;
+    for (decl, code) in declarations.iter().zip([5, 2, 1, 256]) {
         assert_eq!(rt; decl.code, code);
     }
     let again = [
@@ -184,8 +184,8 @@ fn wide(alloc: Global, attributes: u8, again: u8) -> Result<Vec<u8>, AllocError>
 fn many_names(rt: HostRuntime) -> Result<(), Fail> {
     let table = wide(rt.alloc(), 100, 100)?;
     let mut left = 1;
-    let decls = declarations_of(rt.alloc(), &table, &mut left)?;
-    let decl = decls.first().ok_or("no declaration")?;
+    let declarations = declarations_of(rt.alloc(), &table, &mut left)?;
+    let decl = declarations.first().ok_or("no declaration")?;
     assert_eq!(rt; decl.attributes.len(), 100);
     for again in [1, 32, 33, 99] {
         is_refused(&rt, &wide(rt.alloc(), 100, again)?, Cause::AttrTwice, 0)?;

@@ -13,7 +13,7 @@ use crate::linked_lists::LinkedLists;
 use crate::plans::{Plan, read_steps};
 use crate::unit_table::UnitTable;
 use dwarf_bytes::{Cause, Cursor, Format};
-use dwarf_forms::SharedDecl;
+use dwarf_forms::AbbreviationDeclaration;
 use std::marker::Model;
 
 /// The greatest depth of an entry.
@@ -23,7 +23,7 @@ const DEPTH_LIMIT: u16 = 256;
 #[derive(Drop)]
 pub struct EntryHead<'a> {
     format: Format,
-    declaration: &'a SharedDecl,
+    declaration: &'a AbbreviationDeclaration,
     /// How the attributes are read that it does not share.
     plan: &'a Plan,
     lists: &'a LinkedLists<'a>,
@@ -92,7 +92,7 @@ impl UnitTable<'_> {
 impl<'a> EntryHead<'a> {
     pub(crate) fn new(
         format: Format,
-        declaration: &'a SharedDecl,
+        declaration: &'a AbbreviationDeclaration,
         plan: &'a Plan,
         lists: &'a LinkedLists<'a>,
     ) -> EntryHead<'a>

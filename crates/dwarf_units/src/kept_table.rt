@@ -14,7 +14,7 @@ use crate::linked_lists::LinkedLists;
 use crate::plans::{Plan, plans};
 use crate::unit_headers::UnitHeader;
 use dwarf_bytes::{Format, LoadFault};
-use dwarf_forms::{SharedAbbrevs, SharedDecl};
+use dwarf_forms::{AbbreviationDeclaration, AbbreviationTable};
 use std::alloc::Global;
 use std::marker::Model;
 
@@ -24,7 +24,7 @@ use std::marker::Model;
 pub(crate) struct KeptTable {
     offset: u64,
     format: Format,
-    declarations: SharedAbbrevs,
+    table: AbbreviationTable,
     plans: Vec<Plan>,
 }
 
@@ -38,15 +38,15 @@ impl Model for KeptTable {
     ghost view = { λ t. record {
       offset = t.offset;
       format = t.format;
-      declarations = t.declarations;
+      declarations = t.table;
     } };
 
     ghost invariant = { λ t. t.plans.items ≡ map
-        (λ declaration. plan_of t.format declaration.list.own) t.declarations };
+        (λ declaration. plan_of t.format declaration.list.own) t.table };
 }
 
 impl KeptTable {
-    /// Reads the table at an offset, as `SharedAbbrevs::read` does.
+    /// Reads the table at an offset, as `AbbreviationTable::read` does.
     pub(crate) fn read(
         alloc: Global,
         lists: &mut LinkedLists<'_>,
@@ -62,12 +62,12 @@ impl KeptTable {
         ensures readable { IfOk result (IsReadable lists.new) }
         ensures grows { LinksGrow lists.old lists.new }
     {
-        let declarations = lists.table(alloc, format, offset, left)?;
-        let plans = plans(alloc, format, &declarations)?;
+        let table = lists.table(alloc, format, offset, left)?;
+        let plans = plans(alloc, format, &table)?;
         Ok(KeptTable {
             offset,
             format,
-            declarations,
+            table,
             plans,
         })
     }
@@ -86,15 +86,15 @@ impl KeptTable {
     }
 
     /// The declaration of a code, and how its own attributes are read.
-    pub(crate) fn find(&self, code: u64) -> Option<(&SharedDecl, &Plan)>
+    pub(crate) fn find(&self, code: u64) -> Option<(&AbbreviationDeclaration, &Plan)>
         ensures some { IfSome result (λ found. (find
             (λ declaration. declaration.code == code) self.now.declarations ≡ Some found.0.now)
             × (found.1.now ≡ plan_of self.now.format found.0.now.list.own)) }
         ensures none { IfNone result (find
             (λ declaration. declaration.code == code) self.now.declarations ≡ None) }
     {
-        let place = self.declarations.position(code)?;
-        let declaration = self.declarations.decls().get(place)?;
+        let place = self.table.position(code)?;
+        let declaration = self.table.declarations().get(place)?;
         let plan = self.plans.get(place)?;
         Some((declaration, plan))
     }
@@ -103,14 +103,14 @@ impl KeptTable {
     pub(crate) fn len(&self) -> u64
         ensures { result ≡ length self.now.declarations }
     {
-        self.declarations.decls().len() as u64
+        self.table.declarations().len() as u64
     }
 
     /// Its declarations, their own attributes, and the steps of their plans.
     pub(crate) fn size(&self) -> u128
         ensures { result ≡ own_size self.now }
     {
-        let attributes = attribute_count(self.declarations.decls());
+        let attributes = attribute_count(self.table.declarations());
         u128::from(self.len()) + attributes + step_count(&self.plans)
     }
 
@@ -124,12 +124,12 @@ impl KeptTable {
 }
 
 /// How many attributes declarations have themselves.
-fn attribute_count(decls: &[SharedDecl]) -> u128
-    ensures small { result ≤ length decls.now * (2 ^ 64 - 1) }
-    ensures sum { result ≡ sum_by (λ declaration. length declaration.list.own) decls.now }
+fn attribute_count(declarations: &[AbbreviationDeclaration]) -> u128
+    ensures small { result ≤ length declarations.now * (2 ^ 64 - 1) }
+    ensures sum { result ≡ sum_by (λ declaration. length declaration.list.own) declarations.now }
 {
     let mut count = 0u128;
-    for declaration in decls {
+    for declaration in declarations {
         count += declaration.list().own().len() as u128;
     }
     count

@@ -15,7 +15,7 @@ use crate::attributes::Attribute;
 use crate::plans::read_step;
 use crate::tails::{Links, link_all};
 use dwarf_bytes::{Cause, Cursor, Format, LoadFault};
-use dwarf_forms::{KnownLists, SharedAbbrevs};
+use dwarf_forms::{AbbreviationTable, KnownLists};
 use std::alloc::{AllocError, Global};
 use std::marker::Model;
 
@@ -60,14 +60,14 @@ impl<'a> LinkedLists<'a> {
         })
     }
 
-    /// Reads the table at an offset, as `SharedAbbrevs::read` does, for units of a format.
+    /// Reads the table at an offset, as `AbbreviationTable::read` does, for units of a format.
     pub(crate) fn table(
         &mut self,
         alloc: Global,
         format: Format,
         offset: u64,
         left: &mut u64,
-    ) -> Result<SharedAbbrevs, LoadFault>
+    ) -> Result<AbbreviationTable, LoadFault>
         ensures decodes { Decodes (tell self.new.places.known) result (in_section
             sections.DebugAbbrev (declarations_of left.old self.old.places.section offset)) }
         ensures counted { IfOk result (λ table. left.new + length table ≡ left.old) }
@@ -76,7 +76,7 @@ impl<'a> LinkedLists<'a> {
             All (λ d. IsLinked self.new format d.list.rest) table) }
         ensures grows { LinksGrow self.old self.new }
     {
-        let table = SharedAbbrevs::read(alloc, &mut self.lists, offset, left)?;
+        let table = AbbreviationTable::read(alloc, &mut self.lists, offset, left)?;
         self.link(format)?;
         Ok(table)
     }

@@ -12,7 +12,7 @@ ghost use Rattle.dwarf_bytes.specs.Refusals.{ReadsField};
 use crate::attributes::{Attribute, AttributeValue, number_of, read_attribute};
 use crate::steps::{AttributeStep, joined, step_of};
 use dwarf_bytes::{Cause, Content, Cursor, Format, ValueLayout, Width};
-use dwarf_forms::{AttributeSpecification, SharedAbbrevs};
+use dwarf_forms::{AbbreviationTable, AttributeSpecification};
 use std::alloc::{AllocError, Global};
 use std::marker::Model;
 
@@ -66,13 +66,13 @@ impl Plan {
 pub(crate) fn plans(
     alloc: Global,
     format: Format,
-    table: &SharedAbbrevs,
+    table: &AbbreviationTable,
 ) -> Result<Vec<Plan>, AllocError>
     ensures { IfOk result (λ plans. plans.items ≡ map
         (λ declaration. plan_of format declaration.list.own) table.now) }
 {
     let mut plans = Vec::new(alloc);
-    for declaration in table.decls() {
+    for declaration in table.declarations() {
         plans.push(Plan::of(alloc, format, declaration.list().own())?)?;
     }
     Ok(plans)

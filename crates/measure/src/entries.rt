@@ -1,7 +1,9 @@
 //! The abbreviation tables of an object's units, and the values of their entries.
 
 use dwarf_bytes::{Cause, Cursor, Format, LoadFault, Object, Section};
-use dwarf_forms::{AttributeSpecification, KnownLists, SharedAbbrevs, SharedDecl, value};
+use dwarf_forms::{
+    AbbreviationDeclaration, AbbreviationTable, AttributeSpecification, KnownLists, value,
+};
 use std::alloc::Global;
 
 /// The most declarations of an object.
@@ -38,7 +40,7 @@ pub fn read(alloc: Global, bytes: &[u8]) -> Result<Counts, LoadFault> {
     };
     let mut left = DECLARATIONS;
     for unit in &units(alloc, info)? {
-        let table = SharedAbbrevs::read(alloc, &mut lists, unit.abbreviations, &mut left)?;
+        let table = AbbreviationTable::read(alloc, &mut lists, unit.abbreviations, &mut left)?;
         counts.units = counts.units.wrapping_add(1);
         read_entries(info, unit, &table, &lists, &mut counts);
     }
@@ -63,7 +65,7 @@ fn read_tables(alloc: Global, abbrev: &[u8], units: &[Unit]) -> Result<u64, Load
     let mut lists = no_lists(alloc, abbrev)?;
     let mut left = DECLARATIONS;
     for unit in units {
-        let _ = SharedAbbrevs::read(alloc, &mut lists, unit.abbreviations, &mut left)?;
+        let _ = AbbreviationTable::read(alloc, &mut lists, unit.abbreviations, &mut left)?;
     }
     Ok(DECLARATIONS.saturating_sub(left))
 }
@@ -130,7 +132,7 @@ fn read_unit(info: &[u8], place: usize) -> Result<Unit, Cause> {
 fn read_entries(
     info: &[u8],
     unit: &Unit,
-    table: &SharedAbbrevs,
+    table: &AbbreviationTable,
     lists: &KnownLists<'_>,
     counts: &mut Counts,
 ) {
@@ -155,8 +157,8 @@ fn read_entries(
 /// The declaration that the entry at the cursor names, or none where a code 0 stands.
 fn next_declaration<'a>(
     cursor: &mut Cursor<'_>,
-    table: &'a SharedAbbrevs,
-) -> Result<Option<&'a SharedDecl>, Cause> {
+    table: &'a AbbreviationTable,
+) -> Result<Option<&'a AbbreviationDeclaration>, Cause> {
     let code = cursor.uleb()?;
     if code == 0 {
         return Ok(None);
@@ -164,14 +166,14 @@ fn next_declaration<'a>(
     let Some(place) = table.position(code) else {
         return Err(Cause::AbbrevCode);
     };
-    Ok(table.decls().get(place))
+    Ok(table.declarations().get(place))
 }
 
 /// Reads the values of a declaration's own attributes, and of those that are known behind them.
 fn read_values(
     cursor: &mut Cursor<'_>,
     format: Format,
-    declaration: &SharedDecl,
+    declaration: &AbbreviationDeclaration,
     lists: &KnownLists<'_>,
     counts: &mut Counts,
 ) -> Result<(), Cause> {

@@ -19,7 +19,7 @@ returns-clause-some c =
     let same = ap (λ (t : SharedTable). t.declarations) c.self.view_is in
     let at : position (λ d. d.code == c.args.code) c.args.self.now.declarations ≡ Some place = ap (λ (ds : List SharedDeclaration). position (λ d. d.code == c.args.code) ds) (sym same) ∙ sym c.in_ok-place.ensures in
     let here : slice_get c.args.self.now.declarations place ≡ Some c.in_ok-declaration.declaration.now =
-    ap (λ (ds : List SharedDeclaration). slice_get ds place) (sym same ∙ sym c.decls.ensures) ∙ sym (got c.decls.result.now place c.get.result c.get.ensures.lookup.0 c.get.ensures.lookup.1) ∙ ap (λ r. option_copied r) c.in_ok-declaration.was in
+    ap (λ (ds : List SharedDeclaration). slice_get ds place) (sym same ∙ sym c.declarations.ensures) ∙ sym (got c.declarations.result.now place c.get.result c.get.ensures.lookup.0 c.get.ensures.lookup.1) ∙ ap (λ r. option_copied r) c.in_ok-declaration.was in
     let planned : slice_get c.deref.result.now place ≡ Some c.in_ok-plan.plan.now =
     sym (got c.deref.result.now place c.get-2.result c.get-2.ensures.lookup.0 c.get-2.ensures.lookup.1) ∙ ap (λ r. option_copied r) c.in_ok-plan.was in
     let plans = c.deref.ensures.value ∙ (c.self.invariant ∙ ap (λ (t : SharedTable). map (λ (d : SharedDeclaration). plan_of t.format d.list.own) t.declarations) c.self.view_is) in

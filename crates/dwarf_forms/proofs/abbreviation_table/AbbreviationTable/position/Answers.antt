@@ -2,7 +2,7 @@ use Rattle.std.proofs.Common.{ℕ, List, ap, ◌∙◌}
 use Rattle.std.specs.Prelude.{map, position, ◌==◌}
 use Rattle.dwarf_forms.proofs.CodeLaws.{position-map}
 use Rattle.dwarf_forms.proofs.SharedTableLaws.{code_of}
-use Rattle.dwarf_forms.proofs.shared_table.SharedAbbrevs.position.Goals as goal
+use Rattle.dwarf_forms.proofs.abbreviation_table.AbbreviationTable.position.Goals as goal
 
 pub returns : goal.returns
 returns c =

@@ -11,11 +11,11 @@ ghost use Rattle.dwarf_forms.specs.Private.Known.{Grows};
 ghost use Rattle.dwarf_forms.specs.Private.SharedTables.{AreTold, tell};
 ghost use Rattle.dwarf_forms.specs.Private.TableSteps.{ExtendsTable};
 
+use crate::abbreviation_declaration::AbbreviationDeclaration;
 use crate::code_index::CodeIndex;
 use crate::declaration::Head;
 use crate::known_lists::KnownLists;
 use crate::shared::shared_attributes;
-use crate::shared_decl::SharedDecl;
 use dwarf_bytes::{Cause, Cursor, LoadFault, Section};
 use std::alloc::{AllocError, Global};
 use std::marker::Model;
@@ -23,23 +23,23 @@ use std::marker::Model;
 /// The declarations of one table of `.debug_abbrev`, in their order. No code stands twice. What is
 /// told of their attributes is known of the section.
 #[derive(Drop)]
-pub struct SharedAbbrevs {
-    decls: Vec<SharedDecl>,
+pub struct AbbreviationTable {
+    declarations: Vec<AbbreviationDeclaration>,
     codes: CodeIndex,
 }
 
-impl Model for SharedAbbrevs {
+impl Model for AbbreviationTable {
     ghost use Rattle.std.specs.Prelude.{◌≡◌, List, map};
     ghost use Rattle.dwarf_forms.specs.Private.SharedTables.{SharedDeclaration};
 
     ghost Value = { List SharedDeclaration };
 
-    ghost view = { λ t. t.decls.items };
+    ghost view = { λ t. t.declarations.items };
 
-    ghost invariant = { λ t. t.codes ≡ map (λ declaration. declaration.code) t.decls.items };
+    ghost invariant = { λ t. t.codes ≡ map (λ declaration. declaration.code) t.declarations.items };
 }
 
-impl SharedAbbrevs {
+impl AbbreviationTable {
     /// The table at an offset from the section's start, up to the code 0 that ends it. `left` is
     /// how many more declarations may be read; it falls by one for each of the table's. A fault is
     /// told at the declaration that holds it, in `.debug_abbrev`. What is known of the section's
@@ -49,7 +49,7 @@ impl SharedAbbrevs {
         lists: &mut KnownLists<'_>,
         offset: u64,
         left: &mut u64,
-    ) -> Result<SharedAbbrevs, LoadFault>
+    ) -> Result<AbbreviationTable, LoadFault>
         ensures decodes { Decodes (tell lists.new.known) result (in_section sections.DebugAbbrev
             (declarations_of left.old lists.old.section offset)) }
         ensures counted { IfOk result (λ table. left.new + length table ≡ left.old) }
@@ -67,10 +67,10 @@ impl SharedAbbrevs {
     }
 
     /// The declarations, in their order.
-    pub fn decls(&self) -> &[SharedDecl]
+    pub fn declarations(&self) -> &[AbbreviationDeclaration]
         ensures { result.now ≡ self.now }
     {
-        self.decls.as_slice()
+        self.declarations.as_slice()
     }
 
     /// The place of the declaration of a code, counted from 0.
@@ -80,11 +80,11 @@ impl SharedAbbrevs {
         self.codes.position(code)
     }
 
-    fn new(alloc: Global) -> SharedAbbrevs
+    fn new(alloc: Global) -> AbbreviationTable
         ensures { result ≡ [] }
     {
-        SharedAbbrevs {
-            decls: Vec::new(alloc),
+        AbbreviationTable {
+            declarations: Vec::new(alloc),
             codes: CodeIndex::new(alloc),
         }
     }
@@ -92,19 +92,19 @@ impl SharedAbbrevs {
     fn len(&self) -> usize
         ensures { result ≡ length self.now }
     {
-        self.decls.len()
+        self.declarations.len()
     }
 
     /// Adds a declaration behind the others.
-    fn push(&mut self, decl: SharedDecl) -> Result<(), AllocError>
-        requires { list_any (λ declaration. declaration.code == decl.code) self.old ≡ false }
-        ensures ok { OnOk result (self.new ≡ self.old ++ decl ∷ []) }
+    fn push(&mut self, declaration: AbbreviationDeclaration) -> Result<(), AllocError>
+        requires { list_any (λ known. known.code == declaration.code) self.old ≡ false }
+        ensures ok { OnOk result (self.new ≡ self.old ++ declaration ∷ []) }
         ensures err { OnErr result (self.new ≡ self.old) }
     {
-        let code = decl.code();
-        self.decls.push(decl)?;
+        let code = declaration.code();
+        self.declarations.push(declaration)?;
         if let Err(error) = self.codes.push(code) {
-            let _ = self.decls.pop();
+            let _ = self.declarations.pop();
             return Err(error);
         }
         Ok(())
@@ -129,7 +129,7 @@ impl SharedAbbrevs {
             return Ok(false);
         };
         let list = shared_attributes(alloc, lists, cursor)?;
-        self.push(SharedDecl::new(head, list))?;
+        self.push(AbbreviationDeclaration::new(head, list))?;
         Ok(true)
     }
 
@@ -150,7 +150,7 @@ fn declarations(
     lists: &mut KnownLists<'_>,
     room: u64,
     cursor: &mut Cursor,
-) -> Result<SharedAbbrevs, LoadFault>
+) -> Result<AbbreviationTable, LoadFault>
     requires { cursor.old.bytes ≡ lists.old.section }
     ensures decodes { Decodes (tell lists.new.known) result (in_section sections.DebugAbbrev
         (declarations_of room cursor.old.bytes cursor.old.place)) }
@@ -158,7 +158,7 @@ fn declarations(
     ensures known { IfOk result (AreTold lists.new.known) }
     ensures grows { Grows lists.old lists.new }
 {
-    let mut table = SharedAbbrevs::new(alloc);
+    let mut table = AbbreviationTable::new(alloc);
     loop {
         let at = cursor.place() as u64;
         match table.extend(alloc, lists, room, cursor) {

@@ -3,7 +3,7 @@ use Rattle.std.specs.Prelude.{Err}
 use Rattle.dwarf_bytes.specs.declared.fault.LoadFault.{LoadFault}
 use Rattle.dwarf_bytes.specs.Position.{Position}
 use Rattle.dwarf_forms.proofs.TableTurns.{outside, past_end}
-use Rattle.dwarf_forms.proofs.shared_table.SharedAbbrevs.read.Goals as goal
+use Rattle.dwarf_forms.proofs.abbreviation_table.AbbreviationTable.read.Goals as goal
 
 pub returns-then-is_err-clause-decodes : goal.returns-then-is_err-clause-decodes
 returns-then-is_err-clause-decodes c =

@@ -1,6 +1,6 @@
 use Rattle.std.proofs.lemmas.Result.{err_from_is_err_and}
 use Rattle.dwarf_forms.proofs.SharedTableLaws.{extends-item, extends-no_head, extends-no_list, told-grows, told-push}
-use Rattle.dwarf_forms.proofs.shared_table.SharedAbbrevs.extend.Goals as goal
+use Rattle.dwarf_forms.proofs.abbreviation_table.AbbreviationTable.extend.Goals as goal
 
 pub returns-in_err-head-clause-table : goal.returns-in_err-head-clause-table
 returns-in_err-head-clause-table c =

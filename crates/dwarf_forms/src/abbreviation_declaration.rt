@@ -8,12 +8,12 @@ use std::marker::Model;
 
 /// An abbreviation declaration.
 #[derive(Drop)]
-pub struct SharedDecl {
+pub struct AbbreviationDeclaration {
     head: Head,
     list: SharedList,
 }
 
-impl Model for SharedDecl {
+impl Model for AbbreviationDeclaration {
     ghost use Rattle.dwarf_forms.specs.Private.SharedTables.{SharedDeclaration};
 
     ghost Value = { SharedDeclaration };
@@ -26,8 +26,8 @@ impl Model for SharedDecl {
     } };
 }
 
-impl SharedDecl {
-    pub(crate) fn new(head: Head, list: SharedList) -> SharedDecl
+impl AbbreviationDeclaration {
+    pub(crate) fn new(head: Head, list: SharedList) -> AbbreviationDeclaration
         ensures { result ≡ record {
           code = head.code;
           tag = head.tag;
@@ -35,7 +35,7 @@ impl SharedDecl {
           list = list;
         } }
     {
-        SharedDecl { head, list }
+        AbbreviationDeclaration { head, list }
     }
 
     /// The number by which entries name it; never 0.

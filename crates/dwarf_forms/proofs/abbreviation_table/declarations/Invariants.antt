@@ -3,7 +3,7 @@ use Rattle.dwarf_forms.specs.Tables.{declaration_at}
 use Rattle.dwarf_forms.specs.Private.Known.{Grows}
 use Rattle.dwarf_forms.specs.Private.SharedTables.{AreTold, tell}
 use Rattle.dwarf_bytes.proofs.Turns.{SoFar}
-use Rattle.dwarf_forms.proofs.shared_table.declarations.Given as goal
+use Rattle.dwarf_forms.proofs.abbreviation_table.declarations.Given as goal
 
 abbrev pub invariant-loop-table : goal.invariant-loop-table
 invariant-loop-table l = record {

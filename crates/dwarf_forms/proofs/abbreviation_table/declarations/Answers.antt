@@ -3,7 +3,7 @@ use Rattle.std.proofs.lemmas.List.{length-map}
 use Rattle.dwarf_forms.specs.Private.SharedTables.{tell, told}
 use Rattle.dwarf_forms.proofs.SharedTableLaws.{grows-both, so_far-told}
 use Rattle.dwarf_forms.proofs.TableTurns.{turn_item, turn_end, turn_fault}
-use Rattle.dwarf_forms.proofs.shared_table.declarations.Goals as goal
+use Rattle.dwarf_forms.proofs.abbreviation_table.declarations.Goals as goal
 
 pub loop-table-smaller : goal.loop-table-smaller
 loop-table-smaller c =
