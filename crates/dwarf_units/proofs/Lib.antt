@@ -9,6 +9,7 @@ pub mod AgainLaws
 pub mod PlainLaws
 pub mod PlanLaws
 pub mod PlanTurns
+pub mod PlainEntries
 pub mod LinkLaws
 pub mod SharedTableLaws
 pub mod StoreLaws

@@ -256,7 +256,7 @@ in_front-twice xs ys (Ok rest) = ap (λ all. Ok (all, rest.1)) (sym (append_asso
 in_front-twice xs ys (Err e) = refl
 
 -- a step over bytes, by whether they are there
-skip-within : (format : Format) (n : ℕ) (bytes : List ℕ) (at : ℕ) → at + n ≤ length bytes → step_at format (Skip n) bytes at ≡ Ok ([], at + n)
+pub skip-within : (format : Format) (n : ℕ) (bytes : List ℕ) (at : ℕ) → at + n ≤ length bytes → step_at format (Skip n) bytes at ≡ Ok ([], at + n)
 skip-within format n bytes at le = by_read (reading (block_at n bytes at)) (skip-fixed n bytes at)
   where
     by_read : (r : Result (List ℕ × ℕ) Cause) → ReadsFixed (λ _. Unit {0}) causes.Short n bytes at r → (r >>= none_behind) ≡ Ok ([], at + n)

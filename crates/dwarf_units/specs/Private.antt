@@ -5,3 +5,4 @@ pub mod Heads
 pub mod Rising
 pub mod Numbers
 pub mod Tables
+pub mod PlainHeads

@@ -17,7 +17,7 @@ use dwarf_forms::AbbreviationDeclaration;
 use std::marker::Model;
 
 /// The greatest depth of an entry.
-const DEPTH_LIMIT: u16 = 256;
+pub(crate) const DEPTH_LIMIT: u16 = 256;
 
 /// The declaration of an entry, in a unit of a format, and how its attributes are read.
 #[derive(Drop)]

@@ -1,22 +1,27 @@
 //! An abbreviation table that is kept, and how its own attributes are read (DWARF 5, 7.5.3).
 
-ghost use Rattle.std.specs.Prelude.{◌≡◌, ◌≤◌, ◌+◌, ◌-◌, ◌*◌, ◌^◌, ◌==◌, Some, None, length, sum_by};
-ghost use Rattle.std.specs.Prelude.{find, IsTrue, ◌↔◌, IfOk, IfNone, IfSome};
+ghost use Rattle.std.specs.Prelude.{◌≡◌, ◌<◌, ◌≤◌, ◌+◌, ◌-◌, ◌*◌, ◌^◌, ◌==◌, Some, None, length};
+ghost use Rattle.std.specs.Prelude.{find, sum_by, IsTrue, ◌↔◌, IfOk, IfNone, IfSome};
 ghost use Rattle.dwarf_bytes.specs.declared.fault.Section.TheVariants as sections;
 ghost use Rattle.dwarf_bytes.specs.Refusals.{Decodes, in_section};
 ghost use Rattle.dwarf_forms.specs.Tables.{declarations_of};
 ghost use Rattle.dwarf_forms.specs.Private.SharedTables.{tell};
 ghost use Rattle.dwarf_units.specs.Private.Links.{LinksGrow};
+ghost use Rattle.dwarf_units.specs.Private.PlainHeads.{ArePlain, code_limit, plain_head};
 ghost use Rattle.dwarf_units.specs.Private.Plans.{plan_of, plan_len};
 ghost use Rattle.dwarf_units.specs.Private.SharedTables.{IsReadable, own_size};
 
 use crate::linked_lists::LinkedLists;
+use crate::plain_head::PlainHead;
 use crate::plans::{Plan, plans};
 use crate::unit_headers::UnitHeader;
 use dwarf_bytes::{Format, LoadFault};
 use dwarf_forms::{AbbreviationDeclaration, AbbreviationTable};
-use std::alloc::Global;
+use std::alloc::{AllocError, Global};
 use std::marker::Model;
+
+/// The greatest code of one byte.
+const CODE_LIMIT: usize = 127;
 
 /// A table of `.debug_abbrev`, where it stands, and how the attributes that its declarations do not
 /// share are read in units of a format.
@@ -26,10 +31,13 @@ pub(crate) struct KeptTable {
     format: Format,
     table: AbbreviationTable,
     plans: Vec<Plan>,
+    /// The plain heads of the first codes, from 1 on.
+    plain: Vec<Option<PlainHead>>,
 }
 
 impl Model for KeptTable {
     ghost use Rattle.std.specs.Prelude.{◌≡◌, map};
+    ghost use Rattle.dwarf_units.specs.Private.PlainHeads.{ArePlain};
     ghost use Rattle.dwarf_units.specs.Private.Plans.{plan_of};
     ghost use Rattle.dwarf_units.specs.Private.SharedTables.{SharedTable};
 
@@ -41,8 +49,10 @@ impl Model for KeptTable {
       declarations = t.table;
     } };
 
-    ghost invariant = { λ t. t.plans.items ≡ map
-        (λ declaration. plan_of t.format declaration.list.own) t.table };
+    ghost invariant = { λ t. (t.plans.items ≡ map
+        (λ declaration. plan_of t.format declaration.list.own) t.table)
+        × ArePlain (record { offset = t.offset; format = t.format; declarations = t.table })
+        t.plain.items };
 }
 
 impl KeptTable {
@@ -64,12 +74,15 @@ impl KeptTable {
     {
         let table = lists.table(alloc, format, offset, left)?;
         let plans = plans(alloc, format, &table)?;
-        Ok(KeptTable {
+        let mut kept = KeptTable {
             offset,
             format,
             table,
             plans,
-        })
+            plain: Vec::new(alloc),
+        };
+        kept.plain = kept.plain_heads(alloc)?;
+        Ok(kept)
     }
 
     /// The format of the units whose entries are read by the table.
@@ -97,6 +110,35 @@ impl KeptTable {
         let declaration = self.table.declarations().get(place)?;
         let plan = self.plans.get(place)?;
         Some((declaration, plan))
+    }
+
+    /// The plain head of a code of one byte, if it is known.
+    #[inline(always)]
+    pub(crate) fn plain(&self, code: u8) -> Option<PlainHead>
+        ensures { IfSome result (λ head. (0 < code) × (code ≤ code_limit)
+            × (plain_head self.now code ≡ Some head)) }
+    {
+        let place = usize::from(code).checked_sub(1)?;
+        *self.plain.get(place)?
+    }
+
+    /// The plain heads of the first codes, from 1 on: so many as it has declarations, of one byte.
+    fn plain_heads(&self, alloc: Global) -> Result<Vec<Option<PlainHead>>, AllocError>
+        ensures { IfOk result (λ heads. ArePlain self.now heads.items) }
+    {
+        let mut heads = Vec::new(alloc);
+        for place in 0..self.table.declarations().len().min(CODE_LIMIT) {
+            heads.push(self.plain_head(place as u64 + 1))?;
+        }
+        Ok(heads)
+    }
+
+    /// The plain head of a code, if its entries are plain.
+    fn plain_head(&self, code: u64) -> Option<PlainHead>
+        ensures { result ≡ plain_head self.now code }
+    {
+        let (declaration, plan) = self.find(code)?;
+        PlainHead::of(declaration, plan)
     }
 
     /// How many declarations it has.

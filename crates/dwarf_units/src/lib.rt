@@ -8,6 +8,7 @@ mod kept_table;
 pub mod laws;
 mod linked_lists;
 mod numbers;
+mod plain_head;
 mod plans;
 mod steps;
 mod table_store;
@@ -18,6 +19,7 @@ mod unit_table;
 
 pub use attributes::{Attribute, AttributeValue, is_address, value_of};
 pub use entry_head::EntryHead;
+pub use plain_head::PlainHead;
 pub use tables::Tables;
 pub use unit_headers::{UnitHeader, UnitType, units};
 pub use unit_table::UnitTable;

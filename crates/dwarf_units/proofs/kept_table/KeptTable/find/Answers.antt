@@ -22,5 +22,5 @@ returns-clause-some c =
     ap (λ (ds : List SharedDeclaration). slice_get ds place) (sym same ∙ sym c.declarations.ensures) ∙ sym (got c.declarations.result.now place c.get.result c.get.ensures.lookup.0 c.get.ensures.lookup.1) ∙ ap (λ r. option_copied r) c.in_ok-declaration.was in
     let planned : slice_get c.deref.result.now place ≡ Some c.in_ok-plan.plan.now =
     sym (got c.deref.result.now place c.get-2.result c.get-2.ensures.lookup.0 c.get-2.ensures.lookup.1) ∙ ap (λ r. option_copied r) c.in_ok-plan.was in
-    let plans = c.deref.ensures.value ∙ (c.self.invariant ∙ ap (λ (t : SharedTable). map (λ (d : SharedDeclaration). plan_of t.format d.list.own) t.declarations) c.self.view_is) in
+    let plans = c.deref.ensures.value ∙ (c.self.invariant.0 ∙ ap (λ (t : SharedTable). map (λ (d : SharedDeclaration). plan_of t.format d.list.own) t.declarations) c.self.view_is) in
     planned_at (λ (d : SharedDeclaration). d.code == c.args.code) (λ (d : SharedDeclaration). plan_of c.args.self.now.format d.list.own) c.args.self.now.declarations c.deref.result.now place c.in_ok-declaration.declaration.now c.in_ok-plan.plan.now at plans here planned
