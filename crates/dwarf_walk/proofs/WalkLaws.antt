@@ -1,8 +1,8 @@
 -- The turns of the loop over the entries of a unit.
 use Rattle.std.proofs.Common.{◌≡◌, ℕ, ◌+◌, ◌-◌, ◌<◌, ◌≤◌, ◌⊎◌, inl, inr, List, [], ◌∷◌, ◌++◌, Bool, true, false, length, take, refl, ap, sym, ◌∙◌, cond, zero-add, subst, arith, length-take, append-nil}
-use Rattle.std.specs.Prelude.{Option, Some, None, is_some, Result, Ok, Err, IsOk, is_err, ◌↔◌, nat_lt, nat_le, ◌==◌, ◌&&◌, ◌||◌, count_by}
+use Rattle.std.specs.Prelude.{Option, Some, None, is_some, Result, Ok, Err, nat_lt, nat_le, ◌==◌, ◌&&◌, ◌||◌, count_by}
 use Rattle.std.specs.List.{filter_map, list_any}
-use Rattle.std.proofs.lemmas.Bool.{ltb-false, ltb-true, lt-ltb, le-ltb, lt-leb, le-leb, cases_lt}
+use Rattle.std.proofs.lemmas.Bool.{ltb-false, ltb-true, lt-ltb, le-ltb, lt-leb, le-leb}
 use Rattle.std.proofs.lemmas.List.{map-append}
 use Rattle.std.proofs.lemmas.List.Elements.{filter_map-append}
 use Rattle.std.proofs.lemmas.List.Folds.{list_any-append}
@@ -10,12 +10,10 @@ use Rattle.std.proofs.lemmas.List.Sums.{sum_by-append}
 use Rattle.dwarf_bytes.specs.declared.fault.Cause.{Cause}
 use Rattle.dwarf_bytes.specs.declared.fault.Cause.TheVariants as causes
 use Rattle.dwarf_bytes.specs.declared.fault.LoadFault.{LoadFault}
-use Rattle.dwarf_bytes.specs.declared.fault.ReadFault.{ReadFault}
 use Rattle.dwarf_bytes.specs.declared.fault.Section.TheVariants as sections
 use Rattle.dwarf_bytes.specs.declared.format.Format.{Format}
 use Rattle.dwarf_bytes.specs.Bind.{◌>>=◌}
 use Rattle.dwarf_bytes.specs.Items.{At, Item, End, Advances, refuse_if, told_at, items_from}
-use Rattle.dwarf_bytes.specs.Position.{Position}
 use Rattle.dwarf_bytes.specs.Refusals.{memory_fault, told, in_section, Fails}
 use Rattle.dwarf_bytes.proofs.Advance.{after_bind}
 use Rattle.dwarf_forms.specs.Declarations.{Declaration}
@@ -30,7 +28,6 @@ use Rattle.dwarf_units.specs.Entries.{Node, Entry, Null, Standing, Die, die_of, 
 use Rattle.dwarf_walk.specs.Private.Kept.{root_entry, root_in, scope_places, KeptUnit, kept_unit, kept_entries}
 use Rattle.dwarf_walk.specs.References.{or_else}
 use Rattle.dwarf_walk.specs.Private.Readers.{Walked, walked_by, walked, after_die, depth_behind, after_node, nodes_of, places_of, walked_at, walk_of}
-use Rattle.dwarf_units.specs.Private.Plans.{Fills}
 use Rattle.dwarf_walk.specs.declared.marks.Marks.{Marks}
 use Rattle.dwarf_walk.specs.Private.Ends.{ended_at}
 use Rattle.dwarf_walk.specs.Private.Marks.{AddsMarks, offsets_of}
@@ -168,11 +165,10 @@ behind-is format table unit before at x within tree is =
     rw (test, tree.rooted, is) refl
 
 -- what a turn leaves
-pub record WalkTurn (info : List ℕ) (header : UnitHeader) (table : List Declaration) (marks marked : Marks) (old new : Position) (is : Walked) : Type 0 where
-  pub bytes_stay : new.bytes ≡ take header.end info
-  pub moves : old.place < new.place
-  pub within : new.place ≤ length new.bytes
-  pub walked_so : WalkedSoFar info header table marks marked new.place is
+pub record WalkTurn (info : List ℕ) (header : UnitHeader) (table : List Declaration) (marks marked : Marks) (at next : ℕ) (is : Walked) : Type 0 where
+  pub moves : at < next
+  pub within : next ≤ length (take header.end info)
+  pub walked_so : WalkedSoFar info header table marks marked next is
 
 -- the places of the entries, with what stands behind them
 offsets-push : (before : List Standing) (at : ℕ) (node : Node) → offsets_of (filter_map die_of before) ++ places_of at node ≡ offsets_of (filter_map die_of (before ++ standing before at node ∷ []))
@@ -185,37 +181,33 @@ offsets-push before at (Entry tag children attributes) =
 abbrev MarksNode : UnitHeader → List Declaration → Marks → Marks → Walked → List ℕ → ℕ → Type 0
 MarksNode header table marks marked w unit at = (node : Node × ℕ) → node_behind header.format table w.depth (is_some w.root) unit at ≡ Ok node → AddsMarks marks marked (places_of at node.0)
 
-pub walk_item : (info : List ℕ) (header : UnitHeader) (table : List Declaration) (marks marked after : Marks) (old new : Position) (was is : Walked) → old.bytes ≡ take header.end info → old.place < length old.bytes →
-    WalkedSoFar info header table marks marked old.place was → Fills (Ok tt) is (walked_at header.format table was) old new → MarksNode header table marked after was old.bytes old.place → WalkTurn info header table marks after old new is
-walk_item info header table marks marked after old new was is same within so_far read adds =
-    let unit : List ℕ = take header.end info in
+pub walk_item : (info : List ℕ) (header : UnitHeader) (table : List Declaration) (marks marked after : Marks) (unit : List ℕ) (at next : ℕ) (was is : Walked) → unit ≡ take header.end info → at < length unit →
+    WalkedSoFar info header table marks marked at was → walked_at header.format table was unit at ≡ Ok (is, next) → MarksNode header table marked after was unit at → WalkTurn info header table marks after at next is
+walk_item info header table marks marked after unit at next was is same within so_far read adds =
     let before = so_far.before in
     let depth : ℕ = depth_after before in
-    let inside : old.place < length unit = omega (arith, within, ap length same) in
-    let adds_here : MarksNode header table marked after (walked before) unit old.place =
-    subst (λ (w : Walked). MarksNode header table marked after w unit old.place) so_far.kept (subst (λ (b : List ℕ). MarksNode header table marked after was b old.place) same adds) in
-    let here : walked_at header.format table (walked before) unit old.place ≡ Ok (is, new.place) =
-    subst (λ (w : Walked). walked_at header.format table w unit old.place ≡ Ok (is, new.place)) so_far.kept (subst (λ (b : List ℕ). walked_at header.format table was b old.place ≡ Ok (is, new.place)) same read.0) in
-    after_bind (node_behind header.format table depth (is_some (root_in (filter_map die_of before))) unit old.place) _ (is, new.place) here (WalkTurn info header table marks after old new is) (λ node node_is last.
-    let pair : (after_node (walked before) old.place node.0, node.1) ≡ (is, new.place) = same_ok (after_node (walked before) old.place node.0, node.1) (is, new.place) last in
-    let kept : after_node (walked before) old.place node.0 ≡ is = ap (λ (p : Walked × ℕ). p.0) pair in
-    let place : node.1 ≡ new.place = ap (λ (p : Walked × ℕ). p.1) pair in
-    let moved = node_behind-moves header.format table depth (is_some (root_in (filter_map die_of before))) unit old.place node node_is in
-    let item : node_at header.format table unit before old.place ≡ Ok (Item (standing before old.place node.0) node.1) = behind-is header.format table unit before old.place (Ok node) inside so_far.tree node_is in
+    let adds_here : MarksNode header table marked after (walked before) unit at = subst (λ (w : Walked). MarksNode header table marked after w unit at) so_far.kept adds in
+    let here : walked_at header.format table (walked before) unit at ≡ Ok (is, next) = subst (λ (w : Walked). walked_at header.format table w unit at ≡ Ok (is, next)) so_far.kept read in
+    after_bind (node_behind header.format table depth (is_some (root_in (filter_map die_of before))) unit at) _ (is, next) here (WalkTurn info header table marks after at next is) (λ node node_is last.
+    let pair : (after_node (walked before) at node.0, node.1) ≡ (is, next) = same_ok (after_node (walked before) at node.0, node.1) (is, next) last in
+    let kept : after_node (walked before) at node.0 ≡ is = ap (λ (p : Walked × ℕ). p.0) pair in
+    let place : node.1 ≡ next = ap (λ (p : Walked × ℕ). p.1) pair in
+    let moved = node_behind-moves header.format table depth (is_some (root_in (filter_map die_of before))) unit at node node_is in
+    let item : node_at header.format table (take header.end info) before at ≡ Ok (Item (standing before at node.0) node.1) =
+    subst (λ (u : List ℕ). node_at header.format table u before at ≡ Ok (Item (standing before at node.0) node.1)) same (behind-is header.format table unit before at (Ok node) within so_far.tree node_is) in
     record {
-      bytes_stay = read.1 ∙ same;
       moves = omega (arith, moved.0, place);
-      within = omega (arith, moved.1, place, ap length (read.1 ∙ same));
+      within = omega (arith, moved.1, place, ap length same);
       walked_so = record {
-        before = before ++ standing before old.place node.0 ∷ [];
+        before = before ++ standing before at node.0 ∷ [];
         marked_so =
-            subst (λ (places : List ℕ). AddsMarks marks after places) (offsets-push before old.place node.0)
-            (adds-more marks marked after (offsets_of (filter_map die_of before)) (places_of old.place node.0) so_far.marked_so (adds_here node node_is));
-        kept = sym kept ∙ walked-push before old.place node.0 so_far.tree;
-        tree = tree_push before old.place node.0 so_far.tree;
+            subst (λ (places : List ℕ). AddsMarks marks after places) (offsets-push before at node.0)
+            (adds-more marks marked after (offsets_of (filter_map die_of before)) (places_of at node.0) so_far.marked_so (adds_here node node_is));
+        kept = sym kept ∙ walked-push before at node.0 so_far.tree;
+        tree = tree_push before at node.0 so_far.tree;
         read =
-            subst (λ (k : ℕ). SoFar header.end (node_at header.format table unit) header.first (before ++ standing before old.place node.0 ∷ []) k) place
-            (so_far-item header.end (node_at header.format table unit) (advances info header table) header.first before old.place (standing before old.place node.0) node.1 so_far.read item);
+            subst (λ (k : ℕ). SoFar header.end (node_at header.format table (take header.end info)) header.first (before ++ standing before at node.0 ∷ []) k) place
+            (so_far-item header.end (node_at header.format table (take header.end info)) (advances info header table) header.first before at (standing before at node.0) node.1 so_far.read item);
       };
     })
 
@@ -240,57 +232,35 @@ told_cases : (cause : Cause) (at : ℕ) → (told sections.DebugInfo cause at �
 told_cases causes.Memory at = inl refl
 told_cases cause at = inr refl
 
-pub walk_fault : (info : List ℕ) (header : UnitHeader) (table : List Declaration) (marks marked : Marks) (old : Position) (was : Walked) (cause : Cause) (fault : LoadFault) → old.bytes ≡ take header.end info → old.place < length old.bytes →
-    WalkedSoFar info header table marks marked old.place was → Fails cause (walked_at header.format table was old.bytes old.place) → fault ≡ told sections.DebugInfo cause old.place →
+pub walk_fault : (info : List ℕ) (header : UnitHeader) (table : List Declaration) (marks marked : Marks) (unit : List ℕ) (at : ℕ) (was : Walked) (cause : Cause) (fault : LoadFault) → unit ≡ take header.end info → at < length unit →
+    WalkedSoFar info header table marks marked at was → Fails cause (walked_at header.format table was unit at) → fault ≡ told sections.DebugInfo cause at →
     (fault ≡ memory_fault) ⊎ (in_section sections.DebugInfo (walk_of info header table) ≡ Err fault)
 unfolding walk_of
-walk_fault info header table marks marked old was cause fault same within so_far (inl memory) told_is = inl (told_is ∙ ap (λ (c : Cause). told sections.DebugInfo c old.place) memory)
-walk_fault info header table marks marked old was cause fault same within so_far (inr read) told_is = by_cause (told_cases cause old.place)
+walk_fault info header table marks marked unit at was cause fault same within so_far (inl memory) told_is = inl (told_is ∙ ap (λ (c : Cause). told sections.DebugInfo c at) memory)
+walk_fault info header table marks marked unit at was cause fault same within so_far (inr read) told_is = by_cause (told_cases cause at)
   where
-    unit : List ℕ
-    unit = take header.end info
-
     before : List Standing
     before = so_far.before
 
-    behind_fault : (r : Result (Node × ℕ) Cause) → (◌>>=◌ {B = Walked × ℕ} r (λ node. Ok (after_node (walked before) old.place node.0, node.1))) ≡ Err cause → r ≡ Err cause
+    behind_fault : (r : Result (Node × ℕ) Cause) → (◌>>=◌ {B = Walked × ℕ} r (λ node. Ok (after_node (walked before) at node.0, node.1))) ≡ Err cause → r ≡ Err cause
     behind_fault (Ok node) h = cc
     behind_fault (Err c) h = cc
 
-    here : walked_at header.format table (walked before) unit old.place ≡ Err cause
-    here = subst (λ (w : Walked). walked_at header.format table w unit old.place ≡ Err cause) so_far.kept (subst (λ (b : List ℕ). walked_at header.format table was b old.place ≡ Err cause) same read)
+    here : walked_at header.format table (walked before) unit at ≡ Err cause
+    here = subst (λ (w : Walked). walked_at header.format table w unit at ≡ Err cause) so_far.kept read
 
-    faulty : node_at header.format table unit before old.place ≡ Err cause
+    faulty : node_at header.format table (take header.end info) before at ≡ Err cause
     faulty =
-        behind-is header.format table unit before old.place (Err cause) (omega (arith, within, ap length same)) so_far.tree
-        (behind_fault (node_behind header.format table (depth_after before) (is_some (root_in (filter_map die_of before))) unit old.place) here)
+        subst (λ (u : List ℕ). node_at header.format table u before at ≡ Err cause) same
+        (behind-is header.format table unit before at (Err cause) within so_far.tree
+        (behind_fault (node_behind header.format table (depth_after before) (is_some (root_in (filter_map die_of before))) unit at) here))
 
-    refused : in_section sections.DebugInfo (walk_of info header table) ≡ Err (record { section = sections.DebugInfo; cause = cause; at = old.place })
-    refused = rw (so_far-fault header.end (node_at header.format table unit) (advances info header table) header.first before old.place cause so_far.read faulty) refl
+    refused : in_section sections.DebugInfo (walk_of info header table) ≡ Err (record { section = sections.DebugInfo; cause = cause; at = at })
+    refused = rw (so_far-fault header.end (node_at header.format table (take header.end info)) (advances info header table) header.first before at cause so_far.read faulty) refl
 
-    by_cause : (told sections.DebugInfo cause old.place ≡ memory_fault) ⊎ (told sections.DebugInfo cause old.place ≡ record { section = sections.DebugInfo; cause = cause; at = old.place }) → (fault ≡ memory_fault) ⊎ (in_section sections.DebugInfo (walk_of info header table) ≡ Err fault)
+    by_cause : (told sections.DebugInfo cause at ≡ memory_fault) ⊎ (told sections.DebugInfo cause at ≡ record { section = sections.DebugInfo; cause = cause; at = at }) → (fault ≡ memory_fault) ⊎ (in_section sections.DebugInfo (walk_of info header table) ≡ Err fault)
     by_cause (inl memory) = inl (told_is ∙ memory)
     by_cause (inr itself) = inr (refused ∙ ap (λ (f : LoadFault). Err f) (sym (told_is ∙ itself)))
-
--- where the entries begin past the end, there are none
-pub walk_outside : (info : List ℕ) (header : UnitHeader) (table : List Declaration) (marks : Marks) (w : Walked) → length (take header.end info) ≤ header.first → w ≡ walked [] → in_section sections.DebugInfo (walk_of info header table) ≡ Ok w
-walk_outside info header table marks w past is = walk_end info header table marks marks header.first w past (walked_none info header table marks w is)
-
--- .. and none is marked
-pub marks_outside : (info : List ℕ) (header : UnitHeader) (table : List Declaration) (marks : Marks) → length (take header.end info) ≤ header.first → (all : List Standing × ℕ) → nodes_of info header table ≡ Ok all → AddsMarks marks marks (offsets_of (filter_map die_of all.0))
-marks_outside info header table marks past = walk_marks info header table marks marks header.first (walked []) past (walked_none info header table marks (walked []) refl)
-
--- a place that was not sought is past the end
-pub sought_past : (sought : Result (Unit {0}) ReadFault) (refused : Bool) (place len : ℕ) → refused ≡ is_err sought → refused ≡ true → (IsOk sought ↔ (place ≤ len)) → len < place
-sought_past (Ok u) refused place len is was within = cc
-sought_past (Err fault) refused place len is was within = by_order (cases_lt len place)
-  where
-    by_order : (len < place) ⊎ (place ≤ len) → len < place
-    by_order (inl past) = past
-    by_order (inr fits) = absurd (never (within.1 fits))
-      where
-        never : IsOk (let f : ReadFault → Result (Unit {0}) ReadFault = λ z. Err z in f fault) → ⊥
-        never h = cc
 
 -- ---- what is kept of a unit, by what its walk left
 

@@ -10,6 +10,7 @@ mod marks;
 mod packed;
 mod scope_kind;
 mod sections;
+mod take;
 mod walk;
 
 pub use again::EntryReader;

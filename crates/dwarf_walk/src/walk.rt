@@ -9,7 +9,7 @@ ghost use Rattle.dwarf_units.specs.Entries.{Die, Node, Standing, depth_limit};
 ghost use Rattle.dwarf_units.specs.Entries.{die_of, node_behind, entries_of};
 ghost use Rattle.dwarf_walk.specs.Private.Kept.{kept_of, kept_entries};
 ghost use Rattle.dwarf_walk.specs.Private.Marks.{AddsMarks, offsets_of};
-ghost use Rattle.dwarf_walk.specs.Private.Readers.{ReadsNode, walked_of, after_die, with_scope};
+ghost use Rattle.dwarf_walk.specs.Private.Readers.{ReadsNode, walked_of, after_die};
 ghost use Rattle.dwarf_walk.specs.Private.Readers.{walked_at, nodes_of, places_of, walk_of};
 ghost use Rattle.dwarf_walk.specs.Private.Ends.{ended_at, left_open, with_end};
 ghost use Rattle.dwarf_units.specs.Private.Plans.{Fills};
@@ -17,7 +17,6 @@ ghost use Rattle.dwarf_units.specs.Private.Plans.{Fills};
 use crate::kept::{RootEntry, ScopePlace, UnitEntries};
 use crate::marks::Marks;
 use crate::packed::narrow;
-use crate::scope_kind::kind_of;
 use dwarf_bytes::{Cause, Cursor, LoadFault, Section, Span};
 use dwarf_units::{Attribute, UnitHeader, UnitTable};
 use std::alloc::{AllocError, Global};
@@ -88,7 +87,7 @@ impl Walk {
 
     /// Takes what stands at the cursor, and marks its place if it is an entry. `found` is a buffer
     /// for attributes.
-    fn step(
+    pub(crate) fn step(
         &mut self,
         table: &UnitTable<'_>,
         marks: &mut Marks,
@@ -118,19 +117,6 @@ impl Walk {
         Ok(())
     }
 
-    /// Takes a scope whose entry stands at an offset.
-    fn open(&mut self, offset: u32) -> Result<(), AllocError>
-        ensures { OnOk result (walked_of self.new ≡ with_scope offset (walked_of self.old)) }
-    {
-        let number = narrow(self.scopes.len())?;
-        self.opened.push(OpenScope {
-            depth: self.depth,
-            number,
-        })?;
-        self.scopes.push(ScopePlace { offset, inside: 0 })?;
-        Ok(())
-    }
-
     /// Keeps what is wanted of the entry at an offset.
     fn keep(&mut self, offset: usize, tag: u64, attributes: &[Attribute]) -> Result<(), AllocError>
         ensures { OnOk result (walked_of self.new
@@ -144,11 +130,7 @@ impl Walk {
         if self.root.is_none() {
             self.root = Some(RootEntry::of(offset, attributes));
         }
-        end_scopes(&mut self.scopes, &mut self.opened, self.depth)?;
-        if kind_of(tag).is_some() {
-            self.open(narrow(offset)?)?;
-        }
-        Ok(())
+        self.keep_scope(offset, tag)
     }
 }
 
@@ -168,17 +150,14 @@ fn walk_unit(
         → AddsMarks marks.old marks.new (offsets_of (filter_map die_of all.0))) }
 {
     let unit = unit_bytes(info, &header);
-    let mut cursor = Cursor::new(unit);
     let mut walk = Walk::new(alloc);
     let mut found = Vec::new(alloc);
-    if cursor.seek(header.first).is_err() {
-        return Ok(walk);
-    }
-    while cursor.place() < unit.len() {
-        let at = cursor.place();
-        if let Err(cause) = walk.step(table, marks, &mut cursor, &mut found) {
-            return Err(LoadFault::told(Section::DebugInfo, cause, at as u64));
-        }
+    let mut place = header.first;
+    while place < unit.len() {
+        place = match walk.take(table, marks, unit, place, &mut found) {
+            Ok(after) => after,
+            Err(cause) => return Err(LoadFault::told(Section::DebugInfo, cause, place as u64)),
+        };
     }
     Ok(walk)
 }
@@ -218,7 +197,7 @@ fn node(
 
 /// Ends the open scopes that an entry at a depth is not below:
 /// all scopes behind them are below them.
-fn end_scopes(
+pub(crate) fn end_scopes(
     scopes: &mut Vec<ScopePlace>,
     opened: &mut Vec<OpenScope>,
     depth: u16,

@@ -1,6 +1,6 @@
 -- Entries whose attributes, where none is kept, are passed over as so many bytes.
-use Rattle.std.specs.Prelude.{◌≡◌, ℕ, ◌+◌, ◌≤◌, List, [], ◌∷◌, length, true, false, Option, Some, None}
-use Rattle.std.specs.Prelude.{Ok, ◌==◌, if◌then◌else◌, is_some, find, option_map, slice_get}
+use Rattle.std.specs.Prelude.{◌≡◌, ℕ, ◌+◌, ◌≤◌, List, [], ◌∷◌, length, true, false, ◌==◌, Option}
+use Rattle.std.specs.Prelude.{Some, None, Ok, if◌then◌else◌, is_some, find, option_map, slice_get}
 use Rattle.std.specs.Option.{option_map_or}
 use Rattle.dwarf_bytes.specs.declared.format.Format.{Format}
 use Rattle.dwarf_forms.specs.Private.SharedTables.{SharedDeclaration}

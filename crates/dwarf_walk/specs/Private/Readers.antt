@@ -86,6 +86,15 @@ after_die w die = record {
       ++ left_open die.depth w.opened;
 }
 
+-- one more entry, as far as scopes go: neither its attributes nor a root count
+abbrev pub after_scope : Walked → ℕ → ℕ → Walked
+after_scope w offset tag = record (after_die w (record {
+  offset = offset;
+  depth = w.depth;
+  tag = tag;
+  attributes = [];
+})) { root = w.root }
+
 -- one more scope, whose entry stands at an offset
 abbrev pub with_scope : ℕ → Walked → Walked
 with_scope offset w = record w {

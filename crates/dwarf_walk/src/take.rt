@@ -1,0 +1,124 @@
+//! Taking what stands at a place of a unit: nulls and plain entries at once, all else by a cursor.
+
+ghost use Rattle.std.specs.Prelude.{◌≡◌, ◌≤◌, ◌<◌, ℕ, List, [], ◌∷◌, length, true, Ok, is_some, OnOk};
+ghost use Rattle.dwarf_bytes.specs.Refusals.{Gives};
+ghost use Rattle.dwarf_units.specs.declared.attributes.Attribute.{Attribute as EntryAttribute};
+ghost use Rattle.dwarf_units.specs.Entries.{Node, Entry, depth_limit, node_behind};
+ghost use Rattle.dwarf_walk.specs.Private.Marks.{AddsMarks};
+ghost use Rattle.dwarf_walk.specs.Private.Readers.{walked_of, walked_at, places_of, after_node};
+ghost use Rattle.dwarf_walk.specs.Private.Readers.{after_scope, with_scope};
+
+use crate::kept::ScopePlace;
+use crate::marks::Marks;
+use crate::packed::narrow;
+use crate::scope_kind::kind_of;
+use crate::walk::{OpenScope, Walk, end_scopes};
+use dwarf_bytes::{Cause, Cursor};
+use dwarf_units::{Attribute, PlainHead, UnitTable};
+use std::alloc::AllocError;
+
+impl Walk {
+    /// Takes what stands at a place of a unit, and marks the place if it is an entry. Gives the
+    /// place after it. `found` is a buffer for attributes.
+    #[inline(always)]
+    pub(crate) fn take(
+        &mut self,
+        table: &UnitTable<'_>,
+        marks: &mut Marks,
+        unit: &[u8],
+        place: usize,
+        found: &mut Vec<Attribute>,
+    ) -> Result<usize, Cause>
+        requires { place < length unit.now }
+        ensures walks { Gives (λ after. (walked_of self.new, after)) result
+            (walked_at table.now.format table.now.declarations (walked_of self.old)
+            unit.now place) }
+        ensures marks { OnOk result ((node : Node × ℕ) → node_behind table.now.format
+            table.now.declarations self.old.depth (is_some self.old.root) unit.now place ≡ Ok node
+            → AddsMarks marks.old marks.new (places_of place node.0)) }
+    {
+        if unit[place] == 0 {
+            self.depth = self.depth.saturating_sub(1);
+            return Ok(place + 1);
+        }
+        if self.root.is_some() {
+            if let Some((head, after)) = table.plain_entry(self.depth, unit, place) {
+                self.take_plain(marks, place, head)?;
+                return Ok(after);
+            }
+        }
+        self.step_at(table, marks, unit, place, found)
+    }
+
+    /// Takes the plain entry at a place, behind the root, and marks the place.
+    #[inline(always)]
+    fn take_plain(
+        &mut self,
+        marks: &mut Marks,
+        place: usize,
+        head: PlainHead,
+    ) -> Result<(), AllocError>
+        requires rooted { is_some self.old.root ≡ true }
+        requires depth { self.old.depth ≤ depth_limit }
+        ensures walks { OnOk result ((attributes : List EntryAttribute) → walked_of self.new
+            ≡ after_node (walked_of self.old) place (Entry head.tag head.children attributes)) }
+        ensures marks { OnOk result (AddsMarks marks.old marks.new (place ∷ [])) }
+    {
+        marks.mark(place)?;
+        self.keep_scope(place, head.tag)?;
+        if head.children {
+            self.depth += 1;
+        }
+        Ok(())
+    }
+
+    /// Takes what stands at a place of a unit, as `step` does. Gives the place after it.
+    #[inline(never)]
+    fn step_at(
+        &mut self,
+        table: &UnitTable<'_>,
+        marks: &mut Marks,
+        unit: &[u8],
+        place: usize,
+        found: &mut Vec<Attribute>,
+    ) -> Result<usize, Cause>
+        requires { place < length unit.now }
+        ensures walks { Gives (λ after. (walked_of self.new, after)) result
+            (walked_at table.now.format table.now.declarations (walked_of self.old)
+            unit.now place) }
+        ensures marks { OnOk result ((node : Node × ℕ) → node_behind table.now.format
+            table.now.declarations self.old.depth (is_some self.old.root) unit.now place ≡ Ok node
+            → AddsMarks marks.old marks.new (places_of place node.0)) }
+    {
+        let mut cursor = Cursor::new(unit);
+        cursor.seek(place)?;
+        self.step(table, marks, &mut cursor, found)?;
+        Ok(cursor.place())
+    }
+
+    /// Keeps the entry at an offset if it is a scope, and ends those that the entry is not below.
+    #[inline(always)]
+    pub(crate) fn keep_scope(&mut self, offset: usize, tag: u64) -> Result<(), AllocError>
+        ensures { OnOk result (walked_of self.new
+            ≡ after_scope (walked_of self.old) offset tag) }
+    {
+        end_scopes(&mut self.scopes, &mut self.opened, self.depth)?;
+        if kind_of(tag).is_some() {
+            self.open(narrow(offset)?)?;
+        }
+        Ok(())
+    }
+
+    /// Takes a scope whose entry stands at an offset.
+    fn open(&mut self, offset: u32) -> Result<(), AllocError>
+        ensures { OnOk result (walked_of self.new ≡ with_scope offset (walked_of self.old)) }
+    {
+        let number = narrow(self.scopes.len())?;
+        self.opened.push(OpenScope {
+            depth: self.depth,
+            number,
+        })?;
+        self.scopes.push(ScopePlace { offset, inside: 0 })?;
+        Ok(())
+    }
+}
