@@ -15,11 +15,12 @@ mod roots;
 mod scope;
 mod scope_lists;
 mod scopes;
+mod text_offset;
 mod texts;
 mod tree_laws;
 mod unit_scopes;
 
-pub use dwarf_bytes::Text;
 pub use dwarf_walk::{ScopeKind, Sections};
 pub use scope::{Range, Root, Scope};
 pub use scopes::Scopes;
+pub use text_offset::TextOffset;

@@ -18,10 +18,11 @@ ghost use Rattle.dwarf_entries.specs.Private.Members.{FindsFirst, str_offsets_of
 
 use crate::bases::Bases;
 use crate::names::text_of;
+use crate::text_offset::TextOffset;
 use crate::texts::Texts;
 use crate::unit_scopes::Units;
+use dwarf_bytes::Cause;
 use dwarf_bytes::constants::DW_FORM_REF_ADDR;
-use dwarf_bytes::{Cause, Text};
 use dwarf_units::{AttributeValue, UnitHeader};
 use dwarf_walk::{EntryReader, Marks, NamedEntry, Sections, UnitEntries};
 
@@ -73,8 +74,8 @@ impl FirstNames {
 /// The names of an entry.
 #[derive(Clone, Copy)]
 pub(crate) struct EntryNames {
-    pub(crate) name: Option<Text>,
-    pub(crate) linkage_name: Option<Text>,
+    pub(crate) name: Option<TextOffset>,
+    pub(crate) linkage_name: Option<TextOffset>,
 }
 
 /// The names of an entry of a unit: of each attribute the first on the path from the entry to its
@@ -109,7 +110,7 @@ fn text(
     texts: &Texts<'_>,
     bases: &[Bases],
     found: Option<UnitAttribute>,
-) -> Result<Option<Text>, Cause>
+) -> Result<Option<TextOffset>, Cause>
     requires { AreTexts (sections_of sections.now) texts.now }
     ensures { result ≡ optional (λ found. text_of (sections_of sections.now)
         (str_offsets_of bases.now found.unit) found.value) found }
