@@ -11,6 +11,7 @@ mod passes;
 mod paths;
 mod range_entries;
 mod ranges;
+mod references;
 mod roots;
 mod scope;
 mod scope_lists;
