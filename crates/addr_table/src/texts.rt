@@ -11,8 +11,8 @@ ghost use Rattle.addr_table.specs.declared.texts.FrameSite.TheVariants.{Call};
 
 use crate::path::Path;
 use crate::scopes::{count, scope_at};
-use dwarf_bytes::{Layout, Section};
-use dwarf_entries::{Scopes, Text};
+use dwarf_bytes::{Layout, Section, text_at};
+use dwarf_entries::{Scopes, TextOffset};
 use dwarf_lines::{LineTables, ProgramNo};
 
 /// An object, and what its texts and its files are found by.
@@ -33,7 +33,7 @@ pub enum FrameSite {
 }
 
 impl<'a> Texts<'a> {
-    /// The section of a text.
+    /// The section that a text stands in.
     fn section(self, section: Section) -> &'a [u8]
         ensures { result.now ≡ text_section self.entry.bytes.now section }
     {
@@ -44,10 +44,11 @@ impl<'a> Texts<'a> {
         }
     }
 
-    fn text(self, text: Text) -> &'a [u8]
+    /// The bytes of a text, from where it begins up to its NUL.
+    fn text(self, text: TextOffset) -> &'a [u8]
         ensures { result.now ≡ text_bytes self.entry.bytes.now text }
     {
-        text.span.of(self.section(text.section))
+        text_at(self.section(text.section), text.offset as u64).unwrap_or(&[])
     }
 
     /// The name of the scope of a number.

@@ -1,29 +1,26 @@
 -- The names to which references lead: what is known of them, and what a path has by them.
-use Rattle.std.proofs.Common.{◌≡◌, ℕ, suc, inl, inr, List, [], ◌∷◌, Bool, true, false, ◌==◌, refl, sym, ap, ◌∙◌, subst, arith, append-nil}
-use Rattle.std.specs.Prelude.{Option, Some, None, Result, Ok, Err, map, find, slice_get, option_map, option_to_list, ok_or, if◌then◌else◌}
-use Rattle.std.proofs.lemmas.Bool.{eqb-true}
+use Rattle.std.proofs.Common.{◌≡◌, ℕ, suc, inl, inr, List, ◌∷◌, Bool, true, false, ◌==◌, refl, sym, ap, ◌∙◌, subst, arith}
+use Rattle.std.specs.Prelude.{Option, Some, None, Result, Ok, Err, option_map, if◌then◌else◌}
 use Rattle.std.proofs.lemmas.Option.{same_Some}
 use Rattle.dwarf_bytes.specs.declared.constants.TheConstants.{DW_AT_LINKAGE_NAME, DW_AT_NAME}
 use Rattle.dwarf_bytes.specs.declared.fault.Cause.{Cause}
 use Rattle.dwarf_bytes.specs.declared.fault.Cause.TheVariants as causes
 use Rattle.dwarf_bytes.specs.Bind.{◌>>=◌}
 use Rattle.dwarf_bytes.specs.Refusals.{Fails}
-use Rattle.dwarf_bytes.proofs.Moves.{same_ok}
 use Rattle.dwarf_units.specs.declared.attributes.AttributeValue.{AttributeValue}
-use Rattle.dwarf_units.specs.Entries.{Die, attribute}
+use Rattle.dwarf_units.specs.Entries.{attribute}
 use Rattle.dwarf_walk.specs.declared.kept.NamedEntry.{NamedEntry}
 use Rattle.dwarf_entries.specs.declared.known_names.KnownNames.{KnownNames}
 use Rattle.dwarf_entries.specs.declared.known_names.LedNames.{LedNames}
 use Rattle.dwarf_entries.specs.declared.paths.EntryNames.{EntryNames}
-use Rattle.dwarf_entries.specs.declared.paths.UnitPlace.{UnitPlace}
+use Rattle.dwarf_entries.specs.declared.references.UnitPlace.{UnitPlace}
 use Rattle.dwarf_walk.specs.Sections.{Sections}
 use Rattle.dwarf_entries.specs.Bases.{CompilationUnit, optional}
-use Rattle.dwarf_entries.specs.Names.{Member, members_of, member_at, target_of, path_within, first_on, text_of, name_on, names_of, hops_limit}
+use Rattle.dwarf_entries.specs.Names.{Member, target_of, path_within, first_on, text_of, name_on, names_of, hops_limit}
 use Rattle.dwarf_walk.specs.References.{or_else, next_of}
 use Rattle.dwarf_entries.specs.Private.KnownNames.{slot_of, slot_at, led_names, names_behind, AreKnownOf}
-use Rattle.dwarf_entries.specs.Private.Members.{IsMember, IsPlaceOf, Finds, member_in}
+use Rattle.dwarf_entries.specs.Private.Members.{IsMember, LeadsTo, member_in}
 use Rattle.dwarf_entries.proofs.PathLaws.{both_names, in_front, stepped}
-use Rattle.dwarf_entries.proofs.ReferenceLaws.{stands_at, member_of, find-map, find-index}
 
 -- ---- what is known
 
@@ -31,45 +28,23 @@ abbrev led_by : UnitPlace → EntryNames → LedNames
 led_by place names = record { place = place; names = names }
 
 pub known-none : (s : Sections) (units : List CompilationUnit) (known : KnownNames) → ((slot : ℕ) → slot_at known slot ≡ None) → AreKnownOf s units known
-known-none s units known none slot led is m found = absurd (never (sym is ∙ none slot))
+known-none s units known none slot led is = absurd (never (sym is ∙ none slot))
   where
     never : (let f : LedNames → Option LedNames = λ z. Some z in f led) ≡ None → ⊥
     never h = cc
 
--- with the names of one place more
+-- with the names of one place more, where an entry stands
 pub known-more : (s : Sections) (units : List CompilationUnit) (old new : KnownNames) (place : UnitPlace) (names : EntryNames) → AreKnownOf s units old →
     ((slot : ℕ) → slot_at new slot ≡ if slot == slot_of place then Some (led_by place names) else slot_at old slot) →
-    ((m : Member) → member_in units place.unit place.offset ≡ Ok m → led_names s units m ≡ Ok names) → AreKnownOf s units new
-known-more s units old new place names knew put led_is slot led is m found = by_test (slot == slot_of place) (sym (put slot) ∙ is)
+    (m : Member) → member_in units place.unit place.offset ≡ Ok m → led_names s units m ≡ Ok names → AreKnownOf s units new
+known-more s units old new place names knew put m there led_is slot led is = by_test (slot == slot_of place) (sym (put slot) ∙ is)
   where
-    by_test : (here : Bool) → (let o : Option LedNames = if here then Some (led_by place names) else slot_at old slot in o ≡ Some led) → led_names s units m ≡ Ok led.names
+    by_test : (here : Bool) → (let o : Option LedNames = if here then Some (led_by place names) else slot_at old slot in o ≡ Some led) →
+        (m : Member) × (member_in units led.place.unit led.place.offset ≡ Ok m) × (led_names s units m ≡ Ok led.names)
     by_test true h =
         let same : led_by place names ≡ led = same_Some (led_by place names) led h in
-        let there : member_in units place.unit place.offset ≡ Ok m = subst (λ (l : LedNames). member_in units l.place.unit l.place.offset ≡ Ok m) (sym same) found in
-        led_is m there ∙ ap (λ (l : LedNames). Ok l.names) same
-    by_test false h = knew slot led h m found
-
--- ---- the member at a place
-
-pub place-of : (units : List CompilationUnit) (place : UnitPlace) (m : Member) → member_in units place.unit place.offset ≡ Ok m → IsPlaceOf units place m
-place-of units place m h = by_unit (slice_get units place.unit) refl h
-  where
-    of_die : Die → Bool
-    of_die d = d.offset == place.offset
-
-    one : (u : CompilationUnit) → find (stands_at place.offset) (members_of (u ∷ [])) ≡ option_map (member_of u) (find of_die u.dies)
-    one u = ap (λ (ms : List Member). find (stands_at place.offset) ms) (append-nil (map (member_of u) u.dies)) ∙ find-map (stands_at place.offset) (member_of u) u.dies
-
-    by_die : (u : CompilationUnit) → slice_get units place.unit ≡ Some u → (die : Option Die) → find of_die u.dies ≡ die → ok_or (option_map (member_of u) die) causes.Reference ≡ Ok m → IsPlaceOf units place m
-    by_die u is None here found = cc
-    by_die u is (Some d) here found =
-        let there = find-index of_die u.dies d here in
-        let at : IsPlaceOf units place (member_of u d) = record { unit_is = is; offset_is = eqb-true d.offset place.offset there.2; index = there.0; there = there.1; found = h ∙ sym found } in
-        subst (λ (n : Member). IsPlaceOf units place n) (same_ok {E = Cause} (member_of u d) m found) at
-
-    by_unit : (unit : Option CompilationUnit) → slice_get units place.unit ≡ unit → member_at (members_of (option_to_list unit)) place.offset ≡ Ok m → IsPlaceOf units place m
-    by_unit None is found = cc
-    by_unit (Some u) is found = by_die u is (find of_die u.dies) refl (sym (ap (λ (o : Option Member). ok_or o causes.Reference) (one u)) ∙ found)
+        subst (λ (l : LedNames). (m : Member) × (member_in units l.place.unit l.place.offset ≡ Ok m) × (led_names s units m ≡ Ok l.names)) same (m, there, led_is)
+    by_test false h = knew slot led h
 
 -- ---- the names of an entry without names of its own
 
@@ -112,8 +87,12 @@ abbrev led_from : Sections → List CompilationUnit → Result Member Cause → 
 led_from s units target = target >>= λ m. led_names s units m
 
 pub led-known : (s : Sections) (units : List CompilationUnit) (u : CompilationUnit) (reference : AttributeValue) (place : UnitPlace) (names : EntryNames) (known : KnownNames) → AreKnownOf s units known →
-    slot_at known (slot_of place) ≡ Some (led_by place names) → Finds units (Some place) (target_of units u reference) → names_behind s units u reference ≡ Ok names
-led-known s units u reference place names known knew is finds = ap (led_from s units) finds.1 ∙ knew (slot_of place) (led_by place names) is finds.0 finds.2.found
+    slot_at known (slot_of place) ≡ Some (led_by place names) → LeadsTo units (Some place) (target_of units u reference) → names_behind s units u reference ≡ Ok names
+led-known s units u reference place names known knew is leads =
+    let at = knew (slot_of place) (led_by place names) is in ap (led_from s units) (leads ∙ at.1) ∙ at.2
+
+pub led-nowhere : (s : Sections) (units : List CompilationUnit) (u : CompilationUnit) (reference : AttributeValue) → target_of units u reference ≡ Err causes.Reference → names_behind s units u reference ≡ Err causes.Reference
+led-nowhere s units u reference lost = ap (led_from s units) lost
 
 pub led-names : (s : Sections) (units : List CompilationUnit) (u : CompilationUnit) (reference : AttributeValue) (m : Member) (names : EntryNames) → target_of units u reference ≡ Ok m → led_names s units m ≡ Ok names → names_behind s units u reference ≡ Ok names
 led-names s units u reference m names target is = ap (led_from s units) target ∙ is

@@ -11,7 +11,6 @@ use Rattle.dwarf_bytes.specs.declared.fault.ReadFault.TheVariants.{Unterminated}
 use Rattle.dwarf_bytes.specs.declared.fault.Section.{Section}
 use Rattle.dwarf_bytes.specs.declared.fault.Section.TheVariants as sections
 use Rattle.dwarf_bytes.specs.declared.tables.TableKind.TheVariants.{StrOffsets}
-use Rattle.dwarf_bytes.specs.declared.text.Text.{Text}
 use Rattle.dwarf_bytes.specs.Items.{reading}
 use Rattle.dwarf_bytes.specs.Numbers.{IsText, StandsAt, text_front, cstr_at, text_at}
 use Rattle.dwarf_bytes.proofs.Advance.{after_bind, chosen, reading_ok}
@@ -20,11 +19,12 @@ use Rattle.dwarf_bytes.proofs.TextLaws.{text_stands}
 use Rattle.dwarf_units.specs.declared.attributes.AttributeValue.{AttributeValue}
 use Rattle.dwarf_entries.specs.declared.bases.Table.{Table}
 use Rattle.dwarf_entries.specs.declared.paths.EntryNames.{EntryNames}
+use Rattle.dwarf_entries.specs.declared.text_offset.TextOffset.{TextOffset}
 use Rattle.dwarf_walk.specs.Sections.{Sections}
 use Rattle.dwarf_entries.specs.Bases.{CompilationUnit, item_at, optional}
-use Rattle.dwarf_entries.specs.Names.{Member, path_of, text, text_len, text_in, text_of, first_on, name_on, names_of}
+use Rattle.dwarf_entries.specs.Names.{Member, path_of, text_in, text_of, first_on, name_on, names_of}
 use Rattle.dwarf_entries.specs.Scopes.{Scope, Tree, ScopeSite, Judged, tree_of}
-use Rattle.dwarf_entries.specs.TreeLaws.{section_bytes, IsTextIn, IsTextOf}
+use Rattle.dwarf_entries.specs.TreeLaws.{section_bytes, IsTextAt, IsTextOf}
 use Rattle.dwarf_entries.proofs.ScopeOrder.{all_sites}
 use Rattle.dwarf_entries.proofs.TreeParts.{AreJudged, is-read}
 
@@ -38,7 +38,7 @@ found-stands bytes at found h = by_front (text_front (drop at bytes)) h
     by_front None h = cc
     by_front (Some front) h = ap (λ (t : List ℕ). Ok (t, at + length t + 1)) (same_ok front found h)
 
-stands : (bytes : List ℕ) (at : ℕ) (found : List ℕ) → StandsAt IsText bytes at found (at + length found + 1) → IsTextIn bytes (record { place = at; len = length found })
+stands : (bytes : List ℕ) (at : ℕ) (found : List ℕ) → StandsAt IsText bytes at found (at + length found + 1) → IsTextAt bytes at
 stands bytes at found s =
     let parts : drop at bytes ≡ found ++ 0 ∷ s.rest = s.parts ∙ ap (λ (t : List ℕ). t ++ s.rest) s.spelled.0 ∙ append_assoc found (0 ∷ []) s.rest in
     let size : length (drop at bytes) ≡ length found + length (0 ∷ s.rest) = ap length parts ∙ length-append found (0 ∷ s.rest) in
@@ -46,24 +46,23 @@ stands bytes at found s =
     let within : at + length found < length bytes = omega (arith, size, left) in
     let nul : get_or bytes (at + length found) 1 ≡ 0 = sym (get_or-drop at bytes (length found) 1) ∙ ap (λ (bs : List ℕ). get_or bs (length found) 1) parts ∙ last found s.rest in
     let text_is : take (length found) (drop at bytes) ≡ found = ap (take (length found)) parts ∙ take_at found (0 ∷ s.rest) (length found) refl in
-    (slice_get-get_or bytes (at + length found) 1 within ∙ ap (λ (b : ℕ). Some b) nul, subst (λ (t : List ℕ). All (λ byte. byte ≢ 0) t) (sym text_is) s.spelled.1)
+    (length found, slice_get-get_or bytes (at + length found) 1 within ∙ ap (λ (b : ℕ). Some b) nul, subst (λ (t : List ℕ). All (λ byte. byte ≢ 0) t) (sym text_is) s.spelled.1)
   where
     last : (front rest : List ℕ) → get_or (front ++ 0 ∷ rest) (length front) 1 ≡ 0
     last [] rest = refl
     last (b ∷ front) rest = last front rest
 
-text_in-stands : (s : Sections) (name : Section) (bytes : List ℕ) (at : ℕ) (found : Text) → section_bytes s name ≡ bytes → text_in name bytes at ≡ Ok found → IsTextOf s found
+text_in-stands : (s : Sections) (name : Section) (bytes : List ℕ) (at : ℕ) (found : TextOffset) → section_bytes s name ≡ bytes → text_in name bytes at ≡ Ok found → IsTextOf s found
 text_in-stands s name bytes at found bytes_are h =
-    after_bind (text_len bytes at) (λ len. Ok (text name at len)) found h (IsTextOf s found) (λ len len_is last.
-    after_bind (reading (text_at bytes at)) (λ found. Ok (length found)) len len_is (IsTextOf s found) (λ content content_is h1.
+    let begins : TextOffset = record { section = name; offset = at } in
+    after_bind (reading (text_at bytes at)) (λ _. Ok begins) found h (IsTextOf s found) (λ content content_is last.
     let here = stands bytes at content (text_stands bytes at content (at + length content + 1) (found-stands bytes at content (reading_ok (text_at bytes at) content content_is))) in
-    let sized : IsTextIn bytes (record { place = at; len = len }) = subst (λ (n : ℕ). IsTextIn bytes (record { place = at; len = n })) (same_ok (length content) len h1) here in
-    let told : IsTextOf s (text name at len) = subst (λ (bs : List ℕ). IsTextIn bs (record { place = at; len = len })) (sym bytes_are) sized in
-    subst (IsTextOf s) (same_ok (text name at len) found last) told))
+    let told : IsTextOf s begins = subst (λ (bs : List ℕ). IsTextAt bs at) (sym bytes_are) here in
+    subst (IsTextOf s) (same_ok begins found last) told)
 
 -- ---- the names of a scope
 
-text_of-stands : (s : Sections) (str_offsets : Option Table) (value : AttributeValue) (found : Text) → text_of s str_offsets value ≡ Ok found → IsTextOf s found
+text_of-stands : (s : Sections) (str_offsets : Option Table) (value : AttributeValue) (found : TextOffset) → text_of s str_offsets value ≡ Ok found → IsTextOf s found
 text_of-stands s str_offsets value found h =
     let P : Type 0 = IsTextOf s found in
     chosen (value.form == DW_FORM_STRING) _ _ (Ok found) h P (λ _ is. text_in-stands s sections.DebugInfo s.debug_info value.number found refl is) (λ _ h1.
@@ -72,11 +71,11 @@ text_of-stands s str_offsets value found h =
     after_bind (item_at StrOffsets s.debug_str_offsets str_offsets value.number) (λ offset. text_in sections.DebugStr s.debug_str offset) found h3 P (λ offset _ last.
     text_in-stands s sections.DebugStr s.debug_str offset found refl last))))
 
-first-stands : (s : Sections) (first : Option (CompilationUnit × AttributeValue)) (found : Option Text) → optional (λ at. text_of s at.0.bases.str_offsets at.1) first ≡ Ok found → IfSome found (IsTextOf s)
-first-stands s None found h = subst (λ (o : Option Text). IfSome o (IsTextOf s)) (same_ok None found h) tt
+first-stands : (s : Sections) (first : Option (CompilationUnit × AttributeValue)) (found : Option TextOffset) → optional (λ at. text_of s at.0.bases.str_offsets at.1) first ≡ Ok found → IfSome found (IsTextOf s)
+first-stands s None found h = subst (λ (o : Option TextOffset). IfSome o (IsTextOf s)) (same_ok None found h) tt
 first-stands s (Some at) found h =
     after_bind (text_of s at.0.bases.str_offsets at.1) (λ y. Ok (Some y)) found h (IfSome found (IsTextOf s)) (λ y y_is last.
-    subst (λ (o : Option Text). IfSome o (IsTextOf s)) (same_ok (Some y) found last) (text_of-stands s at.0.bases.str_offsets at.1 y y_is))
+    subst (λ (o : Option TextOffset). IfSome o (IsTextOf s)) (same_ok (Some y) found last) (text_of-stands s at.0.bases.str_offsets at.1 y y_is))
 
 abbrev BothStand : Sections → EntryNames → Type 0
 BothStand s found = IfSome found.name (IsTextOf s) × IfSome found.linkage_name (IsTextOf s)

@@ -11,11 +11,11 @@ use Rattle.dwarf_bytes.specs.Refusals.{Fails}
 use Rattle.dwarf_units.specs.declared.attributes.AttributeValue.{AttributeValue}
 use Rattle.dwarf_entries.specs.declared.bases.Bases.{Bases}
 use Rattle.dwarf_entries.specs.declared.bases.Table.{Table}
-use Rattle.dwarf_bytes.specs.declared.text.Text.{Text}
+use Rattle.dwarf_entries.specs.declared.text_offset.TextOffset.{TextOffset}
 use Rattle.dwarf_walk.specs.declared.kept.NamedEntry.{NamedEntry}
 use Rattle.dwarf_entries.specs.declared.paths.UnitAttribute.{UnitAttribute}
 use Rattle.dwarf_entries.specs.declared.paths.UnitEntry.{UnitEntry}
-use Rattle.dwarf_entries.specs.declared.paths.UnitPlace.{UnitPlace}
+use Rattle.dwarf_entries.specs.declared.references.UnitPlace.{UnitPlace}
 use Rattle.dwarf_entries.specs.declared.paths.FirstNames.{FirstNames}
 use Rattle.dwarf_entries.specs.declared.paths.EntryNames.{EntryNames}
 use Rattle.dwarf_walk.specs.Sections.{Sections}
@@ -158,10 +158,10 @@ followed-again units hops m left found place firsts reference cause so_far finds
 
 -- ---- the texts
 
-abbrev pub text_kept : Sections → List Bases → Option UnitAttribute → Result (Option Text) Cause
+abbrev pub text_kept : Sections → List Bases → Option UnitAttribute → Result (Option TextOffset) Cause
 text_kept s bases kept = optional (λ found. text_of s (str_offsets_of bases found.unit) found.value) kept
 
-abbrev text_first : Sections → Option (CompilationUnit × AttributeValue) → Result (Option Text) Cause
+abbrev text_first : Sections → Option (CompilationUnit × AttributeValue) → Result (Option TextOffset) Cause
 text_first s first = optional (λ found. text_of s found.0.bases.str_offsets found.1) first
 
 text-is : (s : Sections) (bases : List Bases) (units : List CompilationUnit) → bases ≡ map (λ (u : CompilationUnit). u.bases) units → (kept : Option UnitAttribute) (first : Option (CompilationUnit × AttributeValue)) → IsFirst units kept first → text_kept s bases kept ≡ text_first s first
@@ -173,18 +173,18 @@ text-is s bases units are (Some k) (Some f) h =
     let table : str_offsets_of bases k.unit ≡ f.0.bases.str_offsets = ap (λ (o : Option Bases). option_and_then (λ b. b.str_offsets) o) at in
     ap (λ (t : Option Table). optional (λ (v : AttributeValue). text_of s t v) (Some k.value)) table ∙ ap (λ (v : AttributeValue). optional (λ (w : AttributeValue). text_of s f.0.bases.str_offsets w) (Some v)) h.1
 
-abbrev pub both_names : Result (Option Text) Cause → Result (Option Text) Cause → Result EntryNames Cause
+abbrev pub both_names : Result (Option TextOffset) Cause → Result (Option TextOffset) Cause → Result EntryNames Cause
 both_names name linkage_name = name >>= λ n. linkage_name >>= λ l. Ok (record { name = n; linkage_name = l })
 
 -- the names of a member, by what was kept on its path
 pub names-found : (s : Sections) (bases : List Bases) (units : List CompilationUnit) (hops : ℕ) (m : Member) (firsts : FirstNames) → bases ≡ map (λ (u : CompilationUnit). u.bases) units → FindsFirst units (Ok firsts) (path_within hops units m) →
-    (name linkage_name : Result (Option Text) Cause) → name ≡ text_kept s bases firsts.name → linkage_name ≡ text_kept s bases firsts.linkage_name → both_names name linkage_name ≡ names_within hops s units m
+    (name linkage_name : Result (Option TextOffset) Cause) → name ≡ text_kept s bases firsts.name → linkage_name ≡ text_kept s bases firsts.linkage_name → both_names name linkage_name ≡ names_within hops s units m
 names-found s bases units hops m firsts are found name linkage_name name_is linkage_is =
     let path = found.0 in
     let first : name ≡ name_on DW_AT_NAME s path = name_is ∙ text-is s bases units are firsts.name (first_on DW_AT_NAME path) found.2.name in
     let second : linkage_name ≡ name_on DW_AT_LINKAGE_NAME s path = linkage_is ∙ text-is s bases units are firsts.linkage_name (first_on DW_AT_LINKAGE_NAME path) found.2.linkage_name in
-    ap (λ (r : Result (Option Text) Cause). both_names r linkage_name) first
-    ∙ (ap (λ (r : Result (Option Text) Cause). both_names (name_on DW_AT_NAME s path) r) second
+    ap (λ (r : Result (Option TextOffset) Cause). both_names r linkage_name) first
+    ∙ (ap (λ (r : Result (Option TextOffset) Cause). both_names (name_on DW_AT_NAME s path) r) second
     ∙ ap (λ (p : Result (List Member) Cause). p >>= λ path. both_names (name_on DW_AT_NAME s path) (name_on DW_AT_LINKAGE_NAME s path)) (sym found.1))
 
 -- a path that is not followed has no names

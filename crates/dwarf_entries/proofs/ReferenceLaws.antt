@@ -1,6 +1,6 @@
 -- The entry at an offset of .debug_info: found by its mark, in the unit that holds the offset.
 use Rattle.std.proofs.Common.{◌≡◌, ℕ, zero, suc, ◌+◌, ◌<◌, ◌≤◌, ◌⊎◌, inl, inr, List, [], ◌∷◌, length, get_or, Bool, true, false, cond, ◌==◌, ◌||◌, refl, sym, ap, ◌∙◌, subst, arith, eq-eqb, append-nil}
-use Rattle.std.specs.Prelude.{Option, Some, None, Err, is_some, map, find, slice_get, option_map, option_to_list, ok_or}
+use Rattle.std.specs.Prelude.{Option, Some, None, Result, Err, IfSome, is_some, map, find, slice_get, option_map, option_to_list, ok_or}
 use Rattle.std.specs.List.Sorted.{IsNonDecreasingBy, IsPartitionPoint}
 use Rattle.std.proofs.Math.ListN.{get_or-map}
 use Rattle.std.proofs.lemmas.List.{length-map, get_or-map as get_or-map_at}
@@ -10,11 +10,12 @@ use Rattle.std.specs.List.{list_any}
 use Rattle.std.proofs.lemmas.Bool.{eqb-true}
 use Rattle.std.proofs.lemmas.Bool.Decides.{nat_tests}
 use Rattle.dwarf_bytes.specs.declared.constants.TheConstants.{DW_FORM_REF_ADDR}
+use Rattle.dwarf_bytes.specs.declared.fault.Cause.{Cause}
 use Rattle.dwarf_bytes.specs.declared.fault.Cause.TheVariants as causes
 use Rattle.dwarf_units.specs.declared.unit_headers.UnitHeader.{UnitHeader}
 use Rattle.dwarf_units.specs.declared.attributes.AttributeValue.{AttributeValue}
 use Rattle.dwarf_walk.specs.declared.kept.UnitEntries.{UnitEntries}
-use Rattle.dwarf_entries.specs.declared.paths.UnitPlace.{UnitPlace}
+use Rattle.dwarf_entries.specs.declared.references.UnitPlace.{UnitPlace}
 use Rattle.dwarf_units.specs.Entries.{Die}
 use Rattle.dwarf_entries.specs.Bases.{CompilationUnit}
 use Rattle.dwarf_entries.specs.Names.{Member, members_of, member_at, target_of}
@@ -22,7 +23,7 @@ use Rattle.dwarf_entries.specs.Private.Walked.{AreInOrder, AreMarked}
 use Rattle.dwarf_units.specs.Private.Rising.{RiseWithin}
 use Rattle.dwarf_walk.specs.Private.Marks.{is_marked}
 use Rattle.dwarf_walk.specs.declared.marks.Marks.{Marks}
-use Rattle.dwarf_entries.specs.Private.Members.{header_of, kept_header, AreKept, Finds, member_in}
+use Rattle.dwarf_entries.specs.Private.Members.{header_of, kept_header, AreKept, IsWithin, LeadsTo, Finds, member_in}
 
 -- ---- lists of numbers that do not fall
 
@@ -225,16 +226,16 @@ find-index p (d ∷ dies) die h = by_test (p d) refl h (λ later. find-index p d
     by_test false passes h later = let behind = later h in (suc behind.0, behind.1, behind.2)
 
 -- the entry at an offset, of the unit of a number
-member-is : (kept : List UnitEntries) (units : List CompilationUnit) (n offset : ℕ) (k : UnitEntries) → (at : UnitAt units n k) →
-    member_in units n offset ≡ ok_or (option_map (member_of at.unit) (find (λ d. d.offset == offset) at.unit.dies)) causes.Reference
-member-is kept units n offset k at =
-    let all = ap (λ (ms : List Member). find (stands_at offset) ms) (append-nil (map (member_of at.unit) at.unit.dies)) ∙ find-map (stands_at offset) (member_of at.unit) at.unit.dies in
-    ap (λ (o : Option CompilationUnit). member_at (members_of (option_to_list o)) offset) at.is ∙ ap (λ (o : Option Member). ok_or o causes.Reference) all
+member-is : (units : List CompilationUnit) (n offset : ℕ) (u : CompilationUnit) → slice_get units n ≡ Some u →
+    member_in units n offset ≡ ok_or (option_map (member_of u) (find (λ d. d.offset == offset) u.dies)) causes.Reference
+member-is units n offset u is =
+    let all = ap (λ (ms : List Member). find (stands_at offset) ms) (append-nil (map (member_of u) u.dies)) ∙ find-map (stands_at offset) (member_of u) u.dies in
+    ap (λ (o : Option CompilationUnit). member_at (members_of (option_to_list o)) offset) is ∙ ap (λ (o : Option Member). ok_or o causes.Reference) all
 
 -- outside the unit there is none
-pub finds-outside : (kept : List UnitEntries) (units : List CompilationUnit) → AreKept kept units → (n offset : ℕ) (k : UnitEntries) → n < length kept → ((d : UnitEntries) → k ≡ get_or kept n d) →
+pub outside : (kept : List UnitEntries) (units : List CompilationUnit) → AreKept kept units → (n offset : ℕ) (k : UnitEntries) → n < length kept → ((d : UnitEntries) → k ≡ get_or kept n d) →
     (offset < k.header.start) ⊎ (k.header.end ≤ offset) → member_in units n offset ≡ Err causes.Reference
-finds-outside kept units are n offset k lt is out =
+outside kept units are n offset k lt is out =
     let at = unit-at kept units are n k lt is in
     let u = at.unit in
     let outside : (offset < u.header.start) ⊎ (u.header.end ≤ offset) = subst (λ (h : UnitHeader). (offset < h.start) ⊎ (h.end ≤ offset)) at.header out in
@@ -242,39 +243,60 @@ finds-outside kept units are n offset k lt is out =
     ap (λ (o : Option CompilationUnit). member_at (members_of (option_to_list o)) offset) at.is
     ∙ (ap (λ (ms : List Member). ok_or (find (stands_at offset) ms) causes.Reference) (append-nil (map (member_of u) u.dies)) ∙ ap (λ (o : Option Member). ok_or o causes.Reference) none)
 
--- inside it is there if its place is marked
-abbrev pub marked_place : ℕ → ℕ → Bool → Option UnitPlace
-marked_place n offset marked = cond marked (Some (record { unit = n; offset = offset })) None
+-- inside there is a place
+pub within-kept : (kept : List UnitEntries) (units : List CompilationUnit) → AreKept kept units → (n offset : ℕ) (k : UnitEntries) → n < length kept → ((d : UnitEntries) → k ≡ get_or kept n d) →
+    k.header.start ≤ offset → offset < k.header.end → IsWithin units (record { unit = n; offset = offset })
+within-kept kept units are n offset k lt is low high =
+    let at = unit-at kept units are n k lt is in
+    record {
+      of = at.unit;
+      of_is = at.is;
+      low = subst (λ (h : UnitHeader). h.start ≤ offset) at.header low;
+      high = subst (λ (h : UnitHeader). offset < h.end) at.header high;
+    }
 
-pub finds-inside : (kept : List UnitEntries) (units : List CompilationUnit) → AreKept kept units → (marks : Marks) → AreMarked marks units → (n offset : ℕ) (k : UnitEntries) → n < length kept → ((d : UnitEntries) → k ≡ get_or kept n d) →
-    k.header.start ≤ offset → offset < k.header.end → (marked : Bool) → marked ≡ is_marked marks offset → Finds units (marked_place n offset marked) (member_in units n offset)
-finds-inside kept units are marks all n offset k lt is low high marked marked_is = by_die (find of_die u.dies) refl marked found_is (member-is kept units n offset k at)
+-- and an entry, if the place is marked
+abbrev pub marked_place : UnitPlace → Bool → Option UnitPlace
+marked_place place marked = cond marked (Some place) None
+
+finds-inside : (units : List CompilationUnit) → AreInOrder 0 units → (marks : Marks) → AreMarked marks units → (place : UnitPlace) → IsWithin units place → (marked : Bool) → marked ≡ is_marked marks place.offset →
+    Finds units (marked_place place marked) (member_in units place.unit place.offset)
+finds-inside units order marks all place within marked marked_is = by_die (find of_die u.dies) refl marked found_is (member-is units place.unit place.offset u within.of_is)
   where
-    at : UnitAt units n k
-    at = unit-at kept units are n k lt is
-
     u : CompilationUnit
-    u = at.unit
+    u = within.of
 
     of_die : Die → Bool
-    of_die d = d.offset == offset
+    of_die d = d.offset == place.offset
 
     found_is : marked ≡ is_some (option_map (member_of u) (find of_die u.dies))
     found_is =
-        let from : u.header.start ≤ offset = subst (λ (h : UnitHeader). h.start ≤ offset) at.header low in
-        let to : offset < u.header.end = subst (λ (h : UnitHeader). offset < h.end) at.header high in
-        let own = in_own 0 units offset are.order n u at.is from to in
-        let one = ap (λ (ms : List Member). find (stands_at offset) ms) (append-nil (map (member_of u) u.dies)) ∙ find-map (stands_at offset) (member_of u) u.dies in
-        marked_is ∙ (all offset ∙ (any-find (stands_at offset) (members_of units) ∙ ap (λ (o : Option Member). is_some o) (own ∙ one)))
+        let own = in_own 0 units place.offset order place.unit u within.of_is within.low within.high in
+        let one = ap (λ (ms : List Member). find (stands_at place.offset) ms) (append-nil (map (member_of u) u.dies)) ∙ find-map (stands_at place.offset) (member_of u) u.dies in
+        marked_is ∙ (all place.offset ∙ (any-find (stands_at place.offset) (members_of units) ∙ ap (λ (o : Option Member). is_some o) (own ∙ one)))
 
-    by_die : (die : Option Die) → find of_die u.dies ≡ die → (marked : Bool) → marked ≡ is_some (option_map (member_of u) die) → member_in units n offset ≡ ok_or (option_map (member_of u) die) causes.Reference →
-        Finds units (marked_place n offset marked) (member_in units n offset)
+    by_die : (die : Option Die) → find of_die u.dies ≡ die → (marked : Bool) → marked ≡ is_some (option_map (member_of u) die) → member_in units place.unit place.offset ≡ ok_or (option_map (member_of u) die) causes.Reference →
+        Finds units (marked_place place marked) (member_in units place.unit place.offset)
     by_die None here false same outcome = outcome
     by_die None here true same outcome = cc
     by_die (Some d) here false same outcome = cc
     by_die (Some d) here true same outcome =
         let there = find-index of_die u.dies d here in
-        (member_of u d, outcome, record { unit_is = at.is; offset_is = eqb-true d.offset offset there.2; index = there.0; there = there.1; found = outcome })
+        (member_of u d, outcome, record { unit_is = within.of_is; offset_is = eqb-true d.offset place.offset there.2; index = there.0; there = there.1; found = outcome })
+
+pub finds-marked : (kept : List UnitEntries) (units : List CompilationUnit) → AreKept kept units → (marks : Marks) → AreMarked marks units → (place : UnitPlace) → IsWithin units place → (outcome : Result Member Cause) → LeadsTo units (Some place) outcome →
+    (marked : Bool) → marked ≡ is_marked marks place.offset → Finds units (marked_place place marked) outcome
+finds-marked kept units are marks all place within outcome leads marked marked_is =
+    subst (λ (r : Result Member Cause). Finds units (marked_place place marked) r) (sym leads) (finds-inside units are.order marks all place within marked marked_is)
+
+-- .. where the place is told as one that there may be
+pub within-named : (units : List CompilationUnit) (named : Option UnitPlace) (place : UnitPlace) → named ≡ Some place → IfSome named (IsWithin units) → IsWithin units place
+within-named units named place is within = subst (λ (o : Option UnitPlace). IfSome o (IsWithin units)) is within
+
+pub finds-named : (kept : List UnitEntries) (units : List CompilationUnit) → AreKept kept units → (marks : Marks) → AreMarked marks units → (named : Option UnitPlace) (place : UnitPlace) → named ≡ Some place → IfSome named (IsWithin units) →
+    (outcome : Result Member Cause) → LeadsTo units named outcome → (marked : Bool) → marked ≡ is_marked marks place.offset → Finds units (marked_place place marked) outcome
+finds-named kept units are marks all named place is within outcome leads =
+    finds-marked kept units are marks all place (within-named units named place is within) outcome (subst (λ (o : Option UnitPlace). LeadsTo units o outcome) is leads)
 
 -- ---- the entry that a reference names
 

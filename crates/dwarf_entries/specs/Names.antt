@@ -1,5 +1,5 @@
 -- References between entries (DWARF 5, 2.13 and 7.5.5) and the names of an entry (2.15, 3.3.8).
-use Rattle.std.specs.Prelude.{ℕ, zero, suc, ◌+◌, List, [], ◌∷◌, length, Option, Some, None, Result}
+use Rattle.std.specs.Prelude.{ℕ, zero, suc, ◌+◌, List, [], ◌∷◌, Option, Some, None, Result}
 use Rattle.std.specs.Prelude.{Ok, Err, ◌==◌, if◌then◌else◌, find, ok_or, option_map, map, flat_map}
 use Rattle.dwarf_bytes.specs.declared.constants.TheConstants.{
   DW_AT_LINKAGE_NAME,
@@ -17,9 +17,9 @@ use Rattle.dwarf_bytes.specs.declared.tables.TableKind.TheVariants.{StrOffsets}
 use Rattle.dwarf_bytes.specs.Bind.{◌>>=◌}
 use Rattle.dwarf_bytes.specs.Items.{reading}
 use Rattle.dwarf_bytes.specs.Numbers.{text_at}
-use Rattle.dwarf_bytes.specs.declared.text.Text.{Text}
 use Rattle.dwarf_entries.specs.declared.bases.Table.{Table}
 use Rattle.dwarf_entries.specs.declared.paths.EntryNames.{EntryNames}
+use Rattle.dwarf_entries.specs.declared.text_offset.TextOffset.{TextOffset}
 use Rattle.dwarf_units.specs.declared.attributes.AttributeValue.{AttributeValue}
 use Rattle.dwarf_units.specs.Entries.{Die, attribute}
 use Rattle.dwarf_walk.specs.Sections.{Sections}
@@ -63,21 +63,15 @@ path_within (suc hops) units m = elim (next_of (m.die)) [
 abbrev pub path_of : List CompilationUnit → Member → Result (List Member) Cause
 path_of = path_within hops_limit
 
--- where a text stands
-abbrev pub text : Section → ℕ → ℕ → Text
-text section place len = record { section = section; span = record { place = place; len = len } }
+-- where the text at an offset of a section begins, if one stands there
+abbrev pub text_in : Section → List ℕ → ℕ → Result TextOffset Cause
+text_in name section offset =
+    reading (text_at section offset) >>= λ _. Ok (record { section = name; offset = offset })
 
--- how long the text at an offset of a section is
-abbrev pub text_len : List ℕ → ℕ → Result ℕ Cause
-text_len section offset = reading (text_at section offset) >>= λ found. Ok (length found)
-
--- the text at an offset of a section
-abbrev pub text_in : Section → List ℕ → ℕ → Result Text Cause
-text_in name section offset = text_len section offset >>= λ len. Ok (text name offset len)
-
--- the text that a value is, by the table of the unit in which it stands; one of form string stands
--- in the entry, and the forms that are not named here are indexes of .debug_str_offsets
-abbrev pub text_of : Sections → Option Table → AttributeValue → Result Text Cause
+-- where the text that a value is begins, by the table of the unit in which it stands; one of form
+-- string stands in the entry, and the forms that are not named here are indexes of
+-- .debug_str_offsets
+abbrev pub text_of : Sections → Option Table → AttributeValue → Result TextOffset Cause
 text_of s str_offsets value =
     if value.form == DW_FORM_STRING then text_in sections.DebugInfo s.debug_info value.number
     else if value.form == DW_FORM_STRP then text_in sections.DebugStr s.debug_str value.number
@@ -96,7 +90,7 @@ first_on name [] = None
 first_on name (m ∷ path) = or_else (of_member name m) (first_on name path)
 
 -- its text
-abbrev pub name_on : ℕ → Sections → List Member → Result (Option Text) Cause
+abbrev pub name_on : ℕ → Sections → List Member → Result (Option TextOffset) Cause
 name_on name s path =
     optional (λ found. text_of s found.0.bases.str_offsets found.1) (first_on name path)
 

@@ -14,7 +14,6 @@ use Rattle.dwarf_bytes.specs.Bind.{◌>>=◌}
 use Rattle.dwarf_bytes.specs.Items.{told_at, each}
 use Rattle.dwarf_bytes.specs.Refusals.{in_section}
 use Rattle.dwarf_entries.specs.declared.paths.EntryNames.{EntryNames}
-use Rattle.dwarf_bytes.specs.declared.text.Text.{Text}
 use Rattle.dwarf_entries.specs.declared.calls.CallSite.{CallSite}
 use Rattle.dwarf_entries.specs.declared.calls.Calls.{Calls}
 use Rattle.dwarf_entries.specs.declared.calls.Calls.TheVariants as calls
@@ -22,6 +21,7 @@ use Rattle.dwarf_entries.specs.declared.scope_lists.ScopeLists.{ScopeLists}
 use Rattle.dwarf_entries.specs.declared.scope.Range.{Range}
 use Rattle.dwarf_entries.specs.declared.scope.Root.{Root}
 use Rattle.dwarf_entries.specs.declared.scope.Scope.{Scope as Kept}
+use Rattle.dwarf_entries.specs.declared.text_offset.TextOffset.{TextOffset}
 use Rattle.dwarf_units.specs.Units.{units_of, tables_of}
 use Rattle.dwarf_units.specs.Entries.{Die, below, entries_of}
 use Rattle.dwarf_walk.specs.declared.scope_kind.ScopeKind.{ScopeKind}
@@ -38,16 +38,15 @@ pub record Scope : Type 0 where
   pub number : ℕ
   pub end : ℕ
   pub ranges : List Range
-  pub name : Option Text
-  pub linkage_name : Option Text
+  pub name : Option TextOffset
+  pub linkage_name : Option TextOffset
   pub stmt_list : Option ℕ
   pub call_file : Option ℕ
   pub call_line : Option ℕ
 
--- a text by its section, its place and its length
-abbrev pub text_by : Option Section → ℕ → ℕ → Option Text
-text_by section place len = option_map
-    (λ name. record { section = name; span = record { place = place; len = len } }) section
+-- a text by its section and its offset there
+abbrev pub text_by : Option Section → ℕ → Option TextOffset
+text_by section offset = option_map (λ name. record { section = name; offset = offset }) section
 
 -- the file and the line of a call, by which of them there are; where one has more than 32 bits,
 -- both stand at a place of a list
@@ -71,8 +70,8 @@ scope_by_parts roots site ranges s = record {
   number = s.number;
   end = s.«end»;
   ranges = ranges;
-  name = text_by s.name_section s.name_place s.name_len;
-  linkage_name = text_by s.linkage_name_section s.linkage_name_place s.linkage_name_len;
+  name = text_by s.name_section s.name_offset;
+  linkage_name = text_by s.linkage_name_section s.linkage_name_offset;
   stmt_list = root_stmt_list roots s.root;
   call_file = site.file;
   call_line = site.line;
@@ -99,8 +98,8 @@ pub record Own : Type 0 where
   pub offset : ℕ
   pub number : ℕ
   pub end : ℕ
-  pub name : Option Text
-  pub linkage_name : Option Text
+  pub name : Option TextOffset
+  pub linkage_name : Option TextOffset
 
 abbrev pub own : Scope → Own
 own s = record {

@@ -5,8 +5,6 @@ use Rattle.std.specs.List.Sorted.{IsStrictlyIncreasing}
 use Rattle.dwarf_bytes.specs.declared.fault.LoadFault.{LoadFault}
 use Rattle.dwarf_bytes.specs.declared.fault.Section.{Section}
 use Rattle.dwarf_bytes.specs.declared.fault.Section.TheVariants as names
-use Rattle.dwarf_bytes.specs.declared.layout.Span.{Span}
-use Rattle.dwarf_bytes.specs.declared.text.Text.{Text}
 use Rattle.dwarf_bytes.specs.Bind.{◌>>=◌}
 use Rattle.dwarf_bytes.specs.Items.{Lists, each}
 use Rattle.dwarf_bytes.specs.Refusals.{in_section}
@@ -16,6 +14,7 @@ use Rattle.dwarf_units.specs.Units.{unit_at, units_of, tables_of}
 use Rattle.dwarf_units.specs.Entries.{Standing, Die, node_at, entries_of}
 use Rattle.dwarf_entries.specs.declared.scope.Range.{Range}
 use Rattle.dwarf_entries.specs.declared.scope.Root.{Root}
+use Rattle.dwarf_entries.specs.declared.text_offset.TextOffset.{TextOffset}
 use Rattle.dwarf_walk.specs.Sections.{Sections}
 use Rattle.dwarf_entries.specs.Bases.{CompilationUnit, unit_of}
 use Rattle.dwarf_entries.specs.Scopes.{Scope}
@@ -73,14 +72,14 @@ section_bytes s names.DebugStrOffsets = s.debug_str_offsets
 section_bytes s names.DebugAddr = s.debug_addr
 section_bytes s names.DebugRnglists = s.debug_rnglists
 
--- A text stands in its section: a NUL stands behind it there, and none in it.
-abbrev pub IsTextIn : List ℕ → Span → Type 0
-IsTextIn bytes span =
-    (slice_get bytes (span.place + span.len) ≡ Some 0)
-    × All (λ byte. byte ≢ 0) (take span.len (drop span.place bytes))
+-- A text stands at an offset, up to the first NUL from there on.
+abbrev pub IsTextAt : List ℕ → ℕ → Type 0
+IsTextAt bytes offset =
+    (len : ℕ) × (slice_get bytes (offset + len) ≡ Some 0)
+    × All (λ byte. byte ≢ 0) (take len (drop offset bytes))
 
-abbrev pub IsTextOf : Sections → Text → Type 0
-IsTextOf s text = IsTextIn (section_bytes s text.section) text.span
+abbrev pub IsTextOf : Sections → TextOffset → Type 0
+IsTextOf s text = IsTextAt (section_bytes s text.section) text.offset
 
 -- Units stand end to end in .debug_info, from a place up to its end, each as its header tells.
 abbrev pub StandEndToEnd : List ℕ → ℕ → List UnitHeader → Type 0

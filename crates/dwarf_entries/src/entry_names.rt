@@ -13,7 +13,8 @@ ghost use Rattle.dwarf_entries.specs.Private.Members.{AreKept, IsMember};
 ghost use Rattle.dwarf_entries.specs.Private.Texts.{AreTexts};
 
 use crate::known_names::KnownNames;
-use crate::paths::{EntryNames, HOPS_LIMIT, UnitEntry, entry_again, path_names, target};
+use crate::paths::{EntryNames, HOPS_LIMIT, UnitEntry, entry_again, path_names};
+use crate::references::place_named;
 use crate::unit_scopes::Units;
 use dwarf_bytes::Cause;
 use dwarf_units::AttributeValue;
@@ -53,7 +54,8 @@ impl<'a> Units<'a> {
         path_names(self, reader, start, HOPS_LIMIT)
     }
 
-    /// The names to which a reference in a unit leads.
+    /// The names to which a reference in a unit leads. What is known is told before a mark is looked
+    /// at: an entry stands where names are known.
     fn names_behind(
         self,
         reader: &mut EntryReader<'_>,
@@ -79,9 +81,12 @@ impl<'a> Units<'a> {
             → AreKnownOf (sections_of self.entry.sections.now) us known.new }
         ensures reader { (s : SectionBytes) → IsReaderOf s reader.old → IsReaderOf s reader.new }
     {
-        let place = target(self.units, self.marks, unit, reference).ok_or(Cause::Reference)?;
+        let place = place_named(self.units, unit, reference).ok_or(Cause::Reference)?;
         if let Some(names) = known.get(place) {
             return Ok(names);
+        }
+        if !self.marks.is_marked(place.offset) {
+            return Err(Cause::Reference);
         }
         let next = entry_again(self.units, self.marks, reader, place)?;
         let names = path_names(self, reader, next, HOPS_LIMIT - 1)?;

@@ -6,7 +6,8 @@ ghost use Rattle.std.specs.Prelude.{IfSome, OnOk, OnErr, if◌then◌else◌};
 ghost use Rattle.dwarf_entries.specs.declared.paths.EntryNames.{EntryNames as Names};
 ghost use Rattle.dwarf_entries.specs.Private.KnownNames.{slot_at, slot_of};
 
-use crate::paths::{EntryNames, UnitPlace};
+use crate::paths::EntryNames;
+use crate::references::UnitPlace;
 use std::alloc::{AllocError, Global};
 
 /// How many places the names are known of, at most.

@@ -11,15 +11,17 @@ mod passes;
 mod paths;
 mod range_entries;
 mod ranges;
+mod references;
 mod roots;
 mod scope;
 mod scope_lists;
 mod scopes;
+mod text_offset;
 mod texts;
 mod tree_laws;
 mod unit_scopes;
 
-pub use dwarf_bytes::Text;
 pub use dwarf_walk::{ScopeKind, Sections};
 pub use scope::{Range, Root, Scope};
 pub use scopes::Scopes;
+pub use text_offset::TextOffset;

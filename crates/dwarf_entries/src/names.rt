@@ -6,9 +6,10 @@ ghost use Rattle.dwarf_walk.specs.Sections.{sections_of};
 ghost use Rattle.dwarf_entries.specs.Private.Texts.{AreTexts};
 
 use crate::bases::{Table, item_at};
-use crate::texts::Texts;
+use crate::text_offset::TextOffset;
+use crate::texts::{TextSection, Texts};
 use dwarf_bytes::constants::{DW_FORM_LINE_STRP, DW_FORM_STRING, DW_FORM_STRP};
-use dwarf_bytes::{Cause, Section, Span, TableKind, Text, TextIndex};
+use dwarf_bytes::{Cause, Section, TableKind};
 use dwarf_units::AttributeValue;
 use dwarf_walk::Sections;
 
@@ -19,7 +20,7 @@ pub(crate) fn text_of(
     texts: &Texts<'_>,
     str_offsets: Option<Table>,
     value: AttributeValue,
-) -> Result<Text, Cause>
+) -> Result<TextOffset, Cause>
     requires { AreTexts (sections_of sections.now) texts.now }
     ensures { result ≡ text_of (sections_of sections.now) str_offsets value }
 {
@@ -42,15 +43,12 @@ pub(crate) fn text_of(
 
 /// The text at an offset of a section.
 #[inline(always)]
-fn text_in(name: Section, section: &TextIndex<'_>, offset: u64) -> Result<Text, Cause>
+fn text_in(name: Section, section: &TextSection<'_>, offset: u64) -> Result<TextOffset, Cause>
     ensures { result ≡ text_in name section.now offset }
 {
-    let len = section.text_at(offset)?.len();
-    Ok(Text {
+    let offset = section.text_at(offset)?;
+    Ok(TextOffset {
         section: name,
-        span: Span {
-            place: offset as usize,
-            len,
-        },
+        offset,
     })
 }

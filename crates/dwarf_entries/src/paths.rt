@@ -1,28 +1,27 @@
 //! The names of an entry by way of its references (DWARF 5, 2.13, 2.15 and 3.3.8).
 
-ghost use Rattle.std.specs.Prelude.{◌≡◌, ◌<◌, ◌≤◌, ◌⊎◌, ◌++◌, ◌∷◌, [], List, Some};
-ghost use Rattle.std.specs.Prelude.{MatchOption, length, map, slice_get, option_map};
+ghost use Rattle.std.specs.Prelude.{◌≡◌, ◌++◌, ◌∷◌, [], List, map, option_map};
 ghost use Rattle.std.specs.Option.{option_or};
-ghost use Rattle.std.specs.List.Sorted.{IsNonDecreasingBy, IsPartitionPoint};
 ghost use Rattle.dwarf_walk.specs.Sections.{Sections as SectionBytes, sections_of};
 ghost use Rattle.dwarf_entries.specs.Private.Texts.{AreTexts};
 ghost use Rattle.dwarf_entries.specs.Bases.{CompilationUnit, optional};
-ghost use Rattle.dwarf_entries.specs.Names.{Member, target_of, path_within, text_of};
+ghost use Rattle.dwarf_entries.specs.Names.{Member, path_within, text_of};
 ghost use Rattle.dwarf_bytes.specs.Refusals.{Gives};
 ghost use Rattle.dwarf_entries.specs.Private.Walked.{AreReadIn, AreMarked};
 ghost use Rattle.dwarf_walk.specs.Private.Again.{IsReaderOf};
 ghost use Rattle.dwarf_entries.specs.Private.KnownNames.{names_within};
-ghost use Rattle.dwarf_entries.specs.Private.Members.{AreKept, IsMember, IsPlaceOf, Finds};
-ghost use Rattle.dwarf_entries.specs.Private.Members.{TellsMember, member_in, AreFirst};
+ghost use Rattle.dwarf_entries.specs.Private.Members.{AreKept, IsMember, IsPlaceOf};
+ghost use Rattle.dwarf_entries.specs.Private.Members.{TellsMember, AreFirst};
 ghost use Rattle.dwarf_entries.specs.Private.Members.{FindsFirst, str_offsets_of};
 
 use crate::bases::Bases;
 use crate::names::text_of;
+use crate::references::{UnitPlace, target};
+use crate::text_offset::TextOffset;
 use crate::texts::Texts;
 use crate::unit_scopes::Units;
-use dwarf_bytes::constants::DW_FORM_REF_ADDR;
-use dwarf_bytes::{Cause, Text};
-use dwarf_units::{AttributeValue, UnitHeader};
+use dwarf_bytes::Cause;
+use dwarf_units::AttributeValue;
 use dwarf_walk::{EntryReader, Marks, NamedEntry, Sections, UnitEntries};
 
 /// The hops that a path may have.
@@ -33,13 +32,6 @@ pub(crate) const HOPS_LIMIT: u32 = 16;
 pub(crate) struct UnitEntry {
     pub(crate) unit: usize,
     pub(crate) entry: NamedEntry,
-}
-
-/// Where an entry stands, with the number of its unit.
-#[derive(Clone, Copy)]
-pub(crate) struct UnitPlace {
-    pub(crate) unit: usize,
-    pub(crate) offset: usize,
 }
 
 /// The value of an attribute, with the number of the unit in which it stands.
@@ -73,8 +65,8 @@ impl FirstNames {
 /// The names of an entry.
 #[derive(Clone, Copy)]
 pub(crate) struct EntryNames {
-    pub(crate) name: Option<Text>,
-    pub(crate) linkage_name: Option<Text>,
+    pub(crate) name: Option<TextOffset>,
+    pub(crate) linkage_name: Option<TextOffset>,
 }
 
 /// The names of an entry of a unit: of each attribute the first on the path from the entry to its
@@ -109,7 +101,7 @@ fn text(
     texts: &Texts<'_>,
     bases: &[Bases],
     found: Option<UnitAttribute>,
-) -> Result<Option<Text>, Cause>
+) -> Result<Option<TextOffset>, Cause>
     requires { AreTexts (sections_of sections.now) texts.now }
     ensures { result ≡ optional (λ found. text_of (sections_of sections.now)
         (str_offsets_of bases.now found.unit) found.value) found }
@@ -188,58 +180,4 @@ fn first(
         (λ value. record { unit = unit; value = value }) value) }
 {
     known.or(value.map(|value| UnitAttribute { unit, value }))
-}
-
-/// Where the entry stands that a reference in a unit names, if it names one: an offset into
-/// `.debug_info`, or one that counts from the first byte of the unit.
-pub(crate) fn target(
-    units: &[UnitEntries],
-    marks: &Marks,
-    unit: usize,
-    reference: AttributeValue,
-) -> Option<UnitPlace>
-    ensures { (us : List CompilationUnit) → AreKept units.now us → AreMarked marks.now us
-        → (u : CompilationUnit) → slice_get us unit ≡ Some u
-        → Finds us result (target_of us u reference) }
-{
-    let number = u128::from(reference.number);
-    if reference.form == DW_FORM_REF_ADDR {
-        return entry_in(units, marks, ends_by(units, number), number);
-    }
-    let start = units.get(unit)?.header.start;
-    entry_in(units, marks, unit, start as u128 + number)
-}
-
-/// The place of the entry of a unit at an offset of the section.
-fn entry_in(units: &[UnitEntries], marks: &Marks, unit: usize, offset: u128) -> Option<UnitPlace>
-    ensures { (us : List CompilationUnit) → AreKept units.now us → AreMarked marks.now us
-        → Finds us result (member_in us unit offset) }
-{
-    let kept = units.get(unit)?;
-    let offset = place_within(&kept.header, offset)?;
-    if marks.is_marked(offset) {
-        return Some(UnitPlace { unit, offset });
-    }
-    None
-}
-
-/// An offset as a place, if it is in the unit of the header.
-fn place_within(header: &UnitHeader, offset: u128) -> Option<usize>
-    ensures { MatchOption result ((offset < header.now.start) ⊎ (header.now.«end» ≤ offset))
-        (λ place. (place ≡ offset) × (header.now.start ≤ place) × (place < header.now.«end»)) }
-{
-    if offset < header.start as u128 || header.end as u128 <= offset {
-        return None;
-    }
-    Some(offset as usize)
-}
-
-/// How many of the units end before an offset or at it.
-fn ends_by(units: &[UnitEntries], offset: u128) -> usize
-    ensures within { result ≤ length units.now }
-    ensures parts { IsNonDecreasingBy (λ unit. unit.header.end) units.now
-        → IsPartitionPoint (λ unit. unit.header.end ≤ offset)
-        (λ unit. offset < unit.header.end) units.now result }
-{
-    units.partition_point(|unit| unit.header.end as u128 <= offset)
 }

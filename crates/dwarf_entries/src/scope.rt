@@ -8,7 +8,8 @@ ghost use Rattle.dwarf_entries.specs.Private.Shared.{Packs};
 
 use crate::calls::{CallSite, Calls};
 use crate::scopes::Scopes;
-use dwarf_bytes::{Section, Span, Text};
+use crate::text_offset::TextOffset;
+use dwarf_bytes::Section;
 use dwarf_walk::{ScopeKind, narrow};
 use std::alloc::AllocError;
 
@@ -32,10 +33,8 @@ pub struct Scope {
     pub(crate) ranges_end: u32,
     /// The number of the root of its unit.
     pub(crate) root: u32,
-    name_place: u32,
-    name_len: u32,
-    linkage_name_place: u32,
-    linkage_name_len: u32,
+    name_offset: u32,
+    linkage_name_offset: u32,
     pub(crate) call_file: u32,
     pub(crate) call_line: u32,
     name_section: Option<Section>,
@@ -52,8 +51,8 @@ pub(crate) struct ScopeFacts {
     pub(crate) number: usize,
     pub(crate) end: usize,
     pub(crate) root: usize,
-    pub(crate) name: Option<Text>,
-    pub(crate) linkage_name: Option<Text>,
+    pub(crate) name: Option<TextOffset>,
+    pub(crate) linkage_name: Option<TextOffset>,
     pub(crate) site: CallSite,
 }
 
@@ -78,10 +77,8 @@ impl Scope {
     ) -> Result<Scope, AllocError>
         ensures { IfOk result (Packs told ranges_end wide.old.items wide.new.items) }
     {
-        let (name_section, name_place, name_len) = text_parts(told.name)?;
-        let (linkage_name_section, linkage_name_place, linkage_name_len) = text_parts(
-            told.linkage_name,
-        )?;
+        let (name_section, name_offset) = text_parts(told.name)?;
+        let (linkage_name_section, linkage_name_offset) = text_parts(told.linkage_name)?;
         let (calls, call_file, call_line) = told.site.pack(wide)?;
         Ok(Scope {
             offset: narrow(told.offset)?,
@@ -89,10 +86,8 @@ impl Scope {
             end: narrow(told.end)?,
             ranges_end: narrow(ranges_end)?,
             root: narrow(told.root)?,
-            name_place,
-            name_len,
-            linkage_name_place,
-            linkage_name_len,
+            name_offset,
+            linkage_name_offset,
             call_file,
             call_line,
             name_section,
@@ -127,20 +122,16 @@ impl Scope {
         self.end as usize
     }
 
-    pub fn name(&self) -> Option<Text>
+    pub fn name(&self) -> Option<TextOffset>
         ensures { result ≡ (own_of self.now).name }
     {
-        text(self.name_section, self.name_place, self.name_len)
+        text(self.name_section, self.name_offset)
     }
 
-    pub fn linkage_name(&self) -> Option<Text>
+    pub fn linkage_name(&self) -> Option<TextOffset>
         ensures { result ≡ (own_of self.now).linkage_name }
     {
-        text(
-            self.linkage_name_section,
-            self.linkage_name_place,
-            self.linkage_name_len,
-        )
+        text(self.linkage_name_section, self.linkage_name_offset)
     }
 
     /// What it covers, in the scopes that it is of, without the ranges that cover nothing.
@@ -170,28 +161,24 @@ impl Scope {
     }
 }
 
-/// A text by the section that it stands in, its place and its length.
-fn text(section: Option<Section>, place: u32, len: u32) -> Option<Text>
-    ensures { result ≡ text_by section place len }
+/// A text by the section that it stands in, and its offset there.
+fn text(section: Option<Section>, offset: u32) -> Option<TextOffset>
+    ensures { result ≡ text_by section offset }
 {
     let section = section?;
-    Some(Text {
+    Some(TextOffset {
         section,
-        span: Span {
-            place: place as usize,
-            len: len as usize,
-        },
+        offset: offset as usize,
     })
 }
 
-/// The section, the place and the length of a text, if there is one.
-fn text_parts(text: Option<Text>) -> Result<(Option<Section>, u32, u32), AllocError>
-    ensures { IfOk result (λ parts. text_by parts.0 parts.1 parts.2 ≡ text) }
+/// The section of a text and its offset there, if there is one.
+fn text_parts(text: Option<TextOffset>) -> Result<(Option<Section>, u32), AllocError>
+    ensures { IfOk result (λ parts. text_by parts.0 parts.1 ≡ text) }
 {
     let Some(text) = text else {
-        return Ok((None, 0, 0));
+        return Ok((None, 0));
     };
-    let place = narrow(text.span.place)?;
-    let len = narrow(text.span.len)?;
-    Ok((Some(text.section), place, len))
+    let offset = narrow(text.offset)?;
+    Ok((Some(text.section), offset))
 }

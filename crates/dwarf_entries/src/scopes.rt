@@ -65,7 +65,7 @@ impl Scopes {
         let headers = units(alloc, sections.debug_info)?;
         let tables = Tables::judge(alloc, sections.debug_abbrev, headers.as_slice())?;
         let mut reader = EntryReader::new(alloc, sections, tables);
-        let texts = Texts::of(alloc, sections)?;
+        let texts = Texts::of(sections);
         Scopes::read_with(alloc, sections, &texts, headers.as_slice(), &mut reader)
     }
 

@@ -1,30 +1,84 @@
-//! The sections that texts stand in (DWARF 5, 7.5.5).
+//! The sections that texts stand in (DWARF 5, 7.5.5). Whether a text stands at an offset is told by
+//! the last NUL of its section, so that no byte of the text is read.
 
-ghost use Rattle.std.specs.Prelude.{IfOk};
+ghost use Rattle.std.specs.Prelude.{◌≡◌};
+ghost use Rattle.dwarf_bytes.specs.Private.SectionNames.{EndsTexts};
 ghost use Rattle.dwarf_walk.specs.Sections.{sections_of};
-ghost use Rattle.dwarf_entries.specs.Private.Texts.{AreTexts};
+ghost use Rattle.dwarf_entries.specs.Private.Texts.{AreTexts, text_place};
 
-use dwarf_bytes::TextIndex;
+use dwarf_bytes::ReadFault;
 use dwarf_walk::Sections;
-use std::alloc::{AllocError, Global};
+use memchr::memrchr;
+use std::marker::Model;
 
-/// The sections that texts stand in, each with an index of where they end.
+/// A section that texts stand in.
+#[derive(Drop)]
+pub(crate) struct TextSection<'a> {
+    bytes: &'a [u8],
+    /// How many bytes stand up to the last NUL, with it.
+    end: usize,
+}
+
+impl<'a> Model for TextSection<'a> {
+    ghost use Rattle.std.specs.Prelude.{ℕ, List};
+    ghost use Rattle.dwarf_bytes.specs.Private.SectionNames.{EndsTexts};
+
+    ghost Value = { List ℕ };
+
+    ghost view = { λ section. section.bytes.now };
+
+    ghost invariant = { λ section. EndsTexts section.bytes.now section.end };
+}
+
+impl<'a> TextSection<'a> {
+    fn of(bytes: &'a [u8]) -> TextSection<'a>
+        ensures { result ≡ bytes.now }
+    {
+        TextSection {
+            bytes,
+            end: texts_end(bytes),
+        }
+    }
+
+    /// An offset as a place, if a text stands there.
+    #[inline(always)]
+    pub(crate) fn text_at(&self, offset: u64) -> Result<usize, ReadFault>
+        ensures { result ≡ text_place self.now offset }
+    {
+        if offset >= self.end as u64 {
+            return Err(ReadFault::Unterminated);
+        }
+        Ok(offset as usize)
+    }
+}
+
+/// How many bytes stand up to the last NUL, with it.
+fn texts_end(bytes: &[u8]) -> usize
+    ensures { EndsTexts bytes.now result }
+{
+    match memrchr(0, bytes) {
+        Some(last) => last + 1,
+        None => 0,
+    }
+}
+
+/// The sections that texts stand in.
 #[derive(Drop)]
 pub(crate) struct Texts<'a> {
-    pub(crate) info: TextIndex<'a>,
-    pub(crate) str: TextIndex<'a>,
-    pub(crate) line_str: TextIndex<'a>,
+    pub(crate) info: TextSection<'a>,
+    pub(crate) str: TextSection<'a>,
+    pub(crate) line_str: TextSection<'a>,
 }
 
 impl<'a> Texts<'a> {
     /// Of the sections of an object.
-    pub(crate) fn of(alloc: Global, sections: &Sections<'a>) -> Result<Texts<'a>, AllocError>
-        ensures { IfOk result (λ texts. AreTexts (sections_of sections.now) texts) }
+    pub(crate) fn of(sections: &Sections<'a>) -> Texts<'a>
+        ensures { AreTexts (sections_of sections.now) result }
     {
-        Ok(Texts {
-            info: TextIndex::of(alloc, sections.debug_info)?,
-            str: TextIndex::of(alloc, sections.debug_str)?,
-            line_str: TextIndex::of(alloc, sections.debug_line_str)?,
-        })
+        Texts {
+            info: TextSection::of(sections.debug_info),
+            str: TextSection::of(sections.debug_str),
+            line_str: TextSection::of(sections.debug_line_str),
+        }
     }
 }

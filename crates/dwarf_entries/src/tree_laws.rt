@@ -69,7 +69,7 @@ pub fn ends_are_of_what_is_below()
         ↔ ((outer.number < inner.number) × (inner.number < outer.«end»)) }
 {}
 
-/// The names of a scope are texts of their sections: a NUL stands behind each, and none in it.
+/// The names of a scope are texts of their sections: from where each begins, a NUL follows.
 pub fn names_are_texts()
     ensures names { (s : Sections) (tree : Tree) → tree_of s ≡ Ok tree
         → All (λ (scope : Scope). IfSome scope.name (IsTextOf s)) tree.scopes }

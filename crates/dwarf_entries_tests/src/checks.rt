@@ -2,8 +2,8 @@
 //! a test is safe knows nothing of what is read, which it does not need.
 
 use crate::fixtures::*;
-use dwarf_bytes::{Cause, LoadFault, Text};
-use dwarf_entries::{Range, Scope, ScopeKind, Scopes, Sections};
+use dwarf_bytes::{Cause, LoadFault};
+use dwarf_entries::{Range, Scope, ScopeKind, Scopes, Sections, TextOffset};
 use std::alloc::{AllocError, Global};
 use std::fmt::Debug;
 use std::process::Abort;
@@ -80,7 +80,7 @@ fn only_ranges(read: &Scopes) -> Option<&[Range]> {
 pub fn is_named_or_refused(
     rt: &(impl Abort + AllocGlobal),
     sections: &Sections<'_>,
-    wanted: Result<Option<Text>, LoadFault>,
+    wanted: Result<Option<TextOffset>, LoadFault>,
 ) {
     match scopes_of(rt.alloc(), sections) {
         Ok(read) => are_equal(rt, only_name(&read), wanted.ok()),
@@ -89,7 +89,7 @@ pub fn is_named_or_refused(
 }
 
 /// The name of the only scope.
-fn only_name(read: &Scopes) -> Option<Option<Text>> {
+fn only_name(read: &Scopes) -> Option<Option<TextOffset>> {
     match read.scopes() {
         [scope] => Some(scope.name()),
         _ => None,
@@ -103,7 +103,7 @@ pub struct Row {
     pub offset: usize,
     pub end: usize,
     pub range: Option<Range>,
-    pub name: Option<Text>,
+    pub name: Option<TextOffset>,
     pub call: Option<(u64, u64)>,
 }
 
@@ -146,12 +146,12 @@ pub fn are_scopes(rt: &impl Abort, read: &Scopes, stmt_list: Option<u64>, rows: 
 }
 
 /// The name of a scope, with its number.
-fn numbered_name(scope: &Scope) -> (usize, Option<Text>) {
+fn numbered_name(scope: &Scope) -> (usize, Option<TextOffset>) {
     (scope.number(), scope.name())
 }
 
 /// Checks the names of scopes.
-pub fn have_names(rt: &impl Abort, read: &Scopes, names: &[Option<Text>]) {
+pub fn have_names(rt: &impl Abort, read: &Scopes, names: &[Option<TextOffset>]) {
     are_equal(rt, read.scopes().len(), names.len());
     for (number, (scope, name)) in read.scopes().iter().zip(names).enumerate() {
         are_equal(rt, numbered_name(scope), (number, *name));

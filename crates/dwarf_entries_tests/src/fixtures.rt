@@ -4,8 +4,8 @@ pub use crate::checks::{
     Row, are_equal, are_scopes, call_of, covers_or_is_refused, has_fault, have_fault, have_names,
     is_bad_unit, is_named_or_refused, is_refused, scopes_of,
 };
-use dwarf_bytes::{Cause, LoadFault, Object, Section, Span};
-use dwarf_entries::{Range, Root, Sections, Text};
+use dwarf_bytes::{Cause, LoadFault, Object, Section};
+use dwarf_entries::{Range, Root, Sections, TextOffset};
 use std::alloc::{AllocError, Global};
 
 /// These entries and abbreviations; the other sections are empty.
@@ -127,10 +127,9 @@ pub fn fault(cause: Cause, at: u64) -> LoadFault {
     }
 }
 
-/// A text by its section, its place and its length.
-pub fn text(section: Section, place: usize, len: usize) -> Option<Text> {
-    let span = Span { place, len };
-    Some(Text { section, span })
+/// Where a text begins, by its section and its offset there.
+pub fn text(section: Section, offset: usize) -> Option<TextOffset> {
+    Some(TextOffset { section, offset })
 }
 
 pub fn range(from: u64, to: u64) -> Range {

@@ -1,8 +1,8 @@
 //! Units of the 64-bit format, alone and beside those of the 32-bit one.
 
 use crate::fixtures::*;
-use dwarf_bytes::{Cause, LoadFault, Section, Text};
-use dwarf_entries::{Range, Root, ScopeKind, Sections};
+use dwarf_bytes::{Cause, LoadFault, Section};
+use dwarf_entries::{Range, Root, ScopeKind, Sections, TextOffset};
 use dwarf_samples::{inlined, unit_of_64_bits};
 use std::alloc::{AllocError, Global};
 use std::process::Abort;
@@ -14,9 +14,9 @@ use std::test::*;
 fn rows(start: usize, before: usize, first: usize, last: usize) -> [Row; 5] {
     let at = |offset: usize| start.saturating_add(offset);
     let end = |number: usize| before.saturating_add(number);
-    let mid = text(Section::DebugInfo, at(first.saturating_add(1)), 3);
-    let leaf = text(Section::DebugInfo, at(first.saturating_add(6)), 4);
-    let main = text(Section::DebugInfo, at(first.saturating_add(12)), 4);
+    let mid = text(Section::DebugInfo, at(first.saturating_add(1)));
+    let leaf = text(Section::DebugInfo, at(first.saturating_add(6)));
+    let main = text(Section::DebugInfo, at(first.saturating_add(12)));
     let main_range = Some(range(0x1000, 0x1010));
     [
         subprogram(at(first), end(1), None, mid),
@@ -27,7 +27,7 @@ fn rows(start: usize, before: usize, first: usize, last: usize) -> [Row; 5] {
     ]
 }
 
-fn subprogram(offset: usize, end: usize, range: Option<Range>, name: Option<Text>) -> Row {
+fn subprogram(offset: usize, end: usize, range: Option<Range>, name: Option<TextOffset>) -> Row {
     Row {
         kind: ScopeKind::Subprogram,
         offset,
@@ -39,7 +39,7 @@ fn subprogram(offset: usize, end: usize, range: Option<Range>, name: Option<Text
 }
 
 /// A subroutine that is inlined from 0x1004 on, called in file 1.
-fn inlined_row(offset: usize, end: usize, to: u64, name: Option<Text>, line: u64) -> Row {
+fn inlined_row(offset: usize, end: usize, to: u64, name: Option<TextOffset>, line: u64) -> Row {
     Row {
         kind: ScopeKind::Inlined,
         offset,
@@ -152,7 +152,7 @@ fn is_indexed(
     base: u8,
     index: u8,
     debug_str_offsets: &[u8],
-    wanted: Result<Option<Text>, LoadFault>,
+    wanted: Result<Option<TextOffset>, LoadFault>,
 ) -> Result<(), AllocError> {
     // str_offsets_base as sec_offset, and name as strx1
     let table = declarations(rt.alloc(), (&[0x72, 0x17], &[]), (&[0x03, 0x25], &[]))?;
@@ -168,8 +168,8 @@ fn is_indexed(
 
 #[test]
 fn names_by_index(rt: HostRuntime) -> Result<(), Fail> {
-    let c = text(Section::DebugStr, 3, 1);
-    let ab = text(Section::DebugStr, 0, 2);
+    let c = text(Section::DebugStr, 3);
+    let ab = text(Section::DebugStr, 0);
     is_indexed(&rt, 16, 0, &WIDE_OFFSETS, Ok(c))?;
     is_indexed(&rt, 16, 1, &WIDE_OFFSETS, Ok(ab))?;
     is_indexed(&rt, 16, 2, &WIDE_OFFSETS, Err(fault(Cause::Index, 33)))?;

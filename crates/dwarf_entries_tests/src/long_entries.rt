@@ -58,8 +58,8 @@ fn table_of(tag: u8) -> [u8; 36] {
 fn long_entries_are_told_each_time(rt: HostRuntime) -> Result<(), Fail> {
     let info = two_units(rt.alloc())?;
     assert_eq!(rt; info.len(), 938);
-    let first = text(Section::DebugInfo, 14, 300);
-    let second = text(Section::DebugInfo, 350, 280);
+    let first = text(Section::DebugInfo, 14);
+    let second = text(Section::DebugInfo, 350);
     let table = table_of(0x2e);
     let read = Scopes::read(rt.alloc(), &sections(&info, &table))?;
     let names = [
@@ -74,8 +74,8 @@ fn long_entries_are_told_each_time(rt: HostRuntime) -> Result<(), Fail> {
 #[test]
 fn long_entries_out_of_the_scopes(rt: HostRuntime) -> Result<(), Fail> {
     let info = two_units(rt.alloc())?;
-    let first = text(Section::DebugInfo, 14, 300);
-    let second = text(Section::DebugInfo, 350, 280);
+    let first = text(Section::DebugInfo, 14);
+    let second = text(Section::DebugInfo, 350);
     let table = table_of(0x3b);
     let read = Scopes::read(rt.alloc(), &sections(&info, &table))?;
     let names = [

@@ -2,7 +2,7 @@
 
 use crate::fixtures::*;
 use dwarf_bytes::{Cause, LoadFault, Section};
-use dwarf_entries::{Scope, Scopes, Sections, Text};
+use dwarf_entries::{Scope, Scopes, Sections, TextOffset};
 use std::alloc::AllocError;
 use std::process::Abort;
 use std::test::*;
@@ -28,7 +28,7 @@ fn is_indexed(
     rt: &(impl Abort + AllocGlobal),
     base: u8,
     index: u8,
-    wanted: Result<Option<Text>, LoadFault>,
+    wanted: Result<Option<TextOffset>, LoadFault>,
 ) -> Result<(), AllocError> {
     // str_offsets_base, and name as strx1
     let base = [base, 0, 0, 0];
@@ -40,8 +40,8 @@ fn is_indexed(
 
 #[test]
 fn names_by_index(rt: HostRuntime) -> Result<(), Fail> {
-    is_indexed(&rt, 8, 0, Ok(text(Section::DebugStr, 3, 1)))?;
-    is_indexed(&rt, 8, 1, Ok(text(Section::DebugStr, 0, 2)))?;
+    is_indexed(&rt, 8, 0, Ok(text(Section::DebugStr, 3)))?;
+    is_indexed(&rt, 8, 1, Ok(text(Section::DebugStr, 0)))?;
     is_indexed(&rt, 8, 2, Err(fault(Cause::Index, 17)))?;
     is_indexed(&rt, 7, 0, Err(fault(Cause::Base, 12)))?;
     is_indexed(&rt, 16, 0, Err(fault(Cause::Short, 12)))?;
@@ -59,17 +59,17 @@ fn a_name_by_index_without_a_base(rt: HostRuntime) -> Result<(), Fail> {
 /// A subprogram at 17 with a name in each form, or with one that is no text.
 #[test]
 fn forms_of_names(rt: HostRuntime) -> Result<(), Fail> {
-    let ab = text(Section::DebugStr, 0, 2);
-    let names: [(u8, &[u8], Option<Text>); 13] = [
+    let ab = text(Section::DebugStr, 0);
+    let names: [(u8, &[u8], Option<TextOffset>); 13] = [
         // string, in the entry
-        (0x08, &[0x7a, 0], text(Section::DebugInfo, 18, 1)),
-        (0x08, &[0], text(Section::DebugInfo, 18, 0)),
+        (0x08, &[0x7a, 0], text(Section::DebugInfo, 18)),
+        (0x08, &[0], text(Section::DebugInfo, 18)),
         // strp
-        (0x0e, &[3, 0, 0, 0], text(Section::DebugStr, 3, 1)),
-        (0x0e, &[4, 0, 0, 0], text(Section::DebugStr, 4, 0)),
+        (0x0e, &[3, 0, 0, 0], text(Section::DebugStr, 3)),
+        (0x0e, &[4, 0, 0, 0], text(Section::DebugStr, 4)),
         (0x0e, &[5, 0, 0, 0], None),
         // line_strp, at the last text without a NUL
-        (0x1f, &[2, 0, 0, 0], text(Section::DebugLineStr, 2, 2)),
+        (0x1f, &[2, 0, 0, 0], text(Section::DebugLineStr, 2)),
         (0x1f, &[5, 0, 0, 0], None),
         // strx to strx4
         (0x1a, &[0x81, 0], ab),
@@ -127,8 +127,8 @@ fn names_of_another_unit(rt: HostRuntime) -> Result<(), Fail> {
         read.roots(),
         [root(12, 0, 2), root(37, 2, 4), root(62, 4, 5)].as_slice(),
     );
-    let c = text(Section::DebugStr, 3, 1);
-    let ab = text(Section::DebugStr, 0, 2);
+    let c = text(Section::DebugStr, 3);
+    let ab = text(Section::DebugStr, 0);
     have_names(&rt, &read, &[c, ab, ab, c, c]);
     Ok(())
 }
@@ -164,19 +164,19 @@ const NAMED_ENTRIES: [u8; 35] = [
 ];
 
 /// A text of `.debug_info`.
-fn at(place: usize, len: usize) -> Option<Text> {
-    text(Section::DebugInfo, place, len)
+fn at(offset: usize) -> Option<TextOffset> {
+    text(Section::DebugInfo, offset)
 }
 
 /// Checks the name and the linkage name of each scope.
-fn have_both(rt: &impl Abort, read: &Scopes, names: &[(Option<Text>, Option<Text>)]) {
+fn have_both(rt: &impl Abort, read: &Scopes, names: &[(Option<TextOffset>, Option<TextOffset>)]) {
     are_equal(rt, read.scopes().len(), names.len());
     for (number, (scope, wanted)) in read.scopes().iter().zip(names).enumerate() {
         are_equal(rt, (number, both_of(scope)), (number, *wanted));
     }
 }
 
-fn both_of(scope: &Scope) -> (Option<Text>, Option<Text>) {
+fn both_of(scope: &Scope) -> (Option<TextOffset>, Option<TextOffset>) {
     (scope.name(), scope.linkage_name())
 }
 
@@ -185,12 +185,12 @@ fn first_names_on_a_path(rt: HostRuntime) -> Result<(), Fail> {
     let info = unit(rt.alloc(), &NAMED_ENTRIES)?;
     let read = scopes_of(rt.alloc(), &sections(&info, &NAMED))?;
     let names = [
-        (at(18, 1), at(15, 1)),
-        (at(18, 1), at(20, 1)),
-        (at(24, 1), None),
-        (at(24, 1), None),
-        (at(24, 1), None),
-        (at(32, 0), at(33, 1)),
+        (at(18), at(15)),
+        (at(18), at(20)),
+        (at(24), None),
+        (at(24), None),
+        (at(24), None),
+        (at(32), at(33)),
         (None, None),
     ];
     have_both(&rt, &read, &names);
@@ -202,7 +202,7 @@ fn first_names_on_a_path(rt: HostRuntime) -> Result<(), Fail> {
 fn paths_out_of_the_scopes(rt: HostRuntime) -> Result<(), Fail> {
     let info = unit(rt.alloc(), &PATHS)?;
     let read = scopes_of(rt.alloc(), &sections(&info, &OUTSIDE))?;
-    let both = (at(22, 1), at(15, 1));
+    let both = (at(22), at(15));
     have_both(&rt, &read, &[both, both]);
     Ok(())
 }

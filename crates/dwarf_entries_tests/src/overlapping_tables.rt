@@ -75,7 +75,7 @@ fn references_between_overlapping_tables(rt: HostRuntime) -> Result<(), Fail> {
         };
         assert_eq!(rt;
             scope.name(),
-            text(Section::DebugInfo, from.saturating_add(name), 1)
+            text(Section::DebugInfo, from.saturating_add(name))
         );
     }
     Ok(())

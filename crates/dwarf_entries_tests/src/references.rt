@@ -2,7 +2,7 @@
 
 use crate::fixtures::*;
 use dwarf_bytes::{Cause, Section};
-use dwarf_entries::Text;
+use dwarf_entries::TextOffset;
 use dwarf_samples::inlined;
 use std::alloc::{AllocError, Global};
 use std::process::Abort;
@@ -34,7 +34,7 @@ const LINKED: [u8; 20] = [
 fn linked_subprograms(rt: HostRuntime) -> Result<(), Fail> {
     let info = linked(rt.alloc(), 16)?;
     let read = scopes_of(rt.alloc(), &sections(&info, &LINKED))?;
-    have_names(&rt, &read, &[text(Section::DebugInfo, 94, 1); 17]);
+    have_names(&rt, &read, &[text(Section::DebugInfo, 94); 17]);
     Ok(())
 }
 
@@ -69,9 +69,9 @@ fn referring(alloc: Global, value: &[u8]) -> Result<Vec<u8>, AllocError> {
 
 #[test]
 fn forms_of_references(rt: HostRuntime) -> Result<(), Fail> {
-    let q = text(Section::DebugInfo, 13, 1);
-    let r = text(Section::DebugInfo, 29, 1);
-    let references: [(u8, &[u8], Option<Text>); 9] = [
+    let q = text(Section::DebugInfo, 13);
+    let r = text(Section::DebugInfo, 29);
+    let references: [(u8, &[u8], Option<TextOffset>); 9] = [
         // ref1, ref2, ref4, ref8 and ref_udata count from the unit, ref_addr from the section
         (0x11, &[12], r),
         (0x12, &[12, 0], r),
@@ -96,7 +96,7 @@ fn has_origin(
     rt: &(impl Abort + AllocGlobal),
     form: u8,
     value: &[u8],
-    name: Option<Text>,
+    name: Option<TextOffset>,
 ) -> Result<(), Fail> {
     let table = declarations(rt.alloc(), (&[0x03, 0x08], &[]), (&[0x31, form], &[]))?;
     let info = referring(rt.alloc(), value)?;

@@ -3,7 +3,7 @@
 use crate::cuts::cut_at;
 use crate::fixtures::*;
 use dwarf_bytes::{Cause, LoadFault, Section};
-use dwarf_entries::{Range, Root, Scope, ScopeKind, Scopes, Text};
+use dwarf_entries::{Range, Root, Scope, ScopeKind, Scopes, TextOffset};
 use dwarf_samples::{
     call_file_outside, circular_origins, cut_abbreviations, inlined, leaf_without_code,
     origin_of_no_entry, two_sequences, version_four,
@@ -12,7 +12,7 @@ use std::process::Abort;
 use std::test::*;
 
 /// A subprogram of this name without code.
-fn subprogram(offset: usize, end: usize, name: Option<Text>) -> Row {
+fn subprogram(offset: usize, end: usize, name: Option<TextOffset>) -> Row {
     Row {
         kind: ScopeKind::Subprogram,
         offset,
@@ -26,14 +26,14 @@ fn subprogram(offset: usize, end: usize, name: Option<Text>) -> Row {
 /// The scopes of the first object: `mid` and `leaf`, which have no code of their own, `main`, `mid`
 /// inlined into it, and `leaf` inlined into that.
 fn rows() -> [Row; 5] {
-    let mid = text(Section::DebugInfo, 26, 3);
-    let leaf = text(Section::DebugInfo, 31, 4);
+    let mid = text(Section::DebugInfo, 26);
+    let leaf = text(Section::DebugInfo, 31);
     [
         subprogram(25, 1, mid),
         subprogram(30, 2, leaf),
         Row {
             range: Some(range(0x1000, 0x1010)),
-            ..subprogram(36, 5, text(Section::DebugInfo, 37, 4))
+            ..subprogram(36, 5, text(Section::DebugInfo, 37))
         },
         Row {
             kind: ScopeKind::Inlined,

@@ -1,7 +1,7 @@
-//! Texts that are longer than the stretches in which their ends are looked for.
+//! Long texts, and places in them.
 
 use crate::fixtures::*;
-use dwarf_bytes::{Cause, Section};
+use dwarf_bytes::{Cause, Section, text_at};
 use dwarf_entries::Sections;
 use std::alloc::AllocError;
 use std::process::Abort;
@@ -35,7 +35,8 @@ fn long_texts(rt: HostRuntime) -> Result<(), Fail> {
     Ok(())
 }
 
-/// Checks the text of this place in `.debug_str`, as the name of a subprogram at 13.
+/// Checks that a text of this length stands at this place in `.debug_str`, by the name of a
+/// subprogram at 13.
 fn is_text(
     rt: &(impl Abort + AllocGlobal),
     texts: &[u8],
@@ -49,9 +50,11 @@ fn is_text(
         ..object.sections()
     };
     let wanted = match len {
-        Some(len) => Ok(text(Section::DebugStr, place as usize, len)),
+        Some(_) => Ok(text(Section::DebugStr, place as usize)),
         None => Err(fault(Cause::Text, 13)),
     };
     is_named_or_refused(rt, &all, wanted);
+    let found = text_at(all.debug_str, u64::from(place)).ok();
+    are_equal(rt, found.map(|text| text.len()), len);
     Ok(())
 }

@@ -1,8 +1,8 @@
 //! The scopes of an object.
 
 use anyhow::{Context, Result};
-use dwarf_bytes::{LoadFault, Object, Section};
-use dwarf_entries::{Range, Root, Scope, ScopeKind, Scopes, Sections, Text};
+use dwarf_bytes::{LoadFault, Object, Section, text_at};
+use dwarf_entries::{Range, Root, Scope, ScopeKind, Scopes, Sections, TextOffset};
 use std::alloc::Global;
 use std::io::{self, BufWriter, Write};
 
@@ -66,7 +66,11 @@ fn print_scope<W: Write>(
 }
 
 /// Prints the bytes of a text.
-fn print_text<W: Write>(out: &mut W, sections: &Sections<'_>, text: Option<Text>) -> Result<()> {
+fn print_text<W: Write>(
+    out: &mut W,
+    sections: &Sections<'_>,
+    text: Option<TextOffset>,
+) -> Result<()> {
     let Some(text) = text else {
         out.write_all(b"-")?;
         return Ok(());
@@ -76,8 +80,7 @@ fn print_text<W: Write>(out: &mut W, sections: &Sections<'_>, text: Option<Text>
         Section::DebugLineStr => sections.debug_line_str,
         _ => sections.debug_info,
     };
-    let start = text.span.place;
-    if let Some(bytes) = section.get(start..start.saturating_add(text.span.len)) {
+    if let Ok(bytes) = text_at(section, text.offset as u64) {
         out.write_all(bytes)?;
     }
     Ok(())

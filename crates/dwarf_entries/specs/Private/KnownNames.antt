@@ -7,7 +7,7 @@ use Rattle.dwarf_units.specs.declared.attributes.AttributeValue.{AttributeValue}
 use Rattle.dwarf_entries.specs.declared.known_names.KnownNames.{KnownNames}
 use Rattle.dwarf_entries.specs.declared.known_names.LedNames.{LedNames}
 use Rattle.dwarf_entries.specs.declared.paths.EntryNames.{EntryNames}
-use Rattle.dwarf_entries.specs.declared.paths.UnitPlace.{UnitPlace}
+use Rattle.dwarf_entries.specs.declared.references.UnitPlace.{UnitPlace}
 use Rattle.dwarf_walk.specs.Sections.{Sections}
 use Rattle.dwarf_entries.specs.Bases.{CompilationUnit}
 use Rattle.dwarf_entries.specs.Names.{Member, target_of, path_within, name_on}
@@ -38,9 +38,9 @@ abbrev pub names_behind : Sections → List CompilationUnit → CompilationUnit 
     → Result EntryNames Cause
 names_behind s units unit reference = target_of units unit reference >>= λ m. led_names s units m
 
--- What is known of a place are the names to which the entry there leads.
+-- Where names are known of a place, an entry stands there, and they are those to which it leads.
 abbrev pub AreKnownOf : Sections → List CompilationUnit → KnownNames → Type 0
 AreKnownOf s units known =
     (slot : ℕ) (led : LedNames) → slot_at known slot ≡ Some led
-    → (m : Member) → member_in units led.place.unit led.place.offset ≡ Ok m
-    → led_names s units m ≡ Ok led.names
+    → (m : Member) × (member_in units led.place.unit led.place.offset ≡ Ok m)
+    × (led_names s units m ≡ Ok led.names)

@@ -1,5 +1,5 @@
 -- Entries with their units, as the program keeps them, for the contracts of paths.
-use Rattle.std.specs.Prelude.{◌≡◌, ℕ, List, Option, Some, None, Result}
+use Rattle.std.specs.Prelude.{◌≡◌, ℕ, ◌<◌, ◌≤◌, List, Option, Some, None, Result}
 use Rattle.std.specs.Prelude.{Ok, Err, map, slice_get, option_to_list}
 use Rattle.std.specs.Option.{option_and_then}
 use Rattle.dwarf_bytes.specs.declared.constants.TheConstants.{DW_AT_LINKAGE_NAME, DW_AT_NAME}
@@ -9,7 +9,7 @@ use Rattle.dwarf_units.specs.declared.unit_headers.UnitHeader.{UnitHeader}
 use Rattle.dwarf_walk.specs.declared.kept.NamedEntry.{NamedEntry}
 use Rattle.dwarf_walk.specs.declared.kept.UnitEntries.{UnitEntries}
 use Rattle.dwarf_entries.specs.declared.paths.UnitEntry.{UnitEntry}
-use Rattle.dwarf_entries.specs.declared.paths.UnitPlace.{UnitPlace}
+use Rattle.dwarf_entries.specs.declared.references.UnitPlace.{UnitPlace}
 use Rattle.dwarf_entries.specs.declared.paths.UnitAttribute.{UnitAttribute}
 use Rattle.dwarf_entries.specs.declared.paths.FirstNames.{FirstNames}
 use Rattle.dwarf_units.specs.declared.attributes.AttributeValue.{AttributeValue}
@@ -51,6 +51,18 @@ pub record IsPlaceOf (units : List CompilationUnit) (place : UnitPlace) (m : Mem
   pub index : ℕ
   pub there : slice_get m.unit.dies index ≡ Some m.die
   pub found : member_in units place.unit place.offset ≡ Ok m
+
+-- the place is within the bounds of its unit
+pub record IsWithin (units : List CompilationUnit) (place : UnitPlace) : Type 0 where
+  pub of : CompilationUnit
+  pub of_is : slice_get units place.unit ≡ Some of
+  pub low : of.header.start ≤ place.offset
+  pub high : place.offset < of.header.«end»
+
+-- the outcome is the entry at the place, if one stands there
+abbrev pub LeadsTo : List CompilationUnit → Option UnitPlace → Result Member Cause → Type 0
+LeadsTo units (Some place) outcome = outcome ≡ member_in units place.unit place.offset
+LeadsTo units None outcome = outcome ≡ Err causes.Reference
 
 -- what is read again is what is kept of the member, unless memory ran out
 abbrev pub TellsMember : List CompilationUnit → Result UnitEntry Cause → Member → Type 0

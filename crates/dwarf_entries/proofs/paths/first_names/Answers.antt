@@ -2,7 +2,7 @@ use Rattle.std.proofs.Common.{◌-◌, [], inl, inr, subst, arith}
 use Rattle.std.specs.Prelude.{Option}
 use Rattle.std.proofs.lemmas.Result.{err_from_is_err_and}
 use Rattle.dwarf_bytes.proofs.Turns.{None-from_no_Some}
-use Rattle.dwarf_entries.specs.declared.paths.UnitPlace.{UnitPlace}
+use Rattle.dwarf_entries.specs.declared.references.UnitPlace.{UnitPlace}
 use Rattle.dwarf_entries.specs.Names.{target_of}
 use Rattle.dwarf_entries.specs.Private.Members.{Finds}
 use Rattle.dwarf_entries.proofs.PathLaws.{followed-none, followed-next, followed-again, followed-end, followed-deep, followed-lost}

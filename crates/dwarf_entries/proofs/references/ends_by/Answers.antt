@@ -3,7 +3,7 @@ use Rattle.std.specs.Prelude.{nat_le}
 use Rattle.std.proofs.lemmas.Bool.{leb-true, leb-false}
 use Rattle.std.proofs.lemmas.List.Sorted.{IsPartitionedBy-leb, IsPartitionPoint-from_clause}
 use Rattle.dwarf_walk.specs.declared.kept.UnitEntries.{UnitEntries}
-use Rattle.dwarf_entries.proofs.paths.ends_by.Goals as goal
+use Rattle.dwarf_entries.proofs.references.ends_by.Goals as goal
 
 pub returns-clause-parts : goal.returns-clause-parts
 returns-clause-parts c = λ rise.
