@@ -12,3 +12,5 @@ pub mod PlanTurns
 pub mod LinkLaws
 pub mod SharedTableLaws
 pub mod StoreLaws
+pub mod UsedLaws
+pub mod SlotLaws

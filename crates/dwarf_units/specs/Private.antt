@@ -5,3 +5,5 @@ pub mod Heads
 pub mod Rising
 pub mod Numbers
 pub mod Tables
+pub mod Used
+pub mod Slots

@@ -15,9 +15,12 @@ mod tables;
 mod tails;
 mod unit_headers;
 mod unit_table;
+mod used_attributes;
+mod used_name;
 
 pub use attributes::{Attribute, AttributeValue, is_address, value_of};
 pub use entry_head::EntryHead;
 pub use tables::Tables;
 pub use unit_headers::{UnitHeader, UnitType, units};
 pub use unit_table::UnitTable;
+pub use used_attributes::UsedAttributes;
