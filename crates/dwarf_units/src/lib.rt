@@ -18,7 +18,7 @@ mod unit_table;
 mod used_attributes;
 mod used_name;
 
-pub use attributes::{Attribute, AttributeValue, is_address, value_of};
+pub use attributes::{Attribute, AttributeValue, is_address};
 pub use entry_head::EntryHead;
 pub use tables::Tables;
 pub use unit_headers::{UnitHeader, UnitType, units};

@@ -5,8 +5,8 @@ ghost use Rattle.dwarf_forms.specs.declared.attribute.AttributeSpecification.{
   AttributeSpecification as Specification,
 };
 ghost use Rattle.dwarf_units.specs.declared.steps.AttributeStep.TheVariants.{Pass};
-ghost use Rattle.dwarf_units.specs.Private.Plans.{step_before, steps_of, step_at, steps_at, kept_at};
-ghost use Rattle.dwarf_units.specs.Private.Plans.{Fills, plan_of, plan_len, taken_at};
+ghost use Rattle.dwarf_units.specs.Private.Plans.{step_before, steps_of, step_at, steps_at};
+ghost use Rattle.dwarf_units.specs.Private.Plans.{Fills, plan_of, plan_len, taken_at, kept_at};
 ghost use Rattle.dwarf_units.specs.Private.Used.{used_behind};
 ghost use Rattle.dwarf_bytes.specs.Refusals.{ReadsField};
 
