@@ -2,18 +2,19 @@
 
 use crate::fixtures::*;
 use dwarf_bytes::{Cause, Cursor};
-use dwarf_units::{Tables, units};
+use dwarf_units::{AttributeValue, Tables, UsedAttributes, units};
 use std::process::Abort;
 use std::test::*;
 
 /// Reads the subprogram of a unit, which stands at 13, by attributes of these names and forms.
-/// Checks the name and the number of each used one, where the entry ends, and that the null behind
-/// it is no entry.
+/// Checks the numbers of its name and its high_pc, that it has no low_pc, where the entry ends, and
+/// that the null behind it is no entry.
 fn is_read(
     rt: &(impl Abort + AllocGlobal),
     forms: &[u8],
     values: &[u8],
-    wanted: &[(u64, u64)],
+    name: u64,
+    high_pc: u64,
     end: usize,
 ) -> Result<(), Fail> {
     let table = declarations(rt.alloc(), (&[], &[]), (forms, &[]))?;
@@ -24,25 +25,27 @@ fn is_read(
     let number = tables.number_of(rt.alloc(), header)?;
     let mut cursor = Cursor::new(&info);
     cursor.seek(13)?;
-    let mut found = Vec::new(rt.alloc());
+    let mut found = UsedAttributes::none();
     let tag = tables.table(number).read_entry(&mut cursor, &mut found);
     are_equal(rt, tag, Ok(0x2e));
-    let mut read = Vec::new(rt.alloc());
-    for attribute in &found {
-        read.push((attribute.name, attribute.value.number))?;
-    }
-    are_equal(rt, read.as_slice(), wanted);
+    are_equal(rt, number_of(found.name()), Some(name));
+    are_equal(rt, number_of(found.high_pc()), Some(high_pc));
+    are_equal(rt, number_of(found.low_pc()), None);
     are_equal(rt, cursor.place(), end);
     let null = tables.table(number).read_entry(&mut cursor, &mut found);
     are_equal(rt, null, Err(Cause::AbbrevCode));
     Ok(())
 }
 
+fn number_of(value: Option<AttributeValue>) -> Option<u64> {
+    value.map(|value| value.number)
+}
+
 #[test]
 fn entries_at_their_places(rt: HostRuntime) -> Result<(), Fail> {
     // subprogram: decl_file as data1, name as string, high_pc as data1
     let forms = [0x3a, 0x0b, 0x03, 0x08, 0x12, 0x0b];
-    is_read(&rt, &forms, &[7, 0x66, 0, 9], &[(0x03, 15), (0x12, 9)], 18)
+    is_read(&rt, &forms, &[7, 0x66, 0, 9], 15, 9, 18)
 }
 
 /// An entry whose used attributes stand behind 70 others in its declaration, most of which have no
@@ -57,11 +60,5 @@ fn entry_of_a_long_list(rt: HostRuntime) -> Result<(), Fail> {
     }
     // name as string, high_pc as data1
     forms.extend_from_slice(&[0x03, 0x08, 0x12, 0x0b])?;
-    is_read(
-        &rt,
-        &forms,
-        &[7, 8, 0x66, 0, 9],
-        &[(0x03, 16), (0x12, 9)],
-        19,
-    )
+    is_read(&rt, &forms, &[7, 8, 0x66, 0, 9], 16, 9, 19)
 }

@@ -13,3 +13,5 @@ pub mod PlainEntries
 pub mod LinkLaws
 pub mod SharedTableLaws
 pub mod StoreLaws
+pub mod UsedLaws
+pub mod SlotLaws

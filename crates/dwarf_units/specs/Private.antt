@@ -6,3 +6,5 @@ pub mod Rising
 pub mod Numbers
 pub mod Tables
 pub mod PlainHeads
+pub mod Used
+pub mod Slots

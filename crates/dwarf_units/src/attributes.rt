@@ -9,7 +9,6 @@ ghost use Rattle.dwarf_units.specs.Attributes.{is_among, string_forms, address_f
 ghost use Rattle.dwarf_units.specs.Attributes.{reference_forms};
 ghost use Rattle.dwarf_forms.specs.Values.{value_of as form_value, value_at};
 ghost use Rattle.dwarf_units.specs.Entries.{is_direct, form_at, reading_value, attribute_at};
-ghost use Rattle.dwarf_units.specs.Entries.{value_of};
 
 use dwarf_bytes::constants::*;
 use dwarf_bytes::{Cause, Content, Cursor, Form, Format};
@@ -28,16 +27,6 @@ pub struct AttributeValue {
 pub struct Attribute {
     pub name: u64,
     pub value: AttributeValue,
-}
-
-/// The value of the first attribute of a name among these.
-pub fn value_of(attributes: &[Attribute], name: u64) -> Option<AttributeValue>
-    ensures { result ≡ value_of attributes.now name }
-{
-    attributes
-        .iter()
-        .find(|attribute| attribute.name == name)
-        .map(|attribute| attribute.value)
 }
 
 /// Whether an attribute is used.

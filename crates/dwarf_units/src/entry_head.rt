@@ -6,12 +6,13 @@ ghost use Rattle.dwarf_forms.specs.Private.SharedTables.{told};
 ghost use Rattle.dwarf_units.specs.Entries.{depth_limit};
 ghost use Rattle.dwarf_units.specs.Private.Heads.{head_at, used_entry_at, TellsAndFills};
 ghost use Rattle.dwarf_units.specs.Private.Links.{IsLinked};
-ghost use Rattle.dwarf_units.specs.Private.Plans.{kept_attributes_at, plan_of, Fills};
+ghost use Rattle.dwarf_units.specs.Private.Plans.{plan_of, Fills};
+ghost use Rattle.dwarf_units.specs.Private.Used.{used_attributes_at};
 
-use crate::attributes::Attribute;
 use crate::linked_lists::LinkedLists;
 use crate::plans::{Plan, read_steps};
 use crate::unit_table::UnitTable;
+use crate::used_attributes::UsedAttributes;
 use dwarf_bytes::{Cause, Cursor, Format};
 use dwarf_forms::AbbreviationDeclaration;
 use std::marker::Model;
@@ -78,8 +79,8 @@ impl UnitTable<'_> {
     /// `found`, in place of what is there. Tells its tag. A null is no entry: it has no
     /// declaration.
     #[tactic(auto, unfolding(crate::specs::Entries::entry_at))]
-    pub fn read_entry(&self, cursor: &mut Cursor, found: &mut Vec<Attribute>) -> Result<u64, Cause>
-        ensures { TellsAndFills result found.new.items (used_entry_at self.now)
+    pub fn read_entry(&self, cursor: &mut Cursor, found: &mut UsedAttributes) -> Result<u64, Cause>
+        ensures { TellsAndFills result found.new (used_entry_at self.now)
             cursor.old cursor.new }
     {
         let code = cursor.uleb()?;
@@ -131,9 +132,9 @@ impl<'a> EntryHead<'a> {
         &self,
         keep: bool,
         cursor: &mut Cursor,
-        found: &mut Vec<Attribute>,
+        found: &mut UsedAttributes,
     ) -> Result<(), Cause>
-        ensures { Fills result found.new.items (kept_attributes_at keep self.now.format
+        ensures { Fills result found.new (used_attributes_at keep self.now.format
             self.now.declaration.attributes) cursor.old cursor.new }
     {
         let _ = cursor.place(); // it stands in the bytes or at their end

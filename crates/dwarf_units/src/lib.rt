@@ -16,10 +16,13 @@ mod tables;
 mod tails;
 mod unit_headers;
 mod unit_table;
+mod used_attributes;
+mod used_name;
 
-pub use attributes::{Attribute, AttributeValue, is_address, value_of};
+pub use attributes::{Attribute, AttributeValue, is_address};
 pub use entry_head::EntryHead;
 pub use plain_head::PlainHead;
 pub use tables::Tables;
 pub use unit_headers::{UnitHeader, UnitType, units};
 pub use unit_table::UnitTable;
+pub use used_attributes::UsedAttributes;

@@ -9,11 +9,12 @@ ghost use Rattle.dwarf_forms.specs.Private.Known.{rest_attributes};
 ghost use Rattle.dwarf_forms.specs.Private.SharedTables.{AreTold, tell};
 ghost use Rattle.std.specs.List.{All};
 ghost use Rattle.dwarf_units.specs.Private.Links.{AreLinked, IsLinked, LinksGrow, linked_in};
-ghost use Rattle.dwarf_units.specs.Private.Plans.{Fills, in_front, steps_at, steps_of};
+ghost use Rattle.dwarf_units.specs.Private.Plans.{Fills, steps_at, steps_of};
+ghost use Rattle.dwarf_units.specs.Private.Used.{used_behind};
 
-use crate::attributes::Attribute;
 use crate::plans::read_step;
 use crate::tails::{Links, link_all};
+use crate::used_attributes::UsedAttributes;
 use dwarf_bytes::{Cause, Cursor, Format, LoadFault};
 use dwarf_forms::{AbbreviationTable, KnownLists};
 use std::alloc::{AllocError, Global};
@@ -101,10 +102,10 @@ impl<'a> LinkedLists<'a> {
         format: Format,
         first: Option<usize>,
         cursor: &mut Cursor,
-        found: &mut Vec<Attribute>,
+        found: &mut UsedAttributes,
     ) -> Result<(), Cause>
         requires { IsLinked self.now format first }
-        ensures { Fills result found.new.items (λ bytes at. in_front found.old.items
+        ensures { Fills result found.new (λ bytes at. used_behind found.old
             (steps_at format (steps_of keep format
             (rest_attributes self.now.places.known first)) bytes at)) cursor.old cursor.new }
     {

@@ -5,12 +5,14 @@ ghost use Rattle.dwarf_forms.specs.declared.attribute.AttributeSpecification.{
   AttributeSpecification as Specification,
 };
 ghost use Rattle.dwarf_units.specs.declared.steps.AttributeStep.TheVariants.{Pass};
-ghost use Rattle.dwarf_units.specs.Private.Plans.{step_before, steps_of, step_at, steps_at, kept_at};
-ghost use Rattle.dwarf_units.specs.Private.Plans.{in_front, Fills, plan_of, plan_len, taken_at};
+ghost use Rattle.dwarf_units.specs.Private.Plans.{step_before, steps_of, step_at, steps_at};
+ghost use Rattle.dwarf_units.specs.Private.Plans.{Fills, plan_of, plan_len, taken_at, kept_at};
+ghost use Rattle.dwarf_units.specs.Private.Used.{used_behind};
 ghost use Rattle.dwarf_bytes.specs.Refusals.{ReadsField};
 
 use crate::attributes::{Attribute, AttributeValue, number_of, read_attribute};
 use crate::steps::{AttributeStep, joined, step_of};
+use crate::used_attributes::UsedAttributes;
 use dwarf_bytes::{Cause, Content, Cursor, Format, ValueLayout, Width};
 use dwarf_forms::{AbbreviationTable, AttributeSpecification};
 use std::alloc::{AllocError, Global};
@@ -84,9 +86,9 @@ pub(crate) fn read_steps(
     format: Format,
     steps: &[AttributeStep],
     cursor: &mut Cursor,
-    found: &mut Vec<Attribute>,
+    found: &mut UsedAttributes,
 ) -> Result<(), Cause>
-    ensures { Fills result found.new.items (λ bytes at. in_front found.old.items
+    ensures { Fills result found.new (λ bytes at. used_behind found.old
         (steps_at format steps.now bytes at)) cursor.old cursor.new }
 {
     for step in steps {
@@ -101,9 +103,9 @@ pub(crate) fn read_step(
     format: Format,
     step: &AttributeStep,
     cursor: &mut Cursor,
-    found: &mut Vec<Attribute>,
+    found: &mut UsedAttributes,
 ) -> Result<(), Cause>
-    ensures { Fills result found.new.items (λ bytes at. in_front found.old.items
+    ensures { Fills result found.new (λ bytes at. used_behind found.old
         (step_at format step.now bytes at)) cursor.old cursor.new }
 {
     match step {
@@ -149,14 +151,14 @@ fn keep_attribute(
     specification: &AttributeSpecification,
     layout: Option<ValueLayout>,
     cursor: &mut Cursor,
-    found: &mut Vec<Attribute>,
+    found: &mut UsedAttributes,
 ) -> Result<(), Cause>
-    ensures { Fills result found.new.items (λ bytes at. in_front found.old.items
+    ensures { Fills result found.new (λ bytes at. used_behind found.old
         (kept_at format specification.now layout bytes at)) cursor.old cursor.new }
 {
     match layout {
-        None => found.push(read_attribute(format, specification, cursor)?)?,
-        Some(layout) => found.push(take_attribute(format, specification, layout, cursor)?)?,
+        None => found.add(read_attribute(format, specification, cursor)?),
+        Some(layout) => found.add(take_attribute(format, specification, layout, cursor)?),
     }
     Ok(())
 }

@@ -13,8 +13,9 @@ use Rattle.dwarf_units.specs.Attributes.{is_used}
 use Rattle.dwarf_units.specs.Entries.{Die, value_of, node_behind}
 use Rattle.dwarf_walk.specs.Private.Kept.{named_entry, root_entry}
 use Rattle.dwarf_walk.specs.References.{or_else}
-use Rattle.dwarf_walk.specs.Private.Readers.{HoldsKept, node_of, Walked, depth_behind, after_die, walked_at}
+use Rattle.dwarf_walk.specs.Private.Readers.{HoldsKept, IsAfterEntry, node_of, Walked, depth_behind, after_die, walked_at}
 use Rattle.dwarf_units.specs.Private.Plans.{kept_attributes}
+use Rattle.dwarf_units.specs.Private.Used.{Used}
 
 -- the value of a used attribute is kept where used attributes are
 pub value-kept : (xs : List Attribute) (name : ℕ) → is_used name ≡ true → value_of (filter (λ a. is_used a.name) xs) name ≡ value_of xs name
@@ -71,28 +72,26 @@ after-kept w offset depth tag all found are = by_flag (not (is_some w.root)) ref
     by_flag true is are = rw are (rw (root-kept die) refl)
     by_flag false is are = rw (root-stays w.root (root_entry other) (root_entry die) is) refl
 
--- what a step found is read, and its buffer holds what is kept of the attributes
-abbrev ReadsEntry : Format → List Declaration → Walked → Bool → List ℕ → ℕ → ℕ → Option NodeHead → List Attribute → Type 0
-ReadsEntry format table w rooted unit at after found attributes =
-    (all : List Attribute) × (node_behind format table w.depth rooted unit at ≡ Ok (node_of found all, after)) × HoldsKept (not rooted) found attributes all
+-- what a step found is read, and it left what is used of the attributes that are kept
+abbrev ReadsEntry : Format → List Declaration → Walked → Bool → List ℕ → ℕ → ℕ → Option NodeHead → Used → Type 0
+ReadsEntry format table w rooted unit at after found used =
+    (all : List Attribute) × (node_behind format table w.depth rooted unit at ≡ Ok (node_of found all, after)) × HoldsKept (not rooted) found used all
 
--- what is kept of an entry that is read
-entry-kept : (format : Format) (table : List Declaration) (w kept : Walked) (unit : List ℕ) (at after : ℕ) (head : NodeHead) (attributes : List Attribute) →
-    ReadsEntry format table w (is_some w.root) unit at after (Some head) attributes →
-    kept ≡ after_die w (record { offset = at; depth = w.depth; tag = head.tag; attributes = attributes }) →
-    walked_at format table w unit at ≡ Ok (record kept { depth = depth_behind head.children w.depth }, after)
-entry-kept format table w kept unit at after head attributes read is =
-    let all : kept ≡ after_die w (record { offset = at; depth = w.depth; tag = head.tag; attributes = read.0 }) = is ∙ after-kept w at w.depth head.tag read.0 attributes read.2 in
-    rw (read.1, all) refl
+-- what is kept of an entry that is read, and the depth stays
+entry-kept : (format : Format) (table : List Declaration) (w kept : Walked) (unit : List ℕ) (at after : ℕ) (head : NodeHead) (used : Used) →
+    ReadsEntry format table w (is_some w.root) unit at after (Some head) used →
+    IsAfterEntry w kept at head.tag used →
+    (walked_at format table w unit at ≡ Ok (record kept { depth = depth_behind head.children w.depth }, after)) × (kept.depth ≡ w.depth)
+entry-kept format table w kept unit at after head used read is =
+    let keep = not (is_some w.root) in
+    let all : kept ≡ after_die w (record { offset = at; depth = w.depth; tag = head.tag; attributes = read.0 }) = is (kept_attributes keep read.0) read.2 ∙ after-kept w at w.depth head.tag read.0 (kept_attributes keep read.0) refl in
+    (rw (read.1, all) refl, ap (λ (x : Walked). x.depth) all)
 
--- .. by a step, which knows whether the root stands before, where the entry stands, and what its buffer holds
-pub step-kept : (format : Format) (table : List Declaration) (w kept : Walked) (unit : List ℕ) (at after : ℕ) (found : Option NodeHead) (head : NodeHead) (attributes buffer : List Attribute) (rooted : Bool) (offset : ℕ) →
-    rooted ≡ is_some w.root → offset ≡ at → buffer ≡ attributes → found ≡ Some head → ReadsEntry format table w rooted unit at after found attributes →
-    kept ≡ after_die w (record { offset = offset; depth = w.depth; tag = head.tag; attributes = buffer }) →
-    walked_at format table w unit at ≡ Ok (record kept { depth = depth_behind head.children w.depth }, after)
-step-kept format table w kept unit at after found head attributes buffer rooted offset known place held is read kept_is =
-    let first = subst (λ (r : Bool). ReadsEntry format table w r unit at after found attributes) known read in
-    let second = subst (λ (f : Option NodeHead). ReadsEntry format table w (is_some w.root) unit at after f attributes) is first in
-    entry-kept format table w kept unit at after head attributes second
-    (kept_is ∙ (ap (λ (k : ℕ). after_die w (record { offset = k; depth = w.depth; tag = head.tag; attributes = buffer })) place
-    ∙ ap (λ (b : List Attribute). after_die w (record { offset = at; depth = w.depth; tag = head.tag; attributes = b })) held))
+-- .. by a step, which knows whether the root stands before and where the entry stands
+pub step-kept : (format : Format) (table : List Declaration) (w kept : Walked) (unit : List ℕ) (at after : ℕ) (found : Option NodeHead) (head : NodeHead) (used : Used) (rooted : Bool) (offset : ℕ) →
+    rooted ≡ is_some w.root → offset ≡ at → found ≡ Some head → ReadsEntry format table w rooted unit at after found used → IsAfterEntry w kept offset head.tag used →
+    (walked_at format table w unit at ≡ Ok (record kept { depth = depth_behind head.children w.depth }, after)) × (kept.depth ≡ w.depth)
+step-kept format table w kept unit at after found head used rooted offset known place is read kept_is =
+    let first = subst (λ (r : Bool). ReadsEntry format table w r unit at after found used) known read in
+    let second = subst (λ (f : Option NodeHead). ReadsEntry format table w (is_some w.root) unit at after f used) is first in
+    entry-kept format table w kept unit at after head used second (subst (λ (k : ℕ). IsAfterEntry w kept k head.tag used) place kept_is)

@@ -1,7 +1,6 @@
 pub mod Kept
 pub mod Again
 pub mod Ends
-pub mod Found
 pub mod Long
 pub mod Marks
 pub mod Named

@@ -14,7 +14,7 @@ ghost use Rattle.dwarf_walk.specs.Private.Again.{len_at, held_by, HasTableOf, St
 ghost use Rattle.dwarf_walk.specs.Private.Again.{HoldsAt};
 ghost use Rattle.dwarf_walk.specs.Private.Marks.{is_marked};
 ghost use Rattle.dwarf_walk.specs.Private.Long.{held_at, long_entry};
-ghost use Rattle.dwarf_walk.specs.Private.Named.{used_at, named_entry_at};
+ghost use Rattle.dwarf_walk.specs.Private.Named.{used_by_name_at, named_entry_at};
 
 use crate::kept::{NamedEntry, ScopeEntry};
 use crate::long_entries::LongEntries;
@@ -23,7 +23,7 @@ use crate::scope_kind::kind_of;
 use crate::sections::Sections;
 use crate::walk::unit_bytes;
 use dwarf_bytes::{Cause, Cursor};
-use dwarf_units::{Attribute, Tables, UnitHeader};
+use dwarf_units::{Tables, UnitHeader, UsedAttributes};
 use std::alloc::{AllocError, Global};
 
 /// The bytes of an entry past which it is not read again for each reference to it.
@@ -40,7 +40,7 @@ pub struct EntryReader<'a> {
     /// The number of the table that was used last.
     number: usize,
     /// The used attributes of the entry that was read last.
-    found: Vec<Attribute>,
+    found: UsedAttributes,
     /// How many bytes that entry has.
     len: usize,
     /// What paths need of long entries that were read.
@@ -58,7 +58,7 @@ impl<'a> EntryReader<'a> {
             info: sections.debug_info,
             tables,
             number: 0,
-            found: Vec::new(alloc),
+            found: UsedAttributes::none(),
             len: 0,
             long: LongEntries::new(alloc),
         }
@@ -68,7 +68,7 @@ impl<'a> EntryReader<'a> {
     fn entry(&mut self, header: &UnitHeader, offset: usize) -> Result<u64, Cause>
         ensures entry { (table : List Declaration) → declarations_of declarations_limit
             self.old.tables.section header.now.abbreviations ≡ Ok table
-            → TellsAndLeaves result self.new.found.items (used_at header.now.format table
+            → TellsAndLeaves result self.new.found (used_by_name_at header.now.format table
             (take header.now.«end» self.old.info.now) offset) }
         ensures section { self.new.tables.section ≡ self.old.tables.section }
         ensures info { self.new.info.now ≡ self.old.info.now }

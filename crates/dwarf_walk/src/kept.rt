@@ -1,17 +1,15 @@
 //! What is kept of the entries of a unit until all units are read.
 
 ghost use Rattle.std.specs.Prelude.{◌≡◌, List, Some};
-ghost use Rattle.dwarf_units.specs.declared.attributes.Attribute.{Attribute as EntryAttribute};
-ghost use Rattle.dwarf_walk.specs.Private.Found.{names_among};
+ghost use Rattle.dwarf_units.specs.declared.attributes.Attribute.{Attribute};
+ghost use Rattle.dwarf_units.specs.Private.Used.{used_among};
 ghost use Rattle.dwarf_walk.specs.Private.Kept.{named_entry, scope_entry, root_entry};
 ghost use Rattle.dwarf_walk.specs.References.{followed};
 ghost use Rattle.dwarf_walk.specs.Private.Readers.{die_with};
-ghost use Rattle.dwarf_walk.specs.ScopeEntries.{number_of};
 
-use crate::found::{FoundAttributes, FoundNames};
 use crate::scope_kind::ScopeKind;
-use dwarf_bytes::constants::*;
-use dwarf_units::{Attribute, AttributeValue, UnitHeader, value_of};
+use dwarf_bytes::constants::DW_FORM_REF_SIG8;
+use dwarf_units::{AttributeValue, UnitHeader, UsedAttributes};
 
 /// An entry, as far as names go: its offset in `.debug_info`, the reference to its next entry,
 /// and its names.
@@ -64,69 +62,56 @@ pub struct UnitEntries {
 }
 
 impl NamedEntry {
-    /// Of the entry at an offset, by its attributes.
-    pub(crate) fn of(offset: usize, attributes: &[Attribute]) -> NamedEntry
-        ensures { result ≡ named_entry (die_with offset attributes.now) }
-    {
-        NamedEntry::by(offset, &FoundNames::of(attributes))
-    }
-
-    /// .. by those of its attributes that were found.
-    fn by(offset: usize, found: &FoundNames) -> NamedEntry
-        ensures { (attributes : List EntryAttribute) → found.now ≡ names_among attributes
+    /// Of the entry at an offset, by its used attributes.
+    pub(crate) fn of(offset: usize, found: &UsedAttributes) -> NamedEntry
+        ensures { (attributes : List Attribute) → found.now ≡ used_among attributes
             → result ≡ named_entry (die_with offset attributes) }
     {
         NamedEntry {
             offset,
             next: found
-                .abstract_origin
-                .or(found.specification)
+                .abstract_origin()
+                .or(found.specification())
                 .and_then(followed),
-            name: found.name,
-            linkage_name: found.linkage_name,
+            name: found.name(),
+            linkage_name: found.linkage_name(),
         }
     }
 }
 
 impl ScopeEntry {
-    /// Of a scope of the kind, which stands at an offset, by its attributes.
-    pub(crate) fn of(offset: usize, kind: ScopeKind, attributes: &[Attribute]) -> ScopeEntry
-        ensures { result ≡ scope_entry (die_with offset attributes.now) kind }
+    /// Of a scope of the kind, which stands at an offset, by its used attributes.
+    pub(crate) fn of(offset: usize, kind: ScopeKind, found: &UsedAttributes) -> ScopeEntry
+        ensures { (attributes : List Attribute) → found.now ≡ used_among attributes
+            → result ≡ scope_entry (die_with offset attributes) kind }
     {
-        let found = FoundAttributes::of(attributes);
         ScopeEntry {
-            entry: NamedEntry::by(offset, &found.names),
+            entry: NamedEntry::of(offset, found),
             kind,
-            low_pc: found.low_pc,
-            high_pc: found.high_pc,
-            ranges: found.ranges,
-            call_file: found.call_file.map(|value| value.number),
-            call_line: found.call_line.map(|value| value.number),
+            low_pc: found.low_pc(),
+            high_pc: found.high_pc(),
+            ranges: found.ranges(),
+            call_file: found.call_file().map(|value| value.number),
+            call_line: found.call_line().map(|value| value.number),
         }
     }
 }
 
 impl RootEntry {
-    /// Of the root at an offset, by its attributes.
-    pub(crate) fn of(offset: usize, attributes: &[Attribute]) -> RootEntry
-        ensures { result ≡ root_entry (die_with offset attributes.now) }
+    /// Of the root at an offset, by its used attributes.
+    pub(crate) fn of(offset: usize, found: &UsedAttributes) -> RootEntry
+        ensures { (attributes : List Attribute) → found.now ≡ used_among attributes
+            → result ≡ root_entry (die_with offset attributes) }
     {
         RootEntry {
             offset,
-            stmt_list: number_of(attributes, DW_AT_STMT_LIST),
-            str_offsets_base: value_of(attributes, DW_AT_STR_OFFSETS_BASE),
-            addr_base: value_of(attributes, DW_AT_ADDR_BASE),
-            rnglists_base: value_of(attributes, DW_AT_RNGLISTS_BASE),
-            low_pc: value_of(attributes, DW_AT_LOW_PC),
+            stmt_list: found.stmt_list().map(|value| value.number),
+            str_offsets_base: found.str_offsets_base(),
+            addr_base: found.addr_base(),
+            rnglists_base: found.rnglists_base(),
+            low_pc: found.low_pc(),
         }
     }
-}
-
-/// The number of an attribute among these.
-fn number_of(attributes: &[Attribute], name: u64) -> Option<u64>
-    ensures { result ≡ number_of name (die_with 0 attributes.now) }
-{
-    value_of(attributes, name).map(|value| value.number)
 }
 
 /// A reference, unless it is one that is not followed.

@@ -3,7 +3,6 @@
 #![tactic(auto)]
 
 mod again;
-mod found;
 mod kept;
 mod long_entries;
 mod marks;

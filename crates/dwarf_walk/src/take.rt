@@ -14,7 +14,7 @@ use crate::packed::narrow;
 use crate::scope_kind::kind_of;
 use crate::walk::{OpenScope, Walk, end_scopes};
 use dwarf_bytes::{Cause, Cursor};
-use dwarf_units::{Attribute, PlainHead, UnitTable};
+use dwarf_units::{PlainHead, UnitTable};
 use std::alloc::AllocError;
 
 impl Walk {
@@ -27,7 +27,7 @@ impl Walk {
         marks: &mut Marks,
         unit: &[u8],
         place: usize,
-        found: &mut Vec<Attribute>,
+        found: &mut UsedAttributes,
     ) -> Result<usize, Cause>
         requires { place < length unit.now }
         ensures walks { Gives (λ after. (walked_of self.new, after)) result
@@ -80,7 +80,7 @@ impl Walk {
         marks: &mut Marks,
         unit: &[u8],
         place: usize,
-        found: &mut Vec<Attribute>,
+        found: &mut UsedAttributes,
     ) -> Result<usize, Cause>
         requires { place < length unit.now }
         ensures walks { Gives (λ after. (walked_of self.new, after)) result

@@ -9,7 +9,7 @@ ghost use Rattle.dwarf_units.specs.Entries.{Die, Node, Standing, depth_limit};
 ghost use Rattle.dwarf_units.specs.Entries.{die_of, node_behind, entries_of};
 ghost use Rattle.dwarf_walk.specs.Private.Kept.{kept_of, kept_entries};
 ghost use Rattle.dwarf_walk.specs.Private.Marks.{AddsMarks, offsets_of};
-ghost use Rattle.dwarf_walk.specs.Private.Readers.{ReadsNode, walked_of, after_die};
+ghost use Rattle.dwarf_walk.specs.Private.Readers.{ReadsNode, IsAfterEntry, walked_of};
 ghost use Rattle.dwarf_walk.specs.Private.Readers.{walked_at, nodes_of, places_of, walk_of};
 ghost use Rattle.dwarf_walk.specs.Private.Ends.{ended_at, left_open, with_end};
 ghost use Rattle.dwarf_units.specs.Private.Plans.{Fills};
@@ -18,7 +18,7 @@ use crate::kept::{RootEntry, ScopePlace, UnitEntries};
 use crate::marks::Marks;
 use crate::packed::narrow;
 use dwarf_bytes::{Cause, Cursor, LoadFault, Section, Span};
-use dwarf_units::{Attribute, UnitHeader, UnitTable};
+use dwarf_units::{UnitHeader, UnitTable, UsedAttributes};
 use std::alloc::{AllocError, Global};
 
 /// What the declaration of an entry tells of it, but its attributes.
@@ -85,14 +85,14 @@ impl Walk {
         }
     }
 
-    /// Takes what stands at the cursor, and marks its place if it is an entry. `found` is a buffer
-    /// for attributes.
+    /// Takes what stands at the cursor, and marks its place if it is an entry. `found` is room for
+    /// its used attributes.
     pub(crate) fn step(
         &mut self,
         table: &UnitTable<'_>,
         marks: &mut Marks,
         cursor: &mut Cursor,
-        found: &mut Vec<Attribute>,
+        found: &mut UsedAttributes,
     ) -> Result<(), Cause>
         ensures fills { Fills result (walked_of self.new)
             (walked_at table.now.format table.now.declarations
@@ -117,18 +117,13 @@ impl Walk {
         Ok(())
     }
 
-    /// Keeps what is wanted of the entry at an offset.
-    fn keep(&mut self, offset: usize, tag: u64, attributes: &[Attribute]) -> Result<(), AllocError>
-        ensures { OnOk result (walked_of self.new
-            ≡ after_die (walked_of self.old) (record {
-              offset = offset;
-              depth = self.old.depth;
-              tag = tag;
-              attributes = attributes.now;
-            })) }
+    /// Keeps what is wanted of the entry at an offset, by its used attributes.
+    fn keep(&mut self, offset: usize, tag: u64, found: &UsedAttributes) -> Result<(), AllocError>
+        ensures { OnOk result (IsAfterEntry (walked_of self.old) (walked_of self.new) offset tag
+            found.now) }
     {
         if self.root.is_none() {
-            self.root = Some(RootEntry::of(offset, attributes));
+            self.root = Some(RootEntry::of(offset, found));
         }
         self.keep_scope(offset, tag)
     }
@@ -151,7 +146,7 @@ fn walk_unit(
 {
     let unit = unit_bytes(info, &header);
     let mut walk = Walk::new(alloc);
-    let mut found = Vec::new(alloc);
+    let mut found = UsedAttributes::none();
     let mut place = header.first;
     while place < unit.len() {
         place = match walk.take(table, marks, unit, place, &mut found) {
@@ -180,9 +175,9 @@ fn node(
     depth: u16,
     rooted: bool,
     cursor: &mut Cursor,
-    found: &mut Vec<Attribute>,
+    found: &mut UsedAttributes,
 ) -> Result<Option<NodeHead>, Cause>
-    ensures reads { ReadsNode (not rooted) result found.new.items
+    ensures reads { ReadsNode (not rooted) result found.new
         (node_behind table.now.format table.now.declarations depth rooted) cursor.old cursor.new }
     ensures limit { IfOk result (λ entry. IsSome entry → depth ≤ depth_limit) }
 {

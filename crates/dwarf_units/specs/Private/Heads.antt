@@ -10,9 +10,9 @@ use Rattle.dwarf_bytes.specs.Numbers.{uleb_at}
 use Rattle.dwarf_forms.specs.Declarations.{Declaration}
 use Rattle.dwarf_bytes.specs.Position.{Position}
 use Rattle.dwarf_bytes.specs.Refusals.{Fails}
-use Rattle.dwarf_units.specs.declared.attributes.Attribute.{Attribute}
 use Rattle.dwarf_units.specs.Entries.{depth_limit, declaration_of, entry_at}
 use Rattle.dwarf_units.specs.Private.Plans.{Table, kept_attributes}
+use Rattle.dwarf_units.specs.Private.Used.{Used, used_among}
 
 -- the declaration of an entry, in a unit of a format
 pub record Head : Type 0 where
@@ -33,9 +33,9 @@ head_at table depth rooted unit at = do
     Ok (Some (head_in table declaration), code.1)
 
 -- the tag of the entry at a place and its attributes that are used, and the place after it
-abbrev pub used_entry_at : Table → List ℕ → ℕ → Result ((ℕ × List Attribute) × ℕ) Cause
+abbrev pub used_entry_at : Table → List ℕ → ℕ → Result ((ℕ × Used) × ℕ) Cause
 used_entry_at table unit at = entry_at table.format table.declarations unit at
-    >>= λ entry. Ok ((entry.0.0, kept_attributes true entry.0.1), entry.1)
+    >>= λ entry. Ok ((entry.0.0, used_among (kept_attributes true entry.0.1)), entry.1)
 
 -- What was read is told in part, and in part stands in its place; the cursor stands after it,
 -- unless memory ran out.

@@ -9,6 +9,7 @@ use Rattle.dwarf_forms.specs.Declarations.{Declaration}
 use Rattle.dwarf_units.specs.declared.attributes.Attribute.{Attribute}
 use Rattle.dwarf_units.specs.Entries.{Die, entry_at}
 use Rattle.dwarf_units.specs.Private.Plans.{kept_attributes}
+use Rattle.dwarf_units.specs.Private.Used.{Used, used_among}
 use Rattle.dwarf_walk.specs.declared.kept.NamedEntry.{NamedEntry}
 use Rattle.dwarf_walk.specs.Private.Kept.{named_entry}
 
@@ -22,6 +23,11 @@ used_at format table unit offset = do
   _ ← refuse_if (nat_lt (length unit) offset) causes.Short
   entry ← entry_at format table unit offset
   Ok (entry.0.0, kept_attributes true entry.0.1)
+
+-- .. by their names
+abbrev pub used_by_name_at : Format → List Declaration → List ℕ → ℕ → Result (ℕ × Used) Cause
+used_by_name_at format table unit offset =
+    used_at format table unit offset >>= λ entry. Ok (entry.0, used_among entry.1)
 
 -- what a path needs of the entry at an offset of a unit
 abbrev pub named_entry_at : Format → List Declaration → List ℕ → ℕ → Result NamedEntry Cause

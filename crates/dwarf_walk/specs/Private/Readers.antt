@@ -22,6 +22,7 @@ use Rattle.dwarf_walk.specs.Private.Ends.{known_places, open_scopes, ended_at}
 use Rattle.dwarf_walk.specs.Private.Ends.{left_open, new_place, new_open}
 use Rattle.dwarf_walk.specs.Private.Kept.{root_entry, root_in}
 use Rattle.dwarf_units.specs.Private.Plans.{kept_attributes}
+use Rattle.dwarf_units.specs.Private.Used.{Used, used_among}
 use Rattle.dwarf_walk.specs.References.{or_else}
 
 -- an entry by its offset and its attributes, where neither its tag nor its depth counts
@@ -33,19 +34,19 @@ abbrev pub node_of : Option NodeHead → List Attribute → Node
 node_of (Some head) attributes = Entry head.tag head.children attributes
 node_of None attributes = Null
 
--- What a buffer holds is what is kept of the attributes of an entry; of a null there are none.
-abbrev pub HoldsKept : Bool → Option NodeHead → List Attribute → List Attribute → Type 0
-HoldsKept keep (Some head) attributes all = attributes ≡ kept_attributes keep all
-HoldsKept keep None attributes all = Unit {0}
+-- What is used is what is kept of the attributes of an entry; of a null there are none.
+abbrev pub HoldsKept : Bool → Option NodeHead → Used → List Attribute → Type 0
+HoldsKept keep (Some head) used all = used ≡ used_among (kept_attributes keep all)
+HoldsKept keep None used all = Unit {0}
 
--- What a step found, with all attributes of which it left some in a buffer, is what is read, and
+-- What a step found, with all attributes of which it left those that are used, is what is read, and
 -- the cursor stands after it, unless memory ran out.
-abbrev pub ReadsNode : Bool → Result (Option NodeHead) Cause → List Attribute
+abbrev pub ReadsNode : Bool → Result (Option NodeHead) Cause → Used
     → (List ℕ → ℕ → Result (Node × ℕ) Cause) → Position → Position → Type 0
-ReadsNode keep (Ok found) attributes read old new =
+ReadsNode keep (Ok found) used read old new =
     ((all : List Attribute) × (read old.bytes old.place ≡ Ok (node_of found all, new.place))
-    × HoldsKept keep found attributes all) × (new.bytes ≡ old.bytes)
-ReadsNode keep (Err cause) attributes read old new = Fails cause (read old.bytes old.place)
+    × HoldsKept keep found used all) × (new.bytes ≡ old.bytes)
+ReadsNode keep (Err cause) used read old new = Fails cause (read old.bytes old.place)
 
 -- what is kept of the entries so far, and the depth behind them
 pub record Walked : Type 0 where
@@ -94,6 +95,17 @@ after_scope w offset tag = record (after_die w (record {
   tag = tag;
   attributes = [];
 })) { root = w.root }
+
+-- What is kept is that of one more entry at a place, of a tag, with any attributes of which these
+-- are used.
+abbrev pub IsAfterEntry : Walked → Walked → ℕ → ℕ → Used → Type 0
+IsAfterEntry w kept at tag used = (attributes : List Attribute) → used ≡ used_among attributes
+    → kept ≡ after_die w (record {
+      offset = at;
+      depth = w.depth;
+      tag = tag;
+      attributes = attributes;
+    })
 
 -- one more scope, whose entry stands at an offset
 abbrev pub with_scope : ℕ → Walked → Walked

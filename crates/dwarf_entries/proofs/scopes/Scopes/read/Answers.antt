@@ -14,6 +14,12 @@ returns-in_err-tables c =
     let p = err_from_is_err_and c.from_residual-in_err-tables.result c.from_residual-in_err-tables.ensures.1 in
     rw (p.1, p.2) (tables_fault (sections_of c.args.sections.now) c.in_ok-headers.headers.items c.in_err-tables.field-0.0 c.in_ok-headers.ensures (rw c.as_slice.ensures.value at c.in_err-tables.ensures.err))
 
+pub read_with-requires-clause-tables : goal.read_with-requires-clause-tables
+read_with-requires-clause-tables c =
+    let s = sections_of c.args.sections.now in
+    rw c.as_slice-2.ensures.value
+    (tables_read s c.in_ok-headers.headers.items c.in_ok-headers.ensures (rw c.as_slice.ensures.value at c.in_ok-tables.ensures.ok))
+
 pub returns : goal.returns
 returns c =
     let s = sections_of c.args.sections.now in

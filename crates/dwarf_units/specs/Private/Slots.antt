@@ -1,0 +1,36 @@
+-- The used attributes of an entry in slots, one for each name.
+use Rattle.std.specs.Prelude.{ℕ, List, Bool, false, Option, slice_index_or}
+use Rattle.std.specs.Bool.{then_some}
+use Rattle.dwarf_units.specs.declared.attributes.AttributeValue.{AttributeValue}
+use Rattle.dwarf_units.specs.declared.used_name.UsedName.{UsedName}
+use Rattle.dwarf_units.specs.declared.used_name.UsedName.TheVariants.{Name, LinkageName, LowPc}
+use Rattle.dwarf_units.specs.declared.used_name.UsedName.TheVariants.{AbstractOrigin, HighPc}
+use Rattle.dwarf_units.specs.declared.used_name.UsedName.TheVariants.{Specification, Ranges}
+use Rattle.dwarf_units.specs.declared.used_name.UsedName.TheVariants.{CallFile, CallLine}
+use Rattle.dwarf_units.specs.declared.used_name.UsedName.TheVariants.{StmtList, StrOffsetsBase}
+use Rattle.dwarf_units.specs.declared.used_name.UsedName.TheVariants.{AddrBase, RnglistsBase}
+use Rattle.dwarf_units.specs.Private.Used.{Used, used_by}
+
+-- the slot of a name
+abbrev pub slot_of : UsedName → ℕ
+slot_of Name = 0
+slot_of LinkageName = 1
+slot_of AbstractOrigin = 2
+slot_of Specification = 3
+slot_of LowPc = 4
+slot_of HighPc = 5
+slot_of Ranges = 6
+slot_of CallFile = 7
+slot_of CallLine = 8
+slot_of StmtList = 9
+slot_of StrOffsetsBase = 10
+slot_of AddrBase = 11
+slot_of RnglistsBase = 12
+
+-- what stands in a slot whose value counts
+abbrev pub in_slot : List Bool → List AttributeValue → ℕ → Option AttributeValue
+in_slot has values slot = then_some (slice_index_or has slot false)
+    (slice_index_or values slot (record { form = 0; number = 0 }))
+
+abbrev pub in_slots : List Bool → List AttributeValue → Used
+in_slots has values = used_by (λ name. in_slot has values (slot_of name))

@@ -1,0 +1,126 @@
+-- The used attributes of an entry by their names (DWARF 5, 2.2), of two with one name the first.
+use Rattle.std.specs.Prelude.{ℕ, List, [], ◌∷◌, Bool, Option, Result, Ok, Err, ◌==◌, find}
+use Rattle.std.specs.Option.{option_or}
+use Rattle.dwarf_bytes.specs.declared.constants.TheConstants.{
+  DW_AT_ABSTRACT_ORIGIN,
+  DW_AT_ADDR_BASE,
+  DW_AT_CALL_FILE,
+  DW_AT_CALL_LINE,
+  DW_AT_HIGH_PC,
+  DW_AT_LINKAGE_NAME,
+  DW_AT_LOW_PC,
+  DW_AT_NAME,
+  DW_AT_RANGES,
+  DW_AT_RNGLISTS_BASE,
+  DW_AT_SPECIFICATION,
+  DW_AT_STMT_LIST,
+  DW_AT_STR_OFFSETS_BASE,
+}
+use Rattle.dwarf_bytes.specs.declared.fault.Cause.{Cause}
+use Rattle.dwarf_bytes.specs.declared.format.Format.{Format}
+use Rattle.dwarf_bytes.specs.Bind.{◌>>=◌}
+use Rattle.dwarf_forms.specs.declared.attribute.AttributeSpecification.{AttributeSpecification}
+use Rattle.dwarf_units.specs.declared.attributes.Attribute.{Attribute}
+use Rattle.dwarf_units.specs.declared.attributes.AttributeValue.{AttributeValue}
+use Rattle.dwarf_units.specs.declared.used_name.UsedName.{UsedName}
+use Rattle.dwarf_units.specs.declared.used_name.UsedName.TheVariants.{Name, LinkageName, LowPc}
+use Rattle.dwarf_units.specs.declared.used_name.UsedName.TheVariants.{AbstractOrigin, HighPc}
+use Rattle.dwarf_units.specs.declared.used_name.UsedName.TheVariants.{Specification, Ranges}
+use Rattle.dwarf_units.specs.declared.used_name.UsedName.TheVariants.{CallFile, CallLine}
+use Rattle.dwarf_units.specs.declared.used_name.UsedName.TheVariants.{StmtList, StrOffsetsBase}
+use Rattle.dwarf_units.specs.declared.used_name.UsedName.TheVariants.{AddrBase, RnglistsBase}
+use Rattle.dwarf_units.specs.Entries.{value_of}
+use Rattle.dwarf_units.specs.Private.Plans.{kept_attributes_at}
+
+-- the number of a name
+abbrev pub name_of : UsedName → ℕ
+name_of Name = DW_AT_NAME
+name_of LinkageName = DW_AT_LINKAGE_NAME
+name_of AbstractOrigin = DW_AT_ABSTRACT_ORIGIN
+name_of Specification = DW_AT_SPECIFICATION
+name_of LowPc = DW_AT_LOW_PC
+name_of HighPc = DW_AT_HIGH_PC
+name_of Ranges = DW_AT_RANGES
+name_of CallFile = DW_AT_CALL_FILE
+name_of CallLine = DW_AT_CALL_LINE
+name_of StmtList = DW_AT_STMT_LIST
+name_of StrOffsetsBase = DW_AT_STR_OFFSETS_BASE
+name_of AddrBase = DW_AT_ADDR_BASE
+name_of RnglistsBase = DW_AT_RNGLISTS_BASE
+
+abbrev pub used_names : List UsedName
+used_names = Name ∷ LinkageName ∷ AbstractOrigin ∷ Specification ∷ LowPc ∷ HighPc ∷ Ranges
+    ∷ CallFile ∷ CallLine ∷ StmtList ∷ StrOffsetsBase ∷ AddrBase ∷ RnglistsBase ∷ []
+
+-- the name of a number, if it is used
+abbrev pub used_name : ℕ → Option UsedName
+used_name number = find (λ name. name_of name == number) used_names
+
+-- a value for each name that an entry has
+pub record Used : Type 0 where
+  pub name : Option AttributeValue
+  pub linkage_name : Option AttributeValue
+  pub abstract_origin : Option AttributeValue
+  pub specification : Option AttributeValue
+  pub low_pc : Option AttributeValue
+  pub high_pc : Option AttributeValue
+  pub ranges : Option AttributeValue
+  pub call_file : Option AttributeValue
+  pub call_line : Option AttributeValue
+  pub stmt_list : Option AttributeValue
+  pub str_offsets_base : Option AttributeValue
+  pub addr_base : Option AttributeValue
+  pub rnglists_base : Option AttributeValue
+
+abbrev pub value_under : UsedName → Used → Option AttributeValue
+value_under Name used = used.name
+value_under LinkageName used = used.linkage_name
+value_under AbstractOrigin used = used.abstract_origin
+value_under Specification used = used.specification
+value_under LowPc used = used.low_pc
+value_under HighPc used = used.high_pc
+value_under Ranges used = used.ranges
+value_under CallFile used = used.call_file
+value_under CallLine used = used.call_line
+value_under StmtList used = used.stmt_list
+value_under StrOffsetsBase used = used.str_offsets_base
+value_under AddrBase used = used.addr_base
+value_under RnglistsBase used = used.rnglists_base
+
+-- .. as each name has it
+abbrev pub used_by : (UsedName → Option AttributeValue) → Used
+used_by value = record {
+  name = value Name;
+  linkage_name = value LinkageName;
+  abstract_origin = value AbstractOrigin;
+  specification = value Specification;
+  low_pc = value LowPc;
+  high_pc = value HighPc;
+  ranges = value Ranges;
+  call_file = value CallFile;
+  call_line = value CallLine;
+  stmt_list = value StmtList;
+  str_offsets_base = value StrOffsetsBase;
+  addr_base = value AddrBase;
+  rnglists_base = value RnglistsBase;
+}
+
+-- those among some attributes
+abbrev pub used_among : List Attribute → Used
+used_among attributes = used_by (λ name. value_of attributes (name_of name))
+
+-- those that stand in front, and else those among some attributes
+unfoldable pub with_used : Used → List Attribute → Used
+with_used front attributes =
+    used_by (λ name. option_or (value_under name front) (value_of attributes (name_of name)))
+
+-- what is used already, and what a read keeps behind it
+abbrev pub used_behind : Used → Result (List Attribute × ℕ) Cause → Result (Used × ℕ) Cause
+used_behind front (Ok rest) = Ok (with_used front rest.0, rest.1)
+used_behind front (Err cause) = Err cause
+
+-- those of a declaration from a place on, if they are kept, and the place after all attributes
+abbrev pub used_attributes_at : Bool → Format → List AttributeSpecification → List ℕ → ℕ
+    → Result (Used × ℕ) Cause
+used_attributes_at keep format declared bytes at = kept_attributes_at keep format declared bytes at
+    >>= λ kept. Ok (used_among kept.0, kept.1)

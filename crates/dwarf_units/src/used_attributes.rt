@@ -1,0 +1,175 @@
+//! The used attributes of an entry, each by its name (DWARF 5, 2.2).
+
+ghost use Rattle.std.specs.Prelude.{◌≡◌, ◌∷◌, []};
+ghost use Rattle.dwarf_units.specs.Private.Used.{used_among, value_under, with_used};
+
+use crate::attributes::{Attribute, AttributeValue};
+use crate::used_name::UsedName;
+use std::marker::Model;
+
+/// The values of the used attributes of an entry. Of two with one name it is the first.
+#[derive(Drop)]
+pub struct UsedAttributes {
+    /// Whether there is a value of each name.
+    has: [bool; 13],
+    /// The values, each of which counts if there is one.
+    values: [AttributeValue; 13],
+}
+
+impl Model for UsedAttributes {
+    ghost use Rattle.dwarf_units.specs.Private.Slots.{in_slots};
+    ghost use Rattle.dwarf_units.specs.Private.Used.{Used};
+
+    ghost Value = { Used };
+
+    ghost view = { λ u. in_slots u.has u.values };
+}
+
+impl UsedAttributes {
+    /// Of an entry without used attributes.
+    pub fn none() -> UsedAttributes
+        ensures { result ≡ used_among [] }
+    {
+        let value = AttributeValue { form: 0, number: 0 };
+        UsedAttributes {
+            has: [false; 13],
+            values: [value; 13],
+        }
+    }
+
+    /// Forgets all of them.
+    #[inline(always)]
+    pub(crate) fn clear(&mut self)
+        ensures { self.new ≡ used_among [] }
+    {
+        self.has = [false; 13];
+    }
+
+    /// Takes an attribute that stands behind those so far.
+    #[inline(always)]
+    pub(crate) fn add(&mut self, attribute: Attribute)
+        ensures { self.new ≡ with_used self.old (attribute ∷ []) }
+    {
+        let Some(name) = UsedName::of(attribute.name) else {
+            return;
+        };
+        let slot = name.slot();
+        if !self.has[slot] {
+            self.has[slot] = true;
+            self.values[slot] = attribute.value;
+        }
+    }
+
+    /// The value of a name.
+    #[inline(always)]
+    fn under(&self, name: UsedName) -> Option<AttributeValue>
+        ensures { result ≡ value_under name self.now }
+    {
+        let slot = name.slot();
+        self.has[slot].then_some(self.values[slot])
+    }
+
+    /// The value of DW_AT_name.
+    #[inline(always)]
+    pub fn name(&self) -> Option<AttributeValue>
+        ensures { result ≡ self.now.name }
+    {
+        self.under(UsedName::Name)
+    }
+
+    /// The value of DW_AT_linkage_name.
+    #[inline(always)]
+    pub fn linkage_name(&self) -> Option<AttributeValue>
+        ensures { result ≡ self.now.linkage_name }
+    {
+        self.under(UsedName::LinkageName)
+    }
+
+    /// The value of DW_AT_abstract_origin.
+    #[inline(always)]
+    pub fn abstract_origin(&self) -> Option<AttributeValue>
+        ensures { result ≡ self.now.abstract_origin }
+    {
+        self.under(UsedName::AbstractOrigin)
+    }
+
+    /// The value of DW_AT_specification.
+    #[inline(always)]
+    pub fn specification(&self) -> Option<AttributeValue>
+        ensures { result ≡ self.now.specification }
+    {
+        self.under(UsedName::Specification)
+    }
+
+    /// The value of DW_AT_low_pc.
+    #[inline(always)]
+    pub fn low_pc(&self) -> Option<AttributeValue>
+        ensures { result ≡ self.now.low_pc }
+    {
+        self.under(UsedName::LowPc)
+    }
+
+    /// The value of DW_AT_high_pc.
+    #[inline(always)]
+    pub fn high_pc(&self) -> Option<AttributeValue>
+        ensures { result ≡ self.now.high_pc }
+    {
+        self.under(UsedName::HighPc)
+    }
+
+    /// The value of DW_AT_ranges.
+    #[inline(always)]
+    pub fn ranges(&self) -> Option<AttributeValue>
+        ensures { result ≡ self.now.ranges }
+    {
+        self.under(UsedName::Ranges)
+    }
+
+    /// The value of DW_AT_call_file.
+    #[inline(always)]
+    pub fn call_file(&self) -> Option<AttributeValue>
+        ensures { result ≡ self.now.call_file }
+    {
+        self.under(UsedName::CallFile)
+    }
+
+    /// The value of DW_AT_call_line.
+    #[inline(always)]
+    pub fn call_line(&self) -> Option<AttributeValue>
+        ensures { result ≡ self.now.call_line }
+    {
+        self.under(UsedName::CallLine)
+    }
+
+    /// The value of DW_AT_stmt_list.
+    #[inline(always)]
+    pub fn stmt_list(&self) -> Option<AttributeValue>
+        ensures { result ≡ self.now.stmt_list }
+    {
+        self.under(UsedName::StmtList)
+    }
+
+    /// The value of DW_AT_str_offsets_base.
+    #[inline(always)]
+    pub fn str_offsets_base(&self) -> Option<AttributeValue>
+        ensures { result ≡ self.now.str_offsets_base }
+    {
+        self.under(UsedName::StrOffsetsBase)
+    }
+
+    /// The value of DW_AT_addr_base.
+    #[inline(always)]
+    pub fn addr_base(&self) -> Option<AttributeValue>
+        ensures { result ≡ self.now.addr_base }
+    {
+        self.under(UsedName::AddrBase)
+    }
+
+    /// The value of DW_AT_rnglists_base.
+    #[inline(always)]
+    pub fn rnglists_base(&self) -> Option<AttributeValue>
+        ensures { result ≡ self.now.rnglists_base }
+    {
+        self.under(UsedName::RnglistsBase)
+    }
+}

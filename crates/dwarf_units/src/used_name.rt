@@ -1,0 +1,59 @@
+//! The names of the attributes that are used (DWARF 5, 2.2 and 7.5.4).
+
+ghost use Rattle.std.specs.Prelude.{◌≡◌, ◌<◌};
+ghost use Rattle.dwarf_units.specs.Private.Slots.{slot_of};
+ghost use Rattle.dwarf_units.specs.Private.Used.{used_name};
+
+use dwarf_bytes::constants::*;
+
+/// The name of a used attribute.
+#[derive(Clone, Copy)]
+pub(crate) enum UsedName {
+    Name,
+    LinkageName,
+    AbstractOrigin,
+    Specification,
+    LowPc,
+    HighPc,
+    Ranges,
+    CallFile,
+    CallLine,
+    StmtList,
+    StrOffsetsBase,
+    AddrBase,
+    RnglistsBase,
+}
+
+impl UsedName {
+    /// The name of a number, if it is used.
+    #[inline(always)]
+    pub(crate) fn of(name: u64) -> Option<UsedName>
+        ensures { result ≡ used_name name }
+    {
+        match name {
+            DW_AT_NAME => Some(UsedName::Name),
+            DW_AT_LINKAGE_NAME => Some(UsedName::LinkageName),
+            DW_AT_ABSTRACT_ORIGIN => Some(UsedName::AbstractOrigin),
+            DW_AT_SPECIFICATION => Some(UsedName::Specification),
+            DW_AT_LOW_PC => Some(UsedName::LowPc),
+            DW_AT_HIGH_PC => Some(UsedName::HighPc),
+            DW_AT_RANGES => Some(UsedName::Ranges),
+            DW_AT_CALL_FILE => Some(UsedName::CallFile),
+            DW_AT_CALL_LINE => Some(UsedName::CallLine),
+            DW_AT_STMT_LIST => Some(UsedName::StmtList),
+            DW_AT_STR_OFFSETS_BASE => Some(UsedName::StrOffsetsBase),
+            DW_AT_ADDR_BASE => Some(UsedName::AddrBase),
+            DW_AT_RNGLISTS_BASE => Some(UsedName::RnglistsBase),
+            _ => None,
+        }
+    }
+
+    /// Its slot among those of all names.
+    #[inline(always)]
+    pub(crate) fn slot(self) -> usize
+        ensures slot { result ≡ slot_of self }
+        ensures bound { result < 13 }
+    {
+        self as usize
+    }
+}
