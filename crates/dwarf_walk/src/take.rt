@@ -14,12 +14,13 @@ use crate::packed::narrow;
 use crate::scope_kind::kind_of;
 use crate::walk::{OpenScope, Walk, end_scopes};
 use dwarf_bytes::{Cause, Cursor};
-use dwarf_units::{PlainHead, UnitTable};
+use dwarf_units::{PlainHead, UnitTable, UsedAttributes};
 use std::alloc::AllocError;
 
 impl Walk {
     /// Takes what stands at a place of a unit, and marks the place if it is an entry. Gives the
-    /// place after it. `found` is a buffer for attributes.
+    /// place after it. `found` is room for its
+    /// used attributes.
     #[inline(always)]
     pub(crate) fn take(
         &mut self,
