@@ -1,8 +1,10 @@
 //! Codes of declarations, in any order.
 
 use crate::fixtures::*;
+use crate::limits::three_bytes;
 use dwarf_bytes::Cause;
-use dwarf_entries::{Scope, ScopeKind};
+use dwarf_entries::{Scope, ScopeKind, Scopes};
+use std::alloc::{AllocError, Global};
 use std::process::Abort;
 use std::test::*;
 
@@ -27,11 +29,47 @@ fn codes_out_of_order(rt: HostRuntime) -> Result<(), Fail> {
         (15, ScopeKind::Subprogram),
         (17, ScopeKind::Subprogram),
     ];
-    are_equal(&rt, read.scopes().len(), 4);
-    for (scope, wanted) in read.scopes().iter().zip(wanted) {
-        is_scope(&rt, scope, wanted);
-    }
+    are_four(&rt, &read, wanted);
     Ok(())
+}
+
+/// The declarations of a unit with children, whose code is 1, and of subprograms and inlined
+/// subroutines in turn, whose codes count up from 2.
+fn kinds_in_turn(alloc: Global, last: u32) -> Result<Vec<u8>, AllocError> {
+    let mut table = Vec::new(alloc);
+    table.extend_from_slice(&[1, 0x11, 1, 0, 0])?;
+    for code in 2..=last {
+        let tag = if code % 2 == 0 { 0x2e } else { 0x1d };
+        table.extend_from_slice(&three_bytes(code))?;
+        table.extend_from_slice(&[tag, 0, 0, 0])?;
+    }
+    table.push(0)?;
+    Ok(table)
+}
+
+#[test]
+fn codes_of_one_byte_and_of_two(rt: HostRuntime) -> Result<(), Fail> {
+    let table = kinds_in_turn(rt.alloc(), 129)?;
+    // 12: unit, then entries at 13, 14, 15 and 17
+    let info = unit(rt.alloc(), &[1, 126, 127, 0x80, 1, 0x81, 1, 0])?;
+    let read = scopes_of(rt.alloc(), &sections(&info, &table))?;
+    are_equal(&rt, read.roots(), [root(12, 0, 4)].as_slice());
+    let wanted = [
+        (13, ScopeKind::Subprogram),
+        (14, ScopeKind::Inlined),
+        (15, ScopeKind::Subprogram),
+        (17, ScopeKind::Inlined),
+    ];
+    are_four(&rt, &read, wanted);
+    Ok(())
+}
+
+/// Checks the places and the kinds of four scopes, and that there are no more.
+fn are_four(rt: &impl Abort, read: &Scopes, wanted: [(usize, ScopeKind); 4]) {
+    are_equal(rt, read.scopes().len(), 4);
+    for (scope, wanted) in read.scopes().iter().zip(wanted) {
+        is_scope(rt, scope, wanted);
+    }
 }
 
 /// Checks the place and the kind of a scope.

@@ -113,3 +113,22 @@ fn cut_abbreviation_tables(rt: HostRuntime) -> Result<(), Fail> {
     }
     Ok(())
 }
+
+/// The declarations of a unit and of a block, both with children; the block has an attribute of a
+/// byte and one of two, which are not used.
+const BLOCKS: [u8; 15] = [
+    1, 0x11, 1, 0, 0, 2, 0x0b, 1, 0x0b, 0x0b, 0x38, 0x05, 0, 0, 0,
+];
+
+/// A block at 13 of each length, and one behind it of one byte fewer than it takes.
+#[test]
+fn cut_blocks(rt: HostRuntime) -> Result<(), Fail> {
+    is_bad_unit(&rt, &[1, 2], &BLOCKS, Cause::Short, 13)?;
+    is_bad_unit(&rt, &[1, 2, 0], &BLOCKS, Cause::Short, 13)?;
+    is_bad_unit(&rt, &[1, 2, 0, 0], &BLOCKS, Cause::Short, 13)?;
+    is_bad_unit(&rt, &[1, 2, 0, 0, 0], &BLOCKS, Cause::TreeOpen, 0)?;
+    is_bad_unit(&rt, &[1, 2, 0, 0, 0, 2, 0, 0], &BLOCKS, Cause::Short, 17)?;
+    let info = unit(rt.alloc(), &[1, 2, 0, 0, 0, 2, 0, 0, 0, 0, 0, 0])?;
+    has_fault(&rt, &sections(&info, &BLOCKS), None);
+    Ok(())
+}

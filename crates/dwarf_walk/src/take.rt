@@ -1,6 +1,7 @@
 //! Taking what stands at a place of a unit: nulls and plain entries at once, all else by a cursor.
 
-ghost use Rattle.std.specs.Prelude.{◌≡◌, ◌≤◌, ◌<◌, ℕ, List, [], ◌∷◌, length, true, Ok, is_some, OnOk};
+ghost use Rattle.std.specs.Prelude.{◌≡◌, ◌≤◌, ◌<◌, ℕ, List, [], ◌∷◌, length, true, Ok, OnOk};
+ghost use Rattle.std.specs.Prelude.{is_some};
 ghost use Rattle.dwarf_bytes.specs.Refusals.{Gives};
 ghost use Rattle.dwarf_units.specs.declared.attributes.Attribute.{Attribute as EntryAttribute};
 ghost use Rattle.dwarf_units.specs.Entries.{Node, Entry, depth_limit, node_behind};
