@@ -12,5 +12,6 @@ pub mod PlanTurns
 pub mod LinkLaws
 pub mod SharedTableLaws
 pub mod StoreLaws
+pub mod NameLaws
 pub mod UsedLaws
 pub mod SlotLaws

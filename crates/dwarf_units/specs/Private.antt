@@ -5,5 +5,6 @@ pub mod Heads
 pub mod Rising
 pub mod Numbers
 pub mod Tables
+pub mod Names
 pub mod Used
 pub mod Slots
