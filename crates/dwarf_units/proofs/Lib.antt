@@ -13,5 +13,6 @@ pub mod PlainEntries
 pub mod LinkLaws
 pub mod SharedTableLaws
 pub mod StoreLaws
+pub mod NameLaws
 pub mod UsedLaws
 pub mod SlotLaws

@@ -31,6 +31,9 @@ use Rattle.dwarf_units.specs.declared.steps.AttributeStep.{AttributeStep}
 use Rattle.dwarf_units.specs.declared.steps.AttributeStep.TheVariants.{Skip, Pass, Keep}
 use Rattle.dwarf_units.specs.Attributes.{is_used, accepts, is_negative, is_negative_count, number_of}
 use Rattle.dwarf_units.specs.Entries.{reading_value, is_direct, form_at, attribute_at, attributes_at}
+use Rattle.dwarf_units.specs.declared.used_name.UsedName.{UsedName}
+use Rattle.dwarf_units.specs.Private.Names.{name_of, used_name, under_name}
+use Rattle.dwarf_units.proofs.NameLaws.{found-number, used-some, used-none}
 use Rattle.dwarf_units.specs.Private.Plans.{kept_attributes, kept_attributes_at, layout_len, constant_len, fixed_len, known_layout, pass_of, step_of, step_before, steps_of, step_at, steps_at, kept_at, skip_limit, in_front}
 use Rattle.dwarf_units.proofs.EntryMoves.{attribute-stays}
 use Rattle.dwarf_units.proofs.PlainLaws.{never_count, not_indirect, direct_chain, none_behind, taken-is, passed-is}
@@ -203,31 +206,57 @@ skip-fixed n bytes at = reading-fixed (λ _. Unit {0}) n bytes at (block_at n by
 -- ---- what each step keeps
 
 -- what is kept behind bytes that are passed over, by whether they are there
-keep-within : (format : Format) (n : ℕ) (s : AttributeSpecification) (layout : Option ValueLayout) (bytes : List ℕ) (at : ℕ) → at + n ≤ length bytes →
-    step_at format (Keep n s layout) bytes at ≡ kept_at format s layout bytes (at + n)
-keep-within format n s layout bytes at le = by_read (reading (block_at n bytes at)) (skip-fixed n bytes at)
+keep-within : (format : Format) (n : ℕ) (name : UsedName) (s : AttributeSpecification) (layout : Option ValueLayout) (bytes : List ℕ) (at : ℕ) → at + n ≤ length bytes →
+    step_at format (Keep n name s layout) bytes at ≡ kept_at format name s layout bytes (at + n)
+keep-within format n name s layout bytes at le = by_read (reading (block_at n bytes at)) (skip-fixed n bytes at)
   where
-    by_read : (r : Result (List ℕ × ℕ) Cause) → ReadsFixed (λ _. Unit {0}) causes.Short n bytes at r → (r >>= λ block. kept_at format s layout bytes block.1) ≡ kept_at format s layout bytes (at + n)
-    by_read (Ok block) h = ap (λ (k : ℕ). kept_at format s layout bytes k) h.1
+    by_read : (r : Result (List ℕ × ℕ) Cause) → ReadsFixed (λ _. Unit {0}) causes.Short n bytes at r → (r >>= λ block. kept_at format name s layout bytes block.1) ≡ kept_at format name s layout bytes (at + n)
+    by_read (Ok block) h = ap (λ (k : ℕ). kept_at format name s layout bytes k) h.1
     by_read (Err e) h = absurd (omega (arith, h.1, le))
 
-keep-past : (format : Format) (n : ℕ) (s : AttributeSpecification) (layout : Option ValueLayout) (bytes : List ℕ) (at : ℕ) → length bytes < at + n →
-    step_at format (Keep n s layout) bytes at ≡ Err causes.Short
-keep-past format n s layout bytes at lt = by_read (reading (block_at n bytes at)) (skip-fixed n bytes at)
+keep-past : (format : Format) (n : ℕ) (name : UsedName) (s : AttributeSpecification) (layout : Option ValueLayout) (bytes : List ℕ) (at : ℕ) → length bytes < at + n →
+    step_at format (Keep n name s layout) bytes at ≡ Err causes.Short
+keep-past format n name s layout bytes at lt = by_read (reading (block_at n bytes at)) (skip-fixed n bytes at)
   where
-    by_read : (r : Result (List ℕ × ℕ) Cause) → ReadsFixed (λ _. Unit {0}) causes.Short n bytes at r → (r >>= λ block. kept_at format s layout bytes block.1) ≡ Err causes.Short
+    by_read : (r : Result (List ℕ × ℕ) Cause) → ReadsFixed (λ _. Unit {0}) causes.Short n bytes at r → (r >>= λ block. kept_at format name s layout bytes block.1) ≡ Err causes.Short
     by_read (Ok block) h = absurd (omega (arith, h.2, lt))
     by_read (Err e) h = ap (λ (c : Cause). Err c) h.0
 
-keep-here : (format : Format) (s : AttributeSpecification) (layout : Option ValueLayout) (bytes : List ℕ) (at : ℕ) → at ≤ length bytes →
-    step_at format (Keep 0 s layout) bytes at ≡ kept_at format s layout bytes at
-keep-here format s layout bytes at le =
+keep-here : (format : Format) (name : UsedName) (s : AttributeSpecification) (layout : Option ValueLayout) (bytes : List ℕ) (at : ℕ) → at ≤ length bytes →
+    step_at format (Keep 0 name s layout) bytes at ≡ kept_at format name s layout bytes at
+keep-here format name s layout bytes at le =
     let here : at + 0 ≡ at = omega arith in
-    keep-within format 0 s layout bytes at (omega (arith, le)) ∙ ap (λ (k : ℕ). kept_at format s layout bytes k) here
+    keep-within format 0 name s layout bytes at (omega (arith, le)) ∙ ap (λ (k : ℕ). kept_at format name s layout bytes k) here
+
+-- an attribute is of its own name
+own-name : (format : Format) (s : AttributeSpecification) (bytes : List ℕ) (at : ℕ) (a : Attribute × ℕ) → attribute_at format s bytes at ≡ Ok a → a.0.name ≡ s.name
+own-name format s bytes at a h =
+    let P : Type 0 = a.0.name ≡ s.name in
+    after_bind (form_at s.form bytes at) _ a h P (λ form form_is h1.
+    after_test (not (accepts s.name form.0)) causes.AttrForm _ a h1 P (λ allowed h2.
+    after_bind (reading_value (value_at form.0 format s.constant bytes form.1)) _ a h2 P (λ value value_is h3.
+    after_test (is_negative_count s.name value.0.content) causes.AttrForm _ a h3 P (λ count last.
+    sym (ap (λ (x : Attribute × ℕ). x.0.name) (same_ok (record { name = s.name; value = record { form = form.0; number = number_of value.0.content value.1 } }, value.1) a last))))))
+
+abbrev under_names : UsedName → Attribute × ℕ → Result (List Attribute × ℕ) Cause
+under_names name a = Ok (under_name name a.0.value ∷ [], a.1)
+
+abbrev alone : Attribute × ℕ → Result (List Attribute × ℕ) Cause
+alone a = Ok (a.0 ∷ [], a.1)
+
+under-own : (format : Format) (name : UsedName) (s : AttributeSpecification) (bytes : List ℕ) (at : ℕ) → s.name ≡ name_of name →
+    (attribute_at format s bytes at >>= under_names name) ≡ (attribute_at format s bytes at >>= alone)
+under-own format name s bytes at is = by_read (attribute_at format s bytes at) refl
+  where
+    by_read : (r : Result (Attribute × ℕ) Cause) → attribute_at format s bytes at ≡ r → (r >>= under_names name) ≡ (r >>= alone)
+    by_read (Ok a) h = let same : name_of name ≡ a.0.name = sym is ∙ sym (own-name format s bytes at a h) in
+        let under : ℕ → Result (List Attribute × ℕ) Cause = λ n. Ok (record { name = n; value = a.0.value } ∷ [], a.1) in
+        ap under same
+    by_read (Err e) h = refl
 
 step-is : (keep : Bool) (format : Format) (s : AttributeSpecification) (bytes : List ℕ) (at : ℕ) → at ≤ length bytes →
     step_at format (step_of keep format s) bytes at ≡ (attribute_at format s bytes at >>= λ a. Ok (cond (keep && is_used s.name) (a.0 ∷ []) [], a.1))
-step-is keep format s bytes at le = by_test (keep && is_used s.name)
+step-is keep format s bytes at le = by_keep keep
   where
     by_known : (layout : Option ValueLayout) → known_layout s ≡ layout → step_at format (Pass s layout) bytes at ≡ (attribute_at format s bytes at >>= λ a. Ok ([], a.1))
     by_known None is = refl
@@ -237,13 +266,17 @@ step-is keep format s bytes at le = by_test (keep && is_used s.name)
     by_len None is = by_known (known_layout s) refl
     by_len (Some n) is = sym (same-place (λ _. Unit {0}) (λ _. Unit {0}) n bytes at (attribute_at format s bytes at) (reading (block_at n bytes at)) (fixed-attribute format s n bytes at is le) (skip-fixed n bytes at))
 
-    by_layout : (layout : Option ValueLayout) → known_layout s ≡ layout → kept_at format s layout bytes at ≡ (attribute_at format s bytes at >>= λ a. Ok (a.0 ∷ [], a.1))
-    by_layout None is = refl
-    by_layout (Some layout) is = ap (λ (r : Result (Attribute × ℕ) Cause). r >>= λ a. Ok (a.0 ∷ [], a.1)) (taken-is format s layout bytes at is)
+    by_layout : (name : UsedName) → s.name ≡ name_of name → (layout : Option ValueLayout) → known_layout s ≡ layout → kept_at format name s layout bytes at ≡ (attribute_at format s bytes at >>= λ a. Ok (a.0 ∷ [], a.1))
+    by_layout name own None is = under-own format name s bytes at own
+    by_layout name own (Some layout) is = ap (λ (r : Result (Attribute × ℕ) Cause). r >>= under_names name) (taken-is format s layout bytes at is) ∙ under-own format name s bytes at own
 
-    by_test : (b : Bool) → step_at format (cond b (Keep 0 s (known_layout s)) (pass_of format s)) bytes at ≡ (attribute_at format s bytes at >>= λ a. Ok (cond b (a.0 ∷ []) [], a.1))
-    by_test true = keep-here format s (known_layout s) bytes at le ∙ by_layout (known_layout s) refl
-    by_test false = by_len (fixed_len format s) refl
+    by_name : (found : Option UsedName) → used_name s.name ≡ found → step_at format (option_map_or (λ name. Keep 0 name s (known_layout s)) found (pass_of format s)) bytes at ≡ (attribute_at format s bytes at >>= λ a. Ok (cond (is_used s.name) (a.0 ∷ []) [], a.1))
+    by_name (Some name) is = subst (λ (u : Bool). step_at format (Keep 0 name s (known_layout s)) bytes at ≡ (attribute_at format s bytes at >>= λ a. Ok (cond u (a.0 ∷ []) [], a.1))) (sym (used-some s.name name is)) (keep-here format name s (known_layout s) bytes at le ∙ by_layout name (found-number s.name name is) (known_layout s) refl)
+    by_name None is = subst (λ (u : Bool). step_at format (pass_of format s) bytes at ≡ (attribute_at format s bytes at >>= λ a. Ok (cond u (a.0 ∷ []) [], a.1))) (sym (used-none s.name is)) (by_len (fixed_len format s) refl)
+
+    by_keep : (k : Bool) → step_at format (step_of k format s) bytes at ≡ (attribute_at format s bytes at >>= λ a. Ok (cond (k && is_used s.name) (a.0 ∷ []) [], a.1))
+    by_keep true = by_name (used_name s.name) refl
+    by_keep false = by_len (fixed_len format s) refl
 
 -- ---- the steps of a declaration, one after another
 
@@ -285,19 +318,19 @@ joined-is format n m steps bytes at = by_both (cases_lt (length bytes) (at + (n 
         (sym (in_front-none (in_front [] (steps_at format steps bytes (at + n + m)))))
 
 -- .. and so is one that keeps what is behind the bytes
-joined-keep : (format : Format) (n m : ℕ) (s : AttributeSpecification) (layout : Option ValueLayout) (steps : List AttributeStep) (bytes : List ℕ) (at : ℕ) →
-    steps_at format (Keep (n + m) s layout ∷ steps) bytes at ≡ (step_at format (Skip n) bytes at >>= λ first. in_front first.0 (steps_at format (Keep m s layout ∷ steps) bytes first.1))
+joined-keep : (format : Format) (n m : ℕ) (name : UsedName) (s : AttributeSpecification) (layout : Option ValueLayout) (steps : List AttributeStep) (bytes : List ℕ) (at : ℕ) →
+    steps_at format (Keep (n + m) name s layout ∷ steps) bytes at ≡ (step_at format (Skip n) bytes at >>= λ first. in_front first.0 (steps_at format (Keep m name s layout ∷ steps) bytes first.1))
 unfolding steps_at
-joined-keep format n m s layout steps bytes at = by_both (cases_lt (length bytes) (at + (n + m))) (cases_lt (length bytes) (at + n))
+joined-keep format n m name s layout steps bytes at = by_both (cases_lt (length bytes) (at + (n + m))) (cases_lt (length bytes) (at + n))
   where
     by_both : (length bytes < at + (n + m)) ⊎ (at + (n + m) ≤ length bytes) → (length bytes < at + n) ⊎ (at + n ≤ length bytes) →
-        (step_at format (Keep (n + m) s layout) bytes at >>= λ first. in_front first.0 (steps_at format steps bytes first.1)) ≡ (step_at format (Skip n) bytes at >>= λ first. in_front first.0 (step_at format (Keep m s layout) bytes first.1 >>= λ first. in_front first.0 (steps_at format steps bytes first.1)))
-    by_both (inl lt) (inl short) = rw (keep-past format (n + m) s layout bytes at lt, skip-past format n bytes at short) refl
-    by_both (inl lt) (inr le) = rw (keep-past format (n + m) s layout bytes at lt, skip-within format n bytes at le, keep-past format m s layout bytes (at + n) (omega (arith, lt))) refl
+        (step_at format (Keep (n + m) name s layout) bytes at >>= λ first. in_front first.0 (steps_at format steps bytes first.1)) ≡ (step_at format (Skip n) bytes at >>= λ first. in_front first.0 (step_at format (Keep m name s layout) bytes first.1 >>= λ first. in_front first.0 (steps_at format steps bytes first.1)))
+    by_both (inl lt) (inl short) = rw (keep-past format (n + m) name s layout bytes at lt, skip-past format n bytes at short) refl
+    by_both (inl lt) (inr le) = rw (keep-past format (n + m) name s layout bytes at lt, skip-within format n bytes at le, keep-past format m name s layout bytes (at + n) (omega (arith, lt))) refl
     by_both (inr le) here =
         let place : at + (n + m) ≡ at + n + m = omega arith in
-        rw (keep-within format (n + m) s layout bytes at le, skip-within format n bytes at (omega (arith, le)), keep-within format m s layout bytes (at + n) (omega (arith, le)), place)
-        (sym (in_front-none (kept_at format s layout bytes (at + n + m) >>= λ first. in_front first.0 (steps_at format steps bytes first.1))))
+        rw (keep-within format (n + m) name s layout bytes at le, skip-within format n bytes at (omega (arith, le)), keep-within format m name s layout bytes (at + n) (omega (arith, le)), place)
+        (sym (in_front-none (kept_at format name s layout bytes (at + n + m) >>= λ first. in_front first.0 (steps_at format steps bytes first.1))))
 
 before-is : (format : Format) (step : AttributeStep) (steps : List AttributeStep) (bytes : List ℕ) (at : ℕ) → steps_at format (step_before step steps) bytes at ≡ (step_at format step bytes at >>= λ first. in_front first.0 (steps_at format steps bytes first.1))
 unfolding steps_at
@@ -308,13 +341,13 @@ before-is format (Skip n) (Skip m ∷ steps) bytes at = by_test (nat_le (n + m) 
     by_test true = joined-is format n m steps bytes at
     by_test false = refl
 before-is format (Skip n) (Pass t layout ∷ steps) bytes at = refl
-before-is format (Skip n) (Keep m t layout ∷ steps) bytes at = by_test (nat_le (n + m) skip_limit)
+before-is format (Skip n) (Keep m used t layout ∷ steps) bytes at = by_test (nat_le (n + m) skip_limit)
   where
-    by_test : (b : Bool) → steps_at format (option_map_or (λ both. both ∷ steps) (cond b (Some (Keep (n + m) t layout)) None) (Skip n ∷ Keep m t layout ∷ steps)) bytes at ≡ (step_at format (Skip n) bytes at >>= λ first. in_front first.0 (steps_at format (Keep m t layout ∷ steps) bytes first.1))
-    by_test true = joined-keep format n m t layout steps bytes at
+    by_test : (b : Bool) → steps_at format (option_map_or (λ both. both ∷ steps) (cond b (Some (Keep (n + m) used t layout)) None) (Skip n ∷ Keep m used t layout ∷ steps)) bytes at ≡ (step_at format (Skip n) bytes at >>= λ first. in_front first.0 (steps_at format (Keep m used t layout ∷ steps) bytes first.1))
+    by_test true = joined-keep format n m used t layout steps bytes at
     by_test false = refl
 before-is format (Pass s layout) (next ∷ steps) bytes at = refl
-before-is format (Keep n s layout) (next ∷ steps) bytes at = refl
+before-is format (Keep n used s layout) (next ∷ steps) bytes at = refl
 
 -- ---- the attributes that are kept
 

@@ -11,25 +11,12 @@ use Rattle.dwarf_units.specs.declared.used_name.UsedName.{UsedName}
 use Rattle.dwarf_units.specs.declared.used_name.UsedName.TheVariants.{Name, LinkageName, AbstractOrigin, Specification, LowPc, HighPc, Ranges, CallFile, CallLine, StmtList, StrOffsetsBase, AddrBase, RnglistsBase}
 use Rattle.dwarf_units.specs.Entries.{value_of}
 use Rattle.dwarf_units.specs.Private.Slots.{slot_of, in_slot, in_slots}
-use Rattle.dwarf_units.specs.Private.Used.{Used, name_of, used_names, used_name, value_under, with_used}
+use Rattle.dwarf_units.specs.Private.Names.{name_of, used_names, used_name}
+use Rattle.dwarf_units.specs.Private.Used.{Used, value_under, with_used}
+use Rattle.dwarf_units.proofs.NameLaws.{named, found-number}
 use Rattle.dwarf_units.proofs.UsedLaws.{or-none, under-by, by-under, same-by}
 
 -- ---- names, their numbers and their slots
-
-named : (name : UsedName) → used_name (name_of name) ≡ Some name
-named Name = refl
-named LinkageName = refl
-named AbstractOrigin = refl
-named Specification = refl
-named LowPc = refl
-named HighPc = refl
-named Ranges = refl
-named CallFile = refl
-named CallLine = refl
-named StmtList = refl
-named StrOffsetsBase = refl
-named AddrBase = refl
-named RnglistsBase = refl
 
 in-names : (name : UsedName) → get_or used_names (slot_of name) Name ≡ name
 in-names Name = refl
@@ -49,17 +36,6 @@ in-names RnglistsBase = refl
 same-name : (x y : UsedName) → slot_of x ≡ slot_of y → x ≡ y
 same-name x y same = sym (in-names x) ∙ (ap (λ slot. get_or used_names slot Name) same ∙ in-names y)
 
-found-holds : {X : Type 0} (p : X → Bool) (xs : List X) (x : X) → find p xs ≡ Some x → p x ≡ true
-found-holds p [] x is = cc
-found-holds p (y ∷ ys) x is = by_test (p y) refl is (found-holds p ys x)
-  where
-    by_test : (b : Bool) → p y ≡ b → (if b then Some y else find p ys) ≡ Some x → (find p ys ≡ Some x → p x ≡ true) → p x ≡ true
-    by_test true here found behind = let same : y ≡ x = cc in subst (λ z. p z ≡ true) same here
-    by_test false here found behind = behind found
-
-found-number : (number : ℕ) (name : UsedName) → used_name number ≡ Some name → number ≡ name_of name
-found-number number name is = sym (eqb-true (name_of name) number (found-holds (λ n. name_of n == number) used_names name is))
-
 -- ---- one attribute behind a value
 
 this : (a : Attribute) (name : ℕ) → a.name ≡ name → value_of (a ∷ []) name ≡ Some a.value
@@ -73,11 +49,6 @@ not-found a name x found not_there is =
     let at : used_name a.name ≡ Some x = ap used_name is ∙ named x in
     let same : x ≡ name = cc in
     not_there (ap slot_of same)
-
--- one of a name that is not used
-pub unused-is : (u : Used) (a : Attribute) → ((name : UsedName) → used_name a.name ≡ Some name → ⊥) → u ≡ with_used u (a ∷ [])
-unfolding with_used
-unused-is u a unused = sym (same-by _ _ (λ x. another a (name_of x) (value_under x u) (λ is. unused x (ap used_name is ∙ named x))) ∙ by-under u)
 
 -- ---- one of a used name, in its slot
 

@@ -8,7 +8,8 @@ use Rattle.dwarf_units.specs.declared.attributes.AttributeValue.{AttributeValue}
 use Rattle.dwarf_units.specs.declared.used_name.UsedName.{UsedName}
 use Rattle.dwarf_units.specs.declared.used_name.UsedName.TheVariants.{Name, LinkageName, AbstractOrigin, Specification, LowPc, HighPc, Ranges, CallFile, CallLine, StmtList, StrOffsetsBase, AddrBase, RnglistsBase}
 use Rattle.dwarf_units.specs.Entries.{value_of}
-use Rattle.dwarf_units.specs.Private.Used.{Used, name_of, value_under, used_by, used_among, with_used, used_behind}
+use Rattle.dwarf_units.specs.Private.Names.{name_of}
+use Rattle.dwarf_units.specs.Private.Used.{Used, value_under, used_by, used_among, with_used, used_behind}
 
 -- ---- the value of each name
 

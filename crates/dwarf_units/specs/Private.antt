@@ -6,5 +6,6 @@ pub mod Rising
 pub mod Numbers
 pub mod Tables
 pub mod PlainHeads
+pub mod Names
 pub mod Used
 pub mod Slots

@@ -13,6 +13,7 @@ ghost use Rattle.dwarf_bytes.specs.Refusals.{ReadsField};
 use crate::attributes::{Attribute, AttributeValue, number_of, read_attribute};
 use crate::steps::{AttributeStep, joined, step_of};
 use crate::used_attributes::UsedAttributes;
+use crate::used_name::UsedName;
 use dwarf_bytes::{Cause, Content, Cursor, Format, ValueLayout, Width};
 use dwarf_forms::{AbbreviationTable, AttributeSpecification};
 use std::alloc::{AllocError, Global};
@@ -115,9 +116,9 @@ pub(crate) fn read_step(
         AttributeStep::Pass(specification, layout) => {
             pass_attribute(format, specification, *layout, cursor)?;
         }
-        AttributeStep::Keep(before, specification, layout) => {
+        AttributeStep::Keep(before, name, specification, layout) => {
             cursor.block(u64::from(*before))?;
-            keep_attribute(format, specification, *layout, cursor, found)?;
+            keep_attribute(format, *name, specification, *layout, cursor, found)?;
         }
     }
     Ok(())
@@ -144,21 +145,25 @@ fn pass_attribute(
     Ok(())
 }
 
-/// Adds the attribute at the cursor to those found. It is judged where no layout is known.
+/// Adds the attribute of a name at the cursor to those found. It is judged where no layout is known.
 #[inline(always)]
 fn keep_attribute(
     format: Format,
+    name: UsedName,
     specification: &AttributeSpecification,
     layout: Option<ValueLayout>,
     cursor: &mut Cursor,
     found: &mut UsedAttributes,
 ) -> Result<(), Cause>
     ensures { Fills result found.new (λ bytes at. used_behind found.old
-        (kept_at format specification.now layout bytes at)) cursor.old cursor.new }
+        (kept_at format name specification.now layout bytes at)) cursor.old cursor.new }
 {
     match layout {
-        None => found.add(read_attribute(format, specification, cursor)?),
-        Some(layout) => found.add(take_attribute(format, specification, layout, cursor)?),
+        None => found.add(name, read_attribute(format, specification, cursor)?.value),
+        Some(layout) => found.add(
+            name,
+            take_attribute(format, specification, layout, cursor)?.value,
+        ),
     }
     Ok(())
 }

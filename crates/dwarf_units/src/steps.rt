@@ -6,6 +6,7 @@ ghost use Rattle.dwarf_units.specs.Private.Plans.{layout_len, constant_len, fixe
 ghost use Rattle.dwarf_units.specs.Private.Plans.{joined, is_plain, known_layout};
 
 use crate::attributes::{accepts, is_negative_count, is_used};
+use crate::used_name::UsedName;
 use dwarf_bytes::{Content, Form, Format, ValueLayout, Width};
 use dwarf_forms::AttributeSpecification;
 
@@ -17,9 +18,9 @@ pub(crate) enum AttributeStep {
     /// An attribute is read and not kept. It is judged, unless a layout is known in which none of
     /// its values is refused.
     Pass(AttributeSpecification, Option<ValueLayout>),
-    /// So many bytes are passed over, and the attribute behind them is read and kept. It is judged,
-    /// unless such a layout is known.
-    Keep(u16, AttributeSpecification, Option<ValueLayout>),
+    /// So many bytes are passed over, and the attribute behind them is read and kept under its name.
+    /// It is judged, unless such a layout is known.
+    Keep(u16, UsedName, AttributeSpecification, Option<ValueLayout>),
 }
 
 /// One step in place of two, where the first passes over bytes and the other begins so.
@@ -31,9 +32,9 @@ pub(crate) fn joined(step: AttributeStep, next: AttributeStep) -> Option<Attribu
             let both = len.checked_add(behind)?;
             Some(AttributeStep::Skip(both))
         }
-        (AttributeStep::Skip(len), AttributeStep::Keep(behind, specification, layout)) => {
+        (AttributeStep::Skip(len), AttributeStep::Keep(behind, name, specification, layout)) => {
             let both = len.checked_add(behind)?;
-            Some(AttributeStep::Keep(both, specification, layout))
+            Some(AttributeStep::Keep(both, name, specification, layout))
         }
         _ => None,
     }
@@ -47,8 +48,10 @@ pub(crate) fn step_of(
 ) -> AttributeStep
     ensures { result ≡ step_of keep format specification.now }
 {
-    if keep && is_used(specification.name) {
-        return AttributeStep::Keep(0, *specification, known_layout(specification));
+    if keep {
+        if let Some(name) = UsedName::of(specification.name) {
+            return AttributeStep::Keep(0, name, *specification, known_layout(specification));
+        }
     }
     match fixed_len(format, specification) {
         Some(len) => AttributeStep::Skip(len),

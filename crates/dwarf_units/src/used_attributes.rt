@@ -1,9 +1,10 @@
 //! The used attributes of an entry, each by its name (DWARF 5, 2.2).
 
 ghost use Rattle.std.specs.Prelude.{◌≡◌, ◌∷◌, []};
+ghost use Rattle.dwarf_units.specs.Private.Names.{under_name};
 ghost use Rattle.dwarf_units.specs.Private.Used.{used_among, value_under, with_used};
 
-use crate::attributes::{Attribute, AttributeValue};
+use crate::attributes::AttributeValue;
 use crate::used_name::UsedName;
 use std::marker::Model;
 
@@ -45,18 +46,15 @@ impl UsedAttributes {
         self.has = [false; 13];
     }
 
-    /// Takes an attribute that stands behind those so far.
+    /// Takes the attribute of a name, which stands behind those so far.
     #[inline(always)]
-    pub(crate) fn add(&mut self, attribute: Attribute)
-        ensures { self.new ≡ with_used self.old (attribute ∷ []) }
+    pub(crate) fn add(&mut self, name: UsedName, value: AttributeValue)
+        ensures { self.new ≡ with_used self.old (under_name name value ∷ []) }
     {
-        let Some(name) = UsedName::of(attribute.name) else {
-            return;
-        };
         let slot = name.slot();
         if !self.has[slot] {
             self.has[slot] = true;
-            self.values[slot] = attribute.value;
+            self.values[slot] = value;
         }
     }
 

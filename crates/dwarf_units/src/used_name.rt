@@ -2,7 +2,7 @@
 
 ghost use Rattle.std.specs.Prelude.{◌≡◌, ◌<◌};
 ghost use Rattle.dwarf_units.specs.Private.Slots.{slot_of};
-ghost use Rattle.dwarf_units.specs.Private.Used.{used_name};
+ghost use Rattle.dwarf_units.specs.Private.Names.{used_name};
 
 use dwarf_bytes::constants::*;
 

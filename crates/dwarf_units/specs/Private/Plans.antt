@@ -23,6 +23,8 @@ use Rattle.dwarf_forms.specs.declared.shared.TheConstants.{UNSHARED}
 use Rattle.dwarf_forms.specs.Declarations.{Declaration}
 use Rattle.dwarf_units.specs.declared.attributes.Attribute.{Attribute}
 use Rattle.dwarf_units.specs.declared.steps.AttributeStep.{AttributeStep}
+use Rattle.dwarf_units.specs.declared.used_name.UsedName.{UsedName}
+use Rattle.dwarf_units.specs.Private.Names.{under_name, used_name}
 use Rattle.dwarf_units.specs.declared.steps.AttributeStep.TheVariants.{Skip, Pass, Keep}
 use Rattle.dwarf_units.specs.Attributes.{is_used, accepts, is_negative_count, number_of}
 use Rattle.dwarf_units.specs.Entries.{attribute_at, attributes_at}
@@ -93,7 +95,9 @@ abbrev pub pass_of : Format → AttributeSpecification → AttributeStep
 pass_of format s = option_map_or (λ n. Skip n) (fixed_len format s) (Pass s (known_layout s))
 
 abbrev pub step_of : Bool → Format → AttributeSpecification → AttributeStep
-step_of keep format s = if keep && is_used s.name then Keep 0 s (known_layout s) else pass_of format s
+step_of keep format s = if keep
+    then option_map_or (λ name. Keep 0 name s (known_layout s)) (used_name s.name) (pass_of format s)
+    else pass_of format s
 
 -- the most bytes of one step
 abbrev pub skip_limit : ℕ
@@ -103,10 +107,10 @@ skip_limit = 65535
 abbrev pub joined : AttributeStep → AttributeStep → Option AttributeStep
 joined (Skip n) (Skip m) = if nat_le (n + m) skip_limit then Some (Skip (n + m)) else None
 joined (Skip n) (Pass t layout) = None
-joined (Skip n) (Keep m t layout) =
-    if nat_le (n + m) skip_limit then Some (Keep (n + m) t layout) else None
+joined (Skip n) (Keep m used t layout) =
+    if nat_le (n + m) skip_limit then Some (Keep (n + m) used t layout) else None
 joined (Pass s layout) next = None
-joined (Keep n s layout) next = None
+joined (Keep n used s layout) next = None
 
 -- a step in front of others
 abbrev pub step_before : AttributeStep → List AttributeStep → List AttributeStep
@@ -131,12 +135,13 @@ taken_at format s layout bytes at = reading (content_at layout format bytes at)
       c.1,
     )
 
--- the attribute at a place alone, and the place after it
-abbrev pub kept_at : Format → AttributeSpecification → Option ValueLayout → List ℕ → ℕ
+-- the attribute of a name at a place alone, and the place after it
+abbrev pub kept_at : Format → UsedName → AttributeSpecification → Option ValueLayout → List ℕ → ℕ
     → Result (List Attribute × ℕ) Cause
-kept_at format s (Some layout) bytes at =
-    taken_at format s layout bytes at >>= λ a. Ok (a.0 ∷ [], a.1)
-kept_at format s None bytes at = attribute_at format s bytes at >>= λ a. Ok (a.0 ∷ [], a.1)
+kept_at format name s (Some layout) bytes at =
+    taken_at format s layout bytes at >>= λ a. Ok (under_name name a.0.value ∷ [], a.1)
+kept_at format name s None bytes at =
+    attribute_at format s bytes at >>= λ a. Ok (under_name name a.0.value ∷ [], a.1)
 
 -- what a step keeps, and the place after it
 abbrev pub step_at : Format → AttributeStep → List ℕ → ℕ → Result (List Attribute × ℕ) Cause
@@ -144,8 +149,8 @@ step_at format (Skip n) bytes at = reading (block_at n bytes at) >>= λ block. O
 step_at format (Pass s (Some layout)) bytes at =
     reading (content_at layout format bytes at) >>= λ c. Ok ([], c.1)
 step_at format (Pass s None) bytes at = attribute_at format s bytes at >>= λ a. Ok ([], a.1)
-step_at format (Keep n s layout) bytes at =
-    reading (block_at n bytes at) >>= λ block. kept_at format s layout bytes block.1
+step_at format (Keep n used s layout) bytes at =
+    reading (block_at n bytes at) >>= λ block. kept_at format used s layout bytes block.1
 
 -- what is kept already, and what a read keeps behind it
 abbrev pub in_front : {X : Type 0} → List X → Result (List X × ℕ) Cause → Result (List X × ℕ) Cause

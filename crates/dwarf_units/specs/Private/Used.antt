@@ -1,21 +1,6 @@
 -- The used attributes of an entry by their names (DWARF 5, 2.2), of two with one name the first.
-use Rattle.std.specs.Prelude.{ℕ, List, [], ◌∷◌, Bool, Option, Result, Ok, Err, ◌==◌, find}
+use Rattle.std.specs.Prelude.{ℕ, List, Bool, Option, Result, Ok, Err}
 use Rattle.std.specs.Option.{option_or}
-use Rattle.dwarf_bytes.specs.declared.constants.TheConstants.{
-  DW_AT_ABSTRACT_ORIGIN,
-  DW_AT_ADDR_BASE,
-  DW_AT_CALL_FILE,
-  DW_AT_CALL_LINE,
-  DW_AT_HIGH_PC,
-  DW_AT_LINKAGE_NAME,
-  DW_AT_LOW_PC,
-  DW_AT_NAME,
-  DW_AT_RANGES,
-  DW_AT_RNGLISTS_BASE,
-  DW_AT_SPECIFICATION,
-  DW_AT_STMT_LIST,
-  DW_AT_STR_OFFSETS_BASE,
-}
 use Rattle.dwarf_bytes.specs.declared.fault.Cause.{Cause}
 use Rattle.dwarf_bytes.specs.declared.format.Format.{Format}
 use Rattle.dwarf_bytes.specs.Bind.{◌>>=◌}
@@ -30,31 +15,8 @@ use Rattle.dwarf_units.specs.declared.used_name.UsedName.TheVariants.{CallFile, 
 use Rattle.dwarf_units.specs.declared.used_name.UsedName.TheVariants.{StmtList, StrOffsetsBase}
 use Rattle.dwarf_units.specs.declared.used_name.UsedName.TheVariants.{AddrBase, RnglistsBase}
 use Rattle.dwarf_units.specs.Entries.{value_of}
+use Rattle.dwarf_units.specs.Private.Names.{name_of}
 use Rattle.dwarf_units.specs.Private.Plans.{kept_attributes_at}
-
--- the number of a name
-abbrev pub name_of : UsedName → ℕ
-name_of Name = DW_AT_NAME
-name_of LinkageName = DW_AT_LINKAGE_NAME
-name_of AbstractOrigin = DW_AT_ABSTRACT_ORIGIN
-name_of Specification = DW_AT_SPECIFICATION
-name_of LowPc = DW_AT_LOW_PC
-name_of HighPc = DW_AT_HIGH_PC
-name_of Ranges = DW_AT_RANGES
-name_of CallFile = DW_AT_CALL_FILE
-name_of CallLine = DW_AT_CALL_LINE
-name_of StmtList = DW_AT_STMT_LIST
-name_of StrOffsetsBase = DW_AT_STR_OFFSETS_BASE
-name_of AddrBase = DW_AT_ADDR_BASE
-name_of RnglistsBase = DW_AT_RNGLISTS_BASE
-
-abbrev pub used_names : List UsedName
-used_names = Name ∷ LinkageName ∷ AbstractOrigin ∷ Specification ∷ LowPc ∷ HighPc ∷ Ranges
-    ∷ CallFile ∷ CallLine ∷ StmtList ∷ StrOffsetsBase ∷ AddrBase ∷ RnglistsBase ∷ []
-
--- the name of a number, if it is used
-abbrev pub used_name : ℕ → Option UsedName
-used_name number = find (λ name. name_of name == number) used_names
 
 -- a value for each name that an entry has
 pub record Used : Type 0 where
