@@ -1,5 +1,5 @@
 -- The names to which references lead: what is known of them, and what a path has by them.
-use Rattle.std.proofs.Common.{◌≡◌, ℕ, suc, inl, inr, List, ◌∷◌, Bool, true, false, ◌==◌, refl, sym, ap, ◌∙◌, subst, arith}
+use Rattle.std.proofs.Common.{◌≡◌, ℕ, suc, inl, inr, List, ◌∷◌, Bool, true, false, ◌==◌, ◌&&◌, refl, sym, ap, ◌∙◌, subst, arith}
 use Rattle.std.specs.Prelude.{Option, Some, None, Result, Ok, Err, option_map, if◌then◌else◌}
 use Rattle.std.proofs.lemmas.Option.{same_Some}
 use Rattle.dwarf_bytes.specs.declared.constants.TheConstants.{DW_AT_LINKAGE_NAME, DW_AT_NAME}
@@ -11,39 +11,39 @@ use Rattle.dwarf_units.specs.declared.attributes.AttributeValue.{AttributeValue}
 use Rattle.dwarf_units.specs.Entries.{attribute}
 use Rattle.dwarf_walk.specs.declared.kept.NamedEntry.{NamedEntry}
 use Rattle.dwarf_entries.specs.declared.known_names.KnownNames.{KnownNames}
-use Rattle.dwarf_entries.specs.declared.known_names.LedNames.{LedNames}
 use Rattle.dwarf_entries.specs.declared.paths.EntryNames.{EntryNames}
 use Rattle.dwarf_entries.specs.declared.references.UnitPlace.{UnitPlace}
 use Rattle.dwarf_walk.specs.Sections.{Sections}
 use Rattle.dwarf_entries.specs.Bases.{CompilationUnit, optional}
 use Rattle.dwarf_entries.specs.Names.{Member, target_of, path_within, first_on, text_of, name_on, names_of, hops_limit}
 use Rattle.dwarf_walk.specs.References.{or_else, next_of}
-use Rattle.dwarf_entries.specs.Private.KnownNames.{slot_of, slot_at, led_names, names_behind, AreKnownOf}
+use Rattle.dwarf_entries.specs.Private.KnownNames.{Led, slot_of, slot_at, led_names, names_behind, AreKnownOf}
 use Rattle.dwarf_entries.specs.Private.Members.{IsMember, LeadsTo, member_in}
+use Rattle.dwarf_entries.specs.Private.Narrow.{are_narrow}
 use Rattle.dwarf_entries.proofs.PathLaws.{both_names, in_front, stepped}
 
 -- ---- what is known
 
-abbrev led_by : UnitPlace → EntryNames → LedNames
+abbrev led_by : UnitPlace → EntryNames → Led
 led_by place names = record { place = place; names = names }
 
 pub known-none : (s : Sections) (units : List CompilationUnit) (known : KnownNames) → ((slot : ℕ) → slot_at known slot ≡ None) → AreKnownOf s units known
 known-none s units known none slot led is = absurd (never (sym is ∙ none slot))
   where
-    never : (let f : LedNames → Option LedNames = λ z. Some z in f led) ≡ None → ⊥
+    never : (let f : Led → Option Led = λ z. Some z in f led) ≡ None → ⊥
     never h = cc
 
 -- with the names of one place more, where an entry stands
 pub known-more : (s : Sections) (units : List CompilationUnit) (old new : KnownNames) (place : UnitPlace) (names : EntryNames) → AreKnownOf s units old →
-    ((slot : ℕ) → slot_at new slot ≡ if slot == slot_of place then Some (led_by place names) else slot_at old slot) →
+    ((slot : ℕ) → slot_at new slot ≡ if (slot == slot_of place) && are_narrow place names then Some (led_by place names) else slot_at old slot) →
     (m : Member) → member_in units place.unit place.offset ≡ Ok m → led_names s units m ≡ Ok names → AreKnownOf s units new
-known-more s units old new place names knew put m there led_is slot led is = by_test (slot == slot_of place) (sym (put slot) ∙ is)
+known-more s units old new place names knew put m there led_is slot led is = by_test ((slot == slot_of place) && are_narrow place names) (sym (put slot) ∙ is)
   where
-    by_test : (here : Bool) → (let o : Option LedNames = if here then Some (led_by place names) else slot_at old slot in o ≡ Some led) →
+    by_test : (here : Bool) → (let o : Option Led = if here then Some (led_by place names) else slot_at old slot in o ≡ Some led) →
         (m : Member) × (member_in units led.place.unit led.place.offset ≡ Ok m) × (led_names s units m ≡ Ok led.names)
     by_test true h =
         let same : led_by place names ≡ led = same_Some (led_by place names) led h in
-        subst (λ (l : LedNames). (m : Member) × (member_in units l.place.unit l.place.offset ≡ Ok m) × (led_names s units m ≡ Ok l.names)) same (m, there, led_is)
+        subst (λ (l : Led). (m : Member) × (member_in units l.place.unit l.place.offset ≡ Ok m) × (led_names s units m ≡ Ok l.names)) same (m, there, led_is)
     by_test false h = knew slot led h
 
 -- ---- the names of an entry without names of its own

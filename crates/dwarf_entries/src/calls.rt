@@ -83,7 +83,8 @@ impl CallSite {
     }
 }
 
-fn narrow_number(number: u64) -> Option<u32>
+/// A number of no more than 32 bits.
+pub(crate) fn narrow_number(number: u64) -> Option<u32>
     ensures { SomeIff result (number < 2 ^ 32) number }
 {
     match u32::try_from(number) {

@@ -1,23 +1,62 @@
 //! The names to which references led, so that the path behind an entry is followed once for many
 //! references to it.
 
-ghost use Rattle.std.specs.Prelude.{◌≡◌, ◌==◌, ℕ, ◌<◌, length, None, Some};
-ghost use Rattle.std.specs.Prelude.{IfSome, OnOk, OnErr, if◌then◌else◌};
+ghost use Rattle.std.specs.Prelude.{◌≡◌, ◌==◌, ◌&&◌, ℕ, ◌<◌, length, None, Some, true, false};
+ghost use Rattle.std.specs.Prelude.{IfSome, OnOk, OnErr, MatchOption, if◌then◌else◌};
 ghost use Rattle.dwarf_entries.specs.declared.paths.EntryNames.{EntryNames as Names};
-ghost use Rattle.dwarf_entries.specs.Private.KnownNames.{slot_at, slot_of};
+ghost use Rattle.dwarf_entries.specs.Private.KnownNames.{led_of, slot_at, slot_of};
+ghost use Rattle.dwarf_entries.specs.Private.Narrow.{are_narrow};
 
+use crate::calls::narrow_number;
 use crate::paths::EntryNames;
 use crate::references::UnitPlace;
+use crate::text_offset::{text_by, text_parts};
+use dwarf_bytes::Section;
 use std::alloc::{AllocError, Global};
 
 /// How many places the names are known of, at most.
 const SLOTS: usize = 4096;
 
-/// Where an entry stands, and the names to which a reference to it leads.
+/// Where an entry stands, and the names to which a reference to it leads, in few bytes.
 #[derive(Clone, Copy)]
 pub(crate) struct LedNames {
-    place: UnitPlace,
-    names: EntryNames,
+    unit: u32,
+    offset: u32,
+    name_offset: u32,
+    linkage_name_offset: u32,
+    name_section: Option<Section>,
+    linkage_name_section: Option<Section>,
+}
+
+impl LedNames {
+    /// If no number has more than 32 bits.
+    fn of(place: UnitPlace, names: EntryNames) -> Option<LedNames>
+        ensures { MatchOption result (are_narrow place names ≡ false)
+            (λ led. (are_narrow place names ≡ true)
+            × (led_of led ≡ record { place = place; names = names })) }
+    {
+        let unit = narrow_number(place.unit as u64)?;
+        let offset = narrow_number(place.offset as u64)?;
+        let (name_section, name_offset) = text_parts(names.name)?;
+        let (linkage_name_section, linkage_name_offset) = text_parts(names.linkage_name)?;
+        Some(LedNames {
+            unit,
+            offset,
+            name_offset,
+            linkage_name_offset,
+            name_section,
+            linkage_name_section,
+        })
+    }
+
+    fn names(&self) -> EntryNames
+        ensures { result ≡ (led_of self.now).names }
+    {
+        EntryNames {
+            name: text_by(self.name_section, self.name_offset),
+            linkage_name: text_by(self.linkage_name_section, self.linkage_name_offset),
+        }
+    }
 }
 
 /// The names to which references led, each at a slot by the place of its entry. What is put at a
@@ -44,21 +83,26 @@ impl KnownNames {
             ≡ Some (record { place = place; names = names }) → result ≡ Some names }
     {
         let led = self.slots.get(place.offset % SLOTS)?.as_ref()?;
-        if led.place.unit == place.unit && led.place.offset == place.offset {
-            return Some(led.names);
+        if led.unit as usize == place.unit && led.offset as usize == place.offset {
+            return Some(led.names());
         }
         None
     }
 
-    /// Holds the names to which a reference to the entry at a place leads.
+    /// Holds the names to which a reference to the entry at a place leads, if no number has more
+    /// than 32 bits.
     pub(crate) fn put(&mut self, place: UnitPlace, names: EntryNames) -> Result<(), AllocError>
-        ensures ok { OnOk result ((slot : ℕ) → slot_at self.new slot ≡ if slot == slot_of place
+        ensures ok { OnOk result ((slot : ℕ) → slot_at self.new slot
+            ≡ if (slot == slot_of place) && are_narrow place names
             then Some (record { place = place; names = names }) else slot_at self.old slot) }
         ensures err { OnErr result ((slot : ℕ) → slot_at self.new slot ≡ slot_at self.old slot) }
     {
+        let Some(led) = LedNames::of(place, names) else {
+            return Ok(());
+        };
         let slot = place.offset % SLOTS;
         self.reach(slot)?;
-        self.slots[slot] = Some(LedNames { place, names });
+        self.slots[slot] = Some(led);
         Ok(())
     }
 

@@ -3,12 +3,11 @@
 ghost use Rattle.std.specs.Prelude.{◌≡◌, IfOk};
 ghost use Rattle.dwarf_entries.specs.Scopes.{own_of, ranges_at, stmt_list_at};
 ghost use Rattle.dwarf_entries.specs.Scopes.{call_file_at, call_line_at};
-ghost use Rattle.dwarf_entries.specs.Scopes.{text_by};
 ghost use Rattle.dwarf_entries.specs.Private.Shared.{Packs};
 
 use crate::calls::{CallSite, Calls};
 use crate::scopes::Scopes;
-use crate::text_offset::TextOffset;
+use crate::text_offset::{TextOffset, text_by, text_parts};
 use dwarf_bytes::Section;
 use dwarf_walk::{ScopeKind, narrow};
 use std::alloc::AllocError;
@@ -77,8 +76,10 @@ impl Scope {
     ) -> Result<Scope, AllocError>
         ensures { IfOk result (Packs told ranges_end wide.old.items wide.new.items) }
     {
-        let (name_section, name_offset) = text_parts(told.name)?;
-        let (linkage_name_section, linkage_name_offset) = text_parts(told.linkage_name)?;
+        let (name_section, name_offset) = text_parts(told.name).ok_or(AllocError)?;
+        let (linkage_name_section, linkage_name_offset) = text_parts(told.linkage_name).ok_or(
+            AllocError,
+        )?;
         let (calls, call_file, call_line) = told.site.pack(wide)?;
         Ok(Scope {
             offset: narrow(told.offset)?,
@@ -125,13 +126,13 @@ impl Scope {
     pub fn name(&self) -> Option<TextOffset>
         ensures { result ≡ (own_of self.now).name }
     {
-        text(self.name_section, self.name_offset)
+        text_by(self.name_section, self.name_offset)
     }
 
     pub fn linkage_name(&self) -> Option<TextOffset>
         ensures { result ≡ (own_of self.now).linkage_name }
     {
-        text(self.linkage_name_section, self.linkage_name_offset)
+        text_by(self.linkage_name_section, self.linkage_name_offset)
     }
 
     /// What it covers, in the scopes that it is of, without the ranges that cover nothing.
@@ -159,26 +160,4 @@ impl Scope {
     {
         of.call_of(self.number()).line
     }
-}
-
-/// A text by the section that it stands in, and its offset there.
-fn text(section: Option<Section>, offset: u32) -> Option<TextOffset>
-    ensures { result ≡ text_by section offset }
-{
-    let section = section?;
-    Some(TextOffset {
-        section,
-        offset: offset as usize,
-    })
-}
-
-/// The section of a text and its offset there, if there is one.
-fn text_parts(text: Option<TextOffset>) -> Result<(Option<Section>, u32), AllocError>
-    ensures { IfOk result (λ parts. text_by parts.0 parts.1 ≡ text) }
-{
-    let Some(text) = text else {
-        return Ok((None, 0));
-    };
-    let offset = narrow(text.offset)?;
-    Ok((Some(text.section), offset))
 }

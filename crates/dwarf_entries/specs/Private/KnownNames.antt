@@ -1,5 +1,6 @@
 -- The names to which references led, for the contracts of the pass over scopes.
-use Rattle.std.specs.Prelude.{◌≡◌, ℕ, ◌%◌, List, Option, Some, None, Result, Ok, get_or}
+use Rattle.std.specs.Prelude.{◌≡◌, ℕ, ◌%◌, List, Option, Some, None, option_map}
+use Rattle.std.specs.Prelude.{Result, Ok, get_or}
 use Rattle.dwarf_bytes.specs.declared.constants.TheConstants.{DW_AT_LINKAGE_NAME, DW_AT_NAME}
 use Rattle.dwarf_bytes.specs.declared.fault.Cause.{Cause}
 use Rattle.dwarf_bytes.specs.Bind.{◌>>=◌}
@@ -11,15 +12,31 @@ use Rattle.dwarf_entries.specs.declared.references.UnitPlace.{UnitPlace}
 use Rattle.dwarf_walk.specs.Sections.{Sections}
 use Rattle.dwarf_entries.specs.Bases.{CompilationUnit}
 use Rattle.dwarf_entries.specs.Names.{Member, target_of, path_within, name_on}
+use Rattle.dwarf_entries.specs.Scopes.{text_by}
 use Rattle.dwarf_entries.specs.Private.Members.{member_in}
 
 -- the slot of a place
 abbrev pub slot_of : UnitPlace → ℕ
 slot_of place = place.offset % 4096
 
+-- where an entry stands, and the names to which a reference to it leads
+pub record Led : Type 0 where
+  pub place : UnitPlace
+  pub names : EntryNames
+
+-- .. of those in few bytes
+abbrev pub led_of : LedNames → Led
+led_of led = record {
+  place = record { unit = led.unit; offset = led.offset };
+  names = record {
+    name = text_by led.name_section led.name_offset;
+    linkage_name = text_by led.linkage_name_section led.linkage_name_offset;
+  };
+}
+
 -- what stands at a slot
-abbrev pub slot_at : KnownNames → ℕ → Option LedNames
-slot_at known slot = get_or known.slots.items slot None
+abbrev pub slot_at : KnownNames → ℕ → Option Led
+slot_at known slot = option_map led_of (get_or known.slots.items slot None)
 
 -- the names of an entry whose path has at most so many hops
 abbrev pub names_within : ℕ → Sections → List CompilationUnit → Member → Result EntryNames Cause
@@ -41,6 +58,6 @@ names_behind s units unit reference = target_of units unit reference >>= λ m. l
 -- Where names are known of a place, an entry stands there, and they are those to which it leads.
 abbrev pub AreKnownOf : Sections → List CompilationUnit → KnownNames → Type 0
 AreKnownOf s units known =
-    (slot : ℕ) (led : LedNames) → slot_at known slot ≡ Some led
+    (slot : ℕ) (led : Led) → slot_at known slot ≡ Some led
     → (m : Member) × (member_in units led.place.unit led.place.offset ≡ Ok m)
     × (led_names s units m ≡ Ok led.names)
