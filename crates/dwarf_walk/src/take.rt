@@ -20,8 +20,7 @@ use std::alloc::AllocError;
 
 impl Walk {
     /// Takes what stands at a place of a unit, and marks the place if it is an entry. Gives the
-    /// place after it. `found` is room for its
-    /// used attributes.
+    /// place after it. `found` is room for its used attributes.
     #[inline(always)]
     pub(crate) fn take(
         &mut self,
