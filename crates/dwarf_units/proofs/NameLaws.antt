@@ -1,6 +1,6 @@
 -- The names of the attributes that are used, and their numbers.
 use Rattle.std.proofs.Common.{◌≡◌, ℕ, List, [], ◌∷◌, Bool, true, false, refl, ap, sym, subst, ◌∙◌}
-use Rattle.std.specs.Prelude.{Option, Some, None, ◌==◌, find, if◌then◌else◌}
+use Rattle.std.specs.Prelude.{Some, None, ◌==◌, find, if◌then◌else◌}
 use Rattle.std.proofs.lemmas.Bool.{ne_eqb, eqb-true}
 use Rattle.dwarf_units.specs.declared.used_name.UsedName.{UsedName}
 use Rattle.dwarf_units.specs.declared.used_name.UsedName.TheVariants.{Name, LinkageName, AbstractOrigin, Specification, LowPc, HighPc, Ranges, CallFile, CallLine, StmtList, StrOffsetsBase, AddrBase, RnglistsBase}

@@ -72,7 +72,7 @@ passed-steps format (Skip n ∷ []) len bytes at is le =
     rw (same, skip-within format len bytes at le) refl
 passed-steps format (Skip n ∷ next ∷ steps) len bytes at is le = cc
 passed-steps format (Pass s layout ∷ steps) len bytes at is le = cc
-passed-steps format (Keep n name s layout ∷ steps) len bytes at is le = cc
+passed-steps format (Keep n used s layout ∷ steps) len bytes at is le = cc
 
 abbrev PassesTo : Format → List AttributeSpecification → List ℕ → ℕ → ℕ → Type 0
 PassesTo format declared bytes at after = (attributes : List Attribute) × (attributes_at format declared bytes at ≡ Ok (attributes, after))

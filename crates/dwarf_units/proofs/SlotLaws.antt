@@ -1,9 +1,9 @@
 -- The used attributes of an entry in slots: what one more attribute makes of them.
-use Rattle.std.proofs.Common.{◌≡◌, ℕ, ◌<◌, ◌⊎◌, inl, inr, List, [], ◌∷◌, length, get_or, Bool, true, false, refl, ap, sym, subst, ◌∙◌}
-use Rattle.std.specs.Prelude.{Option, Some, ◌==◌, find, if◌then◌else◌}
+use Rattle.std.proofs.Common.{◌≡◌, ℕ, ◌<◌, ◌⊎◌, inl, inr, List, [], ◌∷◌, length, get_or, Bool, true, false, refl, ap, sym, ◌∙◌}
+use Rattle.std.specs.Prelude.{Option, Some}
 use Rattle.std.specs.Option.{option_or}
 use Rattle.std.proofs.Math.ListN.{set}
-use Rattle.std.proofs.lemmas.Bool.{eq-eqb, ne_eqb, eqb-true, cases_eq}
+use Rattle.std.proofs.lemmas.Bool.{eq-eqb, ne_eqb, cases_eq}
 use Rattle.std.proofs.lemmas.List.{get_or-set_same, get_or-set_other}
 use Rattle.dwarf_units.specs.declared.attributes.Attribute.{Attribute}
 use Rattle.dwarf_units.specs.declared.attributes.AttributeValue.{AttributeValue}
@@ -12,9 +12,9 @@ use Rattle.dwarf_units.specs.declared.used_name.UsedName.TheVariants.{Name, Link
 use Rattle.dwarf_units.specs.Entries.{value_of}
 use Rattle.dwarf_units.specs.Private.Slots.{slot_of, in_slot, in_slots}
 use Rattle.dwarf_units.specs.Private.Names.{name_of, used_names, used_name}
-use Rattle.dwarf_units.specs.Private.Used.{Used, value_under, with_used}
+use Rattle.dwarf_units.specs.Private.Used.{Used, with_used}
 use Rattle.dwarf_units.proofs.NameLaws.{named, found-number}
-use Rattle.dwarf_units.proofs.UsedLaws.{or-none, under-by, by-under, same-by}
+use Rattle.dwarf_units.proofs.UsedLaws.{or-none, under-by, same-by}
 
 -- ---- names, their numbers and their slots
 

@@ -18,7 +18,7 @@ passed_len [] = Some 0
 passed_len (Skip n ∷ []) = Some n
 passed_len (Skip n ∷ next ∷ steps) = None
 passed_len (Pass s layout ∷ steps) = None
-passed_len (Keep n name s layout ∷ steps) = None
+passed_len (Keep n used s layout ∷ steps) = None
 
 -- the head of the entries of a declaration that shares no attributes, in units of a format
 abbrev pub plain_of : Format → SharedDeclaration → Option PlainHead

@@ -1,7 +1,7 @@
 -- How the attributes of a declaration are read where only some are kept: runs of values of a known
 -- length are passed over.
 use Rattle.std.specs.Prelude.{◌≡◌, ℕ, ◌+◌, List, [], ◌∷◌, ◌++◌, length, take, Bool, true, false}
-use Rattle.std.specs.Prelude.{Option, Some, None, Result, Ok, Err, nat_le, ◌&&◌, ◌||◌, not}
+use Rattle.std.specs.Prelude.{Option, Some, None, Result, Ok, Err, nat_le, ◌||◌, not}
 use Rattle.std.specs.Prelude.{if◌then◌else◌, filter, sum_by}
 use Rattle.std.specs.Option.{option_map_or}
 use Rattle.dwarf_bytes.specs.declared.fault.Cause.{Cause}
