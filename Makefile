@@ -13,7 +13,7 @@ help:
 	@echo 'make program      builds the program, $(PROGRAM)'
 	@echo 'make install      puts it, its manual page, docs/PROTOCOL.md and its tools under PREFIX ($(PREFIX))'
 	@echo 'make check CRATE=dwarf_lines   one crate, over what earlier checks kept'
-	@echo 'make edits [CRATE=dwarf_lines]   edits of private functions that must fail, beyond those of the gate (an hour and more)'
+	@echo 'make edits [CRATE=dwarf_lines]   the other edits that must fail, beyond those of the gate (hours; of one crate, minutes)'
 	@echo 'make tools-test   tests of tools/ and of the clients in docs/PROTOCOL.md, on real processes'
 	@echo 'make check-docs   the manual page and documents beside the program: options, refusals, causes, targets'
 	@echo 'make compare      what is read from objects, beside what other readers show'
@@ -44,7 +44,7 @@ check:
 	@test -d 'crates/$(CRATE)/src' || { echo 'say which crate: make check CRATE=dwarf_lines'; exit 2; }
 	cd crates/$(CRATE) && rt check
 
-# Edits of private functions that must fail, which the gate leaves out.
+# The edits that must fail and that the gate leaves out.
 edits:
 	@tools/needs.sh edits rt python3
 	@tools/check_edits.py

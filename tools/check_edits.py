@@ -2,9 +2,8 @@
 """Shows each must-fail edit that no longer fits the files it changes, before proofs take an hour.
 
 An edit is lines `file: PATH` and pairs of lines `old: TEXT`, `new: TEXT`; each old text stands in
-its file exactly once. Those of the gate stand in their crate's must-fail/, those of private
-functions, which the gate leaves out, in edits/CRATE, under names of their own. Ends with 1 where
-one does not fit.
+its file exactly once. Those of the gate stand in their crate's must-fail/, the others, for which
+the gate has no time, in edits/CRATE, under names of their own. Ends with 1 where one does not fit.
 """
 import sys
 from pathlib import Path

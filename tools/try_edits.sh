@@ -1,6 +1,6 @@
 #!/bin/sh
-# Tries the edits of private functions, edits/CRATE/*.edit, which the gate leaves out; of all crates
-# or of those named. Ends with 1 where one is not refused.
+# Tries the edits that the gate leaves out, edits/CRATE/*.edit, of all crates or of those named.
+# Ends with 1 where one is not refused.
 set -eu
 cd "$(dirname "$0")/.."
 crates=${*:-$(ls edits)}
