@@ -1,5 +1,6 @@
 //! Tables that stand within one list of attributes.
 
+use crate::checks::are_equal;
 use crate::listed::attributes_of;
 use dwarf_forms::{AbbreviationTable, AttributeSpecification, KnownLists, UNSHARED};
 use std::alloc::{AllocError, Global};
@@ -62,9 +63,9 @@ fn is_shared(
     known: usize,
 ) -> Result<(), Fail> {
     let (shared, count) = first_of(rt.alloc(), lists, offset)?;
-    assert_eq!(rt; (count, lists.len()), (own, known));
+    are_equal(rt, (count, lists.len()), (own, known));
     let wanted = attributes_from(rt.alloc(), first)?;
-    assert_eq!(rt; shared.as_slice() == wanted.as_slice(), true);
+    are_equal(rt, shared.as_slice() == wanted.as_slice(), true);
     Ok(())
 }
 

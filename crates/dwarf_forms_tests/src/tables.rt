@@ -1,6 +1,7 @@
 //! Tables of declarations, good and bad.
 
-use crate::listed::{declarations_of, fault_at};
+use crate::checks::are_equal;
+use crate::listed::{Listed, declarations_of, fault_at};
 use dwarf_bytes::{Cause, LoadFault, Section};
 use dwarf_forms::AttributeSpecification;
 use dwarf_samples::inlined;
@@ -25,43 +26,59 @@ fn is_refused(
         at,
     };
     let told = fault_at(rt.alloc(), table, 0, &mut left)?;
-    assert_eq!(rt; told, Some(fault));
-    assert_eq!(rt; left, 4);
+    are_equal(rt, (told, left), (Some(fault), 4));
     Ok(())
+}
+
+/// What the head of a declaration tells: its code, its tag, whether it has children, and how many
+/// attributes.
+fn head_of(declaration: &Listed) -> (u64, u64, bool, usize) {
+    let attributes = declaration.attributes.len();
+    (
+        declaration.code,
+        declaration.tag,
+        declaration.children,
+        attributes,
+    )
 }
 
 #[test]
 fn declarations_of_a_unit(rt: HostRuntime) -> Result<(), Fail> {
     let mut left = MOST;
     let declarations = declarations_of(rt.alloc(), &inlined()[120..163], &mut left)?;
-    assert_eq!(rt; left, MOST - 4);
-    assert_eq!(rt; declarations.len(), 4);
-    for (decl, (code, tag, children, attributes)) in declarations.iter().zip([
+    are_equal(&rt, (declarations.len(), left), (4, MOST - 4));
+    let heads = [
         (1, 0x11, true, 2),
         (2, 0x2e, true, 3),
         (3, 0x1d, true, 5),
         (4, 0x2e, false, 1),
-    ]) {
-        assert_eq!(rt; decl.code, code);
-        assert_eq!(rt; decl.tag, tag);
-        assert_eq!(rt; decl.children, children);
-        assert_eq!(rt; decl.attributes.len(), attributes);
+    ];
+    for (declaration, head) in declarations.iter().zip(heads) {
+        are_equal(&rt, head_of(declaration), head);
     }
-    let names = [
+    Ok(())
+}
+
+#[test]
+fn attributes_of_a_declaration(rt: HostRuntime) -> Result<(), Fail> {
+    let mut left = MOST;
+    let declarations = declarations_of(rt.alloc(), &inlined()[120..163], &mut left)?;
+    let inlined = declarations.get(2).ok_or("no declaration 3")?;
+    are_equal(&rt, inlined.attributes.len(), 5);
+    let attributes = [
         (0x31, 0x13),
         (0x11, 0x01),
         (0x12, 0x06),
         (0x58, 0x0b),
         (0x59, 0x0b),
     ];
-    let inlined = declarations.get(2).ok_or("no declaration 3")?;
-    for (attribute, (name, form)) in inlined.attributes.iter().zip(names) {
+    for (told, (name, form)) in inlined.attributes.iter().zip(attributes) {
         let wanted = AttributeSpecification {
             name,
             form,
             constant: None,
         };
-        assert_eq!(rt; *attribute, wanted);
+        are_equal(&rt, *told, wanted);
     }
     Ok(())
 }
@@ -82,12 +99,10 @@ fn constants_in_declarations(rt: HostRuntime) -> Result<(), Fail> {
     let section = [1, 0x11, 0, 3, 0x21, 0x7f, 0, 0, 0];
     let mut left = MOST;
     let declarations = declarations_of(rt.alloc(), &section, &mut left)?;
-    assert_eq!(rt; declarations.len(), 1);
-    let decl = declarations.first().ok_or("no declaration")?;
-    assert_eq!(rt;
-        decl.attributes.first().map(|attribute| attribute.constant),
-        Some(Some(-1))
-    );
+    are_equal(&rt, declarations.len(), 1);
+    let declaration = declarations.first().ok_or("no declaration")?;
+    let attribute = declaration.attributes.first().ok_or("no attribute")?;
+    are_equal(&rt, attribute.constant, Some(-1));
     Ok(())
 }
 
@@ -125,23 +140,39 @@ fn refused_tables(rt: HostRuntime) -> Result<(), Fail> {
     is_refused(&rt, &five, Cause::TooMany, 20)
 }
 
+/// Three declarations, and the end.
+const THREE: [u8; 16] = [1, 9, 0, 0, 0, 2, 9, 0, 0, 0, 3, 9, 0, 0, 0, 0];
+
+/// Checks that a table has so many declarations, where no more are left.
+fn has_as_many_as_are_left(
+    rt: &(impl Abort + AllocGlobal),
+    table: &[u8],
+    count: u64,
+) -> Result<(), Fail> {
+    let mut left = count;
+    let declarations = declarations_of(rt.alloc(), table, &mut left)?;
+    are_equal(rt, (declarations.len() as u64, left), (count, 0));
+    Ok(())
+}
+
 #[test]
 fn limits(rt: HostRuntime) -> Result<(), Fail> {
     // an end code is no declaration
+    has_as_many_as_are_left(&rt, &[0], 0)?;
+    has_as_many_as_are_left(&rt, &THREE, 3)
+}
+
+#[test]
+fn tables_past_the_end(rt: HostRuntime) -> Result<(), Fail> {
     let mut left = 0;
-    assert_eq!(rt; declarations_of(rt.alloc(), &[0], &mut left)?.len(), 0);
-    let mut left = 3;
-    let three = [1, 9, 0, 0, 0, 2, 9, 0, 0, 0, 3, 9, 0, 0, 0, 0];
-    assert_eq!(rt; declarations_of(rt.alloc(), &three, &mut left)?.len(), 3);
-    assert_eq!(rt; left, 0);
     for offset in [16, 17, u64::MAX] {
         let fault = LoadFault {
             section: Section::DebugAbbrev,
             cause: Cause::Short,
             at: offset,
         };
-        let told = fault_at(rt.alloc(), &three, offset, &mut left)?;
-        assert_eq!(rt; told, Some(fault));
+        let told = fault_at(rt.alloc(), &THREE, offset, &mut left)?;
+        are_equal(&rt, told, Some(fault));
     }
     Ok(())
 }
@@ -155,7 +186,7 @@ fn codes_out_of_order(rt: HostRuntime) -> Result<(), Fail> {
     let mut left = MOST;
     let declarations = declarations_of(rt.alloc(), &section, &mut left)?;
     for (decl, code) in declarations.iter().zip([5, 2, 1, 256]) {
-        assert_eq!(rt; decl.code, code);
+        are_equal(&rt, decl.code, code);
     }
     let again = [
         5, 9, 0, 0, 0, 2, 10, 0, 0, 0, 0x80, 0x02, 11, 0, 0, 0, 0x80, 0x02, 12, 0, 0, 0, 0,
@@ -186,7 +217,7 @@ fn many_names(rt: HostRuntime) -> Result<(), Fail> {
     let mut left = 1;
     let declarations = declarations_of(rt.alloc(), &table, &mut left)?;
     let decl = declarations.first().ok_or("no declaration")?;
-    assert_eq!(rt; decl.attributes.len(), 100);
+    are_equal(&rt, decl.attributes.len(), 100);
     for again in [1, 32, 33, 99] {
         is_refused(&rt, &wide(rt.alloc(), 100, again)?, Cause::AttrTwice, 0)?;
     }

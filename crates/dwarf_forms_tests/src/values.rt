@@ -1,48 +1,68 @@
 //! Each form, with a value and with that value cut short.
 
+use crate::checks::are_equal;
 use dwarf_bytes::{Cursor, Format, ReadFault};
 use dwarf_forms::{Content, Value, ValueFault, value};
 use std::process::Abort;
 use std::test::*;
 
 /// What is read of the bytes in a form, and how many of them.
-fn read(form: u64, bytes: &[u8]) -> (Result<Value<'_>, ValueFault>, usize) {
+fn read(form: u64, format: Format, bytes: &[u8]) -> (Result<Value<'_>, ValueFault>, usize) {
     let mut cursor = Cursor::new(bytes);
-    let value = value(form, Format::Dwarf32, None, &mut cursor);
+    let value = value(form, format, None, &mut cursor);
     (value, cursor.place())
+}
+
+/// The form of a number that was read, and the number.
+fn number_of(value: Result<Value<'_>, ValueFault>) -> Option<(u64, u64)> {
+    match value.ok()? {
+        Value {
+            form,
+            content: Content::Number(number),
+        } => Some((form, number)),
+        _ => None,
+    }
+}
+
+/// The form of a signed number that was read, and the number.
+fn signed_of(value: Result<Value<'_>, ValueFault>) -> Option<(u64, i64)> {
+    match value.ok()? {
+        Value {
+            form,
+            content: Content::Signed(number),
+        } => Some((form, number)),
+        _ => None,
+    }
+}
+
+/// Checks that the bytes in a form are at fault, and that none is passed.
+fn has_fault(rt: &impl Abort, form: u64, bytes: &[u8], fault: ValueFault) {
+    let (value, place) = read(form, Format::Dwarf32, bytes);
+    are_equal(rt, (form, value.err(), place), (form, Some(fault), 0));
+}
+
+/// Checks the fault of one byte less, if there are any.
+fn cut_has_fault(rt: &impl Abort, form: u64, bytes: &[u8], fault: ReadFault) {
+    if let Some((_, cut)) = bytes.split_last() {
+        has_fault(rt, form, cut, ValueFault::Read(fault));
+    }
 }
 
 /// Checks that all of the bytes are the number in a form, and that one byte less is short.
 fn is_number(rt: &impl Abort, form: u64, bytes: &[u8], number: u64) {
-    let (value, place) = read(form, bytes);
-    assert_eq!(rt; place, bytes.len(), "{form:x}");
-    match value {
-        Ok(
-            Value {
-                form: read,
-                content: Content::Number(n),
-            },
-        ) => {
-            assert_eq!(rt; n, number, "{form:x}");
-            assert_eq!(rt; read, form);
-        }
-        _ => assert!(rt; false, "{form:x}"),
-    }
-    if let Some(last) = bytes.len().checked_sub(1) {
-        let (value, place) = read(form, &bytes[..last]);
-        assert_eq!(rt;
-            value.err(),
-            Some(ValueFault::Read(ReadFault::Short)),
-            "{form:x}"
-        );
-        assert_eq!(rt; place, 0, "{form:x}");
-    }
+    let (value, place) = read(form, Format::Dwarf32, bytes);
+    are_equal(
+        rt,
+        (number_of(value), place),
+        (Some((form, number)), bytes.len()),
+    );
+    cut_has_fault(rt, form, bytes, ReadFault::Short);
 }
 
 /// Checks that all of the bytes are the block in a form, and what is wrong with one byte less.
 fn is_block(rt: &impl Abort, form: u64, bytes: &[u8], block: &[u8], cut: ReadFault) {
-    let (value, place) = read(form, bytes);
-    assert_eq!(rt; place, bytes.len(), "{form:x}");
+    let (value, place) = read(form, Format::Dwarf32, bytes);
+    are_equal(rt, (form, place), (form, bytes.len()));
     match value {
         Ok(
             Value {
@@ -52,11 +72,7 @@ fn is_block(rt: &impl Abort, form: u64, bytes: &[u8], block: &[u8], cut: ReadFau
         ) => assert!(rt; bytes == block, "{form:x}"),
         _ => assert!(rt; false, "{form:x}"),
     }
-    if let Some(last) = bytes.len().checked_sub(1) {
-        let (value, place) = read(form, &bytes[..last]);
-        assert_eq!(rt; value.err(), Some(ValueFault::Read(cut)), "{form:x}");
-        assert_eq!(rt; place, 0, "{form:x}");
-    }
+    cut_has_fault(rt, form, bytes, cut);
 }
 
 #[test]
@@ -110,22 +126,9 @@ fn blocks_and_texts(rt: HostRuntime) {
 
 #[test]
 fn signed_numbers(rt: HostRuntime) {
-    match read(0x0d, &[0x7f]) {
-        (
-            Ok(
-                Value {
-                    content: Content::Signed(n),
-                    ..
-                },
-            ),
-            1,
-        ) => assert_eq!(rt; n, -1),
-        _ => assert!(rt; false),
-    }
-    assert_eq!(rt;
-        read(0x0d, &[0xff]).0.err(),
-        Some(ValueFault::Read(ReadFault::Short))
-    );
+    let (value, place) = read(0x0d, Format::Dwarf32, &[0x7f]);
+    are_equal(&rt, (signed_of(value), place), (Some((0x0d, -1)), 1));
+    cut_has_fault(&rt, 0x0d, &[0xff, 0], ReadFault::Short);
 }
 
 /// The value of DW_FORM_implicit_const stands in the declaration, and no byte is read.
@@ -135,16 +138,12 @@ fn constants_of_declarations(rt: HostRuntime) {
     for bytes in [nothing.as_slice(), &[1, 2, 3]] {
         for format in [Format::Dwarf32, Format::Dwarf64] {
             let mut cursor = Cursor::new(bytes);
-            match value(0x21, format, Some(-1), &mut cursor) {
-                Ok(
-                    Value {
-                        form: 0x21,
-                        content: Content::Signed(n),
-                    },
-                ) => assert_eq!(rt; n, -1),
-                _ => assert!(rt; false),
-            }
-            assert_eq!(rt; cursor.place(), 0);
+            let value = value(0x21, format, Some(-1), &mut cursor);
+            are_equal(
+                &rt,
+                (signed_of(value), cursor.place()),
+                (Some((0x21, -1)), 0),
+            );
         }
     }
 }
@@ -164,75 +163,48 @@ fn values_of_the_64_bit_format(rt: HostRuntime) {
         (0x28, 67_305_985, 4),
         (0x01, 578_437_695_752_307_201, 8),
     ] {
-        let mut cursor = Cursor::new(&bytes);
-        match value(form, Format::Dwarf64, None, &mut cursor) {
-            Ok(
-                Value {
-                    content: Content::Number(n),
-                    ..
-                },
-            ) => assert_eq!(rt; n, number, "{form:x}"),
-            _ => assert!(rt; false, "{form:x}"),
-        }
-        assert_eq!(rt; cursor.place(), len, "{form:x}");
+        let (value, place) = read(form, Format::Dwarf64, &bytes);
+        are_equal(&rt, (number_of(value), place), (Some((form, number)), len));
     }
+}
+
+#[test]
+fn cut_values_of_the_64_bit_format(rt: HostRuntime) {
     for (form, bytes) in [
         (0x0e, [1, 2, 3, 4, 5, 6, 7].as_slice()),
         (0x16, &[0x0e, 1, 2, 3, 4, 5, 6, 7]),
     ] {
-        let mut cursor = Cursor::new(bytes);
-        let value = value(form, Format::Dwarf64, None, &mut cursor);
-        assert_eq!(rt; value.err(), Some(ValueFault::Read(ReadFault::Short)));
-        assert_eq!(rt; cursor.place(), 0);
+        let (value, place) = read(form, Format::Dwarf64, bytes);
+        let short = ValueFault::Read(ReadFault::Short);
+        are_equal(&rt, (form, value.err(), place), (form, Some(short), 0));
     }
 }
 
 /// Values that are cut, as they stand.
 #[test]
 fn cut_values(rt: HostRuntime) {
-    for (form, bytes, fault) in [
-        (0x06, [1, 2].as_slice(), ReadFault::Short),
-        (0x08, &[0x61], ReadFault::Unterminated),
-    ] {
-        let (value, place) = read(form, bytes);
-        assert_eq!(rt; value.err(), Some(ValueFault::Read(fault)), "{form:x}");
-        assert_eq!(rt; place, 0, "{form:x}");
-    }
+    has_fault(&rt, 0x06, &[1, 2], ValueFault::Read(ReadFault::Short));
+    has_fault(
+        &rt,
+        0x08,
+        &[0x61],
+        ValueFault::Read(ReadFault::Unterminated),
+    );
 }
 
 #[test]
 fn indirect_forms(rt: HostRuntime) {
-    match read(0x16, &[0x0b, 7]) {
-        (
-            Ok(
-                Value {
-                    form: 0x0b,
-                    content: Content::Number(n),
-                },
-            ),
-            2,
-        ) => assert_eq!(rt; n, 7),
-        _ => assert!(rt; false),
-    }
+    let (value, place) = read(0x16, Format::Dwarf32, &[0x0b, 7]);
+    are_equal(&rt, (number_of(value), place), (Some((0x0b, 7)), 2));
     for inner in [0x16, 0x21, 0x1c] {
-        let bytes = [inner, 0, 0];
-        let (value, place) = read(0x16, &bytes);
-        assert_eq!(rt; value.err(), Some(ValueFault::Form), "{inner:x}");
-        assert_eq!(rt; place, 0);
+        has_fault(&rt, 0x16, &[inner, 0, 0], ValueFault::Form);
     }
-    assert_eq!(rt;
-        read(0x16, &[0x0b]).0.err(),
-        Some(ValueFault::Read(ReadFault::Short))
-    );
-    assert_eq!(rt; read(0x16, &[0x0b]).1, 0);
+    has_fault(&rt, 0x16, &[0x0b], ValueFault::Read(ReadFault::Short));
 }
 
 #[test]
 fn refused_forms(rt: HostRuntime) {
-    let nothing = [0; 16];
     for form in [0, 2, 0x1c, 0x1d, 0x21, 0x24, 0x2d, 0x1f01, u64::MAX] {
-        let (value, place) = read(form, &nothing);
-        assert_eq!(rt; value.err(), Some(ValueFault::Form), "{form:x}");
-        assert_eq!(rt; place, 0);
+        has_fault(&rt, form, &[0; 16], ValueFault::Form);
     }
 }

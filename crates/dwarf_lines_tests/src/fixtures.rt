@@ -1,4 +1,5 @@
-//! Line programs for the tests.
+//! Line programs for the tests, and what is said of them. What reads has no contract here, so that
+//! the proof that a test is safe knows nothing of what is read, which it does not need.
 
 ghost use Rattle.std.specs.Prelude.{◌≡◌, ◌+◌, length};
 
@@ -6,6 +7,86 @@ use dwarf_bytes::{Cause, LoadFault, Section};
 use dwarf_lines::{LineTables, ProgramNo, Row, Text};
 use dwarf_samples::{inlined, two_sequences as second_sample};
 use std::alloc::{AllocError, Global};
+use std::fmt::Debug;
+use std::process::Abort;
+use std::test::*;
+
+/// Checks that both are the same.
+pub fn are_equal<T: Copy + Debug + PartialEq>(rt: &impl Abort, told: T, wanted: T) {
+    assert_eq!(rt; told, wanted);
+}
+
+/// Checks that both have the same bytes.
+pub fn are_same_bytes(rt: &impl Abort, told: &[u8], wanted: &[u8]) {
+    assert_eq!(rt; told, wanted);
+}
+
+/// What is read of a `.debug_line` without other sections.
+pub fn read(alloc: Global, line: &[u8]) -> Result<LineTables, LoadFault> {
+    LineTables::read(alloc, line, &[], &[])
+}
+
+/// Checks the fault of a `.debug_line`.
+pub fn has_fault(rt: &(impl Abort + AllocGlobal), line: &[u8], cause: Cause, at: u64) {
+    are_equal(rt, read(rt.alloc(), line).err(), Some(fault(cause, at)));
+}
+
+/// Checks all rows.
+pub fn are_rows(rt: &impl Abort, tables: &LineTables, rows: &[Row]) {
+    assert_eq!(rt; tables.rows(), rows);
+}
+
+/// Checks the rows of a `.debug_line`.
+pub fn has_rows(
+    rt: &(impl Abort + AllocGlobal),
+    line: &[u8],
+    rows: &[Row],
+) -> Result<(), LoadFault> {
+    are_rows(rt, &read(rt.alloc(), line)?, rows);
+    Ok(())
+}
+
+/// Checks the rows of a program of these instructions.
+pub fn have_rows(
+    rt: &(impl Abort + AllocGlobal),
+    instructions: &[u8],
+    rows: &[Row],
+) -> Result<(), Fail> {
+    has_rows(
+        rt,
+        with_instructions(rt.alloc(), instructions)?.as_slice(),
+        rows,
+    )?;
+    Ok(())
+}
+
+/// Checks the fault of a program of these instructions.
+pub fn have_fault(
+    rt: &(impl Abort + AllocGlobal),
+    instructions: &[u8],
+    cause: Cause,
+) -> Result<(), AllocError> {
+    has_fault(
+        rt,
+        with_instructions(rt.alloc(), instructions)?.as_slice(),
+        cause,
+        0,
+    );
+    Ok(())
+}
+
+/// Checks the path of a file of a program, whose parts stand in these sections.
+pub fn has_path(
+    rt: &(impl Abort + AllocGlobal),
+    tables: &LineTables,
+    sections: [&[u8]; 3],
+    file: u64,
+    wanted: &[u8],
+) -> Result<(), Fail> {
+    let path = path(rt.alloc(), tables, sections, 0, file)?.ok_or("no path")?;
+    are_same_bytes(rt, path.as_slice(), wanted);
+    Ok(())
+}
 
 /// The 75 bytes of the first sample's `.debug_line`.
 pub fn one_sequence() -> [u8; 75] {

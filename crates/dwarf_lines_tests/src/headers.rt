@@ -2,9 +2,22 @@
 
 use crate::fixtures::*;
 use dwarf_bytes::Cause;
-use dwarf_lines::{LineTables, ProgramNo};
+use dwarf_lines::LineTables;
 use dwarf_samples::{cut_line_program, many_directories_without_a_format};
-use std::test::Fail;
+use std::alloc::AllocError;
+use std::process::Abort;
+use std::test::*;
+
+/// Checks the path of a file of the first program, where all texts stand in `.debug_line`.
+fn has_first_path(
+    rt: &(impl Abort + AllocGlobal),
+    line: &[u8],
+    file: u64,
+    wanted: &[u8],
+) -> Result<(), Fail> {
+    let tables = read(rt.alloc(), line)?;
+    has_path(rt, &tables, [line, &[], &[]], file, wanted)
+}
 
 #[test]
 fn each_changed_byte_has_its_cause(rt: HostRuntime) {
@@ -32,8 +45,8 @@ fn each_changed_byte_has_its_cause(rt: HostRuntime) {
         if let Some(changed) = line.get_mut(place) {
             *changed = byte;
         }
-        let read = LineTables::read(rt.alloc(), &line, &[], &[]);
-        assert_eq!(rt; read.err(), Some(fault(cause, 0)), "byte {place}");
+        let told = read(rt.alloc(), &line).err();
+        are_equal(&rt, (place, told), (place, Some(fault(cause, 0))));
     }
 }
 
@@ -41,12 +54,8 @@ fn each_changed_byte_has_its_cause(rt: HostRuntime) {
 fn a_file_without_a_directory_is_in_directory_0(rt: HostRuntime) -> Result<(), Fail> {
     let mut line = one_sequence();
     line[42] = 5;
-    let tables = LineTables::read(rt.alloc(), &line, &[], &[])?;
-    for file in 0..2 {
-        let path = path(rt.alloc(), &tables, [&line, &[], &[]], 0, file)?;
-        assert_eq!(rt; path.ok_or("no path")?.as_slice(), b"/src/a.c".as_slice());
-    }
-    Ok(())
+    has_first_path(&rt, &line, 0, b"/src/a.c")?;
+    has_first_path(&rt, &line, 1, b"/src/a.c")
 }
 
 #[test]
@@ -62,9 +71,7 @@ fn a_path_has_up_to_three_parts(rt: HostRuntime) -> Result<(), Fail> {
     ];
     for (directories, file, wanted) in cases {
         let line = with_paths(rt.alloc(), directories, file)?;
-        let tables = LineTables::read(rt.alloc(), line.as_slice(), &[], &[])?;
-        let path = path(rt.alloc(), &tables, [line.as_slice(), &[], &[]], 0, 0)?;
-        assert_eq!(rt; path.ok_or("no path")?.as_slice(), wanted);
+        has_first_path(&rt, line.as_slice(), 0, wanted)?;
     }
     Ok(())
 }
@@ -74,49 +81,46 @@ fn paths_stand_in_other_sections(rt: HostRuntime) -> Result<(), Fail> {
     let line = with_offsets(rt.alloc())?;
     let tables = LineTables::read(rt.alloc(), line.as_slice(), b"/src\0", b"??\0x.c\0")?;
     let sections = [line.as_slice(), b"/src\0", b"??\0x.c\0"];
-    let path = path(rt.alloc(), &tables, sections, 0, 0)?;
-    assert_eq!(rt; path.ok_or("no path")?.as_slice(), b"/src/x.c".as_slice());
-    Ok(())
+    has_path(&rt, &tables, sections, 0, b"/src/x.c")
 }
 
 #[test]
 fn a_path_without_a_nul_is_a_fault(rt: HostRuntime) -> Result<(), Fail> {
     let line = with_offsets(rt.alloc())?;
     let read = LineTables::read(rt.alloc(), line.as_slice(), b"/src\0", b"??\0x.c");
-    assert_eq!(rt; read.err(), Some(fault(Cause::Text, 0)));
+    are_equal(&rt, read.err(), Some(fault(Cause::Text, 0)));
     Ok(())
 }
 
 #[test]
 fn samples_with_faults(rt: HostRuntime) {
-    let read = LineTables::read(
-        rt.alloc(),
-        &many_directories_without_a_format()[259..334],
-        &[],
-        &[],
-    );
-    assert_eq!(rt; read.err(), Some(fault(Cause::FileFormat, 0)));
-    let read = LineTables::read(rt.alloc(), &cut_line_program()[259..333], &[], &[]);
-    assert_eq!(rt; read.err(), Some(fault(Cause::Short, 0)));
+    let no_format = &many_directories_without_a_format()[259..334];
+    has_fault(&rt, no_format, Cause::FileFormat, 0);
+    has_fault(&rt, &cut_line_program()[259..333], Cause::Short, 0);
+}
+
+/// Checks the fault of a program that stands behind a good one.
+fn second_has_fault(
+    rt: &(impl Abort + AllocGlobal),
+    second: &[u8],
+    cause: Cause,
+) -> Result<(), AllocError> {
+    let mut line = one_sequence().to_vec(rt.alloc())?;
+    line.extend_from_slice(second)?;
+    has_fault(rt, line.as_slice(), cause, 75);
+    Ok(())
 }
 
 #[test]
 fn the_first_bad_program_is_told(rt: HostRuntime) -> Result<(), Fail> {
-    let mut second = one_sequence();
-    second[44] = 1;
-    let mut line = one_sequence().to_vec(rt.alloc())?;
-    line.extend_from_slice(&second)?;
-    line.extend_from_slice(&[0xff, 0xff, 0xff, 0xff])?;
-    let read = LineTables::read(rt.alloc(), line.as_slice(), &[], &[]);
-    assert_eq!(rt; read.err(), Some(fault(Cause::FileIndex, 75)));
-    let mut line = one_sequence().to_vec(rt.alloc())?;
-    line.extend_from_slice(&[0xf0, 0xff, 0xff, 0xff])?;
-    let read = LineTables::read(rt.alloc(), line.as_slice(), &[], &[]);
-    assert_eq!(rt; read.err(), Some(fault(Cause::Length, 75)));
-    let mut line = one_sequence().to_vec(rt.alloc())?;
-    line.extend_from_slice(&[0xff, 0xff, 0xff, 0xff])?;
-    let read = LineTables::read(rt.alloc(), line.as_slice(), &[], &[]);
-    assert_eq!(rt; read.err(), Some(fault(Cause::Short, 75)));
+    let mut second = one_sequence().to_vec(rt.alloc())?;
+    if let Some(index) = second.get_mut(44) {
+        *index = 1;
+    }
+    second.extend_from_slice(&[0xff, 0xff, 0xff, 0xff])?;
+    second_has_fault(&rt, second.as_slice(), Cause::FileIndex)?;
+    second_has_fault(&rt, &[0xf0, 0xff, 0xff, 0xff], Cause::Length)?;
+    second_has_fault(&rt, &[0xff, 0xff, 0xff, 0xff], Cause::Short)?;
     Ok(())
 }
 
@@ -124,7 +128,7 @@ fn the_first_bad_program_is_told(rt: HostRuntime) -> Result<(), Fail> {
 fn a_cut_section_is_short(rt: HostRuntime) {
     let line = one_sequence();
     for len in 1..75 {
-        let read = LineTables::read(rt.alloc(), &line[..len], &[], &[]);
-        assert_eq!(rt; read.err(), Some(fault(Cause::Short, 0)), "{len} bytes");
+        let told = read(rt.alloc(), &line[..len]).err();
+        are_equal(&rt, (len, told), (len, Some(fault(Cause::Short, 0))));
     }
 }

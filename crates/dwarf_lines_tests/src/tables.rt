@@ -1,11 +1,12 @@
 //! The tables of headers, where they could cost more than their bytes.
 
-use crate::fixtures::{fault, path};
+use crate::fixtures::{are_equal, fault, has_path, read};
 use dwarf_bytes::{Cause, Section, Span};
 use dwarf_lines::{LineTables, ProgramNo, Text};
 use dwarf_samples::inlined;
 use std::alloc::{AllocError, Global};
-use std::test::Fail;
+use std::process::Abort;
+use std::test::*;
 
 /// A program without instructions, whose header has these tables.
 fn with_tables(alloc: Global, tables: &[u8]) -> Result<Vec<u8>, AllocError> {
@@ -68,18 +69,20 @@ fn long_text(alloc: Global, len: u32) -> Result<Vec<u8>, AllocError> {
     Ok(text)
 }
 
+/// Checks the parts of the path of the first file.
+fn has_parts(rt: &impl Abort, tables: &LineTables, parts: &[Text]) -> Result<(), Fail> {
+    let path = tables.path(ProgramNo(0), 0).ok_or("no path")?;
+    assert_eq!(rt; path.parts(), parts);
+    Ok(())
+}
+
 #[test]
 fn a_directory_index_has_three_forms(rt: HostRuntime) -> Result<(), Fail> {
     let forms: [(u8, &[u8]); 3] = [(0x0b, &[1]), (0x05, &[1, 0]), (0x0f, &[0x81, 0])];
     for (form, index) in forms {
         let line = with_index(rt.alloc(), form, index)?;
-        let tables = LineTables::read(rt.alloc(), line.as_slice(), &[], &[])?;
-        let path = path(rt.alloc(), &tables, [line.as_slice(), &[], &[]], 0, 0)?;
-        assert_eq!(rt;
-            path.ok_or("no path")?.as_slice(),
-            b"d/e/c".as_slice(),
-            "form {form}"
-        );
+        let tables = read(rt.alloc(), line.as_slice())?;
+        has_path(&rt, &tables, [line.as_slice(), &[], &[]], 0, b"d/e/c")?;
     }
     Ok(())
 }
@@ -89,10 +92,9 @@ fn many_paths_in_one_long_text(rt: HostRuntime) -> Result<(), Fail> {
     let line = with_long_directories(rt.alloc())?;
     let mut text = long_text(rt.alloc(), 1_000_000)?;
     let cut = LineTables::read(rt.alloc(), line.as_slice(), text.as_slice(), &[]);
-    assert_eq!(rt; cut.err(), Some(fault(Cause::Text, 0)));
+    are_equal(&rt, cut.err(), Some(fault(Cause::Text, 0)));
     text.push(0)?;
     let tables = LineTables::read(rt.alloc(), line.as_slice(), text.as_slice(), &[])?;
-    let path = tables.path(ProgramNo(0), 0).ok_or("no path")?;
     let long = Text {
         section: Section::DebugLineStr,
         span: Span {
@@ -105,15 +107,13 @@ fn many_paths_in_one_long_text(rt: HostRuntime) -> Result<(), Fail> {
         section: Section::DebugLine,
         span: Span { place, len: 1 },
     };
-    assert_eq!(rt; path.parts(), [long, long, file].as_slice());
-    Ok(())
+    has_parts(&rt, &tables, &[long, long, file])
 }
 
 #[test]
 fn fields_without_bytes_tell_nothing(rt: HostRuntime) -> Result<(), Fail> {
     let line = with_flags(rt.alloc())?;
-    let tables = LineTables::read(rt.alloc(), line.as_slice(), &[], &[])?;
-    let path = tables.path(ProgramNo(0), 0).ok_or("no path")?;
+    let tables = read(rt.alloc(), line.as_slice())?;
     let directory = Text {
         section: Section::DebugLine,
         span: Span {
@@ -128,7 +128,6 @@ fn fields_without_bytes_tell_nothing(rt: HostRuntime) -> Result<(), Fail> {
             len: 1,
         },
     };
-    assert_eq!(rt; tables.files(ProgramNo(0)), 1);
-    assert_eq!(rt; path.parts(), [directory, file].as_slice());
-    Ok(())
+    are_equal(&rt, tables.files(ProgramNo(0)), 1);
+    has_parts(&rt, &tables, &[directory, file])
 }

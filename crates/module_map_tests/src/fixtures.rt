@@ -3,8 +3,14 @@
 use dwarf_samples::inlined;
 use module_map::{Extent, MapFault, Modules};
 use std::alloc::{AllocError, Global};
+use std::fmt::Debug;
 use std::process::Abort;
 use std::test::*;
+
+/// Checks that both are the same.
+pub fn are_equal<T: Copy + Debug + PartialEq>(rt: &impl Abort, told: T, wanted: T) {
+    assert_eq!(rt; told, wanted);
+}
 
 /// The bytes of a sample.
 pub fn copy(alloc: Global, object: &[u8]) -> Result<Vec<u8>, AllocError> {

@@ -21,17 +21,17 @@ fn all(alloc: Global) -> Result<Modules, Fail> {
 fn one_more_is_refused(rt: HostRuntime) -> Result<(), Fail> {
     let mut modules = all(rt.alloc())?;
     let decoded = modules.steps().decoded;
-    assert_eq!(rt; decoded, 703 * 4096);
+    are_equal(&rt, decoded, 703 * 4096);
     let more = modules.load("more", 0x2000_0000, copy(rt.alloc(), inlined())?);
-    assert_eq!(rt; more, Err(MapFault::Full));
+    are_equal(&rt, more, Err(MapFault::Full));
     let again = modules.load("m7", 0x2000_0000, copy(rt.alloc(), inlined())?);
-    assert_eq!(rt; again, Err(MapFault::NameTaken));
-    assert_eq!(rt; modules.steps().decoded, decoded);
-    assert_eq!(rt; modules.list().count(), 4096);
+    are_equal(&rt, again, Err(MapFault::NameTaken));
+    are_equal(&rt, modules.steps().decoded, decoded);
+    are_equal(&rt, modules.list().count(), 4096);
     // an unload makes room for one
     modules.unload("m9")?;
     let more = modules.load("more", 0x9000, copy(rt.alloc(), inlined())?);
-    assert_eq!(rt; more, from(0xa000));
+    are_equal(&rt, more, from(0xa000));
     Ok(())
 }
 
@@ -44,10 +44,10 @@ fn an_ask_takes_eighteen_compares_at_most(rt: HostRuntime) -> Result<(), Fail> {
         let compares = modules.steps().compares;
         assert!(rt; 2 <= compares && compares <= 18, "{compares} at {number}");
         let found = asked.found.ok_or("no module")?;
-        assert_eq!(rt; found.at as u64, number);
-        assert!(rt; found.place.is_some());
+        are_equal(&rt, found.at as u64, number);
+        are_equal(&rt, found.place.is_some(), true);
     }
-    assert_eq!(rt; modules.ask(0xfff).found, None);
-    assert_eq!(rt; modules.ask(0x100_1000).found, None);
+    are_equal(&rt, modules.ask(0xfff).found, None);
+    are_equal(&rt, modules.ask(0x100_1000).found, None);
     Ok(())
 }

@@ -17,31 +17,31 @@ fn a_load_that_memory_refuses_changes_nothing(rt: HostRuntime) {
     let mut modules = match Modules::new(rt.alloc(), 4) {
         Ok(modules) => modules,
         Err(fault) => {
-            assert_eq!(rt; fault, MapFault::Memory);
+            are_equal(&rt, fault, MapFault::Memory);
             return;
         }
     };
     let is_first = modules.load("a", 0x10000, first);
     if is_first.is_err() {
-        assert_eq!(rt; is_first, Err(MapFault::Memory));
+        are_equal(&rt, is_first, Err(MapFault::Memory));
         lists(&rt, &modules, &[]);
         return;
     }
-    assert_eq!(rt; line(&mut modules, 0x11000), Some(10));
+    are_equal(&rt, line(&mut modules, 0x11000), Some(10));
     let is_second = modules.load("b", 0, second);
     if is_second.is_err() {
-        assert_eq!(rt; is_second, Err(MapFault::Memory));
+        are_equal(&rt, is_second, Err(MapFault::Memory));
         lists(&rt, &modules, &[("a", 0x11000, 0x10000)]);
-        assert_eq!(rt; line(&mut modules, 0x1000), None);
+        are_equal(&rt, line(&mut modules, 0x1000), None);
     } else {
         lists(&rt, &modules, &[("b", 0x1000, 0), ("a", 0x11000, 0x10000)]);
-        assert_eq!(rt; line(&mut modules, 0x1000), Some(12));
+        are_equal(&rt, line(&mut modules, 0x1000), Some(12));
     }
     // with an entry that the cache has, and one that it has not
-    assert_eq!(rt; line(&mut modules, 0x11000), Some(10));
-    assert_eq!(rt; line(&mut modules, 0x11004), Some(11));
-    assert_eq!(rt; modules.move_to("a", 0x20000), from(0x21000));
-    assert_eq!(rt; line(&mut modules, 0x21004), Some(11));
-    assert_eq!(rt; modules.unload("a"), Ok(()));
-    assert_eq!(rt; line(&mut modules, 0x21004), None);
+    are_equal(&rt, line(&mut modules, 0x11000), Some(10));
+    are_equal(&rt, line(&mut modules, 0x11004), Some(11));
+    are_equal(&rt, modules.move_to("a", 0x20000), from(0x21000));
+    are_equal(&rt, line(&mut modules, 0x21004), Some(11));
+    are_equal(&rt, modules.unload("a"), Ok(()));
+    are_equal(&rt, line(&mut modules, 0x21004), None);
 }
