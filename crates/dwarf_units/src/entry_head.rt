@@ -18,7 +18,7 @@ use dwarf_forms::AbbreviationDeclaration;
 use std::marker::Model;
 
 /// The greatest depth of an entry.
-pub(crate) const DEPTH_LIMIT: u16 = 256;
+pub(crate) const DEPTH_LIMIT: u32 = 256;
 
 /// The declaration of an entry, in a unit of a format, and how its attributes are read.
 #[derive(Drop)]
@@ -53,7 +53,7 @@ impl UnitTable<'_> {
     /// root of the unit stands before it.
     pub fn head(
         &self,
-        depth: u16,
+        depth: u32,
         rooted: bool,
         cursor: &mut Cursor,
     ) -> Result<Option<EntryHead<'_>>, Cause>

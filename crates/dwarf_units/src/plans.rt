@@ -7,6 +7,7 @@ ghost use Rattle.dwarf_forms.specs.declared.attribute.AttributeSpecification.{
 ghost use Rattle.dwarf_units.specs.declared.steps.AttributeStep.TheVariants.{Pass};
 ghost use Rattle.dwarf_units.specs.Private.Plans.{step_before, steps_of, step_at, steps_at};
 ghost use Rattle.dwarf_units.specs.Private.Plans.{Fills, plan_of, plan_len, taken_at, kept_at};
+ghost use Rattle.dwarf_units.specs.Private.Plans.{number_at};
 ghost use Rattle.dwarf_units.specs.Private.Used.{used_behind};
 ghost use Rattle.dwarf_bytes.specs.Refusals.{ReadsField};
 
@@ -145,7 +146,7 @@ fn pass_attribute(
     Ok(())
 }
 
-/// Adds the attribute of a name at the cursor to those found. It is judged where no layout is known.
+/// Adds the attribute of a name at the cursor to those found. It is judged if no layout is known.
 #[inline(always)]
 fn keep_attribute(
     format: Format,
@@ -187,10 +188,7 @@ fn take_attribute(
         ValueLayout::Fixed(Width::Two) => u64::from(cursor.u16()?),
         ValueLayout::Fixed(Width::Four) => u64::from(cursor.u32()?),
         ValueLayout::Fixed(Width::Eight) => cursor.u64()?,
-        _ => {
-            let content = Content::read(layout, format, cursor)?;
-            number_of(content, cursor.place())
-        }
+        _ => read_number(format, layout, cursor)?,
     };
     Ok(Attribute {
         name: specification.name,
@@ -199,6 +197,15 @@ fn take_attribute(
             number,
         },
     })
+}
+
+/// The number of the value at the cursor in a layout, for layouts that few values have.
+#[inline(never)]
+fn read_number(format: Format, layout: ValueLayout, cursor: &mut Cursor) -> Result<u64, Cause>
+    ensures { ReadsField (λ n. n) result (number_at format layout) cursor.old cursor.new }
+{
+    let content = Content::read(layout, format, cursor)?;
+    Ok(number_of(content, cursor.place()))
 }
 
 /// The steps of some attributes. `keep` is whether the used ones are kept.

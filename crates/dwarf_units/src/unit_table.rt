@@ -51,7 +51,7 @@ impl<'a> UnitTable<'a> {
     /// The entry at a place, at a depth below the root's, if it is plain and its bytes are there,
     /// and the place after it.
     #[inline(always)]
-    pub fn plain_entry(&self, depth: u16, bytes: &[u8], place: usize) -> Option<(PlainHead, usize)>
+    pub fn plain_entry(&self, depth: u32, bytes: &[u8], place: usize) -> Option<(PlainHead, usize)>
         ensures stands { IfSome result (StandsPlain self.now depth bytes.now place) }
         ensures limit { IfSome result (λ _. depth ≤ depth_limit) }
     {

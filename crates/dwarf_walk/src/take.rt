@@ -111,6 +111,7 @@ impl Walk {
     }
 
     /// Takes a scope whose entry stands at an offset.
+    #[inline(always)]
     fn open(&mut self, offset: u32) -> Result<(), AllocError>
         ensures { OnOk result (walked_of self.new ≡ with_scope offset (walked_of self.old)) }
     {

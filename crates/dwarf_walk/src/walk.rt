@@ -31,14 +31,14 @@ pub(crate) struct NodeHead {
 /// A scope that the next entry may be below: how deep its entry stands, and its number in the unit.
 #[derive(Clone, Copy)]
 pub(crate) struct OpenScope {
-    pub(crate) depth: u16,
+    pub(crate) depth: u32,
     pub(crate) number: u32,
 }
 
 /// What is kept of the entries so far, and the depth behind them.
 #[derive(Drop)]
 pub(crate) struct Walk {
-    pub(crate) depth: u16,
+    pub(crate) depth: u32,
     pub(crate) root: Option<RootEntry>,
     pub(crate) scopes: Vec<ScopePlace>,
     pub(crate) opened: Vec<OpenScope>,
@@ -172,7 +172,7 @@ pub(crate) fn unit_bytes<'a>(info: &'a [u8], header: &UnitHeader) -> &'a [u8]
 /// unit stands before it. If not, its used attributes come into `found`.
 fn node(
     table: &UnitTable<'_>,
-    depth: u16,
+    depth: u32,
     rooted: bool,
     cursor: &mut Cursor,
     found: &mut UsedAttributes,
@@ -195,7 +195,7 @@ fn node(
 pub(crate) fn end_scopes(
     scopes: &mut Vec<ScopePlace>,
     opened: &mut Vec<OpenScope>,
-    depth: u16,
+    depth: u32,
 ) -> Result<(), AllocError>
     ensures { OnOk result (
         (scopes.new.items ≡ ended_at depth (reverse opened.old.items) scopes.old.items)

@@ -123,6 +123,11 @@ unfoldable pub steps_of : Bool → Format → List AttributeSpecification → Li
 steps_of keep format [] = []
 steps_of keep format (s ∷ ss) = step_before (step_of keep format s) (steps_of keep format ss)
 
+-- the number of the value at a place in a layout, and the place after it
+abbrev pub number_at : Format → ValueLayout → List ℕ → ℕ → Result (ℕ × ℕ) Cause
+number_at format layout bytes at =
+    reading (content_at layout format bytes at) >>= λ c. Ok (number_of c.0 c.1, c.1)
+
 -- the attribute whose value stands at a place in a layout
 abbrev pub taken_at : Format → AttributeSpecification → ValueLayout → List ℕ → ℕ
     → Result (Attribute × ℕ) Cause
