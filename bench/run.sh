@@ -20,11 +20,13 @@ time_of() {
     "$@" | sed -n 's/.*, \([0-9]*\) ms$/\1/p'
 }
 
-# The least of nine times of ours and of the plain one, which take turns.
+# The least of nine times of ours and of the plain one, which take turns; of twenty-five, where ours
+# is below half a second, so that chance does not decide.
 least_of_both() {
-    local object=$1 plain=$2
+    local object=$1 plain=$2 turns=9
     shift 2
-    for _ in 1 2 3 4 5 6 7 8 9; do
+    if [ "$(time_of "$measure" "$@" "$object")" -lt 500 ]; then turns=25; fi
+    for ((turn = 0; turn < turns; turn++)); do
         echo "$(time_of "$measure" "$@" "$object") $(time_of "$plain" "$object")"
     done | awk 'NR == 1 || $1 < a { a = $1 } NR == 1 || $2 < b { b = $2 } END { print a, b }'
 }
