@@ -45,6 +45,17 @@ impl<'a> Cursor<'a> {
         Cursor { bytes, place: 0 }
     }
 
+    /// Another cursor at the same place of the same bytes.
+    #[inline(always)]
+    pub fn fork(&self) -> Cursor<'a>
+        ensures { result ≡ self.now }
+    {
+        Cursor {
+            bytes: self.bytes,
+            place: self.place,
+        }
+    }
+
     /// How many bytes stand before the cursor.
     pub fn place(&self) -> usize
         ensures place { result ≡ self.now.place }

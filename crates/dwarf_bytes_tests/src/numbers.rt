@@ -47,6 +47,20 @@ fn parts_end_behind_the_cursor(rt: HostRuntime) -> Result<(), Fail> {
     Ok(())
 }
 
+/// A fork stands where the cursor does, over the same bytes, and moves alone.
+#[test]
+fn forks_move_alone(rt: HostRuntime) -> Result<(), Fail> {
+    let mut cursor = Cursor::new(&[1, 2, 3]);
+    cursor.seek(1)?;
+    let mut fork = cursor.fork();
+    are_equal(&rt, fork.place(), 1);
+    are_equal(&rt, fork.u16(), Ok(0x0302));
+    are_equal(&rt, cursor.place(), 1);
+    are_equal(&rt, cursor.u8(), Ok(2));
+    are_equal(&rt, fork.place(), 3);
+    Ok(())
+}
+
 /// The longest part, an empty one, and those that pass the end.
 #[test]
 fn parts_end_with_the_whole(rt: HostRuntime) -> Result<(), Fail> {

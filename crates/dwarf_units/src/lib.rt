@@ -10,6 +10,7 @@ mod linked_lists;
 mod numbers;
 mod plain_head;
 mod plans;
+mod step_readers;
 mod steps;
 mod table_store;
 mod tables;

@@ -1,21 +1,17 @@
 //! Plans of reading the attributes of entries, which pass over runs of those that are not kept.
 
-ghost use Rattle.std.specs.Prelude.{◌≡◌, ◌≤◌, ◌-◌, ◌^◌, List, [], ◌∷◌, IfOk, OnOk, map, reverse};
+ghost use Rattle.std.specs.Prelude.{◌≡◌, ◌≤◌, ◌-◌, ◌^◌, List, IfOk, OnOk, map, reverse};
 ghost use Rattle.dwarf_forms.specs.declared.attribute.AttributeSpecification.{
   AttributeSpecification as Specification,
 };
-ghost use Rattle.dwarf_units.specs.declared.steps.AttributeStep.TheVariants.{Pass};
 ghost use Rattle.dwarf_units.specs.Private.Plans.{step_before, steps_of, step_at, steps_at};
-ghost use Rattle.dwarf_units.specs.Private.Plans.{Fills, plan_of, plan_len, taken_at, kept_at};
-ghost use Rattle.dwarf_units.specs.Private.Plans.{number_at};
+ghost use Rattle.dwarf_units.specs.Private.Plans.{Fills, plan_of, plan_len};
 ghost use Rattle.dwarf_units.specs.Private.Used.{used_behind};
-ghost use Rattle.dwarf_bytes.specs.Refusals.{ReadsField};
 
-use crate::attributes::{Attribute, AttributeValue, number_of, read_attribute};
+use crate::step_readers::{keep_attribute, pass_attribute};
 use crate::steps::{AttributeStep, joined, step_of};
 use crate::used_attributes::UsedAttributes;
-use crate::used_name::UsedName;
-use dwarf_bytes::{Cause, Content, Cursor, Format, ValueLayout, Width};
+use dwarf_bytes::{Cause, Cursor, Format};
 use dwarf_forms::{AbbreviationTable, AttributeSpecification};
 use std::alloc::{AllocError, Global};
 use std::marker::Model;
@@ -123,89 +119,6 @@ pub(crate) fn read_step(
         }
     }
     Ok(())
-}
-
-/// Passes over the attribute at the cursor. It is judged where no layout is known.
-fn pass_attribute(
-    format: Format,
-    specification: &AttributeSpecification,
-    layout: Option<ValueLayout>,
-    cursor: &mut Cursor,
-) -> Result<(), Cause>
-    ensures { ReadsField (λ _. []) result (step_at format (Pass specification.now layout))
-        cursor.old cursor.new }
-{
-    match layout {
-        None => {
-            read_attribute(format, specification, cursor)?;
-        }
-        Some(layout) => {
-            Content::read(layout, format, cursor)?;
-        }
-    }
-    Ok(())
-}
-
-/// Adds the attribute of a name at the cursor to those found. It is judged if no layout is known.
-#[inline(always)]
-fn keep_attribute(
-    format: Format,
-    name: UsedName,
-    specification: &AttributeSpecification,
-    layout: Option<ValueLayout>,
-    cursor: &mut Cursor,
-    found: &mut UsedAttributes,
-) -> Result<(), Cause>
-    ensures { Fills result found.new (λ bytes at. used_behind found.old
-        (kept_at format name specification.now layout bytes at)) cursor.old cursor.new }
-{
-    match layout {
-        None => found.add(name, read_attribute(format, specification, cursor)?.value),
-        Some(layout) => found.add(
-            name,
-            take_attribute(format, specification, layout, cursor)?.value,
-        ),
-    }
-    Ok(())
-}
-
-/// The attribute at the cursor, whose value stands there in a layout. The layouts of most values
-/// have an arm of their own, since every attribute that is kept comes here.
-#[inline(always)]
-#[tactic(auto, unfolding(dwarf_bytes::specs::Contents::content_at))]
-fn take_attribute(
-    format: Format,
-    specification: &AttributeSpecification,
-    layout: ValueLayout,
-    cursor: &mut Cursor,
-) -> Result<Attribute, Cause>
-    ensures { ReadsField (λ a. a) result (taken_at format specification.now layout)
-        cursor.old cursor.new }
-{
-    let number = match layout {
-        ValueLayout::Offset => cursor.offset(format)?,
-        ValueLayout::Fixed(Width::One) => u64::from(cursor.u8()?),
-        ValueLayout::Fixed(Width::Two) => u64::from(cursor.u16()?),
-        ValueLayout::Fixed(Width::Four) => u64::from(cursor.u32()?),
-        ValueLayout::Fixed(Width::Eight) => cursor.u64()?,
-        _ => read_number(format, layout, cursor)?,
-    };
-    Ok(Attribute {
-        name: specification.name,
-        value: AttributeValue {
-            form: specification.form,
-            number,
-        },
-    })
-}
-
-/// The number of the value at the cursor in a layout, for layouts that few values have.
-#[inline(never)]
-fn read_number(format: Format, layout: ValueLayout, cursor: &mut Cursor) -> Result<u64, Cause>
-    ensures { ReadsField (λ n. n) result (number_at format layout) cursor.old cursor.new }
-{
-    let content = Content::read(layout, format, cursor)?;
-    Ok(number_of(content, cursor.place()))
 }
 
 /// The steps of some attributes. `keep` is whether the used ones are kept.

@@ -107,6 +107,7 @@ impl<'a> EntryReader<'a> {
 
     /// What a path needs of the entry at an offset, in the unit of the header. A long entry is read
     /// once, and so are the entries of a unit, which are marked, if its table does not stay.
+    #[inline(always)]
     pub fn named(
         &mut self,
         header: &UnitHeader,
@@ -193,6 +194,7 @@ impl<'a> EntryReader<'a> {
     }
 
     /// The same, read at its place.
+    #[inline(always)]
     fn named_again(&mut self, header: &UnitHeader, offset: usize) -> Result<NamedEntry, Cause>
         ensures named { (s : SectionBytes) (table : List Declaration) → IsReaderOf s self.old
             → declarations_of declarations_limit s.debug_abbrev header.now.abbreviations ≡ Ok table

@@ -1,0 +1,110 @@
+//! Reading the attribute of a step. Readers that are not inlined are lent a cursor of their own, so
+//! that the cursor of the steps stays in registers.
+
+ghost use Rattle.std.specs.Prelude.{◌≡◌, ◌-◌, []};
+ghost use Rattle.dwarf_bytes.specs.Refusals.{ReadsField};
+ghost use Rattle.dwarf_units.specs.declared.steps.AttributeStep.TheVariants.{Pass};
+ghost use Rattle.dwarf_units.specs.Private.Plans.{Fills, step_at, kept_at, number_at, taken_at};
+ghost use Rattle.dwarf_units.specs.Private.Used.{used_behind};
+
+use crate::attributes::{Attribute, AttributeValue, number_of, read_attribute};
+use crate::used_attributes::UsedAttributes;
+use crate::used_name::UsedName;
+use dwarf_bytes::{Cause, Content, Cursor, Format, ValueLayout, Width};
+use dwarf_forms::AttributeSpecification;
+
+/// Passes over the attribute at the cursor. It is judged where no layout is known.
+#[inline(always)]
+pub(crate) fn pass_attribute(
+    format: Format,
+    specification: &AttributeSpecification,
+    layout: Option<ValueLayout>,
+    cursor: &mut Cursor,
+) -> Result<(), Cause>
+    ensures { ReadsField (λ _. []) result (step_at format (Pass specification.now layout))
+        cursor.old cursor.new }
+{
+    let mut ahead = cursor.fork();
+    match layout {
+        None => {
+            read_attribute(format, specification, &mut ahead)?;
+        }
+        Some(layout) => {
+            Content::read(layout, format, &mut ahead)?;
+        }
+    }
+    *cursor = ahead;
+    Ok(())
+}
+
+/// Adds the attribute of a name at the cursor to those found. It is judged if no layout is known.
+#[inline(always)]
+pub(crate) fn keep_attribute(
+    format: Format,
+    name: UsedName,
+    specification: &AttributeSpecification,
+    layout: Option<ValueLayout>,
+    cursor: &mut Cursor,
+    found: &mut UsedAttributes,
+) -> Result<(), Cause>
+    ensures { Fills result found.new (λ bytes at. used_behind found.old
+        (kept_at format name specification.now layout bytes at)) cursor.old cursor.new }
+{
+    match layout {
+        None => {
+            let mut ahead = cursor.fork();
+            let attribute = read_attribute(format, specification, &mut ahead)?;
+            *cursor = ahead;
+            found.add(name, attribute.value);
+        }
+        Some(layout) => found.add(
+            name,
+            take_attribute(format, specification, layout, cursor)?.value,
+        ),
+    }
+    Ok(())
+}
+
+/// The attribute at the cursor, whose value stands there in a layout. The layouts of most values
+/// have an arm of their own, since every attribute that is kept comes here.
+#[inline(always)]
+#[tactic(auto, unfolding(dwarf_bytes::specs::Contents::content_at))]
+fn take_attribute(
+    format: Format,
+    specification: &AttributeSpecification,
+    layout: ValueLayout,
+    cursor: &mut Cursor,
+) -> Result<Attribute, Cause>
+    ensures { ReadsField (λ a. a) result (taken_at format specification.now layout)
+        cursor.old cursor.new }
+{
+    let number = match layout {
+        ValueLayout::Offset => cursor.offset(format)?,
+        ValueLayout::Fixed(Width::One) => u64::from(cursor.u8()?),
+        ValueLayout::Fixed(Width::Two) => u64::from(cursor.u16()?),
+        ValueLayout::Fixed(Width::Four) => u64::from(cursor.u32()?),
+        ValueLayout::Fixed(Width::Eight) => cursor.u64()?,
+        _ => {
+            let mut ahead = cursor.fork();
+            let number = read_number(format, layout, &mut ahead)?;
+            *cursor = ahead;
+            number
+        }
+    };
+    Ok(Attribute {
+        name: specification.name,
+        value: AttributeValue {
+            form: specification.form,
+            number,
+        },
+    })
+}
+
+/// The number of the value at the cursor in a layout, for layouts that few values have.
+#[inline(never)]
+fn read_number(format: Format, layout: ValueLayout, cursor: &mut Cursor) -> Result<u64, Cause>
+    ensures { ReadsField (λ n. n) result (number_at format layout) cursor.old cursor.new }
+{
+    let content = Content::read(layout, format, cursor)?;
+    Ok(number_of(content, cursor.place()))
+}
