@@ -1,6 +1,6 @@
 -- Well-formed bytes hold no fault.
 use Rattle.std.proofs.Common.{◌≡◌, ℕ, List, refl, sym}
-use Rattle.std.specs.Prelude.{Option, Some, None, Result, Ok, Err, IsOk}
+use Rattle.std.specs.Prelude.{None, Result, Ok, Err, IsOk}
 use Rattle.std.proofs.lemmas.Bool.{true≢false}
 use Rattle.dwarf_bytes.specs.declared.fault.LoadFault.{LoadFault}
 use Rattle.addr_table.specs.Decoded.{Decoded, decoded}

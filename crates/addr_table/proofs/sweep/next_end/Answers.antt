@@ -1,4 +1,4 @@
-use Rattle.std.proofs.Common.{◌≡◌, ◌<◌, ◌≤◌, length, get_or, inl, inr, ap, sym, arith}
+use Rattle.std.proofs.Common.{◌<◌, length, inl, inr, ap, sym, arith}
 use Rattle.addr_table.specs.declared.ends.End.{End}
 use Rattle.addr_table.proofs.sweep.next_end.Goals as goal
 use Rattle.addr_table.proofs.sweep.next_end.Goals.{else-closed-len-via-then-closed-len+else-get, else-closed-len-via-else-closed-len}
