@@ -18,6 +18,8 @@ pub mod EndLaws
 pub mod RangeEnds
 pub mod SweepLaws
 pub mod EndListLaws
+pub mod DigitLaws
+pub mod EndDigits
 pub mod EndTurns
 pub mod RoomLaws
 pub mod BuildLaws

@@ -6,16 +6,10 @@ ghost use Rattle.addr_table.specs.declared.ends.End.{End as Ended};
 ghost use Rattle.addr_table.specs.Private.EndLists.{end_of};
 
 use crate::ends::End;
+use crate::low_ends::{self, LowEnd};
 use crate::packed::narrow;
 use std::alloc::{AllocError, Global};
 use std::marker::Model;
-
-/// An end at an address below 2^32, in half the bytes.
-#[derive(Clone, Copy)]
-struct LowEnd {
-    at: u32,
-    key: u32,
-}
 
 /// Ends: first those at addresses below 2^32, as hardly an object has others.
 #[derive(Drop)]
@@ -28,7 +22,7 @@ impl Model for EndList {
     ghost use Rattle.std.specs.Prelude.{List, map, ◌++◌, ◌<◌, ◌≤◌, ◌^◌};
     ghost use Rattle.std.specs.List.{All};
     ghost use Rattle.addr_table.specs.declared.ends.End.{End};
-    ghost use Rattle.addr_table.specs.declared.end_list.LowEnd.{LowEnd as Low};
+    ghost use Rattle.addr_table.specs.declared.low_ends.LowEnd.{LowEnd as Low};
     ghost use Rattle.addr_table.specs.Private.EndLists.{end_of};
 
     ghost Value = { List End };
@@ -94,11 +88,12 @@ impl EndList {
     }
 
     /// Puts them in the order of addresses.
-    pub(crate) fn sort(&mut self)
+    pub(crate) fn sort(&mut self, alloc: Global) -> Result<(), AllocError>
         ensures permutation { IsPermutation self.old self.new }
-        ensures rise { IsNonDecreasingBy (λ (e : Ended). e.at) self.new }
+        ensures rise { OnOk result (IsNonDecreasingBy (λ (e : Ended). e.at) self.new) }
     {
-        self.low.sort_unstable_by_key(|end| end.at);
+        low_ends::sort(alloc, &mut self.low)?;
         self.high.sort_unstable_by_key(|end| end.at);
+        Ok(())
     }
 }

@@ -9,6 +9,7 @@ mod ends;
 mod frames;
 mod joins;
 pub mod laws;
+mod low_ends;
 mod module;
 mod outwards;
 mod packed;
