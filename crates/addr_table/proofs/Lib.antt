@@ -18,7 +18,9 @@ pub mod EndLaws
 pub mod RangeEnds
 pub mod SweepLaws
 pub mod EndListLaws
+pub mod DigitCounts
 pub mod DigitLaws
+pub mod DigitPlaces
 pub mod EndDigits
 pub mod EndTurns
 pub mod RoomLaws
