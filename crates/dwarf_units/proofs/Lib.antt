@@ -10,6 +10,7 @@ pub mod PlainLaws
 pub mod PlanLaws
 pub mod PlanTurns
 pub mod PlainEntries
+pub mod PlainCodes
 pub mod LinkLaws
 pub mod SharedTableLaws
 pub mod StoreLaws

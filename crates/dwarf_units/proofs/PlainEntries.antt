@@ -22,7 +22,7 @@ use Rattle.dwarf_units.specs.declared.plain_head.PlainHead.{PlainHead}
 use Rattle.dwarf_units.specs.declared.steps.AttributeStep.{AttributeStep}
 use Rattle.dwarf_units.specs.declared.steps.AttributeStep.TheVariants.{Skip, Pass, Keep}
 use Rattle.dwarf_units.specs.Entries.{Node, Entry, attributes_at, declaration_of, depth_limit, node_behind}
-use Rattle.dwarf_units.specs.Private.PlainHeads.{ArePlain, StandsPlain, code_limit, passed_len, plain_head, plain_of}
+use Rattle.dwarf_units.specs.Private.PlainHeads.{ArePlain, StandsPlain, code_limit, codes_at_hand, passed_len, plain_head, plain_of}
 use Rattle.dwarf_units.specs.Private.Plans.{Table, kept_attributes, steps_at, steps_of}
 use Rattle.dwarf_units.specs.Private.SharedTables.{SharedTable, told_table}
 use Rattle.dwarf_units.proofs.PlanLaws.{kept-is, skip-within}
@@ -31,25 +31,25 @@ use Rattle.dwarf_units.proofs.SharedTableLaws.{found_told}
 -- ---- heads, each for its code
 
 -- those of so many codes
-pub record PlainSoFar (table : SharedTable) (place : ℕ) (heads : List (Option PlainHead)) : Type 0 where
+pub record PlainSoFar (format : Format) (declarations : List SharedDeclaration) (place : ℕ) (heads : List (Option PlainHead)) : Type 0 where
   pub len : length heads ≡ place
-  pub each : (k : ℕ) (head : Option PlainHead) → slice_get heads k ≡ Some head → head ≡ plain_head table (k + 1)
+  pub each : (k : ℕ) (head : Option PlainHead) → slice_get heads k ≡ Some head → head ≡ plain_head format declarations (k + 1)
 
-pub plain-none : (table : SharedTable) → PlainSoFar table 0 []
-plain-none table = record { len = refl; each = λ k head at. cc }
+pub plain-none : (format : Format) (declarations : List SharedDeclaration) → PlainSoFar format declarations 0 []
+plain-none format declarations = record { len = refl; each = λ k head at. cc }
 
-pub plain-more : (table : SharedTable) (place : ℕ) (heads : List (Option PlainHead)) (head : Option PlainHead) → PlainSoFar table place heads → head ≡ plain_head table (place + 1) → PlainSoFar table (place + 1) (heads ++ head ∷ [])
-plain-more table place heads head so_far is = record {
+pub plain-more : (format : Format) (declarations : List SharedDeclaration) (place : ℕ) (heads : List (Option PlainHead)) (head : Option PlainHead) → PlainSoFar format declarations place heads → head ≡ plain_head format declarations (place + 1) → PlainSoFar format declarations (place + 1) (heads ++ head ∷ [])
+plain-more format declarations place heads head so_far is = record {
   len = omega (arith, so_far.len, length-append heads (head ∷ []));
   each = λ k other at. by_place k other (at-last heads head other k at);
 }
   where
-    by_place : (k : ℕ) (other : Option PlainHead) → (slice_get heads k ≡ Some other) ⊎ ((k ≡ length heads) × (head ≡ other)) → other ≡ plain_head table (k + 1)
+    by_place : (k : ℕ) (other : Option PlainHead) → (slice_get heads k ≡ Some other) ⊎ ((k ≡ length heads) × (head ≡ other)) → other ≡ plain_head format declarations (k + 1)
     by_place k other (inl before) = so_far.each k other before
-    by_place k other (inr last) = sym last.1 ∙ (is ∙ ap (λ (n : ℕ). plain_head table (n + 1)) (sym (last.0 ∙ so_far.len)))
+    by_place k other (inr last) = sym last.1 ∙ (is ∙ ap (λ (n : ℕ). plain_head format declarations (n + 1)) (sym (last.0 ∙ so_far.len)))
 
-pub plain-all : (table : SharedTable) (place : ℕ) (heads : List (Option PlainHead)) → PlainSoFar table place heads → place ≤ code_limit → ArePlain table heads
-plain-all table place heads so_far few = record { few = omega (arith, so_far.len, few); each = so_far.each }
+pub plain-all : (format : Format) (declarations : List SharedDeclaration) (place : ℕ) (heads : List (Option PlainHead)) → PlainSoFar format declarations place heads → place ≡ codes_at_hand declarations → ArePlain format declarations heads
+plain-all format declarations place heads so_far all = record { len = so_far.len ∙ all; each = so_far.each }
 
 -- ---- a code of one byte
 
@@ -101,7 +101,7 @@ of-declaration table declaration depth code unit at after attributes found some 
 same-entry : (t u : ℕ) (b c : Bool) (attributes : List Attribute) (after : ℕ) → t ≡ u → b ≡ c → (let f : Node × ℕ → Result (Node × ℕ) Cause = λ node. Ok node in f (Entry t b attributes, after) ≡ f (Entry u c attributes, after))
 same-entry t u b c attributes after tag children = rw (tag, children) refl
 
-pub plain-stands : (known : List KnownAttribute) (shared : SharedTable) (table : Table) (depth code : ℕ) (unit : List ℕ) (at : ℕ) (head : PlainHead) → told_table known shared ≡ table → plain_head shared code ≡ Some head → 0 < code → code ≤ code_limit → slice_get unit at ≡ Some code →
+pub plain-stands : (known : List KnownAttribute) (shared : SharedTable) (table : Table) (depth code : ℕ) (unit : List ℕ) (at : ℕ) (head : PlainHead) → told_table known shared ≡ table → plain_head shared.format shared.declarations code ≡ Some head → 0 < code → code ≤ code_limit → slice_get unit at ≡ Some code →
     0 < depth → depth ≤ depth_limit → at + 1 + head.len ≤ length unit → StandsPlain table depth unit at (head, at + 1 + head.len)
 plain-stands known shared table depth code unit at head view is some small there below within fits =
     subst (λ (t : Table). StandsPlain t depth unit at (head, at + 1 + head.len)) view (by_found (find (λ d. d.code == code) shared.declarations) refl is)

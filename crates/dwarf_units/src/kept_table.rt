@@ -7,9 +7,9 @@ ghost use Rattle.dwarf_bytes.specs.Refusals.{Decodes, in_section};
 ghost use Rattle.dwarf_forms.specs.Tables.{declarations_of};
 ghost use Rattle.dwarf_forms.specs.Private.SharedTables.{tell};
 ghost use Rattle.dwarf_units.specs.Private.Links.{LinksGrow};
-ghost use Rattle.dwarf_units.specs.Private.PlainHeads.{ArePlain, code_limit, plain_head};
+ghost use Rattle.dwarf_units.specs.Private.PlainHeads.{ArePlain, plain_at_hand, plain_head};
 ghost use Rattle.dwarf_units.specs.Private.Plans.{plan_of, plan_len};
-ghost use Rattle.dwarf_units.specs.Private.SharedTables.{IsReadable, own_size};
+ghost use Rattle.dwarf_units.specs.Private.SharedTables.{IsReadable, own_size, plans_of};
 
 use crate::linked_lists::LinkedLists;
 use crate::plain_head::PlainHead;
@@ -36,10 +36,9 @@ pub(crate) struct KeptTable {
 }
 
 impl Model for KeptTable {
-    ghost use Rattle.std.specs.Prelude.{◌≡◌, map};
+    ghost use Rattle.std.specs.Prelude.{◌≡◌};
     ghost use Rattle.dwarf_units.specs.Private.PlainHeads.{ArePlain};
-    ghost use Rattle.dwarf_units.specs.Private.Plans.{plan_of};
-    ghost use Rattle.dwarf_units.specs.Private.SharedTables.{SharedTable};
+    ghost use Rattle.dwarf_units.specs.Private.SharedTables.{SharedTable, plans_of};
 
     ghost Value = { SharedTable };
 
@@ -49,10 +48,8 @@ impl Model for KeptTable {
       declarations = t.table;
     } };
 
-    ghost invariant = { λ t. (t.plans.items ≡ map
-        (λ declaration. plan_of t.format declaration.list.own) t.table)
-        × ArePlain (record { offset = t.offset; format = t.format; declarations = t.table })
-        t.plain.items };
+    ghost invariant = { λ t. (t.plans.items ≡ plans_of t.format t.table)
+        × ArePlain t.format t.table t.plain.items };
 }
 
 impl KeptTable {
@@ -74,15 +71,14 @@ impl KeptTable {
     {
         let table = lists.table(alloc, format, offset, left)?;
         let plans = plans(alloc, format, &table)?;
-        let mut kept = KeptTable {
+        let plain = plain_heads(alloc, &table, &plans)?;
+        Ok(KeptTable {
             offset,
             format,
             table,
             plans,
-            plain: Vec::new(alloc),
-        };
-        kept.plain = kept.plain_heads(alloc)?;
-        Ok(kept)
+            plain,
+        })
     }
 
     /// The format of the units whose entries are read by the table.
@@ -106,39 +102,16 @@ impl KeptTable {
         ensures none { IfNone result (find
             (λ declaration. declaration.code == code) self.now.declarations ≡ None) }
     {
-        let place = self.table.position(code)?;
-        let declaration = self.table.declarations().get(place)?;
-        let plan = self.plans.get(place)?;
-        Some((declaration, plan))
+        planned(&self.table, &self.plans, code)
     }
 
     /// The plain head of a code of one byte, if it is known.
     #[inline(always)]
     pub(crate) fn plain(&self, code: u8) -> Option<PlainHead>
-        ensures { IfSome result (λ head. (0 < code) × (code ≤ code_limit)
-            × (plain_head self.now code ≡ Some head)) }
+        ensures { result ≡ plain_at_hand self.now code }
     {
         let place = usize::from(code).checked_sub(1)?;
         *self.plain.get(place)?
-    }
-
-    /// The plain heads of the first codes, from 1 on: so many as it has declarations, of one byte.
-    fn plain_heads(&self, alloc: Global) -> Result<Vec<Option<PlainHead>>, AllocError>
-        ensures { IfOk result (λ heads. ArePlain self.now heads.items) }
-    {
-        let mut heads = Vec::new(alloc);
-        for place in 0..self.table.declarations().len().min(CODE_LIMIT) {
-            heads.push(self.plain_head(place as u64 + 1))?;
-        }
-        Ok(heads)
-    }
-
-    /// The plain head of a code, if its entries are plain.
-    fn plain_head(&self, code: u64) -> Option<PlainHead>
-        ensures { result ≡ plain_head self.now code }
-    {
-        let (declaration, plan) = self.find(code)?;
-        PlainHead::of(declaration, plan)
     }
 
     /// How many declarations it has.
@@ -163,6 +136,49 @@ impl KeptTable {
     {
         self.offset == header.abbreviations && self.format == header.format
     }
+}
+
+/// The declaration of a code among those of a table, and its plan among theirs.
+fn planned<'a>(
+    table: &'a AbbreviationTable,
+    plans: &'a [Plan],
+    code: u64,
+) -> Option<(&'a AbbreviationDeclaration, &'a Plan)>
+    ensures some { (format : Format) → plans.now ≡ plans_of format table.now
+        → IfSome result (λ found. (find (λ declaration. declaration.code == code) table.now
+        ≡ Some found.0.now) × (found.1.now ≡ plan_of format found.0.now.list.own)) }
+    ensures none { (format : Format) → plans.now ≡ plans_of format table.now
+        → IfNone result (find (λ declaration. declaration.code == code) table.now ≡ None) }
+{
+    let place = table.position(code)?;
+    let declaration = table.declarations().get(place)?;
+    let plan = plans.get(place)?;
+    Some((declaration, plan))
+}
+
+/// The plain heads of the first codes, from 1 on: so many as there are declarations, of one byte.
+fn plain_heads(
+    alloc: Global,
+    table: &AbbreviationTable,
+    plans: &[Plan],
+) -> Result<Vec<Option<PlainHead>>, AllocError>
+    ensures { (format : Format) → plans.now ≡ plans_of format table.now
+        → IfOk result (λ heads. ArePlain format table.now heads.items) }
+{
+    let mut heads = Vec::new(alloc);
+    for place in 0..table.declarations().len().min(CODE_LIMIT) {
+        heads.push(plain_head(table, plans, place as u64 + 1))?;
+    }
+    Ok(heads)
+}
+
+/// The plain head of a code, if its entries are plain.
+fn plain_head(table: &AbbreviationTable, plans: &[Plan], code: u64) -> Option<PlainHead>
+    ensures { (format : Format) → plans.now ≡ plans_of format table.now
+        → result ≡ plain_head format table.now code }
+{
+    let (declaration, plan) = planned(table, plans, code)?;
+    PlainHead::of(declaration, plan)
 }
 
 /// How many attributes declarations have themselves.

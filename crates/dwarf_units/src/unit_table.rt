@@ -3,7 +3,7 @@
 ghost use Rattle.std.specs.Prelude.{◌≡◌, ◌≤◌, IfSome, option_map};
 ghost use Rattle.dwarf_units.specs.Entries.{declaration_of, depth_limit};
 ghost use Rattle.dwarf_units.specs.Private.Heads.{head_in};
-ghost use Rattle.dwarf_units.specs.Private.PlainHeads.{StandsPlain};
+ghost use Rattle.dwarf_units.specs.Private.PlainHeads.{StandsPlain, plain_entry_at};
 ghost use Rattle.dwarf_units.specs.Private.SharedTables.{IsReadable, told_table};
 
 use crate::entry_head::{DEPTH_LIMIT, EntryHead};
@@ -52,6 +52,7 @@ impl<'a> UnitTable<'a> {
     /// and the place after it.
     #[inline(always)]
     pub fn plain_entry(&self, depth: u32, bytes: &[u8], place: usize) -> Option<(PlainHead, usize)>
+        ensures found { result ≡ plain_entry_at self.now depth bytes.now place }
         ensures stands { IfSome result (StandsPlain self.now depth bytes.now place) }
         ensures limit { IfSome result (λ _. depth ≤ depth_limit) }
     {

@@ -1,14 +1,17 @@
 -- Entries whose attributes, where none is kept, are passed over as so many bytes.
-use Rattle.std.specs.Prelude.{◌≡◌, ℕ, ◌+◌, ◌≤◌, List, [], ◌∷◌, length, true, false, ◌==◌, Option}
-use Rattle.std.specs.Prelude.{Some, None, Ok, if◌then◌else◌, is_some, find, option_map, slice_get}
+use Rattle.std.specs.Prelude.{◌≡◌, ℕ, ◌+◌, min, List, [], ◌∷◌, length, Bool, true, false, ◌==◌}
+use Rattle.std.specs.Prelude.{◌&&◌, ◌||◌, nat_lt, nat_le, Option, Some, None, Ok, if◌then◌else◌}
+use Rattle.std.specs.Prelude.{is_some, find, option_and_then, option_map, slice_get}
 use Rattle.std.specs.Option.{option_map_or}
 use Rattle.dwarf_bytes.specs.declared.format.Format.{Format}
+use Rattle.dwarf_forms.specs.declared.shared.TheConstants.{UNSHARED}
+use Rattle.dwarf_forms.specs.Declarations.{Declaration}
 use Rattle.dwarf_forms.specs.Private.SharedTables.{SharedDeclaration}
 use Rattle.dwarf_units.specs.declared.attributes.Attribute.{Attribute}
 use Rattle.dwarf_units.specs.declared.plain_head.PlainHead.{PlainHead}
 use Rattle.dwarf_units.specs.declared.steps.AttributeStep.{AttributeStep}
 use Rattle.dwarf_units.specs.declared.steps.AttributeStep.TheVariants.{Skip, Pass, Keep}
-use Rattle.dwarf_units.specs.Entries.{Entry, node_behind}
+use Rattle.dwarf_units.specs.Entries.{Entry, declaration_of, depth_limit, node_behind}
 use Rattle.dwarf_units.specs.Private.Plans.{Table, steps_of}
 use Rattle.dwarf_units.specs.Private.SharedTables.{SharedTable}
 
@@ -27,19 +30,59 @@ plain_of format d = if is_some d.list.rest then None else
     (passed_len (steps_of false format d.list.own))
 
 -- .. of the declaration of a code
-abbrev pub plain_head : SharedTable → ℕ → Option PlainHead
-plain_head table code = option_map_or (plain_of table.format)
-    (find (λ declaration. declaration.code == code) table.declarations) None
+abbrev pub plain_head : Format → List SharedDeclaration → ℕ → Option PlainHead
+plain_head format declarations code = option_map_or (plain_of format)
+    (find (λ declaration. declaration.code == code) declarations) None
 
 -- the greatest code of one byte
 abbrev pub code_limit : ℕ
 code_limit = 127
 
--- The heads are those of the first codes, from 1 on, which are of one byte.
-pub record ArePlain (table : SharedTable) (heads : List (Option PlainHead)) : Type 0 where
-  pub few : length heads ≤ code_limit
+-- how many codes, from 1 on, have their heads at hand: those of one byte, and no more than there
+-- are declarations
+abbrev pub codes_at_hand : {D : Type 0} → List D → ℕ
+codes_at_hand declarations = min (length declarations) code_limit
+
+abbrev pub is_at_hand : {D : Type 0} → List D → ℕ → Bool
+is_at_hand declarations code = nat_lt 0 code && nat_le code (codes_at_hand declarations)
+
+-- The heads are those of the first codes, from 1 on.
+pub record ArePlain (format : Format) (declarations : List SharedDeclaration)
+    (heads : List (Option PlainHead)) : Type 0 where
+  pub len : length heads ≡ codes_at_hand declarations
   pub each : (place : ℕ) (head : Option PlainHead) → slice_get heads place ≡ Some head
-      → head ≡ plain_head table (place + 1)
+      → head ≡ plain_head format declarations (place + 1)
+
+-- the plain head of a code, if it is at hand
+abbrev pub plain_at_hand : SharedTable → ℕ → Option PlainHead
+plain_at_hand table code = if is_at_hand table.declarations code
+    then plain_head table.format table.declarations code else None
+
+-- ---- of declarations with all of their attributes
+
+-- the head of the entries of a declaration of so few attributes that it shares none
+abbrev pub plain_of_all : Format → Declaration → Option PlainHead
+plain_of_all format d = if nat_lt UNSHARED (length d.attributes) then None else
+    option_map (λ len. record { tag = d.tag; children = d.children; len = len })
+    (passed_len (steps_of false format d.attributes))
+
+-- .. of the declaration of a code, if it is at hand
+abbrev pub plain_by_code : Table → ℕ → Option PlainHead
+plain_by_code table code = if is_at_hand table.declarations code
+    then option_map_or (plain_of_all table.format) (declaration_of table.declarations code) None
+    else None
+
+-- an entry with a head that stands at a place of a unit, if its bytes are there, and the place
+-- after it
+abbrev pub if_within : List ℕ → ℕ → PlainHead → Option (PlainHead × ℕ)
+if_within unit at head = if nat_lt (length unit) (at + 1 + head.len) then None
+    else Some (head, at + 1 + head.len)
+
+-- the plain entry at a place of a unit, at a depth below the root's, and the place after it
+abbrev pub plain_entry_at : Table → ℕ → List ℕ → ℕ → Option (PlainHead × ℕ)
+plain_entry_at table depth unit at = if (depth == 0) || nat_lt depth_limit depth then None else
+    option_and_then (if_within unit at)
+    (option_and_then (plain_by_code table) (slice_get unit at))
 
 -- An entry with this head stands at a place of a unit, at a depth and behind the root, and this is
 -- the place after it.

@@ -5,7 +5,7 @@ use Rattle.dwarf_bytes.specs.declared.format.Format.{Format}
 use Rattle.dwarf_forms.specs.declared.known_lists.KnownAttribute.{KnownAttribute}
 use Rattle.dwarf_forms.specs.Private.SharedTables.{AreTold, SharedDeclaration, tell}
 use Rattle.dwarf_units.specs.Private.Links.{IsLinked, LinkedPlaces}
-use Rattle.dwarf_units.specs.Private.Plans.{Table, plan_len, plan_of}
+use Rattle.dwarf_units.specs.Private.Plans.{Planned, Table, plan_len, plan_of}
 
 -- a table of declarations that stands at an offset, for units of a format
 pub record SharedTable : Type 0 where
@@ -23,6 +23,10 @@ told_table known table = record {
 
 abbrev pub told_tables : List KnownAttribute → List SharedTable → List Table
 told_tables known tables = map (told_table known) tables
+
+-- the plans of the own attributes of declarations, in units of a format
+abbrev pub plans_of : Format → List SharedDeclaration → List Planned
+plans_of format declarations = map (λ declaration. plan_of format declaration.list.own) declarations
 
 -- its declarations, their own attributes, and the steps of the plans of these
 abbrev pub own_size : SharedTable → ℕ
