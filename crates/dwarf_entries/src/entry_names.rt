@@ -54,8 +54,8 @@ impl<'a> Units<'a> {
         path_names(self, reader, start, HOPS_LIMIT)
     }
 
-    /// The names to which a reference in a unit leads. What is known is told before a mark is looked
-    /// at: an entry stands where names are known.
+    /// The names to which a reference in a unit leads. What is known is told before a mark is
+    /// looked at: an entry stands where names are known.
     fn names_behind(
         self,
         reader: &mut EntryReader<'_>,

@@ -38,8 +38,8 @@ pub(crate) fn target(
 }
 
 /// Where the entry stands that a reference in a unit names, if one stands there: an offset into
-/// `.debug_info`, or one that counts from the first byte of the unit. It is within its unit; no mark
-/// is looked at.
+/// `.debug_info`, or one that counts from the first byte of the unit. It is within its unit; no
+/// mark is looked at.
 pub(crate) fn place_named(
     units: &[UnitEntries],
     unit: usize,

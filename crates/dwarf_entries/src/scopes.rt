@@ -24,21 +24,6 @@ use dwarf_walk::{EntryReader, Marks, Sections, UnitEntries};
 use std::alloc::{AllocError, Global};
 use std::marker::Model;
 
-/// Asks for more memory than there can be where a section has places past 32 bits, since scopes are
-/// kept by places of 32 bits.
-fn bound_places(alloc: Global, sections: &Sections<'_>) -> Result<(), AllocError> {
-    let texts = [
-        sections.debug_info,
-        sections.debug_str,
-        sections.debug_line_str,
-    ];
-    if texts.iter().all(|bytes| u32::try_from(bytes.len()).is_ok()) {
-        return Ok(());
-    }
-    let _: Vec<u8> = Vec::with_capacity(alloc, usize::MAX)?;
-    Ok(())
-}
-
 /// The roots of the units of an object, and the scopes among its entries, in file order.
 #[derive(Debug, Drop)]
 pub struct Scopes {
@@ -142,6 +127,21 @@ impl Scopes {
             },
         }
     }
+}
+
+/// Asks for more memory than there can be where a section has places past 32 bits, since scopes are
+/// kept by places of 32 bits.
+fn bound_places(alloc: Global, sections: &Sections<'_>) -> Result<(), AllocError> {
+    let texts = [
+        sections.debug_info,
+        sections.debug_str,
+        sections.debug_line_str,
+    ];
+    if texts.iter().all(|bytes| u32::try_from(bytes.len()).is_ok()) {
+        return Ok(());
+    }
+    let _: Vec<u8> = Vec::with_capacity(alloc, usize::MAX)?;
+    Ok(())
 }
 
 /// The roots of the units, each with the numbers of its unit's scopes.

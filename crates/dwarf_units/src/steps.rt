@@ -18,8 +18,8 @@ pub(crate) enum AttributeStep {
     /// An attribute is read and not kept. It is judged, unless a layout is known in which none of
     /// its values is refused.
     Pass(AttributeSpecification, Option<ValueLayout>),
-    /// So many bytes are passed over, and the attribute behind them is read and kept under its name.
-    /// It is judged, unless such a layout is known.
+    /// So many bytes are passed over, and the attribute behind them is read and kept under its
+    /// name. It is judged, unless such a layout is known.
     Keep(u16, UsedName, AttributeSpecification, Option<ValueLayout>),
 }
 

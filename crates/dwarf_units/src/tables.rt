@@ -1,17 +1,16 @@
 //! The abbreviation tables of all units (DWARF 5, 7.5.3), each read once.
 
-ghost use Rattle.std.specs.Prelude.{◌≡◌, ℕ, ◌⊎◌, ◌+◌, ◌<◌, ◌≤◌, ◌++◌, [], take, List, Some, Ok};
-ghost use Rattle.std.specs.Prelude.{Err, length, slice_get, IfOk, IfErr, OnOk, IfSome, IfNone};
-ghost use Rattle.std.specs.Prelude.{nat_lt};
+ghost use Rattle.std.specs.Prelude.{◌≡◌, ℕ, ◌+◌, ◌<◌, ◌≤◌, ◌++◌, [], take, List, Some, Ok};
+ghost use Rattle.std.specs.Prelude.{length, nat_lt, slice_get, IfOk, OnOk, IfSome, IfNone};
 ghost use Rattle.std.specs.List.{All};
 ghost use Rattle.dwarf_bytes.specs.declared.fault.Section.TheVariants as sections;
-ghost use Rattle.dwarf_bytes.specs.Refusals.{memory_fault, in_section};
+ghost use Rattle.dwarf_bytes.specs.Refusals.{in_section};
 ghost use Rattle.dwarf_forms.specs.Declarations.{Declaration};
-ghost use Rattle.dwarf_forms.specs.Tables.{declarations_of};
 ghost use Rattle.dwarf_units.specs.Units.{declarations_limit, tables_of};
 ghost use Rattle.dwarf_units.specs.Private.Plans.{Table};
-ghost use Rattle.dwarf_units.specs.Private.Tables.{IsAdded, IsAt, AreElsewhere, IsWithinLimit};
-ghost use Rattle.dwarf_units.specs.Private.Tables.{StaysOrIsTooLarge, with_table};
+ghost use Rattle.dwarf_units.specs.Private.Tables.{AreElsewhere, IsAdded, IsAt, IsNumberOf};
+ghost use Rattle.dwarf_units.specs.Private.Tables.{IsWithinLimit, Refuses, StaysOrIsTooLarge};
+ghost use Rattle.dwarf_units.specs.Private.Tables.{table_read, with_table};
 
 use crate::kept_table::KeptTable;
 use crate::linked_lists::LinkedLists;
@@ -54,8 +53,8 @@ impl<'a> Tables<'a> {
     ) -> Result<Tables<'a>, LoadFault>
         ensures ok { IfOk result (λ _. (tables : List (List Declaration))
             × (in_section sections.DebugAbbrev (tables_of section.now units.now) ≡ Ok tables)) }
-        ensures err { IfErr result (λ fault. (fault ≡ memory_fault)
-            ⊎ (in_section sections.DebugAbbrev (tables_of section.now units.now) ≡ Err fault)) }
+        ensures err { Refuses result
+            (in_section sections.DebugAbbrev (tables_of section.now units.now)) }
         ensures section { IfOk result (λ tables. tables.section ≡ section.now) }
         ensures limit { IfOk result (λ tables. IsWithinLimit tables) }
         ensures stays { IfOk result (λ tables. All (StaysOrIsTooLarge tables) units.now) }
@@ -88,12 +87,9 @@ impl<'a> Tables<'a> {
     ) -> Result<(), LoadFault>
         requires { left.old ≤ declarations_limit }
         ensures ok { IfOk result (λ _. (table : List Declaration)
-            × (in_section sections.DebugAbbrev
-            (declarations_of left.old self.old.section unit.now.abbreviations) ≡ Ok table)
+            × (table_read left.old self.old.section unit.now ≡ Ok table)
             × (left.new + length table ≡ left.old)) }
-        ensures err { IfErr result (λ fault. (fault ≡ memory_fault)
-            ⊎ (in_section sections.DebugAbbrev
-            (declarations_of left.old self.old.section unit.now.abbreviations) ≡ Err fault)) }
+        ensures err { Refuses result (table_read left.old self.old.section unit.now) }
         ensures section { self.new.section ≡ self.old.section }
         ensures known { (number : ℕ) (table : Table) → slice_get self.old.tables number ≡ Some table
             → IsAt unit.now.format unit.now.abbreviations table → self.new ≡ self.old }
@@ -115,12 +111,10 @@ impl<'a> Tables<'a> {
     fn known_len(&self, unit: &UnitHeader, left: u64) -> Option<u64>
         requires { left ≤ declarations_limit }
         ensures none { IfNone result ((table : List Declaration)
-            → in_section sections.DebugAbbrev
-            (declarations_of left self.now.section unit.now.abbreviations) ≡ Ok table
+            → table_read left self.now.section unit.now ≡ Ok table
             → AreElsewhere unit.now.format unit.now.abbreviations self.now.tables) }
         ensures some { IfSome result (λ len. (table : List Declaration)
-            × (in_section sections.DebugAbbrev
-            (declarations_of left self.now.section unit.now.abbreviations) ≡ Ok table)
+            × (table_read left self.now.section unit.now ≡ Ok table)
             × (length table ≡ len) × (len ≤ left)) }
         ensures stays { IfSome result (λ _. StaysOrIsTooLarge self.now unit.now) }
     {
@@ -135,14 +129,9 @@ impl<'a> Tables<'a> {
     /// The number of the table of a unit, good up to the next call. A table that is not kept is
     /// read again, in place of the last one that was not kept.
     pub fn number_of(&mut self, alloc: Global, unit: &UnitHeader) -> Result<usize, LoadFault>
-        ensures ok { IfOk result (λ number. (table : Table)
-            × (slice_get self.new.tables number ≡ Some table)
-            × (in_section sections.DebugAbbrev (declarations_of declarations_limit self.old.section
-            unit.now.abbreviations) ≡ Ok table.declarations)
-            × (table.offset ≡ unit.now.abbreviations) × (table.format ≡ unit.now.format)) }
-        ensures err { IfErr result (λ fault. (fault ≡ memory_fault)
-            ⊎ (in_section sections.DebugAbbrev (declarations_of declarations_limit
-            self.old.section unit.now.abbreviations) ≡ Err fault)) }
+        ensures ok { IfOk result (IsNumberOf self.old.section unit.now self.new.tables) }
+        ensures err { Refuses result
+            (table_read declarations_limit self.old.section unit.now) }
         ensures section { self.new.section ≡ self.old.section }
         ensures known { (number : ℕ) (table : Table) → slice_get self.old.tables number ≡ Some table
             → IsAt unit.now.format unit.now.abbreviations table
@@ -167,14 +156,9 @@ impl<'a> Tables<'a> {
         unit: &UnitHeader,
         guess: usize,
     ) -> Result<usize, LoadFault>
-        ensures ok { IfOk result (λ number. (table : Table)
-            × (slice_get self.new.tables number ≡ Some table)
-            × (in_section sections.DebugAbbrev (declarations_of declarations_limit self.old.section
-            unit.now.abbreviations) ≡ Ok table.declarations)
-            × (table.offset ≡ unit.now.abbreviations) × (table.format ≡ unit.now.format)) }
-        ensures err { IfErr result (λ fault. (fault ≡ memory_fault)
-            ⊎ (in_section sections.DebugAbbrev (declarations_of declarations_limit
-            self.old.section unit.now.abbreviations) ≡ Err fault)) }
+        ensures ok { IfOk result (IsNumberOf self.old.section unit.now self.new.tables) }
+        ensures err { Refuses result
+            (table_read declarations_limit self.old.section unit.now) }
         ensures section { self.new.section ≡ self.old.section }
         ensures known { (number : ℕ) (table : Table) → slice_get self.old.tables number ≡ Some table
             → IsAt unit.now.format unit.now.abbreviations table
@@ -210,14 +194,12 @@ impl<'a> Tables<'a> {
     /// number. Its declarations are taken from those that are left.
     fn add(&mut self, alloc: Global, unit: &UnitHeader, left: &mut u64) -> Result<usize, LoadFault>
         requires few { left.old ≤ declarations_limit }
-        requires fresh { (table : List Declaration) → in_section sections.DebugAbbrev
-            (declarations_of left.old self.old.section unit.now.abbreviations) ≡ Ok table
+        requires fresh { (table : List Declaration)
+            → table_read left.old self.old.section unit.now ≡ Ok table
             → AreElsewhere unit.now.format unit.now.abbreviations self.old.tables }
         ensures ok { IfOk result (λ number. IsAdded unit.now.format unit.now.abbreviations
             left.old left.new self.old self.new number) }
-        ensures err { IfErr result (λ fault. (fault ≡ memory_fault)
-            ⊎ (in_section sections.DebugAbbrev
-            (declarations_of left.old self.old.section unit.now.abbreviations) ≡ Err fault)) }
+        ensures err { Refuses result (table_read left.old self.old.section unit.now) }
         ensures section { self.new.section ≡ self.old.section }
         ensures known { (number : ℕ) (table : Table) → slice_get self.old.tables number ≡ Some table
             → IsAt unit.now.format unit.now.abbreviations table → self.new ≡ self.old }

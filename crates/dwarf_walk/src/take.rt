@@ -1,12 +1,10 @@
 //! Taking what stands at a place of a unit: nulls and plain entries at once, all else by a cursor.
 
-ghost use Rattle.std.specs.Prelude.{◌≡◌, ◌≤◌, ◌<◌, ℕ, List, [], ◌∷◌, length, true, Ok, OnOk};
-ghost use Rattle.std.specs.Prelude.{is_some};
-ghost use Rattle.dwarf_bytes.specs.Refusals.{Gives};
+ghost use Rattle.std.specs.Prelude.{◌≡◌, ◌≤◌, ◌<◌, List, [], ◌∷◌, length, true, OnOk, is_some};
 ghost use Rattle.dwarf_units.specs.declared.attributes.Attribute.{Attribute as EntryAttribute};
-ghost use Rattle.dwarf_units.specs.Entries.{Node, Entry, depth_limit, node_behind};
+ghost use Rattle.dwarf_units.specs.Entries.{Entry, depth_limit};
 ghost use Rattle.dwarf_walk.specs.Private.Marks.{AddsMarks};
-ghost use Rattle.dwarf_walk.specs.Private.Readers.{walked_of, walked_at, places_of, after_node};
+ghost use Rattle.dwarf_walk.specs.Private.Readers.{MarksNode, Takes, walked_of, after_node};
 ghost use Rattle.dwarf_walk.specs.Private.Readers.{after_scope, with_scope};
 
 use crate::kept::ScopePlace;
@@ -31,12 +29,10 @@ impl Walk {
         found: &mut UsedAttributes,
     ) -> Result<usize, Cause>
         requires { place < length unit.now }
-        ensures walks { Gives (λ after. (walked_of self.new, after)) result
-            (walked_at table.now.format table.now.declarations (walked_of self.old)
-            unit.now place) }
-        ensures marks { OnOk result ((node : Node × ℕ) → node_behind table.now.format
-            table.now.declarations self.old.depth (is_some self.old.root) unit.now place ≡ Ok node
-            → AddsMarks marks.old marks.new (places_of place node.0)) }
+        ensures walks { Takes table.now unit.now place (walked_of self.old) (walked_of self.new)
+            result }
+        ensures marks { OnOk result (MarksNode table.now unit.now place (walked_of self.old)
+            marks.old marks.new) }
     {
         if unit[place] == 0 {
             self.depth = self.depth.saturating_sub(1);
@@ -84,12 +80,10 @@ impl Walk {
         found: &mut UsedAttributes,
     ) -> Result<usize, Cause>
         requires { place < length unit.now }
-        ensures walks { Gives (λ after. (walked_of self.new, after)) result
-            (walked_at table.now.format table.now.declarations (walked_of self.old)
-            unit.now place) }
-        ensures marks { OnOk result ((node : Node × ℕ) → node_behind table.now.format
-            table.now.declarations self.old.depth (is_some self.old.root) unit.now place ≡ Ok node
-            → AddsMarks marks.old marks.new (places_of place node.0)) }
+        ensures walks { Takes table.now unit.now place (walked_of self.old) (walked_of self.new)
+            result }
+        ensures marks { OnOk result (MarksNode table.now unit.now place (walked_of self.old)
+            marks.old marks.new) }
     {
         let mut cursor = Cursor::new(unit);
         cursor.seek(place)?;

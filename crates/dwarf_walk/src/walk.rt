@@ -1,16 +1,16 @@
 //! The entries of a unit (DWARF 5, 2.3, 7.5.2 and 7.5.3).
 
-ghost use Rattle.std.specs.Prelude.{◌≡◌, ◌≤◌, ℕ, List, [], None, Ok, is_some};
+ghost use Rattle.std.specs.Prelude.{◌≡◌, ◌≤◌, ℕ, List, [], None, Ok};
 ghost use Rattle.std.specs.Prelude.{IsSome, IfOk, OnOk, not, take, reverse};
 ghost use Rattle.dwarf_bytes.specs.declared.fault.Section.TheVariants as sections;
 ghost use Rattle.dwarf_bytes.specs.Refusals.{Decodes, in_section};
 ghost use Rattle.std.specs.List.{filter_map};
-ghost use Rattle.dwarf_units.specs.Entries.{Die, Node, Standing, depth_limit};
+ghost use Rattle.dwarf_units.specs.Entries.{Die, Standing, depth_limit};
 ghost use Rattle.dwarf_units.specs.Entries.{die_of, node_behind, entries_of};
 ghost use Rattle.dwarf_walk.specs.Private.Kept.{kept_of, kept_entries};
 ghost use Rattle.dwarf_walk.specs.Private.Marks.{AddsMarks, offsets_of};
-ghost use Rattle.dwarf_walk.specs.Private.Readers.{ReadsNode, IsAfterEntry, walked_of};
-ghost use Rattle.dwarf_walk.specs.Private.Readers.{walked_at, nodes_of, places_of, walk_of};
+ghost use Rattle.dwarf_walk.specs.Private.Readers.{IsAfterEntry, MarksNode, ReadsNode, walked_of};
+ghost use Rattle.dwarf_walk.specs.Private.Readers.{walked_at, nodes_of, walk_of};
 ghost use Rattle.dwarf_walk.specs.Private.Ends.{ended_at, left_open, with_end};
 ghost use Rattle.dwarf_units.specs.Private.Plans.{Fills};
 
@@ -97,10 +97,8 @@ impl Walk {
         ensures fills { Fills result (walked_of self.new)
             (walked_at table.now.format table.now.declarations
             (walked_of self.old)) cursor.old cursor.new }
-        ensures marks { OnOk result ((node : Node × ℕ) → node_behind table.now.format
-            table.now.declarations self.old.depth (is_some self.old.root) cursor.old.bytes
-            cursor.old.place ≡ Ok node
-            → AddsMarks marks.old marks.new (places_of cursor.old.place node.0)) }
+        ensures marks { OnOk result (MarksNode table.now cursor.old.bytes cursor.old.place
+            (walked_of self.old) marks.old marks.new) }
     {
         let offset = cursor.place();
         let rooted = self.root.is_some();

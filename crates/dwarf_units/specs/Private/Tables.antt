@@ -1,10 +1,13 @@
 -- The tables of units that are kept, for the contracts of what reads by them.
 use Rattle.std.specs.Prelude.{◌≡◌, ℕ, ◌⊎◌, ◌+◌, ◌*◌, ◌<◌, ◌≤◌, List, [], ◌∷◌, ◌++◌, length, take}
-use Rattle.std.specs.Prelude.{Some, Ok, nat_le, if◌then◌else◌, slice_get, sum_by}
+use Rattle.std.specs.Prelude.{Some, Result, Ok, Err, IfErr, nat_le, if◌then◌else◌, slice_get}
+use Rattle.std.specs.Prelude.{sum_by}
 use Rattle.std.specs.List.{All}
 use Rattle.dwarf_bytes.specs.declared.format.Format.{Format}
 use Rattle.dwarf_bytes.specs.declared.fault.Section.TheVariants as sections
-use Rattle.dwarf_bytes.specs.Refusals.{in_section}
+use Rattle.dwarf_bytes.specs.declared.fault.LoadFault.{LoadFault}
+use Rattle.dwarf_bytes.specs.Refusals.{in_section, memory_fault}
+use Rattle.dwarf_forms.specs.Declarations.{Declaration}
 use Rattle.dwarf_forms.specs.Tables.{declarations_of}
 use Rattle.dwarf_units.specs.declared.unit_headers.UnitHeader.{UnitHeader}
 use Rattle.dwarf_units.specs.declared.numbers.Numbers.{Numbers}
@@ -22,6 +25,15 @@ pub record KeptTables : Type 0 where
   pub tables : List Table
   pub kept : ℕ
 
+-- what is read of the table of a unit, where there is room for so many declarations
+abbrev pub table_read : ℕ → List ℕ → UnitHeader → Result (List Declaration) LoadFault
+table_read room section unit =
+    in_section sections.DebugAbbrev (declarations_of room section unit.abbreviations)
+
+-- A call refuses as what is read does, or for want of memory.
+abbrev pub Refuses : {X Y : Type 0} → Result X LoadFault → Result Y LoadFault → Type 0
+Refuses result outcome = IfErr result (λ fault. (fault ≡ memory_fault) ⊎ (outcome ≡ Err fault))
+
 -- A table is what is read at its offset.
 abbrev pub StandsIn : List ℕ → Table → Type 0
 StandsIn section table =
@@ -30,6 +42,12 @@ StandsIn section table =
 -- A table is that at an offset, for units of a format.
 abbrev pub IsAt : Format → ℕ → Table → Type 0
 IsAt format offset table = (table.offset ≡ offset) × (table.format ≡ format)
+
+-- The table of a unit is among these by a number, and is what is read in a section.
+abbrev pub IsNumberOf : List ℕ → UnitHeader → List Table → ℕ → Type 0
+IsNumberOf section unit tables number = (table : Table) × (slice_get tables number ≡ Some table)
+    × (table_read declarations_limit section unit ≡ Ok table.declarations)
+    × (table.offset ≡ unit.abbreviations) × (table.format ≡ unit.format)
 
 -- None of the tables is.
 abbrev pub AreElsewhere : Format → ℕ → List Table → Type 0

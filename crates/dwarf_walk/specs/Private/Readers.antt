@@ -7,7 +7,7 @@ use Rattle.dwarf_bytes.specs.declared.format.Format.{Format}
 use Rattle.dwarf_bytes.specs.Bind.{◌>>=◌}
 use Rattle.dwarf_bytes.specs.Items.{At, items_from}
 use Rattle.dwarf_bytes.specs.Position.{Position}
-use Rattle.dwarf_bytes.specs.Refusals.{Fails}
+use Rattle.dwarf_bytes.specs.Refusals.{Fails, Gives}
 use Rattle.dwarf_forms.specs.Declarations.{Declaration}
 use Rattle.dwarf_units.specs.declared.attributes.Attribute.{Attribute}
 use Rattle.dwarf_walk.specs.declared.walk.NodeHead.{NodeHead}
@@ -15,15 +15,17 @@ use Rattle.dwarf_walk.specs.declared.walk.OpenScope.{OpenScope}
 use Rattle.dwarf_walk.specs.declared.walk.Walk.{Walk}
 use Rattle.dwarf_walk.specs.declared.kept.ScopePlace.{ScopePlace}
 use Rattle.dwarf_walk.specs.declared.kept.RootEntry.{RootEntry}
+use Rattle.dwarf_walk.specs.declared.marks.Marks.{Marks}
 use Rattle.dwarf_units.specs.declared.unit_headers.UnitHeader.{UnitHeader}
 use Rattle.dwarf_units.specs.Entries.{Node, Entry, Null, Standing, Die, die_of}
 use Rattle.dwarf_units.specs.Entries.{depth_after, node_behind, node_at}
 use Rattle.dwarf_walk.specs.Private.Ends.{known_places, open_scopes, ended_at}
 use Rattle.dwarf_walk.specs.Private.Ends.{left_open, new_place, new_open}
 use Rattle.dwarf_walk.specs.Private.Kept.{root_entry, root_in}
-use Rattle.dwarf_units.specs.Private.Plans.{kept_attributes}
+use Rattle.dwarf_units.specs.Private.Plans.{Table, kept_attributes}
 use Rattle.dwarf_units.specs.Private.Used.{Used, used_among}
 use Rattle.dwarf_walk.specs.References.{or_else}
+use Rattle.dwarf_walk.specs.Private.Marks.{AddsMarks}
 
 -- an entry by its offset and its attributes, where neither its tag nor its depth counts
 abbrev pub die_with : ℕ → List Attribute → Die
@@ -140,6 +142,18 @@ abbrev pub walked_at : Format → List Declaration → Walked → List ℕ → �
 walked_at format table w unit at =
     node_behind format table w.depth (is_some w.root) unit at
     >>= λ node. Ok (after_node w at node.0, node.1)
+
+-- What stands at a place of a unit is taken behind the entries so far: what is kept, and the place
+-- after it.
+abbrev pub Takes : Table → List ℕ → ℕ → Walked → Walked → Result ℕ Cause → Type 0
+Takes table unit place old new result = Gives (λ after. (new, after)) result
+    (walked_at table.format table.declarations old unit place)
+
+-- .. and the place is marked, if an entry stands there.
+abbrev pub MarksNode : Table → List ℕ → ℕ → Walked → Marks → Marks → Type 0
+MarksNode table unit place w old new = (node : Node × ℕ)
+    → node_behind table.format table.declarations w.depth (is_some w.root) unit place ≡ Ok node
+    → AddsMarks old new (places_of place node.0)
 
 -- all that stands in a unit
 abbrev pub nodes_of : List ℕ → UnitHeader → List Declaration → Result (List Standing × ℕ) At
