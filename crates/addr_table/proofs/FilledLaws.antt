@@ -1,6 +1,6 @@
 -- Which numbers are not 0, when one of them changes.
-use Rattle.std.proofs.Common.{◌≡◌, ℕ, ◌/◌, ◌%◌, ◌<◌, List, length, set, get_or, true, not}
-use Rattle.std.proofs.Common.{◌&&◌, ◌||◌, ap, sym, ◌∙◌, subst, inl, inr, arith}
+use Rattle.std.proofs.Common.{◌≡◌, ℕ, ◌/◌, ◌%◌, ◌<◌, List, length, set, get_or, true, not, ◌&&◌}
+use Rattle.std.proofs.Common.{◌||◌, ap, sym, ◌∙◌, subst, inl, inr, arith}
 use Rattle.std.specs.Prelude.{◌==◌, nat_lt}
 use Rattle.std.specs.Int.{bit_at}
 use Rattle.std.proofs.lemmas.Bool.{cases_eq, cases_lt, both_ways}
@@ -13,19 +13,21 @@ use Rattle.addr_table.proofs.BitLaws.{filled_other, with_bit}
 
 -- a number that is not 0 is put in, and its bit is set
 pub summary-set : (lower upper lower' upper' : List ℕ) (i : ℕ) → Summarizes lower upper
-    → ((w : ℕ) → is_filled lower' w ≡ ((w == i) || is_filled lower w)) →
-    ((j : ℕ) → has upper' j ≡ ((j == i) || has upper j)) → Summarizes lower' upper'
-summary-set lower upper lower' upper' i h filled bits = record { same = λ k. bits k ∙ ap (λ b. (k == i) || b) (h.same k) ∙ sym (filled k) }
+    → ((w : ℕ) → is_filled lower' w ≡ ((w == i) || is_filled lower w))
+    → ((j : ℕ) → has upper' j ≡ ((j == i) || has upper j)) → Summarizes lower' upper'
+summary-set lower upper lower' upper' i h filled bits =
+    record { same = λ k. bits k ∙ ap (λ b. (k == i) || b) (h.same k) ∙ sym (filled k) }
 
 -- a number is 0 from now on, and its bit is cleared
 pub summary-clear : (lower upper lower' upper' : List ℕ) (i : ℕ) → Summarizes lower upper
-    → ((w : ℕ) → is_filled lower' w ≡ (not (w == i) && is_filled lower w)) →
-    ((j : ℕ) → has upper' j ≡ (not (j == i) && has upper j)) → Summarizes lower' upper'
+    → ((w : ℕ) → is_filled lower' w ≡ (not (w == i) && is_filled lower w))
+    → ((j : ℕ) → has upper' j ≡ (not (j == i) && has upper j)) → Summarizes lower' upper'
 summary-clear lower upper lower' upper' i h filled bits =
     record { same = λ k. bits k ∙ ap (λ b. not (k == i) && b) (h.same k) ∙ sym (filled k) }
 
 -- the same numbers are 0
-pub summary-kept : (lower upper lower' : List ℕ) → Summarizes lower upper → ((w : ℕ) → is_filled lower' w ≡ is_filled lower w)
+pub summary-kept : (lower upper lower' : List ℕ) → Summarizes lower upper
+    → ((w : ℕ) → is_filled lower' w ≡ is_filled lower w)
     → Summarizes lower' upper
 summary-kept lower upper lower' h filled = record { same = λ k. h.same k ∙ sym (filled k) }
 
@@ -44,24 +46,29 @@ some_same : (x y : ℕ) → 0 < x → 0 < y → nat_lt 0 x ≡ nat_lt 0 y
 some_same x y a b = grind (arith, nat_tests)
 
 read_put : (xs : List ℕ) (i v w : ℕ) → i < length xs → w ≡ i → get_or (set xs i v) w 0 ≡ v
-read_put xs i v w lt same = let W : ℕ → Type 0 = λ u. get_or (set xs i v) u 0 ≡ v in subst W (sym same) (get_or-set_same xs i v 0 lt)
+read_put xs i v w lt same = let W : ℕ → Type 0 = λ u. get_or (set xs i v) u 0 ≡ v in
+    subst W (sym same) (get_or-set_same xs i v 0 lt)
 
 -- one that is not 0 is put in
-pub filled-put : (xs : List ℕ) (i v w : ℕ) → i < length xs → 0 < v → is_filled (set xs i v) w ≡ ((w == i) || is_filled xs w)
+pub filled-put : (xs : List ℕ) (i v w : ℕ) → i < length xs → 0 < v
+    → is_filled (set xs i v) w ≡ ((w == i) || is_filled xs w)
 filled-put xs i v w lt some = elim (cases_eq w i) [
-  | inl same ↦ let here : get_or (set xs i v) w 0 ≡ v = read_put xs i v w lt same in put_same _ (get_or xs w 0) w i (omega arith) same
+  | inl same ↦ let here : get_or (set xs i v) w 0 ≡ v = read_put xs i v w lt same in
+      put_same _ (get_or xs w 0) w i (omega arith) same
   | inr other ↦ filled_other _ _ w i (get_or-set_other xs i w v 0 other) other
 ]
 
 -- 0 is put in
-pub filled-zero : (xs : List ℕ) (i w : ℕ) → i < length xs → is_filled (set xs i 0) w ≡ (not (w == i) && is_filled xs w)
+pub filled-zero : (xs : List ℕ) (i w : ℕ) → i < length xs
+    → is_filled (set xs i 0) w ≡ (not (w == i) && is_filled xs w)
 filled-zero xs i w lt = elim (cases_eq w i) [
   | inl same ↦ zero_same _ (get_or xs w 0) w i (read_put xs i 0 w lt same) same
   | inr other ↦ zero_other _ _ w i (get_or-set_other xs i w 0 0 other) other
 ]
 
 -- one that is not 0 is put in the place of another
-pub filled-kept : (xs : List ℕ) (i v w : ℕ) → i < length xs → 0 < v → 0 < get_or xs i 0 → is_filled (set xs i v) w ≡ is_filled xs w
+pub filled-kept : (xs : List ℕ) (i v w : ℕ) → i < length xs → 0 < v → 0 < get_or xs i 0
+    → is_filled (set xs i v) w ≡ is_filled xs w
 filled-kept xs i v w lt some old = elim (cases_eq w i) [
   | inl same ↦
       let here : get_or (set xs i v) w 0 ≡ v = read_put xs i v w lt same in

@@ -1,5 +1,6 @@
 -- What is known of bytes over several calls.
-use Rattle.std.proofs.Common.{◌≡◌, ◌≢◌, false, nat_eq, ℕ, ◌+◌, ◌-◌, List, [], ◌++◌, length, take, drop, refl, sym, ◌∙◌, ap, subst}
+use Rattle.std.proofs.Common.{◌≡◌, ◌≢◌, false, nat_eq, ℕ, ◌+◌, ◌-◌, List, [], ◌++◌, length, take}
+use Rattle.std.proofs.Common.{drop, refl, sym, ◌∙◌, ap, subst}
 use Rattle.std.proofs.Common.{append_assoc, append-nil, take-add}
 use Rattle.std.proofs.lemmas.List.{take-append-drop, take_rest}
 use Rattle.std.proofs.lemmas.Bool.{ne_eqb}
@@ -7,13 +8,15 @@ use Rattle.std.specs.Prelude.{Option, None, Some, Ok}
 use Rattle.std.specs.Io.KnownBytes.{Appends, Keeps}
 use Rattle.answer_text.specs.Devices.{Grows, IsBeginning, write_failures}
 
-pub appends_kept : (a b c : Option (List ℕ)) (xs : List ℕ) → Appends a b xs → Keeps b c → Appends a c xs
+pub appends_kept : (a b c : Option (List ℕ)) (xs : List ℕ) → Appends a b xs → Keeps b c
+    → Appends a c xs
 appends_kept None b c xs h k = tt
 appends_kept (Some a) None c xs h k = absurd h
 appends_kept (Some a) (Some b) None xs h k = absurd k
 appends_kept (Some a) (Some b) (Some c) xs h k = k ∙ h
 
-pub appends_then : (a b c : Option (List ℕ)) (xs ys : List ℕ) → Appends a b xs → Appends b c ys → Appends a c (xs ++ ys)
+pub appends_then : (a b c : Option (List ℕ)) (xs ys : List ℕ) → Appends a b xs → Appends b c ys
+    → Appends a c (xs ++ ys)
 appends_then None b c xs ys h k = tt
 appends_then (Some a) None c xs ys h k = absurd h
 appends_then (Some a) (Some b) None xs ys h k = absurd k
@@ -23,7 +26,8 @@ pub appends_nothing : (a : Option (List ℕ)) → Appends a a []
 appends_nothing None = tt
 appends_nothing (Some a) = sym (append-nil a)
 
-pub grows_then : {X : Type 0} (a b c : Option (List X)) (xs ys : List X) → Grows a b xs → Grows b c ys → Grows a c (xs ++ ys)
+pub grows_then : {X : Type 0} (a b c : Option (List X)) (xs ys : List X) → Grows a b xs
+    → Grows b c ys → Grows a c (xs ++ ys)
 grows_then None b c xs ys h k = tt
 grows_then (Some a) None c xs ys h k = absurd h
 grows_then (Some a) (Some b) None xs ys h k = absurd k
@@ -34,29 +38,38 @@ grows_nothing None = tt
 grows_nothing (Some a) = sym (append-nil a)
 
 -- a beginning was written, and then no more
-pub stops_at : (a b c : Option (List ℕ)) (text : List ℕ) (n : ℕ) → Appends a b (take n text) → Keeps b c →
-    (part : List ℕ) × IsBeginning part text × Appends a c part
-stops_at a b c text n h k = (take n text, (drop n text, take-append-drop n text), appends_kept a b c (take n text) h k)
+pub stops_at : (a b c : Option (List ℕ)) (text : List ℕ) (n : ℕ) → Appends a b (take n text)
+    → Keeps b c
+    → (part : List ℕ) × IsBeginning part text × Appends a c part
+stops_at a b c text n h k = (
+  take n text,
+  (drop n text, take-append-drop n text),
+  appends_kept a b c (take n text) h k,
+)
 
 -- the bytes from n on, as the code lends them
 pub rest_of : (text : List ℕ) (n : ℕ) → take (length text - n) (drop n text) ≡ drop n text
 rest_of text n = take_rest text n
 
 -- one more piece of a text
-pub goes_on : (a b c : Option (List ℕ)) (text : List ℕ) (n m : ℕ) →
-    Appends a b (take n text) → Appends b c (take m (take (length text - n) (drop n text))) → Appends a c (take (n + m) text)
+pub goes_on : (a b c : Option (List ℕ)) (text : List ℕ) (n m : ℕ)
+    → Appends a b (take n text) → Appends b c (take m (take (length text - n) (drop n text)))
+    → Appends a c (take (n + m) text)
 goes_on a b c text n m h k =
     let joined : take n text ++ take m (take (length text - n) (drop n text)) ≡ take (n + m) text =
     ap (λ (z : List ℕ). take n text ++ take m z) (take_rest text n) ∙ sym (take-add n m text) in
     let P : List ℕ → Type 0 = λ z. Appends a c z in
-    subst P joined (appends_then a b c (take n text) (take m (take (length text - n) (drop n text))) h k)
+    subst P joined (appends_then a b c (take n text) (take m (take (length text - n) (drop n text)))
+    h k)
 
 -- a piece of no bytes
-pub goes_nowhere : (a b c : Option (List ℕ)) (text bytes : List ℕ) (n m : ℕ) → m ≡ 0 → Appends a b (take n text) →
-    Appends b c (take m bytes) → (part : List ℕ) × IsBeginning part text × Appends a c part
+pub goes_nowhere : (a b c : Option (List ℕ)) (text bytes : List ℕ) (n m : ℕ) → m ≡ 0
+    → Appends a b (take n text)
+    → Appends b c (take m bytes) → (part : List ℕ) × IsBeginning part text × Appends a c part
 goes_nowhere a b c text bytes n m zero_is h k =
     let nothing : take m bytes ≡ [] = ap (λ (z : ℕ). take z bytes) zero_is in
-    let joined : take n text ++ take m bytes ≡ take n text = ap (λ (z : List ℕ). take n text ++ z) nothing ∙ append-nil (take n text) in
+    let joined : take n text ++ take m bytes ≡ take n text =
+    ap (λ (z : List ℕ). take n text ++ z) nothing ∙ append-nil (take n text) in
     let P : List ℕ → Type 0 = λ z. Appends a c z in (
       take n text,
       (drop n text, take-append-drop n text),
@@ -64,5 +77,6 @@ goes_nowhere a b c text bytes n m zero_is h k =
     )
 
 -- a write that took some byte did not fail
-pub took_some : (E : Type 0) (failures : ℕ) (bytes : List ℕ) (n : ℕ) → n ≢ 0 → write_failures {E = E} failures bytes (Ok n) ≡ failures
+pub took_some : (E : Type 0) (failures : ℕ) (bytes : List ℕ) (n : ℕ) → n ≢ 0
+    → write_failures {E = E} failures bytes (Ok n) ≡ failures
 took_some E failures bytes n ne = let is_no : nat_eq n 0 ≡ false = ne_eqb n 0 ne in rw is_no refl

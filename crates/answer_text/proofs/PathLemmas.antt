@@ -1,5 +1,6 @@
 -- Paths, part by part.
-use Rattle.std.proofs.Common.{◌≡◌, ◌≢◌, ℕ, ◌+◌, ◌-◌, Bool, List, [], ◌∷◌, ◌++◌, length, drop, cond, refl, sym, ap, ap₂, ◌∙◌, append_assoc}
+use Rattle.std.proofs.Common.{◌≡◌, ◌≢◌, ℕ, ◌+◌, ◌-◌, Bool, List, [], ◌∷◌, ◌++◌, length, drop, cond}
+use Rattle.std.proofs.Common.{refl, sym, ap, ap₂, ◌∙◌, append_assoc}
 use Rattle.std.proofs.Common.{append-nil, arith, map, length-append}
 use Rattle.std.specs.Prelude.{not, ◌==◌, flat_map, reverse, Some}
 use Rattle.std.specs.List.{suffix_len, prefix_len, join_with_byte}
@@ -15,39 +16,53 @@ use Rattle.answer_text.specs.Private.Paths.{last_behind, slashed}
 abbrev is_other : ℕ → Bool
 is_other byte = not (byte == 47)
 
-prefix_before : (front back : List ℕ) → prefix_len is_other (front ++ 47 ∷ back) ≡ prefix_len is_other front
+prefix_before : (front back : List ℕ) → prefix_len is_other (front ++ 47 ∷ back)
+    ≡ prefix_len is_other front
 prefix_before [] back = refl
-prefix_before (byte ∷ front) back = ap (λ (n : ℕ). cond (is_other byte) (1 + n) 0) (prefix_before front back)
+prefix_before (byte ∷ front) back = ap (λ (n : ℕ). cond (is_other byte) (1 + n) 0)
+    (prefix_before front back)
 
 reversed : (part rest : List ℕ) → reverse (part ++ 47 ∷ rest) ≡ reverse rest ++ 47 ∷ reverse part
 reversed part rest =
-    reverse-append part (47 ∷ rest) ∙ ap (λ (z : List ℕ). z ++ reverse part) (reverse-append (47 ∷ []) rest)
+    reverse-append part (47 ∷ rest) ∙ ap (λ (z : List ℕ). z ++ reverse part)
+    (reverse-append (47 ∷ []) rest)
     ∙ append_assoc (reverse rest) (47 ∷ []) (reverse part)
 
 base_behind : (part rest : List ℕ) → base_name (part ++ 47 ∷ rest) ≡ base_name rest
 base_behind part rest =
     let same : suffix_len is_other (part ++ 47 ∷ rest) ≡ suffix_len is_other rest =
     ap (prefix_len is_other) (reversed part rest) ∙ prefix_before (reverse rest) (reverse part) in
-    let glued : part ++ 47 ∷ rest ≡ (part ++ 47 ∷ []) ++ rest = sym (append_assoc part (47 ∷ []) rest) in
+    let glued : part ++ 47 ∷ rest ≡ (part ++ 47 ∷ []) ++ rest =
+    sym (append_assoc part (47 ∷ []) rest) in
     let far : length (part ++ 47 ∷ rest) - suffix_len is_other (part ++ 47 ∷ rest)
     ≡ length (part ++ 47 ∷ []) + (length rest - suffix_len is_other rest) =
-    omega (arith, same, suffix_len-le-length is_other rest, length-append part (47 ∷ rest), length-append part (47 ∷ [])) in
-    ap₂ drop far glued ∙ drop-append-add (part ++ 47 ∷ []) rest (length rest - suffix_len is_other rest)
+    omega (
+      arith,
+      same,
+      suffix_len-le-length is_other rest,
+      length-append part (47 ∷ rest),
+      length-append part (47 ∷ []),
+    ) in
+    ap₂ drop far glued ∙ drop-append-add (part ++ 47 ∷ []) rest
+    (length rest - suffix_len is_other rest)
 
 -- it stands in the last part
 base_of_behind : (parts : List (List ℕ)) (part : List ℕ)
     → base_name (last_behind part parts) ≡ base_name (join_with_byte 47 (part ∷ parts))
 base_of_behind [] part = refl
-base_of_behind (next ∷ parts) part = base_of_behind parts next ∙ sym (base_behind part (join_with_byte 47 (next ∷ parts)))
+base_of_behind (next ∷ parts) part = base_of_behind parts next
+    ∙ sym (base_behind part (join_with_byte 47 (next ∷ parts)))
 
-pub base_of_last : (parts : List (List ℕ)) → base_name (last_behind [] parts) ≡ base_name (join_with_byte 47 parts)
+pub base_of_last : (parts : List (List ℕ)) → base_name (last_behind [] parts)
+    ≡ base_name (join_with_byte 47 parts)
 base_of_last [] = refl
 base_of_last (part ∷ parts) = base_of_behind parts part
 
 -- ---- parts with slashes between them
 
 pub printed_join : (part : List ℕ) (parts : List (List ℕ))
-    → map printable part ++ flat_map slashed parts ≡ map printable (join_with_byte 47 (part ∷ parts))
+    → map printable part ++ flat_map slashed parts
+    ≡ map printable (join_with_byte 47 (part ∷ parts))
 printed_join part [] = append-nil (map printable part)
 printed_join part (next ∷ parts) =
     ap (λ (z : List ℕ). map printable part ++ 47 ∷ z) (printed_join next parts)
@@ -55,14 +70,16 @@ printed_join part (next ∷ parts) =
 
 -- a path whose first part has a byte
 pub known_join : (part : List ℕ) (parts : List (List ℕ)) → part ≢ []
-    → map printable part ++ flat_map slashed parts ≡ known_text (Some (join_with_byte 47 (part ∷ parts)))
+    → map printable part ++ flat_map slashed parts
+    ≡ known_text (Some (join_with_byte 47 (part ∷ parts)))
 known_join [] parts ne = absurd (ne refl)
 known_join (byte ∷ bytes) [] ne = printed_join (byte ∷ bytes) []
 known_join (byte ∷ bytes) (next ∷ parts) ne = printed_join (byte ∷ bytes) (next ∷ parts)
 
 -- a path whose first part has none
 pub known_behind : (part : List ℕ) (parts : List (List ℕ))
-    → slashed part ++ flat_map slashed parts ≡ known_text (Some (join_with_byte 47 ([] ∷ part ∷ parts)))
+    → slashed part ++ flat_map slashed parts
+    ≡ known_text (Some (join_with_byte 47 ([] ∷ part ∷ parts)))
 known_behind part parts = ap (λ (z : List ℕ). 47 ∷ z) (printed_join part parts)
 
 -- ---- of what is left of a path
@@ -76,7 +93,10 @@ first_known all rest part e ne = known_join part rest ne ∙ ap path_text (sym e
 
 pub second_known : (all rest : List (List ℕ)) (part : List ℕ) → all ≡ part ∷ rest
     → slashed part ++ flat_map slashed rest ≡ path_text ([] ∷ all)
-second_known all rest part e = known_behind part rest ∙ ap (λ (z : List (List ℕ)). path_text ([] ∷ z)) (sym e)
+second_known all rest part e = known_behind part rest
+    ∙ ap (λ (z : List (List ℕ)). path_text ([] ∷ z)) (sym e)
 
-pub nothing_first : (all rest : List (List ℕ)) (part : List ℕ) → all ≡ part ∷ rest → part ≡ [] → path_text ([] ∷ rest) ≡ path_text all
-nothing_first all rest part e none = ap (λ (z : List ℕ). path_text (z ∷ rest)) (sym none) ∙ ap path_text (sym e)
+pub nothing_first : (all rest : List (List ℕ)) (part : List ℕ) → all ≡ part ∷ rest → part ≡ []
+    → path_text ([] ∷ rest) ≡ path_text all
+nothing_first all rest part e none = ap (λ (z : List ℕ). path_text (z ∷ rest)) (sym none)
+    ∙ ap path_text (sym e)

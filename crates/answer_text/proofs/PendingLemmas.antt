@@ -1,6 +1,8 @@
 -- Texts put one after the other.
-use Rattle.std.proofs.Common.{◌≡◌, Bool, true, false, ℕ, zero, suc, ◌+◌, ◌-◌, ◌<◌, ◌≤◌, ◌⊎◌, inl, inr, List, [], ◌∷◌, ◌++◌, length, map}
-use Rattle.std.proofs.Common.{take, drop, get_or, refl, sym, ◌∙◌, ap, subst, append_assoc, append-nil, add-one, arith}
+use Rattle.std.proofs.Common.{◌≡◌, Bool, true, false, ℕ, zero, suc, ◌+◌, ◌-◌, ◌<◌, ◌≤◌, ◌⊎◌, inl}
+use Rattle.std.proofs.Common.{inr, List, [], ◌∷◌, ◌++◌, length, map}
+use Rattle.std.proofs.Common.{take, drop, get_or, refl, sym, ◌∙◌, ap, subst, append_assoc}
+use Rattle.std.proofs.Common.{append-nil, add-one, arith}
 use Rattle.std.specs.Prelude.{Option, Result, Ok, Err, not, ◌&&◌}
 use Rattle.std.proofs.lemmas.Bool.{false≢true}
 use Rattle.answer_text.specs.Printable.{is_control, printable}
@@ -12,7 +14,8 @@ use Rattle.answer_text.specs.Devices.{Writes}
 use Rattle.answer_text.specs.Pending.{Put, Cut, Puts}
 
 -- what is put behind what was put
-pub put_then : (a b c : Option (List ℕ)) (h h' h'' x y : List ℕ) → Put a b h h' x → Put b c h' h'' y → Put a c h h'' (x ++ y)
+pub put_then : (a b c : Option (List ℕ)) (h h' h'' x y : List ℕ) → Put a b h h' x → Put b c h' h'' y
+    → Put a c h h'' (x ++ y)
 put_then a b c h h' h'' x y p q = record {
   sent = p.sent ++ q.sent;
   kept =
@@ -21,7 +24,8 @@ put_then a b c h h' h'' x y p q = record {
   appended = appends_then a b c p.sent q.sent p.appended q.appended;
 }
 
-pub put_cut : (a b c : Option (List ℕ)) (h h' x y : List ℕ) → Put a b h h' x → Cut b c h' y → Cut a c h (x ++ y)
+pub put_cut : (a b c : Option (List ℕ)) (h h' x y : List ℕ) → Put a b h h' x → Cut b c h' y
+    → Cut a c h (x ++ y)
 put_cut a b c h h' x y p q = record {
   sent = p.sent ++ q.sent;
   begins = (
@@ -36,40 +40,49 @@ put_cut a b c h h' x y p q = record {
 pub cut_more : (a b : Option (List ℕ)) (h x y : List ℕ) → Cut a b h x → Cut a b h (x ++ y)
 cut_more a b h x y p = record {
   sent = p.sent;
-  begins = (p.begins.0 ++ y, sym (append_assoc p.sent p.begins.0 y) ∙ ap (λ (z : List ℕ). z ++ y) p.begins.1 ∙ append_assoc h x y);
+  begins = (
+    p.begins.0 ++ y,
+    sym (append_assoc p.sent p.begins.0 y) ∙ ap (λ (z : List ℕ). z ++ y)
+        p.begins.1 ∙ append_assoc h x y,
+  );
   appended = p.appended;
 }
 
 -- a text was written, where nothing was held
-pub puts_through : {E : Type 0} (a b : Option (List ℕ)) (h x : List ℕ) (r : Result (Unit {0}) E) → h ≡ [] → Writes a b r x
+pub puts_through : {E : Type 0} (a b : Option (List ℕ)) (h x : List ℕ) (r : Result (Unit {0}) E)
+    → h ≡ [] → Writes a b r x
     → Puts a b h h r x
 puts_through a b [] x (Ok done) e w = record { sent = x; kept = sym (append-nil x); appended = w }
 puts_through a b [] x (Err fault) e w = record { sent = w.0; begins = w.1; appended = w.2 }
 puts_through a b (y ∷ h) x r e w = cc
 
 -- after nothing was put, a text is put
-pub puts_after : {E : Type 0} (a b c : Option (List ℕ)) (h h' h'' y : List ℕ) (r : Result (Unit {0}) E) → Put a b h h' []
+pub puts_after : {E : Type 0} (a b c : Option (List ℕ)) (h h' h'' y : List ℕ)
+    (r : Result (Unit {0}) E) → Put a b h h' []
     → Puts b c h' h'' r y → Puts a c h h'' r y
 puts_after a b c h h' h'' y (Ok done) p q = put_then a b c h h' h'' [] y p q
 puts_after a b c h h' h'' y (Err fault) p q = put_cut a b c h h' [] y p q
 
 -- what did not fit was put where nothing was held
-pub none_held : (len room : ℕ) (h : List ℕ) → (len ≤ 2048 - length h) ⊎ (h ≡ []) → room ≡ 2048 - length h → room < len → h ≡ []
+pub none_held : (len room : ℕ) (h : List ℕ) → (len ≤ 2048 - length h) ⊎ (h ≡ [])
+    → room ≡ 2048 - length h → room < len → h ≡ []
 none_held len room h (inl fits) is over = absurd (omega arith)
 none_held len room h (inr none) is over = none
 
 -- texts, cut behind one of them
-flat_map_cut : {X : Type 0} (f : X → List ℕ) (xs : List X) (i : ℕ) (d : X) → i < length xs →
-    flat_map f xs ≡ (flat_map f (take i xs) ++ f (get_or xs i d)) ++ flat_map f (drop (suc i) xs)
+flat_map_cut : {X : Type 0} (f : X → List ℕ) (xs : List X) (i : ℕ) (d : X) → i < length xs
+    → flat_map f xs ≡ (flat_map f (take i xs) ++ f (get_or xs i d)) ++ flat_map f (drop (suc i) xs)
 flat_map_cut f [] i d lt = absurd (omega arith)
 flat_map_cut f (x ∷ xs) zero d lt = refl
 flat_map_cut f (x ∷ xs) (suc i) d lt =
     ap (λ (z : List ℕ). f x ++ z) (flat_map_cut f xs i d (omega arith))
-    ∙ sym (append_assoc (f x) (flat_map f (take i xs) ++ f (get_or xs i d)) (flat_map f (drop (suc i) xs)))
-    ∙ ap (λ (z : List ℕ). z ++ flat_map f (drop (suc i) xs)) (sym (append_assoc (f x) (flat_map f (take i xs)) (f (get_or xs i d))))
+    ∙ sym (append_assoc (f x) (flat_map f (take i xs) ++ f (get_or xs i d))
+    (flat_map f (drop (suc i) xs)))
+    ∙ ap (λ (z : List ℕ). z ++ flat_map f (drop (suc i) xs))
+    (sym (append_assoc (f x) (flat_map f (take i xs)) (f (get_or xs i d))))
 
-flat_map_on : {X : Type 0} (f : X → List ℕ) (xs : List X) (i : ℕ) (d : X) → i < length xs →
-    flat_map f (take (suc i) xs) ≡ flat_map f (take i xs) ++ f (get_or xs i d)
+flat_map_on : {X : Type 0} (f : X → List ℕ) (xs : List X) (i : ℕ) (d : X) → i < length xs
+    → flat_map f (take (suc i) xs) ≡ flat_map f (take i xs) ++ f (get_or xs i d)
 flat_map_on f [] i d lt = absurd (omega arith)
 flat_map_on f (x ∷ xs) zero d lt = append-nil (f x)
 flat_map_on f (x ∷ xs) (suc i) d lt =
@@ -77,16 +90,20 @@ flat_map_on f (x ∷ xs) (suc i) d lt =
     (append_assoc (f x) (flat_map f (take i xs)) (f (get_or xs i d)))
 
 -- one more of several texts
-pub put_next : {X : Type 0} (a b c : Option (List ℕ)) (h h' h'' : List ℕ) (f : X → List ℕ) (xs : List X) (i : ℕ) (d : X) → i < length xs →
-    Put a b h h' (flat_map f (take i xs)) → Put b c h' h'' (f (get_or xs i d)) → Put a c h h'' (flat_map f (take (i + 1) xs))
+pub put_next : {X : Type 0} (a b c : Option (List ℕ)) (h h' h'' : List ℕ) (f : X → List ℕ)
+    (xs : List X) (i : ℕ) (d : X) → i < length xs
+    → Put a b h h' (flat_map f (take i xs)) → Put b c h' h'' (f (get_or xs i d))
+    → Put a c h h'' (flat_map f (take (i + 1) xs))
 put_next a b c h h' h'' f xs i d lt p q =
     let P : List ℕ → Type 0 = λ z. Put a c h h'' z in
     subst P (sym (ap (λ (n : ℕ). flat_map f (take n xs)) (add-one i) ∙ flat_map_on f xs i d lt))
     (put_then a b c h h' h'' (flat_map f (take i xs)) (f (get_or xs i d)) p q)
 
 -- the one of several texts at which it stopped
-pub cut_at : {X : Type 0} (a b c : Option (List ℕ)) (h h' : List ℕ) (f : X → List ℕ) (xs : List X) (i : ℕ) (d : X) → i < length xs →
-    Put a b h h' (flat_map f (take i xs)) → Cut b c h' (f (get_or xs i d)) → Cut a c h (flat_map f xs)
+pub cut_at : {X : Type 0} (a b c : Option (List ℕ)) (h h' : List ℕ) (f : X → List ℕ) (xs : List X)
+    (i : ℕ) (d : X) → i < length xs
+    → Put a b h h' (flat_map f (take i xs)) → Cut b c h' (f (get_or xs i d))
+    → Cut a c h (flat_map f xs)
 cut_at a b c h h' f xs i d lt p q =
     let P : List ℕ → Type 0 = λ z. Cut a c h z in
     subst P (sym (flat_map_cut f xs i d lt))
@@ -94,29 +111,36 @@ cut_at a b c h h' f xs i d lt p q =
     (put_cut a b c h h' (flat_map f (take i xs)) (f (get_or xs i d)) p q))
 
 -- the same, a number at a time
-pub put_number : (a b c : Option (List ℕ)) (h h' h'' : List ℕ) (f : ℕ → ℕ) (xs : List ℕ) (i : ℕ) → i < length xs →
-    Put a b h h' (map f (take i xs)) → Put b c h' h'' (f (get_or xs i 0) ∷ []) → Put a c h h'' (map f (take (i + 1) xs))
+pub put_number : (a b c : Option (List ℕ)) (h h' h'' : List ℕ) (f : ℕ → ℕ) (xs : List ℕ) (i : ℕ)
+    → i < length xs
+    → Put a b h h' (map f (take i xs)) → Put b c h' h'' (f (get_or xs i 0) ∷ [])
+    → Put a c h h'' (map f (take (i + 1) xs))
 put_number a b c h h' h'' f xs i lt p q =
     let P : List ℕ → Type 0 = λ z. Put a b h h' z in
     let Q : List ℕ → Type 0 = λ z. Put a c h h'' z in
     subst Q (flat_map_single f (take (i + 1) xs))
-    (put_next a b c h h' h'' (λ x. f x ∷ []) xs i 0 lt (subst P (sym (flat_map_single f (take i xs))) p) q)
+    (put_next a b c h h' h'' (λ x. f x ∷ []) xs i 0 lt
+    (subst P (sym (flat_map_single f (take i xs))) p) q)
 
-pub cut_at_number : (a b c : Option (List ℕ)) (h h' : List ℕ) (f : ℕ → ℕ) (xs : List ℕ) (i : ℕ) → i < length xs →
-    Put a b h h' (map f (take i xs)) → Cut b c h' (f (get_or xs i 0) ∷ []) → Cut a c h (map f xs)
+pub cut_at_number : (a b c : Option (List ℕ)) (h h' : List ℕ) (f : ℕ → ℕ) (xs : List ℕ) (i : ℕ)
+    → i < length xs
+    → Put a b h h' (map f (take i xs)) → Cut b c h' (f (get_or xs i 0) ∷ []) → Cut a c h (map f xs)
 cut_at_number a b c h h' f xs i lt p q =
     let P : List ℕ → Type 0 = λ z. Put a b h h' z in
     let Q : List ℕ → Type 0 = λ z. Cut a c h z in
     subst Q (flat_map_single f xs)
-    (cut_at a b c h h' (λ x. f x ∷ []) xs i 0 lt (subst P (sym (flat_map_single f (take i xs))) p) q)
+    (cut_at a b c h h' (λ x. f x ∷ []) xs i 0 lt (subst P (sym (flat_map_single f (take i xs))) p)
+    q)
 
-pub puts_then : {E : Type 0} (a b c : Option (List ℕ)) (h h' h'' x y : List ℕ) (r : Result (Unit {0}) E) → Put a b h h' x
+pub puts_then : {E : Type 0} (a b c : Option (List ℕ)) (h h' h'' x y : List ℕ)
+    (r : Result (Unit {0}) E) → Put a b h h' x
     → Puts b c h' h'' r y → Puts a c h h'' r (x ++ y)
 puts_then a b c h h' h'' x y (Ok done) p q = put_then a b c h h' h'' x y p q
 puts_then a b c h h' h'' x y (Err fault) p q = put_cut a b c h h' x y p q
 
 -- a text was put where nothing was held, and what was held of it was written
-pub writes_all : {E : Type 0} (a b c : Option (List ℕ)) (h text : List ℕ) (r : Result (Unit {0}) E) → Put a b [] h text → Writes b c r h
+pub writes_all : {E : Type 0} (a b c : Option (List ℕ)) (h text : List ℕ) (r : Result (Unit {0}) E)
+    → Put a b [] h text → Writes b c r h
     → Writes a c r text
 writes_all a b c h text (Ok done) p w =
     let P : List ℕ → Type 0 = λ z. Appends a c z in
@@ -129,9 +153,11 @@ writes_all a b c h text (Err fault) p w = (
 )
 
 -- all of several texts were put
-pub put_whole : {X : Type 0} (a b : Option (List ℕ)) (h h' : List ℕ) (f : X → List ℕ) (xs : List X) (i : ℕ) → length xs ≤ i
+pub put_whole : {X : Type 0} (a b : Option (List ℕ)) (h h' : List ℕ) (f : X → List ℕ) (xs : List X)
+    (i : ℕ) → length xs ≤ i
     → Put a b h h' (flat_map f (take i xs)) → Put a b h h' (flat_map f xs)
-put_whole a b h h' f xs i le p = let P : List ℕ → Type 0 = λ z. Put a b h h' z in subst P (ap (flat_map f) (take_whole xs i le)) p
+put_whole a b h h' f xs i le p = let P : List ℕ → Type 0 = λ z. Put a b h h' z in
+    subst P (ap (flat_map f) (take_whole xs i le)) p
   where
     take_whole : {X : Type 0} (xs : List X) (i : ℕ) → length xs ≤ i → take i xs ≡ xs
     take_whole [] zero le = refl
@@ -140,12 +166,15 @@ put_whole a b h h' f xs i le p = let P : List ℕ → Type 0 = λ z. Put a b h h
     take_whole (x ∷ xs) (suc i) le = ap (λ z. x ∷ z) (take_whole xs i (omega arith))
 
 -- a text without control characters
-pub all_printable : (text : List ℕ) → list_all (λ byte. not (is_control byte)) text ≡ true → text ≡ map printable text
+pub all_printable : (text : List ℕ) → list_all (λ byte. not (is_control byte)) text ≡ true
+    → text ≡ map printable text
 all_printable [] h = refl
 all_printable (byte ∷ text) h = at (is_control byte) refl h (all_printable text)
   where
-    at : (v : Bool) → is_control byte ≡ v → (not v && list_all (λ b. not (is_control b)) text) ≡ true
-        → (list_all (λ b. not (is_control b)) text ≡ true → text ≡ map printable text) → byte ∷ text ≡ map printable (byte ∷ text)
+    at : (v : Bool) → is_control byte ≡ v → (not v && list_all (λ b. not (is_control b)) text)
+        ≡ true
+        → (list_all (λ b. not (is_control b)) text ≡ true → text ≡ map printable text)
+        → byte ∷ text ≡ map printable (byte ∷ text)
     at true e k rest = absurd (false≢true k)
     at false e k rest = rw e (ap (λ (z : List ℕ). byte ∷ z) (rest k))
 
@@ -156,6 +185,7 @@ cut_as a b h x y e p = subst (λ (z : List ℕ). Cut a b h z) e p
 pub put_as : (a b : Option (List ℕ)) (h h' x y : List ℕ) → x ≡ y → Put a b h h' x → Put a b h h' y
 put_as a b h h' x y e p = subst (λ (z : List ℕ). Put a b h h' z) e p
 
-pub puts_as : {E : Type 0} (a b : Option (List ℕ)) (h h' x y : List ℕ) (r : Result (Unit {0}) E) → x ≡ y → Puts a b h h' r x
+pub puts_as : {E : Type 0} (a b : Option (List ℕ)) (h h' x y : List ℕ) (r : Result (Unit {0}) E)
+    → x ≡ y → Puts a b h h' r x
     → Puts a b h h' r y
 puts_as a b h h' x y r e p = subst (λ (z : List ℕ). Puts a b h h' r z) e p

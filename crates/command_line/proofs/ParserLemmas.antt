@@ -1,5 +1,6 @@
 -- The parser's description of the command.
-use Rattle.std.proofs.Common.{◌≡◌, ◌∙◌, sym, ap, subst, refl, true, List, ℕ, Result, Ok, Err, [], ◌∷◌, map}
+use Rattle.std.proofs.Common.{◌≡◌, ◌∙◌, sym, ap, subst, refl, true, List, ℕ, Result, Ok, Err, []}
+use Rattle.std.proofs.Common.{◌∷◌, map}
 use Rattle.std.specs.Prelude.{MatchResult, IfOk, string_bytes}
 use Rattle.clap.specs.Walk.{rows_of}
 use Rattle.clap.specs.Matches.{found_of}
@@ -27,12 +28,15 @@ unfolding our_app
 our_app_is = refl
 
 -- a parse by a command that is described by another gives what that says
-pub parsed_as : (a b : App) (words : List (List ℕ)) (r : Result ArgMatches Error) → a ≡ b → is_simple b ≡ true → is_simple_and_free b ≡ true
+pub parsed_as : (a b : App) (words : List (List ℕ)) (r : Result ArgMatches Error) → a ≡ b
+    → is_simple b ≡ true → is_simple_and_free b ≡ true
     → IfOk r (HasMatchesOf a words) → (is_simple_and_free a ≡ true → FailsBy (fault_of a words) r)
-    → MatchResult r (λ m. (fault_of b words ≡ []) × (rows_of (found_of m) ≡ matches_of b words)) (HasKind (fault_of b words))
+    → MatchResult r (λ m. (fault_of b words ≡ []) × (rows_of (found_of m) ≡ matches_of b words))
+    (HasKind (fault_of b words))
 parsed_as a b words (Ok m) same simple free gives fails = record {
   0 = sym (ap (λ (x : App). fault_of x words) same) ∙ fails (ap is_simple_and_free same ∙ free);
   1 = (gives (ap is_simple same ∙ simple)).0 ∙ ap (λ (x : App). matches_of x words) same;
 }
 parsed_as a b words (Err e) same simple free gives fails =
-    subst (λ (x : App). HasKind (fault_of x words) e) same (fails (ap is_simple_and_free same ∙ free))
+    subst (λ (x : App). HasKind (fault_of x words) e) same
+    (fails (ap is_simple_and_free same ∙ free))

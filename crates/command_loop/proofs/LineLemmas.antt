@@ -1,11 +1,13 @@
 -- Lines of input, a stretch at a time.
-use Rattle.std.proofs.Common.{◌≡◌, ◌≢◌, ℕ, suc, ◌<◌, Bool, true, false, cond, List, [], ◌∷◌, ◌++◌, length, get_or, refl, sym, ◌∙◌, ap, subst}
+use Rattle.std.proofs.Common.{◌≡◌, ◌≢◌, ℕ, suc, ◌<◌, Bool, true, false, cond, List, [], ◌∷◌, ◌++◌}
+use Rattle.std.proofs.Common.{length, get_or, refl, sym, ◌∙◌, ap, subst}
 use Rattle.std.proofs.Common.{append_assoc, append-nil, arith}
 use Rattle.std.specs.Prelude.{filter}
 use Rattle.std.specs.List.{slice_split, onto_first, join_with_byte}
 use Rattle.std.proofs.lemmas.List.Splits.{join_with_byte-slice_split}
 use Rattle.std.proofs.lemmas.Bool.{ne_eqb}
-use Rattle.command_loop.specs.Lines.{stretches, all_but_last, the_last, has_bytes, lines, ended_lines, open_line, is_line_feed}
+use Rattle.command_loop.specs.Lines.{stretches, all_but_last, the_last, has_bytes, lines}
+use Rattle.command_loop.specs.Lines.{ended_lines, open_line, is_line_feed}
 
 -- a list is cut into one part at least
 pub record HasFirst (parts : List (List ℕ)) : Type 0 where
@@ -25,21 +27,24 @@ has_first p (x ∷ xs) =
     let P : List (List ℕ) → Type 0 = λ z. HasFirst (cond (p x) ([] ∷ z) (onto_first x z)) in
     subst P (sym h.is) (has_first_at (p x) x h.first h.others)
 
-close_at : (v : Bool) (x : ℕ) (part : List ℕ) (parts : List (List ℕ)) →
-    cond v ([] ∷ (part ∷ parts ++ [] ∷ [])) (onto_first x (part ∷ parts ++ [] ∷ []))
+close_at : (v : Bool) (x : ℕ) (part : List ℕ) (parts : List (List ℕ))
+    → cond v ([] ∷ (part ∷ parts ++ [] ∷ [])) (onto_first x (part ∷ parts ++ [] ∷ []))
     ≡ cond v ([] ∷ part ∷ parts) (onto_first x (part ∷ parts)) ++ [] ∷ []
 close_at true x part parts = refl
 close_at false x part parts = refl
 
-close_step : (v : Bool) (x : ℕ) (parts : List (List ℕ)) → HasFirst parts →
-    cond v ([] ∷ (parts ++ [] ∷ [])) (onto_first x (parts ++ [] ∷ [])) ≡ cond v ([] ∷ parts) (onto_first x parts) ++ [] ∷ []
+close_step : (v : Bool) (x : ℕ) (parts : List (List ℕ)) → HasFirst parts
+    → cond v ([] ∷ (parts ++ [] ∷ [])) (onto_first x (parts ++ [] ∷ []))
+    ≡ cond v ([] ∷ parts) (onto_first x parts) ++ [] ∷ []
 close_step v x parts h =
     let P : List (List ℕ) → Type 0 =
-    λ z. cond v ([] ∷ (z ++ [] ∷ [])) (onto_first x (z ++ [] ∷ [])) ≡ cond v ([] ∷ z) (onto_first x z) ++ [] ∷ [] in
+    λ z. cond v ([] ∷ (z ++ [] ∷ [])) (onto_first x (z ++ [] ∷ []))
+    ≡ cond v ([] ∷ z) (onto_first x z) ++ [] ∷ [] in
     subst P (sym h.is) (close_at v x h.first h.others)
 
 -- a byte at which the list is cut begins an empty part
-pub split_closes : (p : ℕ → Bool) (xs : List ℕ) (b : ℕ) → p b ≡ true → slice_split p (xs ++ b ∷ []) ≡ slice_split p xs ++ [] ∷ []
+pub split_closes : (p : ℕ → Bool) (xs : List ℕ) (b : ℕ) → p b ≡ true → slice_split p (xs ++ b ∷ [])
+    ≡ slice_split p xs ++ [] ∷ []
 split_closes p [] b yes_cut = rw yes_cut refl
 split_closes p (x ∷ xs) b yes_cut =
     ap (λ (z : List (List ℕ)). cond (p x) ([] ∷ z) (onto_first x z)) (split_closes p xs b yes_cut)
@@ -49,51 +54,62 @@ split_closes p (x ∷ xs) b yes_cut =
 abbrev pub grown : List (List ℕ) → ℕ → List (List ℕ)
 grown parts b = all_but_last parts ++ (the_last parts ++ b ∷ []) ∷ []
 
-grow_at : (v : Bool) (x : ℕ) (part : List ℕ) (parts : List (List ℕ)) (b : ℕ) →
-    cond v ([] ∷ grown (part ∷ parts) b) (onto_first x (grown (part ∷ parts) b))
+grow_at : (v : Bool) (x : ℕ) (part : List ℕ) (parts : List (List ℕ)) (b : ℕ)
+    → cond v ([] ∷ grown (part ∷ parts) b) (onto_first x (grown (part ∷ parts) b))
     ≡ grown (cond v ([] ∷ part ∷ parts) (onto_first x (part ∷ parts))) b
 grow_at true x part parts b = refl
 grow_at false x part [] b = refl
 grow_at false x part (next ∷ parts) b = refl
 
-grow_step : (v : Bool) (x : ℕ) (parts : List (List ℕ)) (b : ℕ) → HasFirst parts →
-    cond v ([] ∷ grown parts b) (onto_first x (grown parts b)) ≡ grown (cond v ([] ∷ parts) (onto_first x parts)) b
+grow_step : (v : Bool) (x : ℕ) (parts : List (List ℕ)) (b : ℕ) → HasFirst parts
+    → cond v ([] ∷ grown parts b) (onto_first x (grown parts b))
+    ≡ grown (cond v ([] ∷ parts) (onto_first x parts)) b
 grow_step v x parts b h =
     let P : List (List ℕ) → Type 0 =
-    λ z. cond v ([] ∷ grown z b) (onto_first x (grown z b)) ≡ grown (cond v ([] ∷ z) (onto_first x z)) b in
+    λ z. cond v ([] ∷ grown z b) (onto_first x (grown z b))
+    ≡ grown (cond v ([] ∷ z) (onto_first x z)) b in
     subst P (sym h.is) (grow_at v x h.first h.others b)
 
 -- any other byte goes onto the last part
-pub split_grows : (p : ℕ → Bool) (xs : List ℕ) (b : ℕ) → p b ≡ false → slice_split p (xs ++ b ∷ []) ≡ grown (slice_split p xs) b
+pub split_grows : (p : ℕ → Bool) (xs : List ℕ) (b : ℕ) → p b ≡ false → slice_split p (xs ++ b ∷ [])
+    ≡ grown (slice_split p xs) b
 split_grows p [] b no_cut = rw no_cut refl
 split_grows p (x ∷ xs) b no_cut =
     ap (λ (z : List (List ℕ)). cond (p x) ([] ∷ z) (onto_first x z)) (split_grows p xs b no_cut)
     ∙ grow_step (p x) x (slice_split p xs) b (has_first p xs)
 
-pub front_of_push : (parts : List (List ℕ)) (part : List ℕ) → all_but_last (parts ++ part ∷ []) ≡ parts
+pub front_of_push : (parts : List (List ℕ)) (part : List ℕ) → all_but_last (parts ++ part ∷ [])
+    ≡ parts
 front_of_push [] part = refl
 front_of_push (a ∷ []) part = refl
-front_of_push (a ∷ b ∷ parts) part = ap (λ (z : List (List ℕ)). a ∷ z) (front_of_push (b ∷ parts) part)
+front_of_push (a ∷ b ∷ parts) part = ap (λ (z : List (List ℕ)). a ∷ z)
+    (front_of_push (b ∷ parts) part)
 
 pub last_of_push : (parts : List (List ℕ)) (part : List ℕ) → the_last (parts ++ part ∷ []) ≡ part
 last_of_push [] part = refl
 last_of_push (a ∷ []) part = refl
 last_of_push (a ∷ b ∷ parts) part = last_of_push (b ∷ parts) part
 
-front_and_last_at : (part : List ℕ) (parts : List (List ℕ)) → all_but_last (part ∷ parts) ++ the_last (part ∷ parts) ∷ [] ≡ part ∷ parts
+front_and_last_at : (part : List ℕ) (parts : List (List ℕ)) → all_but_last (part ∷ parts)
+    ++ the_last (part ∷ parts) ∷ [] ≡ part ∷ parts
 front_and_last_at part [] = refl
-front_and_last_at part (next ∷ parts) = ap (λ (z : List (List ℕ)). part ∷ z) (front_and_last_at next parts)
+front_and_last_at part (next ∷ parts) = ap (λ (z : List (List ℕ)). part ∷ z)
+    (front_and_last_at next parts)
 
-pub front_and_last : (parts : List (List ℕ)) → HasFirst parts → all_but_last parts ++ the_last parts ∷ [] ≡ parts
+pub front_and_last : (parts : List (List ℕ)) → HasFirst parts → all_but_last parts ++ the_last parts
+    ∷ [] ≡ parts
 front_and_last parts h =
     let P : List (List ℕ) → Type 0 = λ z. all_but_last z ++ the_last z ∷ [] ≡ z in
     subst P (sym h.is) (front_and_last_at h.first h.others)
 
-pub filter_append : (p : List ℕ → Bool) (xs ys : List (List ℕ)) → filter p (xs ++ ys) ≡ filter p xs ++ filter p ys
+pub filter_append : (p : List ℕ → Bool) (xs ys : List (List ℕ)) → filter p (xs ++ ys) ≡ filter p xs
+    ++ filter p ys
 filter_append p [] ys = refl
-filter_append p (x ∷ xs) ys = filter_append_at (p x) x (filter p xs) (filter p ys) (filter p (xs ++ ys)) (filter_append p xs ys)
+filter_append p (x ∷ xs) ys = filter_append_at (p x) x (filter p xs) (filter p ys)
+    (filter p (xs ++ ys)) (filter_append p xs ys)
   where
-    filter_append_at : (v : Bool) (x : List ℕ) (a b c : List (List ℕ)) → c ≡ a ++ b → cond v (x ∷ c) c ≡ cond v (x ∷ a) a ++ b
+    filter_append_at : (v : Bool) (x : List ℕ) (a b c : List (List ℕ)) → c ≡ a ++ b
+        → cond v (x ∷ c) c ≡ cond v (x ∷ a) a ++ b
     filter_append_at true x a b c e = ap (λ (z : List (List ℕ)). x ∷ z) e
     filter_append_at false x a b c e = e
 
@@ -105,47 +121,58 @@ lines_are xs =
     ∙ filter_append has_bytes (all_but_last (stretches xs)) (the_last (stretches xs) ∷ [])
 
 -- a line feed ends the open line
-pub ended_at_feed : (xs : List ℕ) → ended_lines (xs ++ 10 ∷ []) ≡ ended_lines xs ++ filter has_bytes (open_line xs ∷ [])
+pub ended_at_feed : (xs : List ℕ) → ended_lines (xs ++ 10 ∷ []) ≡ ended_lines xs
+    ++ filter has_bytes (open_line xs ∷ [])
 unfolding ended_lines open_line
 ended_at_feed xs =
-    ap (λ (z : List (List ℕ)). filter has_bytes (all_but_last z)) (split_closes is_line_feed xs 10 refl)
+    ap (λ (z : List (List ℕ)). filter has_bytes (all_but_last z))
+    (split_closes is_line_feed xs 10 refl)
     ∙ ap (filter has_bytes) (front_of_push (stretches xs) [])
     ∙ ap (filter has_bytes) (sym (front_and_last (stretches xs) (has_first is_line_feed xs)))
     ∙ filter_append has_bytes (all_but_last (stretches xs)) (the_last (stretches xs) ∷ [])
 
 pub open_at_feed : (xs : List ℕ) → open_line (xs ++ 10 ∷ []) ≡ []
 unfolding open_line
-open_at_feed xs = ap the_last (split_closes is_line_feed xs 10 refl) ∙ last_of_push (stretches xs) []
+open_at_feed xs = ap the_last (split_closes is_line_feed xs 10 refl)
+    ∙ last_of_push (stretches xs) []
 
 -- any other byte goes onto the open line
 pub ended_at_byte : (xs : List ℕ) (b : ℕ) → b ≢ 10 → ended_lines (xs ++ b ∷ []) ≡ ended_lines xs
 unfolding ended_lines
 ended_at_byte xs b ne =
-    ap (λ (z : List (List ℕ)). filter has_bytes (all_but_last z)) (split_grows is_line_feed xs b (ne_eqb b 10 ne))
-    ∙ ap (filter has_bytes) (front_of_push (all_but_last (stretches xs)) (the_last (stretches xs) ++ b ∷ []))
+    ap (λ (z : List (List ℕ)). filter has_bytes (all_but_last z))
+    (split_grows is_line_feed xs b (ne_eqb b 10 ne))
+    ∙ ap (filter has_bytes) (front_of_push (all_but_last (stretches xs))
+    (the_last (stretches xs) ++ b ∷ []))
 
-pub open_at_byte : (xs : List ℕ) (b : ℕ) → b ≢ 10 → open_line (xs ++ b ∷ []) ≡ open_line xs ++ b ∷ []
+pub open_at_byte : (xs : List ℕ) (b : ℕ) → b ≢ 10 → open_line (xs ++ b ∷ []) ≡ open_line xs ++ b
+    ∷ []
 unfolding open_line
 open_at_byte xs b ne =
-    ap the_last (split_grows is_line_feed xs b (ne_eqb b 10 ne)) ∙ last_of_push (all_but_last (stretches xs))
+    ap the_last (split_grows is_line_feed xs b (ne_eqb b 10 ne))
+    ∙ last_of_push (all_but_last (stretches xs))
     (the_last (stretches xs) ++ b ∷ [])
 
 -- bytes without a line feed
 abbrev pub HasNoFeed : List ℕ → Type 0
 HasNoFeed bytes = (k : ℕ) → k < length bytes → get_or bytes k 0 ≢ 10
 
-pub ended_at_bytes : (xs bytes : List ℕ) → HasNoFeed bytes → ended_lines (xs ++ bytes) ≡ ended_lines xs
+pub ended_at_bytes : (xs bytes : List ℕ) → HasNoFeed bytes
+    → ended_lines (xs ++ bytes) ≡ ended_lines xs
 ended_at_bytes xs [] none = ap ended_lines (append-nil xs)
 ended_at_bytes xs (b ∷ bytes) none =
     ap ended_lines (sym (append_assoc xs (b ∷ []) bytes))
-    ∙ ended_at_bytes (xs ++ b ∷ []) bytes (λ k lt. none (suc k) (omega (arith, lt))) ∙ ended_at_byte xs b (none 0 (omega arith))
+    ∙ ended_at_bytes (xs ++ b ∷ []) bytes (λ k lt. none (suc k) (omega (arith, lt)))
+    ∙ ended_at_byte xs b (none 0 (omega arith))
 
-pub open_at_bytes : (xs bytes : List ℕ) → HasNoFeed bytes → open_line (xs ++ bytes) ≡ open_line xs ++ bytes
+pub open_at_bytes : (xs bytes : List ℕ) → HasNoFeed bytes → open_line (xs ++ bytes) ≡ open_line xs
+    ++ bytes
 open_at_bytes xs [] none = ap open_line (append-nil xs) ∙ sym (append-nil (open_line xs))
 open_at_bytes xs (b ∷ bytes) none =
     ap open_line (sym (append_assoc xs (b ∷ []) bytes))
     ∙ open_at_bytes (xs ++ b ∷ []) bytes (λ k lt. none (suc k) (omega (arith, lt)))
-    ∙ ap (λ (z : List ℕ). z ++ bytes) (open_at_byte xs b (none 0 (omega arith))) ∙ append_assoc (open_line xs) (b ∷ []) bytes
+    ∙ ap (λ (z : List ℕ). z ++ bytes) (open_at_byte xs b (none 0 (omega arith)))
+    ∙ append_assoc (open_line xs) (b ∷ []) bytes
 
 -- what was read ends with the open line
 pub ends_open : (xs : List ℕ) → (front : List ℕ) × (xs ≡ front ++ open_line xs)
@@ -154,9 +181,13 @@ ends_open xs =
     let j = join_ends (stretches xs) in
     (j.0, sym (join_with_byte-slice_split 10 xs) ∙ j.1)
   where
-    join_ends : (parts : List (List ℕ)) → (front : List ℕ) × (join_with_byte 10 parts ≡ front ++ the_last parts)
+    join_ends : (parts : List (List ℕ)) → (front : List ℕ)
+        × (join_with_byte 10 parts ≡ front ++ the_last parts)
     join_ends [] = ([], refl)
     join_ends (part ∷ []) = ([], refl)
     join_ends (part ∷ next ∷ parts) =
-        let j = join_ends (next ∷ parts) in
-        (part ++ 10 ∷ j.0, ap (λ (z : List ℕ). part ++ 10 ∷ z) j.1 ∙ sym (append_assoc part (10 ∷ j.0) (the_last (next ∷ parts))))
+        let j = join_ends (next ∷ parts) in (
+          part ++ 10 ∷ j.0,
+          ap (λ (z : List ℕ). part ++ 10 ∷ z) j.1
+              ∙ sym (append_assoc part (10 ∷ j.0) (the_last (next ∷ parts))),
+        )

@@ -1,6 +1,7 @@
 -- Each read of a LEB128 number or a byte takes a byte or more, and none reaches past the end.
 use Rattle.std.specs.Option.{option_map_or}
-use Rattle.std.proofs.Common.{◌≡◌, ℕ, ◌+◌, ◌^◌, ◌<◌, ◌≤◌, ℤ, List, Bool, true, false, cond, length, take, drop, refl, ap, subst, arith, length-take, length-drop}
+use Rattle.std.proofs.Common.{◌≡◌, ℕ, ◌+◌, ◌^◌, ◌<◌, ◌≤◌, ℤ, List, Bool, true, false, cond, length}
+use Rattle.std.proofs.Common.{take, drop, refl, ap, subst, arith, length-take, length-drop}
 use Rattle.std.specs.Prelude.{Option, Some, None, Result, Ok, Err, position, nat_lt}
 use Rattle.std.proofs.lemmas.List.Quantifiers.{position-Some}
 use Rattle.dwarf_bytes.specs.declared.fault.ReadFault.{ReadFault}
@@ -11,19 +12,21 @@ use Rattle.dwarf_bytes.specs.Numbers.{leb_front, uleb_value, uleb_at, sleb_value
 use Rattle.dwarf_bytes.specs.Items.{reading, refuse_if}
 
 -- an Ok of two steps comes from an Ok of each
-pub bind_ok : {A B E : Type 0} (r : Result A E) (f : A → Result B E) (y : B) → (r >>= f) ≡ Ok y → (x : A) × (r ≡ Ok x)
+pub bind_ok : {A B E : Type 0} (r : Result A E) (f : A → Result B E) (y : B) → (r >>= f) ≡ Ok y
+    → (x : A) × (r ≡ Ok x)
     × (f x ≡ Ok y)
 bind_ok (Ok x) f y h = (x, refl, h)
 bind_ok (Err e) f y h = cc
 
 -- the same with variables for what each step gives, which keeps the terms of a long chain small
-pub after_bind : {A B E : Type 0} (r : Result A E) (f : A → Result B E) (y : B) → (r >>= f) ≡ Ok y → (P : Type 0) →
-    ((x : A) → r ≡ Ok x → f x ≡ Ok y → P) → P
+pub after_bind : {A B E : Type 0} (r : Result A E) (f : A → Result B E) (y : B) → (r >>= f) ≡ Ok y
+    → (P : Type 0)
+    → ((x : A) → r ≡ Ok x → f x ≡ Ok y → P) → P
 after_bind (Ok x) f y h P next = next x refl h
 after_bind (Err e) f y h P next = cc
 
-pub after_test : {B : Type 0} (b : Bool) (c : Cause) (f : Unit {0} → Result B Cause) (y : B) →
-    (refuse_if b c >>= f) ≡ Ok y → (P : Type 0) → (b ≡ false → f tt ≡ Ok y → P) → P
+pub after_test : {B : Type 0} (b : Bool) (c : Cause) (f : Unit {0} → Result B Cause) (y : B)
+    → (refuse_if b c >>= f) ≡ Ok y → (P : Type 0) → (b ≡ false → f tt ≡ Ok y → P) → P
 after_test true c f y h P next = cc
 after_test false c f y h P next = next refl h
 
@@ -32,24 +35,27 @@ reading_ok (Ok y) x h = cc
 reading_ok (Err e) x h = cc
 
 -- an Ok behind a test comes where it does not refuse
-pub refuse_if_ok : {B : Type 0} (b : Bool) (c : Cause) (f : Unit {0} → Result B Cause) (y : B) →
-    (refuse_if b c >>= f) ≡ Ok y → (b ≡ false) × (f tt ≡ Ok y)
+pub refuse_if_ok : {B : Type 0} (b : Bool) (c : Cause) (f : Unit {0} → Result B Cause) (y : B)
+    → (refuse_if b c >>= f) ≡ Ok y → (b ≡ false) × (f tt ≡ Ok y)
 refuse_if_ok true c f y h = cc
 refuse_if_ok false c f y h = (refl, h)
 
 -- a choice
-pub chosen : {B : Type 0} (b : Bool) (x y z : B) → cond b x y ≡ z → (P : Type 0) → (b ≡ true → x ≡ z → P) →
-    (b ≡ false → y ≡ z → P) → P
+pub chosen : {B : Type 0} (b : Bool) (x y z : B) → cond b x y ≡ z → (P : Type 0)
+    → (b ≡ true → x ≡ z → P)
+    → (b ≡ false → y ≡ z → P) → P
 chosen true x y z h P when unless = when refl h
 chosen false x y z h P when unless = unless refl h
 
-pub leb_front-length : (bytes leb : List ℕ) → leb_front bytes ≡ Ok leb → (0 < length leb) × (length leb ≤ length bytes)
+pub leb_front-length : (bytes leb : List ℕ) → leb_front bytes ≡ Ok leb
+    → (0 < length leb) × (length leb ≤ length bytes)
 unfolding leb_front
 leb_front-length bytes leb h = by_position (position (λ b. nat_lt b 128) (take 10 bytes)) refl h
   where
-    by_position : (found : Option ℕ) → position (λ b. nat_lt b 128) (take 10 bytes) ≡ found →
-        option_map_or (λ last. Ok (take (last + 1) bytes)) found
-        (Err (cond (nat_lt (length bytes) 10) Short Leb)) ≡ Ok leb → (0 < length leb) × (length leb ≤ length bytes)
+    by_position : (found : Option ℕ) → position (λ b. nat_lt b 128) (take 10 bytes) ≡ found
+        → option_map_or (λ last. Ok (take (last + 1) bytes)) found
+        (Err (cond (nat_lt (length bytes) 10) Short Leb)) ≡ Ok leb
+        → (0 < length leb) × (length leb ≤ length bytes)
     by_position None is h = cc
     by_position (Some i) is h =
         let at = position-Some (λ b. nat_lt b 128) (take 10 bytes) i 0 is in
@@ -63,36 +69,48 @@ leb_front-length bytes leb h = by_position (position (λ b. nat_lt b 128) (take 
 abbrev pub MovesOn : List ℕ → ℕ → ℕ → Type 0
 MovesOn bytes at after = (at < after) × (after ≤ length bytes)
 
-pub uleb_at-moves : (bytes : List ℕ) (at v after : ℕ) → uleb_at bytes at ≡ Ok (v, after) → MovesOn bytes at after
+pub uleb_at-moves : (bytes : List ℕ) (at v after : ℕ) → uleb_at bytes at ≡ Ok (v, after)
+    → MovesOn bytes at after
 unfolding uleb_at
 uleb_at-moves bytes at v after h =
     let front = bind_ok (leb_front (drop at bytes))
-    (λ leb. cond (nat_lt (uleb_value leb) (2 ^ 64)) (Ok (uleb_value leb, at + length leb)) (Err Leb))
+    (λ leb. cond (nat_lt (uleb_value leb) (2 ^ 64)) (Ok (uleb_value leb, at + length leb))
+    (Err Leb))
     (v, after) h in
     let len = leb_front-length (drop at bytes) front.0 front.1 in
-    chosen (nat_lt (uleb_value front.0) (2 ^ 64)) (Ok (uleb_value front.0, at + length front.0)) (Err Leb)
+    chosen (nat_lt (uleb_value front.0) (2 ^ 64)) (Ok (uleb_value front.0, at + length front.0))
+    (Err Leb)
     (Ok (v, after)) front.2 (MovesOn bytes at after)
     (λ _ is. let place : at + length front.0 ≡ after = ap (λ (p : ℕ × ℕ). p.1)
     (ok_same (uleb_value front.0, at + length front.0) (v, after) is) in
-    let rest = length-drop at bytes in (omega (arith, len.0, place), omega (arith, len.0, len.1, rest, place)))
+    let rest = length-drop at bytes in (
+      omega (arith, len.0, place),
+      omega (arith, len.0, len.1, rest, place),
+    ))
     (λ _ is. cc)
   where
-    ok_same : (x y : ℕ × ℕ) → (let f : ℕ × ℕ → Result (ℕ × ℕ) ReadFault = λ z. Ok z in f x ≡ f y) → x ≡ y
+    ok_same : (x y : ℕ × ℕ) → (let f : ℕ × ℕ → Result (ℕ × ℕ) ReadFault = λ z. Ok z in f x ≡ f y)
+        → x ≡ y
     ok_same x y h = cc
 
-pub sleb_at-moves : (bytes : List ℕ) (at : ℕ) (v : ℤ) (after : ℕ) → sleb_at bytes at ≡ Ok (v, after) →
-    MovesOn bytes at after
+pub sleb_at-moves : (bytes : List ℕ) (at : ℕ) (v : ℤ) (after : ℕ) → sleb_at bytes at ≡ Ok (v, after)
+    → MovesOn bytes at after
 unfolding sleb_at
 sleb_at-moves bytes at v after h =
     let front = bind_ok (leb_front (drop at bytes))
-    (λ leb. cond (fits_i64 (sleb_value leb)) (Ok (sleb_value leb, at + length leb)) (Err Leb)) (v, after) h in
+    (λ leb. cond (fits_i64 (sleb_value leb)) (Ok (sleb_value leb, at + length leb)) (Err Leb))
+    (v, after) h in
     let len = leb_front-length (drop at bytes) front.0 front.1 in
     chosen (fits_i64 (sleb_value front.0)) (Ok (sleb_value front.0, at + length front.0)) (Err Leb)
     (Ok (v, after)) front.2 (MovesOn bytes at after)
     (λ _ is. let place : at + length front.0 ≡ after = ap (λ (p : ℤ × ℕ). p.1)
     (ok_same (sleb_value front.0, at + length front.0) (v, after) is) in
-    let rest = length-drop at bytes in (omega (arith, len.0, place), omega (arith, len.0, len.1, rest, place)))
+    let rest = length-drop at bytes in (
+      omega (arith, len.0, place),
+      omega (arith, len.0, len.1, rest, place),
+    ))
     (λ _ is. cc)
   where
-    ok_same : (x y : ℤ × ℕ) → (let f : ℤ × ℕ → Result (ℤ × ℕ) ReadFault = λ z. Ok z in f x ≡ f y) → x ≡ y
+    ok_same : (x y : ℤ × ℕ) → (let f : ℤ × ℕ → Result (ℤ × ℕ) ReadFault = λ z. Ok z in f x ≡ f y)
+        → x ≡ y
     ok_same x y h = cc

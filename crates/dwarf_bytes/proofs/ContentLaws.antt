@@ -1,29 +1,34 @@
 -- A value is read exactly where the bytes at the place begin with what spells it in its layout.
-use Rattle.std.proofs.Common.{◌≡◌, ℕ, ◌+◌, ◌<◌, ◌≤◌, List, [], ◌∷◌, ◌++◌, length, drop, Result, Ok, Err, ap, sym, refl, subst, ◌∙◌, arith, length-append, length-drop, append_assoc}
+use Rattle.std.proofs.Common.{◌≡◌, ℕ, ◌+◌, ◌≤◌, List, [], ◌++◌, length, drop, Result, Ok, Err, ap}
+use Rattle.std.proofs.Common.{sym, refl, subst, ◌∙◌, arith, length-append, length-drop}
+use Rattle.std.proofs.Common.{append_assoc}
 use Rattle.std.proofs.lemmas.List.{drop_at, drop-drop}
 use Rattle.dwarf_bytes.specs.declared.fault.ReadFault.{ReadFault}
 use Rattle.dwarf_bytes.specs.declared.format.Format.{Format}
 use Rattle.dwarf_bytes.specs.declared.format.Format.TheVariants.{Dwarf32, Dwarf64}
 use Rattle.dwarf_bytes.specs.declared.form.ValueLayout.{ValueLayout}
 use Rattle.dwarf_bytes.specs.declared.form.ValueLayout.TheVariants as layouts
-use Rattle.dwarf_bytes.specs.declared.form.Width.{Width}
-use Rattle.dwarf_bytes.specs.declared.form.Width.TheVariants.{One, Two, Three, Four, Eight}
 use Rattle.dwarf_bytes.specs.Bind.{◌>>=◌}
 use Rattle.dwarf_bytes.specs.Forms.{byte_len}
-use Rattle.dwarf_bytes.specs.Numbers.{IsLeb, IsFixed, IsText, IsUleb, IsSleb, StandsAt, block_at, fixed_at, uleb_at, sleb_at, cstr_at}
-use Rattle.dwarf_bytes.specs.Contents.{Content, Number, Signed, Bytes, SpellsContent, read_as, content_at}
-use Rattle.dwarf_bytes.proofs.Spelling.{bind_ok, uleb_stands, uleb_again, sleb_stands, sleb_again}
-use Rattle.dwarf_bytes.proofs.Standing.{IsBlock, block_stands, block_of, fixed_stands, fixed_again}
-use Rattle.dwarf_bytes.proofs.TextLaws.{text_stands, text_again}
+use Rattle.dwarf_bytes.specs.Numbers.{IsFixed, IsText, IsUleb, IsSleb, StandsAt, block_at, fixed_at}
+use Rattle.dwarf_bytes.specs.Numbers.{uleb_at, sleb_at, cstr_at}
+use Rattle.dwarf_bytes.specs.Contents.{Content, Number, Signed, Bytes, SpellsContent, read_as}
+use Rattle.dwarf_bytes.specs.Contents.{content_at}
+use Rattle.dwarf_bytes.proofs.Spelling.{bind_ok, uleb_stands, sleb_stands}
+use Rattle.dwarf_bytes.proofs.Standing.{IsBlock, block_stands, block_of, fixed_stands}
+use Rattle.dwarf_bytes.proofs.TextLaws.{text_stands}
 
-same_content : (x y : Content × ℕ) → (let f : Content × ℕ → Result (Content × ℕ) ReadFault = λ z. Ok z in f x ≡ f y) →
-    x ≡ y
+same_content : (x y : Content × ℕ) → (let f : Content × ℕ → Result (Content × ℕ) ReadFault =
+    λ z. Ok z in f x ≡ f y)
+    → x ≡ y
 same_content x y h = cc
 
 -- another word for what stands at a place
-standing_as : {X Y : Type 0} (S : List ℕ → X → Type 0) (T : List ℕ → Y → Type 0) (bytes : List ℕ) (at : ℕ) (x : X)
-    (y : Y) (next : ℕ) → ((front : List ℕ) → S front x → T front y) → StandsAt S bytes at x next →
-    StandsAt T bytes at y next
+pub standing_as : {X Y : Type 0} (S : List ℕ → X → Type 0) (T : List ℕ → Y → Type 0)
+    (bytes : List ℕ)
+    (at : ℕ) (x : X)
+    (y : Y) (next : ℕ) → ((front : List ℕ) → S front x → T front y) → StandsAt S bytes at x next
+    → StandsAt T bytes at y next
 standing_as S T bytes at x y next as_other s =
     record {
       front = s.front;
@@ -34,64 +39,86 @@ standing_as S T bytes at x y next as_other s =
     }
 
 -- what is read as a content stands as one
-read_stands : {X : Type 0} (S : List ℕ → X → Type 0) (T : List ℕ → Content → Type 0) (make : X → Content)
-    (bytes : List ℕ) (at : ℕ) (content : Content) (next : ℕ) →
-    ((front : List ℕ) (x : X) → S front x → T front (make x)) → (read : Result (X × ℕ) ReadFault) →
-    ((x : X) (n : ℕ) → read ≡ Ok (x, n) → StandsAt S bytes at x n) → read_as make read ≡ Ok (content, next) →
-    StandsAt T bytes at content next
+read_stands : {X : Type 0} (S : List ℕ → X → Type 0) (T : List ℕ → Content → Type 0)
+    (make : X → Content)
+    (bytes : List ℕ) (at : ℕ) (content : Content) (next : ℕ)
+    → ((front : List ℕ) (x : X) → S front x → T front (make x)) → (read : Result (X × ℕ) ReadFault)
+    → ((x : X) (n : ℕ) → read ≡ Ok (x, n) → StandsAt S bytes at x n)
+    → read_as make read ≡ Ok (content, next)
+    → StandsAt T bytes at content next
 read_stands {X = X} S T make bytes at content next as_content read stands e =
     let r = bind_ok read (λ x. Ok (make x.0, x.1)) (content, next) e in
     let pairs = same_content (make r.0.0, r.0.1) (content, next) r.2 in
-    let here = standing_as S T bytes at r.0.0 (make r.0.0) r.0.1 (λ front s. as_content front r.0.0 s)
+    let here = standing_as S T bytes at r.0.0 (make r.0.0) r.0.1
+    (λ front s. as_content front r.0.0 s)
     (stands r.0.0 r.0.1 r.1) in
     let whole : StandsAt T bytes at (make r.0.0) next =
-    subst (λ (n : ℕ). StandsAt T bytes at (make r.0.0) n) (ap (λ (p : Content × ℕ). p.1) pairs) here in
+    subst (λ (n : ℕ). StandsAt T bytes at (make r.0.0) n) (ap (λ (p : Content × ℕ). p.1) pairs)
+    here in
     subst (λ (c : Content). StandsAt T bytes at c next) (ap (λ (p : Content × ℕ). p.0) pairs) whole
 
 -- what is read so, is read as a content
-read_again : {X : Type 0} (make : X → Content) (read : Result (X × ℕ) ReadFault) (x : X) (next : ℕ) →
-    read ≡ Ok (x, next) → read_as make read ≡ Ok (make x, next)
+pub read_again : {X : Type 0} (make : X → Content) (read : Result (X × ℕ) ReadFault) (x : X)
+    (next : ℕ)
+    → read ≡ Ok (x, next) → read_as make read ≡ Ok (make x, next)
 read_again make read x next is = rw is refl
 
 -- ---- a length, and so many bytes
 
 -- the bytes behind what stands at a place
-pub behind : (bytes : List ℕ) (at : ℕ) (front rest : List ℕ) → drop at bytes ≡ front ++ rest →
-    drop (at + length front) bytes ≡ rest
+pub behind : (bytes : List ℕ) (at : ℕ) (front rest : List ℕ) → drop at bytes ≡ front ++ rest
+    → drop (at + length front) bytes ≡ rest
 behind bytes at front rest parts =
-    sym (drop-drop (length front) at bytes) ∙ ap (drop (length front)) parts ∙ drop_at front rest (length front) refl
+    sym (drop-drop (length front) at bytes) ∙ ap (drop (length front)) parts
+    ∙ drop_at front rest (length front) refl
 
 -- a block whose length is spelled before it
 abbrev IsCounted : (List ℕ → ℕ → Type 0) → List ℕ → List ℕ → Type 0
 IsCounted L bytes block = (len : List ℕ) × (bytes ≡ len ++ block) × L len (length block)
 
 counted_stands : (L : List ℕ → ℕ → Type 0) (bytes : List ℕ) (at : ℕ) (block : List ℕ) (next : ℕ)
-    (read : Result (ℕ × ℕ) ReadFault) → ((x n : ℕ) → read ≡ Ok (x, n) → StandsAt L bytes at x n) →
-    (read >>= λ len. block_at len.0 bytes len.1) ≡ Ok (block, next) → StandsAt (IsCounted L) bytes at block next
+    (read : Result (ℕ × ℕ) ReadFault) → ((x n : ℕ) → read ≡ Ok (x, n) → StandsAt L bytes at x n)
+    → (read >>= λ len. block_at len.0 bytes len.1) ≡ Ok (block, next)
+    → StandsAt (IsCounted L) bytes at block next
 counted_stands L bytes at block next read stands e =
     let r = bind_ok read (λ len. block_at len.0 bytes len.1) (block, next) e in
     let s = stands r.0.0 r.0.1 r.1 in
     let b = block_stands r.0.0 bytes r.0.1 block next r.2 in
     let rest_is : s.rest ≡ b.front ++ b.rest =
-    sym (behind bytes at s.front s.rest s.parts) ∙ ap (λ (n : ℕ). drop n bytes) (sym s.next_is) ∙ b.parts in
+    sym (behind bytes at s.front s.rest s.parts) ∙ ap (λ (n : ℕ). drop n bytes) (sym s.next_is)
+    ∙ b.parts in
     let size : length block ≡ r.0.0 = ap length b.spelled.1 ∙ b.spelled.0 in
     record {
       front = s.front ++ b.front;
       rest = b.rest;
-      spelled = (s.front, ap (λ (t : List ℕ). s.front ++ t) (sym b.spelled.1), subst (L s.front) (sym size) s.spelled);
-      parts = s.parts ∙ ap (λ (t : List ℕ). s.front ++ t) rest_is ∙ sym (append_assoc s.front b.front b.rest);
+      spelled = (
+        s.front,
+        ap (λ (t : List ℕ). s.front ++ t) (sym b.spelled.1),
+        subst (L s.front) (sym size) s.spelled,
+      );
+      parts = s.parts ∙ ap (λ (t : List ℕ). s.front ++ t) rest_is
+          ∙ sym (append_assoc s.front b.front b.rest);
       next_is = omega (arith, b.next_is, s.next_is, length-append s.front b.front);
     }
 
-counted_again : (L : List ℕ → ℕ → Type 0) (bytes : List ℕ) (at : ℕ) (block : List ℕ) (next : ℕ)
-    (read : Result (ℕ × ℕ) ReadFault) → at ≤ length bytes → ((x n : ℕ) → StandsAt L bytes at x n → read ≡ Ok (x, n)) →
-    StandsAt (IsCounted L) bytes at block next → (read >>= λ len. block_at len.0 bytes len.1) ≡ Ok (block, next)
+pub counted_again : (L : List ℕ → ℕ → Type 0) (bytes : List ℕ) (at : ℕ) (block : List ℕ) (next : ℕ)
+    (read : Result (ℕ × ℕ) ReadFault) → at ≤ length bytes
+    → ((x n : ℕ) → StandsAt L bytes at x n → read ≡ Ok (x, n))
+    → StandsAt (IsCounted L) bytes at block next → (read >>= λ len. block_at len.0 bytes len.1)
+    ≡ Ok (block, next)
 counted_again L bytes at block next read within again s =
     let len = s.spelled.0 in
     let parts : drop at bytes ≡ len ++ (block ++ s.rest) =
     s.parts ∙ ap (λ (t : List ℕ). t ++ s.rest) s.spelled.1 ∙ append_assoc len block s.rest in
     let counted = again (length block) (at + length len)
-    (record { front = len; rest = block ++ s.rest; spelled = s.spelled.2; parts = parts; next_is = refl }) in
+    (record {
+      front = len;
+      rest = block ++ s.rest;
+      spelled = s.spelled.2;
+      parts = parts;
+      next_is =
+          refl;
+    }) in
     let left = length-drop at bytes in
     let all = ap length parts ∙ length-append len (block ++ s.rest) in
     let blocked = block_of bytes (at + length len) block s.rest (omega (arith, left, all))
@@ -101,17 +128,18 @@ counted_again L bytes at block next read within again s =
     rw (counted, blocked) (ap (λ (n : ℕ). Ok (block, n)) end)
 
 -- the content of a counted block
-counted_as : (bytes : List ℕ) (read : Result (ℕ × ℕ) ReadFault) →
-    (read >>= λ len. read_as Bytes (block_at len.0 bytes len.1)) ≡ read_as Bytes
+pub counted_as : (bytes : List ℕ) (read : Result (ℕ × ℕ) ReadFault)
+    → (read >>= λ len. read_as Bytes (block_at len.0 bytes len.1)) ≡ read_as Bytes
     (read >>= λ len. block_at len.0 bytes len.1)
 counted_as bytes (Ok len) = refl
 counted_as bytes (Err e) = refl
 
 -- ---- each layout
 
-pub content_stands : (layout : ValueLayout) (format : Format) (bytes : List ℕ) (at : ℕ) (content : Content) (next : ℕ) →
-    content_at layout format bytes at ≡ Ok (content, next) →
-    StandsAt (SpellsContent layout format) bytes at content next
+pub content_stands : (layout : ValueLayout) (format : Format) (bytes : List ℕ) (at : ℕ)
+    (content : Content) (next : ℕ)
+    → content_at layout format bytes at ≡ Ok (content, next)
+    → StandsAt (SpellsContent layout format) bytes at content next
 unfolding content_at
 content_stands (layouts.Fixed width) format bytes at content next e =
     read_stands (IsFixed (byte_len width)) _ Number bytes at content next (λ front x s. s)
@@ -125,8 +153,16 @@ content_stands layouts.Offset Dwarf64 bytes at content next e =
 content_stands layouts.Present format bytes at content next e =
     let pairs = same_content (Number 1, at) (content, next) e in
     let here : StandsAt (SpellsContent layouts.Present format) bytes at (Number 1) at =
-    record { front = []; rest = drop at bytes; spelled = (refl, refl); parts = refl; next_is = omega arith } in
-    let whole = subst (λ (n : ℕ). StandsAt (SpellsContent layouts.Present format) bytes at (Number 1) n)
+    record {
+      front = [];
+      rest = drop at bytes;
+      spelled = (refl, refl);
+      parts = refl;
+      next_is =
+          omega arith;
+    } in
+    let whole = subst (λ (n : ℕ). StandsAt (SpellsContent layouts.Present format) bytes at
+    (Number 1) n)
     (ap (λ (p : Content × ℕ). p.1) pairs) here in
     subst (λ (c : Content). StandsAt (SpellsContent layouts.Present format) bytes at c next)
     (ap (λ (p : Content × ℕ). p.0) pairs) whole
@@ -143,161 +179,16 @@ content_stands layouts.Sixteen format bytes at content next e =
     read_stands (IsBlock 16) _ Bytes bytes at content next (λ front x s. s) (block_at 16 bytes at)
     (λ x n h. block_stands 16 bytes at x n h) e
 content_stands (layouts.Block width) format bytes at content next e =
-    read_stands (IsCounted (IsFixed (byte_len width))) _ Bytes bytes at content next (λ front x s. s)
+    read_stands (IsCounted (IsFixed (byte_len width))) _ Bytes bytes at content next
+    (λ front x s. s)
     (fixed_at (byte_len width) bytes at >>= λ len. block_at len.0 bytes len.1)
-    (λ x n h. counted_stands (IsFixed (byte_len width)) bytes at x n (fixed_at (byte_len width) bytes at)
+    (λ x n h. counted_stands (IsFixed (byte_len width)) bytes at x n
+    (fixed_at (byte_len width) bytes at)
     (λ y m g. fixed_stands (byte_len width) bytes at y m g) h)
     (sym (counted_as bytes (fixed_at (byte_len width) bytes at)) ∙ e)
 content_stands layouts.LongBlock format bytes at content next e =
     read_stands (IsCounted IsUleb) _ Bytes bytes at content next (λ front x s. s)
     (uleb_at bytes at >>= λ len. block_at len.0 bytes len.1)
-    (λ x n h. counted_stands IsUleb bytes at x n (uleb_at bytes at) (λ y m g. uleb_stands bytes at y m g) h)
+    (λ x n h. counted_stands IsUleb bytes at x n (uleb_at bytes at)
+    (λ y m g. uleb_stands bytes at y m g) h)
     (sym (counted_as bytes (uleb_at bytes at)) ∙ e)
-
-block_again : (n : ℕ) (bytes : List ℕ) (at : ℕ) (block : List ℕ) (next : ℕ) → at ≤ length bytes →
-    StandsAt (IsBlock n) bytes at block next → block_at n bytes at ≡ Ok (block, next)
-block_again n bytes at block next within s =
-    ap (λ (m : ℕ). block_at m bytes at) (sym s.spelled.0) ∙ block_of bytes at s.front s.rest within s.parts
-    ∙ ap (λ (b : List ℕ). Ok (b, at + length s.front)) (sym s.spelled.1) ∙ ap (λ (m : ℕ). Ok (block, m)) (sym s.next_is)
-
--- what stands as a content of this kind
-as_it_is : {X : Type 0} (S : List ℕ → X → Type 0) (T : List ℕ → Content → Type 0) (bytes : List ℕ) (at : ℕ) (x : X)
-    (c : Content) (next : ℕ) → ((front : List ℕ) → T front c → S front x) → StandsAt T bytes at c next →
-    StandsAt S bytes at x next
-as_it_is S T bytes at x c next is s = standing_as T S bytes at c x next is s
-
--- what takes a byte or more stands inside the bytes
-pub front_within : (bytes : List ℕ) (at : ℕ) (front rest : List ℕ) → drop at bytes ≡ front ++ rest → 0 < length front →
-    at ≤ length bytes
-front_within bytes at front rest parts some =
-    omega (arith, length-drop at bytes, ap length parts, length-append front rest)
-
-some_bytes : (width : Width) → 0 < byte_len width
-some_bytes One = omega arith
-some_bytes Two = omega arith
-some_bytes Three = omega arith
-some_bytes Four = omega arith
-some_bytes Eight = omega arith
-
-some_leb : (bytes : List ℕ) → IsLeb bytes → 0 < length bytes
-some_leb [] h = absurd h
-some_leb (b ∷ bytes) h = omega arith
-
-fixed_content : (width : Width) (format : Format) (bytes : List ℕ) (at : ℕ) (content : Content) (next : ℕ) →
-    StandsAt (SpellsContent (layouts.Fixed width) format) bytes at content next →
-    content_at (layouts.Fixed width) format bytes at ≡ Ok (content, next)
-unfolding content_at
-fixed_content width format bytes at (Number v) next s =
-    let within = front_within bytes at s.front s.rest s.parts (omega (arith, s.spelled.0, some_bytes width)) in
-    read_again Number (fixed_at (byte_len width) bytes at) v next
-    (fixed_again (byte_len width) bytes at v next within (as_it_is _ _ bytes at v (Number v) next (λ front h. h) s))
-fixed_content width format bytes at (Signed v) next s = absurd s.spelled
-fixed_content width format bytes at (Bytes v) next s = absurd s.spelled
-
-offset_content : (format : Format) (bytes : List ℕ) (at : ℕ) (content : Content) (next : ℕ) →
-    StandsAt (SpellsContent layouts.Offset format) bytes at content next →
-    content_at layouts.Offset format bytes at ≡ Ok (content, next)
-unfolding content_at
-offset_content Dwarf32 bytes at (Number v) next s =
-    let within = front_within bytes at s.front s.rest s.parts (omega (arith, s.spelled.0)) in
-    read_again Number (fixed_at 4 bytes at) v next (fixed_again 4 bytes at v next within
-    (as_it_is _ _ bytes at v (Number v) next (λ front h. h) s))
-offset_content Dwarf64 bytes at (Number v) next s =
-    let within = front_within bytes at s.front s.rest s.parts (omega (arith, s.spelled.0)) in
-    read_again Number (fixed_at 8 bytes at) v next (fixed_again 8 bytes at v next within
-    (as_it_is _ _ bytes at v (Number v) next (λ front h. h) s))
-offset_content format bytes at (Signed v) next s = absurd s.spelled
-offset_content format bytes at (Bytes v) next s = absurd s.spelled
-
-present_content : (format : Format) (bytes : List ℕ) (at : ℕ) (content : Content) (next : ℕ) →
-    StandsAt (SpellsContent layouts.Present format) bytes at content next →
-    content_at layouts.Present format bytes at ≡ Ok (content, next)
-unfolding content_at
-present_content format bytes at (Number v) next s =
-    let end : at ≡ next = omega (arith, s.next_is, ap length s.spelled.0) in
-    ap (λ (n : ℕ). Ok (Number n, at)) (sym s.spelled.1) ∙ ap (λ (n : ℕ). Ok (Number v, n)) end
-present_content format bytes at (Signed v) next s = absurd s.spelled
-present_content format bytes at (Bytes v) next s = absurd s.spelled
-
-signed_content : (format : Format) (bytes : List ℕ) (at : ℕ) (content : Content) (next : ℕ) →
-    StandsAt (SpellsContent layouts.Signed format) bytes at content next →
-    content_at layouts.Signed format bytes at ≡ Ok (content, next)
-unfolding content_at
-signed_content format bytes at (Signed v) next s =
-    read_again Signed (sleb_at bytes at) v next (sleb_again bytes at v next
-    (as_it_is _ _ bytes at v (Signed v) next (λ front h. h) s))
-signed_content format bytes at (Number v) next s = absurd s.spelled
-signed_content format bytes at (Bytes v) next s = absurd s.spelled
-
-unsigned_content : (format : Format) (bytes : List ℕ) (at : ℕ) (content : Content) (next : ℕ) →
-    StandsAt (SpellsContent layouts.Unsigned format) bytes at content next →
-    content_at layouts.Unsigned format bytes at ≡ Ok (content, next)
-unfolding content_at
-unsigned_content format bytes at (Number v) next s =
-    read_again Number (uleb_at bytes at) v next (uleb_again bytes at v next
-    (as_it_is _ _ bytes at v (Number v) next (λ front h. h) s))
-unsigned_content format bytes at (Signed v) next s = absurd s.spelled
-unsigned_content format bytes at (Bytes v) next s = absurd s.spelled
-
-text_content : (format : Format) (bytes : List ℕ) (at : ℕ) (content : Content) (next : ℕ) →
-    StandsAt (SpellsContent layouts.Text format) bytes at content next →
-    content_at layouts.Text format bytes at ≡ Ok (content, next)
-unfolding content_at
-text_content format bytes at (Bytes v) next s =
-    read_again Bytes (cstr_at bytes at) v next (text_again bytes at v next
-    (as_it_is _ _ bytes at v (Bytes v) next (λ front h. h) s))
-text_content format bytes at (Signed v) next s = absurd s.spelled
-text_content format bytes at (Number v) next s = absurd s.spelled
-
-sixteen_content : (format : Format) (bytes : List ℕ) (at : ℕ) (content : Content) (next : ℕ) →
-    StandsAt (SpellsContent layouts.Sixteen format) bytes at content next →
-    content_at layouts.Sixteen format bytes at ≡ Ok (content, next)
-unfolding content_at
-sixteen_content format bytes at (Bytes v) next s =
-    let within = front_within bytes at s.front s.rest s.parts (omega (arith, s.spelled.0)) in
-    read_again Bytes (block_at 16 bytes at) v next (block_again 16 bytes at v next within
-    (as_it_is _ _ bytes at v (Bytes v) next (λ front h. h) s))
-sixteen_content format bytes at (Signed v) next s = absurd s.spelled
-sixteen_content format bytes at (Number v) next s = absurd s.spelled
-
-block_content : (width : Width) (format : Format) (bytes : List ℕ) (at : ℕ) (content : Content) (next : ℕ) →
-    StandsAt (SpellsContent (layouts.Block width) format) bytes at content next →
-    content_at (layouts.Block width) format bytes at ≡ Ok (content, next)
-unfolding content_at
-block_content width format bytes at (Bytes v) next s =
-    let within = front_within bytes at s.front s.rest s.parts
-    (omega (arith, ap length s.spelled.1, length-append s.spelled.0 v, s.spelled.2.0, some_bytes width)) in
-    counted_as bytes (fixed_at (byte_len width) bytes at)
-    ∙ read_again Bytes (fixed_at (byte_len width) bytes at >>= λ len. block_at len.0 bytes len.1) v next
-    (counted_again (IsFixed (byte_len width)) bytes at v next (fixed_at (byte_len width) bytes at) within
-    (λ x n h. fixed_again (byte_len width) bytes at x n within h)
-    (as_it_is _ _ bytes at v (Bytes v) next (λ front h. h) s))
-block_content width format bytes at (Signed v) next s = absurd s.spelled
-block_content width format bytes at (Number v) next s = absurd s.spelled
-
-long_content : (format : Format) (bytes : List ℕ) (at : ℕ) (content : Content) (next : ℕ) →
-    StandsAt (SpellsContent layouts.LongBlock format) bytes at content next →
-    content_at layouts.LongBlock format bytes at ≡ Ok (content, next)
-unfolding content_at
-long_content format bytes at (Bytes v) next s =
-    let within = front_within bytes at s.front s.rest s.parts
-    (omega (arith, ap length s.spelled.1, length-append s.spelled.0 v, some_leb s.spelled.0 s.spelled.2.leb)) in
-    counted_as bytes (uleb_at bytes at)
-    ∙ read_again Bytes (uleb_at bytes at >>= λ len. block_at len.0 bytes len.1) v next
-    (counted_again IsUleb bytes at v next (uleb_at bytes at) within (λ x n h. uleb_again bytes at x n h)
-    (as_it_is _ _ bytes at v (Bytes v) next (λ front h. h) s))
-long_content format bytes at (Signed v) next s = absurd s.spelled
-long_content format bytes at (Number v) next s = absurd s.spelled
-
-pub content_again : (layout : ValueLayout) (format : Format) (bytes : List ℕ) (at : ℕ) (content : Content) (next : ℕ) →
-    StandsAt (SpellsContent layout format) bytes at content next →
-    content_at layout format bytes at ≡ Ok (content, next)
-content_again (layouts.Fixed width) format bytes at content next s = fixed_content width format bytes at content next s
-content_again layouts.Offset format bytes at content next s = offset_content format bytes at content next s
-content_again layouts.Present format bytes at content next s = present_content format bytes at content next s
-content_again layouts.Signed format bytes at content next s = signed_content format bytes at content next s
-content_again layouts.Unsigned format bytes at content next s = unsigned_content format bytes at content next s
-content_again layouts.Text format bytes at content next s = text_content format bytes at content next s
-content_again layouts.Sixteen format bytes at content next s = sixteen_content format bytes at content next s
-content_again (layouts.Block width) format bytes at content next s = block_content width format bytes at content next s
-content_again layouts.LongBlock format bytes at content next s = long_content format bytes at content next s

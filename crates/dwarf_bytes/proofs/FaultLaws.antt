@@ -1,5 +1,7 @@
 -- Which fault stands where no LEB128 number does.
-use Rattle.std.proofs.Common.{◌≡◌, ℕ, ◌+◌, ◌^◌, ◌≤◌, Bool, true, false, not, cond, ltb, List, length, drop, take, Some, None, Result, Ok, Err, ap, sym, refl, subst, ◌∙◌, arith, inl, inr}
+use Rattle.std.proofs.Common.{◌≡◌, ℕ, ◌+◌, ◌^◌, ◌≤◌, Bool, true, false, not, cond, ltb, List}
+use Rattle.std.proofs.Common.{length, drop, take, Some, None, Result, Ok, Err, ap, sym, refl, subst}
+use Rattle.std.proofs.Common.{◌∙◌, arith, inl, inr}
 use Rattle.std.specs.Prelude.{◌⊎◌}
 use Rattle.std.specs.List.{prefix_len}
 use Rattle.std.specs.Option.{option_map_or}
@@ -9,8 +11,10 @@ use Rattle.std.proofs.lemmas.List.Sums.{prefix_len_passes}
 use Rattle.dwarf_bytes.specs.declared.fault.ReadFault.{ReadFault}
 use Rattle.dwarf_bytes.specs.declared.fault.ReadFault.TheVariants.{Short, Leb}
 use Rattle.dwarf_bytes.specs.Bind.{◌>>=◌}
-use Rattle.dwarf_bytes.specs.Numbers.{IsCutLeb, IsEndlessLeb, IsOverLeb, IsOverUleb, IsOverSleb, leb_front, uleb_value, sleb_value, fits_i64, uleb_at, sleb_at}
-use Rattle.dwarf_bytes.proofs.Spelling.{goes_on, front_ok, front_again, fits_of_tests, tests_of_fits}
+use Rattle.dwarf_bytes.specs.Numbers.{IsCutLeb, IsEndlessLeb, IsOverLeb, IsOverUleb, IsOverSleb}
+use Rattle.dwarf_bytes.specs.Numbers.{leb_front, uleb_value, sleb_value, fits_i64, uleb_at, sleb_at}
+use Rattle.dwarf_bytes.proofs.Spelling.{goes_on, front_ok, front_again, fits_of_tests}
+use Rattle.dwarf_bytes.proofs.Spelling.{tests_of_fits}
 use Rattle.dwarf_bytes.proofs.LebPrefixes.{GoOn, leb_front-open}
 
 -- the faults of a front, and when each comes
@@ -28,15 +32,16 @@ goes-large b h = ltb-false b 128 (by (ltb b 128) h)
 all_go_on : (bytes : List ℕ) → length bytes ≤ prefix_len goes_on bytes → GoOn bytes
 all_go_on bytes h = λ k d lt. goes-large _ (prefix_len_passes goes_on bytes k d (omega arith))
 
-fault_by : (few : Bool) (bytes : List ℕ) → ltb (length bytes) 10 ≡ few → GoOn (take 10 bytes) →
-    IsFrontFault bytes (cond few Short Leb)
+fault_by : (few : Bool) (bytes : List ℕ) → ltb (length bytes) 10 ≡ few → GoOn (take 10 bytes)
+    → IsFrontFault bytes (cond few Short Leb)
 fault_by true bytes is go = let lt =
     ltb-true _ _ is in inl (refl, (lt, subst GoOn (take_all 10 bytes (omega arith)) go))
 fault_by false bytes is go = inr (refl, (ltb-false _ _ is, go))
 
-front_by : (found : Bool) (bytes : List ℕ) (fault : ReadFault) →
-    ltb (prefix_len goes_on (take 10 bytes)) (length (take 10 bytes)) ≡ found →
-    option_map_or (λ last. Ok (take (last + 1) bytes)) (cond found (Some (prefix_len goes_on (take 10 bytes))) None)
+front_by : (found : Bool) (bytes : List ℕ) (fault : ReadFault)
+    → ltb (prefix_len goes_on (take 10 bytes)) (length (take 10 bytes)) ≡ found
+    → option_map_or (λ last. Ok (take (last + 1) bytes))
+    (cond found (Some (prefix_len goes_on (take 10 bytes))) None)
     (Err (cond (ltb (length bytes) 10) Short Leb)) ≡ Err fault → IsFrontFault bytes fault
 front_by true bytes fault is e = absurd cc
 front_by false bytes fault is e =
@@ -44,7 +49,8 @@ front_by false bytes fault is e =
     subst (IsFrontFault bytes) same (fault_by (ltb (length bytes) 10) bytes refl
     (all_go_on (take 10 bytes) (ltb-false _ _ is)))
 
-pub front_fault : (bytes : List ℕ) (fault : ReadFault) → leb_front bytes ≡ Err fault → IsFrontFault bytes fault
+pub front_fault : (bytes : List ℕ) (fault : ReadFault) → leb_front bytes ≡ Err fault
+    → IsFrontFault bytes fault
 unfolding leb_front
 front_fault bytes fault e =
     front_by (ltb (prefix_len goes_on (take 10 bytes)) (length (take 10 bytes))) bytes fault refl e
@@ -52,25 +58,31 @@ front_fault bytes fault e =
 pub cut_front : (bytes : List ℕ) → IsCutLeb bytes → leb_front bytes ≡ Err Short
 cut_front bytes h =
     let all : take 10 bytes ≡ bytes = take_all 10 bytes (omega (arith, h.0)) in
-    leb_front-open bytes (subst GoOn (sym all) h.1) ∙ ap (λ (t : Bool). Err (cond t Short Leb)) (lt-ltb _ _ h.0)
+    leb_front-open bytes (subst GoOn (sym all) h.1) ∙ ap (λ (t : Bool). Err (cond t Short Leb))
+    (lt-ltb _ _ h.0)
 
 pub endless_front : (bytes : List ℕ) → IsEndlessLeb bytes → leb_front bytes ≡ Err Leb
-endless_front bytes h = leb_front-open bytes h.1 ∙ ap (λ (t : Bool). Err (cond t Short Leb)) (le-ltb _ _ h.0)
+endless_front bytes h = leb_front-open bytes h.1 ∙ ap (λ (t : Bool). Err (cond t Short Leb))
+    (le-ltb _ _ h.0)
 
 -- ---- a number by its front and a test of it
 
 -- what is read of a front
-abbrev numbered : {X : Type 0} → (List ℕ → X) → (List ℕ → Bool) → ℕ → List ℕ → Result (X × ℕ) ReadFault
+abbrev numbered : {X : Type 0} → (List ℕ → X) → (List ℕ → Bool) → ℕ → List ℕ
+    → Result (X × ℕ) ReadFault
 numbered value fits at leb = cond (fits leb) (Ok (value leb, at + length leb)) (Err Leb)
 
 -- the faults of a number
 abbrev IsFault : (List ℕ → Type 0) → List ℕ → ReadFault → Type 0
 IsFault IsOver bytes fault =
-    ((fault ≡ Short) × IsCutLeb bytes) ⊎ ((fault ≡ Leb) × (IsEndlessLeb bytes ⊎ IsOverLeb IsOver bytes))
+    ((fault ≡ Short) × IsCutLeb bytes) ⊎
+    ((fault ≡ Leb) × (IsEndlessLeb bytes ⊎ IsOverLeb IsOver bytes))
 
-number_by : {X : Type 0} (value : List ℕ → X) (fits : List ℕ → Bool) (IsOver : List ℕ → Type 0) (at : ℕ)
-    (bytes leb : List ℕ) (t : Bool) → fits leb ≡ t → leb_front bytes ≡ Ok leb → (fits leb ≡ false → IsOver leb) →
-    (fault : ReadFault) → cond {A = Result (X × ℕ) ReadFault} t (Ok (value leb, at + length leb))
+number_by : {X : Type 0} (value : List ℕ → X) (fits : List ℕ → Bool) (IsOver : List ℕ → Type 0)
+    (at : ℕ)
+    (bytes leb : List ℕ) (t : Bool) → fits leb ≡ t → leb_front bytes ≡ Ok leb
+    → (fits leb ≡ false → IsOver leb)
+    → (fault : ReadFault) → cond {A = Result (X × ℕ) ReadFault} t (Ok (value leb, at + length leb))
     (Err Leb) ≡ Err fault → IsFault IsOver bytes fault
 number_by value fits IsOver at bytes leb true test front over fault e = absurd cc
 number_by value fits IsOver at bytes leb false test front over fault e =
@@ -88,10 +100,12 @@ number_by value fits IsOver at bytes leb false test front over fault e =
       }),
     )
 
-number_fault : {X : Type 0} (value : List ℕ → X) (fits : List ℕ → Bool) (IsOver : List ℕ → Type 0) (at : ℕ)
-    (bytes : List ℕ) → ((leb : List ℕ) → fits leb ≡ false → IsOver leb) → (found : Result (List ℕ) ReadFault) →
-    leb_front bytes ≡ found → (fault : ReadFault) → (found >>= numbered value fits at) ≡ Err fault →
-    IsFault IsOver bytes fault
+number_fault : {X : Type 0} (value : List ℕ → X) (fits : List ℕ → Bool) (IsOver : List ℕ → Type 0)
+    (at : ℕ)
+    (bytes : List ℕ) → ((leb : List ℕ) → fits leb ≡ false → IsOver leb)
+    → (found : Result (List ℕ) ReadFault)
+    → leb_front bytes ≡ found → (fault : ReadFault) → (found >>= numbered value fits at) ≡ Err fault
+    → IsFault IsOver bytes fault
 number_fault value fits IsOver at bytes over (Err e) is fault h =
     front_part (front_fault bytes e is) (let same : e ≡ fault = cc in same)
   where
@@ -101,9 +115,10 @@ number_fault value fits IsOver at bytes over (Err e) is fault h =
 number_fault value fits IsOver at bytes over (Ok leb) is fault h =
     number_by value fits IsOver at bytes leb (fits leb) refl is (over leb) fault h
 
-number_again : {X : Type 0} (value : List ℕ → X) (fits : List ℕ → Bool) (IsOver : List ℕ → Type 0) (at : ℕ)
-    (bytes : List ℕ) → ((leb : List ℕ) → IsOver leb → fits leb ≡ false) → IsOverLeb IsOver bytes →
-    (leb_front bytes >>= numbered value fits at) ≡ Err Leb
+number_again : {X : Type 0} (value : List ℕ → X) (fits : List ℕ → Bool) (IsOver : List ℕ → Type 0)
+    (at : ℕ)
+    (bytes : List ℕ) → ((leb : List ℕ) → IsOver leb → fits leb ≡ false) → IsOverLeb IsOver bytes
+    → (leb_front bytes >>= numbered value fits at) ≡ Err Leb
 number_again value fits IsOver at bytes test o =
     rw (o.parts, front_again o.front o.rest o.leb o.len, test o.front o.over) refl
 
@@ -115,24 +130,27 @@ uleb_over leb h = ltb-false _ _ h
 uleb_unfit : (leb : List ℕ) → IsOverUleb leb → ltb (uleb_value leb) (2 ^ 64) ≡ false
 uleb_unfit leb h = le-ltb _ _ h
 
-pub uleb_fault : (bytes : List ℕ) (at : ℕ) (fault : ReadFault) → uleb_at bytes at ≡ Err fault →
-    ((fault ≡ Short) × IsCutLeb (drop at bytes)) ⊎ ((fault ≡ Leb)
+pub uleb_fault : (bytes : List ℕ) (at : ℕ) (fault : ReadFault) → uleb_at bytes at ≡ Err fault
+    → ((fault ≡ Short) × IsCutLeb (drop at bytes)) ⊎ ((fault ≡ Leb)
     × (IsEndlessLeb (drop at bytes) ⊎ IsOverLeb IsOverUleb (drop at bytes)))
 unfolding uleb_at
 uleb_fault bytes at fault e =
-    number_fault uleb_value (λ leb. ltb (uleb_value leb) (2 ^ 64)) IsOverUleb at (drop at bytes) uleb_over
+    number_fault uleb_value (λ leb. ltb (uleb_value leb) (2 ^ 64)) IsOverUleb at (drop at bytes)
+    uleb_over
     (leb_front (drop at bytes)) refl fault e
 
 pub uleb_cut : (bytes : List ℕ) (at : ℕ) → IsCutLeb (drop at bytes) → uleb_at bytes at ≡ Err Short
 unfolding uleb_at
 uleb_cut bytes at h = rw (cut_front (drop at bytes) h) refl
 
-pub uleb_leb : (bytes : List ℕ) (at : ℕ) → IsEndlessLeb (drop at bytes) ⊎ IsOverLeb IsOverUleb (drop at bytes) →
-    uleb_at bytes at ≡ Err Leb
+pub uleb_leb : (bytes : List ℕ) (at : ℕ) → IsEndlessLeb (drop at bytes)
+    ⊎ IsOverLeb IsOverUleb (drop at bytes)
+    → uleb_at bytes at ≡ Err Leb
 unfolding uleb_at
 uleb_leb bytes at (inl h) = rw (endless_front (drop at bytes) h) refl
 uleb_leb bytes at (inr o) =
-    number_again uleb_value (λ leb. ltb (uleb_value leb) (2 ^ 64)) IsOverUleb at (drop at bytes) uleb_unfit o
+    number_again uleb_value (λ leb. ltb (uleb_value leb) (2 ^ 64)) IsOverUleb at (drop at bytes)
+    uleb_unfit o
 
 -- ---- signed
 
@@ -146,24 +164,27 @@ sleb_unfit leb h = by (fits_i64 (sleb_value leb)) refl
     by true is = absurd (h (fits_of_tests (sleb_value leb) is))
     by false is = refl
 
-pub sleb_fault : (bytes : List ℕ) (at : ℕ) (fault : ReadFault) → sleb_at bytes at ≡ Err fault →
-    ((fault ≡ Short) × IsCutLeb (drop at bytes)) ⊎ ((fault ≡ Leb)
+pub sleb_fault : (bytes : List ℕ) (at : ℕ) (fault : ReadFault) → sleb_at bytes at ≡ Err fault
+    → ((fault ≡ Short) × IsCutLeb (drop at bytes)) ⊎ ((fault ≡ Leb)
     × (IsEndlessLeb (drop at bytes) ⊎ IsOverLeb IsOverSleb (drop at bytes)))
 unfolding sleb_at
 sleb_fault bytes at fault e =
-    number_fault sleb_value (λ leb. fits_i64 (sleb_value leb)) IsOverSleb at (drop at bytes) sleb_over
+    number_fault sleb_value (λ leb. fits_i64 (sleb_value leb)) IsOverSleb at (drop at bytes)
+    sleb_over
     (leb_front (drop at bytes)) refl fault e
 
 pub sleb_cut : (bytes : List ℕ) (at : ℕ) → IsCutLeb (drop at bytes) → sleb_at bytes at ≡ Err Short
 unfolding sleb_at
 sleb_cut bytes at h = rw (cut_front (drop at bytes) h) refl
 
-pub sleb_leb : (bytes : List ℕ) (at : ℕ) → IsEndlessLeb (drop at bytes) ⊎ IsOverLeb IsOverSleb (drop at bytes) →
-    sleb_at bytes at ≡ Err Leb
+pub sleb_leb : (bytes : List ℕ) (at : ℕ) → IsEndlessLeb (drop at bytes)
+    ⊎ IsOverLeb IsOverSleb (drop at bytes)
+    → sleb_at bytes at ≡ Err Leb
 unfolding sleb_at
 sleb_leb bytes at (inl h) = rw (endless_front (drop at bytes) h) refl
 sleb_leb bytes at (inr o) =
-    number_again sleb_value (λ leb. fits_i64 (sleb_value leb)) IsOverSleb at (drop at bytes) sleb_unfit o
+    number_again sleb_value (λ leb. fits_i64 (sleb_value leb)) IsOverSleb at (drop at bytes)
+    sleb_unfit o
 
 -- ---- which of the two it is
 
@@ -175,7 +196,7 @@ pub only_leb : {P Q : Type 0} → ((Leb ≡ Short) × P) ⊎ ((Leb ≡ Leb) × Q
 only_leb (inl p) = absurd (let no_such = p.0 in cc)
 only_leb (inr p) = p.1
 
-pub either : {P Q : Type 0} (fault : ReadFault) → ((fault ≡ Short) × P) ⊎ ((fault ≡ Leb) × Q) →
-    (fault ≡ Short) ⊎ (fault ≡ Leb)
+pub either : {P Q : Type 0} (fault : ReadFault) → ((fault ≡ Short) × P) ⊎ ((fault ≡ Leb) × Q)
+    → (fault ≡ Short) ⊎ (fault ≡ Leb)
 either fault (inl p) = inl p.0
 either fault (inr p) = inr p.0

@@ -1,5 +1,7 @@
 -- An initial length is read exactly where the bytes at the place begin with a spelling of it.
-use Rattle.std.proofs.Common.{◌≡◌, ℕ, ◌+◌, ◌<◌, ◌≤◌, List, ◌++◌, length, drop, true, ◌==◌, if◌then◌else◌, Result, Ok, Err, ap, sym, refl, subst, ◌∙◌, arith, length-append, length-drop, append_assoc}
+use Rattle.std.proofs.Common.{◌≡◌, ℕ, ◌+◌, ◌<◌, ◌≤◌, List, ◌++◌, length, drop, true, ◌==◌}
+use Rattle.std.proofs.Common.{if◌then◌else◌, Result, Ok, Err, ap, sym, refl, subst, ◌∙◌, arith}
+use Rattle.std.proofs.Common.{length-append, length-drop, append_assoc}
 use Rattle.std.specs.Prelude.{nat_lt}
 use Rattle.std.proofs.lemmas.Bool.{lt-ltb, ltb-true}
 use Rattle.std.proofs.lemmas.Bool.Decides.{nat_tests}
@@ -8,10 +10,12 @@ use Rattle.dwarf_bytes.specs.declared.fault.ReadFault.{ReadFault}
 use Rattle.dwarf_bytes.specs.declared.fault.ReadFault.TheVariants.{Length}
 use Rattle.dwarf_bytes.specs.declared.format.Format.{Format}
 use Rattle.dwarf_bytes.specs.declared.format.Format.TheVariants.{Dwarf32, Dwarf64}
-use Rattle.dwarf_bytes.specs.Numbers.{IsFixed, IsLongLength, IsInitialLength, StandsAt, u32_at, u64_at, initial_length_at}
+use Rattle.dwarf_bytes.specs.Numbers.{IsFixed, IsLongLength, IsInitialLength, StandsAt, u32_at}
+use Rattle.dwarf_bytes.specs.Numbers.{u64_at, initial_length_at}
 use Rattle.dwarf_bytes.proofs.Advance.{after_bind, chosen}
 use Rattle.dwarf_bytes.proofs.Standing.{fixed_stands, fixed_again}
-use Rattle.dwarf_bytes.proofs.ContentLaws.{behind, front_within}
+use Rattle.dwarf_bytes.proofs.ContentLaws.{behind}
+use Rattle.dwarf_bytes.proofs.ContentSpelling.{front_within}
 
 -- what is read: a format, a length, and the place behind
 abbrev Read : Type 0
@@ -20,7 +24,8 @@ Read = (Format × ℕ) × ℕ
 -- a length of either format, from the four bytes that it begins with
 abbrev by_first : List ℕ → ℕ × ℕ → Result Read ReadFault
 by_first bytes read =
-    if nat_lt read.0 0xfffffff0 then Ok ((Dwarf32, read.0), read.1) else if read.0 == 0xffffffff then
+    if nat_lt read.0 0xfffffff0 then Ok ((Dwarf32, read.0), read.1) else if read.0 == 0xffffffff
+    then
     (u64_at bytes read.1 >>= λ long. Ok ((Dwarf64, long.0), long.1)) else Err Length
 
 same_read : (x y : Read) → (let f : Read → Result Read ReadFault = λ z. Ok z in f x ≡ f y) → x ≡ y
@@ -30,11 +35,13 @@ is_escape : (n : ℕ) → (n == 0xffffffff) ≡ true → n ≡ 0xffffffff
 is_escape n h = grind (arith, nat_tests)
 
 -- four bytes, and eight behind them
-long_stands : (bytes : List ℕ) (at first mid len next : ℕ) → StandsAt (IsFixed 4) bytes at first mid →
-    first ≡ 0xffffffff → StandsAt (IsFixed 8) bytes mid len next → StandsAt IsLongLength bytes at len next
+long_stands : (bytes : List ℕ) (at first mid len next : ℕ) → StandsAt (IsFixed 4) bytes at first mid
+    → first ≡ 0xffffffff → StandsAt (IsFixed 8) bytes mid len next
+    → StandsAt IsLongLength bytes at len next
 long_stands bytes at first mid len next a is b =
     let rest_is : a.rest ≡ b.front ++ b.rest =
-    sym (behind bytes at a.front a.rest a.parts) ∙ ap (λ (n : ℕ). drop n bytes) (sym a.next_is) ∙ b.parts in
+    sym (behind bytes at a.front a.rest a.parts) ∙ ap (λ (n : ℕ). drop n bytes) (sym a.next_is)
+    ∙ b.parts in
     record {
       front = a.front ++ b.front;
       rest = b.rest;
@@ -45,12 +52,13 @@ long_stands bytes at first mid len next a is b =
         escape_is = subst (IsFixed 4 a.front) is a.spelled;
         long_is = b.spelled;
       };
-      parts = a.parts ∙ ap (λ (t : List ℕ). a.front ++ t) rest_is ∙ sym (append_assoc a.front b.front b.rest);
+      parts = a.parts ∙ ap (λ (t : List ℕ). a.front ++ t) rest_is
+          ∙ sym (append_assoc a.front b.front b.rest);
       next_is = omega (arith, a.next_is, b.next_is, length-append a.front b.front);
     }
 
-pub initial_stands : (bytes : List ℕ) (at : ℕ) (read : Read) → initial_length_at bytes at ≡ Ok read →
-    StandsAt (IsInitialLength read.0.0) bytes at read.0.1 read.1
+pub initial_stands : (bytes : List ℕ) (at : ℕ) (read : Read) → initial_length_at bytes at ≡ Ok read
+    → StandsAt (IsInitialLength read.0.0) bytes at read.0.1 read.1
 unfolding initial_length_at
 initial_stands bytes at read h =
     let Q : Read → Type 0 = λ (r : Read). StandsAt (IsInitialLength r.0.0) bytes at r.0.1 r.1 in
@@ -68,7 +76,8 @@ initial_stands bytes at read h =
     } in
     subst Q (same_read ((Dwarf32, first.0), first.1) read e) it)
     (λ _ h2. chosen (first.0 == 0xffffffff) _ _ (Ok read) h2 (Q read)
-    (λ escape h3. after_bind (u64_at bytes first.1) (λ long. Ok ((Dwarf64, long.0), long.1)) read h3 (Q read)
+    (λ escape h3. after_bind (u64_at bytes first.1) (λ long. Ok ((Dwarf64, long.0), long.1)) read h3
+    (Q read)
     (λ long long_is h4.
     let it : Q ((Dwarf64, long.0), long.1) =
     long_stands bytes at first.0 first.1 long.0 long.1 a (is_escape first.0 escape)
@@ -76,23 +85,38 @@ initial_stands bytes at read h =
     subst Q (same_read ((Dwarf64, long.0), long.1) read h4) it))
     (λ _ e. cc)))
 
-pub initial_again : (format : Format) (bytes : List ℕ) (at len next : ℕ) →
-    StandsAt (IsInitialLength format) bytes at len next → initial_length_at bytes at ≡ Ok ((format, len), next)
+pub initial_again : (format : Format) (bytes : List ℕ) (at len next : ℕ)
+    → StandsAt (IsInitialLength format) bytes at len next
+    → initial_length_at bytes at ≡ Ok ((format, len), next)
 unfolding initial_length_at
 initial_again Dwarf32 bytes at len next s =
     let within = front_within bytes at s.front s.rest s.parts (omega (arith, s.spelled.0.0)) in
     let read = fixed_again 4 bytes at len next within
-    (record { front = s.front; rest = s.rest; spelled = s.spelled.0; parts = s.parts; next_is = s.next_is }) in
+    (record {
+      front = s.front;
+      rest = s.rest;
+      spelled = s.spelled.0;
+      parts = s.parts;
+      next_is =
+          s.next_is;
+    }) in
     rw (read, lt-ltb len 0xfffffff0 s.spelled.1) refl
 initial_again Dwarf64 bytes at len next s =
     let t = s.spelled in
     let parts : drop at bytes ≡ t.escape ++ (t.long ++ s.rest) =
     s.parts ∙ ap (λ (b : List ℕ). b ++ s.rest) t.whole ∙ append_assoc t.escape t.long s.rest in
     let mid : ℕ = at + length t.escape in
-    let there : drop mid bytes ≡ t.long ++ s.rest = behind bytes at t.escape (t.long ++ s.rest) parts in
+    let there : drop mid bytes ≡ t.long ++ s.rest =
+    behind bytes at t.escape (t.long ++ s.rest) parts in
     let first = fixed_again 4 bytes at 0xffffffff mid
     (front_within bytes at t.escape (t.long ++ s.rest) parts (omega (arith, t.escape_is.0)))
-    (record { front = t.escape; rest = t.long ++ s.rest; spelled = t.escape_is; parts = parts; next_is = refl }) in
+    (record {
+      front = t.escape;
+      rest = t.long ++ s.rest;
+      spelled = t.escape_is;
+      parts = parts;
+      next_is = refl;
+    }) in
     let size : next ≡ mid + length t.long =
     omega (arith, s.next_is, ap length t.whole, length-append t.escape t.long) in
     let long = fixed_again 8 bytes mid len next (front_within bytes mid t.long s.rest there
@@ -105,13 +129,16 @@ initial_again Dwarf64 bytes at len next s =
     }) in
     rw (first, long) refl
 
-spelled_length : (format : Format) (bytes : List ℕ) (len : ℕ) → IsInitialLength format bytes len → 0 < length bytes
+spelled_length : (format : Format) (bytes : List ℕ) (len : ℕ) → IsInitialLength format bytes len
+    → 0 < length bytes
 spelled_length Dwarf32 bytes len s = omega (arith, s.0.0)
-spelled_length Dwarf64 bytes len s = omega (arith, s.escape_is.0, ap length s.whole, length-append s.escape s.long)
+spelled_length Dwarf64 bytes len s = omega
+    (arith, s.escape_is.0, ap length s.whole, length-append s.escape s.long)
 
 -- what the read of a length leaves: a place behind, and not past the end
-pub initial_length_at-moves : (bytes : List ℕ) (at : ℕ) (read : Read) → initial_length_at bytes at ≡ Ok read →
-    (at < read.1) × (read.1 ≤ length bytes)
+pub initial_length_at-moves : (bytes : List ℕ) (at : ℕ) (read : Read)
+    → initial_length_at bytes at ≡ Ok read
+    → (at < read.1) × (read.1 ≤ length bytes)
 initial_length_at-moves bytes at read h =
     let s = initial_stands bytes at read h in
     let size = spelled_length read.0.0 s.front read.0.1 s.spelled in

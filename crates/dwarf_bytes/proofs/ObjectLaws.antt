@@ -1,5 +1,6 @@
 -- The fault of a file from those of its parts, and its layout.
-use Rattle.std.proofs.Common.{◌≡◌, ℕ, List, ◌∷◌, Option, Some, None, refl, sym, ap, ◌∙◌, option_map, find}
+use Rattle.std.proofs.Common.{◌≡◌, ℕ, List, ◌∷◌, Option, Some, None, refl, sym, ap, ◌∙◌, option_map}
+use Rattle.std.proofs.Common.{find}
 use Rattle.std.specs.Prelude.{unwrap_or}
 use Rattle.std.specs.List.{range_with_len}
 use Rattle.std.specs.Option.{option_or, option_map_or}
@@ -11,22 +12,27 @@ use Rattle.dwarf_bytes.specs.declared.layout.Span.{Span}
 use Rattle.dwarf_bytes.specs.declared.headers.FileHeader.{FileHeader}
 use Rattle.dwarf_bytes.specs.Faults.{first_failure, item_fault, first_fault}
 use Rattle.dwarf_bytes.specs.Headers.{file_header}
-use Rattle.dwarf_bytes.specs.Elf.{header_tests, header_item, load_items, section_items, elf_items, elf_fault, layout, low, high, section_span, no_span, span_of, section_header, is_named}
+use Rattle.dwarf_bytes.specs.Elf.{header_tests, header_item, load_items, section_items, elf_items}
+use Rattle.dwarf_bytes.specs.Elf.{elf_fault, layout, low, high, section_span, no_span, span_of}
+use Rattle.dwarf_bytes.specs.Elf.{section_header, is_named}
 use Rattle.dwarf_bytes.specs.Private.FoundSections.{span_before, spans_before, layout_of}
 use Rattle.dwarf_bytes.proofs.Extent.{first_fault-append}
 
 pub fault_is : (bytes : List ℕ) → elf_fault bytes ≡ option_or
-    (option_or (item_fault sections.Elf (header_item bytes)) (first_fault sections.Elf (load_items bytes)))
+    (option_or (item_fault sections.Elf (header_item bytes))
+    (first_fault sections.Elf (load_items bytes)))
     (first_fault sections.Elf (section_items bytes))
 unfolding elf_items
-fault_is bytes = first_fault-append sections.Elf (header_item bytes ∷ load_items bytes) (section_items bytes)
+fault_is bytes = first_fault-append sections.Elf (header_item bytes ∷ load_items bytes)
+    (section_items bytes)
 
 at_start : Option Cause → Option LoadFault
 at_start o = option_map (λ cause. record { section = sections.Elf; cause = cause; at = 0 }) o
 
-pub header_bad : (bytes : List ℕ) (cause : Cause) (fault : LoadFault) →
-    first_failure (header_tests bytes) ≡ Some cause → fault ≡ record { section = sections.Elf; cause = cause; at = 0 } →
-    elf_fault bytes ≡ Some fault
+pub header_bad : (bytes : List ℕ) (cause : Cause) (fault : LoadFault)
+    → first_failure (header_tests bytes) ≡ Some cause
+    → fault ≡ record { section = sections.Elf; cause = cause; at = 0 }
+    → elf_fault bytes ≡ Some fault
 unfolding at_start
 header_bad bytes cause fault first is =
     fault_is bytes ∙ ap (λ (o : Option Cause). option_or
@@ -34,26 +40,29 @@ header_bad bytes cause fault first is =
     (first_fault sections.Elf (section_items bytes))) first
     ∙ ap (λ (f : LoadFault). Some f) (sym is)
 
-pub loads_bad : (bytes : List ℕ) (fault : LoadFault) → first_failure (header_tests bytes) ≡ None →
-    first_fault sections.Elf (load_items bytes) ≡ Some fault → elf_fault bytes ≡ Some fault
+pub loads_bad : (bytes : List ℕ) (fault : LoadFault) → first_failure (header_tests bytes) ≡ None
+    → first_fault sections.Elf (load_items bytes) ≡ Some fault → elf_fault bytes ≡ Some fault
 unfolding at_start
 loads_bad bytes fault header bad =
     fault_is bytes ∙ ap (λ (o : Option Cause). option_or
     (option_or (at_start o) (first_fault sections.Elf (load_items bytes)))
     (first_fault sections.Elf (section_items bytes))) header
-    ∙ ap (λ (o : Option LoadFault). option_or o (first_fault sections.Elf (section_items bytes))) bad
+    ∙ ap (λ (o : Option LoadFault). option_or o (first_fault sections.Elf (section_items bytes)))
+    bad
 
-pub rest_is : (bytes : List ℕ) → first_failure (header_tests bytes) ≡ None →
-    first_fault sections.Elf (load_items bytes) ≡ None →
-    elf_fault bytes ≡ first_fault sections.Elf (section_items bytes)
+pub rest_is : (bytes : List ℕ) → first_failure (header_tests bytes) ≡ None
+    → first_fault sections.Elf (load_items bytes) ≡ None
+    → elf_fault bytes ≡ first_fault sections.Elf (section_items bytes)
 unfolding at_start
 rest_is bytes header loads =
     fault_is bytes ∙ ap (λ (o : Option Cause). option_or
     (option_or (at_start o) (first_fault sections.Elf (load_items bytes)))
     (first_fault sections.Elf (section_items bytes))) header
-    ∙ ap (λ (o : Option LoadFault). option_or o (first_fault sections.Elf (section_items bytes))) loads
+    ∙ ap (λ (o : Option LoadFault). option_or o (first_fault sections.Elf (section_items bytes)))
+    loads
 
-unwrap_map : {X Y : Type 0} (f : X → Y) (o : Option X) (d : Y) → unwrap_or (option_map f o) d ≡ option_map_or f o d
+unwrap_map : {X Y : Type 0} (f : X → Y) (o : Option X) (d : Y) → unwrap_or (option_map f o) d
+    ≡ option_map_or f o d
 unwrap_map f None d = refl
 unwrap_map f (Some x) d = refl
 
@@ -63,12 +72,14 @@ unfolding section_span
 span_is bytes s = unwrap_map (λ k. span_of (section_header bytes k))
     (find (λ k. is_named bytes k s) (range_with_len 0 (file_header bytes).shnum)) no_span
 
-pub layout_is : (bytes : List ℕ) (header : FileHeader) (found : List (Option Span)) (l h : ℕ) →
-    header ≡ file_header bytes → found ≡ spans_before bytes header.shnum → l ≡ low bytes → h ≡ high bytes →
-    layout_of found l h ≡ layout bytes
+pub layout_is : (bytes : List ℕ) (header : FileHeader) (found : List (Option Span)) (l h : ℕ)
+    → header ≡ file_header bytes → found ≡ spans_before bytes header.shnum → l ≡ low bytes
+    → h ≡ high bytes
+    → layout_of found l h ≡ layout bytes
 unfolding spans_before layout
 layout_is bytes header found l h same spans is_low is_high =
-    ap (λ (f : List (Option Span)). layout_of f l h) (spans ∙ ap (λ (k : FileHeader). spans_before bytes k.shnum) same)
+    ap (λ (f : List (Option Span)). layout_of f l h)
+    (spans ∙ ap (λ (k : FileHeader). spans_before bytes k.shnum) same)
     ∙ rw (
       is_low,
       is_high,

@@ -1,10 +1,13 @@
 -- A name that is not walked to its end: whether it has one, and whether it is a wanted one.
-use Rattle.std.proofs.Common.{◌≡◌, ℕ, zero, suc, ◌+◌, ◌-◌, ◌<◌, ◌≤◌, Bool, true, false, not, ◌&&◌, ◌||◌, cond, List, [], ◌∷◌, length, take, drop, get_or, Option, Some, None, Ok, Err, refl, sym, ap, ◌∙◌, arith}
+use Rattle.std.proofs.Common.{◌≡◌, ℕ, zero, suc, ◌+◌, ◌-◌, ◌<◌, ◌≤◌, Bool, true, false, not, ◌&&◌}
+use Rattle.std.proofs.Common.{◌||◌, cond, List, [], ◌∷◌, length, take, drop, get_or, Option, Some}
+use Rattle.std.proofs.Common.{None, Ok, Err, refl, sym, ap, ◌∙◌, arith}
 use Rattle.std.specs.Prelude.{◌≢◌, position, option_map, ◌==◌, nat_eq, nat_lt}
 use Rattle.std.specs.List.{starts_with, prefix_len, list_any}
 use Rattle.std.specs.Option.{option_map_or}
 use Rattle.std.specs.Str.{bytes_eq}
-use Rattle.std.proofs.lemmas.Bool.{ne_eqb, eqb-true, eqb-false, eq-eqb, ltb-true, ltb-false, lt-ltb, le-ltb}
+use Rattle.std.proofs.lemmas.Bool.{ne_eqb, eqb-true, eqb-false, eq-eqb, ltb-true, ltb-false, lt-ltb}
+use Rattle.std.proofs.lemmas.Bool.{le-ltb}
 use Rattle.std.proofs.lemmas.List.{get_or-drop, length-drop, take_all}
 use Rattle.dwarf_bytes.specs.declared.fault.ReadFault.TheVariants.{Unterminated}
 use Rattle.dwarf_bytes.specs.declared.fault.Section.{Section}
@@ -16,20 +19,24 @@ use Rattle.dwarf_bytes.specs.Private.SectionNames.{EndsTexts, begins_with, IsNum
 use Rattle.dwarf_bytes.proofs.FirstNuls.{is_nul, position-skip, position-first, position-none}
 
 -- no text begins behind the last NUL
-pub behind-all : (names : List ℕ) (end offset : ℕ) → EndsTexts names end → end ≤ offset →
-    text_at names offset ≡ Err Unterminated
+pub behind-all : (names : List ℕ) (end offset : ℕ) → EndsTexts names end → end ≤ offset
+    → text_at names offset ≡ Err Unterminated
 unfolding text_at text_front
 behind-all names end offset ends behind =
-    let none : position is_nul (drop offset names) ≡ None = position-none is_nul (drop offset names) (λ k lt.
+    let none : position is_nul (drop offset names) ≡ None =
+    position-none is_nul (drop offset names) (λ k lt.
     let size = length-drop offset names in
     let here : get_or names (offset + k) 0 ≢ 0 =
     ends.none_behind (offset + k) (omega (arith, behind)) (omega (arith, size, lt)) in
-    ap (λ (b : ℕ). b == 0) (get_or-drop offset names k 0) ∙ ne_eqb (get_or names (offset + k) 0) 0 here) in
-    ap (λ (o : Option ℕ). option_map_or (λ (text : List ℕ). Ok text) (option_map (λ n. take n (drop offset names)) o)
+    ap (λ (b : ℕ). b == 0) (get_or-drop offset names k 0) ∙ ne_eqb (get_or names (offset + k) 0) 0
+    here) in
+    ap (λ (o : Option ℕ). option_map_or (λ (text : List ℕ). Ok text)
+    (option_map (λ n. take n (drop offset names)) o)
     (Err Unterminated)) none
 
 -- where the search finds none, none is one
-none-fails : (p : ℕ → Bool) (xs : List ℕ) → position p xs ≡ None → (k : ℕ) → k < length xs → p (get_or xs k 0) ≡ false
+none-fails : (p : ℕ → Bool) (xs : List ℕ) → position p xs ≡ None → (k : ℕ) → k < length xs
+    → p (get_or xs k 0) ≡ false
 none-fails p [] none k lt = absurd (omega (arith, lt))
 none-fails p (x ∷ xs) none k lt =
     by_test (p x) refl (λ (rest : position p xs ≡ None) (i : ℕ)
@@ -39,8 +46,9 @@ none-fails p (x ∷ xs) none k lt =
     inner None h = refl
     inner (Some n) h = cc
 
-    by_test : (b : Bool) → p x ≡ b → (position p xs ≡ None → (i : ℕ) → i < length xs → p (get_or xs i 0) ≡ false) →
-        (k : ℕ) → k < length (x ∷ xs) → p (get_or (x ∷ xs) k 0) ≡ false
+    by_test : (b : Bool) → p x ≡ b → (position p xs ≡ None → (i : ℕ) → i < length xs
+        → p (get_or xs i 0) ≡ false)
+        → (k : ℕ) → k < length (x ∷ xs) → p (get_or (x ∷ xs) k 0) ≡ false
     by_test true is later k lt = absurd (never (sym (position-first p x xs is) ∙ none))
       where
         never : (let f : ℕ → Option ℕ = λ z. Some z in f 0) ≡ None → ⊥
@@ -50,7 +58,8 @@ none-fails p (x ∷ xs) none k lt =
         later (inner (position p xs) (sym (position-skip p x xs is) ∙ none)) k (omega (arith, lt))
 
 -- one begins before it
-pub before-all : (names : List ℕ) (end offset : ℕ) → EndsTexts names end → offset < end → (name : List ℕ)
+pub before-all : (names : List ℕ) (end offset : ℕ) → EndsTexts names end → offset < end
+    → (name : List ℕ)
     × (text_at names offset ≡ Ok name) × (text_front (drop offset names) ≡ Some name)
 unfolding text_at text_front
 before-all names end offset ends before = by_found (position is_nul (drop offset names)) refl
@@ -59,7 +68,8 @@ before-all names end offset ends before = by_found (position is_nul (drop offset
         × (text_at names offset ≡ Ok name) × (text_front (drop offset names) ≡ Some name)
     by_found (Some n) is = (
       take n (drop offset names),
-      ap (λ (o : Option ℕ). option_map_or (λ (text : List ℕ). Ok text) (option_map (λ n. take n (drop offset names)) o)
+      ap (λ (o : Option ℕ). option_map_or (λ (text : List ℕ). Ok text)
+          (option_map (λ n. take n (drop offset names)) o)
           (Err Unterminated)) is,
       ap (λ (o : Option ℕ). option_map (λ n. take n (drop offset names)) o) is,
     )
@@ -104,19 +114,22 @@ lt-suc a b = by (nat_lt a b) refl
 -- the text at the front of one byte more
 front-nul : (b : ℕ) (bytes : List ℕ) → is_nul b ≡ true → text_front (b ∷ bytes) ≡ Some []
 unfolding text_front
-front-nul b bytes is = ap (λ (o : Option ℕ). option_map (λ n. take n (b ∷ bytes)) o) (position-first is_nul b bytes is)
+front-nul b bytes is = ap (λ (o : Option ℕ). option_map (λ n. take n (b ∷ bytes)) o)
+    (position-first is_nul b bytes is)
 
-front-more : (b : ℕ) (bytes : List ℕ) → is_nul b ≡ false →
-    text_front (b ∷ bytes) ≡ option_map (λ text. b ∷ text) (text_front bytes)
+front-more : (b : ℕ) (bytes : List ℕ) → is_nul b ≡ false
+    → text_front (b ∷ bytes) ≡ option_map (λ text. b ∷ text) (text_front bytes)
 unfolding text_front
 front-more b bytes is =
     ap (λ (o : Option ℕ). option_map (λ n. take n (b ∷ bytes)) o) (position-skip is_nul b bytes is)
     ∙ moved (position is_nul bytes)
   where
-    moved : (o : Option ℕ) → option_map (λ n. take n (b ∷ bytes)) (option_map (λ n. 1 + n) o) ≡ option_map
+    moved : (o : Option ℕ) → option_map (λ n. take n (b ∷ bytes)) (option_map (λ n. 1 + n) o)
+        ≡ option_map
         (λ text. b ∷ text) (option_map (λ n. take n bytes) o)
     moved None = refl
-    moved (Some n) = let next : 1 + n ≡ suc n = omega arith in ap (λ (k : ℕ). Some (take k (b ∷ bytes))) next
+    moved (Some n) = let next : 1 + n ≡ suc n = omega arith in
+        ap (λ (k : ℕ). Some (take k (b ∷ bytes))) next
 
 front-none : (name : List ℕ) → text_front [] ≡ Some name → ⊥
 unfolding text_front
@@ -132,39 +145,46 @@ turned false true p g = refl
 turned false false p g = refl
 
 -- .. is this one where the bytes begin with it and a NUL
-pub front-is : (bytes text name : List ℕ) → HasNoNul text → text_front bytes ≡ Some name →
-    begins_with bytes text ≡ bytes_eq name text
+pub front-is : (bytes text name : List ℕ) → HasNoNul text → text_front bytes ≡ Some name
+    → begins_with bytes text ≡ bytes_eq name text
 front-is [] text name plain h = absurd (front-none name h)
 front-is (b ∷ bytes) [] name plain h =
     let some : nat_lt 0 (suc (length bytes)) ≡ true = lt-ltb 0 (suc (length bytes)) (omega arith) in
     rw some (by_nul (is_nul b) refl)
   where
     by_nul : (t : Bool) → is_nul b ≡ t → is_nul b ≡ bytes_eq name []
-    by_nul true is = is ∙ ap (λ (n : List ℕ). bytes_eq n []) (same_name (sym (front-nul b bytes is) ∙ h))
+    by_nul true is = is ∙ ap (λ (n : List ℕ). bytes_eq n [])
+        (same_name (sym (front-nul b bytes is) ∙ h))
     by_nul false is = is ∙ by_more (text_front bytes) (sym (front-more b bytes is) ∙ h)
       where
-        by_more : (o : Option (List ℕ)) → option_map (λ text. b ∷ text) o ≡ Some name → false ≡ bytes_eq name []
+        by_more : (o : Option (List ℕ)) → option_map (λ text. b ∷ text) o ≡ Some name
+            → false ≡ bytes_eq name []
         by_more None h = cc
         by_more (Some rest) h = ap (λ (n : List ℕ). bytes_eq n []) (same_name h)
 front-is (b ∷ bytes) (t ∷ text) name plain h =
-    by_nul (is_nul b) refl (λ (rest : List ℕ) (r : text_front bytes ≡ Some rest). front-is bytes text rest
+    by_nul (is_nul b) refl (λ (rest : List ℕ) (r : text_front bytes ≡ Some rest). front-is bytes
+    text rest
     (or-false (is_nul t) (list_any is_nul text) plain).1 r)
   where
-    by_nul : (c : Bool) → is_nul b ≡ c → ((rest : List ℕ) → text_front bytes ≡ Some rest →
-        begins_with bytes text ≡ bytes_eq rest text) → begins_with (b ∷ bytes) (t ∷ text) ≡ bytes_eq name (t ∷ text)
+    by_nul : (c : Bool) → is_nul b ≡ c → ((rest : List ℕ) → text_front bytes ≡ Some rest
+        → begins_with bytes text ≡ bytes_eq rest text) → begins_with (b ∷ bytes) (t ∷ text)
+        ≡ bytes_eq name (t ∷ text)
     by_nul true is later =
         let differ : nat_eq t b ≡ false =
-        ap (λ (n : ℕ). nat_eq t n) (eqb-true b 0 is) ∙ (or-false (is_nul t) (list_any is_nul text) plain).0 in
+        ap (λ (n : ℕ). nat_eq t n) (eqb-true b 0 is)
+        ∙ (or-false (is_nul t) (list_any is_nul text) plain).0 in
         rw differ (and-false (nat_lt (suc (length text)) (suc (length bytes)))
         ∙ ap (λ (n : List ℕ). bytes_eq n (t ∷ text)) (same_name (sym (front-nul b bytes is) ∙ h)))
     by_nul false is later = by_more (text_front bytes) refl (sym (front-more b bytes is) ∙ h)
       where
-        by_more : (o : Option (List ℕ)) → text_front bytes ≡ o → option_map (λ text. b ∷ text) o ≡ Some name →
-            begins_with (b ∷ bytes) (t ∷ text) ≡ bytes_eq name (t ∷ text)
+        by_more : (o : Option (List ℕ)) → text_front bytes ≡ o → option_map (λ text. b ∷ text) o
+            ≡ Some name
+            → begins_with (b ∷ bytes) (t ∷ text) ≡ bytes_eq name (t ∷ text)
         by_more None o h = cc
         by_more (Some rest) o h =
             rw (lt-suc (length text) (length bytes), nat_eq-sym t b)
-            (turned (nat_lt (length text) (length bytes)) (nat_eq b t) (starts_with nat_eq bytes text)
+            (turned (nat_lt (length text) (length bytes)) (nat_eq b t)
+            (starts_with nat_eq bytes text)
             (get_or bytes (length text) 0 == 0)
             ∙ (ap (λ (c : Bool). nat_eq b t && c) (later rest o)
             ∙ ap (λ (n : List ℕ). bytes_eq n (t ∷ text)) (same_name h)))
@@ -182,21 +202,25 @@ name-plain sections.DebugStrOffsets = refl
 name-plain sections.DebugAddr = refl
 name-plain sections.DebugRnglists = refl
 
-same-prefix : {X : Type 0} (p q : X → Bool) → ((x : X) → p x ≡ q x) → (xs : List X) → prefix_len p xs ≡ prefix_len q xs
+same-prefix : {X : Type 0} (p q : X → Bool) → ((x : X) → p x ≡ q x) → (xs : List X)
+    → prefix_len p xs ≡ prefix_len q xs
 same-prefix p q same [] = refl
 same-prefix p q same (x ∷ xs) =
     ap (λ (b : Bool). cond b (1 + prefix_len p xs) 0) (same x)
     ∙ ap (λ (n : ℕ). cond (q x) (1 + n) 0) (same-prefix p q same xs)
 
-same-position : {X : Type 0} (p q : X → Bool) → ((x : X) → p x ≡ q x) → (xs : List X) → position p xs ≡ position q xs
+same-position : {X : Type 0} (p q : X → Bool) → ((x : X) → p x ≡ q x) → (xs : List X)
+    → position p xs ≡ position q xs
 same-position p q same xs =
     ap (λ (n : ℕ). cond (nat_lt n (length xs)) (Some n) None)
     (same-prefix (λ y. not (p y)) (λ y. not (q y)) (λ x. ap not (same x)) xs)
 
 -- the number of the name at an offset, by what the bytes there begin with
-pub number-at : (names : List ℕ) (end offset : ℕ) (number : Option ℕ) → EndsTexts names end → offset < end →
-    number ≡ position (λ s. begins_with (take (length names - offset) (drop offset names)) (section_name s)) wanted →
-    IsNumberAt names offset number
+pub number-at : (names : List ℕ) (end offset : ℕ) (number : Option ℕ) → EndsTexts names end
+    → offset < end
+    → number ≡ position (λ s. begins_with (take (length names - offset) (drop offset names))
+    (section_name s)) wanted
+    → IsNumberAt names offset number
 number-at names end offset number ends before number_is =
     let there = before-all names end offset ends before in
     let size = length-drop offset names in
@@ -204,8 +228,10 @@ number-at names end offset number ends before number_is =
     take_all (length names - offset) (drop offset names) (omega (arith, size)) in (
       there.0,
       there.1,
-      number_is ∙ (ap (λ (bytes : List ℕ). position (λ s. begins_with bytes (section_name s)) wanted) rest
+      number_is ∙ (ap (λ (bytes : List ℕ). position (λ s. begins_with bytes (section_name s))
+          wanted) rest
           ∙ same-position (λ s. begins_with (drop offset names) (section_name s))
           (λ s. bytes_eq there.0 (section_name s))
-          (λ s. front-is (drop offset names) (section_name s) there.0 (name-plain s) there.2) wanted),
+          (λ s. front-is (drop offset names) (section_name s) there.0 (name-plain s) there.2)
+          wanted),
     )

@@ -1,5 +1,7 @@
 -- What is read at a place stands there, and what stands there is read.
-use Rattle.std.proofs.Common.{◌≡◌, ℕ, ◌+◌, ◌≤◌, Bool, true, false, cond, ltb, List, ◌++◌, length, drop, take, Result, Ok, Err, ap, sym, refl, ◌∙◌, arith, length-append, length-drop}
+use Rattle.std.proofs.Common.{◌≡◌, ℕ, ◌+◌, ◌≤◌, Bool, true, false, cond, ltb, List, ◌++◌, length}
+use Rattle.std.proofs.Common.{drop, take, Result, Ok, Err, ap, sym, refl, ◌∙◌, arith, length-append}
+use Rattle.std.proofs.Common.{length-drop}
 use Rattle.std.proofs.lemmas.Bool.{ltb-false, le-ltb}
 use Rattle.std.proofs.lemmas.List.{take_at, take-append-drop, length-take-le}
 use Rattle.dwarf_bytes.specs.declared.fault.ReadFault.{ReadFault}
@@ -13,12 +15,15 @@ use Rattle.dwarf_bytes.proofs.Spelling.{bind_ok}
 abbrev pub IsBlock : ℕ → List ℕ → List ℕ → Type 0
 IsBlock n bytes block = (length bytes ≡ n) × (block ≡ bytes)
 
-same_block : (x y : List ℕ × ℕ) → (let f : List ℕ × ℕ → Result (List ℕ × ℕ) ReadFault = λ z. Ok z in f x ≡ f y) → x ≡ y
+same_block : (x y : List ℕ × ℕ) → (let f : List ℕ × ℕ → Result (List ℕ × ℕ) ReadFault = λ z. Ok z in
+    f x ≡ f y) → x ≡ y
 same_block x y h = cc
 
-block_by : (b : Bool) (n : ℕ) (bytes : List ℕ) (at : ℕ) (block : List ℕ) (next : ℕ) → ltb (length bytes) (at + n) ≡ b →
-    cond {A = Result (List ℕ × ℕ) ReadFault} b (Err Short) (Ok (take n (drop at bytes), at + n)) ≡ Ok (block, next) →
-    StandsAt (IsBlock n) bytes at block next
+block_by : (b : Bool) (n : ℕ) (bytes : List ℕ) (at : ℕ) (block : List ℕ) (next : ℕ)
+    → ltb (length bytes) (at + n) ≡ b
+    → cond {A = Result (List ℕ × ℕ) ReadFault} b (Err Short) (Ok (take n (drop at bytes), at + n))
+    ≡ Ok (block, next)
+    → StandsAt (IsBlock n) bytes at block next
 block_by true n bytes at block next test e = absurd cc
 block_by false n bytes at block next test e =
     let within = ltb-false _ _ test in
@@ -33,26 +38,31 @@ block_by false n bytes at block next test e =
       next_is = ap (λ (p : List ℕ × ℕ). p.1) (sym pairs) ∙ ap (λ (m : ℕ). at + m) (sym size);
     }
 
-pub block_stands : (n : ℕ) (bytes : List ℕ) (at : ℕ) (block : List ℕ) (next : ℕ) →
-    block_at n bytes at ≡ Ok (block, next) → StandsAt (IsBlock n) bytes at block next
+pub block_stands : (n : ℕ) (bytes : List ℕ) (at : ℕ) (block : List ℕ) (next : ℕ)
+    → block_at n bytes at ≡ Ok (block, next) → StandsAt (IsBlock n) bytes at block next
 unfolding block_at
-block_stands n bytes at block next e = block_by (ltb (length bytes) (at + n)) n bytes at block next refl e
+block_stands n bytes at block next e = block_by (ltb (length bytes) (at + n)) n bytes at block next
+    refl e
 
 -- bytes that stand at a place are read as a block
-pub block_of : (bytes : List ℕ) (at : ℕ) (front rest : List ℕ) → at ≤ length bytes → drop at bytes ≡ front ++ rest →
-    block_at (length front) bytes at ≡ Ok (front, at + length front)
+pub block_of : (bytes : List ℕ) (at : ℕ) (front rest : List ℕ) → at ≤ length bytes
+    → drop at bytes ≡ front ++ rest
+    → block_at (length front) bytes at ≡ Ok (front, at + length front)
 unfolding block_at
 block_of bytes at front rest within parts =
     let left = length-drop at bytes in
     let all = ap length parts ∙ length-append front rest in
-    let there : ltb (length bytes) (at + length front) ≡ false = le-ltb _ _ (omega (arith, left, all)) in
+    let there : ltb (length bytes) (at + length front) ≡ false =
+    le-ltb _ _ (omega (arith, left, all)) in
     rw (there, parts, take_at front rest (length front) refl) refl
 
-pub fixed_stands : (n : ℕ) (bytes : List ℕ) (at value next : ℕ) → fixed_at n bytes at ≡ Ok (value, next) →
-    StandsAt (IsFixed n) bytes at value next
+pub fixed_stands : (n : ℕ) (bytes : List ℕ) (at value next : ℕ)
+    → fixed_at n bytes at ≡ Ok (value, next)
+    → StandsAt (IsFixed n) bytes at value next
 unfolding fixed_at
 fixed_stands n bytes at value next e =
-    let b = bind_ok (block_at n bytes at) (λ block. Ok (little_endian block.0, block.1)) (value, next) e in
+    let b = bind_ok (block_at n bytes at) (λ block. Ok (little_endian block.0, block.1))
+    (value, next) e in
     let s = block_stands n bytes at b.0.0 b.0.1 b.1 in
     let pairs = same_number (little_endian b.0.0, b.0.1) (value, next) b.2 in
     record {
@@ -63,17 +73,21 @@ fixed_stands n bytes at value next e =
       next_is = ap (λ (p : ℕ × ℕ). p.1) (sym pairs) ∙ s.next_is;
     }
   where
-    same_number : (x y : ℕ × ℕ) → (let f : ℕ × ℕ → Result (ℕ × ℕ) ReadFault = λ z. Ok z in f x ≡ f y) → x ≡ y
+    same_number : (x y : ℕ × ℕ) → (let f : ℕ × ℕ → Result (ℕ × ℕ) ReadFault = λ z. Ok z in
+        f x ≡ f y) → x ≡ y
     same_number x y h = cc
 
 -- a number that stands at a place is read there
-pub fixed_of : (bytes : List ℕ) (at : ℕ) (front rest : List ℕ) → at ≤ length bytes → drop at bytes ≡ front ++ rest →
-    fixed_at (length front) bytes at ≡ Ok (little_endian front, at + length front)
+pub fixed_of : (bytes : List ℕ) (at : ℕ) (front rest : List ℕ) → at ≤ length bytes
+    → drop at bytes ≡ front ++ rest
+    → fixed_at (length front) bytes at ≡ Ok (little_endian front, at + length front)
 unfolding fixed_at
 fixed_of bytes at front rest within parts = rw (block_of bytes at front rest within parts) refl
 
-pub fixed_again : (n : ℕ) (bytes : List ℕ) (at value next : ℕ) → at ≤ length bytes →
-    StandsAt (IsFixed n) bytes at value next → fixed_at n bytes at ≡ Ok (value, next)
+pub fixed_again : (n : ℕ) (bytes : List ℕ) (at value next : ℕ) → at ≤ length bytes
+    → StandsAt (IsFixed n) bytes at value next → fixed_at n bytes at ≡ Ok (value, next)
 fixed_again n bytes at value next within s =
-    ap (λ (m : ℕ). fixed_at m bytes at) (sym s.spelled.0) ∙ fixed_of bytes at s.front s.rest within s.parts
-    ∙ ap (λ (v : ℕ). Ok (v, at + length s.front)) (sym s.spelled.1) ∙ ap (λ (m : ℕ). Ok (value, m)) (sym s.next_is)
+    ap (λ (m : ℕ). fixed_at m bytes at) (sym s.spelled.0) ∙ fixed_of bytes at s.front s.rest within
+    s.parts
+    ∙ ap (λ (v : ℕ). Ok (v, at + length s.front)) (sym s.spelled.1) ∙ ap (λ (m : ℕ). Ok (value, m))
+    (sym s.next_is)

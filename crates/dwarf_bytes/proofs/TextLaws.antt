@@ -1,5 +1,8 @@
 -- A text is read where it stands with its NUL, and is missing where none follows.
-use Rattle.std.proofs.Common.{◌≡◌, ℕ, suc, ◌+◌, ◌<◌, ◌≤◌, Bool, true, false, not, cond, ltb, eqb, List, [], ◌∷◌, ◌++◌, length, drop, take, get_or, Some, None, Result, Ok, Err, ap, sym, refl, subst, ◌∙◌, arith, length-append, length-take, append_assoc}
+use Rattle.std.proofs.Common.{◌≡◌, ℕ, suc, ◌+◌, ◌<◌, ◌≤◌, Bool, true, false, not, cond, ltb, eqb}
+use Rattle.std.proofs.Common.{List, [], ◌∷◌, ◌++◌, length, drop, take, get_or, Some, None, Result}
+use Rattle.std.proofs.Common.{Ok, Err, ap, sym, refl, subst, ◌∙◌, arith, length-append, length-take}
+use Rattle.std.proofs.Common.{append_assoc}
 use Rattle.std.specs.Prelude.{All, ◌≢◌}
 use Rattle.std.specs.List.{prefix_len}
 use Rattle.std.specs.Option.{option_map, option_map_or}
@@ -40,7 +43,8 @@ stops-zero b h = eqb-true b 0 (by (eqb b 0) h)
 no_nul_before : (bytes : List ℕ) (n : ℕ) → n ≤ text_len bytes → HasNoNul (take n bytes)
 no_nul_before bytes n le k d lt =
     let below : k < n = let size = length-take n bytes in omega (arith, size) in
-    let here : get_or bytes k d ≢ 0 = passes-ne _ (prefix_len_passes is_text_byte bytes k d (omega arith)) in
+    let here : get_or bytes k d ≢ 0 = passes-ne _
+    (prefix_len_passes is_text_byte bytes k d (omega arith)) in
     rw (get_or-take n bytes k d below) here
 
 -- a text and its NUL at the front of bytes
@@ -61,18 +65,22 @@ none_len bytes h = by (ltb (text_len bytes) (length bytes)) refl
         let lt = ltb-true _ _ is in
         absurd (h (text_len bytes) 0 lt (stops-zero _ (prefix_len_stops is_text_byte bytes 0 lt)))
 
-same_text : (x y : List ℕ × ℕ) → (let f : List ℕ × ℕ → Result (List ℕ × ℕ) ReadFault = λ z. Ok z in f x ≡ f y) → x ≡ y
+same_text : (x y : List ℕ × ℕ) → (let f : List ℕ × ℕ → Result (List ℕ × ℕ) ReadFault = λ z. Ok z in
+    f x ≡ f y) → x ≡ y
 same_text x y h = cc
 
 -- what the bytes at a place give, by whether a NUL follows
 abbrev text_by : Bool → ℕ → List ℕ → ℕ → Result (List ℕ × ℕ) ReadFault
 text_by found n bytes at =
-    option_map_or (λ text. Ok (text, at + length text + 1)) (option_map (λ k. take k bytes) (cond found (Some n) None))
+    option_map_or (λ text. Ok (text, at + length text + 1))
+    (option_map (λ k. take k bytes) (cond found (Some n) None))
     (Err Unterminated)
 
-stands_by : (found : Bool) (bytes rest : List ℕ) (at : ℕ) (text : List ℕ) (next : ℕ) → rest ≡ drop at bytes →
-    ltb (text_len rest) (length rest) ≡ found → text_by found (text_len rest) rest at ≡ Ok (text, next) →
-    StandsAt IsText bytes at text next
+stands_by : (found : Bool) (bytes rest : List ℕ) (at : ℕ) (text : List ℕ) (next : ℕ)
+    → rest ≡ drop at bytes
+    → ltb (text_len rest) (length rest) ≡ found → text_by found (text_len rest) rest at
+    ≡ Ok (text, next)
+    → StandsAt IsText bytes at text next
 stands_by false bytes rest at text next same test e = absurd cc
 stands_by true bytes rest at text next same test e =
     let lt = ltb-true _ _ test in
@@ -81,24 +89,30 @@ stands_by true bytes rest at text next same test e =
     let text_is : take n rest ≡ text = ap (λ (p : List ℕ × ℕ). p.0) pairs in
     let nul : get_or rest n 0 ≡ 0 = stops-zero _ (prefix_len_stops is_text_byte rest 0 lt) in
     let whole : take (suc n) rest ≡ text ++ 0 ∷ [] =
-    take-suc rest n 0 lt ∙ ap (λ (b : ℕ). take n rest ++ b ∷ []) nul ∙ ap (λ (t : List ℕ). t ++ 0 ∷ []) text_is in
+    take-suc rest n 0 lt ∙ ap (λ (b : ℕ). take n rest ++ b ∷ []) nul
+    ∙ ap (λ (t : List ℕ). t ++ 0 ∷ []) text_is in
     record {
       front = text ++ 0 ∷ [];
       rest = drop (suc n) rest;
       spelled = (refl, subst HasNoNul text_is (no_nul_before rest n (omega arith)));
-      parts = sym same ∙ sym (take-append-drop (suc n) rest) ∙ ap (λ (t : List ℕ). t ++ drop (suc n) rest) whole;
-      next_is = ap (λ (p : List ℕ × ℕ). p.1) (sym pairs) ∙ ap (λ (t : List ℕ). at + length t + 1) text_is
+      parts = sym same ∙ sym (take-append-drop (suc n) rest)
+          ∙ ap (λ (t : List ℕ). t ++ drop (suc n) rest) whole;
+      next_is = ap (λ (p : List ℕ × ℕ). p.1) (sym pairs) ∙ ap (λ (t : List ℕ). at + length t + 1)
+          text_is
           ∙ omega (arith, length-append text (0 ∷ []));
     }
 
-pub text_stands : (bytes : List ℕ) (at : ℕ) (text : List ℕ) (next : ℕ) → cstr_at bytes at ≡ Ok (text, next) →
-    StandsAt IsText bytes at text next
+pub text_stands : (bytes : List ℕ) (at : ℕ) (text : List ℕ) (next : ℕ)
+    → cstr_at bytes at ≡ Ok (text, next)
+    → StandsAt IsText bytes at text next
 unfolding cstr_at text_front
 text_stands bytes at text next e =
-    stands_by (ltb (text_len (drop at bytes)) (length (drop at bytes))) bytes (drop at bytes) at text next refl refl e
+    stands_by (ltb (text_len (drop at bytes)) (length (drop at bytes))) bytes (drop at bytes) at
+    text next refl refl e
 
-pub text_again : (bytes : List ℕ) (at : ℕ) (text : List ℕ) (next : ℕ) → StandsAt IsText bytes at text next →
-    cstr_at bytes at ≡ Ok (text, next)
+pub text_again : (bytes : List ℕ) (at : ℕ) (text : List ℕ) (next : ℕ)
+    → StandsAt IsText bytes at text next
+    → cstr_at bytes at ≡ Ok (text, next)
 unfolding cstr_at text_front
 text_again bytes at text next s =
     let parts : drop at bytes ≡ text ++ 0 ∷ s.rest =
@@ -108,22 +122,27 @@ text_again bytes at text next s =
     lt-ltb _ _ (omega (arith, length-append text (0 ∷ s.rest))) in
     let next' : at + length text + 1 ≡ next =
     omega (arith, s.next_is, ap length s.spelled.0, length-append text (0 ∷ [])) in
-    rw (parts, len, there, take_at text (0 ∷ s.rest) (length text) refl) (ap (λ (n : ℕ). Ok (text, n)) next')
+    rw (parts, len, there, take_at text (0 ∷ s.rest) (length text) refl)
+    (ap (λ (n : ℕ). Ok (text, n)) next')
 
-missing_by : (found : Bool) (rest : List ℕ) (at : ℕ) (fault : ReadFault) → ltb (text_len rest) (length rest) ≡ found →
-    text_by found (text_len rest) rest at ≡ Err fault → (fault ≡ Unterminated) × HasNoNul rest
+missing_by : (found : Bool) (rest : List ℕ) (at : ℕ) (fault : ReadFault)
+    → ltb (text_len rest) (length rest) ≡ found
+    → text_by found (text_len rest) rest at ≡ Err fault → (fault ≡ Unterminated) × HasNoNul rest
 missing_by true rest at fault test e = absurd cc
 missing_by false rest at fault test e =
     let le = ltb-false _ _ test in
     (cc, λ k d lt. passes-ne _ (prefix_len_passes is_text_byte rest k d (omega arith)))
 
-pub text_missing : (bytes : List ℕ) (at : ℕ) (fault : ReadFault) → cstr_at bytes at ≡ Err fault → (fault ≡ Unterminated)
+pub text_missing : (bytes : List ℕ) (at : ℕ) (fault : ReadFault) → cstr_at bytes at ≡ Err fault
+    → (fault ≡ Unterminated)
     × HasNoNul (drop at bytes)
 unfolding cstr_at text_front
 text_missing bytes at fault e =
-    missing_by (ltb (text_len (drop at bytes)) (length (drop at bytes))) (drop at bytes) at fault refl e
+    missing_by (ltb (text_len (drop at bytes)) (length (drop at bytes))) (drop at bytes) at fault
+    refl e
 
 pub text_missing_again : (bytes : List ℕ) (at : ℕ) (fault : ReadFault) → (fault ≡ Unterminated)
     × HasNoNul (drop at bytes) → cstr_at bytes at ≡ Err fault
 unfolding cstr_at text_front
-text_missing_again bytes at fault h = rw (none_len (drop at bytes) h.1) (ap (λ (f : ReadFault). Err f) (sym h.0))
+text_missing_again bytes at fault h = rw (none_len (drop at bytes) h.1)
+    (ap (λ (f : ReadFault). Err f) (sym h.0))

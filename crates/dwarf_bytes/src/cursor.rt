@@ -118,7 +118,7 @@ impl<'a> Cursor<'a> {
         Ok(self.block(1)?[0])
     }
 
-    #[tactic(auto, unfolding(crate::specs::Numbers::fixed_at), using(crate::proofs::Fixed::little_number_of_all))]
+    #[tactic(auto, unfolding(crate::specs::Numbers::fixed_at), using(crate::proofs::Fixed::of_all))]
     pub fn u16(&mut self) -> Result<u16, ReadFault>
         ensures reads { Reads (λ x. x) result u16_at self.old self.new }
         ensures moves { IfOk result (λ _. self.new.place ≡ self.old.place + 2) }
@@ -126,7 +126,7 @@ impl<'a> Cursor<'a> {
         Ok(LittleEndian::read_u16(self.block(2)?))
     }
 
-    #[tactic(auto, unfolding(crate::specs::Numbers::fixed_at), using(crate::proofs::Fixed::little_number_of_all))]
+    #[tactic(auto, unfolding(crate::specs::Numbers::fixed_at), using(crate::proofs::Fixed::of_all))]
     pub fn u24(&mut self) -> Result<u32, ReadFault>
         ensures reads { Reads (λ x. x) result u24_at self.old self.new }
         ensures moves { IfOk result (λ _. self.new.place ≡ self.old.place + 3) }
@@ -134,7 +134,7 @@ impl<'a> Cursor<'a> {
         Ok(LittleEndian::read_u24(self.block(3)?))
     }
 
-    #[tactic(auto, unfolding(crate::specs::Numbers::fixed_at), using(crate::proofs::Fixed::little_number_of_all))]
+    #[tactic(auto, unfolding(crate::specs::Numbers::fixed_at), using(crate::proofs::Fixed::of_all))]
     pub fn u32(&mut self) -> Result<u32, ReadFault>
         ensures reads { Reads (λ x. x) result u32_at self.old self.new }
         ensures moves { IfOk result (λ _. self.new.place ≡ self.old.place + 4) }
@@ -142,7 +142,7 @@ impl<'a> Cursor<'a> {
         Ok(LittleEndian::read_u32(self.block(4)?))
     }
 
-    #[tactic(auto, unfolding(crate::specs::Numbers::fixed_at), using(crate::proofs::Fixed::little_number_of_all))]
+    #[tactic(auto, unfolding(crate::specs::Numbers::fixed_at), using(crate::proofs::Fixed::of_all))]
     pub fn u64(&mut self) -> Result<u64, ReadFault>
         ensures reads { Reads (λ x. x) result u64_at self.old self.new }
         ensures moves { IfOk result (λ _. self.new.place ≡ self.old.place + 8) }

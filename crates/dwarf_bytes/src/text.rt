@@ -34,7 +34,7 @@ pub(crate) fn text_front(bytes: &[u8]) -> Option<&[u8]>
 }
 
 /// The text of a section at an offset, without its NUL.
-#[tactic(auto, unfolding(crate::specs::Numbers::text_at), using(crate::proofs::Texts::text_outside))]
+#[tactic(auto, unfolding(crate::specs::Numbers::text_at), using(crate::proofs::Texts::outside))]
 pub fn text_at(section: &[u8], offset: u64) -> Result<&[u8], ReadFault>
     ensures { MatchResult result (λ text. text_at section.now offset ≡ Ok text.now)
         (λ fault. text_at section.now offset ≡ Err fault) }

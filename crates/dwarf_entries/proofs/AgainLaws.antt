@@ -1,7 +1,9 @@
 -- The entries of a unit, read again at their places.
 use Rattle.std.proofs.Common.{◌≡◌, ℕ, ◌≤◌, List, length, take, true, refl, ap, sym, ◌∙◌, arith}
 use Rattle.std.specs.Prelude.{Some, Result, Ok, ok_or, slice_get}
-use Rattle.dwarf_bytes.specs.declared.constants.TheConstants.{DW_AT_CALL_FILE, DW_AT_CALL_LINE, DW_AT_HIGH_PC, DW_AT_LOW_PC, DW_AT_RANGES}
+use Rattle.dwarf_bytes.specs.declared.constants.TheConstants.{DW_AT_CALL_FILE, DW_AT_CALL_LINE}
+use Rattle.dwarf_bytes.specs.declared.constants.TheConstants.{DW_AT_HIGH_PC, DW_AT_LOW_PC}
+use Rattle.dwarf_bytes.specs.declared.constants.TheConstants.{DW_AT_RANGES}
 use Rattle.dwarf_bytes.specs.declared.fault.Cause.{Cause}
 use Rattle.dwarf_bytes.specs.declared.fault.Cause.TheVariants as causes
 use Rattle.dwarf_bytes.specs.declared.format.Format.{Format}
@@ -30,45 +32,72 @@ use Rattle.dwarf_walk.proofs.AgainLaws.{without_place, inside-is}
 
 -- ---- by the used attributes
 
-scope-kept : (die : Die) (kind : ScopeKind) → scope_entry (die_of_kept die) kind ≡ scope_entry die kind
+scope-kept : (die : Die) (kind : ScopeKind) → scope_entry (die_of_kept die) kind
+    ≡ scope_entry die kind
 scope-kept die kind =
-    rw (named-kept die, value-kept die.attributes DW_AT_LOW_PC refl, value-kept die.attributes DW_AT_HIGH_PC refl, value-kept die.attributes DW_AT_RANGES refl, value-kept die.attributes DW_AT_CALL_FILE refl, value-kept die.attributes DW_AT_CALL_LINE refl) refl
+    rw (
+      named-kept die,
+      value-kept die.attributes DW_AT_LOW_PC refl,
+      value-kept die.attributes DW_AT_HIGH_PC refl,
+      value-kept die.attributes DW_AT_RANGES refl,
+      value-kept die.attributes DW_AT_CALL_FILE refl,
+      value-kept die.attributes DW_AT_CALL_LINE
+          refl,
+    ) refl
 
 -- ---- the entries that were read before
 
 -- an entry that is read stands in its unit
-entry-within : (format : Format) (table : List Declaration) (unit : List ℕ) (at : ℕ) (x : (ℕ × List Attribute) × ℕ) → entry_at format table unit at ≡ Ok x → at ≤ length unit
+entry-within : (format : Format) (table : List Declaration) (unit : List ℕ) (at : ℕ)
+    (x : (ℕ × List Attribute) × ℕ) → entry_at format table unit at ≡ Ok x → at ≤ length unit
 unfolding entry_at
 entry-within format table unit at x h =
-    after_bind (reading (uleb_at unit at)) _ x h (at ≤ length unit) (λ code code_is _. let moved = uleb_moves unit at code code_is in omega (arith, moved.0, moved.1))
+    after_bind (reading (uleb_at unit at)) _ x h (at ≤ length unit)
+    (λ code code_is _. let moved = uleb_moves unit at code code_is in
+    omega (arith, moved.0, moved.1))
 
 -- the bytes of a unit, by its header
 abbrev pub bytes_in : Sections → UnitHeader → List ℕ
 bytes_in s header = take header.end s.debug_info
 
-used-there : (s : Sections) (u : CompilationUnit) (k : ℕ) (die : Die) → (read : IsReadIn s u) → slice_get u.dies k ≡ Some die → used_at u.header.format read.table (bytes_in s u.header) die.offset ≡ Ok (die.tag, kept_attributes true die.attributes)
+used-there : (s : Sections) (u : CompilationUnit) (k : ℕ) (die : Die) → (read : IsReadIn s u)
+    → slice_get u.dies k ≡ Some die → used_at u.header.format read.table (bytes_in s u.header)
+    die.offset ≡ Ok (die.tag, kept_attributes true die.attributes)
 used-there s u k die read there =
     let again = read.again k die there in
-    inside-is u.header.format read.table (bytes_in s u.header) die.offset (entry-within u.header.format read.table (bytes_in s u.header) die.offset ((die.tag, die.attributes), again.0) again.1)
+    inside-is u.header.format read.table (bytes_in s u.header) die.offset
+    (entry-within u.header.format read.table (bytes_in s u.header) die.offset
+    ((die.tag, die.attributes), again.0) again.1)
     ∙ ap (λ (r : Result ((ℕ × List Attribute) × ℕ) Cause). without_place r) again.1
 
 -- a scope of a unit
-pub scope-there : (s : Sections) (u : CompilationUnit) (k : ℕ) (die : Die) (kind : ScopeKind) → (read : IsReadIn s u) → slice_get u.dies k ≡ Some die → kind_of die.tag ≡ Some kind →
-    scope_entry_at u.header.format read.table (bytes_in s u.header) die.offset ≡ Ok (scope_entry die kind)
+pub scope-there : (s : Sections) (u : CompilationUnit) (k : ℕ) (die : Die) (kind : ScopeKind)
+    → (read : IsReadIn s u) → slice_get u.dies k ≡ Some die → kind_of die.tag ≡ Some kind
+    → scope_entry_at u.header.format read.table (bytes_in s u.header) die.offset
+    ≡ Ok (scope_entry die kind)
 scope-there s u k die kind read there is =
-    ap (λ (r : Result (ℕ × List Attribute) Cause). r >>= λ entry. ok_or (scope_entry_of (entry_with die.offset entry)) causes.Reference) (used-there s u k die read there)
+    ap (λ (r : Result (ℕ × List Attribute) Cause). r
+    >>= λ entry. ok_or (scope_entry_of (entry_with die.offset entry)) causes.Reference)
+    (used-there s u k die read there)
     ∙ (rw is (ap (λ (e : ScopeEntry). Ok e) (scope-kept die kind)))
 
 -- an entry of a unit, as far as names go
-pub named-there : (s : Sections) (u : CompilationUnit) (k : ℕ) (die : Die) → (read : IsReadIn s u) → slice_get u.dies k ≡ Some die →
-    named_entry_at u.header.format read.table (bytes_in s u.header) die.offset ≡ Ok (named_entry die)
+pub named-there : (s : Sections) (u : CompilationUnit) (k : ℕ) (die : Die) → (read : IsReadIn s u)
+    → slice_get u.dies k ≡ Some die
+    → named_entry_at u.header.format read.table (bytes_in s u.header) die.offset
+    ≡ Ok (named_entry die)
 named-there s u k die read there =
-    ap (λ (r : Result (ℕ × List Attribute) Cause). r >>= λ entry. Ok (named_entry (entry_with die.offset entry))) (used-there s u k die read there)
+    ap (λ (r : Result (ℕ × List Attribute) Cause). r
+    >>= λ entry. Ok (named_entry (entry_with die.offset entry)))
+    (used-there s u k die read there)
     ∙ ap (λ (e : NamedEntry). Ok e) (named-kept die)
 
 -- .. by what is kept of its unit
-pub named-at : (s : Sections) (u : CompilationUnit) (k : ℕ) (die : Die) (header : UnitHeader) (offset : ℕ) → (read : IsReadIn s u) → header ≡ u.header → die.offset ≡ offset → slice_get u.dies k ≡ Some die →
-    named_entry_at header.format read.table (bytes_in s header) offset ≡ Ok (named_entry die)
+pub named-at : (s : Sections) (u : CompilationUnit) (k : ℕ) (die : Die) (header : UnitHeader)
+    (offset : ℕ) → (read : IsReadIn s u) → header ≡ u.header → die.offset ≡ offset
+    → slice_get u.dies k ≡ Some die
+    → named_entry_at header.format read.table (bytes_in s header) offset ≡ Ok (named_entry die)
 named-at s u k die header offset read same place there =
     ap (λ (h : UnitHeader). named_entry_at h.format read.table (bytes_in s h) offset) same
-    ∙ (ap (λ (o : ℕ). named_entry_at u.header.format read.table (bytes_in s u.header) o) (sym place) ∙ named-there s u k die read there)
+    ∙ (ap (λ (o : ℕ). named_entry_at u.header.format read.table (bytes_in s u.header) o) (sym place)
+    ∙ named-there s u k die read there)

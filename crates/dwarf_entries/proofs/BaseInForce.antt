@@ -6,11 +6,14 @@ use Rattle.dwarf_entries.specs.declared.range_entries.RangeListEntry.{RangeListE
 use Rattle.dwarf_entries.specs.declared.range_entries.RangeListEntry.TheVariants.{Base, Covers}
 use Rattle.dwarf_entries.specs.Ranges.{base_after}
 
-pub base-stays : (low_pc : Option ℕ) (ranges : List (Option Range)) → base_after low_pc (map (λ range. Covers range) ranges) ≡ low_pc
+pub base-stays : (low_pc : Option ℕ) (ranges : List (Option Range))
+    → base_after low_pc (map (λ range. Covers range) ranges) ≡ low_pc
 base-stays low_pc [] = refl
 base-stays low_pc (range ∷ ranges) = base-stays low_pc ranges
 
-pub base-of_last : (low_pc : Option ℕ) (before : List RangeListEntry) (base : ℕ) (ranges : List (Option Range)) → base_after low_pc (before ++ Base base ∷ map (λ range. Covers range) ranges) ≡ Some base
+pub base-of_last : (low_pc : Option ℕ) (before : List RangeListEntry) (base : ℕ)
+    (ranges : List (Option Range)) → base_after low_pc
+    (before ++ Base base ∷ map (λ range. Covers range) ranges) ≡ Some base
 base-of_last low_pc [] base ranges = base-stays (Some base) ranges
 base-of_last low_pc (Base first ∷ before) base ranges = base-of_last (Some first) before base ranges
 base-of_last low_pc (Covers range ∷ before) base ranges = base-of_last low_pc before base ranges

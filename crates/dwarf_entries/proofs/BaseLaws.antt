@@ -12,24 +12,35 @@ use Rattle.dwarf_bytes.specs.Numbers.{block_at, fixed_at}
 use Rattle.dwarf_entries.specs.declared.bases.Table.{Table}
 use Rattle.dwarf_entries.specs.Bases.{item_len, item_in, item_at}
 
-fixed-outside : (n : ℕ) (bytes : List ℕ) (at : ℕ) → length bytes < at → fixed_at n bytes at ≡ Err Short
+fixed-outside : (n : ℕ) (bytes : List ℕ) (at : ℕ) → length bytes < at
+    → fixed_at n bytes at ≡ Err Short
 unfolding fixed_at block_at
 fixed-outside n bytes at h =
-    let past : nat_lt (length bytes) (at + n) ≡ true = lt-ltb (length bytes) (at + n) (omega arith) in rw past refl
+    let past : nat_lt (length bytes) (at + n) ≡ true =
+    lt-ltb (length bytes) (at + n) (omega arith) in rw past refl
 
-item-outside : (kind : TableKind) (format : Format) (bytes : List ℕ) (at : ℕ) → length bytes < at → item_in kind format bytes at ≡ Err Short
+item-outside : (kind : TableKind) (format : Format) (bytes : List ℕ) (at : ℕ) → length bytes < at
+    → item_in kind format bytes at ≡ Err Short
 item-outside StrOffsets Dwarf32 bytes at h = fixed-outside 4 bytes at h
 item-outside StrOffsets Dwarf64 bytes at h = fixed-outside 8 bytes at h
 item-outside Addr format bytes at h = fixed-outside 8 bytes at h
 item-outside RngLists Dwarf32 bytes at h = fixed-outside 4 bytes at h
 item-outside RngLists Dwarf64 bytes at h = fixed-outside 8 bytes at h
 
-pub item_at-outside : (kind : TableKind) (section : List ℕ) (found : Option Table) (table : Table) (index place : ℕ) → found ≡ Some table → index < table.head.items → place ≡ table.base + item_len kind table.format * index → length section < place →
-    Err causes.Short ≡ item_at kind section found index
+pub item_at-outside : (kind : TableKind) (section : List ℕ) (found : Option Table) (table : Table)
+    (index place : ℕ) → found ≡ Some table → index < table.head.items
+    → place ≡ table.base + item_len kind table.format * index → length section < place
+    → Err causes.Short ≡ item_at kind section found index
 item_at-outside kind section found table index place is within at past =
     let inside : nat_le table.head.items index ≡ false = lt-leb index table.head.items within in
-    let beyond : length section < table.base + item_len kind table.format * index = omega (arith, at, past) in
-    rw (is, inside, item-outside kind table.format section (table.base + item_len kind table.format * index) beyond) refl
+    let beyond : length section < table.base + item_len kind table.format * index =
+    omega (arith, at, past) in
+    rw (
+      is,
+      inside,
+      item-outside kind table.format section
+          (table.base + item_len kind table.format * index) beyond,
+    ) refl
   where
     lt-leb : (m n : ℕ) → m < n → nat_le n m ≡ false
     lt-leb m n h = grind arith

@@ -1,5 +1,6 @@
 -- The turns of the pass over the roots of all units.
-use Rattle.std.proofs.Common.{◌≡◌, ℕ, ◌+◌, ◌<◌, ◌≤◌, ◌⊎◌, inl, inr, List, [], ◌∷◌, ◌++◌, length, drop, get_or, map, refl, ap, sym, ◌∙◌, arith, drop-cons, add-one}
+use Rattle.std.proofs.Common.{◌≡◌, ℕ, ◌+◌, ◌<◌, ◌≤◌, ◌⊎◌, inl, inr, List, [], ◌∷◌, ◌++◌, length}
+use Rattle.std.proofs.Common.{drop, get_or, map, refl, ap, sym, ◌∙◌, arith, drop-cons, add-one}
 use Rattle.std.specs.Prelude.{Result, Ok, Err, zip}
 use Rattle.std.proofs.lemmas.List.{drop_all, map-append, get_or-map, length-map}
 use Rattle.dwarf_bytes.specs.declared.fault.Section.TheVariants as names
@@ -18,48 +19,66 @@ use Rattle.dwarf_walk.specs.Private.Kept.{KeptUnit, root_in, kept_unit, kept_of}
 use Rattle.dwarf_entries.specs.Private.Passes.{kept_units, bases_in, all_units, bases_of, all_bases}
 use Rattle.dwarf_units.proofs.TableLaws.{in_section_ok}
 
-abbrev pub unit_for : Sections → List CompilationUnit → UnitHeader × List Die → Result CompilationUnit At
+abbrev pub unit_for : Sections → List CompilationUnit → UnitHeader × List Die
+    → Result CompilationUnit At
 unit_for s before p = unit_of s p.0 p.1
 
 -- a unit with what its root tells
 abbrev pub with_bases : UnitHeader → List Die → Bases → CompilationUnit
 with_bases header dies bases = record { header = header; dies = dies; bases = bases }
 
-unit_of-is : (s : Sections) (header : UnitHeader) (dies : List Die) → unit_of s header dies ≡ (bases_in s header.format (root_in dies) >>= λ bases. Ok (with_bases header dies bases))
+unit_of-is : (s : Sections) (header : UnitHeader) (dies : List Die)
+    → unit_of s header dies ≡ (bases_in s header.format (root_in dies)
+    >>= λ bases. Ok (with_bases header dies bases))
 unfolding unit_of
 unit_of-is s header [] = refl
 unit_of-is s header (root ∷ dies) = refl
 
 -- the units before the index, and what their roots tell
-pub record BasesSoFar (s : Sections) (headers : List UnitHeader) (dies : List (List Die)) (index : ℕ) (all : List Bases) : Type 0 where
+pub record BasesSoFar (s : Sections) (headers : List UnitHeader) (dies : List (List Die))
+    (index : ℕ) (all : List Bases) : Type 0 where
   pub made : List CompilationUnit
   pub bases_are : all ≡ map bases_of made
-  pub read : made_front made (each_from (unit_for s) made (drop index (zip headers dies))) ≡ all_units s headers dies
+  pub read : made_front made (each_from (unit_for s) made (drop index (zip headers dies)))
+      ≡ all_units s headers dies
 
 no_front : {Y : Type 0} (r : Result (List Y) At) → made_front [] r ≡ r
 no_front (Ok x) = refl
 no_front (Err e) = refl
 
-pub bases_none : (s : Sections) (headers : List UnitHeader) (dies : List (List Die)) → BasesSoFar s headers dies 0 []
-bases_none s headers dies = record { made = []; bases_are = refl; read = no_front (all_units s headers dies) }
+pub bases_none : (s : Sections) (headers : List UnitHeader) (dies : List (List Die))
+    → BasesSoFar s headers dies 0 []
+bases_none s headers dies = record {
+  made = [];
+  bases_are = refl;
+  read =
+      no_front (all_units s headers dies);
+}
 
 -- the unit of the program at an index, and the header and entries that it was kept of
-record Kept (units : List UnitEntries) (headers : List UnitHeader) (dies : List (List Die)) (index : ℕ) (unit : UnitEntries) : Type 0 where
+record Kept (units : List UnitEntries) (headers : List UnitHeader) (dies : List (List Die))
+    (index : ℕ) (unit : UnitEntries) : Type 0 where
   pub header : UnitHeader
   pub unit_dies : List Die
-  pub rest : drop index (zip headers dies) ≡ (header, unit_dies) ∷ drop (index + 1) (zip headers dies)
+  pub rest : drop index (zip headers dies) ≡ (header, unit_dies)
+      ∷ drop (index + 1) (zip headers dies)
   pub header_is : unit.header ≡ header
   pub root_is : unit.root ≡ root_in unit_dies
 
-kept_at : (units : List UnitEntries) (headers : List UnitHeader) (dies : List (List Die)) (index : ℕ) (unit : UnitEntries) → map kept_of units ≡ kept_units headers dies → index < length units → unit ≡ get_or units index unit → Kept units headers dies index unit
+kept_at : (units : List UnitEntries) (headers : List UnitHeader) (dies : List (List Die))
+    (index : ℕ) (unit : UnitEntries) → map kept_of units ≡ kept_units headers dies
+    → index < length units → unit ≡ get_or units index unit → Kept units headers dies index unit
 kept_at units headers dies index unit same within is =
     let e : UnitHeader × List Die = (unit.header, []) in
     let p : UnitHeader × List Die = get_or (zip headers dies) index e in
     let f : UnitHeader × List Die → KeptUnit = λ p. kept_unit p.0 p.1 in
-    let sizes : length units ≡ length (zip headers dies) = sym (length-map units kept_of) ∙ (ap (λ (us : List KeptUnit). length us) same ∙ length-map (zip headers dies) f) in
+    let sizes : length units ≡ length (zip headers dies) = sym (length-map units kept_of)
+    ∙ (ap (λ (us : List KeptUnit). length us) same ∙ length-map (zip headers dies) f) in
     let inside : index < length (zip headers dies) = omega (arith, sizes, within) in
     let here : kept_of unit ≡ f p =
-    ap kept_of is ∙ (sym (get_or-map kept_of units index unit (kept_of unit) within) ∙ (ap (λ (us : List KeptUnit). get_or us index (kept_of unit)) same ∙ get_or-map f (zip headers dies) index e (kept_of unit) inside)) in
+    ap kept_of is ∙ (sym (get_or-map kept_of units index unit (kept_of unit) within)
+    ∙ (ap (λ (us : List KeptUnit). get_or us index (kept_of unit)) same
+    ∙ get_or-map f (zip headers dies) index e (kept_of unit) inside)) in
     record {
       header = p.0;
       unit_dies = p.1;
@@ -69,48 +88,85 @@ kept_at units headers dies index unit same within is =
     }
 
 -- what the root of that unit tells
-read_at : (s : Sections) (units : List UnitEntries) (headers : List UnitHeader) (dies : List (List Die)) (index : ℕ) (unit : UnitEntries) (kept : Kept units headers dies index unit) →
-    unit_of s kept.header kept.unit_dies ≡ (bases_in s unit.header.format unit.root >>= λ bases. Ok (with_bases kept.header kept.unit_dies bases))
-read_at s units headers dies index unit kept = rw (kept.header_is, kept.root_is) (unit_of-is s kept.header kept.unit_dies)
+read_at : (s : Sections) (units : List UnitEntries) (headers : List UnitHeader)
+    (dies : List (List Die)) (index : ℕ) (unit : UnitEntries)
+    (kept : Kept units headers dies index unit)
+    → unit_of s kept.header kept.unit_dies
+    ≡ (bases_in s unit.header.format unit.root
+    >>= λ bases. Ok (with_bases kept.header kept.unit_dies bases))
+read_at s units headers dies index unit kept =
+    rw (kept.header_is, kept.root_is) (unit_of-is s kept.header kept.unit_dies)
 
-pub bases_next : (s : Sections) (units : List UnitEntries) (headers : List UnitHeader) (dies : List (List Die)) (index : ℕ) (unit : UnitEntries) (all : List Bases) (bases : Bases) → map kept_of units ≡ kept_units headers dies → index < length units → unit ≡ get_or units index unit →
-    BasesSoFar s headers dies index all → in_section names.DebugInfo (bases_in s unit.header.format unit.root) ≡ Ok bases → BasesSoFar s headers dies (index + 1) (all ++ bases ∷ [])
+pub bases_next : (s : Sections) (units : List UnitEntries) (headers : List UnitHeader)
+    (dies : List (List Die)) (index : ℕ) (unit : UnitEntries) (all : List Bases) (bases : Bases)
+    → map kept_of units ≡ kept_units headers dies → index < length units
+    → unit ≡ get_or units index unit
+    → BasesSoFar s headers dies index all
+    → in_section names.DebugInfo (bases_in s unit.header.format unit.root) ≡ Ok bases
+    → BasesSoFar s headers dies (index + 1) (all ++ bases ∷ [])
 bases_next s units headers dies index unit all bases same within is so_far read =
     let kept = kept_at units headers dies index unit same within is in
     let whole : CompilationUnit = with_bases kept.header kept.unit_dies bases in
     let told = in_section_ok names.DebugInfo (bases_in s unit.header.format unit.root) bases read in
-    let here : unit_of s kept.header kept.unit_dies ≡ Ok whole = read_at s units headers dies index unit kept ∙ ap (λ (r : Result Bases At). r >>= λ bases. Ok (with_bases kept.header kept.unit_dies bases)) told in
+    let here : unit_of s kept.header kept.unit_dies ≡ Ok whole =
+    read_at s units headers dies index unit kept
+    ∙ ap (λ (r : Result Bases At). r
+    >>= λ bases. Ok (with_bases kept.header kept.unit_dies bases)) told in
     record {
       made = so_far.made ++ whole ∷ [];
-      bases_are = ap (λ (bs : List Bases). bs ++ bases ∷ []) so_far.bases_are ∙ sym (map-append bases_of so_far.made (whole ∷ []));
-      read = sym (each-next (unit_for s) so_far.made (kept.header, kept.unit_dies) (drop (index + 1) (zip headers dies)) whole here)
-          ∙ (ap (λ (ps : List (UnitHeader × List Die)). made_front so_far.made (each_from (unit_for s) so_far.made ps)) (sym kept.rest) ∙ so_far.read);
+      bases_are = ap (λ (bs : List Bases). bs ++ bases ∷ []) so_far.bases_are
+          ∙ sym (map-append bases_of so_far.made (whole ∷ []));
+      read = sym (each-next (unit_for s) so_far.made (kept.header, kept.unit_dies)
+          (drop (index + 1) (zip headers dies)) whole here)
+          ∙ (ap (λ (ps : List (UnitHeader × List Die)). made_front so_far.made
+          (each_from (unit_for s) so_far.made ps)) (sym kept.rest) ∙ so_far.read);
     }
 
-pub bases_end : (s : Sections) (units : List UnitEntries) (headers : List UnitHeader) (dies : List (List Die)) (index : ℕ) (all : List Bases) → map kept_of units ≡ kept_units headers dies → length units ≤ index →
-    BasesSoFar s headers dies index all → in_section names.DebugInfo (all_bases s headers dies) ≡ Ok all
+pub bases_end : (s : Sections) (units : List UnitEntries) (headers : List UnitHeader)
+    (dies : List (List Die)) (index : ℕ) (all : List Bases)
+    → map kept_of units ≡ kept_units headers dies → length units ≤ index
+    → BasesSoFar s headers dies index all → in_section names.DebugInfo (all_bases s headers dies)
+    ≡ Ok all
 bases_end s units headers dies index all same past so_far =
     let f : UnitHeader × List Die → KeptUnit = λ p. kept_unit p.0 p.1 in
-    let sizes : length units ≡ length (zip headers dies) = sym (length-map units kept_of) ∙ (ap (λ (us : List KeptUnit). length us) same ∙ length-map (zip headers dies) f) in
-    let none : drop index (zip headers dies) ≡ [] = drop_all index (zip headers dies) (omega (arith, sizes, past)) in
+    let sizes : length units ≡ length (zip headers dies) = sym (length-map units kept_of)
+    ∙ (ap (λ (us : List KeptUnit). length us) same ∙ length-map (zip headers dies) f) in
+    let none : drop index (zip headers dies) ≡ [] =
+    drop_all index (zip headers dies) (omega (arith, sizes, past)) in
     let units_are : all_units s headers dies ≡ Ok so_far.made =
-    sym so_far.read ∙ (ap (λ (ps : List (UnitHeader × List Die)). made_front so_far.made (each_from (unit_for s) so_far.made ps)) none ∙ each-end (unit_for s) so_far.made) in
+    sym so_far.read ∙ (ap (λ (ps : List (UnitHeader × List Die)). made_front so_far.made
+    (each_from (unit_for s) so_far.made ps)) none ∙ each-end (unit_for s) so_far.made) in
     rw units_are (ap (λ (bs : List Bases). Ok bs) (sym so_far.bases_are))
 
-pub bases_fault : (s : Sections) (units : List UnitEntries) (headers : List UnitHeader) (dies : List (List Die)) (index : ℕ) (unit : UnitEntries) (all : List Bases) (fault : LoadFault) → map kept_of units ≡ kept_units headers dies → index < length units → unit ≡ get_or units index unit →
-    BasesSoFar s headers dies index all → (fault ≡ memory_fault) ⊎ (in_section names.DebugInfo (bases_in s unit.header.format unit.root) ≡ Err fault) →
-    (fault ≡ memory_fault) ⊎ (in_section names.DebugInfo (all_bases s headers dies) ≡ Err fault)
-bases_fault s units headers dies index unit all fault same within here_is so_far (inl memory) = inl memory
-bases_fault s units headers dies index unit all fault same within here_is so_far (inr bad) = inr (by_read (bases_in s unit.header.format unit.root) refl bad)
+pub bases_fault : (s : Sections) (units : List UnitEntries) (headers : List UnitHeader)
+    (dies : List (List Die)) (index : ℕ) (unit : UnitEntries) (all : List Bases) (fault : LoadFault)
+    → map kept_of units ≡ kept_units headers dies → index < length units
+    → unit ≡ get_or units index unit
+    → BasesSoFar s headers dies index all
+    → (fault ≡ memory_fault) ⊎ (in_section names.DebugInfo (bases_in s unit.header.format unit.root)
+    ≡ Err fault)
+    → (fault ≡ memory_fault) ⊎ (in_section names.DebugInfo (all_bases s headers dies) ≡ Err fault)
+bases_fault s units headers dies index unit all fault same within here_is so_far (inl memory) =
+    inl memory
+bases_fault s units headers dies index unit all fault same within here_is so_far (inr bad) =
+    inr (by_read (bases_in s unit.header.format unit.root) refl bad)
   where
-    by_read : (r : Result Bases At) → bases_in s unit.header.format unit.root ≡ r → in_section names.DebugInfo r ≡ Err fault → in_section names.DebugInfo (all_bases s headers dies) ≡ Err fault
+    by_read : (r : Result Bases At) → bases_in s unit.header.format unit.root ≡ r
+        → in_section names.DebugInfo r ≡ Err fault
+        → in_section names.DebugInfo (all_bases s headers dies) ≡ Err fault
     by_read (Ok x) is h = cc
     by_read (Err e) is h =
         let kept = kept_at units headers dies index unit same within here_is in
-        let here : unit_of s kept.header kept.unit_dies ≡ Err e = read_at s units headers dies index unit kept ∙ ap (λ (r : Result Bases At). r >>= λ bases. Ok (with_bases kept.header kept.unit_dies bases)) is in
+        let here : unit_of s kept.header kept.unit_dies ≡ Err e =
+        read_at s units headers dies index unit kept
+        ∙ ap (λ (r : Result Bases At). r
+        >>= λ bases. Ok (with_bases kept.header kept.unit_dies bases)) is in
         let units_are : all_units s headers dies ≡ Err e =
-        sym so_far.read ∙ (ap (λ (ps : List (UnitHeader × List Die)). made_front so_far.made (each_from (unit_for s) so_far.made ps)) kept.rest ∙ each-fault (unit_for s) so_far.made (kept.header, kept.unit_dies) (drop (index + 1) (zip headers dies)) e here) in
+        sym so_far.read ∙ (ap (λ (ps : List (UnitHeader × List Die)). made_front so_far.made
+        (each_from (unit_for s) so_far.made ps)) kept.rest ∙ each-fault (unit_for s) so_far.made
+        (kept.header, kept.unit_dies) (drop (index + 1) (zip headers dies)) e here) in
         rw units_are (ap (λ (f : LoadFault). Err f) (same_fault h))
       where
-        same_fault : {x y : LoadFault} → (let f : LoadFault → Result Bases LoadFault = λ z. Err z in f x ≡ f y) → x ≡ y
+        same_fault : {x y : LoadFault} → (let f : LoadFault → Result Bases LoadFault = λ z. Err z in
+            f x ≡ f y) → x ≡ y
         same_fault h = cc

@@ -1,14 +1,15 @@
 -- The turns of the pass over the entries of all units.
-use Rattle.std.proofs.Common.{◌≡◌, ℕ, ◌+◌, ◌<◌, ◌≤◌, ◌⊎◌, inl, inr, List, [], ◌∷◌, ◌++◌, length, drop, get_or, refl, ap, sym, ◌∙◌, subst, arith, drop-cons, add-one, length-append, append-nil, append_assoc}
+use Rattle.std.proofs.Common.{◌≡◌, ℕ, ◌+◌, ◌<◌, ◌≤◌, List, [], ◌∷◌, ◌++◌, length, drop, get_or}
+use Rattle.std.proofs.Common.{refl, ap, sym, ◌∙◌, subst, arith, drop-cons, add-one, length-append}
+use Rattle.std.proofs.Common.{append-nil, append_assoc}
 use Rattle.std.specs.Prelude.{Result, Ok, Err, zip}
 use Rattle.std.proofs.lemmas.List.{drop_all}
 use Rattle.std.proofs.lemmas.Slice.Zip.{length-zip, get_or-zip}
 use Rattle.dwarf_bytes.specs.declared.fault.Section.TheVariants as names
-use Rattle.dwarf_bytes.specs.declared.fault.LoadFault.{LoadFault}
 use Rattle.dwarf_bytes.specs.Bind.{◌>>=◌}
 use Rattle.dwarf_bytes.specs.Items.{At, each_from}
-use Rattle.dwarf_bytes.specs.Refusals.{memory_fault, in_section}
-use Rattle.dwarf_bytes.proofs.EachLaws.{made_front, each-next, each-fault, each-end}
+use Rattle.dwarf_bytes.specs.Refusals.{in_section}
+use Rattle.dwarf_bytes.proofs.EachLaws.{made_front, each-next, each-end}
 use Rattle.dwarf_forms.specs.Declarations.{Declaration}
 use Rattle.dwarf_forms.specs.Tables.{declarations_of}
 use Rattle.dwarf_units.specs.declared.unit_headers.UnitHeader.{UnitHeader}
@@ -19,21 +20,24 @@ use Rattle.dwarf_walk.specs.declared.marks.Marks.{Marks}
 use Rattle.dwarf_walk.specs.Private.Marks.{AddsMarks, offsets_of}
 use Rattle.dwarf_entries.specs.Private.Walked.{all_offsets}
 use Rattle.dwarf_entries.specs.Private.Passes.{all_entries, kept_units, all_kept}
-use Rattle.dwarf_bytes.proofs.Moves.{same_ok}
 use Rattle.dwarf_walk.proofs.MarkLaws.{adds-none, adds-more}
 use Rattle.dwarf_bytes.proofs.EachPlaces.{each-length}
 use Rattle.dwarf_units.proofs.TableLaws.{table_for, table_is, in_section_ok}
 
-abbrev pub entries_for : List ℕ → List (List Die) → UnitHeader × List Declaration → Result (List Die) At
+abbrev pub entries_for : List ℕ → List (List Die) → UnitHeader × List Declaration
+    → Result (List Die) At
 entries_for info before p = entries_of info p.0 p.1
 
 -- the entries of the units before the index, and what is kept of them
-pub record EntriesSoFar (info : List ℕ) (headers : List UnitHeader) (tables : List (List Declaration)) (marks marked : Marks) (index : ℕ) (kept : List KeptUnit) : Type 0 where
+pub record EntriesSoFar (info : List ℕ) (headers : List UnitHeader)
+    (tables : List (List Declaration)) (marks marked : Marks) (index : ℕ)
+    (kept : List KeptUnit) : Type 0 where
   pub made : List (List Die)
   pub len : length made ≡ index
   pub marked_so : AddsMarks marks marked (all_offsets made)
   pub kept_are : kept ≡ kept_units headers made
-  pub read : made_front made (each_from (entries_for info) made (drop index (zip headers tables))) ≡ all_entries info headers tables
+  pub read : made_front made (each_from (entries_for info) made (drop index (zip headers tables)))
+      ≡ all_entries info headers tables
 
 no_front : {Y : Type 0} (r : Result (List Y) At) → made_front [] r ≡ r
 no_front (Ok x) = refl
@@ -43,124 +47,124 @@ kept_none : (headers : List UnitHeader) → [] ≡ kept_units headers []
 kept_none [] = refl
 kept_none (header ∷ headers) = refl
 
-pub entries_none : (info : List ℕ) (headers : List UnitHeader) (tables : List (List Declaration)) (marks : Marks) → EntriesSoFar info headers tables marks marks 0 []
-entries_none info headers tables marks = record { made = []; len = refl; marked_so = adds-none marks; kept_are = kept_none headers; read = no_front (all_entries info headers tables) }
+pub entries_none : (info : List ℕ) (headers : List UnitHeader) (tables : List (List Declaration))
+    (marks : Marks) → EntriesSoFar info headers tables marks marks 0 []
+entries_none info headers tables marks =
+    record {
+      made = [];
+      len = refl;
+      marked_so = adds-none marks;
+      kept_are = kept_none headers;
+      read = no_front (all_entries info headers tables);
+    }
 
 -- one more unit behind those that are kept
-kept_more : (headers : List UnitHeader) (made : List (List Die)) (d : UnitHeader) (dies : List Die) → length made < length headers →
-    kept_units headers (made ++ dies ∷ []) ≡ kept_units headers made ++ kept_unit (get_or headers (length made) d) dies ∷ []
+kept_more : (headers : List UnitHeader) (made : List (List Die)) (d : UnitHeader) (dies : List Die)
+    → length made < length headers
+    → kept_units headers (made ++ dies ∷ []) ≡ kept_units headers made
+    ++ kept_unit (get_or headers (length made) d) dies ∷ []
 kept_more [] made d dies within = absurd (omega (arith, within))
 kept_more (header ∷ []) [] d dies within = refl
 kept_more (header ∷ next ∷ headers) [] d dies within = refl
-kept_more (header ∷ headers) (first ∷ made) d dies within = ap (λ (us : List KeptUnit). kept_unit header first ∷ us) (kept_more headers made d dies (omega (arith, within)))
+kept_more (header ∷ headers) (first ∷ made) d dies within =
+    ap (λ (us : List KeptUnit). kept_unit header first ∷ us)
+    (kept_more headers made d dies (omega (arith, within)))
 
 -- the places of the entries of one more unit
-offsets_more : (made : List (List Die)) (dies : List Die) → all_offsets made ++ offsets_of dies ≡ all_offsets (made ++ dies ∷ [])
+offsets_more : (made : List (List Die)) (dies : List Die) → all_offsets made ++ offsets_of dies
+    ≡ all_offsets (made ++ dies ∷ [])
 offsets_more [] dies = sym (append-nil (offsets_of dies))
-offsets_more (first ∷ made) dies = append_assoc (offsets_of first) (all_offsets made) (offsets_of dies) ∙ ap (λ (places : List ℕ). offsets_of first ++ places) (offsets_more made dies)
+offsets_more (first ∷ made) dies = append_assoc (offsets_of first) (all_offsets made)
+    (offsets_of dies) ∙ ap (λ (places : List ℕ). offsets_of first ++ places)
+    (offsets_more made dies)
 
-pub entries_next : (info section : List ℕ) (headers : List UnitHeader) (tables : List (List Declaration)) (marks marked after : Marks) (index : ℕ) (kept : List KeptUnit) (d : UnitHeader) (table : List Declaration) (unit : KeptUnit) →
-    EntriesSoFar info headers tables marks marked index kept → tables_of section headers ≡ Ok tables → index < length headers →
-    in_section names.DebugAbbrev (declarations_of declarations_limit section (get_or headers index d).abbreviations) ≡ Ok table →
-    in_section names.DebugInfo (kept_entries info (get_or headers index d) table) ≡ Ok unit →
-    ((dies : List Die) → entries_of info (get_or headers index d) table ≡ Ok dies → AddsMarks marked after (offsets_of dies)) → EntriesSoFar info headers tables marks after (index + 1) (kept ++ unit ∷ [])
+pub entries_next : (info section : List ℕ) (headers : List UnitHeader)
+    (tables : List (List Declaration)) (marks marked after : Marks) (index : ℕ)
+    (kept : List KeptUnit) (d : UnitHeader) (table : List Declaration) (unit : KeptUnit)
+    → EntriesSoFar info headers tables marks marked index kept
+    → tables_of section headers ≡ Ok tables → index < length headers
+    → in_section names.DebugAbbrev (declarations_of declarations_limit section
+    (get_or headers index d).abbreviations) ≡ Ok table
+    → in_section names.DebugInfo (kept_entries info (get_or headers index d) table) ≡ Ok unit
+    → ((dies : List Die) → entries_of info (get_or headers index d) table ≡ Ok dies
+    → AddsMarks marked after (offsets_of dies))
+    → EntriesSoFar info headers tables marks after (index + 1) (kept ++ unit ∷ [])
 unfolding tables_of
-entries_next info section headers tables marks marked after index kept d table unit so_far all within table_read unit_read adds =
+entries_next info section headers tables marks marked after index kept d table unit so_far all
+    within table_read unit_read adds =
     let header = get_or headers index d in
     let read = table_is section headers tables index d all within in
-    let same : get_or tables index [] ≡ table = same_ok_list (sym read ∙ in_section_ok names.DebugAbbrev (declarations_of declarations_limit section header.abbreviations) table table_read) in
-    by_dies (entries_of info header table) refl (in_section_ok names.DebugInfo (kept_entries info header table) unit unit_read) same
+    let same : get_or tables index [] ≡ table =
+    same_ok_list (sym read ∙ in_section_ok names.DebugAbbrev
+    (declarations_of declarations_limit section header.abbreviations) table table_read) in
+    by_dies (entries_of info header table) refl
+    (in_section_ok names.DebugInfo (kept_entries info header table) unit unit_read) same
   where
-    same_ok_list : {x y : List Declaration} → (let f : List Declaration → Result (List Declaration) At = λ z. Ok z in f x ≡ f y) → x ≡ y
+    same_ok_list : {x y : List Declaration}
+        → (let f : List Declaration → Result (List Declaration) At = λ z. Ok z in f x ≡ f y) → x ≡ y
     same_ok_list h = cc
 
-    by_dies : (r : Result (List Die) At) → entries_of info (get_or headers index d) table ≡ r → (r >>= λ dies. Ok (kept_unit (get_or headers index d) dies)) ≡ Ok unit → get_or tables index [] ≡ table →
-        EntriesSoFar info headers tables marks after (index + 1) (kept ++ unit ∷ [])
+    by_dies : (r : Result (List Die) At) → entries_of info (get_or headers index d) table ≡ r
+        → (r >>= λ dies. Ok (kept_unit (get_or headers index d) dies)) ≡ Ok unit
+        → get_or tables index [] ≡ table
+        → EntriesSoFar info headers tables marks after (index + 1) (kept ++ unit ∷ [])
     by_dies (Err e) is h same = cc
     by_dies (Ok dies) is h same =
         let made = so_far.made in
         let header = get_or headers index d in
-        let here : entries_for info made (header, get_or tables index []) ≡ Ok dies = ap (λ (t : List Declaration). entries_of info header t) same ∙ is in
-        let sizes : length tables ≡ length headers = each-length (table_for section) [] headers tables all in
+        let here : entries_for info made (header, get_or tables index []) ≡ Ok dies =
+        ap (λ (t : List Declaration). entries_of info header t) same ∙ is in
+        let sizes : length tables ≡ length headers =
+        each-length (table_for section) [] headers tables all in
         let inside : index < length tables = omega (arith, sizes, within) in
-        let pair : get_or (zip headers tables) index (d, []) ≡ (header, get_or tables index []) = get_or-zip headers tables index (d, []) within inside in
-        let zipped : index < length (zip headers tables) = subst (λ (n : ℕ). index < n) (sym (length-zip headers tables)) (omega (arith, within, inside)) in
-        let rest : drop index (zip headers tables) ≡ (header, get_or tables index []) ∷ drop (index + 1) (zip headers tables) = rw (add-one, drop-cons (zip headers tables) index (d, []) zipped, pair) refl in
-        let more : kept_units headers (made ++ dies ∷ []) ≡ kept_units headers made ++ kept_unit header dies ∷ [] =
-        subst (λ (k : ℕ). kept_units headers (made ++ dies ∷ []) ≡ kept_units headers made ++ kept_unit (get_or headers k d) dies ∷ []) so_far.len (kept_more headers made d dies (omega (arith, so_far.len, within))) in
+        let pair : get_or (zip headers tables) index (d, []) ≡ (header, get_or tables index []) =
+        get_or-zip headers tables index (d, []) within inside in
+        let zipped : index < length (zip headers tables) =
+        subst (λ (n : ℕ). index < n) (sym (length-zip headers tables))
+        (omega (arith, within, inside)) in
+        let rest : drop index (zip headers tables) ≡ (header, get_or tables index [])
+        ∷ drop (index + 1) (zip headers tables) =
+        rw (add-one, drop-cons (zip headers tables) index (d, []) zipped, pair) refl in
+        let more : kept_units headers (made ++ dies ∷ []) ≡ kept_units headers made
+        ++ kept_unit header dies ∷ [] =
+        subst (λ (k : ℕ). kept_units headers (made ++ dies ∷ []) ≡ kept_units headers made
+        ++ kept_unit (get_or headers k d) dies ∷ []) so_far.len
+        (kept_more headers made d dies (omega (arith, so_far.len, within))) in
         record {
           made = made ++ dies ∷ [];
           len = omega (arith, so_far.len, length-append made (dies ∷ []));
-          marked_so = subst (λ (places : List ℕ). AddsMarks marks after places) (offsets_more made dies) (adds-more marks marked after (all_offsets made) (offsets_of dies) so_far.marked_so (adds dies is));
-          kept_are = ap (λ (us : List KeptUnit). us ++ unit ∷ []) so_far.kept_are ∙ (ap (λ (u : KeptUnit). kept_units headers made ++ u ∷ []) (sym (same_unit h)) ∙ sym more);
-          read = sym (each-next (entries_for info) made (header, get_or tables index []) (drop (index + 1) (zip headers tables)) dies here)
-              ∙ (ap (λ (ps : List (UnitHeader × List Declaration)). made_front made (each_from (entries_for info) made ps)) (sym rest) ∙ so_far.read);
+          marked_so = subst (λ (places : List ℕ). AddsMarks marks after places)
+              (offsets_more made dies) (adds-more marks marked after (all_offsets made)
+              (offsets_of dies) so_far.marked_so (adds dies is));
+          kept_are = ap (λ (us : List KeptUnit). us ++ unit ∷ []) so_far.kept_are
+              ∙ (ap (λ (u : KeptUnit). kept_units headers made ++ u ∷ []) (sym (same_unit h))
+              ∙ sym more);
+          read = sym (each-next (entries_for info) made (header, get_or tables index [])
+              (drop (index + 1) (zip headers tables)) dies here)
+              ∙ (ap (λ (ps : List (UnitHeader × List Declaration)). made_front made
+              (each_from (entries_for info) made ps)) (sym rest) ∙ so_far.read);
         }
       where
-        same_unit : {x y : KeptUnit} → (let f : KeptUnit → Result KeptUnit At = λ z. Ok z in f x ≡ f y) → x ≡ y
+        same_unit : {x y : KeptUnit} → (let f : KeptUnit → Result KeptUnit At = λ z. Ok z in
+            f x ≡ f y) → x ≡ y
         same_unit h = cc
 
-entries_made : (info : List ℕ) (headers : List UnitHeader) (tables : List (List Declaration)) (marks marked : Marks) (index : ℕ) (kept : List KeptUnit) →
-    (so_far : EntriesSoFar info headers tables marks marked index kept) → length headers ≤ index → all_entries info headers tables ≡ Ok so_far.made
+pub entries_made : (info : List ℕ) (headers : List UnitHeader) (tables : List (List Declaration))
+    (marks marked : Marks) (index : ℕ) (kept : List KeptUnit)
+    → (so_far : EntriesSoFar info headers tables marks marked index kept) → length headers ≤ index
+    → all_entries info headers tables ≡ Ok so_far.made
 entries_made info headers tables marks marked index kept so_far past =
     let made = so_far.made in
-    let none : drop index (zip headers tables) ≡ [] = drop_all index (zip headers tables) (subst (λ (n : ℕ). n ≤ index) (sym (length-zip headers tables)) (omega (arith, past))) in
-    sym so_far.read ∙ (ap (λ (ps : List (UnitHeader × List Declaration)). made_front made (each_from (entries_for info) made ps)) none ∙ each-end (entries_for info) made)
+    let none : drop index (zip headers tables) ≡ [] =
+    drop_all index (zip headers tables)
+    (subst (λ (n : ℕ). n ≤ index) (sym (length-zip headers tables)) (omega (arith, past))) in
+    sym so_far.read ∙ (ap (λ (ps : List (UnitHeader × List Declaration)). made_front made
+    (each_from (entries_for info) made ps)) none ∙ each-end (entries_for info) made)
 
-pub entries_end : (info : List ℕ) (headers : List UnitHeader) (tables : List (List Declaration)) (marks marked : Marks) (index : ℕ) (kept : List KeptUnit) →
-    EntriesSoFar info headers tables marks marked index kept → length headers ≤ index → in_section names.DebugInfo (all_kept info headers tables) ≡ Ok kept
+pub entries_end : (info : List ℕ) (headers : List UnitHeader) (tables : List (List Declaration))
+    (marks marked : Marks) (index : ℕ) (kept : List KeptUnit)
+    → EntriesSoFar info headers tables marks marked index kept → length headers ≤ index
+    → in_section names.DebugInfo (all_kept info headers tables) ≡ Ok kept
 entries_end info headers tables marks marked index kept so_far past =
-    rw (entries_made info headers tables marks marked index kept so_far past) (ap (λ (us : List KeptUnit). Ok us) (sym so_far.kept_are))
-
--- all entries are marked
-pub entries_marked : (info : List ℕ) (headers : List UnitHeader) (tables : List (List Declaration)) (marks marked : Marks) (index : ℕ) (kept : List KeptUnit) →
-    EntriesSoFar info headers tables marks marked index kept → length headers ≤ index → (dies : List (List Die)) → all_entries info headers tables ≡ Ok dies → AddsMarks marks marked (all_offsets dies)
-entries_marked info headers tables marks marked index kept so_far past dies is =
-    subst (λ (all : List (List Die)). AddsMarks marks marked (all_offsets all)) (same_ok so_far.made dies (sym (entries_made info headers tables marks marked index kept so_far past) ∙ is)) so_far.marked_so
-
--- a table that was good is read again, unless memory ran out
-pub entries_table_fault : (info section : List ℕ) (headers : List UnitHeader) (tables : List (List Declaration)) (marks marked : Marks) (index : ℕ) (kept : List KeptUnit) (d : UnitHeader) (fault : LoadFault) →
-    EntriesSoFar info headers tables marks marked index kept → tables_of section headers ≡ Ok tables → index < length headers →
-    (fault ≡ memory_fault) ⊎ (in_section names.DebugAbbrev (declarations_of declarations_limit section (get_or headers index d).abbreviations) ≡ Err fault) → fault ≡ memory_fault
-entries_table_fault info section headers tables marks marked index kept d fault so_far all within (inl memory) = memory
-entries_table_fault info section headers tables marks marked index kept d fault so_far all within (inr bad) =
-    let read = table_is section headers tables index d all within in
-    absurd (never (sym (ap (λ (r : Result (List Declaration) At). in_section names.DebugAbbrev r) read) ∙ bad))
-  where
-    never : {x : List Declaration} → (let f : List Declaration → Result (List Declaration) LoadFault = λ z. Ok z in f x ≡ Err fault) → ⊥
-    never h = cc
-
-pub entries_fault : (info section : List ℕ) (headers : List UnitHeader) (tables : List (List Declaration)) (marks marked : Marks) (index : ℕ) (kept : List KeptUnit) (d : UnitHeader) (table : List Declaration) (fault : LoadFault) →
-    EntriesSoFar info headers tables marks marked index kept → tables_of section headers ≡ Ok tables → index < length headers →
-    in_section names.DebugAbbrev (declarations_of declarations_limit section (get_or headers index d).abbreviations) ≡ Ok table →
-    (fault ≡ memory_fault) ⊎ (in_section names.DebugInfo (kept_entries info (get_or headers index d) table) ≡ Err fault) →
-    (fault ≡ memory_fault) ⊎ (in_section names.DebugInfo (all_kept info headers tables) ≡ Err fault)
-unfolding tables_of
-entries_fault info section headers tables marks marked index kept d table fault so_far all within table_read (inl memory) = inl memory
-entries_fault info section headers tables marks marked index kept d table fault so_far all within table_read (inr bad) =
-    let header = get_or headers index d in
-    let read = table_is section headers tables index d all within in
-    let same : get_or tables index [] ≡ table = same_table (sym read ∙ in_section_ok names.DebugAbbrev (declarations_of declarations_limit section header.abbreviations) table table_read) in
-    inr (by_dies (entries_of info header table) refl bad same)
-  where
-    same_table : {x y : List Declaration} → (let f : List Declaration → Result (List Declaration) At = λ z. Ok z in f x ≡ f y) → x ≡ y
-    same_table h = cc
-
-    by_dies : (r : Result (List Die) At) → entries_of info (get_or headers index d) table ≡ r → in_section names.DebugInfo (r >>= λ dies. Ok (kept_unit (get_or headers index d) dies)) ≡ Err fault → get_or tables index [] ≡ table →
-        in_section names.DebugInfo (all_kept info headers tables) ≡ Err fault
-    by_dies (Ok dies) is h same = cc
-    by_dies (Err e) is h same =
-        let made = so_far.made in
-        let header = get_or headers index d in
-        let here : entries_for info made (header, get_or tables index []) ≡ Err e = ap (λ (t : List Declaration). entries_of info header t) same ∙ is in
-        let sizes : length tables ≡ length headers = each-length (table_for section) [] headers tables all in
-        let inside : index < length tables = omega (arith, sizes, within) in
-        let pair : get_or (zip headers tables) index (d, []) ≡ (header, get_or tables index []) = get_or-zip headers tables index (d, []) within inside in
-        let zipped : index < length (zip headers tables) = subst (λ (n : ℕ). index < n) (sym (length-zip headers tables)) (omega (arith, within, inside)) in
-        let rest : drop index (zip headers tables) ≡ (header, get_or tables index []) ∷ drop (index + 1) (zip headers tables) = rw (add-one, drop-cons (zip headers tables) index (d, []) zipped, pair) refl in
-        let all_are : all_entries info headers tables ≡ Err e =
-        sym so_far.read ∙ (ap (λ (ps : List (UnitHeader × List Declaration)). made_front made (each_from (entries_for info) made ps)) rest ∙ each-fault (entries_for info) made (header, get_or tables index []) (drop (index + 1) (zip headers tables)) e here) in
-        rw all_are (ap (λ (f : LoadFault). Err f) (same_fault h))
-      where
-        same_fault : {x y : LoadFault} → (let f : LoadFault → Result KeptUnit LoadFault = λ z. Err z in f x ≡ f y) → x ≡ y
-        same_fault h = cc
+    rw (entries_made info headers tables marks marked index kept so_far past)
+    (ap (λ (us : List KeptUnit). Ok us) (sym so_far.kept_are))

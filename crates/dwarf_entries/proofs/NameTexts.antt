@@ -1,11 +1,15 @@
 -- The names of scopes are texts that stand in their sections.
-use Rattle.std.proofs.Common.{◌≡◌, ℕ, ◌+◌, ◌<◌, List, [], ◌∷◌, ◌++◌, length, take, drop, map, get_or, refl, ap, sym, ◌∙◌, subst, arith, append_assoc, length-append, length-drop}
+use Rattle.std.proofs.Common.{◌≡◌, ℕ, ◌+◌, ◌<◌, List, [], ◌∷◌, ◌++◌, length, take, drop, map}
+use Rattle.std.proofs.Common.{get_or, refl, ap, sym, ◌∙◌, subst, arith, append_assoc, length-append}
+use Rattle.std.proofs.Common.{length-drop}
 use Rattle.std.specs.Prelude.{Option, Some, None, Result, Ok, Err, IfSome, All, ◌≢◌, ◌==◌}
 use Rattle.std.specs.Option.{option_map_or}
 use Rattle.std.proofs.lemmas.List.{take_at, get_or-drop}
 use Rattle.std.proofs.lemmas.List.Elements.{All-nil, All-cons}
 use Rattle.std.proofs.lemmas.Option.{slice_get-get_or}
-use Rattle.dwarf_bytes.specs.declared.constants.TheConstants.{DW_AT_LINKAGE_NAME, DW_AT_NAME, DW_FORM_LINE_STRP, DW_FORM_STRING, DW_FORM_STRP}
+use Rattle.dwarf_bytes.specs.declared.constants.TheConstants.{DW_AT_LINKAGE_NAME, DW_AT_NAME}
+use Rattle.dwarf_bytes.specs.declared.constants.TheConstants.{DW_FORM_LINE_STRP, DW_FORM_STRING}
+use Rattle.dwarf_bytes.specs.declared.constants.TheConstants.{DW_FORM_STRP}
 use Rattle.dwarf_bytes.specs.declared.fault.ReadFault.{ReadFault}
 use Rattle.dwarf_bytes.specs.declared.fault.ReadFault.TheVariants.{Unterminated}
 use Rattle.dwarf_bytes.specs.declared.fault.Section.{Section}
@@ -22,7 +26,8 @@ use Rattle.dwarf_entries.specs.declared.paths.EntryNames.{EntryNames}
 use Rattle.dwarf_entries.specs.declared.text_offset.TextOffset.{TextOffset}
 use Rattle.dwarf_walk.specs.Sections.{Sections}
 use Rattle.dwarf_entries.specs.Bases.{CompilationUnit, item_at, optional}
-use Rattle.dwarf_entries.specs.Names.{Member, path_of, text_in, text_of, first_on, name_on, names_of}
+use Rattle.dwarf_entries.specs.Names.{Member, path_of, text_in, text_of, first_on, name_on}
+use Rattle.dwarf_entries.specs.Names.{names_of}
 use Rattle.dwarf_entries.specs.Scopes.{Scope, Tree, ScopeSite, Judged, tree_of}
 use Rattle.dwarf_entries.specs.TreeLaws.{section_bytes, IsTextAt, IsTextOf}
 use Rattle.dwarf_entries.proofs.ScopeOrder.{all_sites}
@@ -30,80 +35,121 @@ use Rattle.dwarf_entries.proofs.TreeParts.{AreJudged, is-read}
 
 -- ---- a text that is found in a section
 
-found-stands : (bytes : List ℕ) (at : ℕ) (found : List ℕ) → text_at bytes at ≡ Ok found → cstr_at bytes at ≡ Ok (found, at + length found + 1)
+found-stands : (bytes : List ℕ) (at : ℕ) (found : List ℕ) → text_at bytes at ≡ Ok found
+    → cstr_at bytes at ≡ Ok (found, at + length found + 1)
 unfolding text_at cstr_at
 found-stands bytes at found h = by_front (text_front (drop at bytes)) h
   where
-    by_front : (front : Option (List ℕ)) → option_map_or (λ bytes. Ok bytes) front (Err Unterminated) ≡ Ok found → option_map_or {U = Result (List ℕ × ℕ) ReadFault} (λ bytes. Ok (bytes, at + length bytes + 1)) front (Err Unterminated) ≡ Ok (found, at + length found + 1)
+    by_front : (front : Option (List ℕ))
+        → option_map_or (λ bytes. Ok bytes) front (Err Unterminated) ≡ Ok found
+        → option_map_or {U = Result (List ℕ × ℕ) ReadFault}
+        (λ bytes. Ok (bytes, at + length bytes + 1)) front (Err Unterminated)
+        ≡ Ok (found, at + length found + 1)
     by_front None h = cc
     by_front (Some front) h = ap (λ (t : List ℕ). Ok (t, at + length t + 1)) (same_ok front found h)
 
-stands : (bytes : List ℕ) (at : ℕ) (found : List ℕ) → StandsAt IsText bytes at found (at + length found + 1) → IsTextAt bytes at
+stands : (bytes : List ℕ) (at : ℕ) (found : List ℕ)
+    → StandsAt IsText bytes at found (at + length found + 1) → IsTextAt bytes at
 stands bytes at found s =
-    let parts : drop at bytes ≡ found ++ 0 ∷ s.rest = s.parts ∙ ap (λ (t : List ℕ). t ++ s.rest) s.spelled.0 ∙ append_assoc found (0 ∷ []) s.rest in
-    let size : length (drop at bytes) ≡ length found + length (0 ∷ s.rest) = ap length parts ∙ length-append found (0 ∷ s.rest) in
+    let parts : drop at bytes ≡ found ++ 0 ∷ s.rest =
+    s.parts ∙ ap (λ (t : List ℕ). t ++ s.rest) s.spelled.0 ∙ append_assoc found (0 ∷ [])
+    s.rest in
+    let size : length (drop at bytes) ≡ length found + length (0 ∷ s.rest) =
+    ap length parts ∙ length-append found (0 ∷ s.rest) in
     let left = length-drop at bytes in
     let within : at + length found < length bytes = omega (arith, size, left) in
-    let nul : get_or bytes (at + length found) 1 ≡ 0 = sym (get_or-drop at bytes (length found) 1) ∙ ap (λ (bs : List ℕ). get_or bs (length found) 1) parts ∙ last found s.rest in
-    let text_is : take (length found) (drop at bytes) ≡ found = ap (take (length found)) parts ∙ take_at found (0 ∷ s.rest) (length found) refl in
-    (length found, slice_get-get_or bytes (at + length found) 1 within ∙ ap (λ (b : ℕ). Some b) nul, subst (λ (t : List ℕ). All (λ byte. byte ≢ 0) t) (sym text_is) s.spelled.1)
+    let nul : get_or bytes (at + length found) 1 ≡ 0 = sym (get_or-drop at bytes (length found) 1)
+    ∙ ap (λ (bs : List ℕ). get_or bs (length found) 1) parts ∙ last found s.rest in
+    let text_is : take (length found) (drop at bytes) ≡ found = ap (take (length found)) parts
+    ∙ take_at found (0 ∷ s.rest) (length found) refl in (
+      length found,
+      slice_get-get_or bytes (at + length found) 1 within ∙ ap (λ (b : ℕ). Some b) nul,
+      subst (λ (t : List ℕ). All (λ byte. byte ≢ 0) t) (sym text_is) s.spelled.1,
+    )
   where
     last : (front rest : List ℕ) → get_or (front ++ 0 ∷ rest) (length front) 1 ≡ 0
     last [] rest = refl
     last (b ∷ front) rest = last front rest
 
-text_in-stands : (s : Sections) (name : Section) (bytes : List ℕ) (at : ℕ) (found : TextOffset) → section_bytes s name ≡ bytes → text_in name bytes at ≡ Ok found → IsTextOf s found
+text_in-stands : (s : Sections) (name : Section) (bytes : List ℕ) (at : ℕ) (found : TextOffset)
+    → section_bytes s name ≡ bytes → text_in name bytes at ≡ Ok found → IsTextOf s found
 text_in-stands s name bytes at found bytes_are h =
     let begins : TextOffset = record { section = name; offset = at } in
-    after_bind (reading (text_at bytes at)) (λ _. Ok begins) found h (IsTextOf s found) (λ content content_is last.
-    let here = stands bytes at content (text_stands bytes at content (at + length content + 1) (found-stands bytes at content (reading_ok (text_at bytes at) content content_is))) in
+    after_bind (reading (text_at bytes at)) (λ _. Ok begins) found h (IsTextOf s found)
+    (λ content content_is last.
+    let here = stands bytes at content (text_stands bytes at content (at + length content + 1)
+    (found-stands bytes at content (reading_ok (text_at bytes at) content content_is))) in
     let told : IsTextOf s begins = subst (λ (bs : List ℕ). IsTextAt bs at) (sym bytes_are) here in
     subst (IsTextOf s) (same_ok begins found last) told)
 
 -- ---- the names of a scope
 
-text_of-stands : (s : Sections) (str_offsets : Option Table) (value : AttributeValue) (found : TextOffset) → text_of s str_offsets value ≡ Ok found → IsTextOf s found
+text_of-stands : (s : Sections) (str_offsets : Option Table) (value : AttributeValue)
+    (found : TextOffset) → text_of s str_offsets value ≡ Ok found → IsTextOf s found
 text_of-stands s str_offsets value found h =
     let P : Type 0 = IsTextOf s found in
-    chosen (value.form == DW_FORM_STRING) _ _ (Ok found) h P (λ _ is. text_in-stands s sections.DebugInfo s.debug_info value.number found refl is) (λ _ h1.
-    chosen (value.form == DW_FORM_STRP) _ _ (Ok found) h1 P (λ _ is. text_in-stands s sections.DebugStr s.debug_str value.number found refl is) (λ _ h2.
-    chosen (value.form == DW_FORM_LINE_STRP) _ _ (Ok found) h2 P (λ _ is. text_in-stands s sections.DebugLineStr s.debug_line_str value.number found refl is) (λ _ h3.
-    after_bind (item_at StrOffsets s.debug_str_offsets str_offsets value.number) (λ offset. text_in sections.DebugStr s.debug_str offset) found h3 P (λ offset _ last.
+    chosen (value.form == DW_FORM_STRING) _ _ (Ok found) h P
+    (λ _ is. text_in-stands s sections.DebugInfo s.debug_info value.number found refl is)
+    (λ _ h1.
+    chosen (value.form == DW_FORM_STRP) _ _ (Ok found) h1 P
+    (λ _ is. text_in-stands s sections.DebugStr s.debug_str value.number found refl is) (λ _ h2.
+    chosen (value.form == DW_FORM_LINE_STRP) _ _ (Ok found) h2 P
+    (λ _ is. text_in-stands s sections.DebugLineStr s.debug_line_str value.number found refl is)
+    (λ _ h3.
+    after_bind (item_at StrOffsets s.debug_str_offsets str_offsets value.number)
+    (λ offset. text_in sections.DebugStr s.debug_str offset) found h3 P (λ offset _ last.
     text_in-stands s sections.DebugStr s.debug_str offset found refl last))))
 
-first-stands : (s : Sections) (first : Option (CompilationUnit × AttributeValue)) (found : Option TextOffset) → optional (λ at. text_of s at.0.bases.str_offsets at.1) first ≡ Ok found → IfSome found (IsTextOf s)
-first-stands s None found h = subst (λ (o : Option TextOffset). IfSome o (IsTextOf s)) (same_ok None found h) tt
+first-stands : (s : Sections) (first : Option (CompilationUnit × AttributeValue))
+    (found : Option TextOffset) → optional (λ at. text_of s at.0.bases.str_offsets at.1) first
+    ≡ Ok found → IfSome found (IsTextOf s)
+first-stands s None found h = subst (λ (o : Option TextOffset). IfSome o (IsTextOf s))
+    (same_ok None found h) tt
 first-stands s (Some at) found h =
-    after_bind (text_of s at.0.bases.str_offsets at.1) (λ y. Ok (Some y)) found h (IfSome found (IsTextOf s)) (λ y y_is last.
-    subst (λ (o : Option TextOffset). IfSome o (IsTextOf s)) (same_ok (Some y) found last) (text_of-stands s at.0.bases.str_offsets at.1 y y_is))
+    after_bind (text_of s at.0.bases.str_offsets at.1) (λ y. Ok (Some y)) found h
+    (IfSome found (IsTextOf s)) (λ y y_is last.
+    subst (λ (o : Option TextOffset). IfSome o (IsTextOf s)) (same_ok (Some y) found last)
+    (text_of-stands s at.0.bases.str_offsets at.1 y y_is))
 
 abbrev BothStand : Sections → EntryNames → Type 0
 BothStand s found = IfSome found.name (IsTextOf s) × IfSome found.linkage_name (IsTextOf s)
 
-names-stand : (s : Sections) (units : List CompilationUnit) (m : Member) (found : EntryNames) → names_of s units m ≡ Ok found → BothStand s found
+names-stand : (s : Sections) (units : List CompilationUnit) (m : Member) (found : EntryNames)
+    → names_of s units m ≡ Ok found → BothStand s found
 names-stand s units m found h =
     after_bind (path_of units m) _ found h (BothStand s found) (λ path _ h1.
     after_bind (name_on DW_AT_NAME s path) _ found h1 (BothStand s found) (λ name name_is h2.
-    after_bind (name_on DW_AT_LINKAGE_NAME s path) _ found h2 (BothStand s found) (λ linkage_name linkage_is last.
-    subst (BothStand s) (same_ok (record { name = name; linkage_name = linkage_name }) found last)
-    (first-stands s (first_on DW_AT_NAME path) name name_is, first-stands s (first_on DW_AT_LINKAGE_NAME path) linkage_name linkage_is))))
+    after_bind (name_on DW_AT_LINKAGE_NAME s path) _ found h2 (BothStand s found)
+    (λ linkage_name linkage_is last.
+    subst (BothStand s) (same_ok (record { name = name; linkage_name = linkage_name }) found last) (
+      first-stands s (first_on DW_AT_NAME path) name name_is,
+      first-stands s (first_on DW_AT_LINKAGE_NAME path) linkage_name linkage_is,
+    ))))
 
 abbrev HasTexts : Sections → Scope → Type 0
 HasTexts s scope = IfSome scope.name (IsTextOf s) × IfSome scope.linkage_name (IsTextOf s)
 
-have-texts : (s : Sections) (units : List CompilationUnit) (before : List Judged) (ps : List ScopeSite) (js : List Judged) → AreJudged s units before ps js → All (HasTexts s) (map (λ j. j.scope) js)
+have-texts : (s : Sections) (units : List CompilationUnit) (before : List Judged)
+    (ps : List ScopeSite) (js : List Judged) → AreJudged s units before ps js
+    → All (HasTexts s) (map (λ j. j.scope) js)
 have-texts s units before [] [] h = All-nil (HasTexts s)
 have-texts s units before [] (j ∷ js) h = absurd h
 have-texts s units before (p ∷ ps) [] h = absurd h
 have-texts s units before (p ∷ ps) (j ∷ js) h =
     let texts = names-stand s units p.member h.0.found h.0.found_are in
-    All-cons (HasTexts s) j.scope (map (λ j. j.scope) js) (subst (λ (x : Judged). HasTexts s x.scope) h.0.is texts) (have-texts s units (before ++ j ∷ []) ps js h.1)
+    All-cons (HasTexts s) j.scope (map (λ j. j.scope) js)
+    (subst (λ (x : Judged). HasTexts s x.scope) h.0.is texts)
+    (have-texts s units (before ++ j ∷ []) ps js h.1)
 
 all-texts : (s : Sections) (tree : Tree) → tree_of s ≡ Ok tree → All (HasTexts s) tree.scopes
-all-texts s tree h = let read = is-read s tree h in subst (λ (ss : List Scope). All (HasTexts s) ss) read.scopes_are (have-texts s read.units [] (all_sites read.units) read.judged read.judged_are)
+all-texts s tree h = let read = is-read s tree h in
+    subst (λ (ss : List Scope). All (HasTexts s) ss) read.scopes_are
+    (have-texts s read.units [] (all_sites read.units) read.judged read.judged_are)
 
-pub names-are-texts : (s : Sections) (tree : Tree) → tree_of s ≡ Ok tree → All (λ (scope : Scope). IfSome scope.name (IsTextOf s)) tree.scopes
+pub names-are-texts : (s : Sections) (tree : Tree) → tree_of s ≡ Ok tree
+    → All (λ (scope : Scope). IfSome scope.name (IsTextOf s)) tree.scopes
 names-are-texts s tree h k d lt = (all-texts s tree h k d lt).0
 
-pub linkage-names-are-texts : (s : Sections) (tree : Tree) → tree_of s ≡ Ok tree → All (λ (scope : Scope). IfSome scope.linkage_name (IsTextOf s)) tree.scopes
+pub linkage-names-are-texts : (s : Sections) (tree : Tree) → tree_of s ≡ Ok tree
+    → All (λ (scope : Scope). IfSome scope.linkage_name (IsTextOf s)) tree.scopes
 linkage-names-are-texts s tree h k d lt = (all-texts s tree h k d lt).1

@@ -13,16 +13,24 @@ use Rattle.dwarf_entries.specs.Bases.{bases_by}
 use Rattle.dwarf_entries.specs.Private.Passes.{bases_in}
 
 -- a cause that is told at an item is the item's, unless memory ran out
-pub told_cases : (cause : Cause) (at : ℕ) → (told names.DebugInfo cause at ≡ memory_fault) ⊎ (told names.DebugInfo cause at ≡ record { section = names.DebugInfo; cause = cause; at = at })
+pub told_cases : (cause : Cause) (at : ℕ) → (told names.DebugInfo cause at ≡ memory_fault)
+    ⊎ (told names.DebugInfo cause at ≡ record { section = names.DebugInfo; cause = cause; at = at })
 told_cases causes.Memory at = inl refl
 told_cases cause at = inr refl
 
-pub root_fault : (s : Sections) (format : Format) (found : Option RootEntry) (root : RootEntry) (cause : Cause) (fault : LoadFault) → found ≡ Some root →
-    Err cause ≡ bases_by s format root.str_offsets_base root.addr_base root.rnglists_base root.low_pc → fault ≡ told names.DebugInfo cause root.offset →
-    (fault ≡ memory_fault) ⊎ (in_section names.DebugInfo (bases_in s format found) ≡ Err fault)
-root_fault s format found root cause fault found_is bad told_is = by_cause (told_cases cause root.offset)
+pub root_fault : (s : Sections) (format : Format) (found : Option RootEntry) (root : RootEntry)
+    (cause : Cause) (fault : LoadFault) → found ≡ Some root
+    → Err cause ≡ bases_by s format root.str_offsets_base root.addr_base root.rnglists_base
+    root.low_pc → fault ≡ told names.DebugInfo cause root.offset
+    → (fault ≡ memory_fault) ⊎ (in_section names.DebugInfo (bases_in s format found) ≡ Err fault)
+root_fault s format found root cause fault found_is bad told_is =
+    by_cause (told_cases cause root.offset)
   where
-    by_cause : (told names.DebugInfo cause root.offset ≡ memory_fault) ⊎ (told names.DebugInfo cause root.offset ≡ record { section = names.DebugInfo; cause = cause; at = root.offset }) →
-        (fault ≡ memory_fault) ⊎ (in_section names.DebugInfo (bases_in s format found) ≡ Err fault)
+    by_cause : (told names.DebugInfo cause root.offset ≡ memory_fault)
+        ⊎ (told names.DebugInfo cause root.offset
+        ≡ record { section = names.DebugInfo; cause = cause; at = root.offset })
+        → (fault ≡ memory_fault) ⊎ (in_section names.DebugInfo (bases_in s format found)
+        ≡ Err fault)
     by_cause (inl memory) = inl (told_is ∙ memory)
-    by_cause (inr itself) = inr (rw (found_is, sym bad) (ap (λ (f : LoadFault). Err f) (sym (told_is ∙ itself))))
+    by_cause (inr itself) = inr (rw (found_is, sym bad)
+        (ap (λ (f : LoadFault). Err f) (sym (told_is ∙ itself))))

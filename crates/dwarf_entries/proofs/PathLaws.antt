@@ -1,30 +1,23 @@
 -- The turns of the loop along a path, and the texts of what it kept.
-use Rattle.std.proofs.Common.{◌≡◌, inl, inr, ℕ, zero, suc, ◌+◌, List, [], ◌∷◌, ◌++◌, refl, sym, ap, ◌∙◌, subst, arith, append_assoc}
-use Rattle.std.specs.Prelude.{Option, Some, None, Result, Ok, Err, map, slice_get, option_map, ok_or}
-use Rattle.std.specs.Option.{option_or, option_and_then}
-use Rattle.std.proofs.lemmas.Option.{slice_get-map}
-use Rattle.dwarf_bytes.specs.declared.constants.TheConstants.{DW_AT_LINKAGE_NAME, DW_AT_NAME}
+use Rattle.std.proofs.Common.{◌≡◌, ℕ, zero, suc, ◌+◌, List, [], ◌∷◌, ◌++◌, refl, sym, ap, ◌∙◌}
+use Rattle.std.proofs.Common.{subst, arith, append_assoc}
+use Rattle.std.specs.Prelude.{Option, Some, None, Result, Ok, Err, slice_get, option_map, ok_or}
+use Rattle.std.specs.Option.{option_or}
 use Rattle.dwarf_bytes.specs.declared.fault.Cause.{Cause}
 use Rattle.dwarf_bytes.specs.declared.fault.Cause.TheVariants as causes
 use Rattle.dwarf_bytes.specs.Bind.{◌>>=◌}
-use Rattle.dwarf_bytes.specs.Refusals.{Fails}
 use Rattle.dwarf_units.specs.declared.attributes.AttributeValue.{AttributeValue}
-use Rattle.dwarf_entries.specs.declared.bases.Bases.{Bases}
-use Rattle.dwarf_entries.specs.declared.bases.Table.{Table}
-use Rattle.dwarf_entries.specs.declared.text_offset.TextOffset.{TextOffset}
 use Rattle.dwarf_walk.specs.declared.kept.NamedEntry.{NamedEntry}
 use Rattle.dwarf_entries.specs.declared.paths.UnitAttribute.{UnitAttribute}
 use Rattle.dwarf_entries.specs.declared.paths.UnitEntry.{UnitEntry}
 use Rattle.dwarf_entries.specs.declared.references.UnitPlace.{UnitPlace}
 use Rattle.dwarf_entries.specs.declared.paths.FirstNames.{FirstNames}
-use Rattle.dwarf_entries.specs.declared.paths.EntryNames.{EntryNames}
-use Rattle.dwarf_walk.specs.Sections.{Sections}
 use Rattle.dwarf_units.specs.Entries.{attribute}
-use Rattle.dwarf_entries.specs.Bases.{CompilationUnit, optional}
-use Rattle.dwarf_entries.specs.Names.{Member, target_of, path_within, of_member, first_on, text_of, name_on}
+use Rattle.dwarf_entries.specs.Bases.{CompilationUnit}
+use Rattle.dwarf_entries.specs.Names.{Member, target_of, path_within, of_member, first_on}
 use Rattle.dwarf_walk.specs.References.{or_else, next_of}
-use Rattle.dwarf_entries.specs.Private.KnownNames.{names_within}
-use Rattle.dwarf_entries.specs.Private.Members.{IsMember, IsPlaceOf, Finds, IsFirst, AreFirst, FindsFirst, str_offsets_of}
+use Rattle.dwarf_entries.specs.Private.Members.{IsMember, IsPlaceOf, Finds, IsFirst, AreFirst}
+use Rattle.dwarf_entries.specs.Private.Members.{FindsFirst}
 
 -- ---- the first attribute of a name
 
@@ -32,18 +25,24 @@ or_else-assoc : {X : Type 0} (a b c : Option X) → or_else a (or_else b c) ≡ 
 or_else-assoc (Some x) b c = refl
 or_else-assoc None b c = refl
 
-first_on-push : (name : ℕ) (path : List Member) (m : Member) → first_on name (path ++ m ∷ []) ≡ or_else (first_on name path) (of_member name m)
+first_on-push : (name : ℕ) (path : List Member) (m : Member) → first_on name (path ++ m ∷ [])
+    ≡ or_else (first_on name path) (of_member name m)
 first_on-push name [] m = alone (of_member name m)
   where
     alone : (o : Option (CompilationUnit × AttributeValue)) → or_else o None ≡ o
     alone (Some x) = refl
     alone None = refl
 first_on-push name (p ∷ path) m =
-    ap (λ (o : Option (CompilationUnit × AttributeValue)). or_else (of_member name p) o) (first_on-push name path m) ∙ or_else-assoc (of_member name p) (first_on name path) (of_member name m)
+    ap (λ (o : Option (CompilationUnit × AttributeValue)). or_else (of_member name p) o)
+    (first_on-push name path m) ∙ or_else-assoc (of_member name p) (first_on name path)
+    (of_member name m)
 
-is_first-more : (units : List CompilationUnit) (unit : CompilationUnit) (number : ℕ) → slice_get units number ≡ Some unit →
-    (known : Option UnitAttribute) (first : Option (CompilationUnit × AttributeValue)) (value : Option AttributeValue) → IsFirst units known first →
-    IsFirst units (option_or known (option_map (λ v. record { unit = number; value = v }) value)) (or_else first (option_map (λ v. (unit, v)) value))
+is_first-more : (units : List CompilationUnit) (unit : CompilationUnit) (number : ℕ)
+    → slice_get units number ≡ Some unit
+    → (known : Option UnitAttribute) (first : Option (CompilationUnit × AttributeValue))
+    (value : Option AttributeValue) → IsFirst units known first
+    → IsFirst units (option_or known (option_map (λ v. record { unit = number; value = v }) value))
+    (or_else first (option_map (λ v. (unit, v)) value))
 is_first-more units unit number is None None None h = tt
 is_first-more units unit number is None None (Some v) h = (is, refl)
 is_first-more units unit number is None (Some f) value h = absurd h
@@ -51,14 +50,21 @@ is_first-more units unit number is (Some k) None value h = absurd h
 is_first-more units unit number is (Some k) (Some f) value h = h
 
 -- with the attributes of one more entry
-pub first-more : (units : List CompilationUnit) (name number : ℕ) (path : List Member) (m : Member) (known : Option UnitAttribute) (value : Option AttributeValue) → slice_get units number ≡ Some m.unit → value ≡ attribute m.die name →
-    IsFirst units known (first_on name path) → (result : Option UnitAttribute) → result ≡ option_or known (option_map (λ v. record { unit = number; value = v }) value) → IsFirst units result (first_on name (path ++ m ∷ []))
+pub first-more : (units : List CompilationUnit) (name number : ℕ) (path : List Member) (m : Member)
+    (known : Option UnitAttribute) (value : Option AttributeValue)
+    → slice_get units number ≡ Some m.unit → value ≡ attribute m.die name
+    → IsFirst units known (first_on name path) → (result : Option UnitAttribute)
+    → result ≡ option_or known (option_map (λ v. record { unit = number; value = v }) value)
+    → IsFirst units result (first_on name (path ++ m ∷ []))
 first-more units name number path m known value is value_is h result result_is =
     let more = is_first-more units m.unit number is known (first_on name path) value h in
-    let pushed : or_else (first_on name path) (option_map (λ v. (m.unit, v)) value) ≡ first_on name (path ++ m ∷ []) =
-    ap (λ (o : Option AttributeValue). or_else (first_on name path) (option_map (λ v. (m.unit, v)) o)) value_is ∙ sym (first_on-push name path m) in
+    let pushed : or_else (first_on name path) (option_map (λ v. (m.unit, v)) value)
+    ≡ first_on name (path ++ m ∷ []) =
+    ap (λ (o : Option AttributeValue). or_else (first_on name path)
+    (option_map (λ v. (m.unit, v)) o)) value_is ∙ sym (first_on-push name path m) in
     subst (λ (o : Option (CompilationUnit × AttributeValue)). IsFirst units result o) pushed
-    (subst (λ (r : Option UnitAttribute). IsFirst units r (or_else (first_on name path) (option_map (λ v. (m.unit, v)) value))) (sym result_is) more)
+    (subst (λ (r : Option UnitAttribute). IsFirst units r
+    (or_else (first_on name path) (option_map (λ v. (m.unit, v)) value))) (sym result_is) more)
 
 -- ---- the loop
 
@@ -67,128 +73,145 @@ abbrev behind : List Member → Result (List Member) Cause → Result (List Memb
 behind before r = r >>= λ rest. Ok (before ++ rest)
 
 -- how far a path was followed: its entries up to the last one, and what is kept of their names
-pub record Followed (units : List CompilationUnit) (hops : ℕ) (m : Member) (left : ℕ) (found : UnitEntry) (firsts : FirstNames) : Type 0 where
+pub record Followed (units : List CompilationUnit) (hops : ℕ) (m : Member) (left : ℕ)
+    (found : UnitEntry) (firsts : FirstNames) : Type 0 where
   pub before : List Member
   pub last : Member
   pub at : IsMember units found.unit found.entry last
   pub rest : path_within hops units m ≡ behind before (path_within left units last)
   pub kept : AreFirst units firsts (before ++ last ∷ [])
 
-pub followed-none : (units : List CompilationUnit) (hops : ℕ) (m : Member) (found : UnitEntry) (firsts : FirstNames) → IsMember units found.unit found.entry m → AreFirst units firsts ([] ++ m ∷ []) → Followed units hops m hops found firsts
-followed-none units hops m found firsts at kept = record { before = []; last = m; at = at; rest = whole (path_within hops units m); kept = kept }
+pub followed-none : (units : List CompilationUnit) (hops : ℕ) (m : Member) (found : UnitEntry)
+    (firsts : FirstNames) → IsMember units found.unit found.entry m
+    → AreFirst units firsts ([] ++ m ∷ []) → Followed units hops m hops found firsts
+followed-none units hops m found firsts at kept =
+    record { before = []; last = m; at = at; rest = whole (path_within hops units m); kept = kept }
   where
     whole : (r : Result (List Member) Cause) → r ≡ behind [] r
     whole (Ok path) = refl
     whole (Err e) = refl
 
-next-is : (units : List CompilationUnit) (found : UnitEntry) (last : Member) (next : Option AttributeValue) → IsMember units found.unit found.entry last → found.entry.next ≡ next → next_of last.die ≡ next
+next-is : (units : List CompilationUnit) (found : UnitEntry) (last : Member)
+    (next : Option AttributeValue) → IsMember units found.unit found.entry last
+    → found.entry.next ≡ next → next_of last.die ≡ next
 next-is units found last next at is = sym (ap (λ (e : NamedEntry). e.next) at.entry_is) ∙ is
 
 -- a path from an entry, behind it
 abbrev pub in_front : Member → Result (List Member) Cause → Result (List Member) Cause
 in_front m r = r >>= λ rest. Ok (m ∷ rest)
 
-joined : (before : List Member) (last : Member) (r : Result (List Member) Cause) → behind before (in_front last r) ≡ behind (before ++ last ∷ []) r
-joined before last (Ok rest) = ap (λ (path : List Member). Ok path) (sym (append_assoc before (last ∷ []) rest))
+joined : (before : List Member) (last : Member) (r : Result (List Member) Cause)
+    → behind before (in_front last r) ≡ behind (before ++ last ∷ []) r
+joined before last (Ok rest) = ap (λ (path : List Member). Ok path)
+    (sym (append_assoc before (last ∷ []) rest))
 joined before last (Err e) = refl
 
 -- a path within one hop more, from an entry with a next one
-pub stepped : (units : List CompilationUnit) (after : ℕ) (last : Member) (reference : AttributeValue) → next_of last.die ≡ Some reference →
-    path_within (suc after) units last ≡ (target_of units last.unit reference >>= λ next. in_front last (path_within after units next))
+pub stepped : (units : List CompilationUnit) (after : ℕ) (last : Member)
+    (reference : AttributeValue) → next_of last.die ≡ Some reference
+    → path_within (suc after) units last
+    ≡ (target_of units last.unit reference
+    >>= λ next. in_front last (path_within after units next))
 unfolding path_within
 stepped units after last reference is = rw (is, path_within) refl
 
 -- the same behind other entries, by what the target is
-followed-on : (units : List CompilationUnit) (before : List Member) (left after : ℕ) (last : Member) (reference : AttributeValue) → after + 1 ≡ left → next_of last.die ≡ Some reference → (target : Result Member Cause) → target_of units last.unit reference ≡ target →
-    behind before (path_within left units last) ≡ behind before (target >>= λ next. in_front last (path_within after units next))
+followed-on : (units : List CompilationUnit) (before : List Member) (left after : ℕ) (last : Member)
+    (reference : AttributeValue) → after + 1 ≡ left → next_of last.die ≡ Some reference
+    → (target : Result Member Cause) → target_of units last.unit reference ≡ target
+    → behind before (path_within left units last)
+    ≡ behind before (target >>= λ next. in_front last (path_within after units next))
 followed-on units before left after last reference left_is is target target_is =
     let one : left ≡ suc after = omega (arith, left_is) in
     ap (λ (k : ℕ). behind before (path_within k units last)) one
-    ∙ (ap (λ (r : Result (List Member) Cause). behind before r) (stepped units after last reference is) ∙ ap (λ (t : Result Member Cause). behind before (t >>= λ next. in_front last (path_within after units next))) target_is)
+    ∙ (ap (λ (r : Result (List Member) Cause). behind before r)
+    (stepped units after last reference is)
+    ∙ ap (λ (t : Result Member Cause). behind before
+    (t >>= λ next. in_front last (path_within after units next))) target_is)
 
-pub ended : (units : List CompilationUnit) (left : ℕ) (last : Member) → next_of last.die ≡ None → path_within left units last ≡ Ok (last ∷ [])
+pub ended : (units : List CompilationUnit) (left : ℕ) (last : Member) → next_of last.die ≡ None
+    → path_within left units last ≡ Ok (last ∷ [])
 unfolding path_within
 ended units zero last is = rw (is, path_within) refl
 ended units (suc left) last is = rw (is, path_within) refl
 
-pub stopped : (units : List CompilationUnit) (last : Member) (reference : AttributeValue) → next_of last.die ≡ Some reference → path_within zero units last ≡ Err causes.OriginDepth
+pub stopped : (units : List CompilationUnit) (last : Member) (reference : AttributeValue)
+    → next_of last.die ≡ Some reference → path_within zero units last ≡ Err causes.OriginDepth
 unfolding path_within
 stopped units last reference is = rw (is, path_within) refl
 
-pub followed-next : (units : List CompilationUnit) (hops : ℕ) (m : Member) (left after : ℕ) (found next : UnitEntry) (place : UnitPlace) (firsts firsts_after : FirstNames) (reference : AttributeValue) → Followed units hops m left found firsts → after + 1 ≡ left → found.entry.next ≡ Some reference →
-    ((u : CompilationUnit) → slice_get units found.unit ≡ Some u → Finds units (Some place) (target_of units u reference)) → ((n : Member) → IsPlaceOf units place n → IsMember units next.unit next.entry n) →
-    ((path : List Member) (n : Member) → AreFirst units firsts path → IsMember units next.unit next.entry n → AreFirst units firsts_after (path ++ n ∷ [])) → Followed units hops m after next firsts_after
-followed-next units hops m left after found next place firsts firsts_after reference so_far left_is is finds again more =
+pub followed-next : (units : List CompilationUnit) (hops : ℕ) (m : Member) (left after : ℕ)
+    (found next : UnitEntry) (place : UnitPlace) (firsts firsts_after : FirstNames)
+    (reference : AttributeValue) → Followed units hops m left found firsts → after + 1 ≡ left
+    → found.entry.next ≡ Some reference
+    → ((u : CompilationUnit) → slice_get units found.unit ≡ Some u
+    → Finds units (Some place) (target_of units u reference))
+    → ((n : Member) → IsPlaceOf units place n → IsMember units next.unit next.entry n)
+    → ((path : List Member) (n : Member) → AreFirst units firsts path
+    → IsMember units next.unit next.entry n → AreFirst units firsts_after (path ++ n ∷ []))
+    → Followed units hops m after next firsts_after
+followed-next units hops m left after found next place firsts firsts_after reference so_far left_is
+    is finds again more =
     let to = finds so_far.last.unit so_far.at.unit_is in
     let hop = next-is units found so_far.last (Some reference) so_far.at is in
     record {
       before = so_far.before ++ so_far.last ∷ [];
       last = to.0;
       at = again to.0 to.2;
-      rest = so_far.rest ∙ (followed-on units so_far.before left after so_far.last reference left_is hop (Ok to.0) to.1 ∙ joined so_far.before so_far.last (path_within after units to.0));
+      rest = so_far.rest ∙ (followed-on units so_far.before left after so_far.last reference left_is
+          hop (Ok to.0) to.1 ∙ joined so_far.before so_far.last (path_within after units to.0));
       kept = more (so_far.before ++ so_far.last ∷ []) to.0 so_far.kept (again to.0 to.2);
     }
 
-pub followed-end : (units : List CompilationUnit) (hops : ℕ) (m : Member) (left : ℕ) (found : UnitEntry) (firsts : FirstNames) → Followed units hops m left found firsts → found.entry.next ≡ None → FindsFirst units (Ok firsts) (path_within hops units m)
+pub followed-end : (units : List CompilationUnit) (hops : ℕ) (m : Member) (left : ℕ)
+    (found : UnitEntry) (firsts : FirstNames) → Followed units hops m left found firsts
+    → found.entry.next ≡ None → FindsFirst units (Ok firsts) (path_within hops units m)
 followed-end units hops m left found firsts so_far is =
-    let last = next-is units found so_far.last None so_far.at is in
-    (so_far.before ++ so_far.last ∷ [], so_far.rest ∙ ap (λ (r : Result (List Member) Cause). behind so_far.before r) (ended units left so_far.last last), so_far.kept)
+    let last = next-is units found so_far.last None so_far.at is in (
+      so_far.before ++ so_far.last ∷ [],
+      so_far.rest
+          ∙ ap (λ (r : Result (List Member) Cause). behind so_far.before r)
+          (ended units left so_far.last last),
+      so_far.kept,
+    )
 
-pub followed-deep : (units : List CompilationUnit) (hops : ℕ) (m : Member) (left : ℕ) (found : UnitEntry) (firsts : FirstNames) (reference : AttributeValue) → Followed units hops m left found firsts → left ≡ 0 → found.entry.next ≡ Some reference → path_within hops units m ≡ Err causes.OriginDepth
+pub followed-deep : (units : List CompilationUnit) (hops : ℕ) (m : Member) (left : ℕ)
+    (found : UnitEntry) (firsts : FirstNames) (reference : AttributeValue)
+    → Followed units hops m left found firsts → left ≡ 0 → found.entry.next ≡ Some reference
+    → path_within hops units m ≡ Err causes.OriginDepth
 followed-deep units hops m left found firsts reference so_far none is =
     let hop = next-is units found so_far.last (Some reference) so_far.at is in
-    so_far.rest ∙ (ap (λ (k : ℕ). behind so_far.before (path_within k units so_far.last)) none ∙ ap (λ (r : Result (List Member) Cause). behind so_far.before r) (stopped units so_far.last reference hop))
+    so_far.rest ∙ (ap (λ (k : ℕ). behind so_far.before (path_within k units so_far.last)) none
+    ∙ ap (λ (r : Result (List Member) Cause). behind so_far.before r)
+    (stopped units so_far.last reference hop))
 
-pub followed-lost : (units : List CompilationUnit) (hops : ℕ) (m : Member) (left after : ℕ) (found : UnitEntry) (firsts : FirstNames) (reference : AttributeValue) → Followed units hops m left found firsts → after + 1 ≡ left → found.entry.next ≡ Some reference →
-    (next : Option UnitPlace) (cause : Cause) → (let refused : Result UnitPlace Cause = Err cause in refused ≡ ok_or next causes.Reference) → ((u : CompilationUnit) → slice_get units found.unit ≡ Some u → Finds units next (target_of units u reference)) → path_within hops units m ≡ Err cause
-followed-lost units hops m left after found firsts reference so_far left_is is (Some next) cause refused finds = cc
-followed-lost units hops m left after found firsts reference so_far left_is is None cause refused finds =
+pub followed-lost : (units : List CompilationUnit) (hops : ℕ) (m : Member) (left after : ℕ)
+    (found : UnitEntry) (firsts : FirstNames) (reference : AttributeValue)
+    → Followed units hops m left found firsts → after + 1 ≡ left → found.entry.next ≡ Some reference
+    → (next : Option UnitPlace) (cause : Cause)
+    → (let refused : Result UnitPlace Cause = Err cause in refused ≡ ok_or next causes.Reference)
+    → ((u : CompilationUnit) → slice_get units found.unit ≡ Some u
+    → Finds units next (target_of units u reference)) → path_within hops units m ≡ Err cause
+followed-lost units hops m left after found firsts reference so_far left_is is (Some next) cause
+    refused finds = cc
+followed-lost units hops m left after found firsts reference so_far left_is is None cause refused
+    finds =
     let lost = finds so_far.last.unit so_far.at.unit_is in
     let hop = next-is units found so_far.last (Some reference) so_far.at is in
     let same : causes.Reference ≡ cause = same_err {X = UnitPlace} cause causes.Reference refused in
-    so_far.rest ∙ (followed-on units so_far.before left after so_far.last reference left_is hop (Err causes.Reference) lost ∙ ap (λ (c : Cause). Err c) same)
+    so_far.rest ∙ (followed-on units so_far.before left after so_far.last reference left_is hop
+    (Err causes.Reference) lost ∙ ap (λ (c : Cause). Err c) same)
   where
-    same_err : {X : Type 0} (x y : Cause) → (let f : Cause → Result X Cause = λ z. Err z in f x ≡ f y) → y ≡ x
+    same_err : {X : Type 0} (x y : Cause)
+        → (let f : Cause → Result X Cause = λ z. Err z in f x ≡ f y) → y ≡ x
     same_err x y h = cc
 
 -- where the entry at the end of a hop is not read again, memory is wanting
-pub followed-again : (units : List CompilationUnit) (hops : ℕ) (m : Member) (left : ℕ) (found : UnitEntry) (place : UnitPlace) (firsts : FirstNames) (reference : AttributeValue) (cause : Cause) → Followed units hops m left found firsts →
-    ((u : CompilationUnit) → slice_get units found.unit ≡ Some u → Finds units (Some place) (target_of units u reference)) → ((n : Member) → IsPlaceOf units place n → cause ≡ causes.Memory) → cause ≡ causes.Memory
-followed-again units hops m left found place firsts reference cause so_far finds again = let to = finds so_far.last.unit so_far.at.unit_is in again to.0 to.2
-
--- ---- the texts
-
-abbrev pub text_kept : Sections → List Bases → Option UnitAttribute → Result (Option TextOffset) Cause
-text_kept s bases kept = optional (λ found. text_of s (str_offsets_of bases found.unit) found.value) kept
-
-abbrev text_first : Sections → Option (CompilationUnit × AttributeValue) → Result (Option TextOffset) Cause
-text_first s first = optional (λ found. text_of s found.0.bases.str_offsets found.1) first
-
-text-is : (s : Sections) (bases : List Bases) (units : List CompilationUnit) → bases ≡ map (λ (u : CompilationUnit). u.bases) units → (kept : Option UnitAttribute) (first : Option (CompilationUnit × AttributeValue)) → IsFirst units kept first → text_kept s bases kept ≡ text_first s first
-text-is s bases units are None None h = refl
-text-is s bases units are None (Some f) h = absurd h
-text-is s bases units are (Some k) None h = absurd h
-text-is s bases units are (Some k) (Some f) h =
-    let at : slice_get bases k.unit ≡ Some f.0.bases = ap (λ (bs : List Bases). slice_get bs k.unit) are ∙ (slice_get-map (λ (u : CompilationUnit). u.bases) units k.unit ∙ ap (λ (o : Option CompilationUnit). option_map (λ u. u.bases) o) h.0) in
-    let table : str_offsets_of bases k.unit ≡ f.0.bases.str_offsets = ap (λ (o : Option Bases). option_and_then (λ b. b.str_offsets) o) at in
-    ap (λ (t : Option Table). optional (λ (v : AttributeValue). text_of s t v) (Some k.value)) table ∙ ap (λ (v : AttributeValue). optional (λ (w : AttributeValue). text_of s f.0.bases.str_offsets w) (Some v)) h.1
-
-abbrev pub both_names : Result (Option TextOffset) Cause → Result (Option TextOffset) Cause → Result EntryNames Cause
-both_names name linkage_name = name >>= λ n. linkage_name >>= λ l. Ok (record { name = n; linkage_name = l })
-
--- the names of a member, by what was kept on its path
-pub names-found : (s : Sections) (bases : List Bases) (units : List CompilationUnit) (hops : ℕ) (m : Member) (firsts : FirstNames) → bases ≡ map (λ (u : CompilationUnit). u.bases) units → FindsFirst units (Ok firsts) (path_within hops units m) →
-    (name linkage_name : Result (Option TextOffset) Cause) → name ≡ text_kept s bases firsts.name → linkage_name ≡ text_kept s bases firsts.linkage_name → both_names name linkage_name ≡ names_within hops s units m
-names-found s bases units hops m firsts are found name linkage_name name_is linkage_is =
-    let path = found.0 in
-    let first : name ≡ name_on DW_AT_NAME s path = name_is ∙ text-is s bases units are firsts.name (first_on DW_AT_NAME path) found.2.name in
-    let second : linkage_name ≡ name_on DW_AT_LINKAGE_NAME s path = linkage_is ∙ text-is s bases units are firsts.linkage_name (first_on DW_AT_LINKAGE_NAME path) found.2.linkage_name in
-    ap (λ (r : Result (Option TextOffset) Cause). both_names r linkage_name) first
-    ∙ (ap (λ (r : Result (Option TextOffset) Cause). both_names (name_on DW_AT_NAME s path) r) second
-    ∙ ap (λ (p : Result (List Member) Cause). p >>= λ path. both_names (name_on DW_AT_NAME s path) (name_on DW_AT_LINKAGE_NAME s path)) (sym found.1))
-
--- a path that is not followed has no names
-pub path-fails : (s : Sections) (units : List CompilationUnit) (hops : ℕ) (m : Member) (cause : Cause) → Fails cause (path_within hops units m) → Fails cause (names_within hops s units m)
-path-fails s units hops m cause (inl memory) = inl memory
-path-fails s units hops m cause (inr bad) =
-    inr (ap (λ (p : Result (List Member) Cause). p >>= λ path. both_names (name_on DW_AT_NAME s path) (name_on DW_AT_LINKAGE_NAME s path)) bad)
+pub followed-again : (units : List CompilationUnit) (hops : ℕ) (m : Member) (left : ℕ)
+    (found : UnitEntry) (place : UnitPlace) (firsts : FirstNames) (reference : AttributeValue)
+    (cause : Cause) → Followed units hops m left found firsts
+    → ((u : CompilationUnit) → slice_get units found.unit ≡ Some u
+    → Finds units (Some place) (target_of units u reference))
+    → ((n : Member) → IsPlaceOf units place n → cause ≡ causes.Memory) → cause ≡ causes.Memory
+followed-again units hops m left found place firsts reference cause so_far finds again = let to =
+    finds so_far.last.unit so_far.at.unit_is in again to.0 to.2

@@ -1,5 +1,7 @@
 -- The turns of the loop that tells the roots.
-use Rattle.std.proofs.Common.{◌≡◌, ℕ, ◌+◌, ◌<◌, ◌≤◌, List, [], ◌∷◌, ◌++◌, length, take, drop, get_or, map, refl, ap, sym, ◌∙◌, subst, arith, append_assoc, append-nil, drop-cons, add-one}
+use Rattle.std.proofs.Common.{◌≡◌, ℕ, ◌+◌, ◌<◌, ◌≤◌, List, [], ◌∷◌, ◌++◌, length, take, drop}
+use Rattle.std.proofs.Common.{get_or, map, refl, ap, sym, ◌∙◌, subst, arith, append_assoc}
+use Rattle.std.proofs.Common.{append-nil, drop-cons, add-one}
 use Rattle.std.specs.Prelude.{Option, Some, None, count_by, sum_by}
 use Rattle.std.proofs.lemmas.List.{drop_all, get_or-map, length-map, take_more, take-append-drop}
 use Rattle.std.proofs.lemmas.List.Sums.{sum_by-append}
@@ -26,14 +28,24 @@ record RootAt (us : List CompilationUnit) (index : ℕ) (unit : UnitEntries) : T
   pub root_is : unit.root ≡ root_in u.dies
   pub count : length unit.scopes.items ≡ count_by is_scope u.dies
 
-root_at : (units : List UnitEntries) (us : List CompilationUnit) (index : ℕ) (unit : UnitEntries) → map kept_of units ≡ map kept_unit_of us → index < length units → unit ≡ get_or units index unit → RootAt us index unit
+root_at : (units : List UnitEntries) (us : List CompilationUnit) (index : ℕ) (unit : UnitEntries)
+    → map kept_of units ≡ map kept_unit_of us → index < length units
+    → unit ≡ get_or units index unit → RootAt us index unit
 root_at units us index unit same within is =
-    let sizes : length units ≡ length us = sym (length-map units kept_of) ∙ (ap (λ (ks : List KeptUnit). length ks) same ∙ length-map us kept_unit_of) in
+    let sizes : length units ≡ length us = sym (length-map units kept_of)
+    ∙ (ap (λ (ks : List KeptUnit). length ks) same ∙ length-map us kept_unit_of) in
     let inside : index < length us = omega (arith, sizes, within) in
-    let d : CompilationUnit = record { header = unit.header; dies = []; bases = record { str_offsets = None; addr = None; rnglists = None; low_pc = None } } in
+    let d : CompilationUnit = record {
+      header = unit.header;
+      dies = [];
+      bases =
+          record { str_offsets = None; addr = None; rnglists = None; low_pc = None };
+    } in
     let u : CompilationUnit = get_or us index d in
     let here : kept_of unit ≡ kept_unit_of u =
-    ap kept_of is ∙ (sym (get_or-map kept_of units index unit (kept_of unit) within) ∙ (ap (λ (ks : List KeptUnit). get_or ks index (kept_of unit)) same ∙ get_or-map kept_unit_of us index d (kept_of unit) inside)) in
+    ap kept_of is ∙ (sym (get_or-map kept_of units index unit (kept_of unit) within)
+    ∙ (ap (λ (ks : List KeptUnit). get_or ks index (kept_of unit)) same
+    ∙ get_or-map kept_unit_of us index d (kept_of unit) inside)) in
     record {
       u = u;
       rest = rw (add-one, drop-cons us index d inside) refl;
@@ -42,54 +54,87 @@ root_at units us index unit same within is =
     }
 
 -- the numbers stay in the machine's
-pub count_within : (units : List UnitEntries) (index : ℕ) (unit : UnitEntries) (first : ℕ) → first ≡ scope_count (take index units) → index < length units → unit ≡ get_or units index unit → first + length unit.scopes.items ≡ scope_count (take (index + 1) units)
+pub count_within : (units : List UnitEntries) (index : ℕ) (unit : UnitEntries) (first : ℕ)
+    → first ≡ scope_count (take index units) → index < length units → unit ≡ get_or units index unit
+    → first + length unit.scopes.items ≡ scope_count (take (index + 1) units)
 count_within units index unit first first_is within is =
     let f : UnitEntries → ℕ = λ unit. length unit.scopes.items in
-    let taken : take (index + 1) units ≡ take index units ++ unit ∷ [] = take_more units index unit within ∙ ap (λ (u : UnitEntries). take index units ++ u ∷ []) (sym is) in
-    let sum : sum_by f (take index units ++ unit ∷ []) ≡ sum_by f (take index units) + f unit = sum_by-append f (take index units) (unit ∷ []) ∙ omega arith in
+    let taken : take (index + 1) units ≡ take index units ++ unit ∷ [] =
+    take_more units index unit within ∙ ap (λ (u : UnitEntries). take index units ++ u ∷ [])
+    (sym is) in
+    let sum : sum_by f (take index units ++ unit ∷ []) ≡ sum_by f (take index units) + f unit =
+    sum_by-append f (take index units) (unit ∷ []) ∙ omega arith in
     omega (arith, first_is, sum, ap (λ (us : List UnitEntries). sum_by f us) taken)
 
-pub count_fits : (units : List UnitEntries) (index : ℕ) → scope_count (take index units) ≤ scope_count units
+pub count_fits : (units : List UnitEntries) (index : ℕ)
+    → scope_count (take index units) ≤ scope_count units
 count_fits units index =
     let f : UnitEntries → ℕ = λ unit. length unit.scopes.items in
-    let whole : sum_by f (take index units ++ drop index units) ≡ sum_by f (take index units) + sum_by f (drop index units) = sum_by-append f (take index units) (drop index units) in
-    let same : sum_by f (take index units ++ drop index units) ≡ sum_by f units = ap (λ (us : List UnitEntries). sum_by f us) (take-append-drop index units) in
+    let whole : sum_by f (take index units ++ drop index units) ≡ sum_by f (take index units) +
+    sum_by f (drop index units) = sum_by-append f (take index units) (drop index units) in
+    let same : sum_by f (take index units ++ drop index units) ≡ sum_by f units =
+    ap (λ (us : List UnitEntries). sum_by f us) (take-append-drop index units) in
     omega (arith, whole, same)
 
 -- the root that is told of a unit
 abbrev pub root_list : ℕ → ℕ → Option RootEntry → List Root
 root_list first past None = []
-root_list first past (Some root) = record { offset = root.offset; stmt_list = root.stmt_list; first = first; past = past } ∷ []
+root_list first past (Some root) = record
+    { offset = root.offset; stmt_list = root.stmt_list; first = first; past = past } ∷ []
 
-root_of-is : (first past : ℕ) (dies : List Die) (roots : List Root) → root_of first past dies roots ≡ root_list first past (root_in dies) ++ roots
+root_of-is : (first past : ℕ) (dies : List Die) (roots : List Root) → root_of first past dies roots
+    ≡ root_list first past (root_in dies) ++ roots
 root_of-is first past [] roots = refl
 root_of-is first past (root ∷ dies) roots = refl
 
-pub roots_next : (units : List UnitEntries) (us : List CompilationUnit) (index first : ℕ) (unit : UnitEntries) (roots : List Root) → map kept_of units ≡ map kept_unit_of us → index < length units → unit ≡ get_or units index unit →
-    RootsSoFar us index first roots → RootsSoFar us (index + 1) (first + length unit.scopes.items) (roots ++ root_list first (first + length unit.scopes.items) unit.root)
+pub roots_next : (units : List UnitEntries) (us : List CompilationUnit) (index first : ℕ)
+    (unit : UnitEntries) (roots : List Root) → map kept_of units ≡ map kept_unit_of us
+    → index < length units → unit ≡ get_or units index unit
+    → RootsSoFar us index first roots → RootsSoFar us (index + 1) (first + length unit.scopes.items)
+    (roots ++ root_list first (first + length unit.scopes.items) unit.root)
 roots_next units us index first unit roots same within is so_far =
     let here = root_at units us index unit same within is in
     let past : ℕ = first + length unit.scopes.items in
     let list : List Root = root_list first past unit.root in
-    let behind : roots_from first (here.u ∷ drop (index + 1) us) ≡ root_list first (first + count_by is_scope here.u.dies) (root_in here.u.dies) ++ roots_from (first + count_by is_scope here.u.dies) (drop (index + 1) us) =
-    root_of-is first (first + count_by is_scope here.u.dies) here.u.dies (roots_from (first + count_by is_scope here.u.dies) (drop (index + 1) us)) in
-    let told : roots_from first (here.u ∷ drop (index + 1) us) ≡ list ++ roots_from past (drop (index + 1) us) =
+    let behind : roots_from first (here.u ∷ drop (index + 1) us)
+    ≡ root_list first (first + count_by is_scope here.u.dies) (root_in here.u.dies)
+    ++ roots_from (first + count_by is_scope here.u.dies) (drop (index + 1) us) =
+    root_of-is first (first + count_by is_scope here.u.dies) here.u.dies
+    (roots_from (first + count_by is_scope here.u.dies) (drop (index + 1) us)) in
+    let told : roots_from first (here.u ∷ drop (index + 1) us) ≡ list
+    ++ roots_from past (drop (index + 1) us) =
     behind
-    ∙ (ap (λ (r : Option RootEntry). root_list first (first + count_by is_scope here.u.dies) r ++ roots_from (first + count_by is_scope here.u.dies) (drop (index + 1) us)) (sym here.root_is)
-    ∙ ap (λ (k : ℕ). root_list first (first + k) unit.root ++ roots_from (first + k) (drop (index + 1) us)) (sym here.count)) in
+    ∙ (ap (λ (r : Option RootEntry). root_list first (first + count_by is_scope here.u.dies) r
+    ++ roots_from (first + count_by is_scope here.u.dies) (drop (index + 1) us))
+    (sym here.root_is)
+    ∙ ap (λ (k : ℕ). root_list first (first + k) unit.root
+    ++ roots_from (first + k) (drop (index + 1) us)) (sym here.count)) in
     append_assoc roots list (roots_from past (drop (index + 1) us))
-    ∙ (ap (λ (rs : List Root). roots ++ rs) (sym told) ∙ (ap (λ (vs : List CompilationUnit). roots ++ roots_from first vs) (sym here.rest) ∙ so_far))
+    ∙ (ap (λ (rs : List Root). roots ++ rs) (sym told)
+    ∙ (ap (λ (vs : List CompilationUnit). roots ++ roots_from first vs) (sym here.rest)
+    ∙ so_far))
 
 -- the turn, by what the machine counts
-pub roots_turn : (units : List UnitEntries) (us : List CompilationUnit) (index first past : ℕ) (unit : UnitEntries) (found : Option RootEntry) (roots : List Root) → map kept_of units ≡ map kept_unit_of us → index < length units → unit ≡ get_or units index unit →
-    RootsSoFar us index first roots → past ≡ first + unit.scopes.len → unit.root ≡ found → RootsSoFar us (index + 1) past (roots ++ root_list first past found)
+pub roots_turn : (units : List UnitEntries) (us : List CompilationUnit) (index first past : ℕ)
+    (unit : UnitEntries) (found : Option RootEntry) (roots : List Root)
+    → map kept_of units ≡ map kept_unit_of us → index < length units
+    → unit ≡ get_or units index unit
+    → RootsSoFar us index first roots → past ≡ first + unit.scopes.len → unit.root ≡ found
+    → RootsSoFar us (index + 1) past (roots ++ root_list first past found)
 roots_turn units us index first past unit found roots same within is so_far past_is found_is =
-    let past_there : first + length unit.scopes.items ≡ past = omega (arith, past_is, unit.scopes.ok.0) in
-    subst (λ (f : Option RootEntry). RootsSoFar us (index + 1) past (roots ++ root_list first past f)) found_is
-    (subst (λ (k : ℕ). RootsSoFar us (index + 1) k (roots ++ root_list first k unit.root)) past_there (roots_next units us index first unit roots same within is so_far))
+    let past_there : first + length unit.scopes.items ≡ past =
+    omega (arith, past_is, unit.scopes.ok.0) in
+    subst (λ (f : Option RootEntry). RootsSoFar us (index + 1) past
+    (roots ++ root_list first past f)) found_is
+    (subst (λ (k : ℕ). RootsSoFar us (index + 1) k (roots ++ root_list first k unit.root))
+    past_there (roots_next units us index first unit roots same within is so_far))
 
-pub roots_end : (units : List UnitEntries) (us : List CompilationUnit) (index first : ℕ) (roots : List Root) → map kept_of units ≡ map kept_unit_of us → length units ≤ index → RootsSoFar us index first roots → roots ≡ roots_from 0 us
+pub roots_end : (units : List UnitEntries) (us : List CompilationUnit) (index first : ℕ)
+    (roots : List Root) → map kept_of units ≡ map kept_unit_of us → length units ≤ index
+    → RootsSoFar us index first roots → roots ≡ roots_from 0 us
 roots_end units us index first roots same past so_far =
-    let sizes : length units ≡ length us = sym (length-map units kept_of) ∙ (ap (λ (ks : List KeptUnit). length ks) same ∙ length-map us kept_unit_of) in
+    let sizes : length units ≡ length us = sym (length-map units kept_of)
+    ∙ (ap (λ (ks : List KeptUnit). length ks) same ∙ length-map us kept_unit_of) in
     let none : drop index us ≡ [] = drop_all index us (omega (arith, sizes, past)) in
-    sym (append-nil roots) ∙ (ap (λ (vs : List CompilationUnit). roots ++ roots_from first vs) (sym none) ∙ so_far)
+    sym (append-nil roots) ∙ (ap (λ (vs : List CompilationUnit). roots ++ roots_from first vs)
+    (sym none) ∙ so_far)

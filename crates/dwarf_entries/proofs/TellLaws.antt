@@ -10,12 +10,15 @@ use Rattle.dwarf_entries.specs.declared.scope.Scope.{Scope as Kept}
 use Rattle.dwarf_entries.specs.Scopes.{Scope, Own, own, own_of, scopes_from}
 use Rattle.dwarf_entries.specs.Order.{AreNumbered, AreInOrder, TellsOf}
 
-pub own-kept : (roots : List Root) (wide : List CallSite) (ranges : List Range) (first : ℕ) (ss : List Kept) → map own_of ss ≡ map own (scopes_from roots wide ranges first ss)
+pub own-kept : (roots : List Root) (wide : List CallSite) (ranges : List Range) (first : ℕ)
+    (ss : List Kept) → map own_of ss ≡ map own (scopes_from roots wide ranges first ss)
 own-kept roots wide ranges first [] = refl
-own-kept roots wide ranges first (s ∷ ss) = ap (λ (os : List Own). own_of s ∷ os) (own-kept roots wide ranges s.ranges_end ss)
+own-kept roots wide ranges first (s ∷ ss) =
+    ap (λ (os : List Own). own_of s ∷ os) (own-kept roots wide ranges s.ranges_end ss)
 
 -- the number of the scope at a place
-number-at : (first total i : ℕ) (ss : List Scope) (s : Scope) → AreNumbered first total ss → slice_get ss i ≡ Some s → s.number ≡ first + i
+number-at : (first total i : ℕ) (ss : List Scope) (s : Scope) → AreNumbered first total ss
+    → slice_get ss i ≡ Some s → s.number ≡ first + i
 number-at first total i [] s are found = cc
 number-at first total zero (t ∷ ss) s are found =
     let same : t ≡ s = some-same found in
@@ -23,24 +26,33 @@ number-at first total zero (t ∷ ss) s are found =
   where
     some-same : {x y : Scope} → (let f : Scope → Option Scope = λ z. Some z in f x ≡ f y) → x ≡ y
     some-same h = cc
-number-at first total (suc i) (t ∷ ss) s are found = number-at (suc first) total i ss s are.3 found ∙ omega arith
+number-at first total (suc i) (t ∷ ss) s are found = number-at (suc first) total i ss s are.3 found
+    ∙ omega arith
 
 -- the scope whose own facts are those of another one's
-own-found : (o : Option Scope) (k : Kept) → option_map own o ≡ Some (own_of k) → (s : Scope) × (o ≡ Some s) × (own_of k ≡ own s)
+own-found : (o : Option Scope) (k : Kept) → option_map own o ≡ Some (own_of k)
+    → (s : Scope) × (o ≡ Some s) × (own_of k ≡ own s)
 own-found None k h = cc
 own-found (Some s) k h = (s, refl, sym (some-same h))
   where
     some-same : {x y : Own} → (let f : Own → Option Own = λ z. Some z in f x ≡ f y) → x ≡ y
     some-same h = cc
 
-pub tells-of : (scopes : List Scope) (kept : List Kept) (place : ℕ) (k : Kept) → AreInOrder scopes → map own_of kept ≡ map own scopes → slice_get kept place ≡ Some k → (s : Scope) × (slice_get scopes place ≡ Some s) × TellsOf scopes k s
+pub tells-of : (scopes : List Scope) (kept : List Kept) (place : ℕ) (k : Kept) → AreInOrder scopes
+    → map own_of kept ≡ map own scopes → slice_get kept place ≡ Some k
+    → (s : Scope) × (slice_get scopes place ≡ Some s) × TellsOf scopes k s
 tells-of scopes kept place k order same found =
     let own_there : option_map own (slice_get scopes place) ≡ Some (own_of k) =
-    sym (slice_get-map own scopes place) ∙ (ap (λ (os : List Own). slice_get os place) (sym same) ∙ (slice_get-map own_of kept place ∙ ap (λ (o : Option Kept). option_map own_of o) found)) in
+    sym (slice_get-map own scopes place)
+    ∙ (ap (λ (os : List Own). slice_get os place) (sym same)
+    ∙ (slice_get-map own_of kept place ∙ ap (λ (o : Option Kept). option_map own_of o) found))
+    in
     let there = own-found (slice_get scopes place) k own_there in
     let s = there.0 in
-    let number : (own_of k).number ≡ place = ap (λ (o : Own). o.number) there.2 ∙ (number-at 0 (length scopes) place scopes s order.numbered there.1 ∙ omega arith) in
-    let at : slice_get scopes (own_of k).number ≡ Some s = ap (λ (n : ℕ). slice_get scopes n) number ∙ there.1 in (
+    let number : (own_of k).number ≡ place = ap (λ (o : Own). o.number) there.2
+    ∙ (number-at 0 (length scopes) place scopes s order.numbered there.1 ∙ omega arith) in
+    let at : slice_get scopes (own_of k).number ≡ Some s = ap (λ (n : ℕ). slice_get scopes n) number
+    ∙ there.1 in (
       s,
       there.1,
       record {
@@ -52,5 +64,6 @@ tells-of scopes kept place k order same found =
       },
     )
   where
-    told : {o : Option Scope} {s : Scope} → o ≡ Some s → option_map_or (λ (t : Scope). t.ranges) o [] ≡ s.ranges
+    told : {o : Option Scope} {s : Scope} → o ≡ Some s
+        → option_map_or (λ (t : Scope). t.ranges) o [] ≡ s.ranges
     told at = ap (λ (o : Option Scope). option_map_or (λ (t : Scope). t.ranges) o []) at

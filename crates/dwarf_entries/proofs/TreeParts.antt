@@ -17,11 +17,15 @@ use Rattle.dwarf_entries.specs.Bases.{CompilationUnit, unit_of}
 use Rattle.dwarf_entries.specs.Names.{names_of}
 use Rattle.dwarf_entries.specs.Ranges.{Covering}
 use Rattle.dwarf_entries.specs.Scopes.{Tree, ScopeSite, Judged, scope_at, tree_of, roots_from}
-use Rattle.dwarf_entries.proofs.ScopeOrder.{section-ok, told-ok, all_sites, judged_by, covering_at, make, from_judged, from_units, from_dies, from_tables, from_headers}
+use Rattle.dwarf_entries.proofs.ScopeOrder.{section-ok, told-ok, all_sites}
+use Rattle.dwarf_entries.proofs.ScopePlaces.{judged_by, covering_at, make, from_judged, from_units}
+use Rattle.dwarf_entries.proofs.ScopePlaces.{from_dies, from_tables, from_headers}
 
 -- ---- what is made of each of a list
 
-pub each-cons : {X Y : Type 0} (make : List Y → X → Result Y At) (before : List Y) (x : X) (xs : List X) (y : Y) (ys : List Y) → each_from make before (x ∷ xs) ≡ Ok (y ∷ ys) → (make before x ≡ Ok y) × (each_from make (before ++ y ∷ []) xs ≡ Ok ys)
+pub each-cons : {X Y : Type 0} (make : List Y → X → Result Y At) (before : List Y) (x : X)
+    (xs : List X) (y : Y) (ys : List Y) → each_from make before (x ∷ xs) ≡ Ok (y ∷ ys)
+    → (make before x ≡ Ok y) × (each_from make (before ++ y ∷ []) xs ≡ Ok ys)
 unfolding each_from
 each-cons {Y = Y} make before x xs y ys h =
     let P : Type 0 = (make before x ≡ Ok y) × (each_from make (before ++ y ∷ []) xs ≡ Ok ys) in
@@ -29,61 +33,91 @@ each-cons {Y = Y} make before x xs y ys h =
     after_bind (each_from make (before ++ first ∷ []) xs) _ (y ∷ ys) h1 P (λ rest rest_is last.
     both first rest first_is rest_is (same_ok (first ∷ rest) (y ∷ ys) last)))
   where
-    both : (first : Y) (rest : List Y) → make before x ≡ Ok first → each_from make (before ++ first ∷ []) xs ≡ Ok rest → first ∷ rest ≡ y ∷ ys → (make before x ≡ Ok y) × (each_from make (before ++ y ∷ []) xs ≡ Ok ys)
+    both : (first : Y) (rest : List Y) → make before x ≡ Ok first
+        → each_from make (before ++ first ∷ []) xs ≡ Ok rest → first ∷ rest ≡ y ∷ ys
+        → (make before x ≡ Ok y) × (each_from make (before ++ y ∷ []) xs ≡ Ok ys)
     both first rest a b same =
         let first_is : first ≡ y = cc in
         let rest_is : rest ≡ ys = cc in (
           subst (λ (z : Y). make before x ≡ Ok z) first_is a,
-          subst (λ (z : Y). each_from make (before ++ z ∷ []) xs ≡ Ok ys) first_is (subst (λ (zs : List Y). each_from make (before ++ first ∷ []) xs ≡ Ok zs) rest_is b),
+          subst (λ (z : Y). each_from make (before ++ z ∷ []) xs ≡ Ok ys) first_is
+              (subst (λ (zs : List Y). each_from make (before ++ first ∷ []) xs ≡ Ok zs) rest_is b),
         )
 
-each-none : {X Y : Type 0} (make : List Y → X → Result Y At) (before : List Y) (x : X) (xs : List X) → each_from make before (x ∷ xs) ≡ Ok [] → ⊥
+each-none : {X Y : Type 0} (make : List Y → X → Result Y At) (before : List Y) (x : X) (xs : List X)
+    → each_from make before (x ∷ xs) ≡ Ok [] → ⊥
 unfolding each_from
 each-none make before x xs h =
     after_bind (make before x) _ [] h ⊥ (λ first _ h1.
     after_bind (each_from make (before ++ first ∷ []) xs) _ [] h1 ⊥ (λ rest _ last.
     cc))
 
-pub each-past : {X Y : Type 0} (make : List Y → X → Result Y At) (before : List Y) (y : Y) (ys : List Y) → each_from make before [] ≡ Ok (y ∷ ys) → ⊥
+pub each-past : {X Y : Type 0} (make : List Y → X → Result Y At) (before : List Y) (y : Y)
+    (ys : List Y) → each_from make before [] ≡ Ok (y ∷ ys) → ⊥
 unfolding each_from
 each-past make before y ys h = cc
 
 -- ---- what a scope was made of, behind those before it
 
-pub record IsJudged (sections : Sections) (units : List CompilationUnit) (before : List Judged) (p : ScopeSite) (j : Judged) : Type 0 where
+pub record IsJudged (sections : Sections) (units : List CompilationUnit) (before : List Judged)
+    (p : ScopeSite) (j : Judged) : Type 0 where
   pub found : EntryNames
   pub found_are : names_of sections units p.member ≡ Ok found
   pub covering : Covering
   pub covering_is : covering_at sections before p ≡ Ok covering
   pub is : judged_by before p found covering ≡ j
 
-is-judged : (sections : Sections) (units : List CompilationUnit) (before : List Judged) (p : ScopeSite) (j : Judged) → make sections units before p ≡ Ok j → IsJudged sections units before p j
+is-judged : (sections : Sections) (units : List CompilationUnit) (before : List Judged)
+    (p : ScopeSite) (j : Judged) → make sections units before p ≡ Ok j
+    → IsJudged sections units before p j
 is-judged sections units before p j h =
     let P : Type 0 = IsJudged sections units before p j in
-    after_bind (names_of sections units p.member) (λ found. covering_at sections before p >>= λ covering. Ok (judged_by before p found covering)) j (told-ok p.member.die.offset (scope_at sections units before p) j h) P (λ found found_are h1.
-    after_bind (covering_at sections before p) (λ covering. Ok (judged_by before p found covering)) j h1 P (λ covering covering_is last.
-    record { found = found; found_are = found_are; covering = covering; covering_is = covering_is; is = same_ok (judged_by before p found covering) j last }))
+    after_bind (names_of sections units p.member)
+    (λ found. covering_at sections before p
+    >>= λ covering. Ok (judged_by before p found covering)) j
+    (told-ok p.member.die.offset (scope_at sections units before p) j h) P
+    (λ found found_are h1.
+    after_bind (covering_at sections before p) (λ covering. Ok (judged_by before p found covering))
+    j h1 P (λ covering covering_is last.
+    record {
+      found = found;
+      found_are = found_are;
+      covering = covering;
+      covering_is = covering_is;
+      is = same_ok (judged_by before p found covering) j last;
+    }))
 
-abbrev pub AreJudged : Sections → List CompilationUnit → List Judged → List ScopeSite → List Judged → Type 0
+abbrev pub AreJudged : Sections → List CompilationUnit → List Judged → List ScopeSite → List Judged
+    → Type 0
 AreJudged sections units before [] [] = Unit {0}
 AreJudged sections units before [] (j ∷ js) = ⊥
 AreJudged sections units before (p ∷ ps) [] = ⊥
-AreJudged sections units before (p ∷ ps) (j ∷ js) = IsJudged sections units before p j × AreJudged sections units (before ++ j ∷ []) ps js
+AreJudged sections units before (p ∷ ps) (j ∷ js) = IsJudged sections units before p j
+    × AreJudged sections units (before ++ j ∷ []) ps js
 
-are-judged : (sections : Sections) (units : List CompilationUnit) (before : List Judged) (ps : List ScopeSite) (js : List Judged) → each_from (make sections units) before ps ≡ Ok js → AreJudged sections units before ps js
+are-judged : (sections : Sections) (units : List CompilationUnit) (before : List Judged)
+    (ps : List ScopeSite) (js : List Judged) → each_from (make sections units) before ps ≡ Ok js
+    → AreJudged sections units before ps js
 are-judged sections units before [] [] h = tt
-are-judged sections units before [] (j ∷ js) h = absurd (each-past (make sections units) before j js h)
-are-judged sections units before (p ∷ ps) [] h = absurd (each-none (make sections units) before p ps h)
+are-judged sections units before [] (j ∷ js) h =
+    absurd (each-past (make sections units) before j js h)
+are-judged sections units before (p ∷ ps) [] h =
+    absurd (each-none (make sections units) before p ps h)
 are-judged sections units before (p ∷ ps) (j ∷ js) h =
-    let parts = each-cons (make sections units) before p ps j js h in
-    (is-judged sections units before p j parts.0, are-judged sections units (before ++ j ∷ []) ps js parts.1)
+    let parts = each-cons (make sections units) before p ps j js h in (
+      is-judged sections units before p j parts.0,
+      are-judged sections units (before ++ j ∷ []) ps js
+          parts.1,
+    )
 
 -- ---- what the answer was read from
 
-abbrev pub read_entries : Sections → List (List Die) → UnitHeader × List Declaration → Result (List Die) At
+abbrev pub read_entries : Sections → List (List Die) → UnitHeader × List Declaration
+    → Result (List Die) At
 read_entries s before p = entries_of s.debug_info p.0 p.1
 
-abbrev pub read_unit : Sections → List CompilationUnit → UnitHeader × List Die → Result CompilationUnit At
+abbrev pub read_unit : Sections → List CompilationUnit → UnitHeader × List Die
+    → Result CompilationUnit At
 read_unit s before p = unit_of s p.0 p.1
 
 pub record IsRead (s : Sections) (tree : Tree) : Type 0 where
@@ -104,23 +138,34 @@ pub is-read : (s : Sections) (tree : Tree) → tree_of s ≡ Ok tree → IsRead 
 unfolding tree_of
 is-read s tree h =
     let P : Type 0 = IsRead s tree in
-    after_bind (in_section names.DebugInfo (units_of s.debug_info)) (from_headers s) tree h P (λ headers headers_are h1.
-    after_bind (in_section names.DebugAbbrev (tables_of s.debug_abbrev headers)) (from_tables s headers) tree h1 P (λ tables tables_are h2.
-    after_bind (in_section names.DebugInfo (each (read_entries s) (zip headers tables))) (from_dies s headers) tree h2 P (λ dies dies_are h3.
-    after_bind (in_section names.DebugInfo (each (read_unit s) (zip headers dies))) (from_units s) tree h3 P (λ units units_are h4.
-    after_bind (in_section names.DebugInfo (each_from (make s units) [] (all_sites units))) (from_judged units) tree h4 P (λ judged judged_are last.
-    let same = same_ok (record { roots = roots_from 0 units; scopes = map (λ j. j.scope) judged }) tree last in
+    after_bind (in_section names.DebugInfo (units_of s.debug_info)) (from_headers s) tree h P
+    (λ headers headers_are h1.
+    after_bind (in_section names.DebugAbbrev (tables_of s.debug_abbrev headers))
+    (from_tables s headers) tree h1 P (λ tables tables_are h2.
+    after_bind (in_section names.DebugInfo (each (read_entries s) (zip headers tables)))
+    (from_dies s headers) tree h2 P (λ dies dies_are h3.
+    after_bind (in_section names.DebugInfo (each (read_unit s) (zip headers dies))) (from_units s)
+    tree h3 P (λ units units_are h4.
+    after_bind (in_section names.DebugInfo (each_from (make s units) [] (all_sites units)))
+    (from_judged units) tree h4 P (λ judged judged_are last.
+    let same = same_ok (record { roots = roots_from 0 units; scopes = map (λ j. j.scope) judged })
+    tree last in
     record {
       headers = headers;
       headers_are = section-ok names.DebugInfo (units_of s.debug_info) headers headers_are;
       tables = tables;
-      tables_are = section-ok names.DebugAbbrev (tables_of s.debug_abbrev headers) tables tables_are;
+      tables_are = section-ok names.DebugAbbrev (tables_of s.debug_abbrev headers) tables
+          tables_are;
       dies = dies;
-      dies_are = section-ok names.DebugInfo (each (read_entries s) (zip headers tables)) dies dies_are;
+      dies_are = section-ok names.DebugInfo (each (read_entries s) (zip headers tables)) dies
+          dies_are;
       units = units;
-      units_are = section-ok names.DebugInfo (each (read_unit s) (zip headers dies)) units units_are;
+      units_are = section-ok names.DebugInfo (each (read_unit s) (zip headers dies)) units
+          units_are;
       judged = judged;
-      judged_are = are-judged s units [] (all_sites units) judged (section-ok names.DebugInfo (each_from (make s units) [] (all_sites units)) judged judged_are);
+      judged_are = are-judged s units [] (all_sites units) judged
+          (section-ok names.DebugInfo (each_from (make s units) [] (all_sites units)) judged
+          judged_are);
       roots_are = ap (λ (t : Tree). t.roots) same;
       scopes_are = ap (λ (t : Tree). t.scopes) same;
     })))))

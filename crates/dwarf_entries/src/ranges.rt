@@ -37,7 +37,7 @@ pub(crate) fn covers(
 }
 
 /// What the range list of an attribute covers.
-#[tactic(auto, using(crate::proofs::RangeLaws::list_outside))]
+#[tactic(auto, using(crate::proofs::RangeTurns::list_outside))]
 fn listed(
     room: u64,
     sections: &Sections<'_>,

@@ -1,26 +1,23 @@
 -- A code, by the place where it stands.
-use Rattle.std.proofs.Common.{◌≡◌, ℕ, zero, suc, ◌+◌, ◌-◌, ◌≢◌, ◌⊎◌, inl, inr, List, [], ◌∷◌, ◌++◌, length, ◌<◌, ◌≤◌, get_or, Bool, true, false, cond, eq-eqb, refl, sym, ap, subst, ◌∙◌, arith}
-use Rattle.std.specs.Prelude.{map, not, Option, Some, None, find, position, nat_lt, is_some, AllPairs, slice_get, ◌==◌, ◌||◌, IfSome, IfOk, Result, Ok, Err}
+use Rattle.std.proofs.Common.{◌≡◌, ℕ, zero, suc, ◌+◌, ◌-◌, ◌≢◌, ◌⊎◌, inl, inr, List, [], ◌∷◌, ◌++◌}
+use Rattle.std.proofs.Common.{length, ◌<◌, ◌≤◌, get_or, Bool, true, false, cond, eq-eqb, refl, sym}
+use Rattle.std.proofs.Common.{ap, subst, ◌∙◌, arith}
+use Rattle.std.specs.Prelude.{Option, Some, None, find, position, nat_lt, AllPairs, slice_get, ◌==◌}
 use Rattle.std.specs.Option.{option_map_or}
 use Rattle.std.specs.List.{list_any, position_or_len}
 use Rattle.std.specs.Ordering.{nat_cmp}
 use Rattle.std.specs.BTreeMap.{BTreeMap, get}
-use Rattle.std.proofs.lemmas.Grind.{common_steps}
-use Rattle.std.proofs.lemmas.Option.{get_or_from_slice_get, slice_get_within, slice_get_cases, slice_get-get_or, none-some, same_Some}
+use Rattle.std.proofs.lemmas.Option.{get_or_from_slice_get, slice_get_within, slice_get_cases}
+use Rattle.std.proofs.lemmas.Option.{slice_get-get_or, none-some, same_Some}
 use Rattle.std.proofs.lemmas.List.Quantifiers.{all_pairs_push}
 use Rattle.std.proofs.lemmas.List.Folds.{list_any_at, find_at}
-use Rattle.std.proofs.lemmas.List.{length-map}
 use Rattle.std.proofs.lemmas.List.Sums.{position_or_len_is}
 use Rattle.std.proofs.lemmas.Bool.{false≢true, ltb-true, lt-ltb, eqb-true, eqb-false}
-use Rattle.dwarf_bytes.specs.declared.fault.Cause.{Cause}
-use Rattle.dwarf_forms.specs.declared.declaration.Head.{Head}
-use Rattle.dwarf_forms.specs.Declarations.{Declaration}
-use Rattle.dwarf_forms.specs.Tables.{head_at}
-use Rattle.dwarf_forms.specs.Private.Codes.{AreCodes, head_behind, is_code_at}
-use Rattle.dwarf_forms.proofs.Codes.{PutsPlace, others_stay}
+use Rattle.dwarf_forms.specs.Private.Codes.{AreCodes, is_code_at}
 
 -- where no place has the code, none is found
-pub find_none : (xs : List ℕ) (code : ℕ) → ((i : ℕ) (d : ℕ) → slice_get xs i ≡ Some d → d ≢ code) → find (λ other. other == code) xs ≡ None
+pub find_none : (xs : List ℕ) (code : ℕ) → ((i : ℕ) (d : ℕ) → slice_get xs i ≡ Some d → d ≢ code)
+    → find (λ other. other == code) xs ≡ None
 find_none [] code h = refl
 find_none (x ∷ xs) code h =
     let test : (x == code) ≡ false = apart_test x code (h 0 x refl) in
@@ -30,10 +27,10 @@ find_none (x ∷ xs) code h =
     apart_test a b h = grind arith
 
 -- a code that stands neither in its own place nor where the map says stands nowhere
-pub find_nowhere : (xs : List ℕ) (moved : BTreeMap ℕ ℕ) (code : ℕ) → AreCodes xs moved →
-    ((d : ℕ) → slice_get xs (code - 1) ≡ Some d → d ≢ code) →
-    ((i : ℕ) → get nat_cmp moved code ≡ Some i → (d : ℕ) → slice_get xs i ≡ Some d → d ≢ code) →
-    find (λ other. other == code) xs ≡ None
+pub find_nowhere : (xs : List ℕ) (moved : BTreeMap ℕ ℕ) (code : ℕ) → AreCodes xs moved
+    → ((d : ℕ) → slice_get xs (code - 1) ≡ Some d → d ≢ code)
+    → ((i : ℕ) → get nat_cmp moved code ≡ Some i → (d : ℕ) → slice_get xs i ≡ Some d → d ≢ code)
+    → find (λ other. other == code) xs ≡ None
 find_nowhere xs moved code indexed own by_map = find_none xs code nowhere
   where
     nowhere : (i : ℕ) (d : ℕ) → slice_get xs i ≡ Some d → d ≢ code
@@ -43,63 +40,91 @@ find_nowhere xs moved code indexed own by_map = find_none xs code nowhere
         by_place (inl place) =
             let same : code - 1 ≡ i = omega (arith, place, is) in
             own d (ap (λ (k : ℕ). slice_get xs k) same ∙ at) is
-        by_place (inr there) = by_map i (ap (λ (k : ℕ). get nat_cmp moved k) (sym is) ∙ there) d at is
+        by_place (inr there) = by_map i (ap (λ (k : ℕ). get nat_cmp moved k) (sym is) ∙ there) d at
+            is
 
 -- no place has a code that the list lacks
-pub lacks : (xs : List ℕ) (code : ℕ) → list_any (λ other. other == code) xs ≡ false → (i : ℕ) (d : ℕ) → slice_get xs i ≡ Some d → d ≢ code
+pub lacks : (xs : List ℕ) (code : ℕ) → list_any (λ other. other == code) xs ≡ false
+    → (i : ℕ) (d : ℕ) → slice_get xs i ≡ Some d → d ≢ code
 lacks xs code none i d at is =
     let value : get_or xs i d ≡ d = get_or_from_slice_get xs i d d at in
     let test : ((get_or xs i d) == code) ≡ true = eq-eqb _ code (ap (λ (e : ℕ). e) value ∙ is) in
-    false≢true (sym none ∙ list_any_at (λ (e : ℕ). e == code) xs i d (slice_get_within xs i d at) test)
+    false≢true (sym none ∙ list_any_at (λ (e : ℕ). e == code) xs i d (slice_get_within xs i d at)
+    test)
 
 -- a map that tells another place for a code that the list lacks serves the list as well
-pub index_kept : (xs : List ℕ) (moved next : BTreeMap ℕ ℕ) (code : ℕ) → list_any (λ other. other == code) xs ≡ false →
-    ((q : ℕ) → q ≢ code → get nat_cmp next q ≡ get nat_cmp moved q) → AreCodes xs moved → AreCodes xs next
+pub index_kept : (xs : List ℕ) (moved next : BTreeMap ℕ ℕ) (code : ℕ)
+    → list_any (λ other. other == code) xs ≡ false
+    → ((q : ℕ) → q ≢ code → get nat_cmp next q ≡ get nat_cmp moved q) → AreCodes xs moved
+    → AreCodes xs next
 index_kept xs moved next code none others indexed = record {
   once = indexed.once;
   found = λ i d at. by_place i d (lacks xs code none i d at) (indexed.found i d at);
 }
   where
-    by_place : (i : ℕ) (d : ℕ) → d ≢ code → (d ≡ i + 1) ⊎ (get nat_cmp moved d ≡ Some i) → (d ≡ i + 1) ⊎ (get nat_cmp next d ≡ Some i)
+    by_place : (i : ℕ) (d : ℕ) → d ≢ code → (d ≡ i + 1) ⊎ (get nat_cmp moved d ≡ Some i)
+        → (d ≡ i + 1) ⊎ (get nat_cmp next d ≡ Some i)
     by_place i d apart (inl place) = inl place
     by_place i d apart (inr there) = inr (others d apart ∙ there)
 
 -- one more code, whose place is its code or stands in the map
-pub index_push : (xs : List ℕ) (moved : BTreeMap ℕ ℕ) (y : ℕ) → list_any (λ other. other == y) xs ≡ false →
-    (y ≡ length xs + 1) ⊎ (get nat_cmp moved y ≡ Some (length xs)) → AreCodes xs moved → AreCodes (xs ++ y ∷ []) moved
+pub index_push : (xs : List ℕ) (moved : BTreeMap ℕ ℕ) (y : ℕ) → list_any (λ other. other == y) xs
+    ≡ false
+    → (y ≡ length xs + 1) ⊎ (get nat_cmp moved y ≡ Some (length xs)) → AreCodes xs moved
+    → AreCodes (xs ++ y ∷ []) moved
 index_push xs moved y none place indexed = record {
-  once = all_pairs_push (λ a b. a ≢ b) xs y indexed.once (λ k d within. lacks xs y none k (get_or xs k d) (slice_get-get_or xs k d within));
+  once = all_pairs_push (λ a b. a ≢ b) xs y indexed.once
+      (λ k d within. lacks xs y none k (get_or xs k d) (slice_get-get_or xs k d within));
   found = found_at xs (λ i. i) indexed.found place;
 }
   where
-    found_at : (ys : List ℕ) (number : ℕ → ℕ) → ((i : ℕ) (d : ℕ) → slice_get ys i ≡ Some d → (d ≡ number i + 1) ⊎ (get nat_cmp moved d ≡ Some (number i))) →
-        (y ≡ number (length ys) + 1) ⊎ (get nat_cmp moved y ≡ Some (number (length ys))) → (i : ℕ) (d : ℕ) → slice_get (ys ++ y ∷ []) i ≡ Some d → (d ≡ number i + 1) ⊎ (get nat_cmp moved d ≡ Some (number i))
-    found_at [] number before last zero d at = subst (λ (e : ℕ). (e ≡ number 0 + 1) ⊎ (get nat_cmp moved e ≡ Some (number 0))) (same_Some y d at) last
+    found_at : (ys : List ℕ) (number : ℕ → ℕ)
+        → ((i : ℕ) (d : ℕ) → slice_get ys i ≡ Some d
+        → (d ≡ number i + 1) ⊎ (get nat_cmp moved d ≡ Some (number i)))
+        → (y ≡ number (length ys) + 1) ⊎ (get nat_cmp moved y ≡ Some (number (length ys)))
+        → (i : ℕ) (d : ℕ) → slice_get (ys ++ y ∷ []) i ≡ Some d
+        → (d ≡ number i + 1) ⊎ (get nat_cmp moved d ≡ Some (number i))
+    found_at [] number before last zero d at =
+        subst (λ (e : ℕ). (e ≡ number 0 + 1) ⊎ (get nat_cmp moved e ≡ Some (number 0)))
+        (same_Some y d at) last
     found_at [] number before last (suc i) d at = cc
     found_at (x ∷ ys) number before last zero d at = before 0 d at
-    found_at (x ∷ ys) number before last (suc i) d at = found_at ys (λ k. number (suc k)) (λ k e is. before (suc k) e is) last i d at
+    found_at (x ∷ ys) number before last (suc i) d at =
+        found_at ys (λ k. number (suc k)) (λ k e is. before (suc k) e is) last i d at
 
 -- ---- the place of a code
 
 position-none : {X : Type 0} (p : X → Bool) (xs : List X) → find p xs ≡ None → position p xs ≡ None
 position-none {X = X} p xs none = by_test (nat_lt (position_or_len p xs) (length xs)) refl
   where
-    by_place : nat_lt (position_or_len p xs) (length xs) ≡ true → ((x : X) × (position_or_len p xs < length xs) × (slice_get xs (position_or_len p xs) ≡ Some x) × (get_or xs (position_or_len p xs) x ≡ x)) ⊎ ((length xs ≤ position_or_len p xs) × (slice_get xs (position_or_len p xs) ≡ None)) → ⊥
+    by_place : nat_lt (position_or_len p xs) (length xs) ≡ true
+        → ((x : X) × (position_or_len p xs < length xs)
+        × (slice_get xs (position_or_len p xs) ≡ Some x) × (get_or xs (position_or_len p xs) x ≡ x))
+        ⊎ ((length xs ≤ position_or_len p xs) × (slice_get xs (position_or_len p xs) ≡ None)) → ⊥
     by_place within (inl found) = none-some found.0 (sym none ∙ find_at p xs ∙ found.2)
-    by_place within (inr past) = omega (arith, past.0, ltb-true (position_or_len p xs) (length xs) within)
+    by_place within (inr past) = omega (
+      arith,
+      past.0,
+      ltb-true (position_or_len p xs) (length xs)
+          within,
+    )
 
-    by_test : (b : Bool) → nat_lt (position_or_len p xs) (length xs) ≡ b → cond b (Some (position_or_len p xs)) None ≡ None
+    by_test : (b : Bool) → nat_lt (position_or_len p xs) (length xs) ≡ b
+        → cond b (Some (position_or_len p xs)) None ≡ None
     by_test true within = absurd (by_place within (slice_get_cases xs (position_or_len p xs)).1)
     by_test false past = refl
 
 -- a place that has the code is its place
-place_is : (xs : List ℕ) (i code : ℕ) → AllPairs (λ a b. a ≢ b) xs → is_code_at xs i code ≡ true → position (λ other. other == code) xs ≡ Some i
+pub place_is : (xs : List ℕ) (i code : ℕ) → AllPairs (λ a b. a ≢ b) xs → is_code_at xs i code ≡ true
+    → position (λ other. other == code) xs ≡ Some i
 place_is xs i code once here = by_declaration (slice_get xs i) refl here
   where
     apart_test : (a b : ℕ) → a ≢ b → (a == b) ≡ false
     apart_test a b h = grind arith
 
-    by_declaration : (found : Option ℕ) → slice_get xs i ≡ found → option_map_or (λ other. other == code) found false ≡ true → position (λ other. other == code) xs ≡ Some i
+    by_declaration : (found : Option ℕ) → slice_get xs i ≡ found
+        → option_map_or (λ other. other == code) found false ≡ true
+        → position (λ other. other == code) xs ≡ Some i
     by_declaration None at here = cc
     by_declaration (Some d) at here =
         let within = slice_get_within xs i d at in
@@ -107,112 +132,53 @@ place_is xs i code once here = by_declaration (slice_get xs i) refl here
         let code_is : (get_or xs i d) ≡ code = ap (λ (e : ℕ). e) value ∙ eqb-true d code here in
         let first : position_or_len (λ (other : ℕ). other == code) xs ≡ i =
         position_or_len_is (λ (other : ℕ). other == code) xs i d (omega (arith, within))
-        (λ k lt. apart_test (get_or xs k d) code (λ same. once k i d lt within (same ∙ sym code_is)))
+        (λ k lt. apart_test (get_or xs k d) code
+        (λ same. once k i d lt within (same ∙ sym code_is)))
         (λ _. eq-eqb (get_or xs i d) code code_is) in
-        subst (λ (k : ℕ). cond (nat_lt k (length xs)) (Some k) None ≡ Some i) (sym first) (rw (lt-ltb i (length xs) within) refl)
+        subst (λ (k : ℕ). cond (nat_lt k (length xs)) (Some k) None ≡ Some i) (sym first)
+        (rw (lt-ltb i (length xs) within) refl)
 
 -- a place that has another code, or none
-has_not : (xs : List ℕ) (i code : ℕ) → is_code_at xs i code ≡ false → (d : ℕ) → slice_get xs i ≡ Some d → d ≢ code
+has_not : (xs : List ℕ) (i code : ℕ) → is_code_at xs i code ≡ false → (d : ℕ)
+    → slice_get xs i ≡ Some d → d ≢ code
 has_not xs i code none d at =
-    let test : (d == code) ≡ false = subst (λ (found : Option ℕ). option_map_or (λ (other : ℕ). other == code) found false ≡ false) at none in
+    let test : (d == code) ≡ false = subst
+    (λ (found : Option ℕ). option_map_or (λ (other : ℕ). other == code) found false ≡ false) at
+    none in
     λ same. eqb-false d code test same
 
 -- The same, for the list that a table is seen as.
-pub place_here : (xs seen now : List ℕ) (i code : ℕ) → seen ≡ xs → xs ≡ now → AllPairs (λ a b. a ≢ b) xs → is_code_at seen i code ≡ true → Some i ≡ position (λ other. other == code) now
+pub place_here : (xs seen now : List ℕ) (i code : ℕ) → seen ≡ xs → xs ≡ now
+    → AllPairs (λ a b. a ≢ b) xs → is_code_at seen i code ≡ true
+    → Some i ≡ position (λ other. other == code) now
 place_here xs seen now i code same view once here =
-    let there : is_code_at xs i code ≡ true = subst (λ (ys : List ℕ). is_code_at ys i code ≡ true) same here in
-    subst (λ (ys : List ℕ). Some i ≡ position (λ (other : ℕ). other == code) ys) view (sym (place_is xs i code once there))
+    let there : is_code_at xs i code ≡ true =
+    subst (λ (ys : List ℕ). is_code_at ys i code ≡ true) same here in
+    subst (λ (ys : List ℕ). Some i ≡ position (λ (other : ℕ). other == code) ys) view
+    (sym (place_is xs i code once there))
 
-pub place_nowhere : (xs seen now : List ℕ) (moved : BTreeMap ℕ ℕ) (own code : ℕ) → seen ≡ xs → xs ≡ now → AreCodes xs moved → own ≡ code - 1 → is_code_at seen own code ≡ false →
-    ((i : ℕ) → get nat_cmp moved code ≡ Some i → is_code_at xs i code ≡ false) → None ≡ position (λ other. other == code) now
+pub place_nowhere : (xs seen now : List ℕ) (moved : BTreeMap ℕ ℕ) (own code : ℕ) → seen ≡ xs
+    → xs ≡ now → AreCodes xs moved → own ≡ code - 1 → is_code_at seen own code ≡ false
+    → ((i : ℕ) → get nat_cmp moved code ≡ Some i → is_code_at xs i code ≡ false)
+    → None ≡ position (λ other. other == code) now
 place_nowhere xs seen now moved own code same view indexed own_is not_own not_there =
-    let here : is_code_at xs (code - 1) code ≡ false = subst (λ (k : ℕ). is_code_at xs k code ≡ false) own_is (subst (λ (ys : List ℕ). is_code_at ys own code ≡ false) same not_own) in
-    let none = find_nowhere xs moved code indexed (λ d at. has_not xs (code - 1) code here d at) (λ i is d at. has_not xs i code (not_there i is) d at) in
-    subst (λ (ys : List ℕ). None ≡ position (λ (other : ℕ). other == code) ys) view (sym (position-none (λ (other : ℕ). other == code) xs none))
+    let here : is_code_at xs (code - 1) code ≡ false =
+    subst (λ (k : ℕ). is_code_at xs k code ≡ false) own_is
+    (subst (λ (ys : List ℕ). is_code_at ys own code ≡ false) same not_own) in
+    let none = find_nowhere xs moved code indexed (λ d at. has_not xs (code - 1) code here d at)
+    (λ i is d at. has_not xs i code (not_there i is) d at) in
+    subst (λ (ys : List ℕ). None ≡ position (λ (other : ℕ). other == code) ys) view
+    (sym (position-none (λ (other : ℕ). other == code) xs none))
 
-pub place_moved : (xs seen again now : List ℕ) (moved : BTreeMap ℕ ℕ) (own code place : ℕ) → seen ≡ xs → again ≡ xs → xs ≡ now → AreCodes xs moved → own ≡ code - 1 → is_code_at seen own code ≡ false →
-    get nat_cmp moved code ≡ Some place → is_code_at again place code ≡ false → None ≡ position (λ other. other == code) now
-place_moved xs seen again now moved own code place same same_again view indexed own_is not_own there not_there =
-    let none : is_code_at xs place code ≡ false = subst (λ (ys : List ℕ). is_code_at ys place code ≡ false) same_again not_there in
-    place_nowhere xs seen now moved own code same view indexed own_is not_own (λ i is. subst (λ (k : ℕ). is_code_at xs k code ≡ false) (same_Some place i (sym there ∙ is)) none)
-
--- ---- the map, as the table grows
-
-pub indexed_same : (xs after : List ℕ) (moved : BTreeMap ℕ ℕ) → after ≡ xs → AreCodes xs moved → AreCodes after moved
-indexed_same xs after moved same indexed = subst (λ (ys : List ℕ). AreCodes ys moved) (sym same) indexed
-
-pub indexed_unpushed : (xs now after : List ℕ) (moved next : BTreeMap ℕ ℕ) (code given place : ℕ) → xs ≡ now → after ≡ xs → list_any (λ other. other == code) now ≡ false → given ≡ code →
-    PutsPlace moved next given place → AreCodes xs moved → AreCodes after next
-indexed_unpushed xs now after moved next code given place view same none code_is puts indexed =
-    let fresh : list_any (λ (other : ℕ). other == code) xs ≡ false = rw view none in
-    let here : PutsPlace moved next code place = subst (λ (k : ℕ). PutsPlace moved next k place) code_is puts in
-    indexed_same xs after next same (index_kept xs moved next code fresh (others_stay moved next code place here) indexed)
-
-pub indexed_pushed : (xs now after : List ℕ) (moved next : BTreeMap ℕ ℕ) (y : ℕ) (given place : ℕ) → xs ≡ now → after ≡ xs ++ y ∷ [] → list_any (λ other. other == y) now ≡ false →
-    given ≡ y → place ≡ length xs → PutsPlace moved next given place → get nat_cmp next given ≡ Some place → AreCodes xs moved → AreCodes after next
-indexed_pushed xs now after moved next y given place view same none code_is place_is puts there indexed =
-    let fresh : list_any (λ (other : ℕ). other == y) xs ≡ false = rw view none in
-    let here : PutsPlace moved next y place = subst (λ (k : ℕ). PutsPlace moved next k place) code_is puts in
-    let at : get nat_cmp next y ≡ Some (length xs) = ap (λ (k : ℕ). get nat_cmp next k) (sym code_is) ∙ there ∙ ap (λ (k : ℕ). Some k) place_is in
-    indexed_same (xs ++ y ∷ []) after next same (index_push xs next y fresh (inr at) (index_kept xs moved next y fresh (others_stay moved next y place here) indexed))
-
-pub indexed_own : (xs now after : List ℕ) (moved : BTreeMap ℕ ℕ) (y : ℕ) (given place : ℕ) → xs ≡ now → after ≡ xs ++ y ∷ [] → list_any (λ other. other == y) now ≡ false →
-    given ≡ y → place ≡ length xs → given ≡ place + 1 → AreCodes xs moved → AreCodes after moved
-indexed_own xs now after moved y given place view same none code_is place_is own indexed =
-    let fresh : list_any (λ (other : ℕ). other == y) xs ≡ false = rw view none in
-    indexed_same (xs ++ y ∷ []) after moved same (index_push xs moved y fresh (inl (omega (arith, code_is, place_is, own))) indexed)
-
--- ---- codes of declarations
-
-pub any-map : {X Y : Type 0} (f : X → Y) (p : Y → Bool) (xs : List X) → list_any p (map f xs) ≡ list_any (λ x. p (f x)) xs
-any-map f p [] = refl
-any-map f p (x ∷ xs) = ap (λ (b : Bool). p (f x) || b) (any-map f p xs)
-
-place-map : {X Y : Type 0} (f : X → Y) (p : Y → Bool) (xs : List X) → position_or_len p (map f xs) ≡ position_or_len (λ x. p (f x)) xs
-place-map f p [] = refl
-place-map f p (x ∷ xs) = ap (λ (n : ℕ). cond (not (p (f x))) (1 + n) 0) (place-map f p xs)
-
-pub position-map : {X Y : Type 0} (f : X → Y) (p : Y → Bool) (xs : List X) → position p (map f xs) ≡ position (λ x. p (f x)) xs
-position-map f p xs = rw (place-map f p xs, length-map xs f) refl
-
-before-any : {X : Type 0} (p : X → Bool) (xs : List X) → nat_lt (position_or_len p xs) (length xs) ≡ list_any p xs
-before-any p [] = refl
-before-any p (x ∷ xs) = by_test (p x) (before-any p xs)
-  where
-    first : (m : ℕ) → nat_lt 0 (suc m) ≡ true
-    first m = grind (arith, common_steps)
-
-    further : (n m : ℕ) → nat_lt (1 + n) (suc m) ≡ nat_lt n m
-    further n m = grind (arith, common_steps)
-
-    by_test : (b : Bool) → nat_lt (position_or_len p xs) (length xs) ≡ list_any p xs → nat_lt (cond (not b) (1 + position_or_len p xs) 0) (suc (length xs)) ≡ (b || list_any p xs)
-    by_test true h = first (length xs)
-    by_test false h = further (position_or_len p xs) (length xs) ∙ h
-
--- there is a place exactly where an element passes
-pub is_some-position : {X : Type 0} (p : X → Bool) (xs : List X) → is_some (position p xs) ≡ list_any p xs
-is_some-position p xs = by_test (nat_lt (position_or_len p xs) (length xs)) ∙ before-any p xs
-  where
-    by_test : (b : Bool) → is_some (cond b (Some (position_or_len p xs)) None) ≡ b
-    by_test true = refl
-    by_test false = refl
-
--- what stands before a declaration's attributes, by the codes of those before it
-pub head-is : (room : ℕ) (section : List ℕ) (before : List Declaration) (at : ℕ) → head_behind room section (map (λ (d : Declaration). d.code) before) at ≡ head_at room section before at
-head-is room section before at = simp (any-map, length-map)
-
--- ---- codes of what a table has
-
--- a code that no element has is none of their codes
-pub codes-fresh : {X : Type 0} (f : X → ℕ) (xs seen : List X) (codes : List ℕ) (code given : ℕ) → codes ≡ map f xs → xs ≡ seen → given ≡ code → list_any (λ x. f x == code) seen ≡ false → list_any (λ other. other == given) codes ≡ false
-codes-fresh f xs seen codes code given are same is none =
-    ap (λ (k : ℕ). list_any (λ (other : ℕ). other == k) codes) is
-    ∙ (ap (λ (cs : List ℕ). list_any (λ (other : ℕ). other == code) cs) (are ∙ ap (map f) same) ∙ (any-map f (λ (other : ℕ). other == code) seen ∙ none))
-
--- .. and the other way round, of a head that was read
-pub head-fresh : {X : Type 0} (f : X → ℕ) (xs seen : List X) (codes : List ℕ) (found : Result (Option Head) Cause) → codes ≡ map f xs → xs ≡ seen → IfOk found (λ next. IfSome next (λ head. list_any (λ other. other == head.code) codes ≡ false)) →
-    IfOk found (λ next. IfSome next (λ head. list_any (λ x. f x == head.code) seen ≡ false))
-head-fresh f xs seen codes (Ok (Some head)) are same none =
-    sym (any-map f (λ (other : ℕ). other == head.code) seen) ∙ (ap (λ (cs : List ℕ). list_any (λ (other : ℕ). other == head.code) cs) (sym (are ∙ ap (map f) same)) ∙ none)
-head-fresh f xs seen codes (Ok None) are same none = tt
-head-fresh f xs seen codes (Err cause) are same none = tt
+pub place_moved : (xs seen again now : List ℕ) (moved : BTreeMap ℕ ℕ) (own code place : ℕ)
+    → seen ≡ xs → again ≡ xs → xs ≡ now → AreCodes xs moved → own ≡ code - 1
+    → is_code_at seen own code ≡ false
+    → get nat_cmp moved code ≡ Some place → is_code_at again place code ≡ false
+    → None ≡ position (λ other. other == code) now
+place_moved xs seen again now moved own code place same same_again view indexed own_is not_own there
+    not_there =
+    let none : is_code_at xs place code ≡ false =
+    subst (λ (ys : List ℕ). is_code_at ys place code ≡ false) same_again not_there in
+    place_nowhere xs seen now moved own code same view indexed own_is not_own
+    (λ i is. subst (λ (k : ℕ). is_code_at xs k code ≡ false)
+    (same_Some place i (sym there ∙ is)) none)

@@ -1,5 +1,6 @@
 -- What stands in a declaration before its attributes, as what is spelled, in both directions.
-use Rattle.std.proofs.Common.{◌≡◌, ◌≢◌, ℕ, ◌+◌, ◌<◌, ◌≤◌, List, [], ◌∷◌, ◌++◌, length, drop, Bool, true, false, cond, refl, ap, ◌∙◌, subst, arith}
+use Rattle.std.proofs.Common.{◌≡◌, ◌≢◌, ℕ, ◌+◌, ◌<◌, ◌≤◌, List, [], ◌∷◌, ◌++◌, length, drop, Bool}
+use Rattle.std.proofs.Common.{true, false, cond, refl, ap, ◌∙◌, subst, arith}
 use Rattle.std.specs.Prelude.{Ok, nat_lt, nat_le, ◌==◌, if◌then◌else◌}
 use Rattle.std.specs.List.{list_any}
 use Rattle.std.proofs.lemmas.Bool.{ltb-false, leb-false}
@@ -10,7 +11,8 @@ use Rattle.dwarf_bytes.proofs.Advance.{after_bind, after_test, reading_ok, chose
 use Rattle.dwarf_forms.specs.declared.declaration.Head.{Head}
 use Rattle.dwarf_forms.specs.Declarations.{Declaration}
 use Rattle.dwarf_forms.specs.Tables.{head_at}
-use Rattle.dwarf_forms.proofs.Stretches.{Stretch, stretch_of, stands_from, joined, first_part, second_part, within, fixed_stands, fixed_again}
+use Rattle.dwarf_forms.proofs.Stretches.{Stretch, stretch_of, stands_from, joined, first_part}
+use Rattle.dwarf_forms.proofs.Stretches.{second_part, within, fixed_stands, fixed_again}
 use Rattle.dwarf_bytes.proofs.Moves.{same_item, same_end}
 use Rattle.dwarf_forms.proofs.AttributeSpelling.{uleb_read, uleb_reads, unlike, alike, differ}
 
@@ -27,9 +29,11 @@ pub record HeadFits (room : ℕ) (before : List Declaration) (code : ℕ) : Type
   pub room_left : length before < room
   pub new : list_any (λ declaration. declaration.code == code) before ≡ false
 
-one_byte : (block : List ℕ) (value : ℕ) → length block ≡ 1 → value ≡ little_endian block → block ≡ value ∷ []
+one_byte : (block : List ℕ) (value : ℕ) → length block ≡ 1 → value ≡ little_endian block
+    → block ≡ value ∷ []
 one_byte [] value len is = absurd (omega (arith, len))
-one_byte (b ∷ []) value len is = let same : b ≡ value = omega (arith, is) in ap (λ (k : ℕ). k ∷ []) same
+one_byte (b ∷ []) value len is = let same : b ≡ value = omega (arith, is) in
+    ap (λ (k : ℕ). k ∷ []) same
 one_byte (b ∷ c ∷ bs) value len is = absurd (omega (arith, len))
 
 flag_of : (value : ℕ) → value ≤ 1 → value ≡ (if value == 1 then 1 else 0)
@@ -51,55 +55,107 @@ flag_test : (b : Bool) → ((if b then 1 else 0) == 1) ≡ b
 flag_test true = refl
 flag_test false = refl
 
-pub head_spelled : (room : ℕ) (section : List ℕ) (before : List Declaration) (at : ℕ) (head : Head) (next : ℕ) → head_at room section before at ≡ Ok (Item head next) → StandsAt SpellsHead section at head next × HeadFits room before head.code
+pub head_spelled : (room : ℕ) (section : List ℕ) (before : List Declaration) (at : ℕ) (head : Head)
+    (next : ℕ) → head_at room section before at ≡ Ok (Item head next)
+    → StandsAt SpellsHead section at head next × HeadFits room before head.code
 head_spelled room section before at head next h =
     let P : Type 0 = StandsAt SpellsHead section at head next × HeadFits room before head.code in
     after_bind (reading (uleb_at section at)) _ (Item head next) h P (λ code code_is h1.
     chosen (code.0 == 0) _ _ (Ok (Item head next)) h1 P (λ _ is. cc) (λ some h2.
     after_test (nat_le room (length before)) causes.TooMany _ (Item head next) h2 P (λ fits h3.
-    after_test (list_any (λ declaration. declaration.code == code.0) before) causes.AbbrevTwice _ (Item head next) h3 P (λ once h4.
+    after_test (list_any (λ declaration. declaration.code == code.0) before) causes.AbbrevTwice _
+    (Item head next) h3 P (λ once h4.
     after_bind (reading (uleb_at section code.1)) _ (Item head next) h4 P (λ tag tag_is h5.
     after_bind (reading (u8_at section tag.1)) _ (Item head next) h5 P (λ children children_is h6.
     after_test (nat_lt 1 children.0) causes.Children _ (Item head next) h6 P (λ flag h7.
     let a = uleb_read section at code code_is in
     let b = uleb_read section code.1 tag tag_is in
-    let c = fixed_stands 1 section tag.1 children (reading_ok (u8_at section tag.1) children children_is) in
-    let ab = joined section at a.front b.front code.1 tag.1 a.rest b.rest (stretch_of IsUleb section at code.0 code.1 a) (stretch_of IsUleb section code.1 tag.0 tag.1 b) in
-    let abc = joined section at (a.front ++ b.front) c.0 tag.1 children.1 b.rest (drop 1 (drop tag.1 section)) ab c.1 in
+    let c = fixed_stands 1 section tag.1 children
+    (reading_ok (u8_at section tag.1) children children_is) in
+    let ab = joined section at a.front b.front code.1 tag.1 a.rest b.rest
+    (stretch_of IsUleb section at code.0 code.1 a)
+    (stretch_of IsUleb section code.1 tag.0 tag.1 b) in
+    let abc = joined section at (a.front ++ b.front) c.0 tag.1 children.1 b.rest
+    (drop 1 (drop tag.1 section)) ab c.1 in
     let it : Head = record { code = code.0; tag = tag.0; children = children.0 == 1 } in
-    let byte : c.0 ≡ (if children.0 == 1 then 1 else 0) ∷ [] = one_byte c.0 children.0 c.2 c.3 ∙ ap (λ (k : ℕ). k ∷ []) (flag_of children.0 (ltb-false 1 children.0 flag)) in
-    let stands : StandsAt SpellsHead section at it children.1 = stands_from SpellsHead section at it children.1 ((a.front ++ b.front) ++ c.0) (drop 1 (drop tag.1 section)) abc
-    (record { code = a.front; tag = b.front; whole = ap (λ (x : List ℕ). (a.front ++ b.front) ++ x) byte; code_is = a.spelled; tag_is = b.spelled }) in
-    let good : HeadFits room before it.code = record { some = differ code.0 0 some; room_left = leb-false room (length before) fits; new = once } in
-    let same = same_item it head children.1 next h7 in
-    (subst (λ (k : ℕ). StandsAt SpellsHead section at head k) same.1 (subst (λ (y : Head). StandsAt SpellsHead section at y children.1) same.0 stands), subst (λ (y : Head). HeadFits room before y.code) same.0 good))))))))
+    let byte : c.0 ≡ (if children.0 == 1 then 1 else 0) ∷ [] = one_byte c.0 children.0 c.2 c.3
+    ∙ ap (λ (k : ℕ). k ∷ []) (flag_of children.0 (ltb-false 1 children.0 flag)) in
+    let stands : StandsAt SpellsHead section at it children.1 =
+    stands_from SpellsHead section at it children.1 ((a.front ++ b.front) ++ c.0)
+    (drop 1 (drop tag.1 section)) abc
+    (record {
+      code = a.front;
+      tag = b.front;
+      whole =
+          ap (λ (x : List ℕ). (a.front ++ b.front) ++ x) byte;
+      code_is = a.spelled;
+      tag_is =
+          b.spelled;
+    }) in
+    let good : HeadFits room before it.code =
+    record {
+      some = differ code.0 0 some;
+      room_left = leb-false room (length before) fits;
+      new =
+          once;
+    } in
+    let same = same_item it head children.1 next h7 in (
+      subst (λ (k : ℕ). StandsAt SpellsHead section at head k) same.1
+          (subst (λ (y : Head). StandsAt SpellsHead section at y children.1) same.0 stands),
+      subst (λ (y : Head). HeadFits room before y.code) same.0 good,
+    ))))))))
 
-pub head_end : (room : ℕ) (section : List ℕ) (before : List Declaration) (at next : ℕ) → head_at room section before at ≡ Ok (End next) → StandsAt IsUleb section at 0 next
+pub head_end : (room : ℕ) (section : List ℕ) (before : List Declaration) (at next : ℕ)
+    → head_at room section before at ≡ Ok (End next) → StandsAt IsUleb section at 0 next
 head_end room section before at next h =
     let P : Type 0 = StandsAt IsUleb section at 0 next in
     after_bind (reading (uleb_at section at)) _ (End next) h P (λ code code_is h1.
     chosen (code.0 == 0) _ _ (Ok (End next)) h1 P
-    (λ zero is. subst (λ (k : ℕ). StandsAt IsUleb section at 0 k) (same_end {X = Head} code.1 next is) (subst (λ (k : ℕ). StandsAt IsUleb section at k code.1) (alike code.0 0 zero) (uleb_read section at code code_is)))
+    (λ zero is. subst (λ (k : ℕ). StandsAt IsUleb section at 0 k)
+    (same_end {X = Head} code.1 next is)
+    (subst (λ (k : ℕ). StandsAt IsUleb section at k code.1) (alike code.0 0 zero)
+    (uleb_read section at code code_is)))
     (λ _ h2.
     after_test (nat_le room (length before)) causes.TooMany _ (End next) h2 P (λ fits h3.
-    after_test (list_any (λ declaration. declaration.code == code.0) before) causes.AbbrevTwice _ (End next) h3 P (λ once h4.
+    after_test (list_any (λ declaration. declaration.code == code.0) before) causes.AbbrevTwice _
+    (End next) h3 P (λ once h4.
     after_bind (reading (uleb_at section code.1)) _ (End next) h4 P (λ tag tag_is h5.
     after_bind (reading (u8_at section tag.1)) _ (End next) h5 P (λ children children_is h6.
     after_test (nat_lt 1 children.0) causes.Children _ (End next) h6 P (λ flag h7. cc)))))))
 
-pub head_read : (room : ℕ) (section : List ℕ) (before : List Declaration) (at : ℕ) (head : Head) (next : ℕ) (code tag rest : List ℕ) → Stretch section at ((code ++ tag) ++ (if head.children then 1 else 0) ∷ []) next rest → IsUleb code head.code → IsUleb tag head.tag →
-    HeadFits room before head.code → head_at room section before at ≡ Ok (Item head next)
+pub head_read : (room : ℕ) (section : List ℕ) (before : List Declaration) (at : ℕ) (head : Head)
+    (next : ℕ) (code tag rest : List ℕ) → Stretch section at
+    ((code ++ tag) ++ (if head.children then 1 else 0) ∷ []) next rest → IsUleb code head.code
+    → IsUleb tag head.tag
+    → HeadFits room before head.code → head_at room section before at ≡ Ok (Item head next)
 head_read room section before at head next code tag rest s code_is tag_is good =
     let byte : List ℕ = (if head.children then 1 else 0) ∷ [] in
     let two = first_part section at (code ++ tag) byte next rest s in
     let mid = at + length (code ++ tag) in
-    let coded = uleb_reads section at head.code (at + length code) (stands_from IsUleb section at head.code (at + length code) code (tag ++ (byte ++ rest)) (first_part section at code tag mid (byte ++ rest) two) code_is) in
-    let tagged = uleb_reads section (at + length code) head.tag mid (stands_from IsUleb section (at + length code) head.tag mid tag (byte ++ rest) (second_part section at code tag mid (byte ++ rest) two) tag_is) in
+    let coded = uleb_reads section at head.code (at + length code)
+    (stands_from IsUleb section at head.code (at + length code) code (tag ++ (byte ++ rest))
+    (first_part section at code tag mid (byte ++ rest) two) code_is) in
+    let tagged = uleb_reads section (at + length code) head.tag mid
+    (stands_from IsUleb section (at + length code) head.tag mid tag (byte ++ rest)
+    (second_part section at code tag mid (byte ++ rest) two) tag_is) in
     let last = second_part section at (code ++ tag) byte next rest s in
-    let end : mid + 1 ≤ length section = omega (arith, within section mid byte next rest last (omega arith), last.next_is) in
-    let flagged : reading (u8_at section mid) ≡ Ok (little_endian byte, next) = rw (fixed_again 1 section mid byte next rest last refl end) refl in
-    let room_left : nat_le room (length before) ≡ false = lt-leb (length before) room good.room_left in
-    rw (coded, unlike head.code 0 good.some, room_left, good.new, tagged, flagged, flag_byte head.children, flag_fits head.children, flag_test head.children) refl
+    let end : mid + 1 ≤ length section =
+    omega (arith, within section mid byte next rest last (omega arith), last.next_is) in
+    let flagged : reading (u8_at section mid) ≡ Ok (little_endian byte, next) =
+    rw (fixed_again 1 section mid byte next rest last refl end) refl in
+    let room_left : nat_le room (length before) ≡ false =
+    lt-leb (length before) room good.room_left in
+    rw (
+      coded,
+      unlike head.code 0 good.some,
+      room_left,
+      good.new,
+      tagged,
+      flagged,
+      flag_byte head.children,
+      flag_fits head.children,
+      flag_test head.children,
+    ) refl
   where
     lt-leb : (m n : ℕ) → m < n → nat_le n m ≡ false
     lt-leb m n h = grind arith

@@ -1,55 +1,64 @@
 -- Lists of attributes that are known from a place on, read behind other attributes.
-use Rattle.std.proofs.Common.{◌≡◌, ℕ, List, [], ◌∷◌, ◌++◌, length, Bool, true, false, refl, ap, sym, ◌∙◌, subst, arith, append_assoc, append-nil}
-use Rattle.std.specs.Prelude.{Result, Ok, Err, is_none, ◌==◌, ◌&&◌, ◌||◌, if◌then◌else◌}
+use Rattle.std.proofs.Common.{◌≡◌, ℕ, List, [], ◌∷◌, Bool, true, false, refl, ap, ◌∙◌, arith}
+use Rattle.std.specs.Prelude.{Ok, Err, is_none, ◌==◌, ◌&&◌, ◌||◌}
 use Rattle.std.specs.List.{list_any}
-use Rattle.std.proofs.lemmas.List.Folds.{list_any-append}
-use Rattle.dwarf_bytes.specs.declared.fault.Cause.{Cause}
 use Rattle.dwarf_bytes.specs.declared.fault.Cause.TheVariants as causes
 use Rattle.dwarf_bytes.specs.Numbers.{uleb_at}
 use Rattle.dwarf_bytes.specs.Forms.{form_of}
-use Rattle.dwarf_bytes.specs.Items.{At, Item, End, Lists, reading, refuse_if, untold, items_from}
+use Rattle.dwarf_bytes.specs.Items.{Item, End, reading}
 use Rattle.dwarf_bytes.proofs.Advance.{after_bind, after_test, chosen}
-use Rattle.dwarf_bytes.proofs.ItemLaws.{put_front, with_front, items_from-step, items_from-Lists}
-use Rattle.dwarf_bytes.proofs.Moves.{same_ok, same_item}
-use Rattle.dwarf_bytes.proofs.Turns.{SoFar}
+use Rattle.dwarf_bytes.proofs.Moves.{same_item}
 use Rattle.dwarf_forms.specs.declared.attribute.AttributeSpecification.{AttributeSpecification}
-use Rattle.dwarf_forms.specs.Tables.{constant_at, attribute_at, attributes_at, shares_name}
-use Rattle.dwarf_forms.proofs.Moves.{attribute_at-advances, attributes_at-lists, attributes_ok, attributes_err}
-use Rattle.dwarf_forms.proofs.AttributeSpelling.{attribute_spelled, attribute_read}
+use Rattle.dwarf_forms.specs.Tables.{constant_at, attribute_at, shares_name}
+use Rattle.dwarf_forms.proofs.AttributeSpelling.{attribute_spelled}
+use Rattle.dwarf_forms.proofs.AttributeReads.{attribute_read}
 
-abbrev named : ℕ → AttributeSpecification → Bool
+abbrev pub named : ℕ → AttributeSpecification → Bool
 named name attribute = attribute.name == name
 
 -- an attribute is read again behind others of which none has its name
-pub attribute-again : (section : List ℕ) (before other : List AttributeSpecification) (at : ℕ) (x : AttributeSpecification) (next : ℕ) → attribute_at section before at ≡ Ok (Item x next) → list_any (named x.name) other ≡ false → attribute_at section other at ≡ Ok (Item x next)
+pub attribute-again : (section : List ℕ) (before other : List AttributeSpecification) (at : ℕ)
+    (x : AttributeSpecification) (next : ℕ) → attribute_at section before at ≡ Ok (Item x next)
+    → list_any (named x.name) other ≡ false → attribute_at section other at ≡ Ok (Item x next)
 attribute-again section before other at x next read new =
     let stands = (attribute_spelled section).item before at x next read in
     (attribute_read section).item other at x next stands.0 (stands.1.0, new)
 
 -- .. and none has its name before it
-pub attribute-new : (section : List ℕ) (before : List AttributeSpecification) (at : ℕ) (x : AttributeSpecification) (next : ℕ) → attribute_at section before at ≡ Ok (Item x next) → list_any (named x.name) before ≡ false
-attribute-new section before at x next read = ((attribute_spelled section).item before at x next read).1.1
+pub attribute-new : (section : List ℕ) (before : List AttributeSpecification) (at : ℕ)
+    (x : AttributeSpecification) (next : ℕ) → attribute_at section before at ≡ Ok (Item x next)
+    → list_any (named x.name) before ≡ false
+attribute-new section before at x next read =
+    ((attribute_spelled section).item before at x next read).1.1
 
-pub end-again : (section : List ℕ) (before other : List AttributeSpecification) (at next : ℕ) → attribute_at section before at ≡ Ok (End next) → attribute_at section other at ≡ Ok (End next)
-end-again section before other at next read = (attribute_read section).end other at next ((attribute_spelled section).end before at next read)
+pub end-again : (section : List ℕ) (before other : List AttributeSpecification) (at next : ℕ)
+    → attribute_at section before at ≡ Ok (End next) → attribute_at section other at ≡ Ok (End next)
+end-again section before other at next read =
+    (attribute_read section).end other at next ((attribute_spelled section).end before at next read)
 
 -- behind others of which one has its name it is refused
-pub attribute-twice : (section : List ℕ) (before other : List AttributeSpecification) (at : ℕ) (x : AttributeSpecification) (next : ℕ) → attribute_at section before at ≡ Ok (Item x next) → list_any (named x.name) other ≡ true → attribute_at section other at ≡ Err causes.AttrTwice
+pub attribute-twice : (section : List ℕ) (before other : List AttributeSpecification) (at : ℕ)
+    (x : AttributeSpecification) (next : ℕ) → attribute_at section before at ≡ Ok (Item x next)
+    → list_any (named x.name) other ≡ true → attribute_at section other at ≡ Err causes.AttrTwice
 attribute-twice section before other at x next read twice =
     let P : Type 0 = attribute_at section other at ≡ Err causes.AttrTwice in
     after_bind (reading (uleb_at section at)) _ (Item x next) read P (λ name name_is h1.
     after_bind (reading (uleb_at section name.1)) _ (Item x next) h1 P (λ form form_is h2.
     chosen ((name.0 == 0) && (form.0 == 0)) _ _ (Ok (Item x next)) h2 P (λ _ is. cc) (λ not_end h3.
-    after_test ((name.0 == 0) || is_none (form_of form.0)) causes.Form _ (Item x next) h3 P (λ usable h4.
-    after_test (list_any (λ attribute. attribute.name == name.0) before) causes.AttrTwice _ (Item x next) h4 P (λ once h5.
+    after_test ((name.0 == 0) || is_none (form_of form.0)) causes.Form _ (Item x next) h3 P
+    (λ usable h4.
+    after_test (list_any (λ attribute. attribute.name == name.0) before) causes.AttrTwice _
+    (Item x next) h4 P (λ once h5.
     after_bind (constant_at form.0 section form.1) _ (Item x next) h5 P (λ constant constant_is h6.
-    let same = same_item (record { name = name.0; form = form.0; constant = constant.0 }) x constant.1 next h6 in
-    let here : list_any (named name.0) other ≡ true = ap (λ (y : AttributeSpecification). list_any (named y.name) other) same.0 ∙ twice in
+    let same = same_item (record { name = name.0; form = form.0; constant = constant.0 }) x
+    constant.1 next h6 in
+    let here : list_any (named name.0) other ≡ true =
+    ap (λ (y : AttributeSpecification). list_any (named y.name) other) same.0 ∙ twice in
     rw (name_is, form_is, not_end, usable, here) refl))))))
 
 -- ---- names that two lists share, one attribute of the second list after the other
 
-either : (a b : Bool) → (a || b) ≡ false → (a ≡ false) × (b ≡ false)
+pub either : (a b : Bool) → (a || b) ≡ false → (a ≡ false) × (b ≡ false)
 either true b h = cc
 either false b h = (refl, h)
 
@@ -62,116 +71,14 @@ same_either false true false d = refl
 same_test : (a b : ℕ) → (a == b) ≡ (b == a)
 same_test a b = grind arith
 
-pub shares-cons : (own rest : List AttributeSpecification) (x : AttributeSpecification) → shares_name own (x ∷ rest) ≡ (list_any (named x.name) own || shares_name own rest)
+pub shares-cons : (own rest : List AttributeSpecification) (x : AttributeSpecification)
+    → shares_name own (x ∷ rest) ≡ (list_any (named x.name) own || shares_name own rest)
 shares-cons [] rest x = refl
 shares-cons (a ∷ own) rest x =
     rw (shares-cons own rest x, same_test x.name a.name)
-    (same_either (a.name == x.name) (list_any (named a.name) rest) (list_any (named x.name) own) (shares_name own rest))
+    (same_either (a.name == x.name) (list_any (named a.name) rest) (list_any (named x.name) own)
+    (shares_name own rest))
 
 pub shares-none : (own : List AttributeSpecification) → shares_name own [] ≡ false
 shares-none [] = refl
 shares-none (a ∷ own) = shares-none own
-
--- ---- lists
-
--- a list is read again behind more attributes, of which none has a name of its
-pub lists-again : (section : List ℕ) (own before : List AttributeSpecification) (at : ℕ) (xs : List AttributeSpecification) (next : ℕ) → Lists (attribute_at section) before at xs next → shares_name own xs ≡ false → Lists (attribute_at section) (own ++ before) at xs next
-lists-again section own before at [] next listed apart = end-again section before (own ++ before) at next listed
-lists-again section own before at (x ∷ xs) next listed apart =
-    let parts = either (list_any (named x.name) own) (shares_name own xs) (sym (shares-cons own xs x) ∙ apart) in
-    let new : list_any (named x.name) (own ++ before) ≡ false = list_any-append (named x.name) own before ∙ rw (parts.0, attribute-new section before at x listed.0 listed.1) refl in
-    let rest : Lists (attribute_at section) (own ++ (before ++ x ∷ [])) listed.0 xs next = lists-again section own (before ++ x ∷ []) listed.0 xs next listed.2 parts.1 in
-    (listed.0, attribute-again section before (own ++ before) at x listed.0 listed.1 new, subst (λ (ys : List AttributeSpecification). Lists (attribute_at section) ys listed.0 xs next) (sym (append_assoc own before (x ∷ []))) rest)
-
--- .. and behind fewer
-pub lists-fewer : (section : List ℕ) (own before : List AttributeSpecification) (at : ℕ) (xs : List AttributeSpecification) (next : ℕ) → Lists (attribute_at section) (own ++ before) at xs next → Lists (attribute_at section) before at xs next
-lists-fewer section own before at [] next listed = end-again section (own ++ before) before at next listed
-lists-fewer section own before at (x ∷ xs) next listed =
-    let parts = either (list_any (named x.name) own) (list_any (named x.name) before) (sym (list_any-append (named x.name) own before) ∙ attribute-new section (own ++ before) at x listed.0 listed.1) in
-    let rest : Lists (attribute_at section) (own ++ (before ++ x ∷ [])) listed.0 xs next = subst (λ (ys : List AttributeSpecification). Lists (attribute_at section) ys listed.0 xs next) (append_assoc own before (x ∷ [])) listed.2 in
-    (listed.0, attribute-again section (own ++ before) before at x listed.0 listed.1 parts.1, lists-fewer section own (before ++ x ∷ []) listed.0 xs next rest)
-
--- what is behind the first attribute of a list is a list
-pub attributes-behind : (section : List ℕ) (at : ℕ) (x : AttributeSpecification) (xs : List AttributeSpecification) (next : ℕ) → attributes_at section at ≡ Ok (x ∷ xs, next) → (mid : ℕ) × (attribute_at section [] at ≡ Ok (Item x mid)) × (attributes_at section mid ≡ Ok (xs, next))
-attributes-behind section at x xs next read =
-    let listed = attributes_at-lists section at (x ∷ xs, next) read in
-    let rest : Lists (attribute_at section) [] listed.0 xs next = lists-fewer section (x ∷ []) [] listed.0 xs next listed.2 in
-    (listed.0, listed.1, attributes_ok section listed.0 (xs, next) (items_from-Lists (length section) (attribute_at section) (attribute_at-advances section) [] listed.0 xs next rest))
-
--- .. and is refused behind others of which one has
-pub lists-twice : (section : List ℕ) (own before : List AttributeSpecification) (at : ℕ) (xs : List AttributeSpecification) (next : ℕ) → Lists (attribute_at section) before at xs next → shares_name own xs ≡ true →
-    untold (items_from (length section) (attribute_at section) (own ++ before) at) ≡ Err causes.AttrTwice
-lists-twice section own before at [] next listed shared = cc (shared, shares-none own)
-lists-twice section own before at (x ∷ xs) next listed shared =
-    by_name (λ more. lists-twice section own (before ++ x ∷ []) listed.0 xs next listed.2 more) (list_any (named x.name) own) refl
-  where
-    told : {X : Type 0} (x : X) (r : Result (List X × ℕ) At) → untold r ≡ Err causes.AttrTwice → untold (put_front x r) ≡ Err causes.AttrTwice
-    told x (Ok others) h = cc
-    told x (Err e) h = h
-
-    by_name : (shares_name own xs ≡ true → untold (items_from (length section) (attribute_at section) (own ++ (before ++ x ∷ [])) listed.0) ≡ Err causes.AttrTwice) → (b : Bool) → list_any (named x.name) own ≡ b →
-        untold (items_from (length section) (attribute_at section) (own ++ before) at) ≡ Err causes.AttrTwice
-    by_name rest true is =
-        let twice : list_any (named x.name) (own ++ before) ≡ true = list_any-append (named x.name) own before ∙ rw is refl in
-        rw (items_from-step (length section) (attribute_at section) (attribute_at-advances section) (own ++ before) at, attribute-twice section before (own ++ before) at x listed.0 listed.1 twice) refl
-    by_name rest false is =
-        let new : list_any (named x.name) (own ++ before) ≡ false = list_any-append (named x.name) own before ∙ rw (is, attribute-new section before at x listed.0 listed.1) refl in
-        let more : shares_name own xs ≡ true = sym (ap (λ (b : Bool). b || shares_name own xs) is) ∙ (sym (shares-cons own xs x) ∙ shared) in
-        rw (
-          items_from-step (length section) (attribute_at section) (attribute_at-advances section) (own ++ before) at,
-          attribute-again section before (own ++ before) at x listed.0 listed.1 new,
-          append_assoc own before (x ∷ []),
-        ) (told x (items_from (length section) (attribute_at section) (own ++ (before ++ x ∷ [])) listed.0) (rest more))
-
--- what is read of a list behind others
-pub attributes_joined : (section : List ℕ) (own : List AttributeSpecification) (at : ℕ) (rest : List AttributeSpecification) (next : ℕ) → attributes_at section at ≡ Ok (rest, next) →
-    untold (items_from (length section) (attribute_at section) own at) ≡ (if shares_name own rest then Err causes.AttrTwice else Ok (rest, next))
-attributes_joined section own at rest next read =
-    subst (λ (ys : List AttributeSpecification). untold (items_from (length section) (attribute_at section) ys at) ≡ (if shares_name own rest then Err causes.AttrTwice else Ok (rest, next))) (append-nil own)
-    (by_test (shares_name own rest) refl)
-  where
-    listed : Lists (attribute_at section) [] at rest next
-    listed = attributes_at-lists section at (rest, next) read
-
-    by_test : (b : Bool) → shares_name own rest ≡ b → untold (items_from (length section) (attribute_at section) (own ++ []) at) ≡ (if b then Err causes.AttrTwice else Ok (rest, next))
-    by_test true shared = lists-twice section own [] at rest next listed shared
-    by_test false apart = rw (items_from-Lists (length section) (attribute_at section) (attribute_at-advances section) (own ++ []) at rest next (lists-again section own [] at rest next listed apart)) refl
-
--- .. by the test of the names
-pub joined-ok : (section : List ℕ) (own : List AttributeSpecification) (at : ℕ) (rest : List AttributeSpecification) (next : ℕ) → attributes_at section at ≡ Ok (rest, next) → Ok tt ≡ refuse_if (shares_name own rest) causes.AttrTwice →
-    untold (items_from (length section) (attribute_at section) own at) ≡ Ok (rest, next)
-joined-ok section own at rest next read passed = by_test (shares_name own rest) (attributes_joined section own at rest next read) passed
-  where
-    by_test : (b : Bool) → untold (items_from (length section) (attribute_at section) own at) ≡ (if b then Err causes.AttrTwice else Ok (rest, next)) → Ok tt ≡ refuse_if b causes.AttrTwice → untold (items_from (length section) (attribute_at section) own at) ≡ Ok (rest, next)
-    by_test true is h = cc
-    by_test false is h = is
-
-pub joined-err : (section : List ℕ) (own : List AttributeSpecification) (at : ℕ) (rest : List AttributeSpecification) (next : ℕ) (cause : Cause) → attributes_at section at ≡ Ok (rest, next) → Err cause ≡ refuse_if (shares_name own rest) causes.AttrTwice →
-    untold (items_from (length section) (attribute_at section) own at) ≡ Err cause
-joined-err section own at rest next cause read refused = by_test (shares_name own rest) (attributes_joined section own at rest next read) refused
-  where
-    by_test : (b : Bool) → untold (items_from (length section) (attribute_at section) own at) ≡ (if b then Err causes.AttrTwice else Ok (rest, next)) → Err cause ≡ refuse_if b causes.AttrTwice → untold (items_from (length section) (attribute_at section) own at) ≡ Err cause
-    by_test true is h = is ∙ sym_cause h
-      where
-        sym_cause : Err cause ≡ refuse_if true causes.AttrTwice → (let f : Cause → Result (List AttributeSpecification × ℕ) Cause = λ c. Err c in f causes.AttrTwice ≡ f cause)
-        sym_cause h = cc
-    by_test false is h = cc
-
--- ---- what is read from the first place on, where a rest is known behind what was read so far
-
-pub so_far-joined : (section : List ℕ) (first : ℕ) (own : List AttributeSpecification) (at : ℕ) (rest : List AttributeSpecification) (next : ℕ) → SoFar (length section) (attribute_at section) first own at → untold (items_from (length section) (attribute_at section) own at) ≡ Ok (rest, next) →
-    attributes_at section first ≡ Ok (own ++ rest, next)
-so_far-joined section first own at rest next so_far joined = by_read (items_from (length section) (attribute_at section) own at) so_far joined
-  where
-    by_read : (r : Result (List AttributeSpecification × ℕ) At) → with_front own r ≡ items_from (length section) (attribute_at section) [] first → untold r ≡ Ok (rest, next) → attributes_at section first ≡ Ok (own ++ rest, next)
-    by_read (Ok found) is h =
-        attributes_ok section first (own ++ rest, next) (sym is ∙ ap (λ (p : List AttributeSpecification × ℕ). (let f : List AttributeSpecification × ℕ → Result (List AttributeSpecification × ℕ) At = λ z. Ok z in f (own ++ p.0, p.1))) (same_ok found (rest, next) h))
-    by_read (Err e) is h = cc
-
-pub so_far-refused : (section : List ℕ) (first : ℕ) (own : List AttributeSpecification) (at : ℕ) (cause : Cause) → SoFar (length section) (attribute_at section) first own at → untold (items_from (length section) (attribute_at section) own at) ≡ Err cause →
-    attributes_at section first ≡ Err cause
-so_far-refused section first own at cause so_far refused = by_read (items_from (length section) (attribute_at section) own at) so_far refused
-  where
-    by_read : (r : Result (List AttributeSpecification × ℕ) At) → with_front own r ≡ items_from (length section) (attribute_at section) [] first → untold r ≡ Err cause → attributes_at section first ≡ Err cause
-    by_read (Ok found) is h = cc
-    by_read (Err e) is h = attributes_err section first e (sym is) ∙ h

@@ -1,5 +1,6 @@
 -- How many attributes are known: each place once at the most.
-use Rattle.std.proofs.Common.{◌≡◌, ◌≢◌, ◌⊎◌, inl, inr, ℕ, suc, ◌<◌, ◌≤◌, List, [], ◌∷◌, length, get_or, Bool, true, false, refl, ap, sym, ◌∙◌, arith}
+use Rattle.std.proofs.Common.{◌≡◌, ◌≢◌, ◌⊎◌, inl, inr, ℕ, suc, ◌<◌, ◌≤◌, List, [], ◌∷◌, length}
+use Rattle.std.proofs.Common.{get_or, Bool, true, false, refl, ap, sym, ◌∙◌, arith}
 use Rattle.std.specs.Prelude.{Some, None, All, AllPairs, map, eqb, slice_get, ◌||◌}
 use Rattle.std.specs.Option.{option_map}
 use Rattle.std.specs.List.{list_any}
@@ -10,7 +11,8 @@ use Rattle.std.proofs.lemmas.Bool.Decides.{Decides-eqb}
 use Rattle.std.proofs.lemmas.List.{length-map}
 use Rattle.std.proofs.lemmas.Map.Made.{IsDistinct-from_AllPairs}
 use Rattle.std.proofs.lemmas.Map.Steps.{length-le_from_distinct_below}
-use Rattle.std.proofs.lemmas.Option.{same_Some, slice_get_cases, slice_get-map, get_or_from_slice_get}
+use Rattle.std.proofs.lemmas.Option.{same_Some, slice_get_cases, slice_get-map}
+use Rattle.std.proofs.lemmas.Option.{get_or_from_slice_get}
 use Rattle.dwarf_forms.specs.declared.known_lists.KnownAttribute.{KnownAttribute}
 use Rattle.dwarf_forms.specs.declared.name_sets.Branch.{Branch}
 use Rattle.dwarf_forms.specs.Private.Known.{AreKnown, attributes_from}
@@ -19,17 +21,28 @@ use Rattle.dwarf_forms.proofs.Moves.{attributes_at-moves}
 abbrev place_of : KnownAttribute → ℕ
 place_of k = k.place
 
-below-all : (xs : List ℕ) (n : ℕ) → All (λ x. x < n) xs → (q : ℕ) → list_any (eqb q) xs ≡ true → q < n
+below-all : (xs : List ℕ) (n : ℕ) → All (λ x. x < n) xs → (q : ℕ) → list_any (eqb q) xs ≡ true
+    → q < n
 below-all [] n all q is = cc
-below-all (x ∷ xs) n all q is = by_test (λ h. below-all xs n (λ k d lt. all (suc k) d (omega (arith, lt))) q h) (eqb q x) refl is
+below-all (x ∷ xs) n all q is = by_test (λ h. below-all xs n
+    (λ k d lt. all (suc k) d (omega (arith, lt))) q h) (eqb q x) refl is
   where
-    by_test : (list_any (eqb q) xs ≡ true → q < n) → (b : Bool) → eqb q x ≡ b → (b || list_any (eqb q) xs) ≡ true → q < n
-    by_test behind true same h = let one : q ≡ x = eqb-true q x same in omega (arith, one, all 0 0 (omega arith))
+    by_test : (list_any (eqb q) xs ≡ true → q < n) → (b : Bool) → eqb q x ≡ b
+        → (b || list_any (eqb q) xs) ≡ true → q < n
+    by_test behind true same h = let one : q ≡ x = eqb-true q x same in
+        omega (arith, one, all 0 0 (omega arith))
     by_test behind false apart h = behind h
 
 -- so no more attributes are known than the section has bytes
-pub known-few : (section : List ℕ) (known : List KnownAttribute) (places : BTreeMap ℕ ℕ) (sets : List Branch) → AreKnown section known places sets → length known ≤ length section
-known-few section known places sets are = omega (arith, length-map known place_of, length-le_from_distinct_below ps (length section) (IsDistinct-from_AllPairs Decides-eqb ps apart) (below-all ps (length section) below))
+pub known-few : (section : List ℕ) (known : List KnownAttribute) (places : BTreeMap ℕ ℕ)
+    (sets : List Branch) → AreKnown section known places sets → length known ≤ length section
+known-few section known places sets are =
+    omega (
+      arith,
+      length-map known place_of,
+      length-le_from_distinct_below ps (length section)
+          (IsDistinct-from_AllPairs Decides-eqb ps apart) (below-all ps (length section) below),
+    )
   where
     ps : List ℕ
     ps = map place_of known
@@ -37,23 +50,30 @@ known-few section known places sets are = omega (arith, length-map known place_o
     item : (n : ℕ) → n < length ps → (k : KnownAttribute) × (slice_get known n ≡ Some k)
     item n lt = by_case (slice_get_cases known n).1
       where
-        by_case : ((k : KnownAttribute) × (n < length known) × (slice_get known n ≡ Some k) × (get_or known n k ≡ k)) ⊎ ((length known ≤ n) × (slice_get known n ≡ None)) → (k : KnownAttribute) × (slice_get known n ≡ Some k)
+        by_case : ((k : KnownAttribute) × (n < length known) × (slice_get known n ≡ Some k)
+            × (get_or known n k ≡ k)) ⊎ ((length known ≤ n) × (slice_get known n ≡ None))
+            → (k : KnownAttribute) × (slice_get known n ≡ Some k)
         by_case (inl found) = (found.0, found.2)
         by_case (inr past) = absurd (omega (arith, past.0, lt, length-map known place_of))
 
     place_is : (n d : ℕ) (k : KnownAttribute) → slice_get known n ≡ Some k → get_or ps n d ≡ k.place
-    place_is n d k at = get_or_from_slice_get ps n k.place d (slice_get-map place_of known n ∙ ap (option_map place_of) at)
+    place_is n d k at = get_or_from_slice_get ps n k.place d
+        (slice_get-map place_of known n ∙ ap (option_map place_of) at)
 
     apart : AllPairs (λ x y. x ≢ y) ps
     apart i j d lt within same =
         let a = item i (omega (arith, lt, within)) in
         let b = item j within in
-        let one : a.0.place ≡ b.0.place = sym (place_is i d a.0 a.1) ∙ (same ∙ place_is j d b.0 b.1) in
-        let numbers : i ≡ j = same_Some i j (sym (are.each i a.0 a.1).found ∙ (ap (λ (p : ℕ). get nat_cmp places p) one ∙ (are.each j b.0 b.1).found)) in
+        let one : a.0.place ≡ b.0.place =
+        sym (place_is i d a.0 a.1) ∙ (same ∙ place_is j d b.0 b.1) in
+        let numbers : i ≡ j = same_Some i j
+        (sym (are.each i a.0 a.1).found
+        ∙ (ap (λ (p : ℕ). get nat_cmp places p) one ∙ (are.each j b.0 b.1).found)) in
         omega (arith, lt, numbers)
 
     below : All (λ x. x < length section) ps
     below n d lt =
         let k = item n lt in
-        let moved = attributes_at-moves section k.0.place (attributes_from known n, k.0.after) (are.each n k.0 k.1).read in
+        let moved = attributes_at-moves section k.0.place (attributes_from known n, k.0.after)
+        (are.each n k.0 k.1).read in
         omega (arith, place_is n d k.0 k.1, moved.0, moved.1)

@@ -1,5 +1,7 @@
 -- Items read one after another, as what is spelled: in both directions, for any step.
-use Rattle.std.proofs.Common.{◌≡◌, ◌≢◌, ℕ, zero, suc, ◌+◌, ◌<◌, ◌≤◌, List, [], ◌∷◌, ◌++◌, length, get_or, false, refl, sym, ap, ◌∙◌, subst, arith, append_assoc, append-nil, length-append, eq-eqb}
+use Rattle.std.proofs.Common.{◌≡◌, ◌≢◌, ℕ, zero, suc, ◌+◌, ◌<◌, ◌≤◌, List, [], ◌∷◌, ◌++◌, length}
+use Rattle.std.proofs.Common.{get_or, false, refl, sym, ap, ◌∙◌, subst, arith, append_assoc}
+use Rattle.std.proofs.Common.{append-nil, length-append, eq-eqb}
 use Rattle.std.specs.Prelude.{Result, Ok, All, AllPairs, ◌==◌}
 use Rattle.std.specs.List.{list_any}
 use Rattle.std.proofs.lemmas.List.Elements.{All-push}
@@ -10,10 +12,12 @@ use Rattle.dwarf_bytes.specs.declared.fault.Cause.{Cause}
 use Rattle.dwarf_bytes.specs.Numbers.{StandsAt}
 use Rattle.dwarf_bytes.specs.Items.{Next, Item, End, Lists}
 use Rattle.dwarf_forms.specs.Declarations.{SpellsEach}
-use Rattle.dwarf_forms.proofs.Stretches.{Stretch, stretch_of, stands_from, joined, first_part, second_part, respelled}
+use Rattle.dwarf_forms.proofs.Stretches.{Stretch, stretch_of, stands_from, joined, first_part}
+use Rattle.dwarf_forms.proofs.Stretches.{second_part, respelled}
 
 -- the elements, and what ends them
-pub record SpellsAll {X : Type 0} (spells : List ℕ → X → Type 0) (ends : List ℕ → Type 0) (bytes : List ℕ) (xs : List X) : Type 0 where
+pub record SpellsAll {X : Type 0} (spells : List ℕ → X → Type 0) (ends : List ℕ → Type 0)
+    (bytes : List ℕ) (xs : List X) : Type 0 where
   pub items : List ℕ
   pub end : List ℕ
   pub whole : bytes ≡ items ++ end
@@ -29,99 +33,173 @@ abbrev pub EndStands : (List ℕ → Type 0) → List ℕ → ℕ → ℕ → Ty
 EndStands ends bytes at next = StandsAt (λ b (u : Unit {0}). ends b) bytes at tt next
 
 -- what a step answers is what stands there, and is good
-pub record IsSpelled {X : Type 0} (spells : List ℕ → X → Type 0) (ends : List ℕ → Type 0) (good : List X → X → Type 0) (bytes : List ℕ) (step : List X → ℕ → Result (Next X) Cause) : Type 0 where
-  pub item : (before : List X) (at : ℕ) (x : X) (next : ℕ) → step before at ≡ Ok (Item x next) → StandsAt spells bytes at x next × good before x
-  pub end : (before : List X) (at next : ℕ) → step before at ≡ Ok (End next) → EndStands ends bytes at next
+pub record IsSpelled {X : Type 0} (spells : List ℕ → X → Type 0) (ends : List ℕ → Type 0)
+    (good : List X → X → Type 0) (bytes : List ℕ) (step : List X → ℕ → Result (Next X) Cause) : Type
+    0 where
+  pub item : (before : List X) (at : ℕ) (x : X) (next : ℕ) → step before at ≡ Ok (Item x next)
+      → StandsAt spells bytes at x next × good before x
+  pub end : (before : List X) (at next : ℕ) → step before at ≡ Ok (End next)
+      → EndStands ends bytes at next
 
 -- and what stands there and is good is what it answers
-pub record IsRead {X : Type 0} (spells : List ℕ → X → Type 0) (ends : List ℕ → Type 0) (good : List X → X → Type 0) (bytes : List ℕ) (step : List X → ℕ → Result (Next X) Cause) : Type 0 where
-  pub item : (before : List X) (at : ℕ) (x : X) (next : ℕ) → StandsAt spells bytes at x next → good before x → step before at ≡ Ok (Item x next)
-  pub end : (before : List X) (at next : ℕ) → EndStands ends bytes at next → step before at ≡ Ok (End next)
+pub record IsRead {X : Type 0} (spells : List ℕ → X → Type 0) (ends : List ℕ → Type 0)
+    (good : List X → X → Type 0) (bytes : List ℕ) (step : List X → ℕ → Result (Next X) Cause) : Type
+    0 where
+  pub item : (before : List X) (at : ℕ) (x : X) (next : ℕ) → StandsAt spells bytes at x next
+      → good before x → step before at ≡ Ok (Item x next)
+  pub end : (before : List X) (at next : ℕ) → EndStands ends bytes at next
+      → step before at ≡ Ok (End next)
 
-pub spelled_list : {X : Type 0} (spells : List ℕ → X → Type 0) (ends : List ℕ → Type 0) (good : List X → X → Type 0) (bytes : List ℕ) (step : List X → ℕ → Result (Next X) Cause) → IsSpelled spells ends good bytes step →
-    (before : List X) (at : ℕ) (xs : List X) (next : ℕ) → Lists step before at xs next → StandsAt (SpellsAll spells ends) bytes at xs next × GoodEach good before xs
+pub spelled_list : {X : Type 0} (spells : List ℕ → X → Type 0) (ends : List ℕ → Type 0)
+    (good : List X → X → Type 0) (bytes : List ℕ) (step : List X → ℕ → Result (Next X) Cause)
+    → IsSpelled spells ends good bytes step
+    → (before : List X) (at : ℕ) (xs : List X) (next : ℕ) → Lists step before at xs next
+    → StandsAt (SpellsAll spells ends) bytes at xs next × GoodEach good before xs
 spelled_list spells ends good bytes step spelled before at [] next h =
     let end = spelled.end before at next h in (
-      stands_from (SpellsAll spells ends) bytes at [] next end.front end.rest (stretch_of (λ b (u : Unit {0}). ends b) bytes at tt next end)
-          (record { items = []; end = end.front; whole = refl; items_are = refl; ends_it = end.spelled }),
+      stands_from (SpellsAll spells ends) bytes at [] next end.front end.rest
+          (stretch_of (λ b (u : Unit {0}). ends b) bytes at tt next end)
+          (record {
+            items = [];
+            end = end.front;
+            whole = refl;
+            items_are = refl;
+            ends_it =
+                end.spelled;
+          }),
       tt,
     )
 spelled_list spells ends good bytes step spelled before at (x ∷ xs) next h =
     let here = spelled.item before at x h.0 h.1 in
-    let others = spelled_list spells ends good bytes step spelled (before ++ x ∷ []) h.0 xs next h.2 in
-    let all = joined bytes at here.0.front others.0.front h.0 next here.0.rest others.0.rest (stretch_of spells bytes at x h.0 here.0) (stretch_of (SpellsAll spells ends) bytes h.0 xs next others.0) in (
-      stands_from (SpellsAll spells ends) bytes at (x ∷ xs) next (here.0.front ++ others.0.front) others.0.rest all
+    let others = spelled_list spells ends good bytes step spelled (before ++ x ∷ []) h.0 xs next
+    h.2 in
+    let all = joined bytes at here.0.front others.0.front h.0 next here.0.rest others.0.rest
+    (stretch_of spells bytes at x h.0 here.0)
+    (stretch_of (SpellsAll spells ends) bytes h.0 xs next others.0) in (
+      stands_from (SpellsAll spells ends) bytes at (x ∷ xs) next (here.0.front ++ others.0.front)
+          others.0.rest all
           (record {
             items = here.0.front ++ others.0.spelled.items;
             end = others.0.spelled.end;
-            whole = ap (λ (b : List ℕ). here.0.front ++ b) others.0.spelled.whole ∙ sym (append_assoc here.0.front others.0.spelled.items others.0.spelled.end);
-            items_are = (here.0.front, others.0.spelled.items, refl, here.0.spelled, others.0.spelled.items_are);
+            whole = ap (λ (b : List ℕ). here.0.front ++ b) others.0.spelled.whole
+                ∙ sym (append_assoc here.0.front others.0.spelled.items others.0.spelled.end);
+            items_are = (
+              here.0.front,
+              others.0.spelled.items,
+              refl,
+              here.0.spelled,
+              others.0.spelled.items_are,
+            );
             ends_it = others.0.spelled.ends_it;
           }),
       (here.1, others.1),
     )
 
-pub read_list : {X : Type 0} (spells : List ℕ → X → Type 0) (ends : List ℕ → Type 0) (good : List X → X → Type 0) (bytes : List ℕ) (step : List X → ℕ → Result (Next X) Cause) → IsRead spells ends good bytes step →
-    (before : List X) (at : ℕ) (xs : List X) (next : ℕ) (items end rest : List ℕ) → Stretch bytes at (items ++ end) next rest → SpellsEach spells items xs → ends end → GoodEach good before xs → Lists step before at xs next
-read_list spells ends good bytes step read before at [] next items end rest s none ends_it good_each =
+pub read_list : {X : Type 0} (spells : List ℕ → X → Type 0) (ends : List ℕ → Type 0)
+    (good : List X → X → Type 0) (bytes : List ℕ) (step : List X → ℕ → Result (Next X) Cause)
+    → IsRead spells ends good bytes step
+    → (before : List X) (at : ℕ) (xs : List X) (next : ℕ) (items end rest : List ℕ)
+    → Stretch bytes at (items ++ end) next rest → SpellsEach spells items xs → ends end
+    → GoodEach good before xs → Lists step before at xs next
+read_list spells ends good bytes step read before at [] next items end rest s none ends_it
+    good_each =
     let same : items ++ end ≡ end = ap (λ (b : List ℕ). b ++ end) none in
-    read.end before at next (stands_from (λ b (u : Unit {0}). ends b) bytes at tt next end rest (respelled bytes at (items ++ end) end next rest same s) ends_it)
-read_list spells ends good bytes step read before at (x ∷ xs) next items end rest s some ends_it good_each =
+    read.end before at next (stands_from (λ b (u : Unit {0}). ends b) bytes at tt next end rest
+    (respelled bytes at (items ++ end) end next rest same s) ends_it)
+read_list spells ends good bytes step read before at (x ∷ xs) next items end rest s some ends_it
+    good_each =
     let front = some.0 in
     let others = some.1 in
-    let whole : items ++ end ≡ front ++ (others ++ end) = ap (λ (b : List ℕ). b ++ end) some.2 ∙ append_assoc front others end in
-    let regrouped = respelled bytes at (items ++ end) (front ++ (others ++ end)) next rest whole s in
+    let whole : items ++ end ≡ front ++ (others ++ end) = ap (λ (b : List ℕ). b ++ end) some.2
+    ∙ append_assoc front others end in
+    let regrouped = respelled bytes at (items ++ end) (front ++ (others ++ end)) next rest whole
+    s in
     let mid = at + length front in
-    let here = stands_from spells bytes at x mid front ((others ++ end) ++ rest) (first_part bytes at front (others ++ end) next rest regrouped) some.3 in
-    (mid, read.item before at x mid here good_each.0, read_list spells ends good bytes step read (before ++ x ∷ []) mid xs next others end rest (second_part bytes at front (others ++ end) next rest regrouped) some.4 ends_it good_each.1)
+    let here = stands_from spells bytes at x mid front ((others ++ end) ++ rest)
+    (first_part bytes at front (others ++ end) next rest regrouped) some.3 in (
+      mid,
+      read.item before at x mid here good_each.0,
+      read_list spells ends good bytes step read
+          (before ++ x ∷ []) mid xs next others end rest
+          (second_part bytes at front (others ++ end) next rest regrouped) some.4 ends_it
+          good_each.1,
+    )
 
 -- ---- good behind those before it, as a fact about the whole list
 
-pub GoodEach-map : {X : Type 0} (g h : List X → X → Type 0) → ((before : List X) (x : X) → g before x → h before x) → (before xs : List X) → GoodEach g before xs → GoodEach h before xs
+pub GoodEach-map : {X : Type 0} (g h : List X → X → Type 0)
+    → ((before : List X) (x : X) → g before x → h before x) → (before xs : List X)
+    → GoodEach g before xs → GoodEach h before xs
 GoodEach-map g h f before [] good = tt
-GoodEach-map g h f before (x ∷ xs) good = (f before x good.0, GoodEach-map g h f (before ++ x ∷ []) xs good.1)
+GoodEach-map g h f before (x ∷ xs) good =
+    (f before x good.0, GoodEach-map g h f (before ++ x ∷ []) xs good.1)
 
-pub GoodEach-both : {X : Type 0} (g h : List X → X → Type 0) (before xs : List X) → GoodEach g before xs → GoodEach h before xs → GoodEach (λ b x. g b x × h b x) before xs
+pub GoodEach-both : {X : Type 0} (g h : List X → X → Type 0) (before xs : List X)
+    → GoodEach g before xs → GoodEach h before xs → GoodEach (λ b x. g b x × h b x) before xs
 GoodEach-both g h before [] p q = tt
-GoodEach-both g h before (x ∷ xs) p q = ((p.0, q.0), GoodEach-both g h (before ++ x ∷ []) xs p.1 q.1)
+GoodEach-both g h before (x ∷ xs) p q = (
+  (p.0, q.0),
+  GoodEach-both g h (before ++ x ∷ []) xs p.1
+      q.1,
+)
 
 -- each has P, and a key that none before it has
 abbrev pub IsNew : {X : Type 0} → (X → Type 0) → (X → ℕ) → List X → X → Type 0
 IsNew P key before x = P x × (list_any (λ y. key y == key x) before ≡ false)
 
-apart : {X : Type 0} (key : X → ℕ) (before : List X) (x : X) → list_any (λ y. key y == key x) before ≡ false → (k : ℕ) (d : X) → k < length before → key (get_or before k d) ≢ key x
-apart {X = X} key before x none k d h same = false≢true (sym none ∙ list_any_at (λ (y : X). key y == key x) before k d h (eq-eqb (key (get_or before k d)) (key x) same))
+apart : {X : Type 0} (key : X → ℕ) (before : List X) (x : X) → list_any (λ y. key y == key x) before
+    ≡ false → (k : ℕ) (d : X) → k < length before → key (get_or before k d) ≢ key x
+apart {X = X} key before x none k d h same =
+    false≢true (sym none ∙ list_any_at (λ (y : X). key y == key x) before k d h
+    (eq-eqb (key (get_or before k d)) (key x) same))
 
-pub all_new : {X : Type 0} (P : X → Type 0) (key : X → ℕ) (before xs : List X) → All P before → AllPairs (λ x y. key x ≢ key y) before → GoodEach (IsNew P key) before xs →
-    All P (before ++ xs) × AllPairs (λ x y. key x ≢ key y) (before ++ xs)
+pub all_new : {X : Type 0} (P : X → Type 0) (key : X → ℕ) (before xs : List X) → All P before
+    → AllPairs (λ x y. key x ≢ key y) before → GoodEach (IsNew P key) before xs
+    → All P (before ++ xs) × AllPairs (λ x y. key x ≢ key y) (before ++ xs)
 all_new {X = X} P key before [] all pairs good =
-    let same : before ≡ before ++ [] = sym (append-nil before) in
-    (subst (λ (ys : List X). All P ys) same all, subst (λ (ys : List X). AllPairs (λ x y. key x ≢ key y) ys) same pairs)
+    let same : before ≡ before ++ [] = sym (append-nil before) in (
+      subst (λ (ys : List X). All P ys) same all,
+      subst (λ (ys : List X). AllPairs (λ x y. key x ≢ key y) ys) same pairs,
+    )
 all_new {X = X} P key before (x ∷ xs) all pairs good =
-    let next = all_new P key (before ++ x ∷ []) xs (All-push P before x all good.0.0) (all_pairs_push (λ x y. key x ≢ key y) before x pairs (apart key before x good.0.1)) good.1 in
-    let same : (before ++ x ∷ []) ++ xs ≡ before ++ (x ∷ xs) = append_assoc before (x ∷ []) xs in
-    (subst (λ (ys : List X). All P ys) same next.0, subst (λ (ys : List X). AllPairs (λ x y. key x ≢ key y) ys) same next.1)
+    let next = all_new P key (before ++ x ∷ []) xs (All-push P before x all good.0.0)
+    (all_pairs_push (λ x y. key x ≢ key y) before x pairs (apart key before x good.0.1))
+    good.1 in
+    let same : (before ++ x ∷ []) ++ xs ≡ before ++ (x ∷ xs) = append_assoc before (x ∷ []) xs in (
+      subst (λ (ys : List X). All P ys) same next.0,
+      subst (λ (ys : List X). AllPairs (λ x y. key x ≢ key y) ys) same next.1,
+    )
 
-get_or-first : {X : Type 0} (before xs : List X) (x d : X) → get_or (before ++ x ∷ xs) (length before) d ≡ x
+get_or-first : {X : Type 0} (before xs : List X) (x d : X)
+    → get_or (before ++ x ∷ xs) (length before) d ≡ x
 get_or-first [] xs x d = refl
 get_or-first (y ∷ before) xs x d = get_or-first before xs x d
 
-get_or-front : {X : Type 0} (before xs : List X) (k : ℕ) (d : X) → k < length before → get_or (before ++ xs) k d ≡ get_or before k d
+get_or-front : {X : Type 0} (before xs : List X) (k : ℕ) (d : X) → k < length before
+    → get_or (before ++ xs) k d ≡ get_or before k d
 get_or-front [] xs k d h = absurd (omega arith)
 get_or-front (y ∷ before) xs zero d h = refl
 get_or-front (y ∷ before) xs (suc k) d h = get_or-front before xs k d (omega arith)
 
-pub new_each : {X : Type 0} (P : X → Type 0) (key : X → ℕ) (before xs : List X) → All P (before ++ xs) → AllPairs (λ x y. key x ≢ key y) (before ++ xs) → GoodEach (IsNew P key) before xs
+pub new_each : {X : Type 0} (P : X → Type 0) (key : X → ℕ) (before xs : List X)
+    → All P (before ++ xs) → AllPairs (λ x y. key x ≢ key y) (before ++ xs)
+    → GoodEach (IsNew P key) before xs
 new_each P key before [] all pairs = tt
 new_each {X = X} P key before (x ∷ xs) all pairs =
-    let size : length (before ++ x ∷ xs) ≡ length before + suc (length xs) = length-append before (x ∷ xs) in
-    let here : P x = subst P (get_or-first before xs x x) (all (length before) x (omega (arith, size))) in
+    let size : length (before ++ x ∷ xs) ≡ length before + suc (length xs) =
+    length-append before (x ∷ xs) in
+    let here : P x = subst P (get_or-first before xs x x)
+    (all (length before) x (omega (arith, size))) in
     let unlike : (k : ℕ) (d : X) → k < length before → (key (get_or before k d) == key x) ≡ false =
     λ k d h. not_same (key (get_or before k d)) (key x)
-    (λ same. pairs k (length before) d h (omega (arith, size)) (ap key (get_or-front before (x ∷ xs) k d h) ∙ same ∙ ap key (sym (get_or-first before xs x d)))) in
-    let same : before ++ (x ∷ xs) ≡ (before ++ x ∷ []) ++ xs = sym (append_assoc before (x ∷ []) xs) in (
+    (λ same. pairs k (length before) d h (omega (arith, size))
+    (ap key (get_or-front before (x ∷ xs) k d h) ∙ same
+    ∙ ap key (sym (get_or-first before xs x d)))) in
+    let same : before ++ (x ∷ xs) ≡ (before ++ x ∷ []) ++ xs =
+    sym (append_assoc before (x ∷ []) xs) in (
       (here, list_any_none (λ (y : X). key y == key x) before unlike),
-      new_each P key (before ++ x ∷ []) xs (subst (λ (ys : List X). All P ys) same all) (subst (λ (ys : List X). AllPairs (λ x y. key x ≢ key y) ys) same pairs),
+      new_each P key (before ++ x ∷ []) xs (subst (λ (ys : List X). All P ys) same all)
+          (subst (λ (ys : List X). AllPairs (λ x y. key x ≢ key y) ys) same pairs),
     )
   where
     not_same : (a b : ℕ) → a ≢ b → (a == b) ≡ false
@@ -131,13 +209,16 @@ new_each {X = X} P key before (x ∷ xs) all pairs =
 abbrev pub HasRoom : {X : Type 0} → ℕ → List X → X → Type 0
 HasRoom room before x = length before < room
 
-pub all_room : {X : Type 0} (room : ℕ) (before xs : List X) → length before ≤ room → GoodEach (HasRoom room) before xs → length before + length xs ≤ room
+pub all_room : {X : Type 0} (room : ℕ) (before xs : List X) → length before ≤ room
+    → GoodEach (HasRoom room) before xs → length before + length xs ≤ room
 all_room room before [] le good = omega arith
 all_room room before (x ∷ xs) le good =
     let size = length-append before (x ∷ []) in
-    let next = all_room room (before ++ x ∷ []) xs (omega (arith, size, good.0)) good.1 in omega (arith, size, next)
+    let next = all_room room (before ++ x ∷ []) xs (omega (arith, size, good.0)) good.1 in
+    omega (arith, size, next)
 
-pub room_each : {X : Type 0} (room : ℕ) (before xs : List X) → length before + length xs ≤ room → GoodEach (HasRoom room) before xs
+pub room_each : {X : Type 0} (room : ℕ) (before xs : List X) → length before + length xs ≤ room
+    → GoodEach (HasRoom room) before xs
 room_each room before [] le = tt
 room_each room before (x ∷ xs) le =
     let size = length-append before (x ∷ []) in

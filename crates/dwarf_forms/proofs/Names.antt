@@ -1,5 +1,7 @@
 -- The names of a declaration, the first few in a list and those behind them in a set.
-use Rattle.std.proofs.Common.{◌≡◌, ℕ, ◌<◌, ◌≤◌, List, [], ◌∷◌, ◌++◌, length, take, drop, Bool, true, false, cond, refl, sym, ap, ◌∙◌, arith, take-append-drop, ◌⊎◌, inl, inr}
+use Rattle.std.proofs.Common.{◌≡◌, ℕ, ◌<◌, ◌≤◌, List, [], ◌∷◌, ◌++◌, length, take, drop, Bool, true}
+use Rattle.std.proofs.Common.{false, cond, refl, sym, ap, ◌∙◌, arith, take-append-drop, ◌⊎◌, inl}
+use Rattle.std.proofs.Common.{inr}
 use Rattle.std.proofs.lemmas.Bool.{cases_lt}
 use Rattle.std.specs.Prelude.{◌||◌, ◌==◌, min}
 use Rattle.std.specs.List.{list_any}
@@ -20,38 +22,58 @@ front_is : {X : Type 0} (xs : List X) (n : ℕ) → take (min (length xs) n) xs 
 front_is xs n = by_length (cases_lt (length xs) n)
   where
     by_length : (length xs < n) ⊎ (n ≤ length xs) → take (min (length xs) n) xs ≡ take n xs
-    by_length (inl few) = let all : min (length xs) n ≡ length xs = omega arith in rw all (take_all (length xs) xs (omega arith) ∙ sym (take_all n xs (omega arith)))
+    by_length (inl few) = let all : min (length xs) n ≡ length xs = omega arith in
+        rw all (take_all (length xs) xs (omega arith) ∙ sym (take_all n xs (omega arith)))
     by_length (inr many) = let front : min (length xs) n ≡ n = omega arith in rw front refl
 
 -- a name stands in the front or behind it
-pub named_parts : (xs : List AttributeSpecification) (n name : ℕ) → list_any (named name) xs ≡ (list_any (named name) (take n xs) || list_any (named name) (drop n xs))
-named_parts xs n name = ap (λ (ys : List AttributeSpecification). list_any (named name) ys) (sym (take-append-drop n xs)) ∙ list_any-append (named name) (take n xs) (drop n xs)
+pub named_parts : (xs : List AttributeSpecification) (n name : ℕ)
+    → list_any (named name) xs ≡ (list_any (named name) (take n xs) || list_any (named name)
+    (drop n xs))
+named_parts xs n name = ap (λ (ys : List AttributeSpecification). list_any (named name) ys)
+    (sym (take-append-drop n xs)) ∙ list_any-append (named name) (take n xs) (drop n xs)
 
 -- A name of the first few, and one that is none of them.
-pub named_first : (xs front : List AttributeSpecification) (n name : ℕ) → front ≡ take (min (length xs) n) xs → list_any (named name) front ≡ true → list_any (named name) xs ≡ true
-named_first xs front n name is first = named_parts xs n name ∙ rw (← front_is xs n, ← is, first) refl
+pub named_first : (xs front : List AttributeSpecification) (n name : ℕ)
+    → front ≡ take (min (length xs) n) xs → list_any (named name) front ≡ true
+    → list_any (named name) xs ≡ true
+named_first xs front n name is first = named_parts xs n name ∙ rw (← front_is xs n, ← is, first)
+    refl
 
-pub named_later : (xs front : List AttributeSpecification) (later : BTreeSet ℕ) (n name : ℕ) → front ≡ take (min (length xs) n) xs → HoldsNames later (drop n xs) → list_any (named name) front ≡ false →
-    contains nat_cmp later name ≡ list_any (named name) xs
-named_later xs front later n name is held first = held name ∙ sym (named_parts xs n name ∙ rw (← front_is xs n, ← is, first) refl)
+pub named_later : (xs front : List AttributeSpecification) (later : BTreeSet ℕ) (n name : ℕ)
+    → front ≡ take (min (length xs) n) xs → HoldsNames later (drop n xs)
+    → list_any (named name) front ≡ false
+    → contains nat_cmp later name ≡ list_any (named name) xs
+named_later xs front later n name is held first =
+    held name ∙ sym (named_parts xs n name ∙ rw (← front_is xs n, ← is, first) refl)
 
 -- ---- the set of the names behind the first few, as the list grows
 
 -- as long as there are few, there are none behind them
-pub held_few : (xs : List AttributeSpecification) (y : AttributeSpecification) (later : BTreeSet ℕ) (n : ℕ) → length xs < n → HoldsNames later (drop n xs) → HoldsNames later (drop n (xs ++ y ∷ []))
+pub held_few : (xs : List AttributeSpecification) (y : AttributeSpecification) (later : BTreeSet ℕ)
+    (n : ℕ) → length xs < n → HoldsNames later (drop n xs)
+    → HoldsNames later (drop n (xs ++ y ∷ []))
 held_few xs y later n few held name =
     let none : drop n xs ≡ [] = drop_all n xs (omega arith) in
-    let none_more : drop n (xs ++ y ∷ []) ≡ [] = drop_all n (xs ++ y ∷ []) (omega (arith, length-append xs (y ∷ []))) in
-    held name ∙ ap (λ (ys : List AttributeSpecification). list_any (named name) ys) (none ∙ sym none_more)
+    let none_more : drop n (xs ++ y ∷ []) ≡ [] =
+    drop_all n (xs ++ y ∷ []) (omega (arith, length-append xs (y ∷ []))) in
+    held name ∙ ap (λ (ys : List AttributeSpecification). list_any (named name) ys)
+    (none ∙ sym none_more)
 
 -- one more name behind the first few is put into the set
-pub held_more : (xs : List AttributeSpecification) (y : AttributeSpecification) (later next : BTreeSet ℕ) (n : ℕ) → n ≤ length xs →
-    ((q : ℕ) → contains nat_cmp next q ≡ cond (is_at (nat_cmp y.name) q) true (contains nat_cmp later q)) → HoldsNames later (drop n xs) → HoldsNames next (drop n (xs ++ y ∷ []))
+pub held_more : (xs : List AttributeSpecification) (y : AttributeSpecification)
+    (later next : BTreeSet ℕ) (n : ℕ) → n ≤ length xs
+    → ((q : ℕ) → contains nat_cmp next q ≡ cond (is_at (nat_cmp y.name) q) true
+    (contains nat_cmp later q)) → HoldsNames later (drop n xs)
+    → HoldsNames next (drop n (xs ++ y ∷ []))
 held_more xs y later next n many updates held name =
     let more : drop n (xs ++ y ∷ []) ≡ drop n xs ++ y ∷ [] = drop-append-le n xs (y ∷ []) many in
-    let any : list_any (named name) (drop n (xs ++ y ∷ [])) ≡ (list_any (named name) (drop n xs) || ((y.name == name) || false)) =
-    ap (λ (ys : List AttributeSpecification). list_any (named name) ys) more ∙ list_any-append (named name) (drop n xs) (y ∷ []) in
-    updates name ∙ (rw (held name) (by_tests (is_at (nat_cmp y.name) name) (y.name == name) (list_any (named name) (drop n xs)) (at_is y.name name)) ∙ sym any)
+    let any : list_any (named name) (drop n (xs ++ y ∷ []))
+    ≡ (list_any (named name) (drop n xs) || ((y.name == name) || false)) =
+    ap (λ (ys : List AttributeSpecification). list_any (named name) ys) more
+    ∙ list_any-append (named name) (drop n xs) (y ∷ []) in
+    updates name ∙ (rw (held name) (by_tests (is_at (nat_cmp y.name) name) (y.name == name)
+    (list_any (named name) (drop n xs)) (at_is y.name name)) ∙ sym any)
   where
     by_tests : (a b c : Bool) → a ≡ b → cond a true c ≡ (c || (b || false))
     by_tests true true true h = refl

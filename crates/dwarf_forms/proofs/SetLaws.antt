@@ -1,5 +1,7 @@
 -- Sets of names, as branches are put beside them.
-use Rattle.std.proofs.Common.{◌≡◌, ◌≢◌, ◌⊎◌, inl, inr, ℕ, zero, suc, ◌+◌, ◌/◌, ◌%◌, ◌<◌, ◌≤◌, List, [], ◌∷◌, ◌++◌, length, reverse, get_or, Bool, true, false, refl, ap, sym, ◌∙◌, subst, arith, length-append}
+use Rattle.std.proofs.Common.{◌≡◌, ◌≢◌, ◌⊎◌, inl, inr, ℕ, zero, suc, ◌+◌, ◌/◌, ◌%◌, ◌<◌, ◌≤◌, List}
+use Rattle.std.proofs.Common.{[], ◌∷◌, ◌++◌, length, reverse, get_or, Bool, true, false, refl, ap}
+use Rattle.std.proofs.Common.{sym, ◌∙◌, subst, arith, length-append}
 use Rattle.std.specs.Prelude.{◌==◌, ◌||◌, if◌then◌else◌, Result, Ok, Err, IfOk, OnErr}
 use Rattle.std.specs.Int.Digits.{digits_of}
 use Rattle.std.proofs.Math.ListN.{get_or-append}
@@ -9,7 +11,8 @@ use Rattle.std.proofs.lemmas.List.{reverse-append, get_or_past}
 use Rattle.std.proofs.lemmas.Bool.{cases_lt, eqb-true, eqb-false}
 use Rattle.std.proofs.lemmas.Option.{slice_get_within}
 use Rattle.dwarf_forms.specs.declared.name_sets.Branch.{Branch}
-use Rattle.dwarf_forms.specs.Private.NameSets.{AreSets, IsWithin, SetsStay, branch_along, branch_at, is_in, no_names, side}
+use Rattle.dwarf_forms.specs.Private.NameSets.{AreSets, IsWithin, SetsStay, branch_along, branch_at}
+use Rattle.dwarf_forms.specs.Private.NameSets.{is_in, no_names, side}
 
 -- ---- a name by its bits
 
@@ -17,22 +20,30 @@ pub is_in-zero : (bs : List Branch) (set : ℕ) → is_in bs set 0 ≡ (branch_a
 unfolding is_in
 is_in-zero bs set = refl
 
-pub is_in-more : (bs : List Branch) (set name : ℕ) → 0 < name → is_in bs set name ≡ is_in bs (side (branch_at bs set) (name % 2)) (name / 2)
+pub is_in-more : (bs : List Branch) (set name : ℕ) → 0 < name
+    → is_in bs set name ≡ is_in bs (side (branch_at bs set) (name % 2)) (name / 2)
 unfolding is_in
 is_in-more bs set name more =
-    let bits : reverse (digits_of 2 name) ≡ name % 2 ∷ reverse (digits_of 2 (name / 2)) = ap reverse (digits_of_step 2 name (omega arith) more) ∙ reverse-append (digits_of 2 (name / 2)) (name % 2 ∷ []) in
+    let bits : reverse (digits_of 2 name) ≡ name % 2 ∷ reverse (digits_of 2 (name / 2)) =
+    ap reverse (digits_of_step 2 name (omega arith) more)
+    ∙ reverse-append (digits_of 2 (name / 2)) (name % 2 ∷ []) in
     ap (λ (ys : List ℕ). (branch_along bs set ys).ends) bits
 
 -- ---- branches
 
-pub branch-last : (bs now : List Branch) (set : ℕ) (b : Branch) → set ≡ length bs → now ≡ bs ++ b ∷ [] → branch_at now set ≡ b
+pub branch-last : (bs now : List Branch) (set : ℕ) (b : Branch) → set ≡ length bs
+    → now ≡ bs ++ b ∷ [] → branch_at now set ≡ b
 branch-last bs now set b last is =
-    ap (λ (k : ℕ). get_or now k no_names) last ∙ (ap (λ (cs : List Branch). get_or cs (length bs) no_names) is ∙ get_or-append_seam bs b [] no_names)
+    ap (λ (k : ℕ). get_or now k no_names) last
+    ∙ (ap (λ (cs : List Branch). get_or cs (length bs) no_names) is
+    ∙ get_or-append_seam bs b [] no_names)
 
-branch-before : (bs more : List Branch) (set : ℕ) → set < length bs → branch_at (bs ++ more) set ≡ branch_at bs set
+branch-before : (bs more : List Branch) (set : ℕ) → set < length bs
+    → branch_at (bs ++ more) set ≡ branch_at bs set
 branch-before bs more set lt = get_or-append bs more no_names set lt
 
-pub branch-within : (bs : List Branch) (set : ℕ) → AreSets bs → IsWithin (length bs) (branch_at bs set)
+pub branch-within : (bs : List Branch) (set : ℕ) → AreSets bs
+    → IsWithin (length bs) (branch_at bs set)
 branch-within bs set sets = by_order (cases_lt set (length bs))
   where
     some : 0 < length bs
@@ -40,7 +51,8 @@ branch-within bs set sets = by_order (cases_lt set (length bs))
 
     by_order : (set < length bs) ⊎ (length bs ≤ set) → IsWithin (length bs) (branch_at bs set)
     by_order (inl lt) = sets.within set no_names lt
-    by_order (inr past) = subst (IsWithin (length bs)) (sym (get_or_past bs set no_names past)) (some, some)
+    by_order (inr past) = subst (IsWithin (length bs)) (sym (get_or_past bs set no_names past))
+        (some, some)
 
 side-within : (count bit : ℕ) (b : Branch) → IsWithin count b → side b bit < count
 side-within count bit b within = by_test (bit == 0)
@@ -50,23 +62,28 @@ side-within count bit b within = by_test (bit == 0)
     by_test false = within.1
 
 -- the bits lead the same way where branches are added
-along-stays : (bs more : List Branch) (bits : List ℕ) (set : ℕ) → AreSets bs → set < length bs → branch_along (bs ++ more) set bits ≡ branch_along bs set bits
+along-stays : (bs more : List Branch) (bits : List ℕ) (set : ℕ) → AreSets bs → set < length bs
+    → branch_along (bs ++ more) set bits ≡ branch_along bs set bits
 along-stays bs more [] set sets lt = branch-before bs more set lt
 along-stays bs more (bit ∷ bits) set sets lt =
     ap (λ (b : Branch). branch_along (bs ++ more) (side b bit) bits) (branch-before bs more set lt)
-    ∙ along-stays bs more bits (side (branch_at bs set) bit) sets (side-within (length bs) bit (branch_at bs set) (branch-within bs set sets))
+    ∙ along-stays bs more bits (side (branch_at bs set) bit) sets
+    (side-within (length bs) bit (branch_at bs set) (branch-within bs set sets))
 
 pub stay-more : (bs now more : List Branch) → AreSets bs → now ≡ bs ++ more → SetsStay bs now
 unfolding is_in
 stay-more bs now more sets is =
     subst (SetsStay bs) (sym is) (record {
       longer = omega (arith, length-append bs more);
-      same = λ set name lt. ap (λ (b : Branch). b.ends) (along-stays bs more (reverse (digits_of 2 name)) set sets lt);
+      same = λ set name lt. ap (λ (b : Branch). b.ends)
+          (along-stays bs more (reverse (digits_of 2 name)) set sets lt);
     })
 
 -- ---- how many branches there are more
 
-pub put-few : {E : Type 0} (old new : List Branch) (b : Branch) (r : Result ℕ E) → IfOk r (λ set. (set ≡ length old) × (new ≡ old ++ b ∷ [])) → OnErr r (new ≡ old) → length new ≤ length old + 1
+pub put-few : {E : Type 0} (old new : List Branch) (b : Branch) (r : Result ℕ E)
+    → IfOk r (λ set. (set ≡ length old) × (new ≡ old ++ b ∷ [])) → OnErr r (new ≡ old)
+    → length new ≤ length old + 1
 put-few old new b (Ok set) made none = omega (arith, ap length made.1, length-append old (b ∷ []))
 put-few old new b (Err e) made none = omega (arith, ap length none)
 
@@ -74,11 +91,15 @@ put-few old new b (Err e) made none = omega (arith, ap length none)
 abbrev pub HasFewMore : List Branch → List Branch → ℕ → Type 0
 HasFewMore old new name = length new ≤ length old + length (digits_of 2 name) + 1
 
-pub few-behind : (old mid : List Branch) (name : ℕ) → 0 < name → HasFewMore old mid (name / 2) → HasFewMore old mid name
-few-behind old mid name some few = omega (arith, few, length-digits_of_step 2 name (omega arith) some)
+pub few-behind : (old mid : List Branch) (name : ℕ) → 0 < name → HasFewMore old mid (name / 2)
+    → HasFewMore old mid name
+few-behind old mid name some few = omega
+    (arith, few, length-digits_of_step 2 name (omega arith) some)
 
-pub few-bits : (old mid new : List Branch) (name : ℕ) → 0 < name → HasFewMore old mid (name / 2) → length new ≤ length mid + 1 → HasFewMore old new name
-few-bits old mid new name some few one = omega (arith, few, one, length-digits_of_step 2 name (omega arith) some)
+pub few-bits : (old mid new : List Branch) (name : ℕ) → 0 < name → HasFewMore old mid (name / 2)
+    → length new ≤ length mid + 1 → HasFewMore old new name
+few-bits old mid new name some few one =
+    omega (arith, few, one, length-digits_of_step 2 name (omega arith) some)
 
 -- ---- a set with one more name
 
@@ -92,26 +113,42 @@ same_test : (a : ℕ) → (a == a) ≡ true
 same_test a = grind arith
 
 -- a name without more bits
-pub more-ends : (old new : List Branch) (set more name : ℕ) (b ended : Branch) → b ≡ branch_at old set → set < length old → IsWithin (length old) b → name ≡ 0 → more ≡ length old → new ≡ old ++ ended ∷ [] → ended ≡ record { ends = true; zero = b.zero; one = b.one } →
-    SetsStay old new → HasMore old new set more name
+pub more-ends : (old new : List Branch) (set more name : ℕ) (b ended : Branch)
+    → b ≡ branch_at old set → set < length old → IsWithin (length old) b → name ≡ 0
+    → more ≡ length old → new ≡ old ++ ended ∷ []
+    → ended ≡ record { ends = true; zero = b.zero; one = b.one }
+    → SetsStay old new → HasMore old new set more name
 more-ends old new set more name b ended there lt within none last is ends stay x = by_bits x
   where
     here : branch_at new more ≡ ended
     here = branch-last old new more ended last is
 
     by_bits : (x : ℕ) → is_in new more x ≡ ((x == name) || is_in old set x)
-    by_bits zero = is_in-zero new more ∙ (ap (λ (c : Branch). c.ends) (here ∙ ends) ∙ sym (ap (λ (k : ℕ). (0 == k) || is_in old set 0) none))
+    by_bits zero = is_in-zero new more ∙ (ap (λ (c : Branch). c.ends) (here ∙ ends)
+        ∙ sym (ap (λ (k : ℕ). (0 == k) || is_in old set 0) none))
     by_bits (suc n) =
-        let way : is_in new more (suc n) ≡ is_in new (side b (suc n % 2)) (suc n / 2) = is_in-more new more (suc n) (omega arith) ∙ ap (λ (c : Branch). is_in new (side c (suc n % 2)) (suc n / 2)) (here ∙ ends) in
-        let old_way : is_in old set (suc n) ≡ is_in old (side b (suc n % 2)) (suc n / 2) = is_in-more old set (suc n) (omega arith) ∙ ap (λ (c : Branch). is_in old (side c (suc n % 2)) (suc n / 2)) (sym there) in
-        let apart : (suc n == name) ≡ false = apart_test (suc n) name (λ e. absurd (omega (arith, e, none))) in
-        way ∙ (stay.same (side b (suc n % 2)) (suc n / 2) (side-within (length old) (suc n % 2) b within) ∙ (sym old_way ∙ sym (ap (λ (t : Bool). t || is_in old set (suc n)) apart)))
+        let way : is_in new more (suc n) ≡ is_in new (side b (suc n % 2)) (suc n / 2) =
+        is_in-more new more (suc n) (omega arith)
+        ∙ ap (λ (c : Branch). is_in new (side c (suc n % 2)) (suc n / 2)) (here ∙ ends) in
+        let old_way : is_in old set (suc n) ≡ is_in old (side b (suc n % 2)) (suc n / 2) =
+        is_in-more old set (suc n) (omega arith)
+        ∙ ap (λ (c : Branch). is_in old (side c (suc n % 2)) (suc n / 2)) (sym there) in
+        let apart : (suc n == name) ≡ false =
+        apart_test (suc n) name (λ e. absurd (omega (arith, e, none))) in
+        way ∙ (stay.same (side b (suc n % 2)) (suc n / 2)
+        (side-within (length old) (suc n % 2) b within)
+        ∙ (sym old_way ∙ sym (ap (λ (t : Bool). t || is_in old set (suc n)) apart)))
 
 -- a name with more bits, of which the rest is in the set behind the first
-pub more-bits : (old mid new : List Branch) (set behind more name : ℕ) (b turned : Branch) → b ≡ branch_at old set → IsWithin (length old) b → 0 < name → more ≡ length mid → new ≡ mid ++ turned ∷ [] → behind < length mid →
-    turned.ends ≡ b.ends → side turned (name % 2) ≡ behind → ((bit : ℕ) → bit < 2 → bit ≢ name % 2 → side turned bit ≡ side b bit) →
-    SetsStay old mid → SetsStay mid new → HasMore old mid (side b (name % 2)) behind (name / 2) → HasMore old new set more name
-more-bits old mid new set behind more name b turned there within some last is in_mid ends turn others first second rest x = by_bits x
+pub more-bits : (old mid new : List Branch) (set behind more name : ℕ) (b turned : Branch)
+    → b ≡ branch_at old set → IsWithin (length old) b → 0 < name → more ≡ length mid
+    → new ≡ mid ++ turned ∷ [] → behind < length mid
+    → turned.ends ≡ b.ends → side turned (name % 2) ≡ behind
+    → ((bit : ℕ) → bit < 2 → bit ≢ name % 2 → side turned bit ≡ side b bit)
+    → SetsStay old mid → SetsStay mid new → HasMore old mid (side b (name % 2)) behind (name / 2)
+    → HasMore old new set more name
+more-bits old mid new set behind more name b turned there within some last is in_mid ends turn
+    others first second rest x = by_bits x
   where
     here : branch_at new more ≡ turned
     here = branch-last mid new more turned last is
@@ -120,39 +157,56 @@ more-bits old mid new set behind more name b turned there within some last is in
     halves a b e = by_test (a == b) refl
       where
         by_test : (t : Bool) → (a == b) ≡ t → (a / 2 == b / 2) ≡ t
-        by_test true same = let one : a ≡ b = eqb-true a b same in ap (λ (k : ℕ). k / 2 == b / 2) one ∙ same_test (b / 2)
-        by_test false apart = let two : a ≢ b = eqb-false a b apart in apart_test (a / 2) (b / 2) (λ h. two (omega (arith, h, e)))
+        by_test true same = let one : a ≡ b = eqb-true a b same in
+            ap (λ (k : ℕ). k / 2 == b / 2) one ∙ same_test (b / 2)
+        by_test false apart = let two : a ≢ b = eqb-false a b apart in
+            apart_test (a / 2) (b / 2) (λ h. two (omega (arith, h, e)))
 
-    by_side : (n : ℕ) → (t : Bool) → (suc n % 2 == name % 2) ≡ t → is_in new (side turned (suc n % 2)) (suc n / 2) ≡ ((suc n == name) || is_in old (side b (suc n % 2)) (suc n / 2))
+    by_side : (n : ℕ) → (t : Bool) → (suc n % 2 == name % 2) ≡ t
+        → is_in new (side turned (suc n % 2)) (suc n / 2)
+        ≡ ((suc n == name) || is_in old (side b (suc n % 2)) (suc n / 2))
     by_side n true same =
         let bit : suc n % 2 ≡ name % 2 = eqb-true (suc n % 2) (name % 2) same in
         let to : side turned (suc n % 2) ≡ behind = ap (side turned) bit ∙ turn in
         ap (λ (s : ℕ). is_in new s (suc n / 2)) to
         ∙ (second.same behind (suc n / 2) in_mid
         ∙ (rest (suc n / 2)
-        ∙ (ap (λ (t : Bool). t || is_in old (side b (name % 2)) (suc n / 2)) (halves (suc n) name bit) ∙ ap (λ (k : ℕ). (suc n == name) || is_in old (side b k) (suc n / 2)) (sym bit))))
+        ∙ (ap (λ (t : Bool). t || is_in old (side b (name % 2)) (suc n / 2))
+        (halves (suc n) name bit) ∙ ap
+        (λ (k : ℕ). (suc n == name) || is_in old (side b k) (suc n / 2)) (sym bit))))
     by_side n false differs =
         let bit : suc n % 2 ≢ name % 2 = eqb-false (suc n % 2) (name % 2) differs in
-        let to : side turned (suc n % 2) ≡ side b (suc n % 2) = others (suc n % 2) (omega arith) bit in
+        let to : side turned (suc n % 2) ≡ side b (suc n % 2) =
+        others (suc n % 2) (omega arith) bit in
         let lt : side b (suc n % 2) < length old = side-within (length old) (suc n % 2) b within in
-        let apart : (suc n == name) ≡ false = apart_test (suc n) name (λ e. bit (ap (λ (k : ℕ). k % 2) e)) in
+        let apart : (suc n == name) ≡ false =
+        apart_test (suc n) name (λ e. bit (ap (λ (k : ℕ). k % 2) e)) in
         ap (λ (s : ℕ). is_in new s (suc n / 2)) to
         ∙ (second.same (side b (suc n % 2)) (suc n / 2) (omega (arith, lt, first.longer))
-        ∙ (first.same (side b (suc n % 2)) (suc n / 2) lt ∙ sym (ap (λ (t : Bool). t || is_in old (side b (suc n % 2)) (suc n / 2)) apart)))
+        ∙ (first.same (side b (suc n % 2)) (suc n / 2) lt
+        ∙ sym (ap (λ (t : Bool). t || is_in old (side b (suc n % 2)) (suc n / 2)) apart)))
 
     by_bits : (x : ℕ) → is_in new more x ≡ ((x == name) || is_in old set x)
     by_bits zero =
-        let apart : (0 == name) ≡ false = apart_test 0 name (λ e. absurd (omega (arith, e, some))) in
-        is_in-zero new more ∙ (ap (λ (c : Branch). c.ends) here ∙ (ends ∙ (ap (λ (c : Branch). c.ends) there ∙ (sym (is_in-zero old set) ∙ sym (ap (λ (t : Bool). t || is_in old set 0) apart)))))
+        let apart : (0 == name) ≡ false =
+        apart_test 0 name (λ e. absurd (omega (arith, e, some))) in
+        is_in-zero new more ∙ (ap (λ (c : Branch). c.ends) here
+        ∙ (ends ∙ (ap (λ (c : Branch). c.ends) there
+        ∙ (sym (is_in-zero old set) ∙ sym (ap (λ (t : Bool). t || is_in old set 0) apart)))))
     by_bits (suc n) =
-        let old_way : is_in old set (suc n) ≡ is_in old (side b (suc n % 2)) (suc n / 2) = is_in-more old set (suc n) (omega arith) ∙ ap (λ (c : Branch). is_in old (side c (suc n % 2)) (suc n / 2)) (sym there) in
+        let old_way : is_in old set (suc n) ≡ is_in old (side b (suc n % 2)) (suc n / 2) =
+        is_in-more old set (suc n) (omega arith)
+        ∙ ap (λ (c : Branch). is_in old (side c (suc n % 2)) (suc n / 2)) (sym there) in
         is_in-more new more (suc n) (omega arith)
-        ∙ (ap (λ (c : Branch). is_in new (side c (suc n % 2)) (suc n / 2)) here ∙ (by_side n (suc n % 2 == name % 2) refl ∙ ap (λ (t : Bool). (suc n == name) || t) (sym old_way)))
+        ∙ (ap (λ (c : Branch). is_in new (side c (suc n % 2)) (suc n / 2)) here
+        ∙ (by_side n (suc n % 2 == name % 2) refl ∙ ap (λ (t : Bool). (suc n == name) || t)
+        (sym old_way)))
 
 -- the set of no names
 pub none-in : (bs : List Branch) (name : ℕ) → bs ≡ no_names ∷ [] → is_in bs 0 name ≡ false
 unfolding is_in
-none-in bs name is = ap (λ (cs : List Branch). is_in cs 0 name) is ∙ nowhere (reverse (digits_of 2 name))
+none-in bs name is = ap (λ (cs : List Branch). is_in cs 0 name) is
+    ∙ nowhere (reverse (digits_of 2 name))
   where
     ends : (set : ℕ) → branch_at (no_names ∷ []) set ≡ no_names
     ends zero = refl
@@ -167,4 +221,5 @@ none-in bs name is = ap (λ (cs : List Branch). is_in cs 0 name) is ∙ nowhere 
 
     nowhere : (bits : List ℕ) → (branch_along (no_names ∷ []) 0 bits).ends ≡ false
     nowhere [] = refl
-    nowhere (bit ∷ bits) = ap (λ (set : ℕ). (branch_along (no_names ∷ []) set bits).ends) (sides 0 bit) ∙ nowhere bits
+    nowhere (bit ∷ bits) = ap (λ (set : ℕ). (branch_along (no_names ∷ []) set bits).ends)
+        (sides 0 bit) ∙ nowhere bits

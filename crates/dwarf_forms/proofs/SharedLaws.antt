@@ -1,5 +1,8 @@
--- Lists of attributes that are read up to their end or to a place that is known, and are known from then on.
-use Rattle.std.proofs.Common.{◌≡◌, ◌≢◌, ℕ, zero, suc, ◌+◌, ◌<◌, ◌≤◌, List, [], ◌∷◌, ◌++◌, length, take, drop, get_or, true, false, refl, ap, sym, ◌∙◌, subst, arith, length-append, append_assoc, take-append-drop}
+-- Lists of attributes that are read up to their end or to a place that is known, and are known from
+-- then on.
+use Rattle.std.proofs.Common.{◌≡◌, ◌≢◌, ℕ, zero, suc, ◌+◌, ◌<◌, ◌≤◌, List, [], ◌∷◌, ◌++◌, length}
+use Rattle.std.proofs.Common.{take, drop, get_or, true, false, refl, ap, sym, ◌∙◌, subst, arith}
+use Rattle.std.proofs.Common.{length-append, append_assoc, take-append-drop}
 use Rattle.std.specs.Prelude.{Option, Some, None, Ok, All, IfNone, IfSome, ◌==◌}
 use Rattle.std.proofs.lemmas.List.{drop_more}
 use Rattle.std.proofs.lemmas.List.Folds.{list_any-append}
@@ -9,7 +12,8 @@ use Rattle.dwarf_forms.specs.declared.known_lists.KnownAttribute.{KnownAttribute
 use Rattle.dwarf_forms.specs.declared.shared.Stretch.{Stretch}
 use Rattle.dwarf_forms.specs.declared.shared.TheConstants.{UNSHARED}
 use Rattle.dwarf_forms.specs.Tables.{attributes_at}
-use Rattle.dwarf_forms.specs.Private.Known.{Grows, IsKnown, IsPut, IsUnknown, KnownPlaces, is_known_at, rest_attributes}
+use Rattle.dwarf_forms.specs.Private.Known.{Grows, IsKnown, IsPut, IsUnknown, KnownPlaces}
+use Rattle.dwarf_forms.specs.Private.Known.{is_known_at, rest_attributes}
 use Rattle.dwarf_forms.specs.Private.Shared.{IsStretch, StandAt, places_from}
 use Rattle.dwarf_forms.proofs.KnownListLaws.{from-last}
 use Rattle.dwarf_forms.proofs.KnownLaws.{known-at}
@@ -17,76 +21,135 @@ use Rattle.dwarf_forms.proofs.PlaceLaws.{stand-apart, places-length, places-stan
 
 -- ---- what was read
 
-pub stretch-is : (lists : KnownPlaces) (bytes : List ℕ) (first after : ℕ) (stretch : Stretch) → bytes ≡ lists.section → attributes_at bytes first ≡ Ok (stretch.attributes.items ++ rest_attributes lists.known stretch.rest, after) →
-    stretch.places.items ≡ drop UNSHARED (places_from bytes first (length stretch.attributes.items)) → IsKnown lists.known stretch.rest → IfSome stretch.rest (λ _. UNSHARED ≤ length stretch.attributes.items) → All (IsUnknown lists.known) stretch.places.items → IsStretch lists first stretch after
+pub stretch-is : (lists : KnownPlaces) (bytes : List ℕ) (first after : ℕ) (stretch : Stretch)
+    → bytes ≡ lists.section → attributes_at bytes first
+    ≡ Ok (stretch.attributes.items ++ rest_attributes lists.known stretch.rest, after)
+    → stretch.places.items ≡ drop UNSHARED
+    (places_from bytes first (length stretch.attributes.items))
+    → IsKnown lists.known stretch.rest → IfSome stretch.rest
+    (λ _. UNSHARED ≤ length stretch.attributes.items)
+    → All (IsUnknown lists.known) stretch.places.items → IsStretch lists first stretch after
 stretch-is lists bytes first after stretch same read places rest behind unknown = record {
-  read = subst (λ (b : List ℕ). attributes_at b first ≡ Ok (stretch.attributes.items ++ rest_attributes lists.known stretch.rest, after)) same read;
-  places = subst (λ (b : List ℕ). stretch.places.items ≡ drop UNSHARED (places_from b first (length stretch.attributes.items))) same places;
+  read = subst (λ (b : List ℕ). attributes_at b first
+      ≡ Ok (stretch.attributes.items ++ rest_attributes lists.known stretch.rest, after)) same read;
+  places = subst (λ (b : List ℕ). stretch.places.items
+      ≡ drop UNSHARED (places_from b first (length stretch.attributes.items))) same places;
   rest = rest;
   behind = behind;
   unknown = unknown;
 }
 
-pub known-number : (known : List KnownAttribute) (number place : ℕ) → is_known_at known number place ≡ true → number < length known
-known-number known number place is = let found = known-at known number place is in slice_get_within known number found.0 found.1
+pub known-number : (known : List KnownAttribute) (number place : ℕ) → is_known_at known number place
+    ≡ true → number < length known
+known-number known number place is = let found = known-at known number place is in
+    slice_get_within known number found.0 found.1
 
-pub stretch-lengths : (lists : KnownPlaces) (first after : ℕ) (stretch : Stretch) → IsStretch lists first stretch after → length stretch.places.items ≡ length (drop UNSHARED stretch.attributes.items)
-stretch-lengths lists first after stretch is = places-length lists.section first UNSHARED stretch.attributes.items stretch.places.items is.places
+pub stretch-lengths : (lists : KnownPlaces) (first after : ℕ) (stretch : Stretch)
+    → IsStretch lists first stretch after
+    → length stretch.places.items ≡ length (drop UNSHARED stretch.attributes.items)
+stretch-lengths lists first after stretch is =
+    places-length lists.section first UNSHARED stretch.attributes.items stretch.places.items
+    is.places
 
-pub stretch-stand : (lists : KnownPlaces) (first after : ℕ) (stretch : Stretch) → IsStretch lists first stretch after → StandAt lists.section stretch.places.items (drop UNSHARED stretch.attributes.items) (rest_attributes lists.known stretch.rest) after
-stretch-stand lists first after stretch is = places-stand lists.section first UNSHARED stretch.attributes.items (rest_attributes lists.known stretch.rest) after stretch.places.items is.read is.places
+pub stretch-stand : (lists : KnownPlaces) (first after : ℕ) (stretch : Stretch)
+    → IsStretch lists first stretch after
+    → StandAt lists.section stretch.places.items (drop UNSHARED stretch.attributes.items)
+    (rest_attributes lists.known stretch.rest) after
+stretch-stand lists first after stretch is =
+    places-stand lists.section first UNSHARED stretch.attributes.items
+    (rest_attributes lists.known stretch.rest) after stretch.places.items is.read is.places
 
 -- no known attribute stands at a place where none was found
-pub unknown-place : (known : List KnownAttribute) (found : Option ℕ) (count place : ℕ) → IfNone found (UNSHARED ≤ count → IsUnknown known place) → ((number : ℕ) → found ≡ Some number → ⊥) → UNSHARED ≤ count → IsUnknown known place
+pub unknown-place : (known : List KnownAttribute) (found : Option ℕ) (count place : ℕ)
+    → IfNone found (UNSHARED ≤ count → IsUnknown known place)
+    → ((number : ℕ) → found ≡ Some number → ⊥) → UNSHARED ≤ count → IsUnknown known place
 unknown-place known None count place unknown none many = unknown many
 unknown-place known (Some number) count place unknown none many = absurd (none number refl)
 
 -- the first attributes and those behind them are all
-pub shared-whole : (old new : List KnownAttribute) (attributes own : List AttributeSpecification) (rest next : Option ℕ) (n : ℕ) → own ≡ take n attributes → rest_attributes new next ≡ drop n attributes ++ rest_attributes old rest → attributes ++ rest_attributes old rest ≡ own ++ rest_attributes new next
+pub shared-whole : (old new : List KnownAttribute) (attributes own : List AttributeSpecification)
+    (rest next : Option ℕ) (n : ℕ) → own ≡ take n attributes
+    → rest_attributes new next ≡ drop n attributes ++ rest_attributes old rest
+    → attributes ++ rest_attributes old rest ≡ own ++ rest_attributes new next
 shared-whole old new attributes own rest next n first behind =
-    ap (λ (ys : List AttributeSpecification). ys ++ rest_attributes old rest) (sym (take-append-drop n attributes))
+    ap (λ (ys : List AttributeSpecification). ys ++ rest_attributes old rest)
+    (sym (take-append-drop n attributes))
     ∙ (append_assoc (take n attributes) (drop n attributes) (rest_attributes old rest)
-    ∙ (ap (λ (ys : List AttributeSpecification). take n attributes ++ ys) (sym behind) ∙ ap (λ (ys : List AttributeSpecification). ys ++ rest_attributes new next) (sym first)))
+    ∙ (ap (λ (ys : List AttributeSpecification). take n attributes ++ ys) (sym behind)
+    ∙ ap (λ (ys : List AttributeSpecification). ys ++ rest_attributes new next) (sym first)))
 
 -- ---- what is known grows
 
-pub grows-put : (old now new : KnownPlaces) (number place : ℕ) (attribute : AttributeSpecification) (next : Option ℕ) (after : ℕ) → Grows old now → new.section ≡ now.section → IsPut now.known new.known number place attribute next after → Grows old new
+pub grows-put : (old now new : KnownPlaces) (number place : ℕ) (attribute : AttributeSpecification)
+    (next : Option ℕ) (after : ℕ) → Grows old now → new.section ≡ now.section
+    → IsPut now.known new.known number place attribute next after → Grows old new
 grows-put old now new number place attribute next after grown section put =
-    let last : KnownAttribute = record { place = place; attribute = attribute; next = next; names = put.names; after = after } in
+    let last : KnownAttribute = record {
+      place = place;
+      attribute = attribute;
+      next = next;
+      names =
+          put.names;
+      after = after;
+    } in
     record {
       section = section ∙ grown.section;
       more = grown.more ++ last ∷ [];
-      known = put.known ∙ (ap (λ (ks : List KnownAttribute). ks ++ last ∷ []) grown.known ∙ append_assoc old.known grown.more (last ∷ []));
+      known = put.known ∙ (ap (λ (ks : List KnownAttribute). ks ++ last ∷ []) grown.known
+          ∙ append_assoc old.known grown.more (last ∷ []));
     }
 
 -- ---- attributes that are put, the last of them first
 
-pub record PutFrom (old now : KnownPlaces) (attributes : List AttributeSpecification) (places : List ℕ) (rest : List AttributeSpecification) (next : Option ℕ) (left : ℕ) : Type 0 where
-  pub few : left ≤ length places
-  pub list : rest_attributes now.known next ≡ drop left attributes ++ rest
-  pub known : IsKnown now.known next
-  pub unknown : (i d : ℕ) → i < left → IsUnknown now.known (get_or places i d)
-  pub grows : Grows old now
+pub record PutFrom (old now : KnownPlaces) (attributes : List AttributeSpecification)
+    (places : List ℕ) (rest : List AttributeSpecification) (next : Option ℕ) (left : ℕ) : Type 0
+  where
+    pub few : left ≤ length places
+    pub list : rest_attributes now.known next ≡ drop left attributes ++ rest
+    pub known : IsKnown now.known next
+    pub unknown : (i d : ℕ) → i < left → IsUnknown now.known (get_or places i d)
+    pub grows : Grows old now
 
-unknown-put : (known : List KnownAttribute) (k : KnownAttribute) (place : ℕ) → IsUnknown known place → k.place ≢ place → IsUnknown (known ++ k ∷ []) place
-unknown-put known k place unknown apart = list_any-append (λ (z : KnownAttribute). z.place == place) known (k ∷ []) ∙ rw (unknown, unlike k.place place apart) refl
+unknown-put : (known : List KnownAttribute) (k : KnownAttribute) (place : ℕ) → IsUnknown known place
+    → k.place ≢ place → IsUnknown (known ++ k ∷ []) place
+unknown-put known k place unknown apart =
+    list_any-append (λ (z : KnownAttribute). z.place == place) known (k ∷ [])
+    ∙ rw (unknown, unlike k.place place apart) refl
   where
     unlike : (a b : ℕ) → a ≢ b → (a == b) ≡ false
     unlike a b h = grind arith
 
 -- one more is put
-pub put-turn : (old now new : KnownPlaces) (attributes : List AttributeSpecification) (places : List ℕ) (rest : List AttributeSpecification) (next : Option ℕ) (left k number d after : ℕ) (e : AttributeSpecification) → PutFrom old now attributes places rest next left → length places ≡ length attributes → StandAt old.section places attributes rest after → left ≡ k + 1 →
-    new.section ≡ now.section → IsPut now.known new.known number (get_or places k d) (get_or attributes k e) next after → PutFrom old new attributes places rest (Some number) k
-put-turn old now new attributes places rest next left k number d after e so_far lengths stand is section put = record {
-  few = omega (arith, within);
-  list = list_is;
-  known = omega (arith, put.last, ap length put.known, length-append now.known (last ∷ []));
-  unknown = λ i f lt. subst (λ (ks : List KnownAttribute). IsUnknown ks (get_or places i f)) (sym put.known) (unknown-put now.known last (get_or places i f) (so_far.unknown i f (omega (arith, lt, is))) (λ same. stand-apart old.section places attributes rest after i k d stand lengths lt within (same ∙ default places i f d (omega (arith, lt, within)))));
-  grows = grows-put old now new number (get_or places k d) (get_or attributes k e) next after so_far.grows section put;
-}
+pub put-turn : (old now new : KnownPlaces) (attributes : List AttributeSpecification)
+    (places : List ℕ) (rest : List AttributeSpecification) (next : Option ℕ)
+    (left k number d after : ℕ) (e : AttributeSpecification)
+    → PutFrom old now attributes places rest next left → length places ≡ length attributes
+    → StandAt old.section places attributes rest after → left ≡ k + 1
+    → new.section ≡ now.section → IsPut now.known new.known number (get_or places k d)
+    (get_or attributes k e) next after → PutFrom old new attributes places rest (Some number) k
+put-turn old now new attributes places rest next left k number d after e so_far lengths stand is
+    section put = record {
+      few = omega (arith, within);
+      list = list_is;
+      known = omega (arith, put.last, ap length put.known, length-append now.known (last ∷ []));
+      unknown = λ i f lt. subst (λ (ks : List KnownAttribute). IsUnknown ks (get_or places i f))
+          (sym put.known) (unknown-put now.known last (get_or places i f)
+          (so_far.unknown i f (omega (arith, lt, is)))
+          (λ same. stand-apart old.section places attributes rest after i k d stand lengths lt
+          within
+          (same ∙ default places i f d (omega (arith, lt, within)))));
+      grows = grows-put old now new number (get_or places k d) (get_or attributes k e) next after
+          so_far.grows section put;
+    }
   where
     last : KnownAttribute
-    last = record { place = get_or places k d; attribute = get_or attributes k e; next = next; names = put.names; after = after }
+    last = record {
+      place = get_or places k d;
+      attribute = get_or attributes k e;
+      next = next;
+      names = put.names;
+      after = after;
+    }
 
     within : k < length places
     within = omega (arith, so_far.few, is)
@@ -100,10 +163,12 @@ put-turn old now new attributes places rest next left k number d after e so_far 
     x = get_or attributes k e
 
     behind : drop k attributes ≡ x ∷ drop left attributes
-    behind = drop_more attributes k e (omega (arith, within, lengths)) ∙ ap (λ (n : ℕ). x ∷ drop n attributes) (sym is)
+    behind = drop_more attributes k e (omega (arith, within, lengths))
+        ∙ ap (λ (n : ℕ). x ∷ drop n attributes) (sym is)
 
     list_is : rest_attributes new.known (Some number) ≡ drop k attributes ++ rest
     list_is =
         ap (λ (n : ℕ). rest_attributes new.known (Some n)) put.last
         ∙ (ap (λ (ks : List KnownAttribute). rest_attributes ks (Some (length now.known))) put.known
-        ∙ (from-last now.known last ∙ (ap (λ (ys : List AttributeSpecification). x ∷ ys) so_far.list ∙ ap (λ (ys : List AttributeSpecification). ys ++ rest) (sym behind))))
+        ∙ (from-last now.known last ∙ (ap (λ (ys : List AttributeSpecification). x ∷ ys) so_far.list
+        ∙ ap (λ (ys : List AttributeSpecification). ys ++ rest) (sym behind))))

@@ -1,5 +1,7 @@
 -- Stretches of bytes one after another, and the reads of fields as what stands there.
-use Rattle.std.proofs.Common.{◌≡◌, ℕ, ◌+◌, ◌<◌, ◌≤◌, List, [], ◌++◌, length, take, drop, false, refl, sym, ap, ◌∙◌, subst, arith, append_assoc, length-append, length-take, length-drop, take-append-drop}
+use Rattle.std.proofs.Common.{◌≡◌, ℕ, ◌+◌, ◌<◌, ◌≤◌, List, [], ◌++◌, length, take, drop, false}
+use Rattle.std.proofs.Common.{refl, sym, ap, ◌∙◌, subst, arith, append_assoc, length-append}
+use Rattle.std.proofs.Common.{length-take, length-drop, take-append-drop}
 use Rattle.std.specs.Prelude.{Ok, nat_lt}
 use Rattle.std.proofs.lemmas.List.{take_at, drop_at, drop-drop}
 use Rattle.std.proofs.lemmas.Bool.{le-ltb}
@@ -7,68 +9,102 @@ use Rattle.dwarf_bytes.specs.Numbers.{StandsAt, block_at, fixed_at, little_endia
 use Rattle.dwarf_bytes.proofs.Moves.{fixed_at-moves}
 
 -- the stretch from one place to another, and what follows it
-pub record Stretch (bytes : List ℕ) (at : ℕ) (stretch : List ℕ) (next : ℕ) (rest : List ℕ) : Type 0 where
-  pub parts : drop at bytes ≡ stretch ++ rest
-  pub next_is : next ≡ at + length stretch
+pub record Stretch (bytes : List ℕ) (at : ℕ) (stretch : List ℕ) (next : ℕ) (rest : List ℕ) : Type 0
+  where
+    pub parts : drop at bytes ≡ stretch ++ rest
+    pub next_is : next ≡ at + length stretch
 
-pub stretch_of : {X : Type 0} (Spells : List ℕ → X → Type 0) (bytes : List ℕ) (at : ℕ) (value : X) (next : ℕ) (s : StandsAt Spells bytes at value next) → Stretch bytes at s.front next s.rest
+pub stretch_of : {X : Type 0} (Spells : List ℕ → X → Type 0) (bytes : List ℕ) (at : ℕ) (value : X)
+    (next : ℕ) (s : StandsAt Spells bytes at value next) → Stretch bytes at s.front next s.rest
 stretch_of Spells bytes at value next s = record { parts = s.parts; next_is = s.next_is }
 
-pub stands_from : {X : Type 0} (Spells : List ℕ → X → Type 0) (bytes : List ℕ) (at : ℕ) (value : X) (next : ℕ) (front rest : List ℕ) → Stretch bytes at front next rest → Spells front value → StandsAt Spells bytes at value next
-stands_from Spells bytes at value next front rest s spelled = record { front = front; rest = rest; spelled = spelled; parts = s.parts; next_is = s.next_is }
+pub stands_from : {X : Type 0} (Spells : List ℕ → X → Type 0) (bytes : List ℕ) (at : ℕ) (value : X)
+    (next : ℕ) (front rest : List ℕ) → Stretch bytes at front next rest → Spells front value
+    → StandsAt Spells bytes at value next
+stands_from Spells bytes at value next front rest s spelled =
+    record { front = front; rest = rest; spelled = spelled; parts = s.parts; next_is = s.next_is }
 
 -- what follows a stretch is what stands behind it
-pub behind : (bytes : List ℕ) (at : ℕ) (stretch : List ℕ) (next : ℕ) (rest : List ℕ) → Stretch bytes at stretch next rest → drop next bytes ≡ rest
+pub behind : (bytes : List ℕ) (at : ℕ) (stretch : List ℕ) (next : ℕ) (rest : List ℕ)
+    → Stretch bytes at stretch next rest → drop next bytes ≡ rest
 behind bytes at stretch next rest s =
-    ap (λ (k : ℕ). drop k bytes) s.next_is ∙ (sym (drop-drop (length stretch) at bytes) ∙ (ap (λ (b : List ℕ). drop (length stretch) b) s.parts ∙ drop_at stretch rest (length stretch) refl))
+    ap (λ (k : ℕ). drop k bytes) s.next_is
+    ∙ (sym (drop-drop (length stretch) at bytes)
+    ∙ (ap (λ (b : List ℕ). drop (length stretch) b) s.parts
+    ∙ drop_at stretch rest (length stretch) refl))
 
 -- two stretches one after the other are one
-pub joined : (bytes : List ℕ) (at : ℕ) (a b : List ℕ) (mid next : ℕ) (r rest : List ℕ) → Stretch bytes at a mid r → Stretch bytes mid b next rest → Stretch bytes at (a ++ b) next rest
+pub joined : (bytes : List ℕ) (at : ℕ) (a b : List ℕ) (mid next : ℕ) (r rest : List ℕ)
+    → Stretch bytes at a mid r → Stretch bytes mid b next rest → Stretch bytes at (a ++ b) next rest
 joined bytes at a b mid next r rest s t = record {
-  parts = s.parts ∙ (ap (λ (x : List ℕ). a ++ x) (sym (behind bytes at a mid r s) ∙ t.parts) ∙ sym (append_assoc a b rest));
+  parts = s.parts ∙ (ap (λ (x : List ℕ). a ++ x) (sym (behind bytes at a mid r s) ∙ t.parts)
+      ∙ sym (append_assoc a b rest));
   next_is = omega (arith, s.next_is, t.next_is, length-append a b);
 }
 
 -- and one stretch of two parts is two
-pub first_part : (bytes : List ℕ) (at : ℕ) (a b : List ℕ) (next : ℕ) (rest : List ℕ) → Stretch bytes at (a ++ b) next rest → Stretch bytes at a (at + length a) (b ++ rest)
-first_part bytes at a b next rest s = record { parts = s.parts ∙ append_assoc a b rest; next_is = refl }
+pub first_part : (bytes : List ℕ) (at : ℕ) (a b : List ℕ) (next : ℕ) (rest : List ℕ)
+    → Stretch bytes at (a ++ b) next rest → Stretch bytes at a (at + length a) (b ++ rest)
+first_part bytes at a b next rest s = record
+    { parts = s.parts ∙ append_assoc a b rest; next_is = refl }
 
-pub second_part : (bytes : List ℕ) (at : ℕ) (a b : List ℕ) (next : ℕ) (rest : List ℕ) → Stretch bytes at (a ++ b) next rest → Stretch bytes (at + length a) b next rest
+pub second_part : (bytes : List ℕ) (at : ℕ) (a b : List ℕ) (next : ℕ) (rest : List ℕ)
+    → Stretch bytes at (a ++ b) next rest → Stretch bytes (at + length a) b next rest
 second_part bytes at a b next rest s = record {
   parts = behind bytes at a (at + length a) (b ++ rest) (first_part bytes at a b next rest s);
   next_is = omega (arith, s.next_is, length-append a b);
 }
 
-pub respelled : (bytes : List ℕ) (at : ℕ) (a b : List ℕ) (next : ℕ) (rest : List ℕ) → a ≡ b → Stretch bytes at a next rest → Stretch bytes at b next rest
-respelled bytes at a b next rest same s = subst (λ (x : List ℕ). Stretch bytes at x next rest) same s
+pub respelled : (bytes : List ℕ) (at : ℕ) (a b : List ℕ) (next : ℕ) (rest : List ℕ) → a ≡ b
+    → Stretch bytes at a next rest → Stretch bytes at b next rest
+respelled bytes at a b next rest same s =
+    subst (λ (x : List ℕ). Stretch bytes at x next rest) same s
 
 -- no bytes stand anywhere
 pub nothing : (bytes : List ℕ) (at : ℕ) → Stretch bytes at [] at (drop at bytes)
 nothing bytes at = record { parts = refl; next_is = omega arith }
 
 -- a stretch reaches no further than the bytes do
-pub within : (bytes : List ℕ) (at : ℕ) (stretch : List ℕ) (next : ℕ) (rest : List ℕ) → Stretch bytes at stretch next rest → 0 < length stretch → next ≤ length bytes
-within bytes at stretch next rest s some = omega (arith, s.next_is, ap length s.parts, length-drop at bytes, length-append stretch rest)
+pub within : (bytes : List ℕ) (at : ℕ) (stretch : List ℕ) (next : ℕ) (rest : List ℕ)
+    → Stretch bytes at stretch next rest → 0 < length stretch → next ≤ length bytes
+within bytes at stretch next rest s some =
+    omega (arith, s.next_is, ap length s.parts, length-drop at bytes, length-append stretch rest)
 
 -- ---- fields
 
-pub block_again : (n : ℕ) (bytes : List ℕ) (at : ℕ) (block : List ℕ) (next : ℕ) (rest : List ℕ) → Stretch bytes at block next rest → length block ≡ n → at + n ≤ length bytes → block_at n bytes at ≡ Ok (block, next)
+pub block_again : (n : ℕ) (bytes : List ℕ) (at : ℕ) (block : List ℕ) (next : ℕ) (rest : List ℕ)
+    → Stretch bytes at block next rest → length block ≡ n → at + n ≤ length bytes
+    → block_at n bytes at ≡ Ok (block, next)
 unfolding block_at
 block_again n bytes at block next rest s len fits =
     let test : nat_lt (length bytes) (at + n) ≡ false = le-ltb (length bytes) (at + n) fits in
-    let front : take n (drop at bytes) ≡ block = ap (λ (b : List ℕ). take n b) s.parts ∙ take_at block rest n len in
+    let front : take n (drop at bytes) ≡ block = ap (λ (b : List ℕ). take n b) s.parts
+    ∙ take_at block rest n len in
     let place : at + n ≡ next = omega (arith, s.next_is, len) in
     rw (test, front, place) refl
 
-pub fixed_again : (n : ℕ) (bytes : List ℕ) (at : ℕ) (block : List ℕ) (next : ℕ) (rest : List ℕ) → Stretch bytes at block next rest → length block ≡ n → at + n ≤ length bytes → fixed_at n bytes at ≡ Ok (little_endian block, next)
+pub fixed_again : (n : ℕ) (bytes : List ℕ) (at : ℕ) (block : List ℕ) (next : ℕ) (rest : List ℕ)
+    → Stretch bytes at block next rest → length block ≡ n → at + n ≤ length bytes
+    → fixed_at n bytes at ≡ Ok (little_endian block, next)
 unfolding fixed_at
-fixed_again n bytes at block next rest s len fits = rw (block_again n bytes at block next rest s len fits) refl
+fixed_again n bytes at block next rest s len fits =
+    rw (block_again n bytes at block next rest s len fits) refl
 
-pub fixed_stands : (n : ℕ) (bytes : List ℕ) (at : ℕ) (read : ℕ × ℕ) → fixed_at n bytes at ≡ Ok read →
-    (block : List ℕ) × Stretch bytes at block read.1 (drop n (drop at bytes)) × (length block ≡ n) × (read.0 ≡ little_endian block)
+pub fixed_stands : (n : ℕ) (bytes : List ℕ) (at : ℕ) (read : ℕ × ℕ) → fixed_at n bytes at ≡ Ok read
+    → (block : List ℕ) × Stretch bytes at block read.1 (drop n (drop at bytes)) × (length block ≡ n)
+    × (read.0 ≡ little_endian block)
 fixed_stands n bytes at read h =
     let moved = fixed_at-moves n bytes at read h in
     let value : read.0 ≡ little_endian (take n (drop at bytes)) = ap (λ (r : ℕ × ℕ). r.0) moved.1 in
     let place : read.1 ≡ at + n = ap (λ (r : ℕ × ℕ). r.1) moved.1 in
-    let len : length (take n (drop at bytes)) ≡ n = omega (arith, length-take n (drop at bytes), length-drop at bytes, moved.0) in
-    (take n (drop at bytes), record { parts = sym (take-append-drop n (drop at bytes)); next_is = omega (arith, place, len) }, len, value)
+    let len : length (take n (drop at bytes)) ≡ n =
+    omega (arith, length-take n (drop at bytes), length-drop at bytes, moved.0) in (
+      take n (drop at bytes),
+      record {
+        parts = sym (take-append-drop n (drop at bytes));
+        next_is =
+            omega (arith, place, len);
+      },
+      len,
+      value,
+    )

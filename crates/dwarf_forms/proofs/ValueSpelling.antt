@@ -1,5 +1,6 @@
 -- The reads of values as what is spelled, in both directions.
-use Rattle.std.proofs.Common.{◌≡◌, ℕ, ◌+◌, ℤ, List, [], ◌++◌, length, take, drop, refl, sym, ap, ◌∙◌, subst, arith}
+use Rattle.std.proofs.Common.{◌≡◌, ℕ, ◌+◌, ℤ, List, [], ◌++◌, length, take, drop, refl, sym, ap}
+use Rattle.std.proofs.Common.{◌∙◌, subst, arith}
 use Rattle.std.specs.Prelude.{Option, Some, None, Result, Ok, Err}
 use Rattle.std.proofs.lemmas.List.{take_at}
 use Rattle.dwarf_bytes.specs.declared.fault.ReadFault.{ReadFault}
@@ -12,12 +13,15 @@ use Rattle.dwarf_bytes.specs.Numbers.{StandsAt, IsUleb, uleb_at}
 use Rattle.dwarf_bytes.specs.Contents.{Signed, SpellsContent, content_at}
 use Rattle.dwarf_bytes.proofs.Advance.{bind_ok}
 use Rattle.dwarf_bytes.proofs.Spelling.{uleb_stands, uleb_again}
-use Rattle.dwarf_bytes.proofs.ContentLaws.{content_stands, content_again}
+use Rattle.dwarf_bytes.proofs.ContentLaws.{content_stands}
+use Rattle.dwarf_bytes.proofs.ContentSpelling.{content_again}
 use Rattle.dwarf_forms.specs.declared.values.ValueFault.{ValueFault}
 use Rattle.dwarf_forms.specs.declared.values.ValueFault.TheVariants.{Form}
-use Rattle.dwarf_forms.specs.Values.{Value, SpellsDirectly, SpellsIndirectly, Spells, reading_value, direct_at, value_at}
+use Rattle.dwarf_forms.specs.Values.{Value, SpellsDirectly, SpellsIndirectly, Spells, reading_value}
+use Rattle.dwarf_forms.specs.Values.{direct_at, value_at}
 use Rattle.dwarf_bytes.proofs.Moves.{same_ok}
-use Rattle.dwarf_forms.proofs.Stretches.{Stretch, stretch_of, stands_from, joined, first_part, second_part, respelled, nothing}
+use Rattle.dwarf_forms.proofs.Stretches.{Stretch, stretch_of, stands_from, joined, first_part}
+use Rattle.dwarf_forms.proofs.Stretches.{second_part, respelled, nothing}
 
 reading_ok : {X : Type 0} (r : Result X ReadFault) (x : X) → reading_value r ≡ Ok x → r ≡ Ok x
 reading_ok (Ok y) x h = cc
@@ -26,106 +30,173 @@ reading_ok (Err e) x h = cc
 abbrev Direct_read : Option Shape → ℕ → Format → List ℕ → ℕ → Result (Value × ℕ) ValueFault
 Direct_read f form format bytes at = elim f [
   | None ↦ Err Form
-  | Some (Direct layout) ↦ reading_value (content_at layout format bytes at) >>= λ read. Ok (record { form = form; content = read.0 }, read.1)
+  | Some (Direct layout) ↦ reading_value (content_at layout format bytes at)
+      >>= λ read. Ok (record { form = form; content = read.0 }, read.1)
   | Some ImplicitConst ↦ Err Form
   | Some Indirect ↦ Err Form
 ]
 
-pub direct_stands : (form : ℕ) (format : Format) (bytes : List ℕ) (at : ℕ) (read : Value × ℕ) → direct_at form format bytes at ≡ Ok read → StandsAt (SpellsDirectly form format) bytes at read.0 read.1
+pub direct_stands : (form : ℕ) (format : Format) (bytes : List ℕ) (at : ℕ) (read : Value × ℕ)
+    → direct_at form format bytes at ≡ Ok read
+    → StandsAt (SpellsDirectly form format) bytes at read.0 read.1
 unfolding direct_at
 direct_stands form format bytes at read h = by_form (form_of form) refl h
   where
-    by_form : (f : Option Shape) → form_of form ≡ f → Direct_read f form format bytes at ≡ Ok read → StandsAt (SpellsDirectly form format) bytes at read.0 read.1
+    by_form : (f : Option Shape) → form_of form ≡ f → Direct_read f form format bytes at ≡ Ok read
+        → StandsAt (SpellsDirectly form format) bytes at read.0 read.1
     by_form None is h = cc
     by_form (Some ImplicitConst) is h = cc
     by_form (Some Indirect) is h = cc
     by_form (Some (Direct layout)) is h =
-        let found = bind_ok (reading_value (content_at layout format bytes at)) (λ read. Ok (record { form = form; content = read.0 }, read.1)) read h in
-        let s = content_stands layout format bytes at found.0.0 found.0.1 (reading_ok (content_at layout format bytes at) found.0 found.1) in
+        let found = bind_ok (reading_value (content_at layout format bytes at))
+        (λ read. Ok (record { form = form; content = read.0 }, read.1)) read h in
+        let s = content_stands layout format bytes at found.0.0 found.0.1
+        (reading_ok (content_at layout format bytes at) found.0 found.1) in
         let value : Value = record { form = form; content = found.0.0 } in
-        subst (λ (r : Value × ℕ). StandsAt (SpellsDirectly form format) bytes at r.0 r.1) (same_ok (value, found.0.1) read found.2)
-        (stands_from (SpellsDirectly form format) bytes at value found.0.1 s.front s.rest (stretch_of (SpellsContent layout format) bytes at found.0.0 found.0.1 s) (layout, is, s.spelled, refl))
+        subst (λ (r : Value × ℕ). StandsAt (SpellsDirectly form format) bytes at r.0 r.1)
+        (same_ok (value, found.0.1) read found.2)
+        (stands_from (SpellsDirectly form format) bytes at value found.0.1 s.front s.rest
+        (stretch_of (SpellsContent layout format) bytes at found.0.0 found.0.1 s)
+        (layout, is, s.spelled, refl))
 
-pub direct_reads : (form : ℕ) (format : Format) (bytes : List ℕ) (at : ℕ) (value : Value) (next : ℕ) → StandsAt (SpellsDirectly form format) bytes at value next → direct_at form format bytes at ≡ Ok (value, next)
+pub direct_reads : (form : ℕ) (format : Format) (bytes : List ℕ) (at : ℕ) (value : Value) (next : ℕ)
+    → StandsAt (SpellsDirectly form format) bytes at value next → direct_at form format bytes at
+    ≡ Ok (value, next)
 unfolding direct_at
 direct_reads form format bytes at value next s =
     let layout = s.spelled.0 in
-    let content = content_again layout format bytes at value.content next (stands_from (SpellsContent layout format) bytes at value.content next s.front s.rest (stretch_of (SpellsDirectly form format) bytes at value next s) s.spelled.2) in
-    subst (λ (f : Option Shape). Direct_read f form format bytes at ≡ Ok (value, next)) (sym s.spelled.1)
-    (rw content (ap (λ (f : ℕ). Ok (record { form = f; content = value.content }, next)) (sym s.spelled.3)))
+    let content = content_again layout format bytes at value.content next
+    (stands_from (SpellsContent layout format) bytes at value.content next s.front s.rest
+    (stretch_of (SpellsDirectly form format) bytes at value next s) s.spelled.2) in
+    subst (λ (f : Option Shape). Direct_read f form format bytes at ≡ Ok (value, next))
+    (sym s.spelled.1)
+    (rw content (ap (λ (f : ℕ). Ok (record { form = f; content = value.content }, next))
+    (sym s.spelled.3)))
 
 abbrev Spells_by : Option Shape → ℕ → Format → Option ℤ → List ℕ → Value → Type 0
 Spells_by f form format constant bytes value = elim f [
   | None ↦ ⊥
   | Some (Direct layout) ↦ SpellsDirectly form format bytes value
-  | Some ImplicitConst ↦ (c : ℤ) × (constant ≡ Some c) × (bytes ≡ []) × (value ≡ record { form = form; content = Signed c })
+  | Some ImplicitConst ↦ (c : ℤ) × (constant ≡ Some c) × (bytes ≡ [])
+      × (value ≡ record { form = form; content = Signed c })
   | Some Indirect ↦ SpellsIndirectly format bytes value
 ]
 
-abbrev Value_read : Option Shape → ℕ → Format → Option ℤ → List ℕ → ℕ → Result (Value × ℕ) ValueFault
+abbrev Value_read : Option Shape → ℕ → Format → Option ℤ → List ℕ → ℕ
+    → Result (Value × ℕ) ValueFault
 Value_read f form format constant bytes at = elim f [
   | None ↦ Err Form
   | Some (Direct layout) ↦ direct_at form format bytes at
-  | Some ImplicitConst ↦ (elim constant [ None ↦ Err Form | Some c ↦ Ok (record { form = form; content = Signed c }, at) ])
-  | Some Indirect ↦ reading_value (uleb_at bytes at) >>= λ inner. direct_at inner.0 format bytes inner.1
+  | Some ImplicitConst ↦ (elim constant [
+    | None ↦ Err Form
+    | Some c ↦ Ok
+        (record { form = form; content = Signed c }, at)
+  ])
+  | Some Indirect ↦ reading_value (uleb_at bytes at) >>= λ inner. direct_at inner.0 format bytes
+      inner.1
 ]
 
-form_in : (form : ℕ) (format : Format) (bytes : List ℕ) (value : Value) → SpellsDirectly form format bytes value → SpellsDirectly value.form format bytes value
-form_in form format bytes value s = subst (λ (f : ℕ). SpellsDirectly f format bytes value) (sym s.3) s
+form_in : (form : ℕ) (format : Format) (bytes : List ℕ) (value : Value)
+    → SpellsDirectly form format bytes value → SpellsDirectly value.form format bytes value
+form_in form format bytes value s = subst (λ (f : ℕ). SpellsDirectly f format bytes value) (sym s.3)
+    s
 
-pub value_stands : (form : ℕ) (format : Format) (constant : Option ℤ) (bytes : List ℕ) (at : ℕ) (value : Value) (next : ℕ) → value_at form format constant bytes at ≡ Ok (value, next) → StandsAt (Spells form format constant) bytes at value next
+pub value_stands : (form : ℕ) (format : Format) (constant : Option ℤ) (bytes : List ℕ) (at : ℕ)
+    (value : Value) (next : ℕ) → value_at form format constant bytes at ≡ Ok (value, next)
+    → StandsAt (Spells form format constant) bytes at value next
 unfolding value_at
 value_stands form format constant bytes at value next h = by_form (form_of form) refl h
   where
-    stands : (f : Option Shape) → form_of form ≡ f → (front rest : List ℕ) → Stretch bytes at front next rest → Spells_by f form format constant front value → StandsAt (Spells form format constant) bytes at value next
-    stands f is front rest s spelled = stands_from (Spells form format constant) bytes at value next front rest s (subst (λ (f : Option Shape). Spells_by f form format constant front value) (sym is) spelled)
+    stands : (f : Option Shape) → form_of form ≡ f → (front rest : List ℕ)
+        → Stretch bytes at front next rest → Spells_by f form format constant front value
+        → StandsAt (Spells form format constant) bytes at value next
+    stands f is front rest s spelled = stands_from (Spells form format constant) bytes at value next
+        front rest s (subst (λ (f : Option Shape). Spells_by f form format constant front value)
+        (sym is) spelled)
 
-    by_constant : (c : Option ℤ) → constant ≡ c → form_of form ≡ Some ImplicitConst → (elim c as (λ _. Result (Value × ℕ) ValueFault) [ None ↦ Err Form | Some c ↦ Ok (record { form = form; content = Signed c }, at) ]) ≡ Ok (value, next) → StandsAt (Spells form format constant) bytes at value next
+    by_constant : (c : Option ℤ) → constant ≡ c → form_of form ≡ Some ImplicitConst
+        → (elim c as (λ _. Result (Value × ℕ) ValueFault)
+        [ None ↦ Err Form | Some c ↦ Ok (record { form = form; content = Signed c }, at) ])
+        ≡ Ok (value, next) → StandsAt (Spells form format constant) bytes at value next
     by_constant None known is h = cc
     by_constant (Some c) known is h =
         let same = same_ok (record { form = form; content = Signed c }, at) (value, next) h in
         let place : at ≡ next = ap (λ (r : Value × ℕ). r.1) same in
-        stands (Some ImplicitConst) is [] (drop at bytes) (subst (λ (k : ℕ). Stretch bytes at [] k (drop at bytes)) place (nothing bytes at)) (c, known, refl, sym (ap (λ (r : Value × ℕ). r.0) same))
+        stands (Some ImplicitConst) is [] (drop at bytes)
+        (subst (λ (k : ℕ). Stretch bytes at [] k (drop at bytes)) place (nothing bytes at))
+        (c, known, refl, sym (ap (λ (r : Value × ℕ). r.0) same))
 
-    by_form : (f : Option Shape) → form_of form ≡ f → Value_read f form format constant bytes at ≡ Ok (value, next) → StandsAt (Spells form format constant) bytes at value next
+    by_form : (f : Option Shape) → form_of form ≡ f → Value_read f form format constant bytes at
+        ≡ Ok (value, next) → StandsAt (Spells form format constant) bytes at value next
     by_form None is h = cc
     by_form (Some (Direct layout)) is h =
         let s = direct_stands form format bytes at (value, next) h in
-        stands (Some (Direct layout)) is s.front s.rest (stretch_of (SpellsDirectly form format) bytes at value next s) s.spelled
+        stands (Some (Direct layout)) is s.front s.rest
+        (stretch_of (SpellsDirectly form format) bytes at value next s) s.spelled
     by_form (Some ImplicitConst) is h = by_constant constant refl is h
     by_form (Some Indirect) is h =
-        let found = bind_ok (reading_value (uleb_at bytes at)) (λ inner. direct_at inner.0 format bytes inner.1) (value, next) h in
-        let inner = uleb_stands bytes at found.0.0 found.0.1 (reading_ok (uleb_at bytes at) found.0 found.1) in
+        let found = bind_ok (reading_value (uleb_at bytes at))
+        (λ inner. direct_at inner.0 format bytes inner.1) (value, next) h in
+        let inner = uleb_stands bytes at found.0.0 found.0.1
+        (reading_ok (uleb_at bytes at) found.0 found.1) in
         let s = direct_stands found.0.0 format bytes found.0.1 (value, next) found.2 in
-        let both = joined bytes at inner.front s.front found.0.1 next inner.rest s.rest (stretch_of IsUleb bytes at found.0.0 found.0.1 inner) (stretch_of (SpellsDirectly found.0.0 format) bytes found.0.1 value next s) in
+        let both = joined bytes at inner.front s.front found.0.1 next inner.rest s.rest
+        (stretch_of IsUleb bytes at found.0.0 found.0.1 inner)
+        (stretch_of (SpellsDirectly found.0.0 format) bytes found.0.1 value next s) in
         stands (Some Indirect) is (inner.front ++ s.front) s.rest both
-        (record { front = inner.front; rest = s.front; whole = refl; form_is = subst (λ (k : ℕ). IsUleb inner.front k) (sym s.spelled.3) inner.spelled; value_is = form_in found.0.0 format s.front value s.spelled })
+        (record {
+          front = inner.front;
+          rest = s.front;
+          whole = refl;
+          form_is =
+              subst (λ (k : ℕ). IsUleb inner.front k) (sym s.spelled.3) inner.spelled;
+          value_is =
+              form_in found.0.0 format s.front value s.spelled;
+        })
 
-pub value_reads : (form : ℕ) (format : Format) (constant : Option ℤ) (bytes : List ℕ) (at : ℕ) (value : Value) (next : ℕ) → StandsAt (Spells form format constant) bytes at value next → value_at form format constant bytes at ≡ Ok (value, next)
+pub value_reads : (form : ℕ) (format : Format) (constant : Option ℤ) (bytes : List ℕ) (at : ℕ)
+    (value : Value) (next : ℕ) → StandsAt (Spells form format constant) bytes at value next
+    → value_at form format constant bytes at ≡ Ok (value, next)
 unfolding value_at
 value_reads form format constant bytes at value next s = by_form (form_of form) refl s.spelled
   where
     here : Stretch bytes at s.front next s.rest
     here = stretch_of (Spells form format constant) bytes at value next s
 
-    by_form : (f : Option Shape) → form_of form ≡ f → Spells_by f form format constant s.front value → Value_read f form format constant bytes at ≡ Ok (value, next)
+    by_form : (f : Option Shape) → form_of form ≡ f → Spells_by f form format constant s.front value
+        → Value_read f form format constant bytes at ≡ Ok (value, next)
     by_form None is spelled = absurd spelled
-    by_form (Some (Direct layout)) is spelled = direct_reads form format bytes at value next (stands_from (SpellsDirectly form format) bytes at value next s.front s.rest here spelled)
+    by_form (Some (Direct layout)) is spelled =
+        direct_reads form format bytes at value next
+        (stands_from (SpellsDirectly form format) bytes at value next s.front s.rest here spelled)
     by_form (Some ImplicitConst) is spelled =
         let place : at ≡ next = omega (arith, s.next_is, ap length spelled.2) in
         rw (spelled.1, spelled.3, place) refl
     by_form (Some Indirect) is spelled =
-        let both = respelled bytes at s.front (spelled.front ++ spelled.rest) next s.rest spelled.whole here in
+        let both = respelled bytes at s.front (spelled.front ++ spelled.rest) next s.rest
+        spelled.whole here in
         let mid = at + length spelled.front in
-        let inner = uleb_again bytes at value.form mid (stands_from IsUleb bytes at value.form mid spelled.front (spelled.rest ++ s.rest) (first_part bytes at spelled.front spelled.rest next s.rest both) spelled.form_is) in
-        let read = direct_reads value.form format bytes mid value next (stands_from (SpellsDirectly value.form format) bytes mid value next spelled.rest s.rest (second_part bytes at spelled.front spelled.rest next s.rest both) spelled.value_is) in
+        let inner = uleb_again bytes at value.form mid
+        (stands_from IsUleb bytes at value.form mid spelled.front (spelled.rest ++ s.rest)
+        (first_part bytes at spelled.front spelled.rest next s.rest both) spelled.form_is) in
+        let read = direct_reads value.form format bytes mid value next
+        (stands_from (SpellsDirectly value.form format) bytes mid value next spelled.rest s.rest
+        (second_part bytes at spelled.front spelled.rest next s.rest both) spelled.value_is) in
         rw (inner, read) refl
 
 -- Two spellings with which the same bytes begin are one.
-pub one_value : (form : ℕ) (format : Format) (constant : Option ℤ) (a b x y : List ℕ) (v w : Value) → Spells form format constant a v → Spells form format constant b w → a ++ x ≡ b ++ y → (a ≡ b) × (v ≡ w)
+pub one_value : (form : ℕ) (format : Format) (constant : Option ℤ) (a b x y : List ℕ) (v w : Value)
+    → Spells form format constant a v → Spells form format constant b w → a ++ x ≡ b ++ y
+    → (a ≡ b) × (v ≡ w)
 one_value form format constant a b x y v w is js e =
-    let first = value_reads form format constant (a ++ x) 0 v (length a) (record { front = a; rest = x; spelled = is; parts = refl; next_is = omega arith }) in
-    let second = value_reads form format constant (b ++ y) 0 w (length b) (record { front = b; rest = y; spelled = js; parts = refl; next_is = omega arith }) in
-    let both = same_ok (v, length a) (w, length b) (sym first ∙ (ap (λ (bytes : List ℕ). value_at form format constant bytes 0) e ∙ second)) in
-    let len : length a ≡ length b = ap (λ (r : Value × ℕ). r.1) both in
-    (sym (take_at a x (length a) refl) ∙ (ap (λ (bytes : List ℕ). take (length a) bytes) e ∙ take_at b y (length a) (sym len)), ap (λ (r : Value × ℕ). r.0) both)
+    let first = value_reads form format constant (a ++ x) 0 v (length a)
+    (record { front = a; rest = x; spelled = is; parts = refl; next_is = omega arith }) in
+    let second = value_reads form format constant (b ++ y) 0 w (length b)
+    (record { front = b; rest = y; spelled = js; parts = refl; next_is = omega arith }) in
+    let both = same_ok (v, length a) (w, length b)
+    (sym first ∙ (ap (λ (bytes : List ℕ). value_at form format constant bytes 0) e ∙ second)) in
+    let len : length a ≡ length b = ap (λ (r : Value × ℕ). r.1) both in (
+      sym (take_at a x (length a) refl) ∙ (ap (λ (bytes : List ℕ). take (length a) bytes) e
+          ∙ take_at b y (length a) (sym len)),
+      ap (λ (r : Value × ℕ). r.0) both,
+    )

@@ -1,5 +1,7 @@
--- Where the parts of a line program stand: each program has a byte and none reaches past the section.
-use Rattle.std.proofs.Common.{◌≡◌, ℕ, ◌+◌, ◌<◌, ◌≤◌, List, length, take, drop, not, ◌==◌, Result, Ok, Err, ap, arith, length-take}
+-- Where the parts of a line program stand: each program has a byte and none reaches past the
+-- section.
+use Rattle.std.proofs.Common.{◌≡◌, ℕ, ◌+◌, ◌<◌, ◌≤◌, List, length, take, drop, not, ◌==◌, Result}
+use Rattle.std.proofs.Common.{Ok, Err, ap, arith, length-take}
 use Rattle.std.specs.Prelude.{nat_lt}
 use Rattle.std.proofs.lemmas.Bool.Decides.{nat_tests}
 use Rattle.dwarf_bytes.specs.declared.fault.ReadFault.{ReadFault}
@@ -7,7 +9,8 @@ use Rattle.dwarf_bytes.specs.declared.fault.ReadFault.TheVariants.{Short}
 use Rattle.dwarf_bytes.specs.declared.fault.Cause.{Cause}
 use Rattle.dwarf_bytes.specs.declared.fault.Cause.TheVariants as causes
 use Rattle.dwarf_bytes.specs.Items.{reading}
-use Rattle.dwarf_bytes.specs.Numbers.{block_at, fixed_at, little_endian, u8_at, u16_at, offset_at, initial_length_at}
+use Rattle.dwarf_bytes.specs.Numbers.{block_at, fixed_at, little_endian, u8_at, u16_at, offset_at}
+use Rattle.dwarf_bytes.specs.Numbers.{initial_length_at}
 use Rattle.dwarf_bytes.proofs.Advance.{after_bind, after_test, chosen, reading_ok}
 use Rattle.dwarf_bytes.proofs.LengthLaws.{initial_length_at-moves}
 use Rattle.dwarf_lines.specs.declared.formats.EntryTable.TheVariants.{Directories, Files}
@@ -19,19 +22,24 @@ use Rattle.dwarf_lines.specs.Headers.{LineHeader, within, bounds_at, encoding_at
 pub ok_is : {A E : Type 0} (x y : A) → (let f : A → Result A E = λ z. Ok z in f x ≡ f y) → x ≡ y
 ok_is x y h = cc
 
-pub fixed_at-place : (n : ℕ) (bytes : List ℕ) (at : ℕ) (v : ℕ × ℕ) → fixed_at n bytes at ≡ Ok v → v.1 ≡ at + n
+pub fixed_at-place : (n : ℕ) (bytes : List ℕ) (at : ℕ) (v : ℕ × ℕ) → fixed_at n bytes at ≡ Ok v
+    → v.1 ≡ at + n
 unfolding fixed_at block_at
 fixed_at-place n bytes at v h =
     let P : Type 0 = v.1 ≡ at + n in
     after_bind (block_at n bytes at) _ v h P (λ block block_is h1.
-    chosen (nat_lt (length bytes) (at + n)) (Err Short) (Ok (take n (drop at bytes), at + n)) (Ok block) block_is P (λ _ e. cc) (λ _ e.
-    let same : (take n (drop at bytes), at + n) ≡ block = ok_is {E = ReadFault} (take n (drop at bytes), at + n) block e in
+    chosen (nat_lt (length bytes) (at + n)) (Err Short) (Ok (take n (drop at bytes), at + n))
+    (Ok block) block_is P (λ _ e. cc) (λ _ e.
+    let same : (take n (drop at bytes), at + n) ≡ block =
+    ok_is {E = ReadFault} (take n (drop at bytes), at + n) block e in
     let last : at + n ≡ block.1 = ap (λ (p : List ℕ × ℕ). p.1) same in
-    let pair : (little_endian block.0, block.1) ≡ v = ok_is {E = ReadFault} (little_endian block.0, block.1) v h1 in
+    let pair : (little_endian block.0, block.1) ≡ v =
+    ok_is {E = ReadFault} (little_endian block.0, block.1) v h1 in
     let place : block.1 ≡ v.1 = ap (λ (p : ℕ × ℕ). p.1) pair in
     omega arith))
 
-pub within-is : (bytes : List ℕ) (place found : ℕ) → within bytes place ≡ Ok found → (found ≡ place) × (found ≤ length bytes)
+pub within-is : (bytes : List ℕ) (place found : ℕ) → within bytes place ≡ Ok found
+    → (found ≡ place) × (found ≤ length bytes)
 within-is bytes place found h = grind (arith, nat_tests)
 
 -- the bounds of a program lie in one another
@@ -41,7 +49,8 @@ pub record AreNested (line : List ℕ) (place : ℕ) (b : ProgramBounds) : Type 
   pub first : b.first ≤ b.past
   pub past : b.past ≤ length line
 
-pub bounds_at-nested : (line : List ℕ) (place : ℕ) (b : ProgramBounds) → bounds_at line place ≡ Ok b → AreNested line place b
+pub bounds_at-nested : (line : List ℕ) (place : ℕ) (b : ProgramBounds) → bounds_at line place ≡ Ok b
+    → AreNested line place b
 unfolding bounds_at
 bounds_at-nested line place b h =
     let P : Type 0 = AreNested line place b in
@@ -55,15 +64,24 @@ bounds_at-nested line place b h =
     after_test (not (segment.0 == 0)) causes.SegmentSize _ b h7 P (λ _ h8.
     after_bind (reading (offset_at unit.0.0 (take past line) segment.1)) _ b h8 P (λ len len_is h9.
     after_bind (within (take past line) (len.1 + len.0)) _ b h9 P (λ first first_is h10.
-    let same : record { format = unit.0.0; fields = len.1; first = first; past = past } ≡ b = ok_is {E = Cause} (record { format = unit.0.0; fields = len.1; first = first; past = past }) b h10 in
+    let same : record { format = unit.0.0; fields = len.1; first = first; past = past } ≡ b =
+    ok_is {E = Cause} (record { format = unit.0.0; fields = len.1; first = first; past = past })
+    b h10 in
     let fields : len.1 ≡ b.fields = ap (λ (c : ProgramBounds). c.fields) same in
     let firsts : first ≡ b.first = ap (λ (c : ProgramBounds). c.first) same in
     let pasts : past ≡ b.past = ap (λ (c : ProgramBounds). c.past) same in
-    let start = initial_length_at-moves line place unit (reading_ok (initial_length_at line place) unit unit_is) in
+    let start = initial_length_at-moves line place unit
+    (reading_ok (initial_length_at line place) unit unit_is) in
     let ended = within-is line (unit.1 + unit.0.1) past past_is in
     let began = within-is (take past line) (len.1 + len.0) first first_is in
     let cut = length-take past line in
-    record { starts = omega (arith, start.0, ended.0); fields = omega (arith, began.0); first = omega (arith, began.1, cut); past = omega (arith, ended.1) }))))))))))
+    record {
+      starts = omega (arith, start.0, ended.0);
+      fields = omega (arith, began.0);
+      first =
+          omega (arith, began.1, cut);
+      past = omega (arith, ended.1);
+    }))))))))))
 
 -- where a program whose header is good ends
 pub header_at-past : (s : LineSections) (place : ℕ) (h : LineHeader) → header_at s place ≡ Ok h
@@ -72,11 +90,21 @@ unfolding header_at
 header_at-past s place h is =
     let P : Type 0 = (place < h.past) × (h.past ≤ length s.line) in
     after_bind (bounds_at s.line place) _ h is P (λ bounds bounds_is h1.
-    after_bind (encoding_at (take bounds.first s.line) bounds.fields) _ h h1 P (λ encoding encoding_is h2.
-    after_bind (table_at s bounds.format Directories (take bounds.first s.line) encoding.1) _ h h2 P (λ directories directories_is h3.
-    after_bind (table_at s bounds.format (Files (length directories.0)) (take bounds.first s.line) directories.1) _ h h3 P (λ files files_is h4.
+    after_bind (encoding_at (take bounds.first s.line) bounds.fields) _ h h1 P
+    (λ encoding encoding_is h2.
+    after_bind (table_at s bounds.format Directories (take bounds.first s.line) encoding.1) _ h h2 P
+    (λ directories directories_is h3.
+    after_bind (table_at s bounds.format (Files (length directories.0)) (take bounds.first s.line)
+    directories.1) _ h h3 P (λ files files_is h4.
     let same : bounds.past ≡ h.past = ap (λ (c : LineHeader). c.past)
-    (ok_is {E = Cause} (record { encoding = encoding.0; directories = directories.0; files = files.0; first = bounds.first; past = bounds.past }) h h4) in
+    (ok_is {E = Cause} (record {
+      encoding = encoding.0;
+      directories = directories.0;
+      files =
+          files.0;
+      first = bounds.first;
+      past = bounds.past;
+    }) h h4) in
     let nested = bounds_at-nested s.line place bounds bounds_is in
     let starts = nested.starts in
     let past = nested.past in

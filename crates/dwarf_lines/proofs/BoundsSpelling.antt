@@ -1,5 +1,7 @@
 -- The bounds of a line program, as what is spelled: in both directions.
-use Rattle.std.proofs.Common.{◌≡◌, ℕ, ◌+◌, ◌-◌, ◌<◌, ◌≤◌, List, [], ◌∷◌, ◌++◌, length, take, drop, true, not, ◌==◌, Ok, refl, sym, ap, ◌∙◌, subst, arith, append_assoc, length-take, length-drop}
+use Rattle.std.proofs.Common.{◌≡◌, ℕ, ◌+◌, ◌-◌, ◌<◌, ◌≤◌, List, [], ◌∷◌, ◌++◌, length, take, drop}
+use Rattle.std.proofs.Common.{true, not, ◌==◌, Ok, refl, sym, ap, ◌∙◌, subst, arith, append_assoc}
+use Rattle.std.proofs.Common.{length-take, length-drop}
 use Rattle.std.specs.Prelude.{nat_le}
 use Rattle.std.proofs.Math.Seq.{take-append-add}
 use Rattle.std.proofs.lemmas.List.{take-append-drop, drop-take, drop-append-le}
@@ -7,40 +9,59 @@ use Rattle.std.proofs.lemmas.Bool.Decides.{nat_tests}
 use Rattle.dwarf_bytes.specs.declared.fault.Cause.{Cause}
 use Rattle.dwarf_bytes.specs.declared.fault.Cause.TheVariants as causes
 use Rattle.dwarf_bytes.specs.Items.{reading}
-use Rattle.dwarf_bytes.specs.Numbers.{IsFixed, IsInitialLength, little_endian, u8_at, u16_at, offset_at, offset_len, initial_length_at}
+use Rattle.dwarf_bytes.specs.Numbers.{IsFixed, IsInitialLength, little_endian, u8_at, u16_at}
+use Rattle.dwarf_bytes.specs.Numbers.{offset_at, offset_len, initial_length_at}
 use Rattle.dwarf_bytes.proofs.Advance.{after_bind, after_test, reading_ok}
 use Rattle.dwarf_bytes.proofs.LengthLaws.{initial_stands, initial_again}
 use Rattle.dwarf_lines.specs.declared.program_bounds.ProgramBounds.{ProgramBounds}
 use Rattle.dwarf_lines.specs.Headers.{within, bounds_at}
 use Rattle.dwarf_lines.proofs.BoundsLaws.{ok_is, within-is}
-use Rattle.dwarf_lines.proofs.Stretches.{Stretch, stretch, stretch_of, stands_of, join, first_of, rest_of, two_bytes, fixed_stands, fixed_again, byte_stands, byte_again}
-use Rattle.dwarf_lines.proofs.PartSpelling.{offset_stands, offset_again}
+use Rattle.dwarf_lines.proofs.Stretches.{Stretch, stretch, stretch_of, stands_of, join, first_of}
+use Rattle.dwarf_lines.proofs.Stretches.{rest_of, two_bytes, fixed_stands, fixed_again, byte_stands}
+use Rattle.dwarf_lines.proofs.Stretches.{byte_again}
+use Rattle.dwarf_lines.proofs.PathSpelling.{offset_stands, offset_again}
 use Rattle.dwarf_lines.proofs.EncodingSpelling.{asked_for, inside}
 
 -- ---- bytes that are cut at an end
 
-pub cut : (n : ℕ) (bytes : List ℕ) (at : ℕ) (front : List ℕ) (next : ℕ) → next ≤ n → Stretch bytes at front next
+pub cut : (n : ℕ) (bytes : List ℕ) (at : ℕ) (front : List ℕ) (next : ℕ) → next ≤ n
+    → Stretch bytes at front next
     → Stretch (take n bytes) at front next
 cut n bytes at front next le there =
     let more : ℕ = n - next in
     let size : n ≡ at + (length front + more) = omega (arith, le, there.next_is) in
     let parts : drop at (take n bytes) ≡ front ++ take more (drop next bytes) =
-    ap (λ (k : ℕ). drop at (take k bytes)) size ∙ (drop-take at (length front + more) bytes ∙ (ap (take (length front + more)) there.parts ∙ take-append-add front (drop next bytes) more)) in
+    ap (λ (k : ℕ). drop at (take k bytes)) size
+    ∙ (drop-take at (length front + more) bytes
+    ∙ (ap (take (length front + more)) there.parts ∙ take-append-add front (drop next bytes)
+    more)) in
     stretch (take n bytes) at front (take more (drop next bytes)) next parts there.next_is
 
-pub uncut : (n : ℕ) (bytes : List ℕ) (at : ℕ) (front : List ℕ) (next : ℕ) → 0 < length front → Stretch (take n bytes) at front next
+pub uncut : (n : ℕ) (bytes : List ℕ) (at : ℕ) (front : List ℕ) (next : ℕ) → 0 < length front
+    → Stretch (take n bytes) at front next
     → Stretch bytes at front next
 uncut n bytes at front next some there =
-    let starts : at ≤ length (take n bytes) = omega (arith, there.next_is, inside (take n bytes) at front next some there) in
+    let starts : at ≤ length (take n bytes) =
+    omega (arith, there.next_is, inside (take n bytes) at front next some there) in
     let parts : drop at bytes ≡ front ++ (drop next (take n bytes) ++ drop n bytes) =
-    ap (drop at) (sym (take-append-drop n bytes)) ∙ (drop-append-le at (take n bytes) (drop n bytes) starts ∙ (ap (λ (l : List ℕ). l ++ drop n bytes) there.parts ∙ append_assoc front (drop next (take n bytes)) (drop n bytes))) in
+    ap (drop at) (sym (take-append-drop n bytes))
+    ∙ (drop-append-le at (take n bytes) (drop n bytes) starts
+    ∙ (ap (λ (l : List ℕ). l ++ drop n bytes) there.parts
+    ∙ append_assoc front (drop next (take n bytes)) (drop n bytes))) in
     stretch bytes at front (drop next (take n bytes) ++ drop n bytes) next parts there.next_is
 
 -- what stands between two places
-pub between : (bytes : List ℕ) (at next : ℕ) → at ≤ next → next ≤ length bytes → (front : List ℕ) × Stretch bytes at front next
+pub between : (bytes : List ℕ) (at next : ℕ) → at ≤ next → next ≤ length bytes
+    → (front : List ℕ) × Stretch bytes at front next
 between bytes at next le within =
-    let size : next ≡ at + length (take (next - at) (drop at bytes)) = omega (arith, length-take (next - at) (drop at bytes), length-drop at bytes, le, within) in
-    (take (next - at) (drop at bytes), stretch bytes at (take (next - at) (drop at bytes)) (drop (next - at) (drop at bytes)) next (sym (take-append-drop (next - at) (drop at bytes))) size)
+    let size : next ≡ at + length (take (next - at) (drop at bytes)) =
+    omega (arith, length-take (next - at) (drop at bytes), length-drop at bytes, le, within) in (
+      take (next - at) (drop at bytes),
+      stretch bytes at (take (next - at) (drop at bytes))
+          (drop (next - at) (drop at bytes)) next
+          (sym (take-append-drop (next - at) (drop at bytes)))
+          size,
+    )
 
 -- ---- bounds
 
@@ -68,7 +89,8 @@ is_version block size value =
     let high : two.1 ≡ 0 = omega (arith, sum) in
     two.2 ∙ (ap (λ (n : ℕ). n ∷ two.1 ∷ []) low ∙ ap (λ (n : ℕ). 5 ∷ n ∷ []) high)
 
-pub bounds_stand : (line : List ℕ) (place : ℕ) (b : ProgramBounds) → bounds_at line place ≡ Ok b → AreSpelled line place b
+pub bounds_stand : (line : List ℕ) (place : ℕ) (b : ProgramBounds) → bounds_at line place ≡ Ok b
+    → AreSpelled line place b
 unfolding bounds_at
 bounds_stand line place b h =
     let P : Type 0 = AreSpelled line place b in
@@ -83,18 +105,33 @@ bounds_stand line place b h =
     after_bind (reading (offset_at unit.0.0 (take past line) segment.1)) _ b h8 P (λ len len_is h9.
     after_bind (within (take past line) (len.1 + len.0)) _ b h9 P (λ first first_is h10.
     let all = take past line in
-    let u = initial_stands line place unit (reading_ok (initial_length_at line place) unit unit_is) in
+    let u = initial_stands line place unit
+    (reading_ok (initial_length_at line place) unit unit_is) in
     let ended = within-is line (unit.1 + unit.0.1) past past_is in
     let began = within-is all (len.1 + len.0) first first_is in
-    let block = fixed_stands 2 all unit.1 version (reading_ok (u16_at all unit.1) version version_is) in
-    let v = subst (λ (front : List ℕ). Stretch all unit.1 front version.1) (is_version block.0 block.2 (sym block.3 ∙ asked_for version.0 5 five)) block.1 in
-    let a = subst (λ (n : ℕ). Stretch all version.1 (n ∷ []) address.1) (asked_for address.0 8 eight) (byte_stands all version.1 address (reading_ok (u8_at all version.1) address address_is)) in
-    let g = subst (λ (n : ℕ). Stretch all address.1 (n ∷ []) segment.1) (asked_for segment.0 0 zero_is) (byte_stands all address.1 segment (reading_ok (u8_at all address.1) segment segment_is)) in
-    let l = offset_stands unit.0.0 all segment.1 len.0 len.1 (reading_ok (offset_at unit.0.0 all segment.1) len len_is) in
-    let gl = join all address.1 (0 ∷ []) segment.1 l.front len.1 g (stretch_of (IsFixed (offset_len unit.0.0)) all segment.1 len.0 len.1 l) in
+    let block = fixed_stands 2 all unit.1 version
+    (reading_ok (u16_at all unit.1) version version_is) in
+    let v = subst (λ (front : List ℕ). Stretch all unit.1 front version.1)
+    (is_version block.0 block.2 (sym block.3 ∙ asked_for version.0 5 five)) block.1 in
+    let a = subst (λ (n : ℕ). Stretch all version.1 (n ∷ []) address.1)
+    (asked_for address.0 8 eight) (byte_stands all version.1 address
+    (reading_ok (u8_at all version.1) address address_is)) in
+    let g = subst (λ (n : ℕ). Stretch all address.1 (n ∷ []) segment.1)
+    (asked_for segment.0 0 zero_is) (byte_stands all address.1 segment
+    (reading_ok (u8_at all address.1) segment segment_is)) in
+    let l = offset_stands unit.0.0 all segment.1 len.0 len.1
+    (reading_ok (offset_at unit.0.0 all segment.1) len len_is) in
+    let gl = join all address.1 (0 ∷ []) segment.1 l.front len.1 g
+    (stretch_of (IsFixed (offset_len unit.0.0)) all segment.1 len.0 len.1 l) in
     let agl = join all version.1 (8 ∷ []) address.1 (0 ∷ l.front) len.1 a gl in
     let head = join all unit.1 (5 ∷ 0 ∷ []) version.1 (8 ∷ 0 ∷ l.front) len.1 v agl in
-    let it : ProgramBounds = record { format = unit.0.0; fields = len.1; first = first; past = past } in
+    let it : ProgramBounds = record {
+      format = unit.0.0;
+      fields = len.1;
+      first = first;
+      past =
+          past;
+    } in
     subst (λ (c : ProgramBounds). AreSpelled line place c) (ok_is {E = Cause} it b h10)
     (record {
       unit_length = u.front;
@@ -112,27 +149,42 @@ bounds_stand line place b h =
       past = ended.1;
     })))))))))))
 
-within_again : (bytes : List ℕ) (place found : ℕ) → found ≡ place → found ≤ length bytes → within bytes place ≡ Ok found
+within_again : (bytes : List ℕ) (place found : ℕ) → found ≡ place → found ≤ length bytes
+    → within bytes place ≡ Ok found
 within_again bytes place found is le =
-    let inside : nat_le place (length bytes) ≡ true = fits place (length bytes) (omega (arith, is, le)) in
+    let inside : nat_le place (length bytes) ≡ true =
+    fits place (length bytes) (omega (arith, is, le)) in
     rw inside (ap (λ (n : ℕ). Ok n) (sym is))
   where
     fits : (m n : ℕ) → m ≤ n → nat_le m n ≡ true
     fits m n h = grind (arith, nat_tests)
 
-pub bounds_again : (line : List ℕ) (place : ℕ) (b : ProgramBounds) → AreSpelled line place b → bounds_at line place ≡ Ok b
+pub bounds_again : (line : List ℕ) (place : ℕ) (b : ProgramBounds) → AreSpelled line place b
+    → bounds_at line place ≡ Ok b
 unfolding bounds_at
 bounds_again line place b t =
     let all = take b.past line in
-    let head = cut b.past line t.mid (5 ∷ 0 ∷ 8 ∷ 0 ∷ t.header_length) b.fields (omega (arith, t.first_is, t.first)) t.head_there in
-    let unit = initial_again b.format line place t.unit t.mid (stands_of (IsInitialLength b.format) line place t.unit t.mid t.unit_length t.length_there t.unit_is) in
+    let head = cut b.past line t.mid (5 ∷ 0 ∷ 8 ∷ 0 ∷ t.header_length) b.fields
+    (omega (arith, t.first_is, t.first)) t.head_there in
+    let unit = initial_again b.format line place t.unit t.mid
+    (stands_of (IsInitialLength b.format) line place t.unit t.mid t.unit_length t.length_there
+    t.unit_is) in
     let past = within_again line (t.mid + t.unit) b.past t.past_is t.past in
     let behind_version = rest_of all t.mid (5 ∷ 0 ∷ []) (8 ∷ 0 ∷ t.header_length) b.fields head in
-    let behind_address = rest_of all (t.mid + 2) (8 ∷ []) (0 ∷ t.header_length) b.fields behind_version in
-    let behind_segment = rest_of all (t.mid + 2 + 1) (0 ∷ []) t.header_length b.fields behind_address in
-    let version : u16_at all t.mid ≡ Ok (5, t.mid + 2) = fixed_again all t.mid (5 ∷ 0 ∷ []) (t.mid + 2) (omega arith) (first_of all t.mid (5 ∷ 0 ∷ []) (8 ∷ 0 ∷ t.header_length) b.fields head) in
-    let address = byte_again all (t.mid + 2) 8 (t.mid + 2 + 1) (first_of all (t.mid + 2) (8 ∷ []) (0 ∷ t.header_length) b.fields behind_version) in
-    let segment = byte_again all (t.mid + 2 + 1) 0 (t.mid + 2 + 1 + 1) (first_of all (t.mid + 2 + 1) (0 ∷ []) t.header_length b.fields behind_address) in
-    let len = offset_again b.format all (t.mid + 2 + 1 + 1) t.counted b.fields (stands_of (IsFixed (offset_len b.format)) all (t.mid + 2 + 1 + 1) t.counted b.fields t.header_length behind_segment t.counted_is) in
-    let first = within_again all (b.fields + t.counted) b.first t.first_is (omega (arith, t.first, t.past, length-take b.past line)) in
+    let behind_address = rest_of all (t.mid + 2) (8 ∷ []) (0 ∷ t.header_length) b.fields
+    behind_version in
+    let behind_segment = rest_of all (t.mid + 2 + 1) (0 ∷ []) t.header_length b.fields
+    behind_address in
+    let version : u16_at all t.mid ≡ Ok (5, t.mid + 2) =
+    fixed_again all t.mid (5 ∷ 0 ∷ []) (t.mid + 2) (omega arith)
+    (first_of all t.mid (5 ∷ 0 ∷ []) (8 ∷ 0 ∷ t.header_length) b.fields head) in
+    let address = byte_again all (t.mid + 2) 8 (t.mid + 2 + 1)
+    (first_of all (t.mid + 2) (8 ∷ []) (0 ∷ t.header_length) b.fields behind_version) in
+    let segment = byte_again all (t.mid + 2 + 1) 0 (t.mid + 2 + 1 + 1)
+    (first_of all (t.mid + 2 + 1) (0 ∷ []) t.header_length b.fields behind_address) in
+    let len = offset_again b.format all (t.mid + 2 + 1 + 1) t.counted b.fields
+    (stands_of (IsFixed (offset_len b.format)) all (t.mid + 2 + 1 + 1) t.counted b.fields
+    t.header_length behind_segment t.counted_is) in
+    let first = within_again all (b.fields + t.counted) b.first t.first_is
+    (omega (arith, t.first, t.past, length-take b.past line)) in
     rw (unit, past, version, address, segment, len, first) refl

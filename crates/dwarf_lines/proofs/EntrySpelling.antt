@@ -1,5 +1,6 @@
 -- The entries of a table, as what is spelled: in both directions.
-use Rattle.std.proofs.Common.{◌≡◌, ℕ, ◌+◌, ◌≤◌, List, [], ◌∷◌, ◌++◌, length, drop, Bool, true, false, cond, not, ◌&&◌, ◌==◌, Ok, refl, sym, ap, ◌∙◌, subst, arith}
+use Rattle.std.proofs.Common.{◌≡◌, ℕ, ◌+◌, ◌≤◌, List, [], ◌∷◌, ◌++◌, length, drop, Bool, true}
+use Rattle.std.proofs.Common.{false, cond, not, ◌&&◌, ◌==◌, Ok, refl, sym, ap, ◌∙◌, subst, arith}
 use Rattle.std.specs.Prelude.{count_by, nat_le}
 use Rattle.std.specs.List.{list_all}
 use Rattle.std.proofs.lemmas.Bool.{and_parts}
@@ -16,9 +17,11 @@ use Rattle.dwarf_lines.specs.declared.entries.Entry.{Entry}
 use Rattle.dwarf_lines.specs.Sections.{LineSections}
 use Rattle.dwarf_lines.specs.Formats.{is_path, is_index, has_good_form, is_format}
 use Rattle.dwarf_lines.specs.Entries.{field_at, fields_at, no_entry, has_directory, entry_at}
-use Rattle.dwarf_lines.specs.HeaderSpelling.{SpellsEach, SpellsPart, path, directory, other, SpellsEntry}
+use Rattle.dwarf_lines.specs.HeaderSpelling.{SpellsEach, SpellsPart, path, directory, other}
+use Rattle.dwarf_lines.specs.HeaderSpelling.{SpellsEntry}
 use Rattle.dwarf_lines.proofs.BoundsLaws.{ok_is}
-use Rattle.dwarf_lines.proofs.Stretches.{Stretch, stretch_of, stands_of, none_at, join, first_of, rest_of}
+use Rattle.dwarf_lines.proofs.Stretches.{Stretch, stretch_of, stands_of, none_at, join, first_of}
+use Rattle.dwarf_lines.proofs.Stretches.{rest_of}
 use Rattle.dwarf_lines.proofs.EncodingSpelling.{passed}
 use Rattle.dwarf_lines.proofs.PartSpelling.{part_stands, part_again}
 
@@ -52,10 +55,12 @@ module _ {X : Type 0} (p : X → Bool) (x : X) (xs : List X) where
 
   none_of_both : p x ≡ false → count_by p xs ≡ 0 → count_by p (x ∷ xs) ≡ 0
   unfolding one_if
-  none_of_both is none = let zero_is : one_if (p x) ≡ 0 = rw is refl in omega (arith, count_more, zero_is)
+  none_of_both is none = let zero_is : one_if (p x) ≡ 0 = rw is refl in
+      omega (arith, count_more, zero_is)
 
 -- what a good format is
-format_tests : (paths indexes : ℕ) (forms : Bool) → ((paths == 1) && nat_le indexes 1 && forms) ≡ true
+format_tests : (paths indexes : ℕ) (forms : Bool) → ((paths == 1) && nat_le indexes 1 && forms)
+    ≡ true
     → (paths ≡ 1) × (indexes ≤ 1) × (forms ≡ true)
 format_tests paths indexes forms h =
     let parts = and_parts ((paths == 1) && nat_le indexes 1) forms h in
@@ -66,49 +71,79 @@ abbrev IsGood : EntryTable → List Field → Type 0
 IsGood table fields = (count_by is_path fields ≡ 1) × (count_by (is_index table) fields ≤ 1)
     × (list_all (has_good_form table) fields ≡ true)
 
-good_format : (table : EntryTable) (fields : List Field) → is_format table fields ≡ true → IsGood table fields
-good_format table fields h = format_tests (count_by is_path fields) (count_by (is_index table) fields) (list_all (has_good_form table) fields) h
+good_format : (table : EntryTable) (fields : List Field) → is_format table fields ≡ true
+    → IsGood table fields
+good_format table fields h = format_tests (count_by is_path fields)
+    (count_by (is_index table) fields) (list_all (has_good_form table) fields) h
 
 module _ (s : LineSections) (format : Format) (table : EntryTable) (bytes : List ℕ) where
   -- a field says the same of an entry that has it too
-  same_part : (a b : Entry) (at : ℕ) (front : List ℕ) (field : Field) → (is_path field ≡ true → b.path ≡ a.path)
-      → (is_index table field ≡ true → b.directory ≡ a.directory) → SpellsPart s format table a at front field
+  same_part : (a b : Entry) (at : ℕ) (front : List ℕ) (field : Field)
+      → (is_path field ≡ true → b.path ≡ a.path)
+      → (is_index table field ≡ true → b.directory ≡ a.directory)
+      → SpellsPart s format table a at front field
       → SpellsPart s format table b at front field
   same_part a b at front field paths indexes (path is there) = path is (rw (paths is) there)
-  same_part a b at front field paths indexes (directory is there) = directory is (rw (indexes is) there)
-  same_part a b at front field paths indexes (other layout content not_path not_index is there) = other layout content not_path not_index is there
+  same_part a b at front field paths indexes (directory is there) =
+      directory is (rw (indexes is) there)
+  same_part a b at front field paths indexes (other layout content not_path not_index is there) =
+      other layout content not_path not_index is there
 
   abbrev Parts : Entry → ℕ → List Field → ℕ → Type 0
-  Parts entry at fields next = StandsAt (SpellsEach (SpellsPart s format table entry) at) bytes at fields next
+  Parts entry at fields next = StandsAt (SpellsEach (SpellsPart s format table entry) at) bytes at
+      fields next
 
   -- what no field says is as before
   abbrev Unsaid : List Field → Entry → Entry → Type 0
   Unsaid fields before entry = (count_by is_path fields ≡ 0 → entry.path ≡ before.path)
       × (count_by (is_index table) fields ≡ 0 → entry.directory ≡ before.directory)
 
-  fields_stand : (fields : List Field) (before : Entry) (at : ℕ) (entry : Entry) (next : ℕ) → count_by is_path fields ≤ 1
+  fields_stand : (fields : List Field) (before : Entry) (at : ℕ) (entry : Entry) (next : ℕ)
+      → count_by is_path fields ≤ 1
       → count_by (is_index table) fields ≤ 1 → list_all (has_good_form table) fields ≡ true
-      → fields_at s format table fields before bytes at ≡ Ok (entry, next) → Parts entry at fields next × Unsaid fields before entry
+      → fields_at s format table fields before bytes at ≡ Ok (entry, next)
+      → Parts entry at fields next × Unsaid fields before entry
   unfolding fields_at
   fields_stand [] before at entry next one_path one_index good h =
-      subst (λ (p : Entry × ℕ). Parts p.0 at [] p.1 × Unsaid [] before p.0) (ok_is {E = Cause} (before, at) (entry, next) h)
-      (stands_of (SpellsEach (SpellsPart s format table before) at) bytes at [] at [] (none_at bytes at) refl, ((λ none. refl), (λ none. refl)))
+      subst (λ (p : Entry × ℕ). Parts p.0 at [] p.1 × Unsaid [] before p.0)
+      (ok_is {E = Cause} (before, at) (entry, next) h) (
+        stands_of (SpellsEach (SpellsPart s format table before) at) bytes at [] at []
+            (none_at bytes at) refl,
+        ((λ none. refl), (λ none. refl)),
+      )
   fields_stand (field ∷ fields) before at entry next one_path one_index good h =
-      after_bind (field_at s format table field before bytes at) _ (entry, next) h (Parts entry at (field ∷ fields) next × Unsaid (field ∷ fields) before entry) (λ after after_is h1.
-      let forms = and_parts (has_good_form table field) (list_all (has_good_form table) fields) good in
-      let here = part_stands s format bytes at table field before after.0 after.1 forms.0 after_is in
-      let others = fields_stand fields after.0 after.1 entry next (fewer_behind is_path field fields one_path) (fewer_behind (is_index table) field fields one_index) forms.1 h1 in
-      let first = same_part after.0 entry at here.0.front field (λ is. others.1.0 (one_at_front is_path field fields one_path is)) (λ is. others.1.1 (one_at_front (is_index table) field fields one_index is)) here.0.spelled in
-      let both = join bytes at here.0.front after.1 others.0.front next (stretch_of (SpellsPart s format table after.0 at) bytes at field after.1 here.0) (stretch_of (SpellsEach (SpellsPart s format table entry) after.1) bytes after.1 fields next others.0) in
-      let last = subst (λ (n : ℕ). SpellsEach (SpellsPart s format table entry) n others.0.front fields) here.0.next_is others.0.spelled in (
-        stands_of (SpellsEach (SpellsPart s format table entry) at) bytes at (field ∷ fields) next (here.0.front ++ others.0.front) both (here.0.front, others.0.front, refl, first, last),
+      after_bind (field_at s format table field before bytes at) _ (entry, next) h
+      (Parts entry at (field ∷ fields) next × Unsaid (field ∷ fields) before entry)
+      (λ after after_is h1.
+      let forms = and_parts (has_good_form table field) (list_all (has_good_form table) fields)
+      good in
+      let here = part_stands s format bytes at table field before after.0 after.1 forms.0
+      after_is in
+      let others = fields_stand fields after.0 after.1 entry next
+      (fewer_behind is_path field fields one_path)
+      (fewer_behind (is_index table) field fields one_index) forms.1 h1 in
+      let first = same_part after.0 entry at here.0.front field
+      (λ is. others.1.0 (one_at_front is_path field fields one_path is))
+      (λ is. others.1.1 (one_at_front (is_index table) field fields one_index is))
+      here.0.spelled in
+      let both = join bytes at here.0.front after.1 others.0.front next
+      (stretch_of (SpellsPart s format table after.0 at) bytes at field after.1 here.0)
+      (stretch_of (SpellsEach (SpellsPart s format table entry) after.1) bytes after.1 fields
+      next others.0) in
+      let last = subst (λ (n : ℕ). SpellsEach (SpellsPart s format table entry) n others.0.front
+      fields) here.0.next_is others.0.spelled in (
+        stands_of (SpellsEach (SpellsPart s format table entry) at) bytes at (field ∷ fields) next
+            (here.0.front ++ others.0.front) both (here.0.front, others.0.front, refl, first, last),
         (
-          (λ none. others.1.0 (none_behind is_path field fields none) ∙ here.1.0 (none_at_front is_path field fields none)),
-          (λ none. others.1.1 (none_behind (is_index table) field fields none) ∙ here.1.1 (none_at_front (is_index table) field fields none)),
+          (λ none. others.1.0 (none_behind is_path field fields none)
+              ∙ here.1.0 (none_at_front is_path field fields none)),
+          (λ none. others.1.1 (none_behind (is_index table) field fields none)
+              ∙ here.1.1 (none_at_front (is_index table) field fields none)),
         ),
       ))
 
-  fields_again : (entry : Entry) (fields : List Field) (before : Entry) (at : ℕ) (front : List ℕ) (next : ℕ) → Stretch bytes at front next
+  fields_again : (entry : Entry) (fields : List Field) (before : Entry) (at : ℕ) (front : List ℕ)
+      (next : ℕ) → Stretch bytes at front next
       → SpellsEach (SpellsPart s format table entry) at front fields
       → (count_by is_path fields ≡ 0 → before.path ≡ entry.path)
       → (count_by (is_index table) fields ≡ 0 → before.directory ≡ entry.directory)
@@ -118,35 +153,54 @@ module _ (s : LineSections) (format : Format) (table : EntryTable) (bytes : List
       let end : at ≡ next = omega (arith, there.next_is, ap length none) in
       let p = paths refl in
       let d = indexes refl in
-      ap (λ (e : Entry). Ok (e, at)) (λ i. record { path = p i; directory = d i }) ∙ ap (λ (n : ℕ). Ok (entry, n)) end
+      ap (λ (e : Entry). Ok (e, at)) (λ i. record { path = p i; directory = d i })
+      ∙ ap (λ (n : ℕ). Ok (entry, n)) end
   fields_again entry (field ∷ fields) before at front next there some paths indexes =
       let all = subst (λ (b : List ℕ). Stretch bytes at b next) some.2 there in
       let mid = at + length some.0 in
       let first = first_of bytes at some.0 some.1 next all in
-      let here = part_again s format bytes at table entry before field some.0 (drop mid bytes) mid first.parts first.next_is some.3 in
-      let others = fields_again entry fields here.0 mid some.1 next (rest_of bytes at some.0 some.1 next all) some.4
+      let here = part_again s format bytes at table entry before field some.0 (drop mid bytes) mid
+      first.parts first.next_is some.3 in
+      let others = fields_again entry fields here.0 mid some.1 next
+      (rest_of bytes at some.0 some.1 next all) some.4
       (λ none. here.2 (λ is. paths (none_of_both is_path field fields is none)))
       (λ none. here.3 (λ is. indexes (none_of_both (is_index table) field fields is none))) in
       rw (here.1, others) refl
 
   -- ---- entries
 
-  pub entry_stands : (fields : List Field) → is_format table fields ≡ true → (at : ℕ) (entry : Entry) (next : ℕ)
-      → entry_at s format table fields bytes at ≡ Ok (entry, next) → StandsAt (SpellsEntry s format table fields at) bytes at entry next
+  pub entry_stands : (fields : List Field) → is_format table fields ≡ true
+      → (at : ℕ) (entry : Entry) (next : ℕ)
+      → entry_at s format table fields bytes at ≡ Ok (entry, next)
+      → StandsAt (SpellsEntry s format table fields at) bytes at entry next
   unfolding entry_at
   entry_stands fields good at entry next h =
-      after_bind (fields_at s format table fields no_entry bytes at) _ (entry, next) h (StandsAt (SpellsEntry s format table fields at) bytes at entry next) (λ read read_is h1.
-      after_test (not (has_directory table read.0)) causes.DirIndex _ (entry, next) h1 (StandsAt (SpellsEntry s format table fields at) bytes at entry next) (λ known h2.
+      after_bind (fields_at s format table fields no_entry bytes at) _ (entry, next) h
+      (StandsAt (SpellsEntry s format table fields at) bytes at entry next) (λ read read_is h1.
+      after_test (not (has_directory table read.0)) causes.DirIndex _ (entry, next) h1
+      (StandsAt (SpellsEntry s format table fields at) bytes at entry next) (λ known h2.
       let parts = good_format table fields good in
-      let a = fields_stand fields no_entry at read.0 read.1 (omega (arith, parts.0)) parts.1 parts.2 read_is in
-      subst (λ (p : Entry × ℕ). StandsAt (SpellsEntry s format table fields at) bytes at p.0 p.1) (ok_is {E = Cause} read (entry, next) h2)
-      (stands_of (SpellsEntry s format table fields at) bytes at read.0 read.1 a.0.front (stretch_of (SpellsEach (SpellsPart s format table read.0) at) bytes at fields read.1 a.0)
-      (record { parts = a.0.spelled; unsaid = a.1.1; known = passed (has_directory table read.0) known }))))
+      let a = fields_stand fields no_entry at read.0 read.1 (omega (arith, parts.0)) parts.1 parts.2
+      read_is in
+      subst (λ (p : Entry × ℕ). StandsAt (SpellsEntry s format table fields at) bytes at p.0 p.1)
+      (ok_is {E = Cause} read (entry, next) h2)
+      (stands_of (SpellsEntry s format table fields at) bytes at read.0 read.1 a.0.front
+      (stretch_of (SpellsEach (SpellsPart s format table read.0) at) bytes at fields read.1 a.0)
+      (record {
+        parts = a.0.spelled;
+        unsaid = a.1.1;
+        known =
+            passed (has_directory table read.0) known;
+      }))))
 
-  pub entry_again : (fields : List Field) → is_format table fields ≡ true → (at : ℕ) (entry : Entry) (next : ℕ)
-      → StandsAt (SpellsEntry s format table fields at) bytes at entry next → entry_at s format table fields bytes at ≡ Ok (entry, next)
+  pub entry_again : (fields : List Field) → is_format table fields ≡ true
+      → (at : ℕ) (entry : Entry) (next : ℕ)
+      → StandsAt (SpellsEntry s format table fields at) bytes at entry next
+      → entry_at s format table fields bytes at ≡ Ok (entry, next)
   unfolding entry_at
   entry_again fields good at entry next h =
       let parts = good_format table fields good in
-      let read = fields_again entry fields no_entry at h.front next (stretch_of (SpellsEntry s format table fields at) bytes at entry next h) h.spelled.parts (λ none. absurd (omega (arith, parts.0, none))) (λ none. sym (h.spelled.unsaid none)) in
+      let read = fields_again entry fields no_entry at h.front next
+      (stretch_of (SpellsEntry s format table fields at) bytes at entry next h) h.spelled.parts
+      (λ none. absurd (omega (arith, parts.0, none))) (λ none. sym (h.spelled.unsaid none)) in
       rw (read, h.spelled.known) refl

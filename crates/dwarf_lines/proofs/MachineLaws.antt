@@ -1,5 +1,6 @@
 -- The registers of the machine are the sums over the instructions that it has executed.
-use Rattle.std.proofs.Common.{◌≡◌, ℕ, List, [], ◌∷◌, Bool, true, if◌then◌else◌, Result, Ok, refl, sym, ap, ◌∙◌, arith}
+use Rattle.std.proofs.Common.{◌≡◌, ℕ, List, [], ◌∷◌, Bool, true, if◌then◌else◌, Result, Ok, refl}
+use Rattle.std.proofs.Common.{sym, ap, ◌∙◌, arith}
 use Rattle.std.specs.Prelude.{ℤ, pos, ◌+ℤ◌}
 use Rattle.std.proofs.lemmas.Int.{ints}
 use Rattle.dwarf_bytes.specs.declared.fault.Cause.{Cause}
@@ -7,76 +8,159 @@ use Rattle.dwarf_bytes.specs.Bind.{◌>>=◌}
 use Rattle.dwarf_lines.specs.declared.row.Row.{Row}
 use Rattle.dwarf_lines.specs.declared.row.Origin.{Origin}
 use Rattle.dwarf_lines.specs.declared.instruction.Instruction.{Instruction}
-use Rattle.dwarf_lines.specs.declared.instruction.Instruction.TheVariants.{Copy, AdvancePc, AdvanceLine, SetFile, ConstAddPc, FixedAdvancePc, SetAddress, EndSequence, Special, Skipped}
+use Rattle.dwarf_lines.specs.declared.instruction.Instruction.TheVariants.{Copy, AdvancePc}
+use Rattle.dwarf_lines.specs.declared.instruction.Instruction.TheVariants.{AdvanceLine, SetFile}
+use Rattle.dwarf_lines.specs.declared.instruction.Instruction.TheVariants.{ConstAddPc}
+use Rattle.dwarf_lines.specs.declared.instruction.Instruction.TheVariants.{FixedAdvancePc}
+use Rattle.dwarf_lines.specs.declared.instruction.Instruction.TheVariants.{SetAddress, EndSequence}
+use Rattle.dwarf_lines.specs.declared.instruction.Instruction.TheVariants.{Special, Skipped}
 use Rattle.dwarf_lines.specs.Instructions.{Encoding}
-use Rattle.dwarf_lines.specs.Matrix.{address_after, line_after, file_after, is_open, is_dead, row_before, line_row, made_live, made, rows_from}
+use Rattle.dwarf_lines.specs.Matrix.{address_after, line_after, file_after, is_open, is_dead}
+use Rattle.dwarf_lines.specs.Matrix.{row_before, line_row, made_live, made, rows_from}
 use Rattle.dwarf_lines.specs.Machine.{Machine, at_start, step, appended_live, appended, rows_by}
-use Rattle.dwarf_lines.proofs.Steps.{address_goes_on, line_goes_on, file_goes_on, row_stays, row_here, open_stays, open_here, dead_stays, dead_here, dead_set, file_is, address_is}
+use Rattle.dwarf_lines.proofs.Steps.{address_goes_on, line_goes_on, file_goes_on, row_stays}
+use Rattle.dwarf_lines.proofs.Steps.{row_here, open_stays, open_here, dead_stays, dead_here}
+use Rattle.dwarf_lines.proofs.Steps.{dead_set}
+use Rattle.dwarf_lines.proofs.StepKinds.{file_is, address_is}
 
 -- the registers after these instructions
 abbrev pub registers : Encoding → List Instruction → Machine
-registers e before = record { address = address_after e before; file = file_after before; line = line_after e before; previous = row_before e before; has_row = is_open before; dead = is_dead before }
+registers e before = record {
+  address = address_after e before;
+  file = file_after before;
+  line =
+      line_after e before;
+  previous = row_before e before;
+  has_row = is_open before;
+  dead =
+      is_dead before;
+}
 
-same_registers : (a b : ℕ) (f g : ℕ) (l k : ℤ) (p q : ℕ) (u v d c : Bool) → a ≡ b → f ≡ g → l ≡ k → p ≡ q → u ≡ v → d ≡ c
-    → (let m : Machine = record { address = a; file = f; line = l; previous = p; has_row = u; dead = d } in m ≡ record { address = b; file = g; line = k; previous = q; has_row = v; dead = c })
-same_registers a b f g l k p q u v d c a_is f_is l_is p_is u_is d_is = rw (a_is, f_is, l_is, p_is, u_is, d_is) refl
+same_registers : (a b : ℕ) (f g : ℕ) (l k : ℤ) (p q : ℕ) (u v d c : Bool) → a ≡ b → f ≡ g → l ≡ k
+    → p ≡ q → u ≡ v → d ≡ c
+    → (let m : Machine = record {
+      address = a;
+      file = f;
+      line = l;
+      previous = p;
+      has_row = u;
+      dead =
+          d;
+    } in m ≡ record { address = b; file = g; line = k; previous = q; has_row = v; dead = c })
+same_registers a b f g l k p q u v d c a_is f_is l_is p_is u_is d_is =
+    rw (a_is, f_is, l_is, p_is, u_is, d_is) refl
 
 -- no change of the line
 stays : (z : ℤ) → z +ℤ pos 0 ≡ z
 stays z = omega (arith, ints)
 
-after_end : (e : Encoding) (before : List Instruction) → registers e (EndSequence ∷ before) ≡ at_start
+after_end : (e : Encoding) (before : List Instruction) → registers e (EndSequence ∷ before)
+    ≡ at_start
 unfolding address_after file_after line_after row_before is_open is_dead
 after_end e before = refl
 
 -- each step goes from the registers of the instructions before it to those of them and it
-step-registers : (e : Encoding) (before : List Instruction) (i : Instruction) → step e (registers e before) i ≡ registers e (i ∷ before)
+step-registers : (e : Encoding) (before : List Instruction) (i : Instruction)
+    → step e (registers e before) i ≡ registers e (i ∷ before)
 step-registers e before Copy =
     let address = address_goes_on e Copy before refl refl in
-    same_registers (address_after e before) (address_after e (Copy ∷ before)) (file_after before) (file_after (Copy ∷ before)) (line_after e before) (line_after e (Copy ∷ before)) (address_after e before) (row_before e (Copy ∷ before)) true (is_open (Copy ∷ before)) (is_dead before) (is_dead (Copy ∷ before))
-    (omega (arith, address)) (sym (file_goes_on Copy before refl refl)) (sym (line_goes_on e Copy before refl ∙ stays (line_after e before)))
+    same_registers (address_after e before) (address_after e (Copy ∷ before)) (file_after before)
+    (file_after (Copy ∷ before)) (line_after e before) (line_after e (Copy ∷ before))
+    (address_after e before) (row_before e (Copy ∷ before)) true (is_open (Copy ∷ before))
+    (is_dead before) (is_dead (Copy ∷ before))
+    (omega (arith, address)) (sym (file_goes_on Copy before refl refl))
+    (sym (line_goes_on e Copy before refl ∙ stays (line_after e before)))
     (let last = row_here e Copy before refl refl in omega (arith, address, last))
     (sym (open_here Copy before refl refl)) (sym (dead_here Copy before refl refl))
 step-registers e before (AdvancePc n) =
-    same_registers _ (address_after e (AdvancePc n ∷ before)) (file_after before) (file_after (AdvancePc n ∷ before)) (line_after e before) (line_after e (AdvancePc n ∷ before)) (row_before e before) (row_before e (AdvancePc n ∷ before)) (is_open before) (is_open (AdvancePc n ∷ before)) (is_dead before) (is_dead (AdvancePc n ∷ before))
-    (sym (address_goes_on e (AdvancePc n) before refl refl)) (sym (file_goes_on (AdvancePc n) before refl refl)) (sym (line_goes_on e (AdvancePc n) before refl ∙ stays (line_after e before)))
+    same_registers _ (address_after e (AdvancePc n ∷ before)) (file_after before)
+    (file_after (AdvancePc n ∷ before)) (line_after e before)
+    (line_after e (AdvancePc n ∷ before)) (row_before e before)
+    (row_before e (AdvancePc n ∷ before)) (is_open before) (is_open (AdvancePc n ∷ before))
+    (is_dead before) (is_dead (AdvancePc n ∷ before))
+    (sym (address_goes_on e (AdvancePc n) before refl refl))
+    (sym (file_goes_on (AdvancePc n) before refl refl))
+    (sym (line_goes_on e (AdvancePc n) before refl ∙ stays (line_after e before)))
     (sym (row_stays e (AdvancePc n) before refl refl))
-    (sym (open_stays (AdvancePc n) before refl refl)) (sym (dead_stays (AdvancePc n) before refl refl))
+    (sym (open_stays (AdvancePc n) before refl refl))
+    (sym (dead_stays (AdvancePc n) before refl refl))
 step-registers e before (AdvanceLine z) =
-    same_registers (address_after e before) (address_after e (AdvanceLine z ∷ before)) (file_after before) (file_after (AdvanceLine z ∷ before)) _ (line_after e (AdvanceLine z ∷ before)) (row_before e before) (row_before e (AdvanceLine z ∷ before)) (is_open before) (is_open (AdvanceLine z ∷ before)) (is_dead before) (is_dead (AdvanceLine z ∷ before))
-    (let address = address_goes_on e (AdvanceLine z) before refl refl in omega (arith, address)) (sym (file_goes_on (AdvanceLine z) before refl refl)) (sym (line_goes_on e (AdvanceLine z) before refl))
+    same_registers (address_after e before) (address_after e (AdvanceLine z ∷ before))
+    (file_after before) (file_after (AdvanceLine z ∷ before)) _
+    (line_after e (AdvanceLine z ∷ before)) (row_before e before)
+    (row_before e (AdvanceLine z ∷ before)) (is_open before) (is_open (AdvanceLine z ∷ before))
+    (is_dead before) (is_dead (AdvanceLine z ∷ before))
+    (let address = address_goes_on e (AdvanceLine z) before refl refl in omega (arith, address))
+    (sym (file_goes_on (AdvanceLine z) before refl refl))
+    (sym (line_goes_on e (AdvanceLine z) before refl))
     (sym (row_stays e (AdvanceLine z) before refl refl))
-    (sym (open_stays (AdvanceLine z) before refl refl)) (sym (dead_stays (AdvanceLine z) before refl refl))
+    (sym (open_stays (AdvanceLine z) before refl refl))
+    (sym (dead_stays (AdvanceLine z) before refl refl))
 step-registers e before (SetFile file) =
-    same_registers (address_after e before) (address_after e (SetFile file ∷ before)) file (file_after (SetFile file ∷ before)) (line_after e before) (line_after e (SetFile file ∷ before)) (row_before e before) (row_before e (SetFile file ∷ before)) (is_open before) (is_open (SetFile file ∷ before)) (is_dead before) (is_dead (SetFile file ∷ before))
-    (let address = address_goes_on e (SetFile file) before refl refl in omega (arith, address)) (sym (file_is file before)) (sym (line_goes_on e (SetFile file) before refl ∙ stays (line_after e before)))
+    same_registers (address_after e before) (address_after e (SetFile file ∷ before)) file
+    (file_after (SetFile file ∷ before)) (line_after e before)
+    (line_after e (SetFile file ∷ before)) (row_before e before)
+    (row_before e (SetFile file ∷ before)) (is_open before) (is_open (SetFile file ∷ before))
+    (is_dead before) (is_dead (SetFile file ∷ before))
+    (let address = address_goes_on e (SetFile file) before refl refl in omega (arith, address))
+    (sym (file_is file before)) (sym
+    (line_goes_on e (SetFile file) before refl ∙ stays (line_after e before)))
     (sym (row_stays e (SetFile file) before refl refl))
-    (sym (open_stays (SetFile file) before refl refl)) (sym (dead_stays (SetFile file) before refl refl))
+    (sym (open_stays (SetFile file) before refl refl))
+    (sym (dead_stays (SetFile file) before refl refl))
 step-registers e before ConstAddPc =
-    same_registers _ (address_after e (ConstAddPc ∷ before)) (file_after before) (file_after (ConstAddPc ∷ before)) (line_after e before) (line_after e (ConstAddPc ∷ before)) (row_before e before) (row_before e (ConstAddPc ∷ before)) (is_open before) (is_open (ConstAddPc ∷ before)) (is_dead before) (is_dead (ConstAddPc ∷ before))
-    (sym (address_goes_on e ConstAddPc before refl refl)) (sym (file_goes_on ConstAddPc before refl refl)) (sym (line_goes_on e ConstAddPc before refl ∙ stays (line_after e before)))
+    same_registers _ (address_after e (ConstAddPc ∷ before)) (file_after before)
+    (file_after (ConstAddPc ∷ before)) (line_after e before)
+    (line_after e (ConstAddPc ∷ before)) (row_before e before)
+    (row_before e (ConstAddPc ∷ before)) (is_open before) (is_open (ConstAddPc ∷ before))
+    (is_dead before) (is_dead (ConstAddPc ∷ before))
+    (sym (address_goes_on e ConstAddPc before refl refl))
+    (sym (file_goes_on ConstAddPc before refl refl))
+    (sym (line_goes_on e ConstAddPc before refl ∙ stays (line_after e before)))
     (sym (row_stays e ConstAddPc before refl refl))
     (sym (open_stays ConstAddPc before refl refl)) (sym (dead_stays ConstAddPc before refl refl))
 step-registers e before (FixedAdvancePc n) =
-    same_registers _ (address_after e (FixedAdvancePc n ∷ before)) (file_after before) (file_after (FixedAdvancePc n ∷ before)) (line_after e before) (line_after e (FixedAdvancePc n ∷ before)) (row_before e before) (row_before e (FixedAdvancePc n ∷ before)) (is_open before) (is_open (FixedAdvancePc n ∷ before)) (is_dead before) (is_dead (FixedAdvancePc n ∷ before))
-    (sym (address_goes_on e (FixedAdvancePc n) before refl refl)) (sym (file_goes_on (FixedAdvancePc n) before refl refl)) (sym (line_goes_on e (FixedAdvancePc n) before refl ∙ stays (line_after e before)))
+    same_registers _ (address_after e (FixedAdvancePc n ∷ before)) (file_after before)
+    (file_after (FixedAdvancePc n ∷ before)) (line_after e before)
+    (line_after e (FixedAdvancePc n ∷ before)) (row_before e before)
+    (row_before e (FixedAdvancePc n ∷ before)) (is_open before)
+    (is_open (FixedAdvancePc n ∷ before)) (is_dead before) (is_dead (FixedAdvancePc n ∷ before))
+    (sym (address_goes_on e (FixedAdvancePc n) before refl refl))
+    (sym (file_goes_on (FixedAdvancePc n) before refl refl))
+    (sym (line_goes_on e (FixedAdvancePc n) before refl ∙ stays (line_after e before)))
     (sym (row_stays e (FixedAdvancePc n) before refl refl))
-    (sym (open_stays (FixedAdvancePc n) before refl refl)) (sym (dead_stays (FixedAdvancePc n) before refl refl))
+    (sym (open_stays (FixedAdvancePc n) before refl refl))
+    (sym (dead_stays (FixedAdvancePc n) before refl refl))
 step-registers e before (SetAddress address) =
-    same_registers address (address_after e (SetAddress address ∷ before)) (file_after before) (file_after (SetAddress address ∷ before)) (line_after e before) (line_after e (SetAddress address ∷ before)) (row_before e before) (row_before e (SetAddress address ∷ before)) (is_open before) (is_open (SetAddress address ∷ before)) _ (is_dead (SetAddress address ∷ before))
-    (sym (address_is e address before)) (sym (file_goes_on (SetAddress address) before refl refl)) (sym (line_goes_on e (SetAddress address) before refl ∙ stays (line_after e before)))
+    same_registers address (address_after e (SetAddress address ∷ before)) (file_after before)
+    (file_after (SetAddress address ∷ before)) (line_after e before)
+    (line_after e (SetAddress address ∷ before)) (row_before e before)
+    (row_before e (SetAddress address ∷ before)) (is_open before)
+    (is_open (SetAddress address ∷ before)) _ (is_dead (SetAddress address ∷ before))
+    (sym (address_is e address before)) (sym (file_goes_on (SetAddress address) before refl refl))
+    (sym (line_goes_on e (SetAddress address) before refl ∙ stays (line_after e before)))
     (sym (row_stays e (SetAddress address) before refl refl))
     (sym (open_stays (SetAddress address) before refl refl)) (sym (dead_set address before))
 step-registers e before EndSequence = sym (after_end e before)
 step-registers e before (Special adjusted) =
     let address = address_goes_on e (Special adjusted) before refl refl in
-    same_registers _ (address_after e (Special adjusted ∷ before)) (file_after before) (file_after (Special adjusted ∷ before)) _ (line_after e (Special adjusted ∷ before)) _ (row_before e (Special adjusted ∷ before)) true (is_open (Special adjusted ∷ before)) (is_dead before) (is_dead (Special adjusted ∷ before))
-    (sym address) (sym (file_goes_on (Special adjusted) before refl refl)) (sym (line_goes_on e (Special adjusted) before refl))
+    same_registers _ (address_after e (Special adjusted ∷ before)) (file_after before)
+    (file_after (Special adjusted ∷ before)) _ (line_after e (Special adjusted ∷ before)) _
+    (row_before e (Special adjusted ∷ before)) true (is_open (Special adjusted ∷ before))
+    (is_dead before) (is_dead (Special adjusted ∷ before))
+    (sym address) (sym (file_goes_on (Special adjusted) before refl refl))
+    (sym (line_goes_on e (Special adjusted) before refl))
     (sym (row_here e (Special adjusted) before refl refl ∙ address))
-    (sym (open_here (Special adjusted) before refl refl)) (sym (dead_here (Special adjusted) before refl refl))
+    (sym (open_here (Special adjusted) before refl refl))
+    (sym (dead_here (Special adjusted) before refl refl))
 step-registers e before Skipped =
-    same_registers (address_after e before) (address_after e (Skipped ∷ before)) (file_after before) (file_after (Skipped ∷ before)) (line_after e before) (line_after e (Skipped ∷ before)) (row_before e before) (row_before e (Skipped ∷ before)) (is_open before) (is_open (Skipped ∷ before)) (is_dead before) (is_dead (Skipped ∷ before))
-    (let address = address_goes_on e Skipped before refl refl in omega (arith, address)) (sym (file_goes_on Skipped before refl refl)) (sym (line_goes_on e Skipped before refl ∙ stays (line_after e before)))
+    same_registers (address_after e before) (address_after e (Skipped ∷ before)) (file_after before)
+    (file_after (Skipped ∷ before)) (line_after e before) (line_after e (Skipped ∷ before))
+    (row_before e before) (row_before e (Skipped ∷ before)) (is_open before)
+    (is_open (Skipped ∷ before)) (is_dead before) (is_dead (Skipped ∷ before))
+    (let address = address_goes_on e Skipped before refl refl in omega (arith, address))
+    (sym (file_goes_on Skipped before refl refl))
+    (sym (line_goes_on e Skipped before refl ∙ stays (line_after e before)))
     (sym (row_stays e Skipped before refl refl))
     (sym (open_stays Skipped before refl refl)) (sym (dead_stays Skipped before refl refl))
 
@@ -96,7 +180,8 @@ appended-live e o before ConstAddPc = refl
 appended-live e o before (FixedAdvancePc n) = refl
 appended-live e o before (SetAddress address) = refl
 appended-live e o before EndSequence = refl
-appended-live e o before (Special adjusted) = ap (row_from o (row_before e before)) (step-registers e before (Special adjusted))
+appended-live e o before (Special adjusted) =
+    ap (row_from o (row_before e before)) (step-registers e before (Special adjusted))
 appended-live e o before Skipped = refl
 
 unless_dead : Bool → Result (List Row) Cause → Result (List Row) Cause
@@ -112,12 +197,15 @@ rows-from-registers : (e : Encoding) (o : Origin) (before rest : List Instructio
 unfolding rows_from rows_by
 rows-from-registers e o before [] = refl
 rows-from-registers e o before (i ∷ rest) =
-    let one = rows-from-registers e o (i ∷ before) rest ∙ ap (λ (m : Machine). rows_by e o m rest) (sym (step-registers e before i)) in
+    let one = rows-from-registers e o (i ∷ before) rest ∙ ap (λ (m : Machine). rows_by e o m rest)
+    (sym (step-registers e before i)) in
     rw (appended-made e o before i, one) refl
 
 at_first : (e : Encoding) → registers e [] ≡ at_start
 unfolding address_after file_after line_after row_before is_open is_dead
 at_first e = refl
 
-pub rows-by-machine : (e : Encoding) (o : Origin) (is : List Instruction) → rows_from e o [] is ≡ rows_by e o at_start is
-rows-by-machine e o is = rows-from-registers e o [] is ∙ ap (λ (m : Machine). rows_by e o m is) (at_first e)
+pub rows-by-machine : (e : Encoding) (o : Origin) (is : List Instruction)
+    → rows_from e o [] is ≡ rows_by e o at_start is
+rows-by-machine e o is = rows-from-registers e o [] is ∙ ap (λ (m : Machine). rows_by e o m is)
+    (at_first e)

@@ -1,5 +1,6 @@
 -- Each program starts where the one before it ends, so that their offsets rise.
-use Rattle.std.proofs.Common.{◌≡◌, ℕ, ◌<◌, List, [], ◌∷◌, ◌++◌, length, get_or, map, Ok, refl, sym, ap, ◌∙◌, subst, arith}
+use Rattle.std.proofs.Common.{◌≡◌, ℕ, ◌<◌, List, [], ◌∷◌, ◌++◌, length, get_or, map, Ok, refl, sym}
+use Rattle.std.proofs.Common.{ap, ◌∙◌, subst, arith}
 use Rattle.std.specs.Prelude.{nat_le}
 use Rattle.std.specs.List.Sorted.{IsStrictlyIncreasing}
 use Rattle.dwarf_bytes.specs.declared.fault.Cause.{Cause}
@@ -22,57 +23,88 @@ use Rattle.dwarf_lines.proofs.ProgramTurns.{programs-advance, item_or}
 abbrev pub offset_of : Program → ℕ
 offset_of program = program.offset
 
-program_at_place-offset : (s : LineSections) (number place : ℕ) (program : Program) → program_at_place s number place ≡ Ok program
+program_at_place-offset : (s : LineSections) (number place : ℕ) (program : Program)
+    → program_at_place s number place ≡ Ok program
     → program.offset ≡ place
 unfolding program_at_place
 program_at_place-offset s number place program h =
     let P : Type 0 = program.offset ≡ place in
     after_bind (header_at s place) _ program h P (λ header header_is h1.
-    after_bind (matrix_at header.encoding (record { program = record { 0 = number }; files = length header.files }) (take header.past s.line) header.first) _ program h1 P (λ rows rows_is h2.
-    sym (ap offset_of (ok_is {E = Cause} (record { offset = place; directories = header.directories; files = header.files; rows = rows; past = header.past }) program h2))))
+    after_bind (matrix_at header.encoding
+    (record { program = record { 0 = number }; files = length header.files })
+    (take header.past s.line) header.first) _ program h1 P (λ rows rows_is h2.
+    sym (ap offset_of (ok_is {E = Cause}
+    (record {
+      offset = place;
+      directories = header.directories;
+      files = header.files;
+      rows =
+          rows;
+      past = header.past;
+    }) program h2))))
 
 next-offset : (s : LineSections) (before : List Program) (place : ℕ) (program : Program) (after : ℕ)
     → next_program s before place ≡ Ok (Item program after) → program.offset ≡ place
 next-offset s before place x after h =
     let P : Type 0 = x.offset ≡ place in
-    chosen (nat_le (length s.line) place) (Ok (End place)) (program_at_place s (length before) place >>= λ program. Ok (Item program program.past)) (Ok (Item x after)) h P (λ _ e. cc) (λ _ e.
-    after_bind (program_at_place s (length before) place) _ (Item x after) e P (λ program program_is e1.
-    let same : program ≡ x = ap (item_or x) (ok_is {E = Cause} (Item program program.past) (Item x after) e1) in
-    subst (λ (p : Program). p.offset ≡ place) same (program_at_place-offset s (length before) place program program_is)))
+    chosen (nat_le (length s.line) place) (Ok (End place))
+    (program_at_place s (length before) place >>= λ program. Ok (Item program program.past))
+    (Ok (Item x after)) h P (λ _ e. cc) (λ _ e.
+    after_bind (program_at_place s (length before) place) _ (Item x after) e P
+    (λ program program_is e1.
+    let same : program ≡ x = ap (item_or x)
+    (ok_is {E = Cause} (Item program program.past) (Item x after) e1) in
+    subst (λ (p : Program). p.offset ≡ place) same
+    (program_at_place-offset s (length before) place program program_is)))
 
 -- the programs that are listed from a place on
-pub listed-rise : (s : LineSections) (before : List Program) (place : ℕ) (programs : List Program) (after : ℕ)
+pub listed-rise : (s : LineSections) (before : List Program) (place : ℕ) (programs : List Program)
+    (after : ℕ)
     → Lists (next_program s) before place programs after
-    → IsStrictlyIncreasing (map offset_of programs) × (0 < length programs → get_or (map offset_of programs) 0 0 ≡ place)
+    → IsStrictlyIncreasing (map offset_of programs)
+    × (0 < length programs → get_or (map offset_of programs) 0 0 ≡ place)
 listed-rise s before place [] after h = (λ k lt. absurd (omega arith), λ lt. absurd (omega arith))
 listed-rise s before place (program ∷ programs) after h =
     let rest = listed-rise s (before ++ program ∷ []) h.0 programs after h.2 in
     let here = next-offset s before place program h.0 h.1 in
-    let moves = programs-advance s before place program h.0 h.1 in
-    (rising-cons program.offset (map offset_of programs) (first programs rest.1 (omega (arith, here, moves.0))) rest.0, λ _. here)
+    let moves = programs-advance s before place program h.0 h.1 in (
+      rising-cons program.offset (map offset_of programs)
+          (first programs rest.1 (omega (arith, here, moves.0))) rest.0,
+      λ _. here,
+    )
   where
-    first : (rest : List Program) → (0 < length rest → get_or (map offset_of rest) 0 0 ≡ h.0) → program.offset < h.0
+    first : (rest : List Program) → (0 < length rest → get_or (map offset_of rest) 0 0 ≡ h.0)
+        → program.offset < h.0
         → 0 < length (map offset_of rest) → program.offset < get_or (map offset_of rest) 0 0
     first [] is lt none = absurd (omega arith)
     first (next ∷ rest) is lt some = let there = is (omega arith) in omega (arith, there)
 
-pub programs-rise : (s : LineSections) (programs : List Program) (after : ℕ) → programs_of s ≡ Ok (programs, after)
+pub programs-rise : (s : LineSections) (programs : List Program) (after : ℕ)
+    → programs_of s ≡ Ok (programs, after)
     → IsStrictlyIncreasing (map offset_of programs)
-programs-rise s programs after h = (listed-rise s [] 0 programs after (Lists-within _ (next_program s) [] 0 programs after h)).0
+programs-rise s programs after h = (listed-rise s [] 0 programs after
+    (Lists-within _ (next_program s) [] 0 programs after h)).0
 
-pub offsets-of : (programs : List Program) → map (λ (t : FileTables). t.offset) (map tables_of programs) ≡ map offset_of programs
+pub offsets-of : (programs : List Program)
+    → map (λ (t : FileTables). t.offset) (map tables_of programs) ≡ map offset_of programs
 offsets-of [] = refl
-offsets-of (program ∷ programs) = ap (λ (offsets : List ℕ). program.offset ∷ offsets) (offsets-of programs)
+offsets-of (program ∷ programs) = ap (λ (offsets : List ℕ). program.offset ∷ offsets)
+    (offsets-of programs)
 
-offsets-in : (programs : List ProgramFiles) → map (λ (t : FileTables). t.offset) (map tables_in programs) ≡ map (λ (p : ProgramFiles). p.offset) programs
+offsets-in : (programs : List ProgramFiles)
+    → map (λ (t : FileTables). t.offset) (map tables_in programs)
+    ≡ map (λ (p : ProgramFiles). p.offset) programs
 offsets-in [] = refl
-offsets-in (program ∷ programs) = ap (λ (offsets : List ℕ). program.offset ∷ offsets) (offsets-in programs)
+offsets-in (program ∷ programs) = ap (λ (offsets : List ℕ). program.offset ∷ offsets)
+    (offsets-in programs)
 
 -- the offsets of what is kept of them
-pub kept-rise : (s : LineSections) (before : List Program) (place : ℕ) (programs : List ProgramFiles) (after : ℕ)
+pub kept-rise : (s : LineSections) (before : List Program) (place : ℕ)
+    (programs : List ProgramFiles) (after : ℕ)
     → programs_of s ≡ Ok (before, after) → map tables_in programs ≡ map tables_of before
     → IsStrictlyIncreasing (map (λ (p : ProgramFiles). p.offset) programs)
 kept-rise s before place programs after read kept =
     let same : map offset_of before ≡ map (λ (p : ProgramFiles). p.offset) programs =
-    sym (offsets-of before) ∙ ap (λ (tables : List FileTables). map (λ (t : FileTables). t.offset) tables) (sym kept) ∙ offsets-in programs in
+    sym (offsets-of before) ∙ ap (λ (tables : List FileTables). map (λ (t : FileTables). t.offset)
+    tables) (sym kept) ∙ offsets-in programs in
     subst IsStrictlyIncreasing same (programs-rise s before after read)

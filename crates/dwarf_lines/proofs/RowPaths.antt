@@ -1,5 +1,7 @@
 -- Each row that does not end its sequence has a path.
-use Rattle.std.proofs.Common.{◌≡◌, ℕ, zero, suc, ◌+◌, ◌<◌, List, [], ◌∷◌, ◌++◌, Bool, true, false, length, map, Result, Ok, Some, refl, sym, ◌∙◌, subst, arith, append_assoc}
+use Rattle.std.proofs.Common.{◌≡◌, ℕ, zero, suc, ◌+◌, ◌<◌, List, [], ◌∷◌, ◌++◌, Bool, true, false}
+use Rattle.std.proofs.Common.{length, map, Result, Ok, Some, refl, sym, ◌∙◌, subst, arith}
+use Rattle.std.proofs.Common.{append_assoc}
 use Rattle.std.specs.Prelude.{ℤ, slice_get}
 use Rattle.std.specs.Option.{option_and_then}
 use Rattle.std.proofs.lemmas.Bool.{false≢true, ltb-true}
@@ -20,7 +22,9 @@ use Rattle.dwarf_lines.specs.declared.formats.EntryTable.TheVariants.{Files}
 use Rattle.dwarf_lines.specs.declared.instruction.Instruction.{Instruction}
 use Rattle.dwarf_lines.specs.declared.instruction.Instruction.TheVariants.{EndSequence}
 use Rattle.dwarf_lines.specs.Instructions.{Encoding}
-use Rattle.dwarf_lines.specs.Matrix.{address_after, line_after, file_after, is_dead, row_before, judged_address, judged_line, judged_file, line_row, end_row, made, rows_from}
+use Rattle.dwarf_lines.specs.Matrix.{address_after, line_after, file_after, is_dead, row_before}
+use Rattle.dwarf_lines.specs.Matrix.{judged_address, judged_line, judged_file, line_row, end_row}
+use Rattle.dwarf_lines.specs.Matrix.{made, rows_from}
 use Rattle.dwarf_lines.specs.Sections.{LineSections}
 use Rattle.dwarf_lines.specs.Entries.{has_directory}
 use Rattle.dwarf_lines.specs.HeaderSpelling.{SpellsEach, SpellsEntry}
@@ -28,9 +32,10 @@ use Rattle.dwarf_lines.specs.Paths.{path_parts, nonempty_parts, texts_of}
 use Rattle.dwarf_lines.specs.Programs.{Program, program_at_place, next_program, rows_of}
 use Rattle.dwarf_lines.specs.Lines.{FileTables, tables_of, Lines, lines_in, HavePaths}
 use Rattle.dwarf_lines.proofs.BoundsLaws.{ok_is}
-use Rattle.dwarf_lines.proofs.Steps.{made_row, made_nothing, made_dead, made_alive}
+use Rattle.dwarf_lines.proofs.StepRows.{made_row, made_nothing, made_dead, made_alive}
 use Rattle.dwarf_lines.proofs.MachineLaws.{rows-by-machine}
-use Rattle.dwarf_lines.proofs.Sequences.{IsChain, Kind, quiet, makes, ends, kind_of, end_row-is, program-chain, found_at, lines_in-ok, some_is}
+use Rattle.dwarf_lines.proofs.Sequences.{IsChain, Kind, quiet, makes, ends, kind_of, end_row-is}
+use Rattle.dwarf_lines.proofs.SequenceChains.{program-chain, found_at, lines_in-ok, some_is}
 use Rattle.dwarf_lines.proofs.WholePrograms.{program_stands}
 
 -- ---- what all elements have
@@ -39,15 +44,18 @@ abbrev Each : {X : Type 0} → (X → Type 0) → List X → Type 0
 Each P [] = Unit {0}
 Each P (x ∷ xs) = P x × Each P xs
 
-each-append : {X : Type 0} (P : X → Type 0) (xs ys : List X) → Each P xs → Each P ys → Each P (xs ++ ys)
+each-append : {X : Type 0} (P : X → Type 0) (xs ys : List X) → Each P xs → Each P ys
+    → Each P (xs ++ ys)
 each-append P [] ys all others = others
 each-append P (x ∷ xs) ys all others = (all.0, each-append P xs ys all.1 others)
 
-each-two : {X : Type 0} (P Q R : X → Type 0) (xs : List X) → ((x : X) → P x → Q x → R x) → Each P xs → Each Q xs → Each R xs
+each-two : {X : Type 0} (P Q R : X → Type 0) (xs : List X) → ((x : X) → P x → Q x → R x) → Each P xs
+    → Each Q xs → Each R xs
 each-two P Q R [] both p q = tt
 each-two P Q R (x ∷ xs) both p q = (both x p.0 q.0, each-two P Q R xs both p.1 q.1)
 
-each-at : {X : Type 0} (P : X → Type 0) (xs : List X) → Each P xs → (i : ℕ) (x : X) → slice_get xs i ≡ Some x → P x
+each-at : {X : Type 0} (P : X → Type 0) (xs : List X) → Each P xs → (i : ℕ) (x : X)
+    → slice_get xs i ≡ Some x → P x
 each-at P [] all i x is = cc
 each-at P (first ∷ xs) all zero x is = subst P (some_is first x is) all.0
 each-at P (first ∷ xs) all (suc i) x is = each-at P xs all.1 i x is
@@ -65,30 +73,43 @@ HasFile files row = row.«end» ≡ false → row.file < files
 judged_file-is : (files file found : ℕ) → judged_file files file ≡ Ok found → found < files
 judged_file-is files file found h = grind (arith, nat_tests)
 
-line_row-file : (o : Origin) (previous sum : ℕ) (line : ℤ) (file : ℕ) (row : Row) → line_row o previous sum line file ≡ Ok row
+line_row-file : (o : Origin) (previous sum : ℕ) (line : ℤ) (file : ℕ) (row : Row)
+    → line_row o previous sum line file ≡ Ok row
     → HasFile o.files row
 line_row-file o previous sum line file row h =
     let P : Type 0 = HasFile o.files row in
     after_bind (judged_address previous sum) _ row h P (λ address address_is h1.
     after_bind (judged_line line) _ row h1 P (λ l l_is h2.
     after_bind (judged_file o.files file) _ row h2 P (λ f f_is h3.
-    let same : record { address = address; program = o.program; file = f; line = l; «end» = false } ≡ row = ok_is {E = Cause} (record { address = address; program = o.program; file = f; line = l; «end» = false }) row h3 in
+    let same : record { address = address; program = o.program; file = f; line = l; «end» = false }
+    ≡ row = ok_is {E = Cause} (record
+    { address = address; program = o.program; file = f; line = l; «end» = false }) row h3 in
     λ _. subst (λ (r : Row). r.file < o.files) same (judged_file-is o.files file f f_is))))
 
-no_rows : (files : ℕ) (rows : List Row) → (let none : Result (List Row) Cause = Ok [] in none ≡ Ok rows) → Each (HasFile files) rows
-no_rows files rows h = subst (λ (r : List Row). Each (HasFile files) r) (ok_is {E = Cause} [] rows h) tt
+no_rows : (files : ℕ) (rows : List Row) → (let none : Result (List Row) Cause = Ok [] in
+    none ≡ Ok rows) → Each (HasFile files) rows
+no_rows files rows h = subst (λ (r : List Row). Each (HasFile files) r)
+    (ok_is {E = Cause} [] rows h) tt
 
-made-files : (e : Encoding) (o : Origin) (before : List Instruction) (i : Instruction) (rows : List Row) → made e o before i ≡ Ok rows
+made-files : (e : Encoding) (o : Origin) (before : List Instruction) (i : Instruction)
+    (rows : List Row) → made e o before i ≡ Ok rows
     → Kind i → Each (HasFile o.files) rows
-made-files e o before i rows is (quiet e_is m_is) = no_rows o.files rows (sym (made_nothing e o i before e_is m_is) ∙ is)
+made-files e o before i rows is (quiet e_is m_is) =
+    no_rows o.files rows (sym (made_nothing e o i before e_is m_is) ∙ is)
 made-files e o before i rows is (makes e_is m_is) = by (is_dead before) refl
   where
     by : (b : Bool) → is_dead before ≡ b → Each (HasFile o.files) rows
     by true d = no_rows o.files rows (sym (made_dead e o before i d) ∙ is)
     by false d =
-        after_bind (line_row o (row_before e before) (address_after e (i ∷ before)) (line_after e (i ∷ before)) (file_after (i ∷ before))) _ rows (sym (made_row e o i before m_is d) ∙ is) (Each (HasFile o.files) rows) (λ found found_is h.
-        subst (λ (r : List Row). Each (HasFile o.files) r) (ok_is {E = Cause} (found ∷ []) rows h)
-        (line_row-file o (row_before e before) (address_after e (i ∷ before)) (line_after e (i ∷ before)) (file_after (i ∷ before)) found found_is, tt))
+        after_bind (line_row o (row_before e before) (address_after e (i ∷ before))
+        (line_after e (i ∷ before)) (file_after (i ∷ before))) _ rows
+        (sym (made_row e o i before m_is d) ∙ is) (Each (HasFile o.files) rows)
+        (λ found found_is h.
+        subst (λ (r : List Row). Each (HasFile o.files) r) (ok_is {E = Cause} (found ∷ []) rows h) (
+          line_row-file o (row_before e before) (address_after e (i ∷ before))
+              (line_after e (i ∷ before)) (file_after (i ∷ before)) found found_is,
+          tt,
+        ))
 made-files e o before i rows is (ends i_is) = by (is_dead before) refl
   where
     made_is : made e o before EndSequence ≡ Ok rows
@@ -97,88 +118,133 @@ made-files e o before i rows is (ends i_is) = by (is_dead before) refl
     by : (b : Bool) → is_dead before ≡ b → Each (HasFile o.files) rows
     by true d = no_rows o.files rows (sym (made_dead e o before EndSequence d) ∙ made_is)
     by false d =
-        after_bind (end_row o (row_before e before) (address_after e before)) _ rows (sym (made_alive e o before EndSequence d) ∙ made_is) (Each (HasFile o.files) rows) (λ found found_is h.
+        after_bind (end_row o (row_before e before) (address_after e before)) _ rows
+        (sym (made_alive e o before EndSequence d) ∙ made_is) (Each (HasFile o.files) rows)
+        (λ found found_is h.
         let at = end_row-is o (row_before e before) (address_after e before) found found_is in
-        subst (λ (r : List Row). Each (HasFile o.files) r) (ok_is {E = Cause} (found ∷ []) rows h) ((λ open_row. absurd (false≢true (sym open_row ∙ at.end_is))), tt))
+        subst (λ (r : List Row). Each (HasFile o.files) r) (ok_is {E = Cause} (found ∷ []) rows h)
+        ((λ open_row. absurd (false≢true (sym open_row ∙ at.end_is))), tt))
 
-rows-files : (e : Encoding) (o : Origin) (before rest : List Instruction) (rows : List Row) → rows_from e o before rest ≡ Ok rows
+rows-files : (e : Encoding) (o : Origin) (before rest : List Instruction) (rows : List Row)
+    → rows_from e o before rest ≡ Ok rows
     → Each (HasFile o.files) rows
 unfolding rows_from
 rows-files e o before [] rows is = no_rows o.files rows is
 rows-files e o before (i ∷ rest) rows is =
     after_bind (made e o before i) _ rows is (Each (HasFile o.files) rows) (λ row row_is h1.
-    after_bind (rows_from e o (i ∷ before) rest) _ rows h1 (Each (HasFile o.files) rows) (λ others others_is h2.
+    after_bind (rows_from e o (i ∷ before) rest) _ rows h1 (Each (HasFile o.files) rows)
+    (λ others others_is h2.
     subst (λ (r : List Row). Each (HasFile o.files) r) (ok_is {E = Cause} (row ++ others) rows h2)
-    (each-append (HasFile o.files) row others (made-files e o before i row row_is (kind_of i)) (rows-files e o (i ∷ before) rest others others_is))))
+    (each-append (HasFile o.files) row others (made-files e o before i row row_is (kind_of i))
+    (rows-files e o (i ∷ before) rest others others_is))))
 
 -- ---- the directory of a file is there
 
 abbrev Known : EntryTable → Entry → Type 0
 Known table entry = has_directory table entry ≡ true
 
-entries-known : (s : LineSections) (format : Format) (table : EntryTable) (fields : List Field) (place : ℕ) (bytes : List ℕ) (entries : List Entry) → SpellsEach (SpellsEntry s format table fields) place bytes entries → Each (Known table) entries
+entries-known : (s : LineSections) (format : Format) (table : EntryTable) (fields : List Field)
+    (place : ℕ) (bytes : List ℕ) (entries : List Entry)
+    → SpellsEach (SpellsEntry s format table fields) place bytes entries
+    → Each (Known table) entries
 entries-known s format table fields place bytes [] h = tt
-entries-known s format table fields place bytes (entry ∷ entries) h = (h.3.known, entries-known s format table fields (place + length h.0) h.1 entries h.4)
+entries-known s format table fields place bytes (entry ∷ entries) h =
+    (h.3.known, entries-known s format table fields (place + length h.0) h.1 entries h.4)
 
-path-there : (directories files : List Entry) (number : ℕ) → number < length files → Each (Known (Files (length directories))) files
+path-there : (directories files : List Entry) (number : ℕ) → number < length files
+    → Each (Known (Files (length directories))) files
     → (parts : List Text) × (path_parts directories files number ≡ Some parts)
 path-there directories files number lt known =
     let file = got files number lt in
-    let within = ltb-true file.0.directory (length directories) (each-at (Known (Files (length directories))) files known number file.0 file.1) in
+    let within = ltb-true file.0.directory (length directories)
+    (each-at (Known (Files (length directories))) files known number file.0 file.1) in
     let directory = got directories file.0.directory within in
-    let current = got directories 0 (omega (arith, within)) in
-    (nonempty_parts (texts_of current.0.path file.0.directory directory.0.path file.0.path), rw (file.1, directory.1, current.1) refl)
+    let current = got directories 0 (omega (arith, within)) in (
+      nonempty_parts (texts_of current.0.path file.0.directory directory.0.path file.0.path),
+      rw (file.1, directory.1, current.1) refl,
+    )
 
 -- ---- the paths of a program's rows
 
 abbrev HasPath : Program → Row → Type 0
-HasPath program row = row.«end» ≡ false → (parts : List Text) × (path_parts program.directories program.files row.file ≡ Some parts)
+HasPath program row = row.«end» ≡ false → (parts : List Text)
+    × (path_parts program.directories program.files row.file ≡ Some parts)
 
-program-paths : (s : LineSections) (number place : ℕ) (program : Program) → program_at_place s number place ≡ Ok program
+program-paths : (s : LineSections) (number place : ℕ) (program : Program)
+    → program_at_place s number place ≡ Ok program
     → Each (HasPath program) program.rows
 program-paths s number place program h =
     let p = program_stands s number place program h in
     let header = p.header in
     let o : Origin = record { program = record { 0 = number }; files = length header.files } in
     let f = p.header_is.spelled.fields_are.files_are in
-    let known = entries-known s _ (Files (length header.directories)) f.fields _ f.items header.files f.entries_are in
-    let files = rows-files header.encoding o [] p.instructions program.rows (rows-by-machine header.encoding o p.instructions ∙ p.rows_are) in
-    let whole : Program = record { offset = place; directories = header.directories; files = header.files; rows = program.rows; past = header.past } in
-    let paths : Each (HasPath whole) program.rows = each-two (HasFile (length header.files)) (HasFile (length header.files)) (HasPath whole) program.rows
-    (λ row file _. λ open_row. path-there header.directories header.files row.file (file open_row) known) files files in
+    let known = entries-known s _ (Files (length header.directories)) f.fields _ f.items
+    header.files f.entries_are in
+    let files = rows-files header.encoding o [] p.instructions program.rows
+    (rows-by-machine header.encoding o p.instructions ∙ p.rows_are) in
+    let whole : Program = record {
+      offset = place;
+      directories = header.directories;
+      files =
+          header.files;
+      rows = program.rows;
+      past = header.past;
+    } in
+    let paths : Each (HasPath whole) program.rows =
+    each-two (HasFile (length header.files)) (HasFile (length header.files)) (HasPath whole)
+    program.rows
+    (λ row file _. λ open_row. path-there header.directories header.files row.file (file open_row)
+    known) files files in
     subst (λ (q : Program). Each (HasPath q) program.rows) (sym p.program_is) paths
 
 -- ---- and of those of a section
 
 abbrev HasPathIn : List FileTables → Row → Type 0
-HasPathIn tables row = row.«end» ≡ false → (parts : List Text) × (option_and_then (λ program. path_parts program.directories program.files row.file) (slice_get tables row.program.0) ≡ Some parts)
+HasPathIn tables row = row.«end» ≡ false
+    → (parts : List Text) × (option_and_then
+    (λ program. path_parts program.directories program.files row.file)
+    (slice_get tables row.program.0) ≡ Some parts)
 
-chain-programs : (program : ProgramNo) (has_row : Bool) (previous : ℕ) (rows : List Row) → IsChain program has_row previous rows → Each (λ (row : Row). row.program ≡ program) rows
+chain-programs : (program : ProgramNo) (has_row : Bool) (previous : ℕ) (rows : List Row)
+    → IsChain program has_row previous rows → Each (λ (row : Row). row.program ≡ program) rows
 chain-programs program has_row previous [] chain = tt
-chain-programs program has_row previous (row ∷ rows) chain = (chain.0, chain-programs program _ row.address rows chain.2)
+chain-programs program has_row previous (row ∷ rows) chain =
+    (chain.0, chain-programs program _ row.address rows chain.2)
 
 -- the tables behind others
 tables_at : (before : List Program) (program : Program) (programs : List Program)
-    → slice_get (map tables_of (before ++ program ∷ programs)) (length before) ≡ Some (tables_of program)
+    → slice_get (map tables_of (before ++ program ∷ programs)) (length before)
+    ≡ Some (tables_of program)
 tables_at [] program programs = refl
 tables_at (first ∷ before) program programs = tables_at before program programs
 
-listed-paths : (s : LineSections) (before : List Program) (place : ℕ) (programs : List Program) (after : ℕ)
-    → Lists (next_program s) before place programs after → Each (HasPathIn (map tables_of (before ++ programs))) (rows_of programs)
+listed-paths : (s : LineSections) (before : List Program) (place : ℕ) (programs : List Program)
+    (after : ℕ)
+    → Lists (next_program s) before place programs after
+    → Each (HasPathIn (map tables_of (before ++ programs))) (rows_of programs)
 listed-paths s before place [] after h = tt
 listed-paths s before place (program ∷ programs) after h =
     let tables = map tables_of (before ++ program ∷ programs) in
     let found = found_at s before place program h.0 h.1 in
     let number : ProgramNo = record { 0 = length before } in
-    let chain = chain-programs number false 0 program.rows (program-chain s (length before) place program found) in
+    let chain = chain-programs number false 0 program.rows
+    (program-chain s (length before) place program found) in
     let paths = program-paths s (length before) place program found in
-    let here : Each (HasPathIn tables) program.rows = each-two (λ (row : Row). row.program ≡ number) (HasPath program) (HasPathIn tables) program.rows
-    (λ row of has. λ open_row. let path = has open_row in (path.0, rw (of, tables_at before program programs) path.1)) chain paths in
+    let here : Each (HasPathIn tables) program.rows =
+    each-two (λ (row : Row). row.program ≡ number) (HasPath program) (HasPathIn tables)
+    program.rows
+    (λ row of has. λ open_row. let path = has open_row in
+    (path.0, rw (of, tables_at before program programs) path.1)) chain paths in
     let rest = listed-paths s (before ++ program ∷ []) h.0 programs after h.2 in
-    let same : (before ++ program ∷ []) ++ programs ≡ before ++ program ∷ programs = append_assoc before (program ∷ []) programs in
-    each-append (HasPathIn tables) program.rows (rows_of programs) here (subst (λ (all : List Program). Each (HasPathIn (map tables_of all)) (rows_of programs)) same rest)
+    let same : (before ++ program ∷ []) ++ programs ≡ before ++ program ∷ programs =
+    append_assoc before (program ∷ []) programs in
+    each-append (HasPathIn tables) program.rows (rows_of programs) here
+    (subst (λ (all : List Program). Each (HasPathIn (map tables_of all)) (rows_of programs))
+    same rest)
 
 pub rows-have-paths : (s : LineSections) (lines : Lines) → lines_in s ≡ Ok lines → HavePaths lines
 rows-have-paths s lines h =
     let read = lines_in-ok s lines h in
-    rw read.3 (λ i row is open_row. each-at (HasPathIn (map tables_of read.0)) (rows_of read.0) (listed-paths s [] 0 read.0 read.1 (Lists-within _ (next_program s) [] 0 read.0 read.1 read.2)) i row is open_row)
+    rw read.3 (λ i row is open_row. each-at (HasPathIn (map tables_of read.0)) (rows_of read.0)
+    (listed-paths s [] 0 read.0 read.1
+    (Lists-within _ (next_program s) [] 0 read.0 read.1 read.2)) i row is open_row)

@@ -1,104 +1,130 @@
 -- What is read as an instruction is spelled so, and what is spelled so is read.
-use Rattle.std.proofs.Common.{◌≡◌, ◌≢◌, ℕ, zero, suc, ◌+◌, ◌-◌, ◌<◌, ◌≤◌, true, false, ◌==◌, List, [], ◌∷◌, ◌++◌, length, Result, Ok, refl, sym, ap, ◌∙◌, subst, arith, eq-eqb}
+use Rattle.std.proofs.Common.{◌≡◌, ℕ, suc, ◌+◌, ◌-◌, ◌<◌, ◌==◌, List, [], ◌∷◌, ◌++◌, length, Result}
+use Rattle.std.proofs.Common.{Ok, refl, sym, ap, ◌∙◌, subst, arith}
 use Rattle.std.specs.Prelude.{nat_le, slice_index}
 use Rattle.std.proofs.lemmas.Bool.Decides.{nat_tests}
 use Rattle.dwarf_bytes.specs.declared.fault.Cause.{Cause}
 use Rattle.dwarf_bytes.specs.Items.{reading}
-use Rattle.dwarf_bytes.specs.Numbers.{IsUleb, IsSleb, StandsAt, little_endian, block_at, u8_at, u16_at, uleb_at, sleb_at}
+use Rattle.dwarf_bytes.specs.Numbers.{IsUleb, IsSleb, StandsAt, little_endian, block_at, u8_at}
+use Rattle.dwarf_bytes.specs.Numbers.{u16_at, uleb_at, sleb_at}
 use Rattle.dwarf_bytes.proofs.Advance.{after_bind, chosen, reading_ok}
-use Rattle.dwarf_bytes.proofs.Spelling.{uleb_stands, uleb_again, sleb_stands, sleb_again}
+use Rattle.dwarf_bytes.proofs.Spelling.{uleb_stands, sleb_stands}
 use Rattle.dwarf_lines.specs.declared.instruction.Instruction.{Instruction}
-use Rattle.dwarf_lines.specs.declared.instruction.Instruction.TheVariants.{Copy, AdvancePc, AdvanceLine, SetFile, ConstAddPc, FixedAdvancePc, SetAddress, EndSequence, Special, Skipped}
-use Rattle.dwarf_lines.specs.Instructions.{Encoding, after_ulebs, extended_of, extended_at, standard_at, instruction_at}
-use Rattle.dwarf_lines.specs.Spelling.{AreUlebs, none, more, IsPassedOver, Spells, copy, advance_pc, advance_line, set_file, const_add_pc, fixed_advance_pc, passed_over, special, end_sequence, set_address, other_extended}
+use Rattle.dwarf_lines.specs.declared.instruction.Instruction.TheVariants.{Copy, AdvancePc}
+use Rattle.dwarf_lines.specs.declared.instruction.Instruction.TheVariants.{AdvanceLine, SetFile}
+use Rattle.dwarf_lines.specs.declared.instruction.Instruction.TheVariants.{ConstAddPc}
+use Rattle.dwarf_lines.specs.declared.instruction.Instruction.TheVariants.{FixedAdvancePc}
+use Rattle.dwarf_lines.specs.declared.instruction.Instruction.TheVariants.{SetAddress, EndSequence}
+use Rattle.dwarf_lines.specs.declared.instruction.Instruction.TheVariants.{Special, Skipped}
+use Rattle.dwarf_lines.specs.Instructions.{Encoding, after_ulebs, extended_of, extended_at}
+use Rattle.dwarf_lines.specs.Instructions.{standard_at, instruction_at}
+use Rattle.dwarf_lines.specs.Spelling.{Spells, copy, advance_pc, advance_line, set_file}
+use Rattle.dwarf_lines.specs.Spelling.{const_add_pc, fixed_advance_pc, passed_over, special}
+use Rattle.dwarf_lines.specs.Spelling.{end_sequence, set_address, other_extended}
 use Rattle.dwarf_lines.proofs.BoundsLaws.{ok_is}
-use Rattle.dwarf_lines.proofs.Stretches.{Stretch, stretch_of, stands_of, none_at, join, first_of, rest_of, block_stands, block_again, two_bytes, fixed_stands, fixed_again, byte_stands, byte_again}
-
-pub eqb-eq : (a b : ℕ) → (a == b) ≡ true → a ≡ b
-eqb-eq a b h = grind (arith, nat_tests)
-
-pub differs : (a b : ℕ) → (a == b) ≡ false → a ≢ b
-differs a b h = grind (arith, nat_tests)
-
-pub is_not : (a b : ℕ) → a ≢ b → (a == b) ≡ false
-is_not a b h = grind (arith, nat_tests)
-
--- operands that are passed over
-ulebs_stand : (count : ℕ) (bytes : List ℕ) (at next : ℕ) → after_ulebs count bytes at ≡ Ok next
-    → (operands : List ℕ) × AreUlebs count operands × Stretch bytes at operands next
-unfolding after_ulebs
-ulebs_stand zero bytes at next h = ([], none, subst (λ (n : ℕ). Stretch bytes at [] n) (ok_is {E = Cause} at next h) (none_at bytes at))
-ulebs_stand (suc count) bytes at next h =
-    after_bind (reading (uleb_at bytes at)) _ next h ((operands : List ℕ) × AreUlebs (suc count) operands × Stretch bytes at operands next) (λ operand operand_is h1.
-    let one = uleb_stands bytes at operand.0 operand.1 (reading_ok (uleb_at bytes at) operand operand_is) in
-    let others = ulebs_stand count bytes operand.1 next h1 in
-    (one.front ++ others.0, more one.front operand.0 one.spelled others.1, join bytes at one.front operand.1 others.0 next (stretch_of IsUleb bytes at operand.0 operand.1 one) others.2))
-
-ulebs_again : (count : ℕ) (operands : List ℕ) (bytes : List ℕ) (at next : ℕ) → AreUlebs count operands → Stretch bytes at operands next
-    → after_ulebs count bytes at ≡ Ok next
-unfolding after_ulebs
-ulebs_again zero [] bytes at next none h = ap (λ (n : ℕ). Ok n) (let last = h.next_is in omega arith)
-ulebs_again zero (_ ∷ _) bytes at next impossible h = elim impossible [ ]
-ulebs_again (suc count) all bytes at next (more {operands = operands} operand value is others) h =
-    let mid = at + length operand in
-    let here = uleb_again bytes at value mid (stands_of IsUleb bytes at value mid operand (first_of bytes at operand operands next h) is) in
-    rw here (ulebs_again count operands bytes mid next others (rest_of bytes at operand operands next h))
+use Rattle.dwarf_lines.proofs.Stretches.{Stretch, stretch_of, stands_of, join, block_stands}
+use Rattle.dwarf_lines.proofs.Stretches.{two_bytes, fixed_stands, byte_stands}
+use Rattle.dwarf_lines.proofs.OperandSpelling.{eqb-eq, differs, ulebs_stand}
 
 module _ (e : Encoding) (bytes : List ℕ) (at : ℕ) where
   abbrev Stands : Instruction → ℕ → Type 0
   Stands i next = StandsAt (Spells e) bytes at i next
 
   -- a pair that was read is the one that is asked for
-  is_read : (j i : Instruction) (after next : ℕ) → (let f : Instruction × ℕ → Result (Instruction × ℕ) Cause = λ z. Ok z in f (j, after) ≡ f (i, next)) → Stands j after → Stands i next
-  is_read j i after next h stands = subst (λ (p : Instruction × ℕ). Stands p.0 p.1) (ok_is {E = Cause} (j, after) (i, next) h) stands
+  is_read : (j i : Instruction) (after next : ℕ)
+      → (let f : Instruction × ℕ → Result (Instruction × ℕ) Cause = λ z. Ok z in
+      f (j, after) ≡ f (i, next)) → Stands j after → Stands i next
+  is_read j i after next h stands = subst (λ (p : Instruction × ℕ). Stands p.0 p.1)
+      (ok_is {E = Cause} (j, after) (i, next) h) stands
 
   module _ (opcode place : ℕ) (first : Stretch bytes at (opcode ∷ []) place) where
-    behind : (operand : List ℕ) (next : ℕ) (i : Instruction) → Stretch bytes place operand next → Spells e (opcode ∷ operand) i
+    behind : (operand : List ℕ) (next : ℕ) (i : Instruction) → Stretch bytes place operand next
+        → Spells e (opcode ∷ operand) i
         → Stands i next
-    behind operand next i there spelled = stands_of (Spells e) bytes at i next (opcode ∷ operand) (join bytes at (opcode ∷ []) place operand next first there) spelled
+    behind operand next i there spelled =
+        stands_of (Spells e) bytes at i next (opcode ∷ operand)
+        (join bytes at (opcode ∷ []) place operand next first there) spelled
 
     alone : (i : Instruction) → Spells e (opcode ∷ []) i → Stands i place
     alone i spelled = stands_of (Spells e) bytes at i place (opcode ∷ []) first spelled
 
-    standard_stands : (i : Instruction) (next : ℕ) → 0 < opcode → opcode < e.opcode_base → standard_at e opcode bytes place ≡ Ok (i, next)
+    standard_stands : (i : Instruction) (next : ℕ) → 0 < opcode → opcode < e.opcode_base
+        → standard_at e opcode bytes place ≡ Ok (i, next)
         → Stands i next
     unfolding standard_at
     standard_stands i next some known h =
         chosen (opcode == 1) _ _ (Ok (i, next)) h (Stands i next)
-        (λ is h1. is_read Copy i place next h1 (alone Copy (let one = eqb-eq opcode 1 is in rw one (copy (subst (λ (n : ℕ). n < e.opcode_base) one known))))) (λ not1 h1.
+        (λ is h1. is_read Copy i place next h1
+        (alone Copy (let one = eqb-eq opcode 1 is in
+        rw one (copy (subst (λ (n : ℕ). n < e.opcode_base) one known))))) (λ not1 h1.
         chosen (opcode == 2) _ _ (Ok (i, next)) h1 (Stands i next)
-        (λ is h2. after_bind (reading (uleb_at bytes place)) _ (i, next) h2 (Stands i next) (λ v v_is h3.
+        (λ is h2. after_bind (reading (uleb_at bytes place)) _ (i, next) h2 (Stands i next)
+        (λ v v_is h3.
         let operand = uleb_stands bytes place v.0 v.1 (reading_ok (uleb_at bytes place) v v_is) in
         let two = eqb-eq opcode 2 is in
-        is_read (AdvancePc v.0) i v.1 next h3 (behind operand.front v.1 (AdvancePc v.0) (stretch_of IsUleb bytes place v.0 v.1 operand) (rw two (advance_pc v.0 (subst (λ (n : ℕ). n < e.opcode_base) two known) operand.spelled))))) (λ not2 h2.
+        is_read (AdvancePc v.0) i v.1 next h3
+        (behind operand.front v.1 (AdvancePc v.0)
+        (stretch_of IsUleb bytes place v.0 v.1 operand)
+        (rw two (advance_pc v.0 (subst (λ (n : ℕ). n < e.opcode_base) two known)
+        operand.spelled))))) (λ not2 h2.
         chosen (opcode == 3) _ _ (Ok (i, next)) h2 (Stands i next)
-        (λ is h3. after_bind (reading (sleb_at bytes place)) _ (i, next) h3 (Stands i next) (λ v v_is h4.
+        (λ is h3. after_bind (reading (sleb_at bytes place)) _ (i, next) h3 (Stands i next)
+        (λ v v_is h4.
         let operand = sleb_stands bytes place v.0 v.1 (reading_ok (sleb_at bytes place) v v_is) in
         let three = eqb-eq opcode 3 is in
-        is_read (AdvanceLine v.0) i v.1 next h4 (behind operand.front v.1 (AdvanceLine v.0) (stretch_of IsSleb bytes place v.0 v.1 operand) (rw three (advance_line v.0 (subst (λ (n : ℕ). n < e.opcode_base) three known) operand.spelled))))) (λ not3 h3.
+        is_read (AdvanceLine v.0) i v.1 next h4
+        (behind operand.front v.1 (AdvanceLine v.0)
+        (stretch_of IsSleb bytes place v.0 v.1 operand)
+        (rw three (advance_line v.0 (subst (λ (n : ℕ). n < e.opcode_base) three known)
+        operand.spelled))))) (λ not3 h3.
         chosen (opcode == 4) _ _ (Ok (i, next)) h3 (Stands i next)
-        (λ is h4. after_bind (reading (uleb_at bytes place)) _ (i, next) h4 (Stands i next) (λ v v_is h5.
+        (λ is h4. after_bind (reading (uleb_at bytes place)) _ (i, next) h4 (Stands i next)
+        (λ v v_is h5.
         let operand = uleb_stands bytes place v.0 v.1 (reading_ok (uleb_at bytes place) v v_is) in
         let four = eqb-eq opcode 4 is in
-        is_read (SetFile v.0) i v.1 next h5 (behind operand.front v.1 (SetFile v.0) (stretch_of IsUleb bytes place v.0 v.1 operand) (rw four (set_file v.0 (subst (λ (n : ℕ). n < e.opcode_base) four known) operand.spelled))))) (λ not4 h4.
+        is_read (SetFile v.0) i v.1 next h5
+        (behind operand.front v.1 (SetFile v.0) (stretch_of IsUleb bytes place v.0 v.1 operand)
+        (rw four (set_file v.0 (subst (λ (n : ℕ). n < e.opcode_base) four known)
+        operand.spelled))))) (λ not4 h4.
         chosen (opcode == 8) _ _ (Ok (i, next)) h4 (Stands i next)
-        (λ is h5. is_read ConstAddPc i place next h5 (alone ConstAddPc (let eight = eqb-eq opcode 8 is in rw eight (const_add_pc (subst (λ (n : ℕ). n < e.opcode_base) eight known))))) (λ not8 h5.
+        (λ is h5. is_read ConstAddPc i place next h5
+        (alone ConstAddPc (let eight = eqb-eq opcode 8 is in
+        rw eight (const_add_pc (subst (λ (n : ℕ). n < e.opcode_base) eight known)))))
+        (λ not8 h5.
         chosen (opcode == 9) _ _ (Ok (i, next)) h5 (Stands i next)
-        (λ is h6. after_bind (reading (u16_at bytes place)) _ (i, next) h6 (Stands i next) (λ v v_is h7.
+        (λ is h6. after_bind (reading (u16_at bytes place)) _ (i, next) h6 (Stands i next)
+        (λ v v_is h7.
         let field = fixed_stands 2 bytes place v (reading_ok (u16_at bytes place) v v_is) in
         let two = two_bytes field.0 field.2 in
         let nine = eqb-eq opcode 9 is in
-        let value : little_endian (two.0 ∷ two.1 ∷ []) ≡ v.0 = ap little_endian (sym two.2) ∙ sym field.3 in
-        is_read (FixedAdvancePc v.0) i v.1 next h7 (behind (two.0 ∷ two.1 ∷ []) v.1 (FixedAdvancePc v.0) (subst (λ (b : List ℕ). Stretch bytes place b v.1) two.2 field.1)
-        (subst (λ (n : ℕ). Spells e (opcode ∷ two.0 ∷ two.1 ∷ []) (FixedAdvancePc n)) value (rw nine (fixed_advance_pc two.0 two.1 (subst (λ (n : ℕ). n < e.opcode_base) nine known))))))) (λ not9 h6.
-        after_bind (after_ulebs (slice_index e.opcode_lengths (opcode - 1)) bytes place) _ (i, next) h6 (Stands i next) (λ after after_is h7.
-        let operands = ulebs_stand (slice_index e.opcode_lengths (opcode - 1)) bytes place after after_is in
+        let value : little_endian (two.0 ∷ two.1 ∷ []) ≡ v.0 =
+        ap little_endian (sym two.2) ∙ sym field.3 in
+        is_read (FixedAdvancePc v.0) i v.1 next h7
+        (behind (two.0 ∷ two.1 ∷ []) v.1 (FixedAdvancePc v.0)
+        (subst (λ (b : List ℕ). Stretch bytes place b v.1) two.2 field.1)
+        (subst (λ (n : ℕ). Spells e (opcode ∷ two.0 ∷ two.1 ∷ []) (FixedAdvancePc n)) value
+        (rw nine (fixed_advance_pc two.0 two.1
+        (subst (λ (n : ℕ). n < e.opcode_base) nine known))))))) (λ not9 h6.
+        after_bind (after_ulebs (slice_index e.opcode_lengths (opcode - 1)) bytes place) _ (i, next)
+        h6 (Stands i next) (λ after after_is h7.
+        let operands = ulebs_stand (slice_index e.opcode_lengths (opcode - 1)) bytes place after
+        after_is in
         is_read Skipped i after next h7 (behind operands.0 after Skipped operands.2
-        (passed_over opcode known (some, differs opcode 1 not1, differs opcode 2 not2, differs opcode 3 not3, differs opcode 4 not4, differs opcode 8 not8, differs opcode 9 not9) operands.1)))))))))
+        (passed_over opcode known (
+          some,
+          differs opcode 1 not1,
+          differs opcode 2 not2,
+          differs opcode 3 not3,
+          differs opcode 4 not4,
+          differs opcode 8 not8,
+          differs opcode 9 not9,
+        ) operands.1)))))))))
 
     -- the opcode and operands of an extended instruction
-    body_stands : (len : List ℕ) (mid : ℕ) (body : List ℕ) (last : ℕ) (i : Instruction) → opcode ≡ 0 → IsUleb len (length body)
-        → Stretch bytes place len mid → Stretch bytes mid body last → 0 < length body → extended_of body ≡ Ok i → Stands i last
+    body_stands : (len : List ℕ) (mid : ℕ) (body : List ℕ) (last : ℕ) (i : Instruction) → opcode ≡ 0
+        → IsUleb len (length body)
+        → Stretch bytes place len mid → Stretch bytes mid body last → 0 < length body
+        → extended_of body ≡ Ok i → Stands i last
     unfolding extended_of
     body_stands len mid [] last i zero_is len_is there body_there some h = absurd (omega arith)
     body_stands len mid (o ∷ operands) last i zero_is len_is there body_there some h =
@@ -107,154 +133,73 @@ module _ (e : Encoding) (bytes : List ℕ) (at : ℕ) where
         (λ one h1. chosen (length (o ∷ operands) == 1) _ _ (Ok i) h1 (Stands i last)
         (λ single h2. let o_is = eqb-eq o 1 one in
         let no_more = nothing operands (eqb-eq (length (o ∷ operands)) 1 single) in
-        let body_is : o ∷ operands ≡ 1 ∷ [] = ap (λ (n : ℕ). n ∷ operands) o_is ∙ ap (λ (r : List ℕ). 1 ∷ r) no_more in
-        let spelled : Spells e (opcode ∷ (len ++ 1 ∷ [])) EndSequence = rw zero_is (end_sequence len (subst (λ (n : ℕ). IsUleb len n) (ap length body_is) len_is)) in
+        let body_is : o ∷ operands ≡ 1 ∷ [] = ap (λ (n : ℕ). n ∷ operands) o_is
+        ∙ ap (λ (r : List ℕ). 1 ∷ r) no_more in
+        let spelled : Spells e (opcode ∷ (len ++ 1 ∷ [])) EndSequence =
+        rw zero_is (end_sequence len
+        (subst (λ (n : ℕ). IsUleb len n) (ap length body_is) len_is)) in
         subst (λ (j : Instruction). Stands j last) (ok_is {E = Cause} EndSequence i h2)
-        (behind (len ++ 1 ∷ []) last EndSequence (subst (λ (b : List ℕ). Stretch bytes place (len ++ b) last) body_is whole) spelled))
+        (behind (len ++ 1 ∷ []) last EndSequence
+        (subst (λ (b : List ℕ). Stretch bytes place (len ++ b) last) body_is whole) spelled))
         (λ _ h2. cc))
         (λ not1 h1. chosen (o == 2) _ _ (Ok i) h1 (Stands i last)
         (λ two h2. chosen (length (o ∷ operands) == 9) _ _ (Ok i) h2 (Stands i last)
         (λ nine h3. let o_is = eqb-eq o 2 two in
         let len9 = eqb-eq (length (o ∷ operands)) 9 nine in
-        let spelled : Spells e (opcode ∷ (len ++ 2 ∷ operands)) (SetAddress (little_endian operands)) = rw zero_is (set_address len operands (subst (λ (n : ℕ). IsUleb len n) len9 len_is) (omega (arith, len9))) in
-        subst (λ (j : Instruction). Stands j last) (ok_is {E = Cause} (SetAddress (little_endian operands)) i h3)
-        (behind (len ++ 2 ∷ operands) last (SetAddress (little_endian operands)) (subst (λ (n : ℕ). Stretch bytes place (len ++ n ∷ operands) last) o_is whole) spelled))
+        let spelled : Spells e (opcode ∷ (len ++ 2 ∷ operands))
+        (SetAddress (little_endian operands)) =
+        rw zero_is (set_address len operands (subst (λ (n : ℕ). IsUleb len n) len9 len_is)
+        (omega (arith, len9))) in
+        subst (λ (j : Instruction). Stands j last)
+        (ok_is {E = Cause} (SetAddress (little_endian operands)) i h3)
+        (behind (len ++ 2 ∷ operands) last (SetAddress (little_endian operands))
+        (subst (λ (n : ℕ). Stretch bytes place (len ++ n ∷ operands) last) o_is whole) spelled))
         (λ _ h3. cc))
-        (λ not2 h2. let spelled : Spells e (opcode ∷ (len ++ o ∷ operands)) Skipped = rw zero_is (other_extended len o operands (differs o 1 not1) (differs o 2 not2) (subst (λ (n : ℕ). IsUleb len n) (omega arith) len_is)) in
-        subst (λ (j : Instruction). Stands j last) (ok_is {E = Cause} Skipped i h2) (behind (len ++ o ∷ operands) last Skipped whole spelled)))
+        (λ not2 h2. let spelled : Spells e (opcode ∷ (len ++ o ∷ operands)) Skipped =
+        rw zero_is (other_extended len o operands (differs o 1 not1) (differs o 2 not2)
+        (subst (λ (n : ℕ). IsUleb len n) (omega arith) len_is)) in
+        subst (λ (j : Instruction). Stands j last) (ok_is {E = Cause} Skipped i h2)
+        (behind (len ++ o ∷ operands) last Skipped whole spelled)))
       where
         nothing : (rest : List ℕ) → suc (length rest) ≡ 1 → rest ≡ []
         nothing [] h = refl
         nothing (b ∷ bs) h = absurd (omega (arith, h))
 
-    extended_stands : (i : Instruction) (next : ℕ) → opcode ≡ 0 → extended_at bytes place ≡ Ok (i, next) → Stands i next
+    extended_stands : (i : Instruction) (next : ℕ) → opcode ≡ 0
+        → extended_at bytes place ≡ Ok (i, next) → Stands i next
     unfolding extended_at
     extended_stands i next zero_is h =
         after_bind (reading (uleb_at bytes place)) _ (i, next) h (Stands i next) (λ len len_is h1.
         chosen (len.0 == 0) _ _ (Ok (i, next)) h1 (Stands i next) (λ _ h2. cc) (λ some h2.
-        after_bind (reading (block_at len.0 bytes len.1)) _ (i, next) h2 (Stands i next) (λ body body_is h3.
+        after_bind (reading (block_at len.0 bytes len.1)) _ (i, next) h2 (Stands i next)
+        (λ body body_is h3.
         after_bind (extended_of body.0) _ (i, next) h3 (Stands i next) (λ j j_is h4.
-        let length_there = uleb_stands bytes place len.0 len.1 (reading_ok (uleb_at bytes place) len len_is) in
-        let body_there = block_stands len.0 bytes len.1 body (reading_ok (block_at len.0 bytes len.1) body body_is) in
+        let length_there = uleb_stands bytes place len.0 len.1
+        (reading_ok (uleb_at bytes place) len len_is) in
+        let body_there = block_stands len.0 bytes len.1 body
+        (reading_ok (block_at len.0 bytes len.1) body body_is) in
         let nonzero = differs len.0 0 some in
-        is_read j i body.1 next h4 (body_stands length_there.front len.1 body.0 body.1 j zero_is (subst (λ (n : ℕ). IsUleb length_there.front n) (sym body_there.1) length_there.spelled)
-        (stretch_of IsUleb bytes place len.0 len.1 length_there) body_there.0 (omega (arith, body_there.1, nonzero)) j_is)))))
+        is_read j i body.1 next h4 (body_stands length_there.front len.1 body.0 body.1 j zero_is
+        (subst (λ (n : ℕ). IsUleb length_there.front n) (sym body_there.1) length_there.spelled)
+        (stretch_of IsUleb bytes place len.0 len.1 length_there) body_there.0
+        (omega (arith, body_there.1, nonzero)) j_is)))))
 
   -- what is read is spelled so
-  pub instruction_stands : (i : Instruction) (next : ℕ) → instruction_at e bytes at ≡ Ok (i, next) → Stands i next
+  pub instruction_stands : (i : Instruction) (next : ℕ) → instruction_at e bytes at ≡ Ok (i, next)
+      → Stands i next
   unfolding instruction_at
   instruction_stands i next h =
       after_bind (reading (u8_at bytes at)) _ (i, next) h (Stands i next) (λ opcode opcode_is h1.
       let first = byte_stands bytes at opcode (reading_ok (u8_at bytes at) opcode opcode_is) in
       chosen (nat_le e.opcode_base opcode.0) _ _ (Ok (i, next)) h1 (Stands i next)
-      (λ from h2. let back : (opcode.0 - e.opcode_base) + e.opcode_base ≡ opcode.0 = grind (arith, nat_tests) in
+      (λ from h2. let back : (opcode.0 - e.opcode_base) + e.opcode_base ≡ opcode.0 =
+      grind (arith, nat_tests) in
       is_read (Special (opcode.0 - e.opcode_base)) i opcode.1 next h2
-      (alone opcode.0 opcode.1 first (Special (opcode.0 - e.opcode_base)) (subst (λ (n : ℕ). Spells e (n ∷ []) (Special (opcode.0 - e.opcode_base))) back (special (opcode.0 - e.opcode_base)))))
+      (alone opcode.0 opcode.1 first (Special (opcode.0 - e.opcode_base))
+      (subst (λ (n : ℕ). Spells e (n ∷ []) (Special (opcode.0 - e.opcode_base))) back
+      (special (opcode.0 - e.opcode_base)))))
       (λ below h2. let known : opcode.0 < e.opcode_base = grind (arith, nat_tests) in
       chosen (opcode.0 == 0) _ _ (Ok (i, next)) h2 (Stands i next)
       (λ zero_is h3. extended_stands opcode.0 opcode.1 first i next (eqb-eq opcode.0 0 zero_is) h3)
-      (λ some h3. let nonzero = differs opcode.0 0 some in standard_stands opcode.0 opcode.1 first i next (omega (arith, nonzero)) known h3)))
-
-not_from : (base opcode : ℕ) → opcode < base → nat_le base opcode ≡ false
-not_from base opcode h = grind (arith, nat_tests)
-
-from_on : (base opcode : ℕ) → base ≤ opcode → nat_le base opcode ≡ true
-from_on base opcode h = grind (arith, nat_tests)
-
-module _ (e : Encoding) (bytes : List ℕ) (at : ℕ) where
-  standard_is : (opcode place : ℕ) → u8_at bytes at ≡ Ok (opcode, place) → opcode < e.opcode_base → opcode ≢ 0
-      → instruction_at e bytes at ≡ standard_at e opcode bytes place
-  unfolding instruction_at
-  standard_is opcode place byte known some = rw (byte, not_from e.opcode_base opcode known, is_not opcode 0 some) refl
-
-  extended_is : (place : ℕ) → u8_at bytes at ≡ Ok (0, place) → 0 < e.opcode_base → instruction_at e bytes at ≡ extended_at bytes place
-  unfolding instruction_at
-  extended_is place byte known = rw (byte, not_from e.opcode_base 0 known) refl
-
-  body_is : (place len mid next : ℕ) (body : List ℕ) (i : Instruction) → uleb_at bytes place ≡ Ok (len, mid) → len ≢ 0
-      → block_at len bytes mid ≡ Ok (body, next) → extended_of body ≡ Ok i → extended_at bytes place ≡ Ok (i, next)
-  unfolding extended_at
-  body_is place len mid next body i len_is some block_is instruction_is = rw (len_is, is_not len 0 some, block_is, instruction_is) refl
-
-  extended_again : (next len : ℕ) (length_bytes body : List ℕ) (i : Instruction) → 0 < e.opcode_base
-      → Stretch bytes at (0 ∷ (length_bytes ++ body)) next → IsUleb length_bytes len → len ≡ length body → 0 < length body
-      → extended_of body ≡ Ok i
-      → instruction_at e bytes at ≡ Ok (i, next)
-  extended_again next len length_bytes body i known there len_is same some instruction_is =
-      let opcode = first_of bytes at (0 ∷ []) (length_bytes ++ body) next there in
-      let behind = rest_of bytes at (0 ∷ []) (length_bytes ++ body) next there in
-      let place : ℕ = at + length {A = ℕ} (0 ∷ []) in
-      let mid : ℕ = place + length length_bytes in
-      let operand = uleb_again bytes place len mid (stands_of IsUleb bytes place len mid length_bytes (first_of bytes place length_bytes body next behind) len_is) in
-      let block = block_again bytes mid body next some (rest_of bytes place length_bytes body next behind) in
-      extended_is place (byte_again bytes at 0 place opcode) known
-      ∙ body_is place len mid next body i operand (λ zero_is. omega (arith, same, zero_is, some)) (subst (λ (n : ℕ). block_at n bytes mid ≡ Ok (body, next)) (sym same) block) instruction_is
-
-  passed_is : (opcode place next : ℕ) → IsPassedOver opcode → after_ulebs (slice_index e.opcode_lengths (opcode - 1)) bytes place ≡ Ok next
-      → standard_at e opcode bytes place ≡ Ok (Skipped, next)
-  unfolding standard_at
-  passed_is opcode place next h operands =
-      rw (is_not opcode 1 h.1, is_not opcode 2 h.2, is_not opcode 3 h.3, is_not opcode 4 h.4, is_not opcode 8 h.5, is_not opcode 9 h.6, operands) refl
-
-  special_is : (adjusted next : ℕ) → u8_at bytes at ≡ Ok (adjusted + e.opcode_base, next)
-      → instruction_at e bytes at ≡ Ok (Special adjusted, next)
-  unfolding instruction_at
-  special_is adjusted next byte =
-      let back : (adjusted + e.opcode_base) - e.opcode_base ≡ adjusted = omega arith in
-      rw (byte, from_on e.opcode_base (adjusted + e.opcode_base) (omega arith), back) refl
-
-  address_is : (address : List ℕ) → length address ≡ 8 → extended_of (2 ∷ address) ≡ Ok (SetAddress (little_endian address))
-  unfolding extended_of
-  address_is address h = let nine : length (2 ∷ address) ≡ 9 = omega (arith, h) in rw (eq-eqb (length (2 ∷ address)) 9 nine) refl
-
-  other_is : (opcode : ℕ) (operands : List ℕ) → opcode ≢ 1 → opcode ≢ 2 → extended_of (opcode ∷ operands) ≡ Ok Skipped
-  unfolding extended_of
-  other_is opcode operands not1 not2 = rw (is_not opcode 1 not1, is_not opcode 2 not2) refl
-
-  -- the opcode of a front, and what stands behind it
-  opcode_of : (opcode : ℕ) (operand : List ℕ) (next : ℕ) → Stretch bytes at (opcode ∷ operand) next
-      → (u8_at bytes at ≡ Ok (opcode, at + length {A = ℕ} (opcode ∷ []))) × Stretch bytes (at + length {A = ℕ} (opcode ∷ [])) operand next
-  opcode_of opcode operand next there =
-      (byte_again bytes at opcode (at + length {A = ℕ} (opcode ∷ [])) (first_of bytes at (opcode ∷ []) operand next there), rest_of bytes at (opcode ∷ []) operand next there)
-
-  again : (next : ℕ) (front : List ℕ) (i : Instruction) → 0 < e.opcode_base → Stretch bytes at front next → Spells e front i
-      → instruction_at e bytes at ≡ Ok (i, next)
-  unfolding standard_at extended_of
-  again next front i some there (copy known) = standard_is 1 next (byte_again bytes at 1 next there) known (λ h. omega (arith, h)) ∙ refl
-  again next front i some there (advance_pc {operand = operand} n known is) =
-      let p = opcode_of 2 operand next there in
-      let place : ℕ = at + length {A = ℕ} (2 ∷ []) in
-      let value = uleb_again bytes place n next (stands_of IsUleb bytes place n next operand p.1 is) in
-      standard_is 2 place p.0 known (λ h. omega (arith, h)) ∙ rw value refl
-  again next front i some there (advance_line {operand = operand} z known is) =
-      let p = opcode_of 3 operand next there in
-      let place : ℕ = at + length {A = ℕ} (3 ∷ []) in
-      let value = sleb_again bytes place z next (stands_of IsSleb bytes place z next operand p.1 is) in
-      standard_is 3 place p.0 known (λ h. omega (arith, h)) ∙ rw value refl
-  again next front i some there (set_file {operand = operand} n known is) =
-      let p = opcode_of 4 operand next there in
-      let place : ℕ = at + length {A = ℕ} (4 ∷ []) in
-      let value = uleb_again bytes place n next (stands_of IsUleb bytes place n next operand p.1 is) in
-      standard_is 4 place p.0 known (λ h. omega (arith, h)) ∙ rw value refl
-  again next front i some there (const_add_pc known) = standard_is 8 next (byte_again bytes at 8 next there) known (λ h. omega (arith, h)) ∙ refl
-  again next front i some there (fixed_advance_pc low high known) =
-      let p = opcode_of 9 (low ∷ high ∷ []) next there in
-      let place : ℕ = at + length {A = ℕ} (9 ∷ []) in
-      let value : u16_at bytes place ≡ Ok (little_endian (low ∷ high ∷ []), next) = fixed_again bytes place (low ∷ high ∷ []) next (omega arith) p.1 in
-      standard_is 9 place p.0 known (λ h. omega (arith, h)) ∙ rw value refl
-  again next front i some there (passed_over {operands = operands} opcode known over are) =
-      let p = opcode_of opcode operands next there in
-      let place : ℕ = at + length {A = ℕ} (opcode ∷ []) in
-      standard_is opcode place p.0 known (λ h. let positive = over.0 in omega (arith, h, positive))
-      ∙ passed_is opcode place next over (ulebs_again (slice_index e.opcode_lengths (opcode - 1)) operands bytes place next are p.1)
-  again next front i some there (special adjusted) = special_is adjusted next (byte_again bytes at (adjusted + e.opcode_base) next there)
-  again next front i some there (end_sequence len is) = extended_again next 1 len (1 ∷ []) EndSequence some there is refl (omega arith) refl
-  again next front i some there (set_address len address is eight) =
-      extended_again next 9 len (2 ∷ address) (SetAddress (little_endian address)) some there is (omega (arith, eight)) (omega arith) (address_is address eight)
-  again next front i some there (other_extended len opcode operands not1 not2 is) =
-      extended_again next (suc (length operands)) len (opcode ∷ operands) Skipped some there is (omega arith) (omega arith) (other_is opcode operands not1 not2)
-
-  -- what is spelled so is read
-  pub instruction_again : (i : Instruction) (next : ℕ) → 0 < e.opcode_base → StandsAt (Spells e) bytes at i next
-      → instruction_at e bytes at ≡ Ok (i, next)
-  instruction_again i next some h = again next h.front i some (stretch_of (Spells e) bytes at i next h) h.spelled
+      (λ some h3. let nonzero = differs opcode.0 0 some in
+      standard_stands opcode.0 opcode.1 first i next (omega (arith, nonzero)) known h3)))

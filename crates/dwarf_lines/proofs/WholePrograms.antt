@@ -1,5 +1,6 @@
 -- A whole program: its header, its instructions, its rows.
-use Rattle.std.proofs.Common.{◌≡◌, ℕ, ◌+◌, ◌<◌, ◌≤◌, List, [], ◌∷◌, ◌++◌, length, take, true, false, Bool, Result, Ok, Option, Some, None, refl, sym, ap, ◌∙◌, arith}
+use Rattle.std.proofs.Common.{◌≡◌, ℕ, ◌+◌, ◌<◌, ◌≤◌, List, [], ◌∷◌, ◌++◌, length, take, true, false}
+use Rattle.std.proofs.Common.{Bool, Result, Ok, Option, Some, None, refl, sym, ap, ◌∙◌, arith}
 use Rattle.std.proofs.lemmas.List.{length-append, length-take}
 use Rattle.dwarf_bytes.specs.declared.fault.Cause.{Cause}
 use Rattle.dwarf_bytes.proofs.Advance.{after_bind}
@@ -10,59 +11,91 @@ use Rattle.dwarf_lines.specs.Sections.{LineSections}
 use Rattle.dwarf_lines.specs.Instructions.{Encoding, Reading, reading_of}
 use Rattle.dwarf_lines.specs.Headers.{LineHeader, header_at}
 use Rattle.dwarf_lines.specs.HeaderSpelling.{SpellsHeader}
-use Rattle.dwarf_lines.specs.Matrix.{rows_from, matrix_after, matrix_at, ending, is_open, latest_first}
+use Rattle.dwarf_lines.specs.Matrix.{rows_from, matrix_after, matrix_at, ending, is_open}
+use Rattle.dwarf_lines.specs.Matrix.{latest_first}
 use Rattle.dwarf_lines.specs.Programs.{Program, program_at_place}
 use Rattle.dwarf_lines.specs.ProgramSpelling.{IsProgram}
 use Rattle.dwarf_lines.proofs.BoundsLaws.{ok_is, header_at-past}
-use Rattle.dwarf_lines.proofs.HeaderSpelling.{header_stands, header_again}
+use Rattle.dwarf_lines.proofs.HeadersSpelled.{header_stands, header_again}
 use Rattle.dwarf_lines.proofs.ReadingLaws.{reading_is_spelled, spelled_is_read}
 use Rattle.dwarf_lines.proofs.MachineLaws.{rows-by-machine}
 
 -- the instructions stand in the program, and an opcode base is there
-pub first_inside : (s : LineSections) (place : ℕ) (header : LineHeader) (bytes : List ℕ) → SpellsHeader s place bytes header
+pub first_inside : (s : LineSections) (place : ℕ) (header : LineHeader) (bytes : List ℕ)
+    → SpellsHeader s place bytes header
     → (header.first ≤ header.past) × (0 < header.encoding.opcode_base)
 first_inside s place header bytes h =
     let f = h.fields_are in
-    let all : length bytes ≡ length h.unit_length + length h.unit = ap length h.whole ∙ length-append h.unit_length h.unit in
-    let unit : length h.unit ≡ length (5 ∷ 0 ∷ 8 ∷ 0 ∷ h.header_length) + length (h.fields ++ h.instructions) = ap length h.unit_is ∙ length-append (5 ∷ 0 ∷ 8 ∷ 0 ∷ h.header_length) (h.fields ++ h.instructions) in
-    let four : length (5 ∷ 0 ∷ 8 ∷ 0 ∷ h.header_length) ≡ 4 + length h.header_length = length-append (5 ∷ 0 ∷ 8 ∷ 0 ∷ []) h.header_length in
+    let all : length bytes ≡ length h.unit_length + length h.unit =
+    ap length h.whole ∙ length-append h.unit_length h.unit in
+    let unit : length h.unit ≡ length (5 ∷ 0 ∷ 8 ∷ 0 ∷ h.header_length) + length
+    (h.fields ++ h.instructions) = ap length h.unit_is
+    ∙ length-append (5 ∷ 0 ∷ 8 ∷ 0 ∷ h.header_length) (h.fields ++ h.instructions) in
+    let four : length (5 ∷ 0 ∷ 8 ∷ 0 ∷ h.header_length) ≡ 4 + length h.header_length =
+    length-append (5 ∷ 0 ∷ 8 ∷ 0 ∷ []) h.header_length in
     let rest = length-append h.fields h.instructions in
     let first = f.first_is in
     let past = h.past_is in
     let known = f.encoding_is.lengths in
     (omega (arith, all, unit, four, rest, first, past), omega (arith, known))
 
-ending_good : (fault : Option Cause) (has_row : Bool) (n : ℕ) → ending fault has_row ≡ Ok n → (fault ≡ None) × (has_row ≡ false)
+ending_good : (fault : Option Cause) (has_row : Bool) (n : ℕ) → ending fault has_row ≡ Ok n
+    → (fault ≡ None) × (has_row ≡ false)
 ending_good (Some cause) has_row n h = cc
 ending_good None true n h = cc
 ending_good None false n h = (refl, refl)
 
-pub matrix_good : (e : Encoding) (o : Origin) (read : Reading) (is : List Instruction) (rows : List Row)
-    → read ≡ record { instructions = is; fault = None } → rows_from e o [] is ≡ Ok rows → is_open (latest_first [] is) ≡ false
+pub matrix_good : (e : Encoding) (o : Origin) (read : Reading) (is : List Instruction)
+    (rows : List Row)
+    → read ≡ record { instructions = is; fault = None } → rows_from e o [] is ≡ Ok rows
+    → is_open (latest_first [] is) ≡ false
     → matrix_after e o [] read ≡ Ok rows
 matrix_good e o read is rows read_is rows_is closed = rw (read_is, rows_is, closed) refl
 
-matrix_is : (e : Encoding) (o : Origin) (read : Reading) (rows : List Row) → matrix_after e o [] read ≡ Ok rows
-    → (read ≡ record { instructions = read.instructions; fault = None }) × (rows_from e o [] read.instructions ≡ Ok rows)
+matrix_is : (e : Encoding) (o : Origin) (read : Reading) (rows : List Row)
+    → matrix_after e o [] read ≡ Ok rows
+    → (read ≡ record { instructions = read.instructions; fault = None })
+    × (rows_from e o [] read.instructions ≡ Ok rows)
     × (is_open (latest_first [] read.instructions) ≡ false)
 matrix_is e o read rows h =
-    let P : Type 0 = (read ≡ record { instructions = read.instructions; fault = None }) × (rows_from e o [] read.instructions ≡ Ok rows) × (is_open (latest_first [] read.instructions) ≡ false) in
+    let P : Type 0 = (read ≡ record { instructions = read.instructions; fault = None })
+    × (rows_from e o [] read.instructions ≡ Ok rows)
+    × (is_open (latest_first [] read.instructions) ≡ false) in
     after_bind (rows_from e o [] read.instructions) _ rows h P (λ made made_is h1.
-    after_bind (ending read.fault (is_open (latest_first [] read.instructions))) _ rows h1 P (λ n ended h2.
+    after_bind (ending read.fault (is_open (latest_first [] read.instructions))) _ rows h1 P
+    (λ n ended h2.
     let same : made ≡ rows = ok_is {E = Cause} made rows h2 in
-    let good = ending_good read.fault (is_open (latest_first [] read.instructions)) n ended in
-    (ap (λ (f : Option Cause). record { instructions = read.instructions; fault = f }) good.0, made_is ∙ ap (λ (r : List Row). (let ok : Result (List Row) Cause = Ok r in ok)) same, good.1)))
+    let good = ending_good read.fault (is_open (latest_first [] read.instructions)) n ended in (
+      ap (λ (f : Option Cause). record { instructions = read.instructions; fault = f }) good.0,
+      made_is ∙ ap (λ (r : List Row). (let ok : Result (List Row) Cause = Ok r in ok)) same,
+      good.1,
+    )))
 
-pub program_stands : (s : LineSections) (number place : ℕ) (program : Program) → program_at_place s number place ≡ Ok program
+pub program_stands : (s : LineSections) (number place : ℕ) (program : Program)
+    → program_at_place s number place ≡ Ok program
     → IsProgram s number place program
 unfolding program_at_place
 program_stands s number place program h =
     let P : Type 0 = IsProgram s number place program in
     after_bind (header_at s place) _ program h P (λ header header_is h1.
     let o : Origin = record { program = record { 0 = number }; files = length header.files } in
-    after_bind (matrix_at header.encoding o (take header.past s.line) header.first) _ program h1 P (λ rows rows_is h2.
-    let same : record { offset = place; directories = header.directories; files = header.files; rows = rows; past = header.past } ≡ program
-    = ok_is {E = Cause} (record { offset = place; directories = header.directories; files = header.files; rows = rows; past = header.past }) program h2 in
+    after_bind (matrix_at header.encoding o (take header.past s.line) header.first) _ program h1 P
+    (λ rows rows_is h2.
+    let same : record {
+      offset = place;
+      directories = header.directories;
+      files = header.files;
+      rows = rows;
+      past = header.past;
+    } ≡ program
+    = ok_is {E = Cause} (record {
+      offset = place;
+      directories = header.directories;
+      files =
+          header.files;
+      rows = rows;
+      past = header.past;
+    }) program h2 in
     let read : Reading = reading_of header.encoding (take header.past s.line) header.first in
     let found = matrix_is header.encoding o read rows rows_is in
     let stands = header_stands s place header header_is in
@@ -74,13 +107,23 @@ program_stands s number place program h =
       header = header;
       instructions = read.instructions;
       header_is = stands;
-      instructions_are = reading_is_spelled header.encoding (take header.past s.line) header.first read.instructions (omega (arith, inside.0, places.1, size)) found.0;
-      rows_are = sym (rows-by-machine header.encoding o read.instructions) ∙ found.1 ∙ ap (λ (r : List Row). (let ok : Result (List Row) Cause = Ok r in ok)) made;
+      instructions_are = reading_is_spelled header.encoding (take header.past s.line) header.first
+          read.instructions (omega (arith, inside.0, places.1, size)) found.0;
+      rows_are = sym (rows-by-machine header.encoding o read.instructions) ∙ found.1
+          ∙ ap (λ (r : List Row). (let ok : Result (List Row) Cause = Ok r in ok)) made;
       ended = found.2;
-      program_is = sym same ∙ ap (λ (r : List Row). record { offset = place; directories = header.directories; files = header.files; rows = r; past = header.past }) made;
+      program_is = sym same ∙ ap (λ (r : List Row). record {
+        offset = place;
+        directories = header.directories;
+        files = header.files;
+        rows = r;
+        past =
+            header.past;
+      }) made;
     }))
 
-pub program_again : (s : LineSections) (number place : ℕ) (program : Program) → IsProgram s number place program
+pub program_again : (s : LineSections) (number place : ℕ) (program : Program)
+    → IsProgram s number place program
     → program_at_place s number place ≡ Ok program
 unfolding program_at_place
 program_again s number place program p =
@@ -90,7 +133,11 @@ program_again s number place program p =
     let inside = first_inside s place header p.header_is.front p.header_is.spelled in
     let places = header_at-past s place header header_is in
     let size = length-take header.past s.line in
-    let read = spelled_is_read header.encoding (take header.past s.line) header.first p.instructions inside.1 (omega (arith, inside.0, places.1, size)) p.instructions_are in
-    let matrix : matrix_at header.encoding o (take header.past s.line) header.first ≡ Ok program.rows
-    = matrix_good header.encoding o _ p.instructions program.rows read (rows-by-machine header.encoding o p.instructions ∙ p.rows_are) p.ended in
-    rw (header_is, matrix) (ap (λ (q : Program). (let ok : Result Program Cause = Ok q in ok)) (sym p.program_is))
+    let read = spelled_is_read header.encoding (take header.past s.line) header.first p.instructions
+    inside.1 (omega (arith, inside.0, places.1, size)) p.instructions_are in
+    let matrix : matrix_at header.encoding o (take header.past s.line) header.first
+    ≡ Ok program.rows
+    = matrix_good header.encoding o _ p.instructions program.rows read
+    (rows-by-machine header.encoding o p.instructions ∙ p.rows_are) p.ended in
+    rw (header_is, matrix) (ap (λ (q : Program). (let ok : Result Program Cause = Ok q in ok))
+    (sym p.program_is))

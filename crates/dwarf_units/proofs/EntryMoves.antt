@@ -1,13 +1,11 @@
 -- What stands at a place of a unit takes a byte or more, and does not reach past the end.
 use Rattle.std.specs.Option.{option_map_or}
-use Rattle.std.proofs.Common.{◌≡◌, ℕ, ◌+◌, ◌<◌, ◌≤◌, ℤ, List, [], ◌∷◌, Bool, length, take, drop, refl, ap, subst, arith, length-take, length-drop}
-use Rattle.std.specs.Prelude.{Option, Some, None, Result, Ok, Err, position, option_map, ok_or, nat_lt, nat_le, not, ◌==◌, ◌&&◌}
-use Rattle.std.specs.List.{list_any}
+use Rattle.std.proofs.Common.{◌≡◌, ℕ, ◌+◌, ◌≤◌, ℤ, List, length, take, drop, refl, ap, subst, arith}
+use Rattle.std.proofs.Common.{length-take, length-drop}
+use Rattle.std.specs.Prelude.{Option, Some, None, Result, Ok, Err, position, option_map, ◌==◌}
 use Rattle.std.proofs.lemmas.List.Quantifiers.{position-Some}
-use Rattle.dwarf_bytes.specs.declared.constants.TheConstants.{DW_FORM_INDIRECT}
 use Rattle.dwarf_bytes.specs.declared.fault.ReadFault.{ReadFault}
 use Rattle.dwarf_bytes.specs.declared.fault.ReadFault.TheVariants.{Unterminated}
-use Rattle.dwarf_bytes.specs.declared.fault.Cause.TheVariants as causes
 use Rattle.dwarf_bytes.specs.declared.format.Format.{Format}
 use Rattle.dwarf_bytes.specs.declared.format.Format.TheVariants.{Dwarf32, Dwarf64}
 use Rattle.dwarf_bytes.specs.declared.form.Form.{Form}
@@ -17,189 +15,176 @@ use Rattle.dwarf_bytes.specs.declared.form.ValueLayout.TheVariants as layouts
 use Rattle.dwarf_bytes.specs.Bind.{◌>>=◌}
 use Rattle.dwarf_bytes.specs.Forms.{form_of, byte_len}
 use Rattle.dwarf_bytes.specs.Contents.{Content, Number, Signed, Bytes, read_as, content_at}
-use Rattle.dwarf_bytes.specs.Items.{Item, Advances, reading}
-use Rattle.dwarf_bytes.specs.Numbers.{block_at, fixed_at, uleb_at, sleb_at, cstr_at, text_front, offset_at}
-use Rattle.dwarf_bytes.proofs.Advance.{after_bind, after_test, chosen, MovesOn, uleb_at-moves, sleb_at-moves}
-use Rattle.dwarf_bytes.proofs.Moves.{same_ok, same_item, uleb_moves, block_at-moves, fixed_at-moves}
+use Rattle.dwarf_bytes.specs.Numbers.{block_at, fixed_at, uleb_at, sleb_at, cstr_at, text_front}
+use Rattle.dwarf_bytes.specs.Numbers.{offset_at}
+use Rattle.dwarf_bytes.proofs.Advance.{after_bind, uleb_at-moves, sleb_at-moves}
+use Rattle.dwarf_bytes.proofs.Moves.{same_ok, block_at-moves, fixed_at-moves}
 use Rattle.dwarf_forms.specs.declared.values.ValueFault.{ValueFault}
 use Rattle.dwarf_forms.specs.declared.values.ValueFault.TheVariants as values
-use Rattle.dwarf_forms.specs.declared.attribute.AttributeSpecification.{AttributeSpecification}
-use Rattle.dwarf_forms.specs.Declarations.{Declaration}
 use Rattle.dwarf_forms.specs.Values.{Value, reading_value as of_value, direct_at, value_at}
-use Rattle.dwarf_units.specs.declared.attributes.Attribute.{Attribute}
-use Rattle.dwarf_units.specs.Attributes.{accepts, is_negative_count, number_of}
-use Rattle.dwarf_units.specs.Entries.{Node, Entry, Null, depth_after, depth_limit, is_root, reading_value, is_direct, form_at, attribute_at, attributes_at, declaration_of, node_behind, node_at}
 
 -- what a read of bytes or of none leaves: this place or one behind it, and not past the end
 abbrev pub StaysWithin : List ℕ → ℕ → ℕ → Type 0
 StaysWithin bytes at after = (at ≤ after) × (after ≤ length bytes)
 
-pub fixed-stays : (n : ℕ) (bytes : List ℕ) (at : ℕ) (x : ℕ × ℕ) → fixed_at n bytes at ≡ Ok x → StaysWithin bytes at x.1
+pub fixed-stays : (n : ℕ) (bytes : List ℕ) (at : ℕ) (x : ℕ × ℕ) → fixed_at n bytes at ≡ Ok x
+    → StaysWithin bytes at x.1
 fixed-stays n bytes at x h =
     let moved = fixed_at-moves n bytes at x h in
     let place : x.1 ≡ at + n = ap (λ (r : ℕ × ℕ). r.1) moved.1 in
     (omega (arith, place), omega (arith, moved.0, place))
 
-block-stays : (n : ℕ) (bytes : List ℕ) (at : ℕ) (x : List ℕ × ℕ) → block_at n bytes at ≡ Ok x → StaysWithin bytes at x.1
+block-stays : (n : ℕ) (bytes : List ℕ) (at : ℕ) (x : List ℕ × ℕ) → block_at n bytes at ≡ Ok x
+    → StaysWithin bytes at x.1
 block-stays n bytes at x h =
     let moved = block_at-moves n bytes at x h in
     let place : x.1 ≡ at + n = ap (λ (r : List ℕ × ℕ). r.1) moved.1 in
     (omega (arith, place), omega (arith, moved.0, place))
 
-uleb-stays : (bytes : List ℕ) (at : ℕ) (x : ℕ × ℕ) → uleb_at bytes at ≡ Ok x → StaysWithin bytes at x.1
-uleb-stays bytes at x h = let moved = uleb_at-moves bytes at x.0 x.1 h in (omega (arith, moved.0), moved.1)
+uleb-stays : (bytes : List ℕ) (at : ℕ) (x : ℕ × ℕ) → uleb_at bytes at ≡ Ok x
+    → StaysWithin bytes at x.1
+uleb-stays bytes at x h = let moved = uleb_at-moves bytes at x.0 x.1 h in
+    (omega (arith, moved.0), moved.1)
 
-sleb-stays : (bytes : List ℕ) (at : ℕ) (x : ℤ × ℕ) → sleb_at bytes at ≡ Ok x → StaysWithin bytes at x.1
-sleb-stays bytes at x h = let moved = sleb_at-moves bytes at x.0 x.1 h in (omega (arith, moved.0), moved.1)
+sleb-stays : (bytes : List ℕ) (at : ℕ) (x : ℤ × ℕ) → sleb_at bytes at ≡ Ok x
+    → StaysWithin bytes at x.1
+sleb-stays bytes at x h = let moved = sleb_at-moves bytes at x.0 x.1 h in
+    (omega (arith, moved.0), moved.1)
 
-cstr-stays : (bytes : List ℕ) (at : ℕ) (x : List ℕ × ℕ) → cstr_at bytes at ≡ Ok x → StaysWithin bytes at x.1
+cstr-stays : (bytes : List ℕ) (at : ℕ) (x : List ℕ × ℕ) → cstr_at bytes at ≡ Ok x
+    → StaysWithin bytes at x.1
 unfolding cstr_at text_front
 cstr-stays bytes at x h = by_position (position (λ b. b == 0) (drop at bytes)) refl h
   where
-    by_position : (found : Option ℕ) → position (λ b. b == 0) (drop at bytes) ≡ found → option_map_or (λ text. Ok (text, at + length text + 1)) (option_map (λ n. take n (drop at bytes)) found) (Err Unterminated) ≡ Ok x → StaysWithin bytes at x.1
+    by_position : (found : Option ℕ) → position (λ b. b == 0) (drop at bytes) ≡ found
+        → option_map_or (λ text. Ok (text, at + length text + 1))
+        (option_map (λ n. take n (drop at bytes)) found) (Err Unterminated) ≡ Ok x
+        → StaysWithin bytes at x.1
     by_position None is h = cc
     by_position (Some n) is h =
         let found = position-Some (λ b. b == 0) (drop at bytes) n 0 is in
         let text : List ℕ = take n (drop at bytes) in
-        let place : at + length text + 1 ≡ x.1 = ap (λ (r : List ℕ × ℕ). r.1) (same_ok (text, at + length text + 1) x h) in
-        let len : length text ≡ length (take n (drop at bytes)) = refl in
-        (omega (arith, place), omega (arith, place, len, found.0, length-take n (drop at bytes), length-drop at bytes))
+        let place : at + length text + 1 ≡ x.1 =
+        ap (λ (r : List ℕ × ℕ). r.1) (same_ok (text, at + length text + 1) x h) in
+        let len : length text ≡ length (take n (drop at bytes)) = refl in (
+          omega (arith, place),
+          omega (
+            arith,
+            place,
+            len,
+            found.0,
+            length-take n (drop at bytes),
+            length-drop at bytes,
+          ),
+        )
 
-as-stays : {X : Type 0} (bytes : List ℕ) (at : ℕ) (content : X → Content) (read : Result (X × ℕ) ReadFault) (x : Content × ℕ) → ((y : X × ℕ) → read ≡ Ok y → StaysWithin bytes at y.1) → read_as content read ≡ Ok x → StaysWithin bytes at x.1
+as-stays : {X : Type 0} (bytes : List ℕ) (at : ℕ) (content : X → Content)
+    (read : Result (X × ℕ) ReadFault) (x : Content × ℕ)
+    → ((y : X × ℕ) → read ≡ Ok y → StaysWithin bytes at y.1) → read_as content read ≡ Ok x
+    → StaysWithin bytes at x.1
 as-stays bytes at content read x stays h =
     after_bind read (λ y. Ok (content y.0, y.1)) x h (StaysWithin bytes at x.1) (λ y y_is last.
     let place : y.1 ≡ x.1 = ap (λ (r : Content × ℕ). r.1) (same_ok (content y.0, y.1) x last) in
     subst (λ (k : ℕ). StaysWithin bytes at k) place (stays y y_is))
 
-counted-stays : (bytes : List ℕ) (at : ℕ) (read : Result (ℕ × ℕ) ReadFault) (x : Content × ℕ) → ((y : ℕ × ℕ) → read ≡ Ok y → StaysWithin bytes at y.1) → (read >>= λ len. read_as Bytes (block_at len.0 bytes len.1)) ≡ Ok x → StaysWithin bytes at x.1
+counted-stays : (bytes : List ℕ) (at : ℕ) (read : Result (ℕ × ℕ) ReadFault) (x : Content × ℕ)
+    → ((y : ℕ × ℕ) → read ≡ Ok y → StaysWithin bytes at y.1)
+    → (read >>= λ len. read_as Bytes (block_at len.0 bytes len.1)) ≡ Ok x → StaysWithin bytes at x.1
 counted-stays bytes at read x stays h =
-    after_bind read (λ len. read_as Bytes (block_at len.0 bytes len.1)) x h (StaysWithin bytes at x.1) (λ len len_is last.
+    after_bind read (λ len. read_as Bytes (block_at len.0 bytes len.1)) x h
+    (StaysWithin bytes at x.1) (λ len len_is last.
     let first = stays len len_is in
-    let second = as-stays bytes len.1 Bytes (block_at len.0 bytes len.1) x (λ y is. block-stays len.0 bytes len.1 y is) last in
+    let second = as-stays bytes len.1 Bytes (block_at len.0 bytes len.1) x
+    (λ y is. block-stays len.0 bytes len.1 y is) last in
     (omega (arith, first.0, second.0), second.1))
 
-pub offset-stays : (format : Format) (bytes : List ℕ) (at : ℕ) (x : ℕ × ℕ) → offset_at format bytes at ≡ Ok x → StaysWithin bytes at x.1
+pub offset-stays : (format : Format) (bytes : List ℕ) (at : ℕ) (x : ℕ × ℕ)
+    → offset_at format bytes at ≡ Ok x → StaysWithin bytes at x.1
 offset-stays Dwarf32 bytes at x h = fixed-stays 4 bytes at x h
 offset-stays Dwarf64 bytes at x h = fixed-stays 8 bytes at x h
 
-content-stays : (layout : ValueLayout) (format : Format) (bytes : List ℕ) (at : ℕ) (x : Content × ℕ) → at ≤ length bytes → content_at layout format bytes at ≡ Ok x → StaysWithin bytes at x.1
+content-stays : (layout : ValueLayout) (format : Format) (bytes : List ℕ) (at : ℕ) (x : Content × ℕ)
+    → at ≤ length bytes → content_at layout format bytes at ≡ Ok x → StaysWithin bytes at x.1
 unfolding content_at
-content-stays (layouts.Fixed width) format bytes at x le h = as-stays bytes at Number (fixed_at (byte_len width) bytes at) x (λ y is. fixed-stays (byte_len width) bytes at y is) h
-content-stays layouts.Offset format bytes at x le h = as-stays bytes at Number (offset_at format bytes at) x (λ y is. offset-stays format bytes at y is) h
+content-stays (layouts.Fixed width) format bytes at x le h =
+    as-stays bytes at Number (fixed_at (byte_len width) bytes at) x
+    (λ y is. fixed-stays (byte_len width) bytes at y is) h
+content-stays layouts.Offset format bytes at x le h =
+    as-stays bytes at Number (offset_at format bytes at) x
+    (λ y is. offset-stays format bytes at y is) h
 content-stays layouts.Present format bytes at x le h =
-    let place : at ≡ x.1 = ap (λ (r : Content × ℕ). r.1) (same_ok (Number 1, at) x h) in (omega (arith, place), omega (arith, place, le))
-content-stays layouts.Signed format bytes at x le h = as-stays bytes at Signed (sleb_at bytes at) x (λ y is. sleb-stays bytes at y is) h
-content-stays layouts.Unsigned format bytes at x le h = as-stays bytes at Number (uleb_at bytes at) x (λ y is. uleb-stays bytes at y is) h
-content-stays layouts.Text format bytes at x le h = as-stays bytes at Bytes (cstr_at bytes at) x (λ y is. cstr-stays bytes at y is) h
-content-stays layouts.Sixteen format bytes at x le h = as-stays bytes at Bytes (block_at 16 bytes at) x (λ y is. block-stays 16 bytes at y is) h
-content-stays (layouts.Block width) format bytes at x le h = counted-stays bytes at (fixed_at (byte_len width) bytes at) x (λ y is. fixed-stays (byte_len width) bytes at y is) h
-content-stays layouts.LongBlock format bytes at x le h = counted-stays bytes at (uleb_at bytes at) x (λ y is. uleb-stays bytes at y is) h
+    let place : at ≡ x.1 = ap (λ (r : Content × ℕ). r.1) (same_ok (Number 1, at) x h) in
+    (omega (arith, place), omega (arith, place, le))
+content-stays layouts.Signed format bytes at x le h =
+    as-stays bytes at Signed (sleb_at bytes at) x (λ y is. sleb-stays bytes at y is) h
+content-stays layouts.Unsigned format bytes at x le h =
+    as-stays bytes at Number (uleb_at bytes at) x (λ y is. uleb-stays bytes at y is) h
+content-stays layouts.Text format bytes at x le h =
+    as-stays bytes at Bytes (cstr_at bytes at) x (λ y is. cstr-stays bytes at y is) h
+content-stays layouts.Sixteen format bytes at x le h =
+    as-stays bytes at Bytes (block_at 16 bytes at) x (λ y is. block-stays 16 bytes at y is) h
+content-stays (layouts.Block width) format bytes at x le h =
+    counted-stays bytes at (fixed_at (byte_len width) bytes at) x
+    (λ y is. fixed-stays (byte_len width) bytes at y is) h
+content-stays layouts.LongBlock format bytes at x le h =
+    counted-stays bytes at (uleb_at bytes at) x (λ y is. uleb-stays bytes at y is) h
 
 of_value-ok : {A : Type 0} (r : Result A ReadFault) (x : A) → of_value r ≡ Ok x → r ≡ Ok x
 of_value-ok (Ok y) x h = cc
 of_value-ok (Err e) x h = cc
 
-direct-stays : (form : ℕ) (format : Format) (bytes : List ℕ) (at : ℕ) (x : Value × ℕ) → at ≤ length bytes → direct_at form format bytes at ≡ Ok x → StaysWithin bytes at x.1
+direct-stays : (form : ℕ) (format : Format) (bytes : List ℕ) (at : ℕ) (x : Value × ℕ)
+    → at ≤ length bytes → direct_at form format bytes at ≡ Ok x → StaysWithin bytes at x.1
 unfolding direct_at
 direct-stays form format bytes at x le h = by_form (form_of form) h
   where
     by_form : (found : Option Form) → (elim found as (λ _. Result (Value × ℕ) ValueFault) [
       | None ↦ Err values.Form
-      | Some (Direct layout) ↦ of_value (content_at layout format bytes at) >>= λ read. Ok (record { form = form; content = read.0 }, read.1)
+      | Some (Direct layout) ↦ of_value (content_at layout format bytes at)
+          >>= λ read. Ok (record { form = form; content = read.0 }, read.1)
       | Some ImplicitConst ↦ Err values.Form
       | Some Indirect ↦ Err values.Form
     ]) ≡ Ok x → StaysWithin bytes at x.1
     by_form None h = cc
     by_form (Some (Direct layout)) h =
-        after_bind (of_value (content_at layout format bytes at)) _ x h (StaysWithin bytes at x.1) (λ read read_is last.
-        let place : read.1 ≡ x.1 = ap (λ (r : Value × ℕ). r.1) (same_ok (record { form = form; content = read.0 }, read.1) x last) in
-        subst (λ (k : ℕ). StaysWithin bytes at k) place (content-stays layout format bytes at read le (of_value-ok (content_at layout format bytes at) read read_is)))
+        after_bind (of_value (content_at layout format bytes at)) _ x h (StaysWithin bytes at x.1)
+        (λ read read_is last.
+        let place : read.1 ≡ x.1 = ap (λ (r : Value × ℕ). r.1)
+        (same_ok (record { form = form; content = read.0 }, read.1) x last) in
+        subst (λ (k : ℕ). StaysWithin bytes at k) place
+        (content-stays layout format bytes at read le
+        (of_value-ok (content_at layout format bytes at) read read_is)))
     by_form (Some ImplicitConst) h = cc
     by_form (Some Indirect) h = cc
 
-value-stays : (form : ℕ) (format : Format) (constant : Option ℤ) (bytes : List ℕ) (at : ℕ) (x : Value × ℕ) → at ≤ length bytes → value_at form format constant bytes at ≡ Ok x → StaysWithin bytes at x.1
+pub value-stays : (form : ℕ) (format : Format) (constant : Option ℤ) (bytes : List ℕ) (at : ℕ)
+    (x : Value × ℕ) → at ≤ length bytes → value_at form format constant bytes at ≡ Ok x
+    → StaysWithin bytes at x.1
 unfolding value_at
 value-stays form format constant bytes at x le h = by_form (form_of form) constant h
   where
-    by_form : (found : Option Form) (constant : Option ℤ) → (elim found as (λ _. Result (Value × ℕ) ValueFault) [
-      | None ↦ Err values.Form
-      | Some (Direct layout) ↦ direct_at form format bytes at
-      | Some ImplicitConst ↦ (elim constant as (λ _. Result (Value × ℕ) ValueFault) [ None ↦ Err values.Form | Some c ↦ Ok (record { form = form; content = Signed c }, at) ])
-      | Some Indirect ↦ of_value (uleb_at bytes at) >>= λ inner. direct_at inner.0 format bytes inner.1
-    ]) ≡ Ok x → StaysWithin bytes at x.1
+    by_form : (found : Option Form) (constant : Option ℤ)
+        → (elim found as (λ _. Result (Value × ℕ) ValueFault) [
+          | None ↦ Err values.Form
+          | Some (Direct layout) ↦ direct_at form format bytes at
+          | Some ImplicitConst ↦ (elim constant as (λ _. Result (Value × ℕ) ValueFault) [
+            | None ↦ Err values.Form
+            | Some c ↦ Ok
+                (record { form = form; content = Signed c }, at)
+          ])
+          | Some Indirect ↦ of_value (uleb_at bytes at) >>= λ inner. direct_at inner.0 format bytes
+              inner.1
+        ]) ≡ Ok x → StaysWithin bytes at x.1
     by_form None constant h = cc
     by_form (Some (Direct layout)) constant h = direct-stays form format bytes at x le h
     by_form (Some ImplicitConst) None h = cc
     by_form (Some ImplicitConst) (Some c) h =
-        let place : at ≡ x.1 = ap (λ (r : Value × ℕ). r.1) (same_ok (record { form = form; content = Signed c }, at) x h) in (omega (arith, place), omega (arith, place, le))
+        let place : at ≡ x.1 = ap (λ (r : Value × ℕ). r.1)
+        (same_ok (record { form = form; content = Signed c }, at) x h) in
+        (omega (arith, place), omega (arith, place, le))
     by_form (Some Indirect) constant h =
-        after_bind (of_value (uleb_at bytes at)) _ x h (StaysWithin bytes at x.1) (λ inner inner_is last.
+        after_bind (of_value (uleb_at bytes at)) _ x h (StaysWithin bytes at x.1)
+        (λ inner inner_is last.
         let first = uleb-stays bytes at inner (of_value-ok (uleb_at bytes at) inner inner_is) in
         let second = direct-stays inner.0 format bytes inner.1 x first.1 last in
         (omega (arith, first.0, second.0), second.1))
-
-reading_value-ok : {A : Type 0} (r : Result A ValueFault) (x : A) → reading_value r ≡ Ok x → r ≡ Ok x
-reading_value-ok (Ok y) x h = cc
-reading_value-ok (Err values.Form) x h = cc
-reading_value-ok (Err (values.Read fault)) x h = cc
-
-form-stays : (form : ℕ) (bytes : List ℕ) (at : ℕ) (x : ℕ × ℕ) → at ≤ length bytes → form_at form bytes at ≡ Ok x → StaysWithin bytes at x.1
-form-stays form bytes at x le h =
-    let P : Type 0 = StaysWithin bytes at x.1 in
-    chosen (form == DW_FORM_INDIRECT) _ _ (Ok x) h P
-    (λ _ h1.
-    after_bind (reading (uleb_at bytes at)) _ x h1 P (λ inner inner_is h2.
-    after_test (not (is_direct (form_of inner.0))) causes.Form _ x h2 P (λ _ last.
-    let moved = uleb_moves bytes at inner inner_is in
-    let place : inner.1 ≡ x.1 = ap (λ (r : ℕ × ℕ). r.1) (same_ok inner x last) in
-    (omega (arith, moved.0, place), omega (arith, moved.1, place)))))
-    (λ _ last. let place : at ≡ x.1 = ap (λ (r : ℕ × ℕ). r.1) (same_ok (form, at) x last) in (omega (arith, place), omega (arith, place, le)))
-
-pub attribute-stays : (format : Format) (s : AttributeSpecification) (bytes : List ℕ) (at : ℕ) (x : Attribute × ℕ) → at ≤ length bytes → attribute_at format s bytes at ≡ Ok x → StaysWithin bytes at x.1
-attribute-stays format s bytes at x le h =
-    let P : Type 0 = StaysWithin bytes at x.1 in
-    after_bind (form_at s.form bytes at) _ x h P (λ form form_is h1.
-    after_test (not (accepts s.name form.0)) causes.AttrForm _ x h1 P (λ _ h2.
-    after_bind (reading_value (value_at form.0 format s.constant bytes form.1)) _ x h2 P (λ value value_is h3.
-    after_test (is_negative_count s.name value.0.content) causes.AttrForm _ x h3 P (λ _ last.
-    let first = form-stays s.form bytes at form le form_is in
-    let second = value-stays form.0 format s.constant bytes form.1 value first.1 (reading_value-ok (value_at form.0 format s.constant bytes form.1) value value_is) in
-    let place : value.1 ≡ x.1 = ap (λ (r : Attribute × ℕ). r.1) (same_ok (record { name = s.name; value = record { form = form.0; number = number_of value.0.content value.1 } }, value.1) x last) in
-    (omega (arith, first.0, second.0, place), omega (arith, second.1, place))))))
-
-attributes-stay : (format : Format) (declared : List AttributeSpecification) (bytes : List ℕ) (at : ℕ) (x : List Attribute × ℕ) → at ≤ length bytes → attributes_at format declared bytes at ≡ Ok x → StaysWithin bytes at x.1
-unfolding attributes_at
-attributes-stay format [] bytes at x le h = let place : at ≡ x.1 = ap (λ (r : List Attribute × ℕ). r.1) (same_ok ([], at) x h) in (omega (arith, place), omega (arith, place, le))
-attributes-stay format (s ∷ ss) bytes at x le h =
-    let P : Type 0 = StaysWithin bytes at x.1 in
-    after_bind (attribute_at format s bytes at) _ x h P (λ first first_is h1.
-    after_bind (attributes_at format ss bytes first.1) _ x h1 P (λ rest rest_is last.
-    let here = attribute-stays format s bytes at first le first_is in
-    let behind = attributes-stay format ss bytes first.1 rest here.1 rest_is in
-    let place : rest.1 ≡ x.1 = ap (λ (r : List Attribute × ℕ). r.1) (same_ok (first.0 ∷ rest.0, rest.1) x last) in
-    (omega (arith, here.0, behind.0, place), omega (arith, behind.1, place))))
-
-pub node_behind-moves : (format : Format) (table : List Declaration) (depth : ℕ) (rooted : Bool) (unit : List ℕ) (at : ℕ) (x : Node × ℕ) → node_behind format table depth rooted unit at ≡ Ok x → MovesOn unit at x.1
-node_behind-moves format table depth rooted unit at x h =
-    let P : Type 0 = MovesOn unit at x.1 in
-    after_bind (reading (uleb_at unit at)) _ x h P (λ code code_is h1.
-    let coded = uleb_moves unit at code code_is in
-    chosen (code.0 == 0) _ _ (Ok x) h1 P
-    (λ _ last. let place : code.1 ≡ x.1 = ap (λ (r : Node × ℕ). r.1) (same_ok (Null, code.1) x last) in (omega (arith, coded.0, place), omega (arith, coded.1, place)))
-    (λ _ h2.
-    after_bind (ok_or (declaration_of table code.0) causes.AbbrevCode) _ x h2 P (λ declaration _ h3.
-    after_test ((depth == 0) && rooted) causes.TwoRoots _ x h3 P (λ _ h4.
-    after_test (nat_lt depth_limit depth) causes.TooDeep _ x h4 P (λ _ h5.
-    after_bind (attributes_at format declaration.attributes unit code.1) _ x h5 P (λ attributes attributes_are last.
-    let behind = attributes-stay format declaration.attributes unit code.1 attributes coded.1 attributes_are in
-    let place : attributes.1 ≡ x.1 = ap (λ (r : Node × ℕ). r.1) (same_ok (Entry declaration.tag declaration.children attributes.0, attributes.1) x last) in
-    (omega (arith, coded.0, behind.0, place), omega (arith, behind.1, place))))))))
-
-pub node_at-advances : (format : Format) (table : List Declaration) (unit : List ℕ) → Advances (length unit) (node_at format table unit)
-node_at-advances format table unit before at x after h =
-    let P : Type 0 = (at < after) × (after ≤ length unit) in
-    chosen (nat_le (length unit) at) _ _ (Ok (Item x after)) h P (λ _ is. cc) (λ _ h1.
-    after_bind (node_behind format table (depth_after before) (list_any is_root before) unit at) _ (Item x after) h1 P (λ node node_is last.
-    let moved = node_behind-moves format table (depth_after before) (list_any is_root before) unit at node node_is in
-    let place = (same_item (record { offset = at; depth = depth_after before; node = node.0 }) x node.1 after last).1 in
-    (omega (arith, moved.0, place), omega (arith, moved.1, place))))

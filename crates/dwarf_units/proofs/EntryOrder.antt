@@ -1,5 +1,6 @@
 -- The offsets of the entries of a unit rise, up to its end.
-use Rattle.std.proofs.Common.{◌≡◌, ℕ, zero, suc, ◌+◌, ◌<◌, ◌≤◌, List, [], ◌∷◌, ◌++◌, length, take, map, subst, arith, length-take, add-one}
+use Rattle.std.proofs.Common.{◌≡◌, ℕ, zero, suc, ◌+◌, ◌<◌, ◌≤◌, List, [], ◌∷◌, ◌++◌, length, take}
+use Rattle.std.proofs.Common.{map, subst, arith, length-take, add-one}
 use Rattle.std.specs.Prelude.{Ok, nat_lt}
 use Rattle.std.specs.List.{filter_map}
 use Rattle.std.specs.List.Sorted.{IsStrictlyIncreasing}
@@ -11,60 +12,89 @@ use Rattle.dwarf_bytes.proofs.ItemLaws.{Lists-within, Lists-each}
 use Rattle.dwarf_forms.specs.Declarations.{Declaration}
 use Rattle.dwarf_bytes.proofs.Moves.{same_ok}
 use Rattle.dwarf_units.specs.declared.unit_headers.UnitHeader.{UnitHeader}
-use Rattle.dwarf_units.specs.Entries.{Node, Entry, Null, Standing, Die, AreDepths, depth_after, node_at, die_of, entries_of}
+use Rattle.dwarf_units.specs.Entries.{Node, Entry, Null, Standing, Die, AreDepths, depth_after}
+use Rattle.dwarf_units.specs.Entries.{node_at, die_of, entries_of}
 use Rattle.dwarf_units.specs.Private.Rising.{RiseWithin}
 use Rattle.dwarf_units.proofs.NodeLaws.{node_at-facts}
 
 -- ---- the entries of a unit
 
 -- what is read of a unit stands at depths by counting
-pub nodes-AreDepths : (format : Format) (table : List Declaration) (unit : List ℕ) (end at : ℕ) (all : List Standing) (after : ℕ) → items_from end (node_at format table unit) [] at ≡ Ok (all, after) → AreDepths all
+pub nodes-AreDepths : (format : Format) (table : List Declaration) (unit : List ℕ) (end at : ℕ)
+    (all : List Standing) (after : ℕ) → items_from end (node_at format table unit) [] at
+    ≡ Ok (all, after) → AreDepths all
 nodes-AreDepths format table unit end at all after h i d within =
-    Lists-each (λ before x. x.depth ≡ depth_after before) (node_at format table unit) (λ before at x after is. (node_at-facts format table unit before at x after is).depth_is) [] at all after
+    Lists-each (λ before x. x.depth ≡ depth_after before) (node_at format table unit)
+    (λ before at x after is. (node_at-facts format table unit before at x after is).depth_is) []
+    at all after
     (Lists-within _ (node_at format table unit) [] at all after h) i d within
 
 -- the entries among what is listed rise, up to an end that is not before the unit's
-pub listed-rise : (format : Format) (table : List Declaration) (unit : List ℕ) (end : ℕ) → length unit ≤ end → (before : List Standing) (at : ℕ) (all : List Standing) (after : ℕ) → Lists (node_at format table unit) before at all after →
-    (from : ℕ) → from ≤ at → at ≤ end → RiseWithin from end (filter_map die_of all)
-listed-rise format table unit end size before at [] after h from le within = omega (arith, le, within)
+pub listed-rise : (format : Format) (table : List Declaration) (unit : List ℕ) (end : ℕ)
+    → length unit ≤ end → (before : List Standing) (at : ℕ) (all : List Standing) (after : ℕ)
+    → Lists (node_at format table unit) before at all after
+    → (from : ℕ) → from ≤ at → at ≤ end → RiseWithin from end (filter_map die_of all)
+listed-rise format table unit end size before at [] after h from le within =
+    omega (arith, le, within)
 listed-rise format table unit end size before at (x ∷ all) after h from le within =
     let here = node_at-facts format table unit before at x h.0 h.1 in
-    by_node x.offset x.depth x.node here.offset_is here.moves.0 (λ from le. listed-rise format table unit end size (before ++ x ∷ []) h.0 all after h.2 from le (omega (arith, here.moves.1, size)))
+    by_node x.offset x.depth x.node here.offset_is here.moves.0
+    (λ from le. listed-rise format table unit end size (before ++ x ∷ []) h.0 all after h.2 from
+    le (omega (arith, here.moves.1, size)))
   where
-    by_node : (offset depth : ℕ) (node : Node) → offset ≡ at → at < h.0 → ((from : ℕ) → from ≤ h.0 → RiseWithin from end (filter_map die_of all)) →
-        RiseWithin from end (filter_map die_of (record { offset = offset; depth = depth; node = node } ∷ all))
-    by_node offset depth (Entry tag children attributes) is lt rest = (omega (arith, is, le), rest (suc offset) (omega (arith, is, lt)))
+    by_node : (offset depth : ℕ) (node : Node) → offset ≡ at → at < h.0
+        → ((from : ℕ) → from ≤ h.0 → RiseWithin from end (filter_map die_of all))
+        → RiseWithin from end (filter_map die_of
+        (record { offset = offset; depth = depth; node = node } ∷ all))
+    by_node offset depth (Entry tag children attributes) is lt rest =
+        (omega (arith, is, le), rest (suc offset) (omega (arith, is, lt)))
     by_node offset depth Null is lt rest = rest from (omega (arith, le, lt))
 
 -- what stands at the bottom of a unit, from what is read of it
-pub listed_in : (info : List ℕ) (header : UnitHeader) (table : List Declaration) (dies : List Die) (P : Type 0) → entries_of info header table ≡ Ok dies →
-    ((all : List Standing) (after : ℕ) → Lists (node_at header.format table (take header.end info)) [] header.first all after → filter_map die_of all ≡ dies → P) → P
+pub listed_in : (info : List ℕ) (header : UnitHeader) (table : List Declaration) (dies : List Die)
+    (P : Type 0) → entries_of info header table ≡ Ok dies
+    → ((all : List Standing) (after : ℕ)
+    → Lists (node_at header.format table (take header.end info)) [] header.first all after
+    → filter_map die_of all ≡ dies → P) → P
 unfolding entries_of
 listed_in info header table dies P h next =
-    after_bind (items_from header.end (node_at header.format table (take header.end info)) [] header.first) _ dies h P (λ all all_is h1.
-    after_bind (told_at header.start (refuse_if (nat_lt 0 (depth_after all.0)) causes.TreeOpen)) _ dies h1 P (λ _ _ last.
-    next all.0 all.1 (Lists-within _ (node_at header.format table (take header.end info)) [] header.first all.0 all.1 all_is) (same_ok (filter_map die_of all.0) dies last)))
+    after_bind (items_from header.end (node_at header.format table (take header.end info)) []
+    header.first) _ dies h P (λ all all_is h1.
+    after_bind (told_at header.start (refuse_if (nat_lt 0 (depth_after all.0)) causes.TreeOpen)) _
+    dies h1 P (λ _ _ last.
+    next all.0 all.1 (Lists-within _ (node_at header.format table (take header.end info)) []
+    header.first all.0 all.1 all_is) (same_ok (filter_map die_of all.0) dies last)))
 
 -- the entries of a unit stand behind its header, up to its end
-pub entries-rise : (info : List ℕ) (header : UnitHeader) (table : List Declaration) (dies : List Die) → entries_of info header table ≡ Ok dies → header.start ≤ header.first → header.first ≤ header.end → RiseWithin header.start header.end dies
+pub entries-rise : (info : List ℕ) (header : UnitHeader) (table : List Declaration)
+    (dies : List Die) → entries_of info header table ≡ Ok dies → header.start ≤ header.first
+    → header.first ≤ header.end → RiseWithin header.start header.end dies
 entries-rise info header table dies h front back =
-    listed_in info header table dies (RiseWithin header.start header.end dies) h (λ all after listed same.
+    listed_in info header table dies (RiseWithin header.start header.end dies) h
+    (λ all after listed same.
     let size = length-take header.end info in
     subst (λ (ds : List Die). RiseWithin header.start header.end ds) same
-    (listed-rise header.format table (take header.end info) header.end (omega (arith, size)) [] header.first all after listed header.start front back))
+    (listed-rise header.format table (take header.end info) header.end (omega (arith, size)) []
+    header.first all after listed header.start front back))
 
 -- what rises in a range rises strictly
-pub increasing : (from end : ℕ) (dies : List Die) → RiseWithin from end dies → IsStrictlyIncreasing (map (λ (die : Die). die.offset) dies)
+pub increasing : (from end : ℕ) (dies : List Die) → RiseWithin from end dies
+    → IsStrictlyIncreasing (map (λ (die : Die). die.offset) dies)
 increasing from end [] rise k lt = absurd (omega (arith, lt))
 increasing from end (die ∷ []) rise k lt = absurd (omega (arith, lt))
 increasing from end (die ∷ next ∷ dies) rise zero lt = let first = rise.1.0 in omega (arith, first)
 increasing from end (die ∷ next ∷ dies) rise (suc k) lt =
-    rw add-one (rw add-one at (increasing (suc die.offset) end (next ∷ dies) rise.1 k (omega (arith, lt))))
+    rw add-one (rw add-one at (increasing (suc die.offset) end (next ∷ dies) rise.1 k
+    (omega (arith, lt))))
 
-pub offsets-rise : (info : List ℕ) (header : UnitHeader) (table : List Declaration) (dies : List Die) → entries_of info header table ≡ Ok dies → IsStrictlyIncreasing (map (λ (die : Die). die.offset) dies)
+pub offsets-rise : (info : List ℕ) (header : UnitHeader) (table : List Declaration)
+    (dies : List Die) → entries_of info header table ≡ Ok dies
+    → IsStrictlyIncreasing (map (λ (die : Die). die.offset) dies)
 offsets-rise info header table dies h =
-    listed_in info header table dies (IsStrictlyIncreasing (map (λ (die : Die). die.offset) dies)) h (λ all after listed same.
+    listed_in info header table dies (IsStrictlyIncreasing (map (λ (die : Die). die.offset) dies)) h
+    (λ all after listed same.
     let unit : List ℕ = take header.end info in
     subst (λ (ds : List Die). IsStrictlyIncreasing (map (λ (die : Die). die.offset) ds)) same
     (increasing 0 (header.first + length unit) (filter_map die_of all)
-    (listed-rise header.format table unit (header.first + length unit) (omega arith) [] header.first all after listed 0 (omega arith) (omega arith))))
+    (listed-rise header.format table unit (header.first + length unit) (omega arith) [] header.first
+    all after listed 0 (omega arith) (omega arith))))

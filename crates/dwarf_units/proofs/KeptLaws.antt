@@ -1,32 +1,31 @@
 -- The tables that are kept, as one more is put behind those that stay.
-use Rattle.std.proofs.Common.{◌≡◌, get_or, ℕ, suc, zero, ◌+◌, ◌-◌, ◌<◌, ◌≤◌, List, [], ◌∷◌, ◌++◌, length, length-append, take, length-take-le, true, false, refl, ap, sym, ◌∙◌, subst, arith}
-use Rattle.std.specs.Prelude.{Some, Result, Ok, slice_get, sum_by, nat_le, ◌==◌}
-use Rattle.std.specs.List.{All}
+use Rattle.std.proofs.Common.{◌≡◌, ℕ, suc, zero, ◌+◌, ◌-◌, ◌<◌, ◌≤◌, List, [], ◌∷◌, ◌++◌, length}
+use Rattle.std.proofs.Common.{length-append, take, length-take-le, true, false, refl, ap, sym, ◌∙◌}
+use Rattle.std.proofs.Common.{subst, arith}
+use Rattle.std.specs.Prelude.{Some, slice_get, sum_by, ◌==◌}
 use Rattle.std.proofs.lemmas.Grind.{common_steps}
 use Rattle.std.proofs.lemmas.List.{get_or-take}
-use Rattle.std.proofs.lemmas.List.Sums.{sum_by_push}
-use Rattle.std.proofs.lemmas.Option.{same_Some, slice_get-get_or, slice_get_within, get_or_from_slice_get}
+use Rattle.std.proofs.lemmas.Option.{same_Some, slice_get-get_or, slice_get_within}
+use Rattle.std.proofs.lemmas.Option.{get_or_from_slice_get}
 use Rattle.dwarf_bytes.specs.declared.format.Format.{Format}
 use Rattle.dwarf_bytes.specs.declared.format.Format.TheVariants.{Dwarf32, Dwarf64}
 use Rattle.dwarf_units.specs.declared.numbers.Numbers.{Numbers}
 use Rattle.dwarf_units.specs.Private.Numbers.{number_at, with_number}
 use Rattle.dwarf_units.specs.Private.Plans.{Table, table_size}
-use Rattle.dwarf_units.specs.Private.Tables.{StandsIn, IsAt, AreElsewhere, AreKept, KeptTables, with_table, size_limit}
-use Rattle.dwarf_bytes.specs.declared.fault.Section.TheVariants as sections
-use Rattle.dwarf_bytes.specs.Items.{At}
-use Rattle.dwarf_bytes.specs.Refusals.{in_section}
-use Rattle.dwarf_forms.specs.Declarations.{Declaration}
-use Rattle.dwarf_forms.specs.Tables.{declarations_of}
-use Rattle.dwarf_units.specs.Units.{declarations_limit}
-use Rattle.dwarf_units.proofs.TableLaws.{in_section_ok, table_again, table_few, known_stands, stand_before, stand_behind, behind_at}
+use Rattle.dwarf_units.specs.Private.Tables.{StandsIn, AreElsewhere, AreKept}
+use Rattle.dwarf_units.proofs.TableLaws.{stand_before, stand_behind, behind_at}
 
 -- one number was set
 abbrev pub Sets : Numbers → Numbers → Format → ℕ → ℕ → Type 0
-Sets numbers next format offset number = (f : Format) (at : ℕ) → number_at next f at ≡ with_number numbers format offset number f at
+Sets numbers next format offset number = (f : Format) (at : ℕ)
+    → number_at next f at ≡ with_number numbers format offset number f at
 
-pub sets_as : (numbers next : Numbers) (given format : Format) (at offset number : ℕ) → given ≡ format → at ≡ offset → Sets numbers next given at number → Sets numbers next format offset number
+pub sets_as : (numbers next : Numbers) (given format : Format) (at offset number : ℕ)
+    → given ≡ format → at ≡ offset → Sets numbers next given at number
+    → Sets numbers next format offset number
 sets_as numbers next given format at offset number format_is offset_is sets =
-    subst (λ (f : Format). Sets numbers next f offset number) format_is (subst (λ (k : ℕ). Sets numbers next given k number) offset_is sets)
+    subst (λ (f : Format). Sets numbers next f offset number) format_is
+    (subst (λ (k : ℕ). Sets numbers next given k number) offset_is sets)
 
 same_nat : (n : ℕ) → (n == n) ≡ true
 same_nat n = grind arith
@@ -34,41 +33,61 @@ same_nat n = grind arith
 apart_nat : (a b : ℕ) → (a ≡ b → ⊥) → (a == b) ≡ false
 apart_nat a b h = grind (arith, common_steps)
 
-with_here : (numbers : Numbers) (format : Format) (offset number : ℕ) → with_number numbers format offset number format offset ≡ Some number
+pub with_here : (numbers : Numbers) (format : Format) (offset number : ℕ)
+    → with_number numbers format offset number format offset ≡ Some number
 with_here numbers Dwarf32 offset number = rw (same_nat offset) refl
 with_here numbers Dwarf64 offset number = rw (same_nat offset) refl
 
-with_there : (numbers : Numbers) (format : Format) (offset number : ℕ) (f : Format) (at : ℕ) → ((at ≡ offset) × (f ≡ format) → ⊥) → with_number numbers format offset number f at ≡ number_at numbers f at
-with_there numbers Dwarf32 offset number Dwarf32 at apart = rw (apart_nat at offset (λ e. apart (e, refl))) refl
+with_there : (numbers : Numbers) (format : Format) (offset number : ℕ) (f : Format) (at : ℕ)
+    → ((at ≡ offset) × (f ≡ format) → ⊥) → with_number numbers format offset number f at
+    ≡ number_at numbers f at
+with_there numbers Dwarf32 offset number Dwarf32 at apart =
+    rw (apart_nat at offset (λ e. apart (e, refl))) refl
 with_there numbers Dwarf32 offset number Dwarf64 at apart = refl
 with_there numbers Dwarf64 offset number Dwarf32 at apart = refl
-with_there numbers Dwarf64 offset number Dwarf64 at apart = rw (apart_nat at offset (λ e. apart (e, refl))) refl
+with_there numbers Dwarf64 offset number Dwarf64 at apart =
+    rw (apart_nat at offset (λ e. apart (e, refl))) refl
 
-abbrev AreFound : Numbers → List Table → Type 0
-AreFound numbers tables = (i : ℕ) (table : Table) → slice_get tables i ≡ Some table → number_at numbers table.format table.offset ≡ Some i
+abbrev pub AreFound : Numbers → List Table → Type 0
+AreFound numbers tables = (i : ℕ) (table : Table) → slice_get tables i ≡ Some table
+    → number_at numbers table.format table.offset ≡ Some i
 
 -- a table that stands among the first ones stands among all
-taken : (tables : List Table) (kept i : ℕ) (table : Table) → kept ≤ length tables → slice_get (take kept tables) i ≡ Some table → slice_get tables i ≡ Some table
+taken : (tables : List Table) (kept i : ℕ) (table : Table) → kept ≤ length tables
+    → slice_get (take kept tables) i ≡ Some table → slice_get tables i ≡ Some table
 taken tables kept i table within at =
     let len : length (take kept tables) ≡ kept = length-take-le kept tables within in
     let before : i < kept = omega (arith, slice_get_within (take kept tables) i table at, len) in
     slice_get-get_or tables i table (omega (arith, before, within))
-    ∙ ap (λ (t : Table). Some t) (sym (get_or-take kept tables i table before) ∙ get_or_from_slice_get (take kept tables) i table table at)
+    ∙ ap (λ (t : Table). Some t) (sym (get_or-take kept tables i table before)
+    ∙ get_or_from_slice_get (take kept tables) i table table at)
 
-found_short : (tables : List Table) (kept : ℕ) (numbers next : Numbers) (format : Format) (offset number : ℕ) → kept ≤ length tables → AreElsewhere format offset tables → Sets numbers next format offset number → AreFound numbers tables → AreFound next (take kept tables)
+pub found_short : (tables : List Table) (kept : ℕ) (numbers next : Numbers) (format : Format)
+    (offset number : ℕ) → kept ≤ length tables → AreElsewhere format offset tables
+    → Sets numbers next format offset number → AreFound numbers tables
+    → AreFound next (take kept tables)
 found_short tables kept numbers next format offset number within elsewhere sets found i table at =
     let here = taken tables kept i table within at in
-    sets table.format table.offset ∙ (with_there numbers format offset number table.format table.offset (elsewhere i table here) ∙ found i table here)
+    sets table.format table.offset ∙ (with_there numbers format offset number table.format
+    table.offset (elsewhere i table here) ∙ found i table here)
 
-found_push : (before : List Table) (next : Numbers) (table : Table) → number_at next table.format table.offset ≡ Some (length before) → AreFound next before → AreFound next (before ++ table ∷ [])
+pub found_push : (before : List Table) (next : Numbers) (table : Table)
+    → number_at next table.format table.offset ≡ Some (length before) → AreFound next before
+    → AreFound next (before ++ table ∷ [])
 found_push before next table here found = by_list before (λ i. i) found here
   where
-    by_list : (ts : List Table) (number : ℕ → ℕ) → ((i : ℕ) (t : Table) → slice_get ts i ≡ Some t → number_at next t.format t.offset ≡ Some (number i)) → number_at next table.format table.offset ≡ Some (number (length ts)) →
-        (i : ℕ) (t : Table) → slice_get (ts ++ table ∷ []) i ≡ Some t → number_at next t.format t.offset ≡ Some (number i)
-    by_list [] number before last zero t at = subst (λ (e : Table). number_at next e.format e.offset ≡ Some (number 0)) (same_Some table t at) last
+    by_list : (ts : List Table) (number : ℕ → ℕ)
+        → ((i : ℕ) (t : Table) → slice_get ts i ≡ Some t → number_at next t.format t.offset
+        ≡ Some (number i)) → number_at next table.format table.offset ≡ Some (number (length ts))
+        → (i : ℕ) (t : Table) → slice_get (ts ++ table ∷ []) i ≡ Some t
+        → number_at next t.format t.offset ≡ Some (number i)
+    by_list [] number before last zero t at =
+        subst (λ (e : Table). number_at next e.format e.offset ≡ Some (number 0))
+        (same_Some table t at) last
     by_list [] number before last (suc i) t at = cc
     by_list (x ∷ ts) number before last zero t at = before 0 t at
-    by_list (x ∷ ts) number before last (suc i) t at = by_list ts (λ k. number (suc k)) (λ k e is. before (suc k) e is) last i t at
+    by_list (x ∷ ts) number before last (suc i) t at =
+        by_list ts (λ k. number (suc k)) (λ k e is. before (suc k) e is) last i t at
 
 pub take_all : (xs : List Table) → take (length xs) xs ≡ xs
 take_all [] = refl
@@ -79,14 +98,19 @@ take_front [] ys = refl
 take_front (x ∷ xs) ys = ap (λ (zs : List Table). x ∷ zs) (take_front xs ys)
 
 -- those that stay alone, where the one behind them is gone
-pub kept_short : (section : List ℕ) (tables after : List Table) (kept room : ℕ) (numbers next : Numbers) (format : Format) (offset : ℕ) → AreElsewhere format offset tables → Sets numbers next format offset kept → after ≡ take kept tables →
-    AreKept section tables kept room numbers → AreKept section after kept room next
+pub kept_short : (section : List ℕ) (tables after : List Table) (kept room : ℕ)
+    (numbers next : Numbers) (format : Format) (offset : ℕ) → AreElsewhere format offset tables
+    → Sets numbers next format offset kept → after ≡ take kept tables
+    → AreKept section tables kept room numbers → AreKept section after kept room next
 kept_short section tables after kept room numbers next format offset elsewhere sets is all =
     let len : length (take kept tables) ≡ kept = length-take-le kept tables all.within in
-    let again : take kept (take kept tables) ≡ take kept tables = subst (λ (k : ℕ). take k (take kept tables) ≡ take kept tables) len (take_all (take kept tables)) in
+    let again : take kept (take kept tables) ≡ take kept tables =
+    subst (λ (k : ℕ). take k (take kept tables) ≡ take kept tables) len
+    (take_all (take kept tables)) in
     subst (λ (ts : List Table). AreKept section ts kept room next) (sym is) (record {
       stand = stand_before section tables (take kept tables) kept all.stand refl;
-      found = found_short tables kept numbers next format offset kept all.within elsewhere sets all.found;
+      found = found_short tables kept numbers next format offset kept all.within elsewhere sets
+          all.found;
       counted = ap (λ (ts : List Table). room + sum_by table_size ts) again ∙ all.counted;
       within = omega (arith, len);
       one = omega (arith, len);
@@ -94,90 +118,33 @@ kept_short section tables after kept room numbers next format offset elsewhere s
     })
 
 -- .. with one behind them that does not stay
-pub kept_more : (section : List ℕ) (tables after : List Table) (kept room size : ℕ) (numbers next : Numbers) (table : Table) → AreElsewhere table.format table.offset tables → Sets numbers next table.format table.offset kept → StandsIn section table →
-    after ≡ take kept tables ++ table ∷ [] → size ≡ table_size table → room < size → AreKept section tables kept room numbers → AreKept section after kept room next
-kept_more section tables after kept room size numbers next table elsewhere sets stands is size_is past all =
+pub kept_more : (section : List ℕ) (tables after : List Table) (kept room size : ℕ)
+    (numbers next : Numbers) (table : Table) → AreElsewhere table.format table.offset tables
+    → Sets numbers next table.format table.offset kept → StandsIn section table
+    → after ≡ take kept tables ++ table ∷ [] → size ≡ table_size table → room < size
+    → AreKept section tables kept room numbers → AreKept section after kept room next
+kept_more section tables after kept room size numbers next table elsewhere sets stands is size_is
+    past all =
     let before : List Table = take kept tables in
     let len : length before ≡ kept = length-take-le kept tables all.within in
-    let more : length (before ++ table ∷ []) ≡ kept + 1 = length-append before (table ∷ []) ∙ ap (λ (k : ℕ). k + 1) len in
-    let front : take kept (before ++ table ∷ []) ≡ before = subst (λ (k : ℕ). take k (before ++ table ∷ []) ≡ before) len (take_front before (table ∷ [])) in
+    let more : length (before ++ table ∷ []) ≡ kept + 1 = length-append before (table ∷ [])
+    ∙ ap (λ (k : ℕ). k + 1) len in
+    let front : take kept (before ++ table ∷ []) ≡ before =
+    subst (λ (k : ℕ). take k (before ++ table ∷ []) ≡ before) len
+    (take_front before (table ∷ [])) in
     let here : number_at next table.format table.offset ≡ Some (length before) =
-    sets table.format table.offset ∙ (with_here numbers table.format table.offset kept ∙ ap (λ (k : ℕ). Some k) (sym len)) in
-    let last : slice_get (before ++ table ∷ []) kept ≡ Some table = behind_at before (before ++ table ∷ []) kept table refl (sym len) in
+    sets table.format table.offset ∙ (with_here numbers table.format table.offset kept
+    ∙ ap (λ (k : ℕ). Some k) (sym len)) in
+    let last : slice_get (before ++ table ∷ []) kept ≡ Some table =
+    behind_at before (before ++ table ∷ []) kept table refl (sym len) in
     subst (λ (ts : List Table). AreKept section ts kept room next) (sym is) (record {
       stand = stand_behind section tables (before ++ table ∷ []) kept table all.stand stands refl;
-      found = found_push before next table here (found_short tables kept numbers next table.format table.offset kept all.within elsewhere sets all.found);
+      found = found_push before next table here
+          (found_short tables kept numbers next table.format table.offset kept all.within elsewhere
+          sets all.found);
       counted = ap (λ (ts : List Table). room + sum_by table_size ts) front ∙ all.counted;
       within = omega (arith, more);
       one = omega (arith, more);
-      past = λ t at. subst (λ (e : Table). room < table_size e) (same_Some table t (sym last ∙ at)) (omega (arith, past, size_is));
+      past = λ t at. subst (λ (e : Table). room < table_size e) (same_Some table t (sym last ∙ at))
+          (omega (arith, past, size_is));
     })
-
--- .. and with one that stays
-pub kept_all : (section : List ℕ) (tables after : List Table) (kept room now size : ℕ) (numbers next : Numbers) (table : Table) → AreElsewhere table.format table.offset tables → Sets numbers next table.format table.offset kept → StandsIn section table →
-    after ≡ take kept tables ++ table ∷ [] → size ≡ table_size table → size ≤ room → now ≡ length after → AreKept section tables kept room numbers → AreKept section after now (room - size) next
-kept_all section tables after kept room now size numbers next table elsewhere sets stands is size_is fits now_is all =
-    let before : List Table = take kept tables in
-    let here : number_at next table.format table.offset ≡ Some (length before) =
-    sets table.format table.offset ∙ (with_here numbers table.format table.offset kept ∙ ap (λ (k : ℕ). Some k) (sym (length-take-le kept tables all.within))) in
-    let whole : take now after ≡ after = subst (λ (k : ℕ). take k after ≡ after) (sym now_is) (take_all after) in
-    let sum : sum_by table_size after ≡ sum_by table_size (take kept tables) + table_size table = ap (λ (ts : List Table). sum_by table_size ts) is ∙ sum_by_push table_size (take kept tables) table in
-    record {
-      stand = stand_behind section tables after kept table all.stand stands is;
-      found = subst (λ (ts : List Table). AreFound next ts) (sym is) (found_push before next table here (found_short tables kept numbers next table.format table.offset kept all.within elsewhere sets all.found));
-      counted = ap (λ (ts : List Table). room - size + sum_by table_size ts) whole ∙ omega (arith, sum, size_is, fits, all.counted);
-      within = omega (arith, now_is);
-      one = omega (arith, now_is);
-      past = λ t at. absurd (omega (arith, slice_get_within after now t at, now_is));
-    }
-
--- what is kept then, as the tables with one more
-pub with_all : (before : KeptTables) (section : List ℕ) (tables after : List Table) (kept room now size : ℕ) (numbers : Numbers) (table : Table) → (let seen : KeptTables = record { section = section; tables = tables; kept = kept } in seen ≡ before) →
-    after ≡ take kept tables ++ table ∷ [] → size ≡ table_size table → size ≤ room → now ≡ length after → AreKept section tables kept room numbers → (let seen : KeptTables = record { section = section; tables = after; kept = now } in seen ≡ with_table before table)
-with_all before section tables after kept room now size numbers table view is size_is fits now_is all =
-    let sum : sum_by table_size (take kept tables ++ table ∷ []) ≡ sum_by table_size (take kept tables) + table_size table = sum_by_push table_size (take kept tables) table in
-    let stays : nat_le (sum_by table_size (take kept tables ++ table ∷ [])) (size_limit section) ≡ true = le_true _ _ (omega (arith, sum, size_is, fits, all.counted)) in
-    rw (now_is, is) (rw (← view) (rw stays refl))
-  where
-    le_true : (a b : ℕ) → a ≤ b → nat_le a b ≡ true
-    le_true a b h = grind (arith, common_steps)
-
-pub with_more : (before : KeptTables) (section : List ℕ) (tables after : List Table) (kept room size : ℕ) (numbers : Numbers) (table : Table) → (let seen : KeptTables = record { section = section; tables = tables; kept = kept } in seen ≡ before) →
-    after ≡ take kept tables ++ table ∷ [] → size ≡ table_size table → room < size → AreKept section tables kept room numbers → (let seen : KeptTables = record { section = section; tables = after; kept = kept } in seen ≡ with_table before table)
-with_more before section tables after kept room size numbers table view is size_is past all =
-    let sum : sum_by table_size (take kept tables ++ table ∷ []) ≡ sum_by table_size (take kept tables) + table_size table = sum_by_push table_size (take kept tables) table in
-    let stays : nat_le (sum_by table_size (take kept tables ++ table ∷ [])) (size_limit section) ≡ false = le_false _ _ (omega (arith, sum, size_is, past, all.counted)) in
-    rw is (rw (← view) (rw stays refl))
-  where
-    le_false : (a b : ℕ) → b < a → nat_le a b ≡ false
-    le_false a b h = grind (arith, common_steps)
-
--- a table that is known and has more declarations than are left is not read
-pub known_too_long : {X : Type 0} (section : List ℕ) (tables : List Table) (number len : ℕ) (known d : Table) (offset left : ℕ) (read : List Declaration) → All (StandsIn section) tables → slice_get tables number ≡ Some known →
-    known.offset ≡ offset → in_section sections.DebugAbbrev (declarations_of left section offset) ≡ Ok read → left ≤ declarations_limit → len ≡ length (get_or tables number d).declarations → left < len → X
-known_too_long section tables number len known d offset left read all at same is_read few len_is past =
-    let ok : declarations_of left section offset ≡ Ok read = in_section_ok sections.DebugAbbrev (declarations_of left section offset) read is_read in
-    let short : length read ≤ left = table_few left section offset read ok in
-    let again : declarations_of declarations_limit section offset ≡ Ok read = table_again left declarations_limit section offset read ok (omega (arith, short, few)) in
-    let stands : declarations_of declarations_limit section offset ≡ Ok known.declarations = known_stands section tables number known offset all at same in
-    let lens : length known.declarations ≡ length read = ap (λ (ds : List Declaration). length ds) (same_ok (sym stands ∙ again)) in
-    let one : length (get_or tables number d).declarations ≡ length known.declarations = ap (λ (t : Table). length t.declarations) (get_or_from_slice_get tables number known d at) in
-    absurd (omega (arith, short, past, lens, len_is, one))
-  where
-    same_ok : {x y : List Declaration} → (let f : List Declaration → Result (List Declaration) At = λ z. Ok z in f x ≡ f y) → x ≡ y
-    same_ok h = cc
-
--- a table that was read for a unit is none of those that are not the unit's
-pub elsewhere_as : (table : Table) (format : Format) (offset : ℕ) (tables : List Table) → table.offset ≡ offset → table.format ≡ format → AreElsewhere format offset tables → AreElsewhere table.format table.offset tables
-elsewhere_as table format offset tables place form elsewhere i t at is = elsewhere i t at (is.0 ∙ place, is.1 ∙ form)
-
--- each table has one number
-pub known_once : (numbers : Numbers) (tables : List Table) (view : KeptTables) (format : Format) (offset i j : ℕ) → tables ≡ view.tables → AreFound numbers tables →
-    (t : Table) → slice_get view.tables i ≡ Some t → IsAt format offset t → (u : Table) → slice_get view.tables j ≡ Some u → IsAt format offset u → i ≡ j
-known_once numbers tables view format offset i j same found t at is u at_other is_other =
-    same_Some i j (sym (number_of t i at is) ∙ number_of u j at_other is_other)
-  where
-    number_of : (t : Table) (i : ℕ) → slice_get view.tables i ≡ Some t → IsAt format offset t → number_at numbers format offset ≡ Some i
-    number_of t i at is =
-        subst (λ (f : Format). number_at numbers f offset ≡ Some i) is.1
-        (subst (λ (k : ℕ). number_at numbers t.format k ≡ Some i) is.0 (found i t (ap (λ (ts : List Table). slice_get ts i) same ∙ at)))

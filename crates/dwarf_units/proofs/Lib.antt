@@ -1,12 +1,19 @@
 pub mod UnitLaws
 pub mod TableLaws
 pub mod KeptLaws
+pub mod MoreTables
 pub mod StayLaws
 pub mod EntryMoves
+pub mod EntryAdvances
 pub mod NodeLaws
 pub mod EntryOrder
 pub mod AgainLaws
 pub mod PlainLaws
+pub mod PlainReads
+pub mod FixedReads
+pub mod FixedAttributes
+pub mod PlanSteps
+pub mod JoinedSteps
 pub mod PlanLaws
 pub mod PlanTurns
 pub mod PlainEntries
@@ -14,6 +21,7 @@ pub mod PlainCodes
 pub mod LinkLaws
 pub mod SharedTableLaws
 pub mod StoreLaws
+pub mod StoredTables
 pub mod NameLaws
 pub mod UsedLaws
 pub mod SlotLaws

@@ -3,7 +3,12 @@ use Rattle.std.proofs.Common.{◌≡◌, ℕ, List, [], ◌∷◌, Bool, true, f
 use Rattle.std.specs.Prelude.{Some, None, ◌==◌, find, if◌then◌else◌}
 use Rattle.std.proofs.lemmas.Bool.{ne_eqb, eqb-true}
 use Rattle.dwarf_units.specs.declared.used_name.UsedName.{UsedName}
-use Rattle.dwarf_units.specs.declared.used_name.UsedName.TheVariants.{Name, LinkageName, AbstractOrigin, Specification, LowPc, HighPc, Ranges, CallFile, CallLine, StmtList, StrOffsetsBase, AddrBase, RnglistsBase}
+use Rattle.dwarf_units.specs.declared.used_name.UsedName.TheVariants.{Name, LinkageName}
+use Rattle.dwarf_units.specs.declared.used_name.UsedName.TheVariants.{AbstractOrigin, Specification}
+use Rattle.dwarf_units.specs.declared.used_name.UsedName.TheVariants.{LowPc, HighPc, Ranges}
+use Rattle.dwarf_units.specs.declared.used_name.UsedName.TheVariants.{CallFile, CallLine, StmtList}
+use Rattle.dwarf_units.specs.declared.used_name.UsedName.TheVariants.{StrOffsetsBase, AddrBase}
+use Rattle.dwarf_units.specs.declared.used_name.UsedName.TheVariants.{RnglistsBase}
 use Rattle.dwarf_units.specs.Attributes.{is_used}
 use Rattle.dwarf_units.specs.Private.Names.{name_of, used_names, used_name}
 
@@ -26,12 +31,15 @@ found-holds : {X : Type 0} (p : X → Bool) (xs : List X) (x : X) → find p xs 
 found-holds p [] x is = cc
 found-holds p (y ∷ ys) x is = by_test (p y) refl is (found-holds p ys x)
   where
-    by_test : (b : Bool) → p y ≡ b → (if b then Some y else find p ys) ≡ Some x → (find p ys ≡ Some x → p x ≡ true) → p x ≡ true
+    by_test : (b : Bool) → p y ≡ b → (if b then Some y else find p ys) ≡ Some x
+        → (find p ys ≡ Some x → p x ≡ true) → p x ≡ true
     by_test true here found behind = let same : y ≡ x = cc in subst (λ z. p z ≡ true) same here
     by_test false here found behind = behind found
 
-pub found-number : (number : ℕ) (name : UsedName) → used_name number ≡ Some name → number ≡ name_of name
-found-number number name is = sym (eqb-true (name_of name) number (found-holds (λ n. name_of n == number) used_names name is))
+pub found-number : (number : ℕ) (name : UsedName) → used_name number ≡ Some name
+    → number ≡ name_of name
+found-number number name is = sym (eqb-true (name_of name) number
+    (found-holds (λ n. name_of n == number) used_names name is))
 
 -- ---- whether an attribute is used
 
@@ -50,7 +58,8 @@ number-used StrOffsetsBase = refl
 number-used AddrBase = refl
 number-used RnglistsBase = refl
 
-pub used-some : (number : ℕ) (name : UsedName) → used_name number ≡ Some name → is_used number ≡ true
+pub used-some : (number : ℕ) (name : UsedName) → used_name number ≡ Some name
+    → is_used number ≡ true
 used-some number name is = ap is_used (found-number number name is) ∙ number-used name
 
 pub used-none : (number : ℕ) → used_name number ≡ None → is_used number ≡ false

@@ -9,27 +9,37 @@ use Rattle.dwarf_bytes.proofs.Advance.{MovesOn, after_bind, chosen}
 use Rattle.dwarf_forms.specs.Declarations.{Declaration}
 use Rattle.dwarf_bytes.proofs.Moves.{same_item}
 use Rattle.dwarf_units.specs.Entries.{Node, Standing, depth_after, is_root, node_behind, node_at}
-use Rattle.dwarf_units.proofs.EntryMoves.{node_behind-moves}
+use Rattle.dwarf_units.proofs.EntryAdvances.{node_behind-moves}
 
 -- what is read there: it stands there, at the depth behind what stands before it, and takes bytes
-pub record NodeFacts (unit : List ℕ) (before : List Standing) (at : ℕ) (x : Standing) (after : ℕ) : Type 0 where
+pub record NodeFacts (unit : List ℕ) (before : List Standing) (at : ℕ) (x : Standing)
+    (after : ℕ) : Type 0 where
   pub offset_is : x.offset ≡ at
   pub depth_is : x.depth ≡ depth_after before
   pub moves : MovesOn unit at after
 
-facts_of : (unit : List ℕ) (before : List Standing) (at : ℕ) (node : Node) (mid : ℕ) (x : Standing) (after : ℕ) → MovesOn unit at mid →
-    (let f : Next Standing → Result (Next Standing) Cause = λ z. Ok z in f (Item (record { offset = at; depth = depth_after before; node = node }) mid) ≡ f (Item x after)) → NodeFacts unit before at x after
+facts_of : (unit : List ℕ) (before : List Standing) (at : ℕ) (node : Node) (mid : ℕ) (x : Standing)
+    (after : ℕ) → MovesOn unit at mid
+    → (let f : Next Standing → Result (Next Standing) Cause = λ z. Ok z in
+    f (Item (record { offset = at; depth = depth_after before; node = node }) mid)
+    ≡ f (Item x after)) → NodeFacts unit before at x after
 facts_of unit before at node mid x after moved h =
-    let same = same_item (record { offset = at; depth = depth_after before; node = node }) x mid after h in
+    let same = same_item (record { offset = at; depth = depth_after before; node = node }) x mid
+    after h in
     record {
       offset_is = sym (ap (λ (s : Standing). s.offset) same.0);
       depth_is = sym (ap (λ (s : Standing). s.depth) same.0);
       moves = subst (λ (k : ℕ). MovesOn unit at k) same.1 moved;
     }
 
-pub node_at-facts : (format : Format) (table : List Declaration) (unit : List ℕ) (before : List Standing) (at : ℕ) (x : Standing) (after : ℕ) → node_at format table unit before at ≡ Ok (Item x after) → NodeFacts unit before at x after
+pub node_at-facts : (format : Format) (table : List Declaration) (unit : List ℕ)
+    (before : List Standing) (at : ℕ) (x : Standing) (after : ℕ)
+    → node_at format table unit before at ≡ Ok (Item x after) → NodeFacts unit before at x after
 node_at-facts format table unit before at x after h =
     let P : Type 0 = NodeFacts unit before at x after in
     chosen (nat_le (length unit) at) _ _ (Ok (Item x after)) h P (λ _ is. cc) (λ _ h1.
-    after_bind (node_behind format table (depth_after before) (list_any is_root before) unit at) _ (Item x after) h1 P (λ node node_is last.
-    facts_of unit before at node.0 node.1 x after (node_behind-moves format table (depth_after before) (list_any is_root before) unit at node node_is) last))
+    after_bind (node_behind format table (depth_after before) (list_any is_root before) unit at) _
+    (Item x after) h1 P (λ node node_is last.
+    facts_of unit before at node.0 node.1 x after
+    (node_behind-moves format table (depth_after before) (list_any is_root before) unit at node
+    node_is) last))

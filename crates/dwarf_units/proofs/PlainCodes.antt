@@ -1,6 +1,10 @@
--- Plain heads at hand, by the codes of declarations that share attributes and of those that have all of them.
-use Rattle.std.proofs.Common.{◌≡◌, ℕ, ◌+◌, ◌<◌, ◌≤◌, min, List, [], ◌∷◌, ◌++◌, Bool, true, false, ◌&&◌, cond, length, length-append, take, drop, append-nil, append_assoc, take-append-drop, refl, ap, sym, ◌∙◌, subst, arith}
-use Rattle.std.specs.Prelude.{Option, Some, None, IfSome, is_some, nat_lt, nat_le, ◌==◌, find, option_and_then, option_map, slice_get}
+-- Plain heads at hand, by the codes of declarations that share attributes and of those that have
+-- all of them.
+use Rattle.std.proofs.Common.{◌≡◌, ℕ, ◌+◌, ◌<◌, ◌≤◌, min, List, [], ◌∷◌, ◌++◌, Bool, true, false}
+use Rattle.std.proofs.Common.{◌&&◌, cond, length, length-append, take, drop, append-nil}
+use Rattle.std.proofs.Common.{append_assoc, take-append-drop, refl, ap, sym, ◌∙◌, subst, arith}
+use Rattle.std.specs.Prelude.{Option, Some, None, IfSome, is_some, nat_lt, nat_le, ◌==◌, find}
+use Rattle.std.specs.Prelude.{option_and_then, option_map, slice_get}
 use Rattle.std.specs.Option.{option_map_or}
 use Rattle.std.proofs.lemmas.Bool.{le-ltb, lt-ltb, le-leb, lt-leb, ltb-true, leb-true, ne_eqb}
 use Rattle.std.proofs.lemmas.List.{length-map, length-take, length-drop}
@@ -15,98 +19,171 @@ use Rattle.dwarf_forms.specs.Private.SharedTables.{AreTold, SharedDeclaration, t
 use Rattle.dwarf_forms.proofs.KnownListLaws.{from-last, from-stays}
 use Rattle.dwarf_units.specs.declared.plain_head.PlainHead.{PlainHead}
 use Rattle.dwarf_units.specs.Entries.{declaration_of, depth_limit}
-use Rattle.dwarf_units.specs.Private.PlainHeads.{ArePlain, code_limit, codes_at_hand, if_within, is_at_hand, passed_len, plain_at_hand, plain_by_code, plain_entry_at, plain_head, plain_of, plain_of_all}
+use Rattle.dwarf_units.specs.Private.PlainHeads.{ArePlain, code_limit, codes_at_hand, if_within}
+use Rattle.dwarf_units.specs.Private.PlainHeads.{is_at_hand, passed_len, plain_at_hand}
+use Rattle.dwarf_units.specs.Private.PlainHeads.{plain_by_code, plain_entry_at, plain_head}
+use Rattle.dwarf_units.specs.Private.PlainHeads.{plain_of, plain_of_all}
 use Rattle.dwarf_units.specs.Private.Plans.{Table, steps_of}
 use Rattle.dwarf_units.specs.Private.SharedTables.{SharedTable, told_table}
 use Rattle.dwarf_units.proofs.SharedTableLaws.{all_found, found_told}
 
 -- ---- a list that shares attributes has more than are kept with it
 
-some-behind : (known : List KnownAttribute) (number : ℕ) → number < length known → 0 < length (attributes_from known number)
+some-behind : (known : List KnownAttribute) (number : ℕ) → number < length known
+    → 0 < length (attributes_from known number)
 some-behind known number within = by_rest (drop number known) refl
   where
-    by_rest : (rest : List KnownAttribute) → drop number known ≡ rest → 0 < length (attributes_from known number)
+    by_rest : (rest : List KnownAttribute) → drop number known ≡ rest
+        → 0 < length (attributes_from known number)
     by_rest [] none = absurd (omega (arith, within, length-drop number known, ap length none))
     by_rest (k ∷ ks) is =
         let front : List KnownAttribute = take number known in
         let len : length front ≡ number = omega (arith, length-take number known, within) in
-        let parts : known ≡ (front ++ k ∷ []) ++ ks = sym (take-append-drop number known) ∙ (ap (λ (rest : List KnownAttribute). front ++ rest) is ∙ sym (append_assoc front (k ∷ []) ks)) in
+        let parts : known ≡ (front ++ k ∷ []) ++ ks = sym (take-append-drop number known)
+        ∙ (ap (λ (rest : List KnownAttribute). front ++ rest) is
+        ∙ sym (append_assoc front (k ∷ []) ks)) in
         let first : attributes_from known number ≡ k.attribute ∷ rest_attributes front k.next =
         ap (λ (all : List KnownAttribute). attributes_from all number) parts
-        ∙ (from-stays (front ++ k ∷ []) ks number (omega (arith, len, length-append front (k ∷ []))) ∙ (ap (λ (n : ℕ). attributes_from (front ++ k ∷ []) n) (sym len) ∙ from-last front k)) in
+        ∙ (from-stays (front ++ k ∷ []) ks number (omega (arith, len, length-append front (k ∷ [])))
+        ∙ (ap (λ (n : ℕ). attributes_from (front ++ k ∷ []) n) (sym len) ∙ from-last front k))
+        in
         omega (arith, ap length first)
 
 -- ---- the head of a declaration
 
 -- by whether attributes are shared
 head-by : Format → ℕ → Bool → Bool → List AttributeSpecification → Option PlainHead
-head-by format tag children shares declared = cond shares None (option_map (λ len. record { tag = tag; children = children; len = len }) (passed_len (steps_of false format declared)))
+head-by format tag children shares declared =
+    cond shares None (option_map (λ len. record { tag = tag; children = children; len = len })
+    (passed_len (steps_of false format declared)))
 
-same-head : (known : List KnownAttribute) (format : Format) (d : SharedDeclaration) → IsShared known d.list → plain_of format d ≡ plain_of_all format (told known d)
+same-head : (known : List KnownAttribute) (format : Format) (d : SharedDeclaration)
+    → IsShared known d.list → plain_of format d ≡ plain_of_all format (told known d)
 unfolding head-by
 same-head known format d is = by_rest d.list.rest refl
   where
     all : List AttributeSpecification
     all = all_of known d.list
 
-    by_rest : (rest : Option ℕ) → d.list.rest ≡ rest → head-by format d.tag d.children (is_some d.list.rest) d.list.own ≡ head-by format d.tag d.children (nat_lt UNSHARED (length all)) all
+    by_rest : (rest : Option ℕ) → d.list.rest ≡ rest
+        → head-by format d.tag d.children (is_some d.list.rest) d.list.own
+        ≡ head-by format d.tag d.children (nat_lt UNSHARED (length all)) all
     by_rest None none =
-        let same : all ≡ d.list.own = ap (λ (rest : Option ℕ). d.list.own ++ rest_attributes known rest) none ∙ append-nil d.list.own in
+        let same : all ≡ d.list.own = ap
+        (λ (rest : Option ℕ). d.list.own ++ rest_attributes known rest) none
+        ∙ append-nil d.list.own in
         ap (λ (rest : Option ℕ). head-by format d.tag d.children (is_some rest) d.list.own) none
-        ∙ (ap (λ (b : Bool). head-by format d.tag d.children b d.list.own) (sym (le-ltb UNSHARED (length d.list.own) is.few))
-        ∙ ap (λ (l : List AttributeSpecification). head-by format d.tag d.children (nat_lt UNSHARED (length l)) l) (sym same))
+        ∙ (ap (λ (b : Bool). head-by format d.tag d.children b d.list.own)
+        (sym (le-ltb UNSHARED (length d.list.own) is.few))
+        ∙ ap (λ (l : List AttributeSpecification). head-by format d.tag d.children
+        (nat_lt UNSHARED (length l)) l) (sym same))
     by_rest (Some number) some =
-        let within : number < length known = subst (λ (rest : Option ℕ). IfSome rest (λ n. n < length known)) some is.rest in
-        let full : length d.list.own ≡ UNSHARED = subst (λ (rest : Option ℕ). IfSome rest (λ _. length d.list.own ≡ UNSHARED)) some is.full in
-        let same : all ≡ d.list.own ++ attributes_from known number = ap (λ (rest : Option ℕ). d.list.own ++ rest_attributes known rest) some in
-        let more : UNSHARED < length all = omega (arith, ap length same, length-append d.list.own (attributes_from known number), full, some-behind known number within) in
-        ap (λ (rest : Option ℕ). head-by format d.tag d.children (is_some rest) d.list.own) some ∙ sym (ap (λ (b : Bool). head-by format d.tag d.children b all) (lt-ltb UNSHARED (length all) more))
+        let within : number < length known =
+        subst (λ (rest : Option ℕ). IfSome rest (λ n. n < length known)) some is.rest in
+        let full : length d.list.own ≡ UNSHARED =
+        subst (λ (rest : Option ℕ). IfSome rest (λ _. length d.list.own ≡ UNSHARED)) some
+        is.full in
+        let same : all ≡ d.list.own ++ attributes_from known number =
+        ap (λ (rest : Option ℕ). d.list.own ++ rest_attributes known rest) some in
+        let more : UNSHARED < length all =
+        omega (
+          arith,
+          ap length same,
+          length-append d.list.own (attributes_from known number),
+          full,
+          some-behind known number within,
+        ) in
+        ap (λ (rest : Option ℕ). head-by format d.tag d.children (is_some rest) d.list.own) some
+        ∙ sym (ap (λ (b : Bool). head-by format d.tag d.children b all)
+        (lt-ltb UNSHARED (length all) more))
 
 -- .. and of a code
 
-pub same-code : (known : List KnownAttribute) (shared : SharedTable) (table : Table) (code : ℕ) → told_table known shared ≡ table → AreTold known shared.declarations → plain_at_hand shared code ≡ plain_by_code table code
+pub same-code : (known : List KnownAttribute) (shared : SharedTable) (table : Table) (code : ℕ)
+    → told_table known shared ≡ table → AreTold known shared.declarations
+    → plain_at_hand shared code ≡ plain_by_code table code
 same-code known shared table code view are =
-    ap (λ (o : Option PlainHead). cond (is_at_hand shared.declarations code) o None) (by_found (find (λ d. d.code == code) shared.declarations) refl)
-    ∙ (ap (λ (n : ℕ). cond (nat_lt 0 code && nat_le code (min n code_limit)) (told-head (declaration_of (tell known shared.declarations) code)) None) (sym (length-map shared.declarations (told known)))
+    ap (λ (o : Option PlainHead). cond (is_at_hand shared.declarations code) o None)
+    (by_found (find (λ d. d.code == code) shared.declarations) refl)
+    ∙ (ap (λ (n : ℕ). cond (nat_lt 0 code && nat_le code (min n code_limit))
+    (told-head (declaration_of (tell known shared.declarations) code)) None)
+    (sym (length-map shared.declarations (told known)))
     ∙ ap (λ (t : Table). plain_by_code t code) view)
   where
     told-head : Option Declaration → Option PlainHead
     told-head found = option_map_or (plain_of_all shared.format) found None
 
-    by_found : (found : Option SharedDeclaration) → find (λ d. d.code == code) shared.declarations ≡ found → plain_head shared.format shared.declarations code ≡ told-head (declaration_of (tell known shared.declarations) code)
-    by_found found is = ap (λ (o : Option SharedDeclaration). option_map_or (plain_of shared.format) o None) is ∙ (by_case found is ∙ sym (ap told-head (found_told known code shared.declarations found is)))
+    by_found : (found : Option SharedDeclaration) → find (λ d. d.code == code) shared.declarations
+        ≡ found → plain_head shared.format shared.declarations code
+        ≡ told-head (declaration_of (tell known shared.declarations) code)
+    by_found found is = ap (λ (o : Option SharedDeclaration). option_map_or (plain_of shared.format)
+        o None) is ∙ (by_case found is ∙ sym
+        (ap told-head (found_told known code shared.declarations found is)))
       where
-        by_case : (found : Option SharedDeclaration) → find (λ d. d.code == code) shared.declarations ≡ found → option_map_or (plain_of shared.format) found None ≡ told-head (option_map (told known) found)
+        by_case : (found : Option SharedDeclaration)
+            → find (λ d. d.code == code) shared.declarations ≡ found
+            → option_map_or (plain_of shared.format) found None
+            ≡ told-head (option_map (told known) found)
         by_case None is = refl
-        by_case (Some d) is = same-head known shared.format d (all_found (λ (d : SharedDeclaration). IsShared known d.list) (λ d. d.code == code) shared.declarations d are is)
+        by_case (Some d) is = same-head known shared.format d
+            (all_found (λ (d : SharedDeclaration). IsShared known d.list) (λ d. d.code == code)
+            shared.declarations d are is)
 
 -- ---- what is at hand
 
-pub at-hand : (table : SharedTable) (code : ℕ) (head : PlainHead) → plain_at_hand table code ≡ Some head → (0 < code) × ((code ≤ code_limit) × (plain_head table.format table.declarations code ≡ Some head))
-at-hand table code head is = by_test (nat_lt 0 code) refl (nat_le code (codes_at_hand table.declarations)) refl is
+pub at-hand : (table : SharedTable) (code : ℕ) (head : PlainHead)
+    → plain_at_hand table code ≡ Some head
+    → (0 < code) × ((code ≤ code_limit) × (plain_head table.format table.declarations code
+    ≡ Some head))
+at-hand table code head is = by_test (nat_lt 0 code) refl
+    (nat_le code (codes_at_hand table.declarations)) refl is
   where
-    by_test : (b : Bool) → nat_lt 0 code ≡ b → (c : Bool) → nat_le code (codes_at_hand table.declarations) ≡ c → cond (b && c) (plain_head table.format table.declarations code) None ≡ Some head → (0 < code) × ((code ≤ code_limit) × (plain_head table.format table.declarations code ≡ Some head))
-    by_test true some true few is = (ltb-true 0 code some, (omega (arith, leb-true code (codes_at_hand table.declarations) few), is))
+    by_test : (b : Bool) → nat_lt 0 code ≡ b → (c : Bool)
+        → nat_le code (codes_at_hand table.declarations) ≡ c
+        → cond (b && c) (plain_head table.format table.declarations code) None ≡ Some head
+        → (0 < code) × ((code ≤ code_limit)
+        × (plain_head table.format table.declarations code ≡ Some head))
+    by_test true some true few is = (
+      ltb-true 0 code some,
+      (omega (arith, leb-true code (codes_at_hand table.declarations) few), is),
+    )
     by_test true some false few is = cc
     by_test false some c few is = cc
 
 -- .. by the list of the heads
-pub hand-of : (table : SharedTable) (heads : List (Option PlainHead)) (place : ℕ) (head : Option PlainHead) → ArePlain table.format table.declarations heads → slice_get heads place ≡ Some head → place < length heads → head ≡ plain_at_hand table (place + 1)
+pub hand-of : (table : SharedTable) (heads : List (Option PlainHead)) (place : ℕ)
+    (head : Option PlainHead) → ArePlain table.format table.declarations heads
+    → slice_get heads place ≡ Some head → place < length heads
+    → head ≡ plain_at_hand table (place + 1)
 hand-of table heads place head are at within =
     let some : nat_lt 0 (place + 1) ≡ true = lt-ltb 0 (place + 1) (omega arith) in
-    let few : nat_le (place + 1) (codes_at_hand table.declarations) ≡ true = le-leb (place + 1) (codes_at_hand table.declarations) (omega (arith, within, are.len)) in
-    are.each place head at ∙ sym (ap (λ (b : Bool). cond (b && nat_le (place + 1) (codes_at_hand table.declarations)) (plain_head table.format table.declarations (place + 1)) None) some ∙ ap (λ (b : Bool). cond b (plain_head table.format table.declarations (place + 1)) None) few)
+    let few : nat_le (place + 1) (codes_at_hand table.declarations) ≡ true =
+    le-leb (place + 1) (codes_at_hand table.declarations) (omega (arith, within, are.len)) in
+    are.each place head at ∙ sym (ap (λ (b : Bool). cond
+    (b && nat_le (place + 1) (codes_at_hand table.declarations))
+    (plain_head table.format table.declarations (place + 1)) None) some
+    ∙ ap (λ (b : Bool). cond b (plain_head table.format table.declarations (place + 1)) None)
+    few)
 
-pub none-of : (table : SharedTable) (heads : List (Option PlainHead)) (place : ℕ) → ArePlain table.format table.declarations heads → length heads ≤ place → None ≡ plain_at_hand table (place + 1)
+pub none-of : (table : SharedTable) (heads : List (Option PlainHead)) (place : ℕ)
+    → ArePlain table.format table.declarations heads → length heads ≤ place
+    → None ≡ plain_at_hand table (place + 1)
 none-of table heads place are past =
     let some : nat_lt 0 (place + 1) ≡ true = lt-ltb 0 (place + 1) (omega arith) in
-    let few : nat_le (place + 1) (codes_at_hand table.declarations) ≡ false = lt-leb (place + 1) (codes_at_hand table.declarations) (omega (arith, past, are.len)) in
-    sym (ap (λ (b : Bool). cond (b && nat_le (place + 1) (codes_at_hand table.declarations)) (plain_head table.format table.declarations (place + 1)) None) some ∙ ap (λ (b : Bool). cond b (plain_head table.format table.declarations (place + 1)) None) few)
+    let few : nat_le (place + 1) (codes_at_hand table.declarations) ≡ false =
+    lt-leb (place + 1) (codes_at_hand table.declarations) (omega (arith, past, are.len)) in
+    sym (ap (λ (b : Bool). cond (b && nat_le (place + 1) (codes_at_hand table.declarations))
+    (plain_head table.format table.declarations (place + 1)) None) some
+    ∙ ap (λ (b : Bool). cond b (plain_head table.format table.declarations (place + 1)) None)
+    few)
 
 -- ---- the plain entry at a place
 
-pub found-at : (table : Table) (depth : ℕ) (unit : List ℕ) (at : ℕ) (code : Option ℕ) (head : Option PlainHead) (found : Option (PlainHead × ℕ)) → 0 < depth → depth ≤ depth_limit → slice_get unit at ≡ code → option_and_then (plain_by_code table) code ≡ head → option_and_then (if_within unit at) head ≡ found →
-    found ≡ plain_entry_at table depth unit at
+pub found-at : (table : Table) (depth : ℕ) (unit : List ℕ) (at : ℕ) (code : Option ℕ)
+    (head : Option PlainHead) (found : Option (PlainHead × ℕ)) → 0 < depth → depth ≤ depth_limit
+    → slice_get unit at ≡ code → option_and_then (plain_by_code table) code ≡ head
+    → option_and_then (if_within unit at) head ≡ found
+    → found ≡ plain_entry_at table depth unit at
 found-at table depth unit at code head found below within coded headed is =
     let deeper : (depth == 0) ≡ false = ne_eqb depth 0 (λ e. absurd (omega (arith, e, below))) in
     sym (rw (deeper, le-ltb depth_limit depth within, coded, headed, is) refl)

@@ -1,5 +1,6 @@
--- An attribute whose form says a layout in which no value is refused is read, or passed, by the layout alone.
-use Rattle.std.proofs.Common.{◌≡◌, ℕ, ℤ, List, [], Bool, true, false, cond, refl, ap, sym, ◌∙◌, subst}
+-- An attribute whose form says a layout in which no value is refused is read, or passed, by the
+-- layout alone.
+use Rattle.std.proofs.Common.{◌≡◌, ℕ, ℤ, List, Bool, true, false, cond, refl, ap, sym, ◌∙◌, subst}
 use Rattle.std.specs.Prelude.{Option, Some, None, Result, Ok, Err, is_some, not, ◌==◌, ◌&&◌, ◌||◌}
 use Rattle.std.specs.Option.{option_map_or}
 use Rattle.std.proofs.lemmas.Bool.{eqb-true}
@@ -15,38 +16,41 @@ use Rattle.dwarf_bytes.specs.declared.form.ValueLayout.TheVariants as layouts
 use Rattle.dwarf_bytes.specs.Bind.{◌>>=◌}
 use Rattle.dwarf_bytes.specs.Forms.{form_of, byte_len}
 use Rattle.dwarf_bytes.specs.Contents.{Content, Number, Signed, Bytes, read_as, content_at}
-use Rattle.dwarf_bytes.specs.Items.{reading, refuse_if}
+use Rattle.dwarf_bytes.specs.Items.{refuse_if}
 use Rattle.dwarf_bytes.specs.Numbers.{fixed_at, offset_at, uleb_at, cstr_at}
 use Rattle.dwarf_forms.specs.declared.values.ValueFault.{ValueFault}
 use Rattle.dwarf_forms.specs.declared.values.ValueFault.TheVariants as values
-use Rattle.dwarf_forms.specs.declared.attribute.AttributeSpecification.{AttributeSpecification}
 use Rattle.dwarf_forms.specs.Values.{Value, reading_value as of_value, direct_at, value_at}
-use Rattle.dwarf_units.specs.declared.attributes.Attribute.{Attribute}
-use Rattle.dwarf_units.specs.Attributes.{is_used, accepts, is_negative, is_negative_count, number_of, forms_of, is_among}
-use Rattle.dwarf_units.specs.Entries.{reading_value, is_direct, attribute_at}
-use Rattle.dwarf_units.specs.Private.Plans.{is_plain, known_layout, taken_at}
+use Rattle.dwarf_units.specs.Attributes.{is_used, is_negative, is_negative_count, forms_of}
+use Rattle.dwarf_units.specs.Attributes.{is_among}
+use Rattle.dwarf_units.specs.Private.Plans.{is_plain}
 
 and_false : (b : Bool) → (b && false) ≡ false
 and_false true = refl
 and_false false = refl
 
-pub never_count : (name : ℕ) (c : Content) → is_negative c ≡ false → is_negative_count name c ≡ false
+pub never_count : (name : ℕ) (c : Content) → is_negative c ≡ false
+    → is_negative_count name c ≡ false
 never_count name c h =
-    let counts : Bool = option_map_or (λ allowed. is_among allowed DW_FORM_SDATA) (forms_of name) false in
+    let counts : Bool = option_map_or (λ allowed. is_among allowed DW_FORM_SDATA) (forms_of name)
+    false in
     subst (λ (b : Bool). (counts && b) ≡ false) (sym h) (and_false counts)
 
 -- nor is a value of an attribute that is not used
 unused_count : (name : ℕ) (c : Content) → is_used name ≡ false → is_negative_count name c ≡ false
 unused_count name c unused = by_forms (forms_of name) unused
   where
-    by_forms : (forms : Option (List ℕ)) → is_some forms ≡ false → (option_map_or (λ allowed. is_among allowed DW_FORM_SDATA) forms false && is_negative c) ≡ false
+    by_forms : (forms : Option (List ℕ)) → is_some forms ≡ false
+        → (option_map_or (λ allowed. is_among allowed DW_FORM_SDATA) forms false && is_negative c)
+        ≡ false
     by_forms None h = refl
     by_forms (Some allowed) h = cc
 
 same_form : (f g : Form) → (let some : Form → Option Form = λ k. Some k in some f ≡ some g) → f ≡ g
 same_form f g h = cc
 
-pub not_indirect : (form : ℕ) (found : Form) → form_of form ≡ Some found → (found ≡ Indirect → ⊥) → (form == DW_FORM_INDIRECT) ≡ false
+pub not_indirect : (form : ℕ) (found : Form) → form_of form ≡ Some found → (found ≡ Indirect → ⊥)
+    → (form == DW_FORM_INDIRECT) ≡ false
 not_indirect form found is apart = by_test (form == DW_FORM_INDIRECT) refl
   where
     by_test : (b : Bool) → (form == DW_FORM_INDIRECT) ≡ b → b ≡ false
@@ -57,8 +61,10 @@ not_indirect form found is apart = by_test (form == DW_FORM_INDIRECT) refl
     by_test false same = refl
 
 -- the steps of reading an attribute before its value
-pub direct_chain : {A : Type 0} (test : Bool) (inner : Result (ℕ × ℕ) Cause) (form at : ℕ) (accepted : ℕ → Bool) (read : ℕ × ℕ → Result A Cause) → test ≡ false → accepted form ≡ true →
-    (cond test inner (Ok (form, at)) >>= λ f. refuse_if (not (accepted f.0)) causes.AttrForm >>= λ _. read f) ≡ read (form, at)
+pub direct_chain : {A : Type 0} (test : Bool) (inner : Result (ℕ × ℕ) Cause) (form at : ℕ)
+    (accepted : ℕ → Bool) (read : ℕ × ℕ → Result A Cause) → test ≡ false → accepted form ≡ true
+    → (cond test inner (Ok (form, at)) >>= λ f. refuse_if (not (accepted f.0)) causes.AttrForm
+    >>= λ _. read f) ≡ read (form, at)
 direct_chain test inner form at accepted read plain fine = rw (plain, fine) refl
 
 -- ---- what a plain layout reads is not negative
@@ -75,9 +81,11 @@ bytes-fine : (r : Result (List ℕ × ℕ) ReadFault) → IsNotNegative (read_as
 bytes-fine (Ok x) = refl
 bytes-fine (Err e) = tt
 
-content-fine : (layout : ValueLayout) (format : Format) (bytes : List ℕ) (at : ℕ) → is_plain layout ≡ true → IsNotNegative (content_at layout format bytes at)
+content-fine : (layout : ValueLayout) (format : Format) (bytes : List ℕ) (at : ℕ)
+    → is_plain layout ≡ true → IsNotNegative (content_at layout format bytes at)
 unfolding content_at
-content-fine (layouts.Fixed width) format bytes at h = number-fine (fixed_at (byte_len width) bytes at)
+content-fine (layouts.Fixed width) format bytes at h =
+    number-fine (fixed_at (byte_len width) bytes at)
 content-fine layouts.Offset format bytes at h = number-fine (offset_at format bytes at)
 content-fine layouts.Present format bytes at h = cc
 content-fine layouts.Signed format bytes at h = cc
@@ -89,7 +97,7 @@ content-fine layouts.LongBlock format bytes at h = cc
 
 -- ---- so none is refused of a layout that is known
 
-abbrev IsFine : ℕ → Result (Content × ℕ) ReadFault → Type 0
+abbrev pub IsFine : ℕ → Result (Content × ℕ) ReadFault → Type 0
 IsFine name (Ok c) = is_negative_count name c.0 ≡ false
 IsFine name (Err e) = Unit {0}
 
@@ -97,7 +105,9 @@ or_false : (b : Bool) → (b || false) ≡ true → b ≡ true
 or_false true h = refl
 or_false false h = h
 
-known-fine : (name : ℕ) (layout : ValueLayout) (format : Format) (bytes : List ℕ) (at : ℕ) → (is_plain layout || not (is_used name)) ≡ true → IsFine name (content_at layout format bytes at)
+pub known-fine : (name : ℕ) (layout : ValueLayout) (format : Format) (bytes : List ℕ) (at : ℕ)
+    → (is_plain layout || not (is_used name)) ≡ true
+    → IsFine name (content_at layout format bytes at)
 known-fine name layout format bytes at h = by_use (is_used name) refl h
   where
     of_plain : (r : Result (Content × ℕ) ReadFault) → IsNotNegative r → IsFine name r
@@ -108,93 +118,38 @@ known-fine name layout format bytes at h = by_use (is_used name) refl h
     of_unused unused (Ok c) = unused_count name c.0 unused
     of_unused unused (Err e) = tt
 
-    by_use : (b : Bool) → is_used name ≡ b → (is_plain layout || not b) ≡ true → IsFine name (content_at layout format bytes at)
-    by_use true used h = of_plain (content_at layout format bytes at) (content-fine layout format bytes at (or_false (is_plain layout) h))
+    by_use : (b : Bool) → is_used name ≡ b → (is_plain layout || not b) ≡ true
+        → IsFine name (content_at layout format bytes at)
+    by_use true used h = of_plain (content_at layout format bytes at)
+        (content-fine layout format bytes at (or_false (is_plain layout) h))
     by_use false unused h = of_unused unused (content_at layout format bytes at)
 
 -- ---- the value is the content
 
-value-direct : (form : ℕ) (layout : ValueLayout) (format : Format) (constant : Option ℤ) (bytes : List ℕ) (at : ℕ) → form_of form ≡ Some (Direct layout) →
-    value_at form format constant bytes at ≡ direct_at form format bytes at
+pub value-direct : (form : ℕ) (layout : ValueLayout) (format : Format) (constant : Option ℤ)
+    (bytes : List ℕ) (at : ℕ) → form_of form ≡ Some (Direct layout)
+    → value_at form format constant bytes at ≡ direct_at form format bytes at
 unfolding value_at
-value-direct form layout format constant bytes at is = ap (λ (found : Option Form). elim found as (λ _. Result (Value × ℕ) ValueFault) [
-  | None ↦ Err values.Form
-  | Some (Direct layout) ↦ direct_at form format bytes at
-  | Some ImplicitConst ↦ (elim constant as (λ _. Result (Value × ℕ) ValueFault) [ None ↦ Err values.Form | Some c ↦ Ok (record { form = form; content = Signed c }, at) ])
-  | Some Indirect ↦ of_value (uleb_at bytes at) >>= λ inner. direct_at inner.0 format bytes inner.1
-]) is
+value-direct form layout format constant bytes at is =
+    ap (λ (found : Option Form). elim found as (λ _. Result (Value × ℕ) ValueFault) [
+      | None ↦ Err values.Form
+      | Some (Direct layout) ↦ direct_at form format bytes at
+      | Some ImplicitConst ↦ (elim constant as (λ _. Result (Value × ℕ) ValueFault)
+          [ None ↦ Err values.Form | Some c ↦ Ok (record { form = form; content = Signed c }, at) ])
+      | Some Indirect ↦ of_value (uleb_at bytes at) >>= λ inner. direct_at inner.0 format bytes
+          inner.1
+    ]) is
 
-direct-content : (form : ℕ) (layout : ValueLayout) (format : Format) (bytes : List ℕ) (at : ℕ) → form_of form ≡ Some (Direct layout) →
-    direct_at form format bytes at ≡ (of_value (content_at layout format bytes at) >>= λ read. Ok (record { form = form; content = read.0 }, read.1))
+pub direct-content : (form : ℕ) (layout : ValueLayout) (format : Format) (bytes : List ℕ) (at : ℕ)
+    → form_of form ≡ Some (Direct layout)
+    → direct_at form format bytes at ≡ (of_value (content_at layout format bytes at)
+    >>= λ read. Ok (record { form = form; content = read.0 }, read.1))
 unfolding direct_at
-direct-content form layout format bytes at is = ap (λ (found : Option Form). elim found as (λ _. Result (Value × ℕ) ValueFault) [
-  | None ↦ Err values.Form
-  | Some (Direct layout) ↦ of_value (content_at layout format bytes at) >>= λ read. Ok (record { form = form; content = read.0 }, read.1)
-  | Some ImplicitConst ↦ Err values.Form
-  | Some Indirect ↦ Err values.Form
-]) is
-
--- ---- so it is not judged
-
--- a content as a value, a value as the attribute, and the same with the test between
-abbrev as_value : AttributeSpecification → Content × ℕ → Result (Value × ℕ) ValueFault
-as_value s c = Ok (record { form = s.form; content = c.0 }, c.1)
-
-abbrev as_attribute : AttributeSpecification → Content × ℕ → Result (Attribute × ℕ) Cause
-as_attribute s c = Ok (record { name = s.name; value = record { form = s.form; number = number_of c.0 c.1 } }, c.1)
-
-abbrev judged : AttributeSpecification → ℕ → Value × ℕ → Result (Attribute × ℕ) Cause
-judged s form value = refuse_if (is_negative_count s.name value.0.content) causes.AttrForm >>= λ _. Ok (record { name = s.name; value = record { form = form; number = number_of value.0.content value.1 } }, value.1)
-
-not-judged : (s : AttributeSpecification) (r : Result (Content × ℕ) ReadFault) → IsFine s.name r →
-    (reading r >>= as_attribute s) ≡ (reading_value (of_value r >>= as_value s) >>= judged s s.form)
-not-judged s (Ok c) fine = rw fine refl
-not-judged s (Err e) fine = refl
-
-known-is : (format : Format) (s : AttributeSpecification) (layout : ValueLayout) (bytes : List ℕ) (at : ℕ) → accepts s.name s.form ≡ true → form_of s.form ≡ Some (Direct layout) → (is_plain layout || not (is_used s.name)) ≡ true →
-    taken_at format s layout bytes at ≡ attribute_at format s bytes at
-known-is format s layout bytes at fine is known =
-    let rest : ℕ × ℕ → Result (Attribute × ℕ) Cause = λ form. reading_value (value_at form.0 format s.constant bytes form.1) >>= judged s form.0 in
-    let inner : Result (ℕ × ℕ) Cause = reading (uleb_at bytes at) >>= λ inner. refuse_if (not (is_direct (form_of inner.0))) causes.Form >>= λ _. Ok inner in
-    let chain = direct_chain (s.form == DW_FORM_INDIRECT) inner s.form at (λ form. accepts s.name form) rest (not_indirect s.form (Direct layout) is (λ e. cc)) fine in
-    let read : value_at s.form format s.constant bytes at ≡ (of_value (content_at layout format bytes at) >>= as_value s) =
-    value-direct s.form layout format s.constant bytes at is ∙ direct-content s.form layout format bytes at is in
-    not-judged s (content_at layout format bytes at) (known-fine s.name layout format bytes at known)
-    ∙ sym (ap (λ (r : Result (Value × ℕ) ValueFault). reading_value r >>= judged s s.form) read) ∙ sym chain
-
-same_layout : (l k : ValueLayout) → (let some : ValueLayout → Option ValueLayout = λ x. Some x in some l ≡ some k) → l ≡ k
-same_layout l k h = cc
-
-pub taken-is : (format : Format) (s : AttributeSpecification) (layout : ValueLayout) (bytes : List ℕ) (at : ℕ) → known_layout s ≡ Some layout →
-    taken_at format s layout bytes at ≡ attribute_at format s bytes at
-taken-is format s layout bytes at h = by_form (accepts s.name s.form) refl (form_of s.form) refl h
-  where
-    by_known : accepts s.name s.form ≡ true → (l : ValueLayout) → form_of s.form ≡ Some (Direct l) → (b : Bool) → (is_plain l || not (is_used s.name)) ≡ b → cond b (Some l) None ≡ Some layout →
-        taken_at format s layout bytes at ≡ attribute_at format s bytes at
-    by_known fine l is false known h = cc
-    by_known fine l is true known h =
-        subst (λ (k : ValueLayout). taken_at format s k bytes at ≡ attribute_at format s bytes at) (same_layout l layout h) (known-is format s l bytes at fine is known)
-
-    by_form : (b : Bool) → accepts s.name s.form ≡ b → (found : Option Form) → form_of s.form ≡ found → cond b (elim found as (λ _. Option ValueLayout) [
-      | None ↦ None
-      | Some (Direct layout) ↦ cond (is_plain layout || not (is_used s.name)) (Some layout) None
-      | Some ImplicitConst ↦ None
-      | Some Indirect ↦ None
-    ]) None ≡ Some layout → taken_at format s layout bytes at ≡ attribute_at format s bytes at
-    by_form false fine found is h = cc
-    by_form true fine None is h = cc
-    by_form true fine (Some (Direct l)) is h = by_known fine l is (is_plain l || not (is_used s.name)) refl h
-    by_form true fine (Some ImplicitConst) is h = cc
-    by_form true fine (Some Indirect) is h = cc
-
--- what is behind a value, where it is not kept
-abbrev pub none_behind : {X : Type 0} → X × ℕ → Result (List Attribute × ℕ) Cause
-none_behind x = Ok ([], x.1)
-
-pub passed-is : (format : Format) (s : AttributeSpecification) (layout : ValueLayout) (bytes : List ℕ) (at : ℕ) → known_layout s ≡ Some layout →
-    (reading (content_at layout format bytes at) >>= none_behind) ≡ (attribute_at format s bytes at >>= none_behind)
-passed-is format s layout bytes at h = by_read (reading (content_at layout format bytes at)) ∙ ap (λ (r : Result (Attribute × ℕ) Cause). r >>= none_behind) (taken-is format s layout bytes at h)
-  where
-    by_read : (r : Result (Content × ℕ) Cause) → (r >>= none_behind) ≡ ((r >>= as_attribute s) >>= none_behind)
-    by_read (Ok c) = refl
-    by_read (Err e) = refl
+direct-content form layout format bytes at is =
+    ap (λ (found : Option Form). elim found as (λ _. Result (Value × ℕ) ValueFault) [
+      | None ↦ Err values.Form
+      | Some (Direct layout) ↦ of_value (content_at layout format bytes at)
+          >>= λ read. Ok (record { form = form; content = read.0 }, read.1)
+      | Some ImplicitConst ↦ Err values.Form
+      | Some Indirect ↦ Err values.Form
+    ]) is

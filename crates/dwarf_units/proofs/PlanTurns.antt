@@ -1,5 +1,6 @@
 -- The turns of the loops over steps.
-use Rattle.std.proofs.Common.{◌≡◌, ℕ, ◌≤◌, List, [], ◌∷◌, ◌++◌, Bool, length, take, drop, refl, ap, sym, ◌∙◌, subst, append_assoc, arith, inl, inr}
+use Rattle.std.proofs.Common.{◌≡◌, ℕ, ◌≤◌, List, [], ◌∷◌, ◌++◌, Bool, length, take, drop, refl, ap}
+use Rattle.std.proofs.Common.{sym, ◌∙◌, subst, append_assoc, arith, inl, inr}
 use Rattle.std.proofs.lemmas.List.{drop_all, take-append-drop}
 use Rattle.std.proofs.Math.Seq.{take-append_seam, drop-append_seam}
 use Rattle.std.specs.Prelude.{Result, Ok, Err}
@@ -12,31 +13,44 @@ use Rattle.dwarf_bytes.proofs.Moves.{same_ok}
 use Rattle.dwarf_forms.specs.declared.attribute.AttributeSpecification.{AttributeSpecification}
 use Rattle.dwarf_units.specs.declared.attributes.Attribute.{Attribute}
 use Rattle.dwarf_units.specs.declared.steps.AttributeStep.{AttributeStep}
-use Rattle.dwarf_units.specs.Private.Plans.{step_at, steps_at, in_front, step_of, step_before, steps_of, Fills}
-use Rattle.dwarf_units.specs.Private.Used.{Used, used_among, with_used, used_behind, used_attributes_at}
+use Rattle.dwarf_units.specs.Private.Plans.{step_at, steps_at, in_front, step_of, step_before}
+use Rattle.dwarf_units.specs.Private.Plans.{steps_of, Fills}
+use Rattle.dwarf_units.specs.Private.Used.{Used, used_among, with_used, used_behind}
+use Rattle.dwarf_units.specs.Private.Used.{used_attributes_at}
 use Rattle.dwarf_units.proofs.PlanLaws.{kept-is, steps-both}
 use Rattle.dwarf_units.proofs.UsedLaws.{among-behind, with-none, with-twice}
 
 -- what was used, in front of what the steps that are left keep, is the whole
-abbrev pub KeptSoFar : Format → List AttributeStep → List ℕ → Used → ℕ → Result (Used × ℕ) Cause → Type 0
-KeptSoFar format left bytes used place whole = used_behind used (steps_at format left bytes place) ≡ whole
+abbrev pub KeptSoFar : Format → List AttributeStep → List ℕ → Used → ℕ → Result (Used × ℕ) Cause
+    → Type 0
+KeptSoFar format left bytes used place whole = used_behind used (steps_at format left bytes place)
+    ≡ whole
 
-used-twice : (used : Used) (xs : List Attribute) (r : Result (List Attribute × ℕ) Cause) → used_behind used (in_front xs r) ≡ used_behind (with_used used xs) r
+used-twice : (used : Used) (xs : List Attribute) (r : Result (List Attribute × ℕ) Cause)
+    → used_behind used (in_front xs r) ≡ used_behind (with_used used xs) r
 used-twice used xs (Ok rest) = ap (λ all. Ok (all, rest.1)) (sym (with-twice used xs rest.0))
 used-twice used xs (Err e) = refl
 
 -- a step that was taken
-pub kept-more : (format : Format) (step : AttributeStep) (left behind : List AttributeStep) (bytes : List ℕ) (used kept : Used) (old new : Position) (whole : Result (Used × ℕ) Cause) → left ≡ step ∷ behind → old.bytes ≡ bytes →
-    KeptSoFar format left bytes used old.place whole → used_behind used (step_at format step old.bytes old.place) ≡ Ok (kept, new.place) → KeptSoFar format behind bytes kept new.place whole
+pub kept-more : (format : Format) (step : AttributeStep) (left behind : List AttributeStep)
+    (bytes : List ℕ) (used kept : Used) (old new : Position) (whole : Result (Used × ℕ) Cause)
+    → left ≡ step ∷ behind → old.bytes ≡ bytes
+    → KeptSoFar format left bytes used old.place whole
+    → used_behind used (step_at format step old.bytes old.place) ≡ Ok (kept, new.place)
+    → KeptSoFar format behind bytes kept new.place whole
 unfolding steps_at
 kept-more format step left behind bytes used kept old new whole parts same so_far read =
-    sym (by_step (step_at format step bytes old.place) here) ∙ (ap (λ (l : List AttributeStep). used_behind used (steps_at format l bytes old.place)) (sym parts) ∙ so_far)
+    sym (by_step (step_at format step bytes old.place) here)
+    ∙ (ap (λ (l : List AttributeStep). used_behind used (steps_at format l bytes old.place))
+    (sym parts) ∙ so_far)
   where
     here : used_behind used (step_at format step bytes old.place) ≡ Ok (kept, new.place)
-    here = subst (λ (b : List ℕ). used_behind used (step_at format step b old.place) ≡ Ok (kept, new.place)) same read
+    here = subst (λ (b : List ℕ). used_behind used (step_at format step b old.place)
+        ≡ Ok (kept, new.place)) same read
 
-    by_step : (r : Result (List Attribute × ℕ) Cause) → used_behind used r ≡ Ok (kept, new.place) →
-        used_behind used (r >>= λ first. in_front first.0 (steps_at format behind bytes first.1)) ≡ used_behind kept (steps_at format behind bytes new.place)
+    by_step : (r : Result (List Attribute × ℕ) Cause) → used_behind used r ≡ Ok (kept, new.place)
+        → used_behind used (r >>= λ first. in_front first.0 (steps_at format behind bytes first.1))
+        ≡ used_behind kept (steps_at format behind bytes new.place)
     by_step (Ok step) is =
         let both = same_ok (with_used used step.0, step.1) (kept, new.place) is in
         let all : with_used used step.0 ≡ kept = ap (λ (x : Used × ℕ). x.0) both in
@@ -45,75 +59,128 @@ kept-more format step left behind bytes used kept old new whole parts same so_fa
     by_step (Err e) is = cc
 
 -- a step that was refused, or for which memory ran out
-pub kept-fault : (format : Format) (step : AttributeStep) (left behind : List AttributeStep) (bytes : List ℕ) (used : Used) (old : Position) (cause : Cause) (whole : Result (Used × ℕ) Cause) → left ≡ step ∷ behind → old.bytes ≡ bytes →
-    KeptSoFar format left bytes used old.place whole → Fails cause (used_behind used (step_at format step old.bytes old.place)) → Fails cause whole
+pub kept-fault : (format : Format) (step : AttributeStep) (left behind : List AttributeStep)
+    (bytes : List ℕ) (used : Used) (old : Position) (cause : Cause)
+    (whole : Result (Used × ℕ) Cause) → left ≡ step ∷ behind → old.bytes ≡ bytes
+    → KeptSoFar format left bytes used old.place whole
+    → Fails cause (used_behind used (step_at format step old.bytes old.place)) → Fails cause whole
 unfolding steps_at
-kept-fault format step left behind bytes used old cause whole parts same so_far (inl memory) = inl memory
+kept-fault format step left behind bytes used old cause whole parts same so_far (inl memory) =
+    inl memory
 kept-fault format step left behind bytes used old cause whole parts same so_far (inr read) =
-    inr (sym so_far ∙ (ap (λ (l : List AttributeStep). used_behind used (steps_at format l bytes old.place)) parts ∙ by_step (step_at format step bytes old.place) here))
+    inr (sym so_far ∙ (ap (λ (l : List AttributeStep). used_behind used
+    (steps_at format l bytes old.place)) parts ∙ by_step (step_at format step bytes old.place)
+    here))
   where
     here : used_behind used (step_at format step bytes old.place) ≡ Err cause
-    here = subst (λ (b : List ℕ). used_behind used (step_at format step b old.place) ≡ Err cause) same read
+    here = subst (λ (b : List ℕ). used_behind used (step_at format step b old.place) ≡ Err cause)
+        same read
 
-    by_step : (r : Result (List Attribute × ℕ) Cause) → used_behind used r ≡ Err cause → used_behind used (r >>= λ first. in_front first.0 (steps_at format behind bytes first.1)) ≡ Err cause
+    by_step : (r : Result (List Attribute × ℕ) Cause) → used_behind used r ≡ Err cause
+        → used_behind used (r >>= λ first. in_front first.0 (steps_at format behind bytes first.1))
+        ≡ Err cause
     by_step (Ok step) is = cc
     by_step (Err e) is = is
 
-pub kept-end : (format : Format) (left : List AttributeStep) (bytes : List ℕ) (used : Used) (place : ℕ) (whole : Result (Used × ℕ) Cause) → left ≡ [] → KeptSoFar format left bytes used place whole → whole ≡ Ok (used, place)
+pub kept-end : (format : Format) (left : List AttributeStep) (bytes : List ℕ) (used : Used)
+    (place : ℕ) (whole : Result (Used × ℕ) Cause) → left ≡ []
+    → KeptSoFar format left bytes used place whole → whole ≡ Ok (used, place)
 unfolding steps_at
 kept-end format left bytes used place whole none so_far =
-    sym so_far ∙ (ap (λ (l : List AttributeStep). used_behind used (steps_at format l bytes place)) none ∙ ap (λ (all : Used). Ok (all, place)) (with-none used))
+    sym so_far ∙ (ap (λ (l : List AttributeStep). used_behind used (steps_at format l bytes place))
+    none ∙ ap (λ (all : Used). Ok (all, place)) (with-none used))
 
 -- ---- own attributes, and those behind them
 
 -- what is used of a read, where nothing was before it
-used-first : (r : Result (List Attribute × ℕ) Cause) → used_behind (used_among []) r ≡ (r >>= λ kept. Ok (used_among kept.0, kept.1))
+used-first : (r : Result (List Attribute × ℕ) Cause) → used_behind (used_among []) r
+    ≡ (r >>= λ kept. Ok (used_among kept.0, kept.1))
 used-first (Ok kept) = ap (λ all. Ok (all, kept.1)) (among-behind [] kept.0)
 used-first (Err e) = refl
 
 -- those of own attributes, in front of what is kept of the rest
-both-is : (keep : Bool) (format : Format) (own rest : List AttributeSpecification) (bytes : List ℕ) (first : ℕ) (here : Result (Used × ℕ) Cause) → first ≤ length bytes → used_behind (used_among []) (steps_at format (steps_of keep format own) bytes first) ≡ here →
-    used_attributes_at keep format (own ++ rest) bytes first ≡ (here >>= λ next. used_behind next.0 (steps_at format (steps_of keep format rest) bytes next.1))
+both-is : (keep : Bool) (format : Format) (own rest : List AttributeSpecification) (bytes : List ℕ)
+    (first : ℕ) (here : Result (Used × ℕ) Cause) → first ≤ length bytes
+    → used_behind (used_among []) (steps_at format (steps_of keep format own) bytes first) ≡ here
+    → used_attributes_at keep format (own ++ rest) bytes first
+    ≡ (here >>= λ next. used_behind next.0
+    (steps_at format (steps_of keep format rest) bytes next.1))
 both-is keep format own rest bytes first here within is =
-    ap (λ (r : Result (List Attribute × ℕ) Cause). r >>= λ kept. Ok (used_among kept.0, kept.1)) (sym (kept-is keep format (own ++ rest) bytes first within) ∙ steps-both keep format own rest bytes first)
+    ap (λ (r : Result (List Attribute × ℕ) Cause). r >>= λ kept. Ok (used_among kept.0, kept.1))
+    (sym (kept-is keep format (own ++ rest) bytes first within)
+    ∙ steps-both keep format own rest bytes first)
     ∙ (by_own (steps_at format (steps_of keep format own) bytes first)
-    ∙ ap (λ (r : Result (Used × ℕ) Cause). r >>= λ next. used_behind next.0 (steps_at format (steps_of keep format rest) bytes next.1)) is)
+    ∙ ap (λ (r : Result (Used × ℕ) Cause). r >>= λ next. used_behind next.0
+    (steps_at format (steps_of keep format rest) bytes next.1)) is)
   where
     behind : ℕ → Result (List Attribute × ℕ) Cause
     behind place = steps_at format (steps_of keep format rest) bytes place
 
-    by_own : (r : Result (List Attribute × ℕ) Cause) → ((r >>= λ next. in_front next.0 (behind next.1)) >>= λ kept. Ok (used_among kept.0, kept.1)) ≡ (used_behind (used_among []) r >>= λ next. used_behind next.0 (behind next.1))
-    by_own (Ok next) = sym (used-first (in_front next.0 (behind next.1))) ∙ used-twice (used_among []) next.0 (behind next.1)
+    by_own : (r : Result (List Attribute × ℕ) Cause)
+        → ((r >>= λ next. in_front next.0 (behind next.1))
+        >>= λ kept. Ok (used_among kept.0, kept.1))
+        ≡ (used_behind (used_among []) r >>= λ next. used_behind next.0 (behind next.1))
+    by_own (Ok next) = sym (used-first (in_front next.0 (behind next.1)))
+        ∙ used-twice (used_among []) next.0 (behind next.1)
     by_own (Err e) = refl
 
-pub own-fault : (keep : Bool) (format : Format) (own rest : List AttributeSpecification) (bytes : List ℕ) (first : ℕ) (cause : Cause) → first ≤ length bytes → Fails cause (used_behind (used_among []) (steps_at format (steps_of keep format own) bytes first)) →
-    Fails cause (used_attributes_at keep format (own ++ rest) bytes first)
+pub own-fault : (keep : Bool) (format : Format) (own rest : List AttributeSpecification)
+    (bytes : List ℕ) (first : ℕ) (cause : Cause) → first ≤ length bytes
+    → Fails cause (used_behind (used_among [])
+    (steps_at format (steps_of keep format own) bytes first))
+    → Fails cause (used_attributes_at keep format (own ++ rest) bytes first)
 own-fault keep format own rest bytes first cause within (inl memory) = inl memory
-own-fault keep format own rest bytes first cause within (inr here) = inr (both-is keep format own rest bytes first (Err cause) within here)
+own-fault keep format own rest bytes first cause within (inr here) =
+    inr (both-is keep format own rest bytes first (Err cause) within here)
 
 -- what was kept of each is what is kept of all
-pub read-both : (keep : Bool) (format : Format) (own rest : List AttributeSpecification) (old mid new : Position) (kept used : Used) (result : Result (Unit {0}) Cause) → old.place ≤ length old.bytes → used_behind (used_among []) (steps_at format (steps_of keep format own) old.bytes old.place) ≡ Ok (kept, mid.place) →
-    mid.bytes ≡ old.bytes → Fills result used (λ bytes at. used_behind kept (steps_at format (steps_of keep format rest) bytes at)) mid new → Fills result used (used_attributes_at keep format (own ++ rest)) old new
+pub read-both : (keep : Bool) (format : Format) (own rest : List AttributeSpecification)
+    (old mid new : Position) (kept used : Used) (result : Result (Unit {0}) Cause)
+    → old.place ≤ length old.bytes → used_behind (used_among [])
+    (steps_at format (steps_of keep format own) old.bytes old.place) ≡ Ok (kept, mid.place)
+    → mid.bytes ≡ old.bytes → Fills result used
+    (λ bytes at. used_behind kept (steps_at format (steps_of keep format rest) bytes at)) mid
+    new → Fills result used (used_attributes_at keep format (own ++ rest)) old new
 read-both keep format own rest old mid new kept used (Ok u) within here same behind = (
-  both-is keep format own rest old.bytes old.place (Ok (kept, mid.place)) within here ∙ subst (λ (b : List ℕ). used_behind kept (steps_at format (steps_of keep format rest) b mid.place) ≡ Ok (used, new.place)) same behind.0,
+  both-is keep format own rest old.bytes old.place (Ok (kept, mid.place)) within here
+      ∙ subst (λ (b : List ℕ). used_behind kept
+      (steps_at format (steps_of keep format rest) b mid.place) ≡ Ok (used, new.place)) same
+      behind.0,
   behind.1 ∙ same,
 )
-read-both keep format own rest old mid new kept used (Err cause) within here same (inl memory) = inl memory
+read-both keep format own rest old mid new kept used (Err cause) within here same (inl memory) =
+    inl memory
 read-both keep format own rest old mid new kept used (Err cause) within here same (inr behind) =
-    inr (both-is keep format own rest old.bytes old.place (Ok (kept, mid.place)) within here ∙ subst (λ (b : List ℕ). used_behind kept (steps_at format (steps_of keep format rest) b mid.place) ≡ Err cause) same behind)
+    inr (both-is keep format own rest old.bytes old.place (Ok (kept, mid.place)) within here
+    ∙ subst (λ (b : List ℕ). used_behind kept
+    (steps_at format (steps_of keep format rest) b mid.place) ≡ Err cause) same behind)
 
 -- ---- the steps of a declaration, made from its last attribute on
 
-pub made-none : (keep : Bool) (format : Format) (declared : List AttributeSpecification) → [] ≡ steps_of keep format (drop (length declared) declared)
+pub made-none : (keep : Bool) (format : Format) (declared : List AttributeSpecification)
+    → [] ≡ steps_of keep format (drop (length declared) declared)
 unfolding steps_of
 made-none keep format declared = rw (drop_all (length declared) declared (omega arith)) refl
 
-pub made-more : (keep : Bool) (format : Format) (declared left before : List AttributeSpecification) (s : AttributeSpecification) (steps more : List AttributeStep) → left ≡ take (length left) declared → left ≡ before ++ s ∷ [] →
-    steps ≡ steps_of keep format (drop (length left) declared) → more ≡ step_before (step_of keep format s) steps → (before ≡ take (length before) declared) × (more ≡ steps_of keep format (drop (length before) declared))
+pub made-more : (keep : Bool) (format : Format) (declared left before : List AttributeSpecification)
+    (s : AttributeSpecification) (steps more : List AttributeStep)
+    → left ≡ take (length left) declared → left ≡ before ++ s ∷ []
+    → steps ≡ steps_of keep format (drop (length left) declared)
+    → more ≡ step_before (step_of keep format s) steps → (before ≡ take (length before) declared)
+    × (more ≡ steps_of keep format (drop (length before) declared))
 unfolding steps_of
 made-more keep format declared left before s steps more front parts made next =
     let rest : List AttributeSpecification = drop (length left) declared in
-    let whole : declared ≡ before ++ (s ∷ rest) = sym (take-append-drop (length left) declared) ∙ ap (λ (l : List AttributeSpecification). l ++ rest) (sym front ∙ parts) ∙ append_assoc before (s ∷ []) rest in
-    let taken : take (length before) declared ≡ before = ap (λ (l : List AttributeSpecification). take (length before) l) whole ∙ take-append_seam before (s ∷ rest) in
-    let dropped : drop (length before) declared ≡ s ∷ rest = ap (λ (l : List AttributeSpecification). drop (length before) l) whole ∙ drop-append_seam before (s ∷ rest) in
-    (sym taken, next ∙ ap (λ (l : List AttributeStep). step_before (step_of keep format s) l) made ∙ ap (λ (l : List AttributeSpecification). steps_of keep format l) (sym dropped))
+    let whole : declared ≡ before ++ (s ∷ rest) = sym (take-append-drop (length left) declared)
+    ∙ ap (λ (l : List AttributeSpecification). l ++ rest) (sym front ∙ parts)
+    ∙ append_assoc before (s ∷ []) rest in
+    let taken : take (length before) declared ≡ before =
+    ap (λ (l : List AttributeSpecification). take (length before) l) whole
+    ∙ take-append_seam before (s ∷ rest) in
+    let dropped : drop (length before) declared ≡ s ∷ rest =
+    ap (λ (l : List AttributeSpecification). drop (length before) l) whole
+    ∙ drop-append_seam before (s ∷ rest) in (
+      sym taken,
+      next ∙ ap (λ (l : List AttributeStep). step_before (step_of keep format s) l) made
+          ∙ ap (λ (l : List AttributeSpecification). steps_of keep format l) (sym dropped),
+    )

@@ -1,6 +1,8 @@
 -- Tables whose declarations share attributes, as tables that have all of them.
-use Rattle.std.proofs.Common.{◌≡◌, ℕ, suc, ◌+◌, List, [], ◌∷◌, ◌++◌, length, take, refl, ap, sym, ◌∙◌, subst, arith, append-nil, cond}
-use Rattle.std.specs.Prelude.{Bool, true, false, ◌==◌, Option, Some, None, IfSome, map, find, position, option_map, slice_get, sum_by}
+use Rattle.std.proofs.Common.{◌≡◌, ℕ, suc, ◌+◌, List, [], ◌∷◌, ◌++◌, length, take, refl, ap, sym}
+use Rattle.std.proofs.Common.{◌∙◌, subst, arith, append-nil, cond}
+use Rattle.std.specs.Prelude.{Bool, true, false, ◌==◌, Option, Some, None, IfSome, map, find}
+use Rattle.std.specs.Prelude.{position, option_map, slice_get, sum_by}
 use Rattle.std.specs.List.{All}
 use Rattle.std.proofs.Math.Seq.{take-append_seam}
 use Rattle.std.proofs.lemmas.List.{length-map, take_all}
@@ -18,45 +20,66 @@ use Rattle.dwarf_forms.proofs.SharedTableLaws.{told-grows, told-stays}
 use Rattle.dwarf_units.specs.Entries.{declaration_of}
 use Rattle.dwarf_units.specs.Private.Heads.{Head, head_in}
 use Rattle.dwarf_units.specs.Private.Links.{IsLinked, LinkedPlaces, LinksGrow}
-use Rattle.dwarf_units.specs.Private.Plans.{Planned, Table, own_attributes, plan_len, plan_of, table_size}
-use Rattle.dwarf_units.specs.Private.SharedTables.{IsReadable, SharedTable, own_size, told_table, told_tables}
+use Rattle.dwarf_units.specs.Private.Plans.{Planned, Table, own_attributes, plan_len, plan_of}
+use Rattle.dwarf_units.specs.Private.Plans.{table_size}
+use Rattle.dwarf_units.specs.Private.SharedTables.{IsReadable, SharedTable, own_size, told_table}
+use Rattle.dwarf_units.specs.Private.SharedTables.{told_tables}
 
 -- the declaration of a code, and how its attributes are read, by its place
-pub planned_at : {D : Type 0} (p : D → Bool) (plan_for : D → Planned) (table : List D) (plans : List Planned) (place : ℕ) (declaration : D) (plan : Planned) → position p table ≡ Some place → plans ≡ map plan_for table → slice_get table place ≡ Some declaration → slice_get plans place ≡ Some plan →
-    (find p table ≡ Some declaration) × (plan ≡ plan_for declaration)
+pub planned_at : {D : Type 0} (p : D → Bool) (plan_for : D → Planned) (table : List D)
+    (plans : List Planned) (place : ℕ) (declaration : D) (plan : Planned)
+    → position p table ≡ Some place → plans ≡ map plan_for table
+    → slice_get table place ≡ Some declaration → slice_get plans place ≡ Some plan
+    → (find p table ≡ Some declaration) × (plan ≡ plan_for declaration)
 planned_at p plan_for table plans place declaration plan at are here planned = (
   find-place p table (Some place) at ∙ here,
-  same_some (sym planned ∙ (ap (λ (ps : List Planned). slice_get ps place) are ∙ (slice_get-map plan_for table place ∙ ap (λ d. option_map plan_for d) here))),
+  same_some (sym planned ∙ (ap (λ (ps : List Planned). slice_get ps place) are
+      ∙ (slice_get-map plan_for table place ∙ ap (λ d. option_map plan_for d) here))),
 )
   where
-    same_some : {x y : Planned} → (let f : Planned → Option Planned = λ t. Some t in f x ≡ f y) → x ≡ y
+    same_some : {x y : Planned} → (let f : Planned → Option Planned = λ t. Some t in f x ≡ f y)
+        → x ≡ y
     same_some h = cc
 
 -- .. among declarations with all attributes
-pub found_told : (known : List KnownAttribute) (code : ℕ) (ds : List SharedDeclaration) (found : Option SharedDeclaration) → find (λ d. d.code == code) ds ≡ found → find (λ d. d.code == code) (tell known ds) ≡ option_map (told known) found
+pub found_told : (known : List KnownAttribute) (code : ℕ) (ds : List SharedDeclaration)
+    (found : Option SharedDeclaration) → find (λ d. d.code == code) ds ≡ found
+    → find (λ d. d.code == code) (tell known ds) ≡ option_map (told known) found
 found_told known code ds found is = find-told ds ∙ ap (λ o. option_map (told known) o) is
   where
-    find-told : (ds : List SharedDeclaration) → find (λ (d : Declaration). d.code == code) (tell known ds) ≡ option_map (told known) (find (λ d. d.code == code) ds)
+    find-told : (ds : List SharedDeclaration)
+        → find (λ (d : Declaration). d.code == code) (tell known ds)
+        ≡ option_map (told known) (find (λ d. d.code == code) ds)
     find-told [] = refl
     find-told (d ∷ ds) = by_test (d.code == code) (find-told ds)
       where
-        by_test : (b : Bool) → find (λ (d : Declaration). d.code == code) (tell known ds) ≡ option_map (told known) (find (λ d. d.code == code) ds) →
-            cond b (Some (told known d)) (find (λ (d : Declaration). d.code == code) (tell known ds)) ≡ option_map (told known) (cond b (Some d) (find (λ d. d.code == code) ds))
+        by_test : (b : Bool) → find (λ (d : Declaration). d.code == code) (tell known ds)
+            ≡ option_map (told known) (find (λ d. d.code == code) ds)
+            → cond b (Some (told known d))
+            (find (λ (d : Declaration). d.code == code) (tell known ds))
+            ≡ option_map (told known) (cond b (Some d) (find (λ d. d.code == code) ds))
         by_test true rest = refl
         by_test false rest = rest
 
 abbrev heads_by : Table → Option Declaration → Option Head
 heads_by table found = option_map (head_in table) found
 
-pub head_found : (known : List KnownAttribute) (shared : SharedTable) (table : Table) (code : ℕ) (found : Option SharedDeclaration) → told_table known shared ≡ table → find (λ d. d.code == code) shared.declarations ≡ found →
-    heads_by (told_table known shared) (option_map (told known) found) ≡ option_map (head_in table) (declaration_of table.declarations code)
+pub head_found : (known : List KnownAttribute) (shared : SharedTable) (table : Table) (code : ℕ)
+    (found : Option SharedDeclaration) → told_table known shared ≡ table
+    → find (λ d. d.code == code) shared.declarations ≡ found
+    → heads_by (told_table known shared) (option_map (told known) found)
+    ≡ option_map (head_in table) (declaration_of table.declarations code)
 head_found known shared table code found view is =
-    ap (heads_by (told_table known shared)) (sym (found_told known code shared.declarations found is)) ∙ ap (λ (t : Table). heads_by t (declaration_of t.declarations code)) view
+    ap (heads_by (told_table known shared))
+    (sym (found_told known code shared.declarations found is))
+    ∙ ap (λ (t : Table). heads_by t (declaration_of t.declarations code)) view
 
 -- what is true of all is true of one that is found
-pub all_found : {D : Type 0} (P : D → Type 0) (p : D → Bool) (xs : List D) (x : D) → All P xs → find p xs ≡ Some x → P x
+pub all_found : {D : Type 0} (P : D → Type 0) (p : D → Bool) (xs : List D) (x : D) → All P xs
+    → find p xs ≡ Some x → P x
 all_found P p [] x all is = cc
-all_found P p (y ∷ ys) x all is = by_test (λ rest. all_found P p ys x (λ k d lt. all (suc k) d (omega (arith, lt))) rest) (p y) is
+all_found P p (y ∷ ys) x all is = by_test
+    (λ rest. all_found P p ys x (λ k d lt. all (suc k) d (omega (arith, lt))) rest) (p y) is
   where
     same_some : {D : Type 0} (a b : D) → (let f : D → Option D = λ t. Some t in f a ≡ f b) → a ≡ b
     same_some a b h = cc
@@ -68,44 +91,73 @@ all_found P p (y ∷ ys) x all is = by_test (λ rest. all_found P p ys x (λ k d
 -- ---- the size of a table
 
 -- by what its declarations and plans are
-pub size_sum : (inner table : SharedTable) (ds : List SharedDeclaration) (plans : List Planned) (len attributes steps : ℕ) → inner ≡ table → ds ≡ inner.declarations → plans ≡ map (λ d. plan_of inner.format d.list.own) inner.declarations →
-    len ≡ length table.declarations → attributes ≡ sum_by (λ d. length d.list.own) ds → steps ≡ sum_by plan_len plans → len + attributes + steps ≡ own_size table
-size_sum inner table ds plans len attributes steps view same planned len_is attributes_are steps_are =
+pub size_sum : (inner table : SharedTable) (ds : List SharedDeclaration) (plans : List Planned)
+    (len attributes steps : ℕ) → inner ≡ table → ds ≡ inner.declarations
+    → plans ≡ map (λ d. plan_of inner.format d.list.own) inner.declarations
+    → len ≡ length table.declarations → attributes ≡ sum_by (λ d. length d.list.own) ds
+    → steps ≡ sum_by plan_len plans → len + attributes + steps ≡ own_size table
+size_sum inner table ds plans len attributes steps view same planned len_is attributes_are
+    steps_are =
     let a : attributes ≡ sum_by (λ (d : SharedDeclaration). length d.list.own) table.declarations =
-    attributes_are ∙ ap (λ (xs : List SharedDeclaration). sum_by (λ (d : SharedDeclaration). length d.list.own) xs) (same ∙ ap (λ (t : SharedTable). t.declarations) view) in
-    let s : steps ≡ sum_by (λ (d : SharedDeclaration). plan_len (plan_of table.format d.list.own)) table.declarations =
+    attributes_are ∙ ap (λ (xs : List SharedDeclaration). sum_by
+    (λ (d : SharedDeclaration). length d.list.own) xs)
+    (same ∙ ap (λ (t : SharedTable). t.declarations) view) in
+    let s : steps ≡ sum_by (λ (d : SharedDeclaration). plan_len (plan_of table.format d.list.own))
+    table.declarations =
     steps_are ∙ (ap (λ (ps : List Planned). sum_by plan_len ps) planned
-    ∙ (fold-map (λ (a : ℕ) (p : Planned). a + plan_len p) (λ (d : SharedDeclaration). plan_of inner.format d.list.own) 0 inner.declarations
-    ∙ ap (λ (t : SharedTable). sum_by (λ (d : SharedDeclaration). plan_len (plan_of t.format d.list.own)) t.declarations) view)) in
+    ∙ (fold-map (λ (a : ℕ) (p : Planned). a + plan_len p)
+    (λ (d : SharedDeclaration). plan_of inner.format d.list.own) 0 inner.declarations
+    ∙ ap (λ (t : SharedTable). sum_by (λ (d : SharedDeclaration). plan_len
+    (plan_of t.format d.list.own)) t.declarations) view)) in
     omega (arith, len_is, a, s)
 
 -- the attributes that a declaration has itself are the first ones of all
-own-first : (known : List KnownAttribute) (list : SharedAttributes) → IsShared known list → take UNSHARED (all_of known list) ≡ list.own
+own-first : (known : List KnownAttribute) (list : SharedAttributes) → IsShared known list
+    → take UNSHARED (all_of known list) ≡ list.own
 own-first known list is = by_rest list.rest is.full
   where
-    by_rest : (rest : Option ℕ) → IfSome rest (λ _. length list.own ≡ UNSHARED) → take UNSHARED (list.own ++ rest_attributes known rest) ≡ list.own
+    by_rest : (rest : Option ℕ) → IfSome rest (λ _. length list.own ≡ UNSHARED)
+        → take UNSHARED (list.own ++ rest_attributes known rest) ≡ list.own
     by_rest None full = ap (take UNSHARED) (append-nil list.own) ∙ take_all UNSHARED list.own is.few
-    by_rest (Some number) full = subst (λ (n : ℕ). take n (list.own ++ rest_attributes known (Some number)) ≡ list.own) full (take-append_seam list.own (rest_attributes known (Some number)))
+    by_rest (Some number) full = subst (λ (n : ℕ). take n
+        (list.own ++ rest_attributes known (Some number)) ≡ list.own) full
+        (take-append_seam list.own (rest_attributes known (Some number)))
 
-own-lists : (known : List KnownAttribute) (ds : List SharedDeclaration) → AreTold known ds → map own_attributes (tell known ds) ≡ map (λ d. d.list.own) ds
+own-lists : (known : List KnownAttribute) (ds : List SharedDeclaration) → AreTold known ds
+    → map own_attributes (tell known ds) ≡ map (λ d. d.list.own) ds
 own-lists known [] are = refl
 own-lists known (d ∷ ds) are =
-    let first : own_attributes (told known d) ≡ d.list.own = own-first known d.list (are 0 d (omega arith)) in
-    let rest : map own_attributes (tell known ds) ≡ map (λ (d : SharedDeclaration). d.list.own) ds = own-lists known ds (λ k e lt. are (suc k) e (omega (arith, lt))) in
+    let first : own_attributes (told known d) ≡ d.list.own =
+    own-first known d.list (are 0 d (omega arith)) in
+    let rest : map own_attributes (tell known ds) ≡ map (λ (d : SharedDeclaration). d.list.own) ds =
+    own-lists known ds (λ k e lt. are (suc k) e (omega (arith, lt))) in
     rw (first, rest) refl
 
-own-sum : (known : List KnownAttribute) (ds : List SharedDeclaration) (size : List AttributeSpecification → ℕ) → AreTold known ds → sum_by (λ d. size (own_attributes d)) (tell known ds) ≡ sum_by (λ d. size d.list.own) ds
+own-sum : (known : List KnownAttribute) (ds : List SharedDeclaration)
+    (size : List AttributeSpecification → ℕ) → AreTold known ds
+    → sum_by (λ d. size (own_attributes d)) (tell known ds) ≡ sum_by (λ d. size d.list.own) ds
 own-sum known ds size are =
-    sym (fold-map (λ (a : ℕ) (l : List AttributeSpecification). a + size l) own_attributes 0 (tell known ds))
-    ∙ (ap (λ (ls : List (List AttributeSpecification)). sum_by size ls) (own-lists known ds are) ∙ fold-map (λ (a : ℕ) (l : List AttributeSpecification). a + size l) (λ (d : SharedDeclaration). d.list.own) 0 ds)
+    sym (fold-map (λ (a : ℕ) (l : List AttributeSpecification). a + size l) own_attributes 0
+    (tell known ds))
+    ∙ (ap (λ (ls : List (List AttributeSpecification)). sum_by size ls) (own-lists known ds are)
+    ∙ fold-map (λ (a : ℕ) (l : List AttributeSpecification). a + size l)
+    (λ (d : SharedDeclaration). d.list.own) 0 ds)
 
-pub own_size-is : (known : List KnownAttribute) (table : SharedTable) → AreTold known table.declarations → own_size table ≡ table_size (told_table known table)
+pub own_size-is : (known : List KnownAttribute) (table : SharedTable)
+    → AreTold known table.declarations → own_size table ≡ table_size (told_table known table)
 own_size-is known table are =
-    omega (arith, length-map table.declarations (told known), own-sum known table.declarations length are, own-sum known table.declarations (λ l. plan_len (plan_of table.format l)) are)
+    omega (
+      arith,
+      length-map table.declarations (told known),
+      own-sum known table.declarations
+          length are,
+      own-sum known table.declarations (λ l. plan_len (plan_of table.format l)) are,
+    )
 
 -- ---- what is known grows
 
-pub readable-grows : (old new : LinkedPlaces) (table : SharedTable) → LinksGrow old new → IsReadable old table → IsReadable new table
+pub readable-grows : (old new : LinkedPlaces) (table : SharedTable) → LinksGrow old new
+    → IsReadable old table → IsReadable new table
 readable-grows old new table grows is = record {
   told = told-grows old.places new.places table.declarations grows.places is.told;
   linked = λ k d lt. by_rest _ (is.linked k d lt);
@@ -115,13 +167,20 @@ readable-grows old new table grows is = record {
     by_rest None is = tt
     by_rest (Some number) is = omega (arith, is, grows.linked table.format)
 
-pub table-stays : (old new : LinkedPlaces) (table : SharedTable) → LinksGrow old new → IsReadable old table → told_table new.places.known table ≡ told_table old.places.known table
+pub table-stays : (old new : LinkedPlaces) (table : SharedTable) → LinksGrow old new
+    → IsReadable old table → told_table new.places.known table ≡ told_table old.places.known table
 table-stays old new table grows is =
-    ap (λ (ds : List Declaration). let t : Table = record { offset = table.offset; format = table.format; declarations = ds } in t) (told-stays old.places new.places table.declarations grows.places is.told)
+    ap (λ (ds : List Declaration). let t : Table =
+    record { offset = table.offset; format = table.format; declarations = ds } in t)
+    (told-stays old.places new.places table.declarations grows.places is.told)
 
-pub tables-stay : (old new : LinkedPlaces) (tables : List SharedTable) → LinksGrow old new → All (IsReadable old) tables → told_tables new.places.known tables ≡ told_tables old.places.known tables
+pub tables-stay : (old new : LinkedPlaces) (tables : List SharedTable) → LinksGrow old new
+    → All (IsReadable old) tables → told_tables new.places.known tables
+    ≡ told_tables old.places.known tables
 tables-stay old new [] grows are = refl
 tables-stay old new (t ∷ ts) grows are =
-    let first : told_table new.places.known t ≡ told_table old.places.known t = table-stays old new t grows (are 0 t (omega arith)) in
-    let rest : told_tables new.places.known ts ≡ told_tables old.places.known ts = tables-stay old new ts grows (λ k u lt. are (suc k) u (omega (arith, lt))) in
+    let first : told_table new.places.known t ≡ told_table old.places.known t =
+    table-stays old new t grows (are 0 t (omega arith)) in
+    let rest : told_tables new.places.known ts ≡ told_tables old.places.known ts =
+    tables-stay old new ts grows (λ k u lt. are (suc k) u (omega (arith, lt))) in
     rw (first, rest) refl

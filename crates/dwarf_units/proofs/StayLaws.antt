@@ -1,5 +1,7 @@
 -- Which tables stay, as one more is put behind those that do.
-use Rattle.std.proofs.Common.{◌≡◌, ◌⊎◌, inl, inr, Bool, get_or, ℕ, suc, zero, ◌+◌, ◌<◌, ◌≤◌, List, [], ◌∷◌, ◌++◌, length, take, length-take-le, true, false, refl, ap, sym, ◌∙◌, subst, arith}
+use Rattle.std.proofs.Common.{◌≡◌, ◌⊎◌, inl, inr, Bool, get_or, ℕ, suc, zero, ◌+◌, ◌<◌, ◌≤◌, List}
+use Rattle.std.proofs.Common.{[], ◌∷◌, ◌++◌, length, take, length-take-le, true, false, refl, ap}
+use Rattle.std.proofs.Common.{sym, ◌∙◌, subst, arith}
 use Rattle.std.specs.Prelude.{Some, slice_get, sum_by, nat_le, if◌then◌else◌}
 use Rattle.std.specs.List.{All}
 use Rattle.std.proofs.lemmas.Grind.{common_steps}
@@ -8,7 +10,8 @@ use Rattle.std.proofs.lemmas.List.Elements.{All-append, All-cons, All-nil}
 use Rattle.std.proofs.lemmas.List.Sums.{sum_by_push, sum_by-append}
 use Rattle.dwarf_units.specs.declared.unit_headers.UnitHeader.{UnitHeader}
 use Rattle.dwarf_units.specs.Private.Plans.{Table, table_size}
-use Rattle.dwarf_units.specs.Private.Tables.{IsAdded, StandsIn, IsAt, KeptTables, StaysOrIsTooLarge, with_table, size_limit}
+use Rattle.dwarf_units.specs.Private.Tables.{IsAdded, StandsIn, IsAt, KeptTables, StaysOrIsTooLarge}
+use Rattle.dwarf_units.specs.Private.Tables.{with_table, size_limit}
 use Rattle.dwarf_units.specs.Units.{declarations_limit}
 use Rattle.dwarf_units.proofs.KeptLaws.{take_all, take_front}
 use Rattle.dwarf_units.proofs.TableLaws.{stands_read, behind_at}
@@ -21,67 +24,117 @@ append_none : (xs : List Table) → xs ≡ xs ++ []
 append_none [] = refl
 append_none (x ∷ xs) = ap (λ (ys : List Table). x ∷ ys) (append_none xs)
 
-got_before : (xs ys : List Table) (i : ℕ) (t : Table) → slice_get xs i ≡ Some t → slice_get (xs ++ ys) i ≡ Some t
+got_before : (xs ys : List Table) (i : ℕ) (t : Table) → slice_get xs i ≡ Some t
+    → slice_get (xs ++ ys) i ≡ Some t
 got_before [] ys i t at = cc
 got_before (x ∷ xs) ys zero t at = at
 got_before (x ∷ xs) ys (suc i) t at = got_before xs ys i t at
 
 -- what is true of a unit stays so
-pub stays_on : (old new : KeptTables) (unit : UnitHeader) → Grows old new → new.section ≡ old.section → StaysOrIsTooLarge old unit → StaysOrIsTooLarge new unit
-stays_on old new unit grows same (table, at, stands, is) = (table, at, subst (λ (s : List ℕ). StandsIn s table) (sym same) stands, by_case is)
+pub stays_on : (old new : KeptTables) (unit : UnitHeader) → Grows old new
+    → new.section ≡ old.section → StaysOrIsTooLarge old unit → StaysOrIsTooLarge new unit
+stays_on old new unit grows same (table, at, stands, is) =
+    (table, at, subst (λ (s : List ℕ). StandsIn s table) (sym same) stands, by_case is)
   where
-    by_case : ((number : ℕ) × (slice_get (take old.kept old.tables) number ≡ Some table)) ⊎ (size_limit old.section < sum_by table_size (take old.kept old.tables) + table_size table) →
-        ((number : ℕ) × (slice_get (take new.kept new.tables) number ≡ Some table)) ⊎ (size_limit new.section < sum_by table_size (take new.kept new.tables) + table_size table)
-    by_case (inl there) = inl (there.0, ap (λ (ts : List Table). slice_get ts there.0) grows.1 ∙ got_before (take old.kept old.tables) grows.0 there.0 table there.1)
+    by_case : ((number : ℕ) × (slice_get (take old.kept old.tables) number ≡ Some table))
+        ⊎ (size_limit old.section < sum_by table_size (take old.kept old.tables) + table_size table)
+        → ((number : ℕ) × (slice_get (take new.kept new.tables) number ≡ Some table))
+        ⊎ (size_limit new.section < sum_by table_size (take new.kept new.tables) + table_size
+        table)
+    by_case (inl there) = inl (
+      there.0,
+      ap (λ (ts : List Table). slice_get ts there.0) grows.1
+          ∙ got_before (take old.kept old.tables) grows.0 there.0 table there.1,
+    )
     by_case (inr large) =
-        let sum : sum_by table_size (take new.kept new.tables) ≡ sum_by table_size (take old.kept old.tables) + sum_by table_size grows.0 =
-        ap (λ (ts : List Table). sum_by table_size ts) grows.1 ∙ sum_by-append table_size (take old.kept old.tables) grows.0 in
-        let limit : size_limit new.section ≡ size_limit old.section = ap (λ (s : List ℕ). size_limit s) same in
+        let sum : sum_by table_size (take new.kept new.tables)
+        ≡ sum_by table_size (take old.kept old.tables) + sum_by table_size grows.0 =
+        ap (λ (ts : List Table). sum_by table_size ts) grows.1
+        ∙ sum_by-append table_size (take old.kept old.tables) grows.0 in
+        let limit : size_limit new.section ≡ size_limit old.section =
+        ap (λ (s : List ℕ). size_limit s) same in
         inr (omega (arith, large, sum, limit))
 
 -- the table of a unit that is put behind those that stay stays too, or has no room
-pub stays_with : (old : KeptTables) (unit : UnitHeader) (table : Table) → old.kept ≤ length old.tables → IsAt unit.format unit.abbreviations table → StandsIn old.section table → StaysOrIsTooLarge (with_table old table) unit × Grows old (with_table old table)
+pub stays_with : (old : KeptTables) (unit : UnitHeader) (table : Table)
+    → old.kept ≤ length old.tables → IsAt unit.format unit.abbreviations table
+    → StandsIn old.section table → StaysOrIsTooLarge (with_table old table) unit
+    × Grows old (with_table old table)
 stays_with old unit table within at stands =
     let before : List Table = take old.kept old.tables in
-    by_test before (length-take-le old.kept old.tables within) refl (nat_le (sum_by table_size (before ++ table ∷ [])) (size_limit old.section)) refl
+    by_test before (length-take-le old.kept old.tables within) refl
+    (nat_le (sum_by table_size (before ++ table ∷ [])) (size_limit old.section)) refl
   where
     gt : (a b : ℕ) → nat_le a b ≡ false → b < a
     gt a b h = grind (arith, common_steps)
 
-    by_test : (before : List Table) → length before ≡ old.kept → before ≡ take old.kept old.tables → (b : Bool) → nat_le (sum_by table_size (before ++ table ∷ [])) (size_limit old.section) ≡ b →
-        (let new : KeptTables = record { section = old.section; tables = before ++ table ∷ []; kept = if b then length (before ++ table ∷ []) else old.kept } in StaysOrIsTooLarge new unit × Grows old new)
+    by_test : (before : List Table) → length before ≡ old.kept → before ≡ take old.kept old.tables
+        → (b : Bool) → nat_le (sum_by table_size (before ++ table ∷ [])) (size_limit old.section)
+        ≡ b
+        → (let new : KeptTables = record {
+          section = old.section;
+          tables = before ++ table ∷ [];
+          kept =
+              if b then length (before ++ table ∷ []) else old.kept;
+        } in
+        StaysOrIsTooLarge new unit × Grows old new)
     by_test before len is true fits =
         let tables : List Table = before ++ table ∷ [] in
         let whole : take (length tables) tables ≡ tables = take_all tables in (
-          (table, at, stands, inl (length before, ap (λ (ts : List Table). slice_get ts (length before)) whole ∙ behind_at before tables (length before) table refl refl)),
+          (
+            table,
+            at,
+            stands,
+            inl (
+              length before,
+              ap (λ (ts : List Table). slice_get ts (length before)) whole
+                  ∙ behind_at before tables (length before) table refl refl,
+            ),
+          ),
           (table ∷ [], whole ∙ ap (λ (ts : List Table). ts ++ table ∷ []) is),
         )
     by_test before len is false past =
         let tables : List Table = before ++ table ∷ [] in
-        let front : take old.kept tables ≡ before = subst (λ (k : ℕ). take k tables ≡ before) len (take_front before (table ∷ [])) in
-        let sum : sum_by table_size (take old.kept tables) ≡ sum_by table_size before = ap (λ (ts : List Table). sum_by table_size ts) front in
-        let large : size_limit old.section < sum_by table_size tables = gt (sum_by table_size tables) (size_limit old.section) past in (
+        let front : take old.kept tables ≡ before =
+        subst (λ (k : ℕ). take k tables ≡ before) len (take_front before (table ∷ [])) in
+        let sum : sum_by table_size (take old.kept tables) ≡ sum_by table_size before =
+        ap (λ (ts : List Table). sum_by table_size ts) front in
+        let large : size_limit old.section < sum_by table_size tables =
+        gt (sum_by table_size tables) (size_limit old.section) past in (
           (table, at, stands, inr (omega (arith, sum, large, sum_by_push table_size before table))),
           ([], front ∙ (is ∙ append_none (take old.kept old.tables))),
         )
 
 -- .. where it was read for that unit
-pub stays_behind : (old new : KeptTables) (unit : UnitHeader) (room left number : ℕ) → old.kept ≤ length old.tables → room ≤ declarations_limit → IsAdded unit.format unit.abbreviations room left old new number → StaysOrIsTooLarge new unit × Grows old new
+pub stays_behind : (old new : KeptTables) (unit : UnitHeader) (room left number : ℕ)
+    → old.kept ≤ length old.tables → room ≤ declarations_limit
+    → IsAdded unit.format unit.abbreviations room left old new number
+    → StaysOrIsTooLarge new unit × Grows old new
 stays_behind old new unit room left number within few added =
-    let stands : StandsIn old.section added.table = stands_read old.section room added.table unit.abbreviations added.at.0 added.read (omega (arith, added.counted, few)) in
-    subst (λ (k : KeptTables). StaysOrIsTooLarge k unit × Grows old k) (sym added.added) (stays_with old unit added.table within added.at stands)
+    let stands : StandsIn old.section added.table =
+    stands_read old.section room added.table unit.abbreviations added.at.0 added.read
+    (omega (arith, added.counted, few)) in
+    subst (λ (k : KeptTables). StaysOrIsTooLarge k unit × Grows old k) (sym added.added)
+    (stays_with old unit added.table within added.at stands)
 
 -- .. so it is of each unit
-pub stays_next : (old new : KeptTables) (units : List UnitHeader) (index : ℕ) (d : UnitHeader) → Grows old new → new.section ≡ old.section → index < length units → StaysOrIsTooLarge new (get_or units index d) → All (StaysOrIsTooLarge old) (take index units) →
-    All (StaysOrIsTooLarge new) (take (index + 1) units)
+pub stays_next : (old new : KeptTables) (units : List UnitHeader) (index : ℕ) (d : UnitHeader)
+    → Grows old new → new.section ≡ old.section → index < length units
+    → StaysOrIsTooLarge new (get_or units index d) → All (StaysOrIsTooLarge old) (take index units)
+    → All (StaysOrIsTooLarge new) (take (index + 1) units)
 stays_next old new units index d grows same within here all =
-    subst (λ (us : List UnitHeader). All (StaysOrIsTooLarge new) us) (sym (take_more units index d within))
-    (All-append (StaysOrIsTooLarge new) (take index units) (get_or units index d ∷ []) (λ k u lt. stays_on old new (get_or (take index units) k u) grows same (all k u lt))
-    (All-cons (StaysOrIsTooLarge new) (get_or units index d) [] here (All-nil (StaysOrIsTooLarge new))))
+    subst (λ (us : List UnitHeader). All (StaysOrIsTooLarge new) us)
+    (sym (take_more units index d within))
+    (All-append (StaysOrIsTooLarge new) (take index units) (get_or units index d ∷ [])
+    (λ k u lt. stays_on old new (get_or (take index units) k u) grows same (all k u lt))
+    (All-cons (StaysOrIsTooLarge new) (get_or units index d) [] here
+    (All-nil (StaysOrIsTooLarge new))))
 
-pub stays_end : (tables : KeptTables) (units : List UnitHeader) (index : ℕ) → length units ≤ index → All (StaysOrIsTooLarge tables) (take index units) → All (StaysOrIsTooLarge tables) units
+pub stays_end : (tables : KeptTables) (units : List UnitHeader) (index : ℕ) → length units ≤ index
+    → All (StaysOrIsTooLarge tables) (take index units) → All (StaysOrIsTooLarge tables) units
 stays_end tables units index past all = λ k u lt.
-    let here : get_or (take index units) k u ≡ get_or units k u = get_or-take index units k u (omega (arith, past, lt)) in
+    let here : get_or (take index units) k u ≡ get_or units k u =
+    get_or-take index units k u (omega (arith, past, lt)) in
     subst (λ (unit : UnitHeader). StaysOrIsTooLarge tables unit) here (all k u (long k lt))
   where
     long : (k : ℕ) → k < length units → k < length (take index units)

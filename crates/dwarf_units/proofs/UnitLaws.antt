@@ -1,5 +1,6 @@
 -- Each unit takes bytes, and none reaches past the end of the section.
-use Rattle.std.proofs.Common.{◌≡◌, ℕ, ◌+◌, ◌<◌, ◌≤◌, ◌⊎◌, inl, inr, List, [], ◌∷◌, false, length, take, refl, ap, sym, ◌∙◌, arith, length-take, ◌++◌}
+use Rattle.std.proofs.Common.{◌≡◌, ℕ, ◌+◌, ◌<◌, ◌≤◌, ◌⊎◌, inl, inr, List, [], ◌∷◌, false, length}
+use Rattle.std.proofs.Common.{take, refl, ap, sym, ◌∙◌, arith, length-take, ◌++◌}
 use Rattle.std.specs.Prelude.{Result, Ok, Err, nat_lt, nat_le, ◌==◌, not, ok_or, filter}
 use Rattle.std.proofs.lemmas.Bool.{ltb-false, le-leb}
 use Rattle.dwarf_bytes.specs.declared.fault.Cause.{Cause}
@@ -16,10 +17,13 @@ use Rattle.dwarf_bytes.proofs.LengthLaws.{initial_length_at-moves}
 use Rattle.dwarf_bytes.proofs.Moves.{same_ok, same_item}
 use Rattle.dwarf_bytes.proofs.Turns.{SoFar, so_far-item, so_far-end, so_far-fault}
 use Rattle.dwarf_units.specs.declared.unit_headers.UnitHeader.{UnitHeader}
-use Rattle.dwarf_units.specs.Units.{unit_type_of, is_read_type, is_read, header_in, unit_at, header_at, headers_of, units_of}
+use Rattle.dwarf_units.specs.Units.{unit_type_of, is_read_type, is_read, header_in, unit_at}
+use Rattle.dwarf_units.specs.Units.{header_at, headers_of, units_of}
 
 -- a header tells where its unit starts, and that it ends where its bytes do
-pub header_in-places : (start : ℕ) (format : Format) (unit : List ℕ) (at : ℕ) (header : UnitHeader) → header_in start format unit at ≡ Ok header → (header.start ≡ start) × (header.end ≡ length unit)
+pub header_in-places : (start : ℕ) (format : Format) (unit : List ℕ) (at : ℕ) (header : UnitHeader)
+    → header_in start format unit at ≡ Ok header
+    → (header.start ≡ start) × (header.end ≡ length unit)
 header_in-places start format unit at header h =
     let P : Type 0 = (header.start ≡ start) × (header.end ≡ length unit) in
     after_bind (reading (u16_at unit at)) _ header h P (λ version _ h1.
@@ -27,31 +31,51 @@ header_in-places start format unit at header h =
     after_bind (reading (u8_at unit version.1)) _ header h2 P (λ number _ h3.
     after_bind (ok_or (unit_type_of number.0) causes.UnitType) _ header h3 P (λ unit_type _ h4.
     chosen (not (is_read_type unit_type)) _ _ (Ok header) h4 P
-    (λ _ last. places (record { start = start; format = format; unit_type = unit_type; abbreviations = 0; first = length unit; end = length unit }) last)
+    (λ _ last. places (record {
+      start = start;
+      format = format;
+      unit_type = unit_type;
+      abbreviations = 0;
+      first = length unit;
+      end = length unit;
+    }) last)
     (λ _ h5.
     after_bind (reading (u8_at unit number.1)) _ header h5 P (λ size _ h6.
     after_test (not (size.0 == 8)) causes.AddressSize _ header h6 P (λ _ h7.
     after_bind (reading (offset_at format unit size.1)) _ header h7 P (λ abbreviations _ last.
-    places (record { start = start; format = format; unit_type = unit_type; abbreviations = abbreviations.0; first = abbreviations.1; end = length unit }) last))))))))
+    places (record {
+      start = start;
+      format = format;
+      unit_type = unit_type;
+      abbreviations =
+          abbreviations.0;
+      first = abbreviations.1;
+      end = length unit;
+    }) last))))))))
   where
-    places : (read : UnitHeader) → (let f : UnitHeader → Result UnitHeader Cause = λ z. Ok z in f read ≡ f header) → (header.start ≡ read.start) × (header.end ≡ read.end)
+    places : (read : UnitHeader) → (let f : UnitHeader → Result UnitHeader Cause = λ z. Ok z in
+        f read ≡ f header) → (header.start ≡ read.start) × (header.end ≡ read.end)
     places read last =
         let same = same_ok read header last in
         (sym (ap (λ (u : UnitHeader). u.start) same), sym (ap (λ (u : UnitHeader). u.end) same))
 
-pub unit_at-moves : (info : List ℕ) (at : ℕ) (header : UnitHeader) → unit_at info at ≡ Ok header → (at < header.end) × (header.end ≤ length info)
+pub unit_at-moves : (info : List ℕ) (at : ℕ) (header : UnitHeader) → unit_at info at ≡ Ok header
+    → (at < header.end) × (header.end ≤ length info)
 unfolding unit_at
 unit_at-moves info at header h =
     let P : Type 0 = (at < header.end) × (header.end ≤ length info) in
     after_bind (reading (initial_length_at info at)) _ header h P (λ len len_is h1.
     after_test (nat_lt (length info) (len.1 + len.0.1)) causes.Short _ header h1 P (λ fits h2.
-    let moved = initial_length_at-moves info at len (reading_ok (initial_length_at info at) len len_is) in
+    let moved = initial_length_at-moves info at len
+    (reading_ok (initial_length_at info at) len len_is) in
     let within : len.1 + len.0.1 ≤ length info = ltb-false (length info) (len.1 + len.0.1) fits in
     let end = (header_in-places at len.0.0 (take (len.1 + len.0.1) info) len.1 header h2).1 in
     let size = length-take (len.1 + len.0.1) info in
     (omega (arith, moved.0, within, end, size), omega (arith, within, end, size))))
 
-pub header_at-item : (info : List ℕ) (before : List UnitHeader) (at : ℕ) (header : UnitHeader) → at < length info → unit_at info at ≡ Ok header → header_at info before at ≡ Ok (Item header header.end)
+pub header_at-item : (info : List ℕ) (before : List UnitHeader) (at : ℕ) (header : UnitHeader)
+    → at < length info → unit_at info at ≡ Ok header
+    → header_at info before at ≡ Ok (Item header header.end)
 header_at-item info before at header within is =
     let test : nat_le (length info) at ≡ false = lt-leb at (length info) within in
     rw (test, is) refl
@@ -59,7 +83,8 @@ header_at-item info before at header within is =
     lt-leb : (m n : ℕ) → m < n → nat_le n m ≡ false
     lt-leb m n h = grind arith
 
-pub header_at-fault : (info : List ℕ) (before : List UnitHeader) (at : ℕ) (cause : Cause) → at < length info → unit_at info at ≡ Err cause → header_at info before at ≡ Err cause
+pub header_at-fault : (info : List ℕ) (before : List UnitHeader) (at : ℕ) (cause : Cause)
+    → at < length info → unit_at info at ≡ Err cause → header_at info before at ≡ Err cause
 header_at-fault info before at cause within is =
     let test : nat_le (length info) at ≡ false = lt-leb at (length info) within in
     rw (test, is) refl
@@ -67,7 +92,8 @@ header_at-fault info before at cause within is =
     lt-leb : (m n : ℕ) → m < n → nat_le n m ≡ false
     lt-leb m n h = grind arith
 
-header_at-end : (info : List ℕ) (before : List UnitHeader) (at : ℕ) → length info ≤ at → header_at info before at ≡ Ok (End at)
+header_at-end : (info : List ℕ) (before : List UnitHeader) (at : ℕ) → length info ≤ at
+    → header_at info before at ≡ Ok (End at)
 header_at-end info before at past = rw (le-leb (length info) at past) refl
 
 pub header_at-advances : (info : List ℕ) → Advances (length info) (header_at info)
@@ -81,33 +107,56 @@ header_at-advances info before at x after h =
 
 -- ---- the loop over the units
 
-pub units-item : (info : List ℕ) (before : List UnitHeader) (at : ℕ) (header : UnitHeader) → SoFar (length info) (header_at info) 0 before at → at < length info → Ok header ≡ unit_at info at →
-    SoFar (length info) (header_at info) 0 (before ++ header ∷ []) header.end
-units-item info before at header so_far within is = so_far-item (length info) (header_at info) (header_at-advances info) 0 before at header header.end so_far (header_at-item info before at header within (sym is))
+pub units-item : (info : List ℕ) (before : List UnitHeader) (at : ℕ) (header : UnitHeader)
+    → SoFar (length info) (header_at info) 0 before at → at < length info
+    → Ok header ≡ unit_at info at
+    → SoFar (length info) (header_at info) 0 (before ++ header ∷ []) header.end
+units-item info before at header so_far within is =
+    so_far-item (length info) (header_at info) (header_at-advances info) 0 before at header
+    header.end so_far (header_at-item info before at header within (sym is))
 
-pub units-end : (info : List ℕ) (before : List UnitHeader) (at : ℕ) → SoFar (length info) (header_at info) 0 before at → length info ≤ at → in_section sections.DebugInfo (headers_of info) ≡ Ok before
+pub units-end : (info : List ℕ) (before : List UnitHeader) (at : ℕ)
+    → SoFar (length info) (header_at info) 0 before at → length info ≤ at
+    → in_section sections.DebugInfo (headers_of info) ≡ Ok before
 unfolding headers_of
-units-end info before at so_far past = rw (so_far-end (length info) (header_at info) (header_at-advances info) 0 before at at so_far (header_at-end info before at past)) refl
+units-end info before at so_far past = rw
+    (so_far-end (length info) (header_at info) (header_at-advances info) 0 before at at so_far
+    (header_at-end info before at past)) refl
 
-told_cases : (cause : Cause) (at : ℕ) → (told sections.DebugInfo cause at ≡ memory_fault) ⊎ (told sections.DebugInfo cause at ≡ record { section = sections.DebugInfo; cause = cause; at = at })
+told_cases : (cause : Cause) (at : ℕ) → (told sections.DebugInfo cause at ≡ memory_fault)
+    ⊎ (told sections.DebugInfo cause at ≡ record
+    { section = sections.DebugInfo; cause = cause; at = at })
 told_cases causes.Memory at = inl refl
 told_cases cause at = inr refl
 
-pub units-fault : (info : List ℕ) (before : List UnitHeader) (at : ℕ) (cause : Cause) (fault : LoadFault) → SoFar (length info) (header_at info) 0 before at → at < length info → Err cause ≡ unit_at info at → fault ≡ told sections.DebugInfo cause at →
-    (fault ≡ memory_fault) ⊎ (in_section sections.DebugInfo (headers_of info) ≡ Err fault)
+pub units-fault : (info : List ℕ) (before : List UnitHeader) (at : ℕ) (cause : Cause)
+    (fault : LoadFault) → SoFar (length info) (header_at info) 0 before at → at < length info
+    → Err cause ≡ unit_at info at → fault ≡ told sections.DebugInfo cause at
+    → (fault ≡ memory_fault) ⊎ (in_section sections.DebugInfo (headers_of info) ≡ Err fault)
 unfolding headers_of
 units-fault info before at cause fault so_far within is told_is = by_cause (told_cases cause at)
   where
-    by_cause : (told sections.DebugInfo cause at ≡ memory_fault) ⊎ (told sections.DebugInfo cause at ≡ record { section = sections.DebugInfo; cause = cause; at = at }) → (fault ≡ memory_fault) ⊎ (in_section sections.DebugInfo (items_from (length info) (header_at info) [] 0 >>= λ all. Ok all.0) ≡ Err fault)
+    by_cause : (told sections.DebugInfo cause at ≡ memory_fault)
+        ⊎ (told sections.DebugInfo cause at
+        ≡ record { section = sections.DebugInfo; cause = cause; at = at })
+        → (fault ≡ memory_fault) ⊎ (in_section sections.DebugInfo
+        (items_from (length info) (header_at info) [] 0 >>= λ all. Ok all.0) ≡ Err fault)
     by_cause (inl memory) = inl (told_is ∙ memory)
     by_cause (inr itself) =
-        inr (rw (so_far-fault (length info) (header_at info) (header_at-advances info) 0 before at cause so_far (header_at-fault info before at cause within (sym is))) (ap (λ (f : LoadFault). Err f) (sym (told_is ∙ itself))))
+        inr (rw (so_far-fault (length info) (header_at info) (header_at-advances info) 0 before at
+        cause so_far (header_at-fault info before at cause within (sym is)))
+        (ap (λ (f : LoadFault). Err f) (sym (told_is ∙ itself))))
 
 -- the units that are read, from all of them
-pub units-read : (info : List ℕ) (all kept : List UnitHeader) → in_section sections.DebugInfo (headers_of info) ≡ Ok all → kept ≡ filter is_read all → in_section sections.DebugInfo (units_of info) ≡ Ok kept
+pub units-read : (info : List ℕ) (all kept : List UnitHeader)
+    → in_section sections.DebugInfo (headers_of info) ≡ Ok all → kept ≡ filter is_read all
+    → in_section sections.DebugInfo (units_of info) ≡ Ok kept
 unfolding units_of
 units-read info all kept h is = by_read (headers_of info) refl h
   where
-    by_read : (r : Result (List UnitHeader) At) → headers_of info ≡ r → in_section sections.DebugInfo r ≡ Ok all → in_section sections.DebugInfo (r >>= λ all. Ok (filter is_read all)) ≡ Ok kept
+    by_read : (r : Result (List UnitHeader) At) → headers_of info ≡ r
+        → in_section sections.DebugInfo r ≡ Ok all
+        → in_section sections.DebugInfo (r >>= λ all. Ok (filter is_read all)) ≡ Ok kept
     by_read (Err e) read h = cc
-    by_read (Ok xs) read h = ap (λ (ys : List UnitHeader). Ok (filter is_read ys)) (same_ok xs all h) ∙ ap (λ (ys : List UnitHeader). Ok ys) (sym is)
+    by_read (Ok xs) read h = ap (λ (ys : List UnitHeader). Ok (filter is_read ys))
+        (same_ok xs all h) ∙ ap (λ (ys : List UnitHeader). Ok ys) (sym is)

@@ -1,5 +1,6 @@
 -- What is read of an entry at its place, and what is held of it.
-use Rattle.std.proofs.Common.{◌≡◌, ℕ, ◌≤◌, inl, inr, List, length, true, refl, ap, sym, ◌∙◌, Bool, ◌==◌, if◌then◌else◌}
+use Rattle.std.proofs.Common.{◌≡◌, ℕ, ◌≤◌, inl, inr, List, length, true, refl, ap, sym, ◌∙◌, Bool}
+use Rattle.std.proofs.Common.{◌==◌, if◌then◌else◌}
 use Rattle.std.specs.Prelude.{Option, Result, Ok, Err}
 use Rattle.std.proofs.lemmas.Bool.{le-ltb, eq-eqb, ne_eqb}
 use Rattle.dwarf_bytes.specs.declared.fault.Cause.{Cause}
@@ -16,10 +17,13 @@ use Rattle.dwarf_walk.specs.Private.Named.{used_at}
 
 -- ---- by the used attributes
 
-abbrev pub without_place : Result ((ℕ × List Attribute) × ℕ) Cause → Result (ℕ × List Attribute) Cause
+abbrev pub without_place : Result ((ℕ × List Attribute) × ℕ) Cause
+    → Result (ℕ × List Attribute) Cause
 without_place entry = entry >>= λ entry. Ok (entry.0.0, kept_attributes true entry.0.1)
 
-pub inside-is : (format : Format) (table : List Declaration) (unit : List ℕ) (offset : ℕ) → offset ≤ length unit → used_at format table unit offset ≡ without_place (entry_at format table unit offset)
+pub inside-is : (format : Format) (table : List Declaration) (unit : List ℕ) (offset : ℕ)
+    → offset ≤ length unit → used_at format table unit offset
+    ≡ without_place (entry_at format table unit offset)
 inside-is format table unit offset within = rw (le-ltb (length unit) offset within) refl
 
 -- ---- what is held
@@ -28,17 +32,22 @@ abbrev if_there : Option LongEntry → Option LongEntry → Bool → Option Long
 if_there there elsewhere here = if here then there else elsewhere
 
 -- .. where one more was put
-pub put-there : (at offset : ℕ) (new there elsewhere : Option LongEntry) → new ≡ (if at == offset then there else elsewhere) → at ≡ offset → new ≡ there
-put-there at offset new there elsewhere put is = put ∙ ap (if_there there elsewhere) (eq-eqb at offset is)
+pub put-there : (at offset : ℕ) (new there elsewhere : Option LongEntry)
+    → new ≡ (if at == offset then there else elsewhere) → at ≡ offset → new ≡ there
+put-there at offset new there elsewhere put is =
+    put ∙ ap (if_there there elsewhere) (eq-eqb at offset is)
 
 -- .. and elsewhere
-pub put-elsewhere : (at offset : ℕ) (new there elsewhere : Option LongEntry) → new ≡ (if at == offset then there else elsewhere) → (at ≡ offset → ⊥) → new ≡ elsewhere
-put-elsewhere at offset new there elsewhere put other = put ∙ ap (if_there there elsewhere) (ne_eqb at offset other)
+pub put-elsewhere : (at offset : ℕ) (new there elsewhere : Option LongEntry)
+    → new ≡ (if at == offset then there else elsewhere) → (at ≡ offset → ⊥) → new ≡ elsewhere
+put-elsewhere at offset new there elsewhere put other =
+    put ∙ ap (if_there there elsewhere) (ne_eqb at offset other)
 
 -- ---- what is wanting
 
 -- what is there is read but for want of memory
-pub again-memory : {X : Type 0} (cause : Cause) (r : Result X Cause) (x : X) → r ≡ Ok x → Fails cause r → cause ≡ causes.Memory
+pub again-memory : {X : Type 0} (cause : Cause) (r : Result X Cause) (x : X) → r ≡ Ok x
+    → Fails cause r → cause ≡ causes.Memory
 again-memory {X = X} cause r x is (inl memory) = memory
 again-memory {X = X} cause r x is (inr bad) = absurd (never (sym is ∙ bad))
   where

@@ -1,8 +1,14 @@
 -- An entry of which only some attributes are kept.
-use Rattle.std.proofs.Common.{◌≡◌, ℕ, List, [], ◌∷◌, Bool, true, false, cond, refl, ap, sym, ◌∙◌, subst}
+use Rattle.std.proofs.Common.{◌≡◌, ℕ, List, [], ◌∷◌, Bool, true, false, cond, refl, ap, sym, ◌∙◌}
+use Rattle.std.proofs.Common.{subst}
 use Rattle.std.specs.Prelude.{Option, Some, None, is_some, option_map, Ok, find, filter, not, ◌==◌}
 use Rattle.std.proofs.lemmas.Bool.{false≢true, eqb-true}
-use Rattle.dwarf_bytes.specs.declared.constants.TheConstants.{DW_AT_ABSTRACT_ORIGIN, DW_AT_ADDR_BASE, DW_AT_LINKAGE_NAME, DW_AT_LOW_PC, DW_AT_NAME, DW_AT_RNGLISTS_BASE, DW_AT_SPECIFICATION, DW_AT_STMT_LIST, DW_AT_STR_OFFSETS_BASE}
+use Rattle.dwarf_bytes.specs.declared.constants.TheConstants.{DW_AT_ABSTRACT_ORIGIN}
+use Rattle.dwarf_bytes.specs.declared.constants.TheConstants.{DW_AT_ADDR_BASE, DW_AT_LINKAGE_NAME}
+use Rattle.dwarf_bytes.specs.declared.constants.TheConstants.{DW_AT_LOW_PC, DW_AT_NAME}
+use Rattle.dwarf_bytes.specs.declared.constants.TheConstants.{DW_AT_RNGLISTS_BASE}
+use Rattle.dwarf_bytes.specs.declared.constants.TheConstants.{DW_AT_SPECIFICATION, DW_AT_STMT_LIST}
+use Rattle.dwarf_bytes.specs.declared.constants.TheConstants.{DW_AT_STR_OFFSETS_BASE}
 use Rattle.dwarf_bytes.specs.declared.format.Format.{Format}
 use Rattle.dwarf_forms.specs.Declarations.{Declaration}
 use Rattle.dwarf_units.specs.declared.attributes.Attribute.{Attribute}
@@ -13,12 +19,14 @@ use Rattle.dwarf_units.specs.Attributes.{is_used}
 use Rattle.dwarf_units.specs.Entries.{Die, value_of, node_behind}
 use Rattle.dwarf_walk.specs.Private.Kept.{named_entry, root_entry}
 use Rattle.dwarf_walk.specs.References.{or_else}
-use Rattle.dwarf_walk.specs.Private.Readers.{HoldsKept, IsAfterEntry, node_of, Walked, depth_behind, after_die, walked_at}
+use Rattle.dwarf_walk.specs.Private.Readers.{HoldsKept, IsAfterEntry, node_of, Walked, depth_behind}
+use Rattle.dwarf_walk.specs.Private.Readers.{after_die, walked_at}
 use Rattle.dwarf_units.specs.Private.Plans.{kept_attributes}
 use Rattle.dwarf_units.specs.Private.Used.{Used}
 
 -- the value of a used attribute is kept where used attributes are
-pub value-kept : (xs : List Attribute) (name : ℕ) → is_used name ≡ true → value_of (filter (λ a. is_used a.name) xs) name ≡ value_of xs name
+pub value-kept : (xs : List Attribute) (name : ℕ) → is_used name ≡ true
+    → value_of (filter (λ a. is_used a.name) xs) name ≡ value_of xs name
 value-kept [] name used = refl
 value-kept (a ∷ xs) name used = by_used (is_used a.name) refl (value-kept xs name used)
   where
@@ -26,17 +34,21 @@ value-kept (a ∷ xs) name used = by_used (is_used a.name) refl (value-kept xs n
     rest = filter (λ b. is_used b.name) xs
 
     found : Bool → List Attribute → Option AttributeValue
-    found t ys = option_map (λ (b : Attribute). b.value) (cond t (Some a) (find (λ b. b.name == name) ys))
+    found t ys = option_map (λ (b : Attribute). b.value)
+        (cond t (Some a) (find (λ b. b.name == name) ys))
 
     by_name : (t : Bool) → value_of rest name ≡ value_of xs name → found t rest ≡ found t xs
     by_name true behind = refl
     by_name false behind = behind
 
-    by_other : (t : Bool) → (a.name == name) ≡ t → is_used a.name ≡ false → value_of rest name ≡ value_of xs name → value_of rest name ≡ found t xs
-    by_other true same is behind = absurd (false≢true (sym is ∙ (ap (λ (n : ℕ). is_used n) (eqb-true a.name name same) ∙ used)))
+    by_other : (t : Bool) → (a.name == name) ≡ t → is_used a.name ≡ false
+        → value_of rest name ≡ value_of xs name → value_of rest name ≡ found t xs
+    by_other true same is behind = absurd
+        (false≢true (sym is ∙ (ap (λ (n : ℕ). is_used n) (eqb-true a.name name same) ∙ used)))
     by_other false same is behind = behind
 
-    by_used : (u : Bool) → is_used a.name ≡ u → value_of rest name ≡ value_of xs name → value_of (cond u (a ∷ rest) rest) name ≡ value_of (a ∷ xs) name
+    by_used : (u : Bool) → is_used a.name ≡ u → value_of rest name ≡ value_of xs name
+        → value_of (cond u (a ∷ rest) rest) name ≡ value_of (a ∷ xs) name
     by_used true is behind = by_name (a.name == name) behind
     by_used false is behind = by_other (a.name == name) refl is behind
 
@@ -46,20 +58,36 @@ die_of_kept die = record die { attributes = kept_attributes true die.attributes 
 
 root-kept : (die : Die) → root_entry (die_of_kept die) ≡ root_entry die
 root-kept die =
-    rw (value-kept die.attributes DW_AT_STMT_LIST refl, value-kept die.attributes DW_AT_STR_OFFSETS_BASE refl, value-kept die.attributes DW_AT_ADDR_BASE refl, value-kept die.attributes DW_AT_RNGLISTS_BASE refl, value-kept die.attributes DW_AT_LOW_PC refl) refl
+    rw (
+      value-kept die.attributes DW_AT_STMT_LIST refl,
+      value-kept die.attributes DW_AT_STR_OFFSETS_BASE refl,
+      value-kept die.attributes DW_AT_ADDR_BASE refl,
+      value-kept die.attributes DW_AT_RNGLISTS_BASE refl,
+      value-kept die.attributes DW_AT_LOW_PC
+          refl,
+    ) refl
 
 pub named-kept : (die : Die) → named_entry (die_of_kept die) ≡ named_entry die
 named-kept die =
-    rw (value-kept die.attributes DW_AT_ABSTRACT_ORIGIN refl, value-kept die.attributes DW_AT_SPECIFICATION refl, value-kept die.attributes DW_AT_NAME refl, value-kept die.attributes DW_AT_LINKAGE_NAME refl) refl
+    rw (
+      value-kept die.attributes DW_AT_ABSTRACT_ORIGIN refl,
+      value-kept die.attributes DW_AT_SPECIFICATION refl,
+      value-kept die.attributes DW_AT_NAME
+          refl,
+      value-kept die.attributes DW_AT_LINKAGE_NAME refl,
+    ) refl
 
 -- where a root stands before, a later entry is none
-root-stays : (root : Option RootEntry) (x y : RootEntry) → not (is_some root) ≡ false → or_else root (Some x) ≡ or_else root (Some y)
+root-stays : (root : Option RootEntry) (x y : RootEntry) → not (is_some root) ≡ false
+    → or_else root (Some x) ≡ or_else root (Some y)
 root-stays (Some r) x y rooted = refl
 root-stays None x y rooted = absurd (false≢true (sym rooted))
 
 -- what is kept of an entry is kept of those of its attributes that are
-pub after-kept : (w : Walked) (offset depth tag : ℕ) (all found : List Attribute) → found ≡ kept_attributes (not (is_some w.root)) all →
-    after_die w (record { offset = offset; depth = depth; tag = tag; attributes = found }) ≡ after_die w (record { offset = offset; depth = depth; tag = tag; attributes = all })
+pub after-kept : (w : Walked) (offset depth tag : ℕ) (all found : List Attribute)
+    → found ≡ kept_attributes (not (is_some w.root)) all
+    → after_die w (record { offset = offset; depth = depth; tag = tag; attributes = found })
+    ≡ after_die w (record { offset = offset; depth = depth; tag = tag; attributes = all })
 after-kept w offset depth tag all found are = by_flag (not (is_some w.root)) refl are
   where
     die : Die
@@ -68,30 +96,49 @@ after-kept w offset depth tag all found are = by_flag (not (is_some w.root)) ref
     other : Die
     other = record { offset = offset; depth = depth; tag = tag; attributes = found }
 
-    by_flag : (f : Bool) → not (is_some w.root) ≡ f → found ≡ kept_attributes f all → after_die w other ≡ after_die w die
+    by_flag : (f : Bool) → not (is_some w.root) ≡ f → found ≡ kept_attributes f all
+        → after_die w other ≡ after_die w die
     by_flag true is are = rw are (rw (root-kept die) refl)
     by_flag false is are = rw (root-stays w.root (root_entry other) (root_entry die) is) refl
 
 -- what a step found is read, and it left what is used of the attributes that are kept
-abbrev ReadsEntry : Format → List Declaration → Walked → Bool → List ℕ → ℕ → ℕ → Option NodeHead → Used → Type 0
+abbrev ReadsEntry : Format → List Declaration → Walked → Bool → List ℕ → ℕ → ℕ → Option NodeHead
+    → Used → Type 0
 ReadsEntry format table w rooted unit at after found used =
-    (all : List Attribute) × (node_behind format table w.depth rooted unit at ≡ Ok (node_of found all, after)) × HoldsKept (not rooted) found used all
+    (all : List Attribute) × (node_behind format table w.depth rooted unit at
+    ≡ Ok (node_of found all, after)) × HoldsKept (not rooted) found used all
 
 -- what is kept of an entry that is read, and the depth stays
-entry-kept : (format : Format) (table : List Declaration) (w kept : Walked) (unit : List ℕ) (at after : ℕ) (head : NodeHead) (used : Used) →
-    ReadsEntry format table w (is_some w.root) unit at after (Some head) used →
-    IsAfterEntry w kept at head.tag used →
-    (walked_at format table w unit at ≡ Ok (record kept { depth = depth_behind head.children w.depth }, after)) × (kept.depth ≡ w.depth)
+entry-kept : (format : Format) (table : List Declaration) (w kept : Walked) (unit : List ℕ)
+    (at after : ℕ) (head : NodeHead) (used : Used)
+    → ReadsEntry format table w (is_some w.root) unit at after (Some head) used
+    → IsAfterEntry w kept at head.tag used
+    → (walked_at format table w unit at ≡ Ok
+    (record kept { depth = depth_behind head.children w.depth }, after))
+    × (kept.depth ≡ w.depth)
 entry-kept format table w kept unit at after head used read is =
     let keep = not (is_some w.root) in
-    let all : kept ≡ after_die w (record { offset = at; depth = w.depth; tag = head.tag; attributes = read.0 }) = is (kept_attributes keep read.0) read.2 ∙ after-kept w at w.depth head.tag read.0 (kept_attributes keep read.0) refl in
+    let all : kept ≡ after_die w (record
+    { offset = at; depth = w.depth; tag = head.tag; attributes = read.0 }) =
+    is (kept_attributes keep read.0) read.2 ∙ after-kept w at w.depth head.tag read.0
+    (kept_attributes keep read.0) refl in
     (rw (read.1, all) refl, ap (λ (x : Walked). x.depth) all)
 
 -- .. by a step, which knows whether the root stands before and where the entry stands
-pub step-kept : (format : Format) (table : List Declaration) (w kept : Walked) (unit : List ℕ) (at after : ℕ) (found : Option NodeHead) (head : NodeHead) (used : Used) (rooted : Bool) (offset : ℕ) →
-    rooted ≡ is_some w.root → offset ≡ at → found ≡ Some head → ReadsEntry format table w rooted unit at after found used → IsAfterEntry w kept offset head.tag used →
-    (walked_at format table w unit at ≡ Ok (record kept { depth = depth_behind head.children w.depth }, after)) × (kept.depth ≡ w.depth)
-step-kept format table w kept unit at after found head used rooted offset known place is read kept_is =
-    let first = subst (λ (r : Bool). ReadsEntry format table w r unit at after found used) known read in
-    let second = subst (λ (f : Option NodeHead). ReadsEntry format table w (is_some w.root) unit at after f used) is first in
-    entry-kept format table w kept unit at after head used second (subst (λ (k : ℕ). IsAfterEntry w kept k head.tag used) place kept_is)
+pub step-kept : (format : Format) (table : List Declaration) (w kept : Walked) (unit : List ℕ)
+    (at after : ℕ) (found : Option NodeHead) (head : NodeHead) (used : Used) (rooted : Bool)
+    (offset : ℕ)
+    → rooted ≡ is_some w.root → offset ≡ at → found ≡ Some head
+    → ReadsEntry format table w rooted unit at after found used
+    → IsAfterEntry w kept offset head.tag used
+    → (walked_at format table w unit at ≡ Ok
+    (record kept { depth = depth_behind head.children w.depth }, after))
+    × (kept.depth ≡ w.depth)
+step-kept format table w kept unit at after found head used rooted offset known place is read
+    kept_is =
+    let first = subst (λ (r : Bool). ReadsEntry format table w r unit at after found used) known
+    read in
+    let second = subst (λ (f : Option NodeHead). ReadsEntry format table w (is_some w.root) unit at
+    after f used) is first in
+    entry-kept format table w kept unit at after head used second
+    (subst (λ (k : ℕ). IsAfterEntry w kept k head.tag used) place kept_is)

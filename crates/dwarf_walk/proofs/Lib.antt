@@ -1,6 +1,11 @@
 pub mod KeptNodes
 pub mod MarkLaws
+pub mod OpenScopes
+pub mod EndedPlaces
 pub mod EndLaws
+pub mod AllEnded
 pub mod WalkLaws
+pub mod WalkTurns
+pub mod WalkEnds
 pub mod TakeLaws
 pub mod AgainLaws

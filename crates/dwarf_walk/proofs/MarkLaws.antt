@@ -1,5 +1,6 @@
 -- The marks of entries: what a walk adds to them, and what is found by them.
-use Rattle.std.proofs.Common.{◌≡◌, ℕ, ◌*◌, ◌/◌, ◌%◌, ◌^◌, ◌<◌, List, [], ◌++◌, length, set, get_or, Bool, true, false, refl, sym, ap, ◌∙◌, subst, arith, inl, inr}
+use Rattle.std.proofs.Common.{◌≡◌, ℕ, ◌*◌, ◌/◌, ◌%◌, ◌^◌, ◌<◌, List, [], ◌++◌, length, set, get_or}
+use Rattle.std.proofs.Common.{Bool, true, false, refl, sym, ap, ◌∙◌, subst, arith, inl, inr}
 use Rattle.std.specs.Prelude.{nat_eq, ◌==◌, ◌||◌, bit_or}
 use Rattle.std.specs.List.{list_any}
 use Rattle.std.specs.Int.{bit_at, w64}
@@ -23,27 +24,35 @@ set_same x y j k a b = grind (arith, nat_tests)
 set_other : (x y j k : ℕ) → x ≡ y → (j ≡ k → ⊥) → nat_eq x 1 ≡ (nat_eq y 1 || ((k == j) || false))
 set_other x y j k a b = grind (arith, nat_tests)
 
-pub has-set : (words : List ℕ) (k v j : ℕ) → k / 64 < length words → v ≡ bit_or (get_or words (k / 64) 0) (1 * 2 ^ (k % 64) % 2 ^ 64) →
-    has (set words (k / 64) v) j ≡ (has words j || ((k == j) || false))
+pub has-set : (words : List ℕ) (k v j : ℕ) → k / 64 < length words
+    → v ≡ bit_or (get_or words (k / 64) 0) (1 * 2 ^ (k % 64) % 2 ^ 64)
+    → has (set words (k / 64) v) j ≡ (has words j || ((k == j) || false))
 has-set words k v j lt is = elim (cases_eq (j / 64) (k / 64)) [
   | inl same ↦
       let W : ℕ → Type 0 = λ w. get_or (set words (k / 64) v) w 0 ≡ v in
-      let word : get_or (set words (k / 64) v) (j / 64) 0 ≡ v = subst W (sym same) (get_or-set_same words (k / 64) v 0 lt) in
+      let word : get_or (set words (k / 64) v) (j / 64) 0 ≡ v =
+      subst W (sym same) (get_or-set_same words (k / 64) v 0 lt) in
       let within : k % 64 < 64 = omega arith in
       elim (cases_eq (j % 64) (k % 64)) [
         | inl bit ↦
-            let one : bit_at v (k % 64) ≡ 1 = ap (λ n. bit_at n (k % 64)) is ∙ bit_at_set_same w64 (get_or words (k / 64) 0) (k % 64) within in
-            let here : bit_at (get_or (set words (k / 64) v) (j / 64) 0) (j % 64) ≡ 1 = ap (λ n. bit_at n (j % 64)) word ∙ ap (bit_at v) bit ∙ one in
+            let one : bit_at v (k % 64) ≡ 1 = ap (λ n. bit_at n (k % 64)) is
+            ∙ bit_at_set_same w64 (get_or words (k / 64) 0) (k % 64) within in
+            let here : bit_at (get_or (set words (k / 64) v) (j / 64) 0) (j % 64) ≡ 1 =
+            ap (λ n. bit_at n (j % 64)) word ∙ ap (bit_at v) bit ∙ one in
             set_same _ (bit_at (get_or words (j / 64) 0) (j % 64)) j k here (omega arith)
         | inr other ↦
             let kept : bit_at v (j % 64) ≡ bit_at (get_or words (k / 64) 0) (j % 64) =
-            ap (λ n. bit_at n (j % 64)) is ∙ bit_at_set_other w64 (get_or words (k / 64) 0) (k % 64) within (j % 64) other in
-            let here : bit_at (get_or (set words (k / 64) v) (j / 64) 0) (j % 64) ≡ bit_at (get_or words (j / 64) 0) (j % 64) =
-            ap (λ n. bit_at n (j % 64)) word ∙ kept ∙ ap (λ w. bit_at (get_or words w 0) (j % 64)) (sym same) in
+            ap (λ n. bit_at n (j % 64)) is ∙ bit_at_set_other w64 (get_or words (k / 64) 0) (k % 64)
+            within (j % 64) other in
+            let here : bit_at (get_or (set words (k / 64) v) (j / 64) 0) (j % 64)
+            ≡ bit_at (get_or words (j / 64) 0) (j % 64) =
+            ap (λ n. bit_at n (j % 64)) word ∙ kept ∙ ap (λ w. bit_at (get_or words w 0) (j % 64))
+            (sym same) in
             set_other _ _ j k here (λ e. other (ap (λ n. n % 64) e))
       ]
   | inr other ↦
-      let here : bit_at (get_or (set words (k / 64) v) (j / 64) 0) (j % 64) ≡ bit_at (get_or words (j / 64) 0) (j % 64) =
+      let here : bit_at (get_or (set words (k / 64) v) (j / 64) 0) (j % 64)
+      ≡ bit_at (get_or words (j / 64) 0) (j % 64) =
       ap (λ n. bit_at n (j % 64)) (get_or-set_other words (k / 64) (j / 64) v 0 other) in
       set_other _ _ j k here (λ e. other (ap (λ n. n / 64) e))
 ]
@@ -61,7 +70,10 @@ or-more false b c = refl
 pub adds-none : (marks : Marks) → AddsMarks marks marks []
 adds-none marks at = or-none (is_marked marks at)
 
-pub adds-more : (old mid new : Marks) (xs ys : List ℕ) → AddsMarks old mid xs → AddsMarks mid new ys → AddsMarks old new (xs ++ ys)
+pub adds-more : (old mid new : Marks) (xs ys : List ℕ) → AddsMarks old mid xs → AddsMarks mid new ys
+    → AddsMarks old new (xs ++ ys)
 adds-more old mid new xs ys first second at =
     let p : ℕ → Bool = λ place. place == at in
-    second at ∙ (ap (λ (b : Bool). b || list_any p ys) (first at) ∙ (or-more (is_marked old at) (list_any p xs) (list_any p ys) ∙ ap (λ (b : Bool). is_marked old at || b) (sym (list_any-append p xs ys))))
+    second at ∙ (ap (λ (b : Bool). b || list_any p ys) (first at)
+    ∙ (or-more (is_marked old at) (list_any p xs) (list_any p ys)
+    ∙ ap (λ (b : Bool). is_marked old at || b) (sym (list_any-append p xs ys))))

@@ -1,186 +1,104 @@
 -- What a change of the sorted is of the world.
-use Rattle.std.proofs.Common.{◌≡◌, ℕ, ◌-◌, ◌^◌, ◌<◌, ◌≤◌, Bool, true, false, List, length, map, get_or, refl, sym, ap, ◌∙◌, subst, arith}
-use Rattle.std.specs.Prelude.{Option, None, Some, Ok, Err, is_some, position, find, insert, remove, nat_le, if◌then◌else◌}
-use Rattle.std.specs.Prelude.{◌||◌}
-use Rattle.std.proofs.lemmas.Bool.{true≢false, leb-false}
-use Rattle.std.proofs.lemmas.List.{length-map}
-use Rattle.module_map.specs.World.{most_modules}
-use Rattle.module_map.specs.Changes.{is_full}
-use Rattle.std.proofs.lemmas.List.{get_or_default}
-use Rattle.module_map.specs.World.{World, Loaded, start_of, end_of, is_named, moved_to, placed, without}
-use Rattle.module_map.specs.Changes.{is_taken, place_fault, move_fault, IsMoved, IsExtentOf, Unloads, Moves}
+use Rattle.std.proofs.Common.{◌≡◌, ℕ, ◌-◌, ◌^◌, ◌<◌, ◌≤◌, Bool, true, false, List, length, map}
+use Rattle.std.proofs.Common.{get_or, refl, sym, ap, ◌∙◌, subst}
+use Rattle.std.specs.Prelude.{None, Some, Ok, Err, is_some, position, find, remove, nat_le}
+use Rattle.std.specs.Prelude.{if◌then◌else◌}
+use Rattle.module_map.specs.World.{World, Loaded, start_of, end_of, is_named, moved_to, placed}
+use Rattle.module_map.specs.World.{without}
+use Rattle.module_map.specs.Changes.{place_fault, move_fault, IsMoved, IsExtentOf, Unloads, Moves}
 use Rattle.module_map.specs.declared.faults.Extent.{Extent}
 use Rattle.module_map.specs.declared.faults.MapFault.{MapFault}
 use Rattle.module_map.specs.declared.faults.MapFault.TheVariants.{NoModule, Range, Overlap}
-use Rattle.module_map.specs.Counts.{ModuleMap}
 use Rattle.module_map.specs.Private.Serials.{NumberedModule, loaded_of}
 use Rattle.module_map.specs.Private.Rising.{IsClear, IsMet, IsOther, IsOnly, relocated, rebased}
-use Rattle.module_map.proofs.Edits.{clear_removed}
-use Rattle.module_map.proofs.Names.{all_fail}
-use Rattle.module_map.proofs.Worlds.{any_is, found_none, found_some, placed_in, without_is, not_named, is_its_name, met_is, nothing_met}
-use Rattle.module_map.proofs.Worlds.{range_fault, overlap_fault, no_place_fault}
+use Rattle.module_map.proofs.Removals.{clear_removed}
+use Rattle.module_map.proofs.Worlds.{any_is, found_none, found_some, placed_in, without_is}
+use Rattle.module_map.proofs.Worlds.{not_named, is_its_name, met_is, nothing_met, range_fault}
+use Rattle.module_map.proofs.Worlds.{overlap_fault, no_place_fault}
 
 -- the world of sorted modules
 abbrev pub world_of : List NumberedModule → ℕ → World
 world_of hs loads = record { modules = map loaded_of hs; loads = loads }
 
-abbrev named : List ℕ → NumberedModule → Bool
+abbrev pub named : List ℕ → NumberedModule → Bool
 named name h = is_named name h.loaded
 
 module _ (hs : List NumberedModule) (loads : ℕ) (name : List ℕ) where
-  pub not_there : position (named name) hs ≡ None → Unloads (world_of hs loads) name (Err NoModule) (world_of hs loads)
+  pub not_there : position (named name) hs ≡ None
+      → Unloads (world_of hs loads) name (Err NoModule) (world_of hs loads)
   not_there e = (sym (any_is (is_named name) hs) ∙ ap is_some e, refl, refl)
 
-  pub unloaded : (hs' : List NumberedModule) (own : ℕ) → position (named name) hs ≡ Some own → IsOnly hs name own → hs' ≡ remove hs own →
-      Unloads (world_of hs loads) name (Ok tt) (world_of hs' loads)
-  unloaded hs' own e only is =
-      (sym (any_is (is_named name) hs) ∙ ap is_some e, ap (λ (l : List Loaded). record { modules = l; loads = loads }) (ap (map loaded_of) is ∙ sym (without_is name hs own only)))
+  pub unloaded : (hs' : List NumberedModule) (own : ℕ) → position (named name) hs ≡ Some own
+      → IsOnly hs name own → hs' ≡ remove hs own
+      → Unloads (world_of hs loads) name (Ok tt) (world_of hs' loads)
+  unloaded hs' own e only is = (
+    sym (any_is (is_named name) hs) ∙ ap is_some e,
+    ap (λ (l : List Loaded). record { modules = l; loads = loads })
+        (ap (map loaded_of) is ∙ sym (without_is name hs own only)),
+  )
 
-  pub not_moved : (base : ℕ) → position (named name) hs ≡ None → Moves (world_of hs loads) name base (Err NoModule) (world_of hs loads)
-  not_moved base e = (ap (λ o. move_fault o (world_of hs loads) base) (found_none (is_named name) hs e), refl)
+  pub not_moved : (base : ℕ) → position (named name) hs ≡ None
+      → Moves (world_of hs loads) name base (Err NoModule) (world_of hs loads)
+  not_moved base e = (
+    ap (λ o. move_fault o (world_of hs loads) base)
+        (found_none (is_named name) hs e),
+    refl,
+  )
 
-  module _ (base own : ℕ) (d : NumberedModule) (at_own : position (named name) hs ≡ Some own) (only : IsOnly hs name own) where
+  module _ (base own : ℕ) (d : NumberedModule) (at_own : position (named name) hs ≡ Some own)
+      (only : IsOnly hs name own) where
     abbrev m : Loaded
     m = moved_to base (get_or hs own d).loaded
 
-    its_name : (e : NumberedModule) → own < length hs → is_named m.name (get_or hs own e).loaded ≡ true
+    its_name : (e : NumberedModule) → own < length hs → is_named m.name (get_or hs own e).loaded
+        ≡ true
     its_name e lt = is_its_name m.name (get_or hs own e) (only.here e ∙ sym (only.here d))
 
-    other_names : (k : ℕ) (e : NumberedModule) → k < length hs → IsOther own k → is_named m.name (get_or hs k e).loaded ≡ false
-    other_names k e lt o = not_named m.name (get_or hs k e) (λ same. only.others k e lt o (same ∙ only.here d))
+    other_names : (k : ℕ) (e : NumberedModule) → k < length hs → IsOther own k
+        → is_named m.name (get_or hs k e).loaded ≡ false
+    other_names k e lt o = not_named m.name (get_or hs k e)
+        (λ same. only.others k e lt o (same ∙ only.here d))
 
-    refused : (fault : MapFault) → place_fault m (map loaded_of hs) ≡ Some fault →
-        Moves (world_of hs loads) name base (Err fault) (world_of hs loads)
-    refused fault e = (ap (λ o. move_fault o (world_of hs loads) base) (found_some (is_named name) hs own d at_own) ∙ e, refl)
+    refused : (fault : MapFault) → place_fault m (map loaded_of hs) ≡ Some fault
+        → Moves (world_of hs loads) name base (Err fault) (world_of hs loads)
+    refused fault e = (
+      ap (λ o. move_fault o (world_of hs loads) base)
+          (found_some (is_named name) hs own d at_own) ∙ e,
+      refl,
+    )
 
-    pub moved_past : 2 ^ 64 ≤ end_of m → Moves (world_of hs loads) name base (Err Range) (world_of hs loads)
+    pub moved_past : 2 ^ 64 ≤ end_of m → Moves (world_of hs loads) name base (Err Range)
+        (world_of hs loads)
     moved_past le = refused Range (range_fault m (map loaded_of hs) le)
 
-    pub moved_over : (met : ℕ) → end_of m < 2 ^ 64 → IsMet hs own (start_of m) (end_of m) met →
-        Moves (world_of hs loads) name base (Err (Overlap met)) (world_of hs loads)
-    moved_over met lt is = refused (Overlap met) (overlap_fault m (map loaded_of hs) met lt (met_is hs own m its_name other_names met is))
+    pub moved_over : (met : ℕ) → end_of m < 2 ^ 64 → IsMet hs own (start_of m) (end_of m) met
+        → Moves (world_of hs loads) name base (Err (Overlap met)) (world_of hs loads)
+    moved_over met lt is = refused (Overlap met)
+        (overlap_fault m (map loaded_of hs) met lt (met_is hs own m its_name other_names met is))
 
-    pub moved_into : (hs' : List NumberedModule) (at : ℕ) (extent : Extent) → end_of m < 2 ^ 64 → start_of m < end_of m →
-        IsClear hs own (start_of m) (end_of m) at → IsExtentOf extent m →
-        hs' ≡ relocated hs own at (rebased base (get_or hs own d)) → Moves (world_of hs loads) name base (Ok extent) (world_of hs' loads)
+    pub moved_into : (hs' : List NumberedModule) (at : ℕ) (extent : Extent) → end_of m < 2 ^ 64
+        → start_of m < end_of m
+        → IsClear hs own (start_of m) (end_of m) at → IsExtentOf extent m
+        → hs' ≡ relocated hs own at (rebased base (get_or hs own d))
+        → Moves (world_of hs loads) name base (Ok extent) (world_of hs' loads)
     moved_into hs' at extent lt order clear lies is = (
       ap (λ o. move_fault o (world_of hs loads) base) found
-          ∙ no_place_fault m (map loaded_of hs) lt (nothing_met hs own m its_name other_names at clear),
-      subst (λ o. IsMoved (world_of hs loads) o base extent (world_of hs' loads)) (sym found)
-          (lies, ap (λ (l : List Loaded). record { modules = l; loads = loads }) (ap (map loaded_of) is ∙ sym there)),
+          ∙ no_place_fault m (map loaded_of hs) lt
+          (nothing_met hs own m its_name other_names at clear),
+      subst (λ o. IsMoved (world_of hs loads) o base extent (world_of hs' loads)) (sym found) (
+        lies,
+        ap (λ (l : List Loaded). record { modules = l; loads = loads })
+            (ap (map loaded_of) is ∙ sym there),
+      ),
     )
       where
         found : find (is_named name) (map loaded_of hs) ≡ Some (get_or hs own d).loaded
         found = found_some (is_named name) hs own d at_own
 
-        there : placed m (without (get_or hs own d).loaded.name (map loaded_of hs)) ≡ map loaded_of (relocated hs own at (rebased base (get_or hs own d)))
-        there = ap (λ (n : List ℕ). placed m (without n (map loaded_of hs))) (only.here d) ∙ ap (placed m) (without_is name hs own only)
-            ∙ placed_in (remove hs own) (if nat_le at own then at else at - 1) (rebased base (get_or hs own d)) (clear_removed hs own (start_of m) (end_of m) at clear only.within) order
-
--- ---- a module that is cached
-
-module _ (hs : List NumberedModule) (loads : ℕ) (m : Loaded) (new : position (named m.name) hs ≡ None) where
-  none_itself : (d : NumberedModule) → length hs < length hs → is_named m.name (get_or hs (length hs) d).loaded ≡ true
-  none_itself d lt = absurd (omega arith)
-
-  pub placed_over : (met : ℕ) → end_of m < 2 ^ 64 → IsMet hs (length hs) (start_of m) (end_of m) met →
-      place_fault m (map loaded_of hs) ≡ Some (Overlap met)
-  placed_over met lt is =
-      overlap_fault m (map loaded_of hs) met lt (met_is hs (length hs) m none_itself (λ k d k_lt o. all_fail (named m.name) hs new k d k_lt) met is)
-
-  pub placed_free : (at : ℕ) → end_of m < 2 ^ 64 → IsClear hs (length hs) (start_of m) (end_of m) at →
-      place_fault m (map loaded_of hs) ≡ None
-  placed_free at lt clear =
-      no_place_fault m (map loaded_of hs) lt (nothing_met hs (length hs) m none_itself (λ k d k_lt o. all_fail (named m.name) hs new k d k_lt) at clear)
-
--- a name that is not taken is on no place
-pub free_name : (name : List ℕ) (hs : List NumberedModule) (loads : ℕ) → is_taken name (world_of hs loads) ≡ false →
-    position (named name) hs ≡ None
-free_name name hs loads e = by (position (named name) hs) refl
-  where
-    by : (o : Option ℕ) → position (named name) hs ≡ o → o ≡ None
-    by None q = refl
-    by (Some i) q = absurd (true≢false (sym (ap is_some q) ∙ any_is (is_named name) hs ∙ e))
-
--- ---- the same of an entry that was read at its place
-
-abbrev LiesAt : Extent → Loaded → Type 0
-LiesAt extent m = IsExtentOf extent m × (start_of m < end_of m) × (end_of m < 2 ^ 64)
-
-module _ (hs : List NumberedModule) (loads : ℕ) (name : List ℕ) (base own : ℕ) (x : NumberedModule) (at_own : position (named name) hs ≡ Some own) (only : IsOnly hs name own) (is : x ≡ get_or hs own x) where
-  abbrev its : Loaded
-  its = moved_to base (get_or hs own x).loaded
-
-  lies : (extent : Extent) → LiesAt extent (moved_to base x.loaded) → LiesAt extent its
-  lies extent h = subst (λ (y : NumberedModule). LiesAt extent (moved_to base y.loaded)) is h
-
-  pub past_by : 2 ^ 64 ≤ end_of (moved_to base x.loaded) → Moves (world_of hs loads) name base (Err Range) (world_of hs loads)
-  past_by le =
-      moved_past hs loads name base own x at_own only (subst (λ (y : NumberedModule). 2 ^ 64 ≤ end_of (moved_to base y.loaded)) is le)
-
-  pub over_by : (extent : Extent) (met : ℕ) → LiesAt extent (moved_to base x.loaded) → IsMet hs own extent.low extent.high met →
-      Moves (world_of hs loads) name base (Err (Overlap met)) (world_of hs loads)
-  over_by extent met h there = let l = lies extent h in
-      moved_over hs loads name base own x at_own only met l.2 (subst (λ a. IsMet hs own a (end_of its) met) l.0.0 (subst (λ b. IsMet hs own extent.low b met) l.0.1 there))
-
-  clear_by : (extent : Extent) (at : ℕ) → LiesAt extent (moved_to base x.loaded) → IsClear hs own extent.low extent.high at →
-      IsClear hs own (start_of its) (end_of its) at
-  clear_by extent at h clear =
-      let l = lies extent h in
-      subst (λ a. IsClear hs own a (end_of its) at) l.0.0 (subst (λ b. IsClear hs own extent.low b at) l.0.1 clear)
-
-  pub into_by : (hs' : List NumberedModule) (extent : Extent) (at : ℕ) → LiesAt extent (moved_to base x.loaded) →
-      IsClear hs own extent.low extent.high at →
-      hs' ≡ relocated hs own at (rebased base (get_or hs own x)) → Moves (world_of hs loads) name base (Ok extent) (world_of hs' loads)
-  into_by hs' extent at h clear turn = let l = lies extent h in
-      moved_into hs loads name base own x at_own only hs' at extent l.2 l.1 (clear_by extent at h clear) l.0 turn
-
-  -- what a turn requires
-  pub gap_by : (extent : Extent) (at : ℕ) → LiesAt extent (moved_to base x.loaded) → IsClear hs own extent.low extent.high at →
-      (d : NumberedModule) →
-      IsClear hs own (start_of (moved_to base (get_or hs own d).loaded)) (end_of (moved_to base (get_or hs own d).loaded)) at
-  gap_by extent at h clear d =
-      subst (λ (y : NumberedModule). IsClear hs own (start_of (moved_to base y.loaded)) (end_of (moved_to base y.loaded)) at) (get_or_default hs own x d only.within) (clear_by extent at h clear)
-
-  pub fits_by : (extent : Extent) → LiesAt extent (moved_to base x.loaded) → (d : NumberedModule) →
-      end_of (moved_to base (get_or hs own d).loaded) < 2 ^ 64
-  fits_by extent h d =
-      subst (λ (y : NumberedModule). end_of (moved_to base y.loaded) < 2 ^ 64) (is ∙ get_or_default hs own x d only.within) h.2
-
--- ---- what a load finds out
-
-module _ (hs : List NumberedModule) (loads : ℕ) (m : Loaded) (len low high : ℕ) (free : is_taken m.name (world_of hs loads) ≡ false) (all : len ≡ length hs) (from : low ≡ start_of m) (to : high ≡ end_of m) where
-  pub over_any : (met : ℕ) → end_of m < 2 ^ 64 → IsMet hs len low high met → place_fault m (map loaded_of hs) ≡ Some (Overlap met)
-  over_any met lt is =
-      placed_over hs loads m (free_name m.name hs loads free) met lt (subst (λ n. IsMet hs n (start_of m) (end_of m) met) all (subst (λ a. IsMet hs len a (end_of m) met) from (subst (λ b. IsMet hs len low b met) to is)))
-
-  pub clear_all : (at : ℕ) → IsClear hs len low high at → IsClear hs (length hs) (start_of m) (end_of m) at
-  clear_all at is =
-      subst (λ n. IsClear hs n (start_of m) (end_of m) at) all (subst (λ a. IsClear hs len a (end_of m) at) from (subst (λ b. IsClear hs len low b at) to is))
-
-  pub free_all : (at : ℕ) → end_of m < 2 ^ 64 → IsClear hs len low high at → place_fault m (map loaded_of hs) ≡ None
-  free_all at lt is = placed_free hs loads m (free_name m.name hs loads free) at lt (clear_all at is)
-
-  pub kept_there : (hs' : List NumberedModule) (at serial : ℕ) (h : NumberedModule) → h ≡ record { serial = serial; loaded = m } →
-      start_of m < end_of m → IsClear hs len low high at → hs' ≡ insert hs at h →
-      map loaded_of hs' ≡ placed m (map loaded_of hs)
-  kept_there hs' at serial h is order clear new =
-      ap (map loaded_of) (new ∙ ap (insert hs at) is)
-      ∙ sym (placed_in hs at (record { serial = serial; loaded = m }) (clear_all at clear) order)
-
--- the same but for the modules
-pub same_but_modules : (l l' : List Loaded) (loads cached capacity compares decoded : ℕ) → l ≡ l' →
-    ◌≡◌ {A = ModuleMap} (record { world = record { modules = l; loads = loads }; cached = cached; capacity = capacity; compares = compares; decoded = decoded })
-    (record { world = record { modules = l'; loads = loads }; cached = cached; capacity = capacity; compares = compares; decoded = decoded })
-same_but_modules l l' loads cached capacity compares decoded e =
-    ap (λ (z : List Loaded). let w : World = record { modules = z; loads = loads } in let m : ModuleMap = record { world = w; cached = cached; capacity = capacity; compares = compares; decoded = decoded } in m) e
-
--- where not as many modules are loaded as may be
-pub room_left : (hs : List NumberedModule) (loads : ℕ) → is_full (world_of hs loads) ≡ false → length hs < most_modules
-room_left hs loads e = let count : length (map loaded_of hs) ≡ length hs = simp length-map in
-    let first = left_false (nat_le most_modules (length (map loaded_of hs))) (nat_le (2 ^ 64 - 1) loads) e in
-    let lt = leb-false most_modules (length (map loaded_of hs)) first in omega arith
-  where
-    left_false : (a b : Bool) → (a || b) ≡ false → a ≡ false
-    left_false true b h = cc
-    left_false false b h = refl
+        there : placed m (without (get_or hs own d).loaded.name (map loaded_of hs))
+            ≡ map loaded_of (relocated hs own at (rebased base (get_or hs own d)))
+        there = ap (λ (n : List ℕ). placed m (without n (map loaded_of hs))) (only.here d)
+            ∙ ap (placed m) (without_is name hs own only)
+            ∙ placed_in (remove hs own) (if nat_le at own then at else at - 1)
+            (rebased base (get_or hs own d))
+            (clear_removed hs own (start_of m) (end_of m) at clear only.within) order

@@ -1,5 +1,6 @@
 -- A gap among modules by rising address, and what becomes of one that is taken.
-use Rattle.std.proofs.Common.{◌≡◌, ◌≢◌, ◌⊎◌, inl, inr, ℕ, ◌+◌, ◌<◌, ◌≤◌, List, length, get_or, arith}
+use Rattle.std.proofs.Common.{◌≡◌, ◌≢◌, ◌⊎◌, inl, inr, ℕ, ◌+◌, ◌<◌, ◌≤◌, List, length, get_or}
+use Rattle.std.proofs.Common.{arith}
 use Rattle.std.proofs.lemmas.Bool.{cases_lt}
 use Rattle.module_map.specs.World.{start_of, end_of}
 use Rattle.module_map.specs.Private.Serials.{NumberedModule}
@@ -19,19 +20,30 @@ not_own own k (inl below) = λ e. omega arith
 not_own own k (inr above) = λ e. omega arith
 
 pub next_here : (own len from : ℕ) → (from ≢ own) ⊎ (len ≤ from) → IsNext own len from from
-next_here own len from side = record { above = omega arith; least = λ k p q. absurd (omega arith); other = other side }
+next_here own len from side = record {
+  above = omega arith;
+  least = λ k p q. absurd (omega arith);
+  other = other side;
+}
   where
     other : (from ≢ own) ⊎ (len ≤ from) → from < len → IsOther own from
     other (inl ne) lt = other_of own from ne
     other (inr end) lt = absurd (omega arith)
 
 pub next_past : (own len from : ℕ) → from ≡ own → IsNext own len from (from + 1)
-next_past own len from is = record { above = omega arith; least = λ k p q. omega arith; other = λ _. inr (omega arith) }
+next_past own len from is = record {
+  above = omega arith;
+  least = λ k p q. omega arith;
+  other =
+      λ _. inr (omega arith);
+}
 
-module _ (held : List NumberedModule) (own low high n : ℕ) (rising : AreRising held) (begun : HasBegun held low n) (order : low < high) where
+module _ (held : List NumberedModule) (own low high n : ℕ) (rising : AreRising held)
+    (begun : HasBegun held low n) (order : low < high) where
   -- the last one that begins at the low end or before it ends past it
-  pub met_last : (at : ℕ) → at + 1 ≡ n → at ≢ own → ((d : NumberedModule) → low < end_of (get_or held at d).loaded) →
-      IsMet held own low high at
+  pub met_last : (at : ℕ) → at + 1 ≡ n → at ≢ own
+      → ((d : NumberedModule) → low < end_of (get_or held at d).loaded)
+      → IsMet held own low high at
   met_last at last ne ends = record {
     within = let w = begun.within in omega arith;
     other = other_of own at ne;
@@ -41,52 +53,63 @@ module _ (held : List NumberedModule) (own low high n : ℕ) (rising : AreRising
   }
 
   -- where a place begins at the high end or later, so do those after it
-  later : (at k : ℕ) (d : NumberedModule) → at ≤ k → k < length held →
-      ((d : NumberedModule) → high ≤ start_of (get_or held at d).loaded) → high ≤ start_of (get_or held k d).loaded
+  later : (at k : ℕ) (d : NumberedModule) → at ≤ k → k < length held
+      → ((d : NumberedModule) → high ≤ start_of (get_or held at d).loaded)
+      → high ≤ start_of (get_or held k d).loaded
   later at k d le lt begins = by (cases_lt at k)
     where
       by : (at < k) ⊎ (k ≤ at) → high ≤ start_of (get_or held k d).loaded
-      by (inl above) = let b = begins d in let a = rising.apart at k d above lt in let s = rising.sound at d (omega arith) in omega arith
+      by (inl above) = let b = begins d in let a = rising.apart at k d above lt in let s =
+          rising.sound at d (omega arith) in omega arith
       by (inr to) = let same : k ≡ at = omega arith in rw same (begins d)
 
   -- the last one, if it is another, ends at the low end or before it
-  module _ (done : (at : ℕ) (d : NumberedModule) → at + 1 ≡ n → IsOther own at → end_of (get_or held at d).loaded ≤ low) (next : ℕ) (is : IsNext own (length held) n next) where
-    ended : (k : ℕ) (d : NumberedModule) → k < n → IsOther own k → end_of (get_or held k d).loaded ≤ low
-    ended k d lt o = by (cases_lt (k + 1) n)
-      where
-        by : (k + 1 < n) ⊎ (n ≤ k + 1) → end_of (get_or held k d).loaded ≤ low
-        by (inl before) = passed held low n rising begun k d before
-        by (inr last) = done k d (omega arith) o
+  module _ (done : (at : ℕ) (d : NumberedModule) → at + 1 ≡ n → IsOther own at
+      → end_of (get_or held at d).loaded ≤ low) (next : ℕ) (is : IsNext own (length held) n next)
+    where
+      ended : (k : ℕ) (d : NumberedModule) → k < n → IsOther own k
+          → end_of (get_or held k d).loaded ≤ low
+      ended k d lt o = by (cases_lt (k + 1) n)
+        where
+          by : (k + 1 < n) ⊎ (n ≤ k + 1) → end_of (get_or held k d).loaded ≤ low
+          by (inl before) = passed held low n rising begun k d before
+          by (inr last) = done k d (omega arith) o
 
-    before_next : (k : ℕ) (d : NumberedModule) → k < next → IsOther own k → end_of (get_or held k d).loaded ≤ low
-    before_next k d lt o = by (cases_lt k n)
-      where
-        by : (k < n) ⊎ (n ≤ k) → end_of (get_or held k d).loaded ≤ low
-        by (inl before) = ended k d before o
-        by (inr from) = absurd (not_own own k o (is.least k from lt))
+      before_next : (k : ℕ) (d : NumberedModule) → k < next → IsOther own k
+          → end_of (get_or held k d).loaded ≤ low
+      before_next k d lt o = by (cases_lt k n)
+        where
+          by : (k < n) ⊎ (n ≤ k) → end_of (get_or held k d).loaded ≤ low
+          by (inl before) = ended k d before o
+          by (inr from) = absurd (not_own own k o (is.least k from lt))
 
-    pub met_next : next < length held → ((d : NumberedModule) → start_of (get_or held next d).loaded < high) →
-        IsMet held own low high next
-    met_next lt begins = record {
-      within = lt;
-      other = is.other lt;
-      begins = begins;
-      ends = λ d. (let l = begun.after next d is.above lt in let s = rising.sound next d lt in omega arith);
-      before = before_next;
-    }
+      pub met_next : next < length held → ((d : NumberedModule)
+          → start_of (get_or held next d).loaded < high)
+          → IsMet held own low high next
+      met_next lt begins = record {
+        within = lt;
+        other = is.other lt;
+        begins = begins;
+        ends = λ d. (let l = begun.after next d is.above lt in let s = rising.sound next d lt in
+            omega arith);
+        before = before_next;
+      }
 
-    from_next : (k : ℕ) → n ≤ k → IsOther own k → next ≤ k
-    from_next k le o = by (cases_lt k next)
-      where
-        by : (k < next) ⊎ (next ≤ k) → next ≤ k
-        by (inl below) = absurd (not_own own k o (is.least k le below))
-        by (inr from) = from
+      from_next : (k : ℕ) → n ≤ k → IsOther own k → next ≤ k
+      from_next k le o = by (cases_lt k next)
+        where
+          by : (k < next) ⊎ (next ≤ k) → next ≤ k
+          by (inl below) = absurd (not_own own k o (is.least k le below))
+          by (inr from) = from
 
-    pub clear_all : (next < length held → (d : NumberedModule) → high ≤ start_of (get_or held next d).loaded) →
-        IsClear held own low high n
-    clear_all begins = record {
-      within = begun.within;
-      under = λ k d lt o. (let e = ended k d lt o in let w = begun.within in let s = rising.sound k d (omega arith) in omega arith);
-      before = ended;
-      after = λ k d le lt o. (let f = from_next k le o in later next k d f lt (begins (omega arith)));
-    }
+      pub clear_all : (next < length held → (d : NumberedModule)
+          → high ≤ start_of (get_or held next d).loaded)
+          → IsClear held own low high n
+      clear_all begins = record {
+        within = begun.within;
+        under = λ k d lt o. (let e = ended k d lt o in let w = begun.within in let s =
+            rising.sound k d (omega arith) in omega arith);
+        before = ended;
+        after = λ k d le lt o. (let f = from_next k le o in
+            later next k d f lt (begins (omega arith)));
+      }

@@ -11,14 +11,22 @@ pub record Halved (whole left used : ℕ) : Type 0 where
 pub halved_none : (n : ℕ) → Halved n n 0
 halved_none n = record { powers = λ a h. (a, omega arith, h) }
 
-halved_again : (left left' used a r : ℕ) → 0 < left → left' + left' ≤ left → used + r ≡ a → left < 2 ^ r →
-    (s : ℕ) × (used + 1 + s ≡ a) × (left' < 2 ^ s)
+halved_again : (left left' used a r : ℕ) → 0 < left → left' + left' ≤ left → used + r ≡ a
+    → left < 2 ^ r
+    → (s : ℕ) × (used + 1 + s ≡ a) × (left' < 2 ^ s)
 halved_again left left' used a zero some half is fits = absurd (omega arith)
-halved_again left left' used a (suc r) some half is fits = let twice = two-pow-succ r in (r, omega arith, omega (arith, twice))
+halved_again left left' used a (suc r) some half is fits = let twice = two-pow-succ r in
+    (r, omega arith, omega (arith, twice))
 
-pub halved_more : (whole left left' used : ℕ) → Halved whole left used → 0 < left → left' + left' ≤ left → Halved whole left' (used + 1)
-halved_more whole left left' used h some half = record { powers = λ a lt. let p = h.powers a lt in halved_again left left' used a p.0 some half p.1 p.2 }
+pub halved_more : (whole left left' used : ℕ) → Halved whole left used → 0 < left
+    → left' + left' ≤ left → Halved whole left' (used + 1)
+halved_more whole left left' used h some half =
+    record {
+      powers = λ a lt. let p = h.powers a lt in
+          halved_again left left' used a p.0 some half p.1 p.2;
+    }
 
 -- it took at most as many as the length has binary digits
 pub halved_all : (whole left used : ℕ) → Halved whole left used → used ≤ bits whole
-halved_all whole left used h = let p = h.powers (bits whole) (below_bits whole) in omega (arith, p.1)
+halved_all whole left used h = let p = h.powers (bits whole) (below_bits whole) in
+    omega (arith, p.1)

@@ -4,11 +4,13 @@ pub mod Positions
 pub mod Searches
 pub mod Gaps
 pub mod Edits
+pub mod Removals
 pub mod Names
 pub mod Rotations
 pub mod Worlds
 pub mod Serials
 pub mod Changing
+pub mod CachedModules
 pub mod Loading
 pub mod Asking
 pub mod Answering

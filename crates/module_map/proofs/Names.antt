@@ -1,7 +1,9 @@
 -- Names of modules, and a list in which one was written over.
-use Rattle.std.proofs.Common.{◌≡◌, ◌≢◌, inl, inr, ℕ, zero, suc, ◌-◌, ◌<◌, ◌≤◌, Bool, true, false, List, [], ◌∷◌, ◌++◌, length, get_or}
+use Rattle.std.proofs.Common.{◌≡◌, ◌≢◌, inl, inr, ℕ, zero, suc, ◌-◌, ◌<◌, ◌≤◌, Bool, true, false}
+use Rattle.std.proofs.Common.{List, [], ◌∷◌, ◌++◌, length, get_or}
 use Rattle.std.proofs.Common.{take, set, refl, sym, ap, ap₂, ◌∙◌, subst, arith}
-use Rattle.std.specs.Prelude.{Option, None, Some, IfSome, position, insert, nat_le, nat_lt, not, if◌then◌else◌}
+use Rattle.std.specs.Prelude.{Option, None, Some, IfSome, position, insert, nat_le, nat_lt, not}
+use Rattle.std.specs.Prelude.{if◌then◌else◌}
 use Rattle.std.specs.List.{position_or_len}
 use Rattle.std.proofs.lemmas.Bool.{ltb-false, true≢false}
 use Rattle.std.proofs.lemmas.List.{get_or_default}
@@ -13,25 +15,31 @@ use Rattle.module_map.specs.Private.Serials.{NumberedModule}
 use Rattle.module_map.specs.Private.Rising.{AreRising, IsOther, IsOnly, relocated, rebased}
 use Rattle.module_map.proofs.Rotations.{remove-set, get_or-set_here}
 
-not_front : {X : Type 0} (p : X → Bool) (xs : List X) → position p xs ≡ None → length xs ≤ position_or_len p xs
+not_front : {X : Type 0} (p : X → Bool) (xs : List X) → position p xs ≡ None
+    → length xs ≤ position_or_len p xs
 not_front p xs none = by (nat_lt (position_or_len p xs) (length xs)) refl
   where
-    by : (b : Bool) → nat_lt (position_or_len p xs) (length xs) ≡ b → length xs ≤ position_or_len p xs
+    by : (b : Bool) → nat_lt (position_or_len p xs) (length xs) ≡ b
+        → length xs ≤ position_or_len p xs
     by true e = let bad = rw e at none in cc
     by false e = ltb-false (position_or_len p xs) (length xs) e
 
-pub all_fail : {X : Type 0} (p : X → Bool) (xs : List X) → position p xs ≡ None → (k : ℕ) (d : X) → k < length xs →
-    p (get_or xs k d) ≡ false
+pub all_fail : {X : Type 0} (p : X → Bool) (xs : List X) → position p xs ≡ None → (k : ℕ) (d : X)
+    → k < length xs
+    → p (get_or xs k d) ≡ false
 all_fail p xs none k d lt =
-    let n = not_front p xs none in not_true (p (get_or xs k d)) (prefix_len_passes (λ x. not (p x)) xs k d (omega arith))
+    let n = not_front p xs none in not_true (p (get_or xs k d))
+    (prefix_len_passes (λ x. not (p x)) xs k d (omega arith))
   where
     not_true : (b : Bool) → not b ≡ true → b ≡ false
     not_true true e = cc
     not_true false e = refl
 
-pub names_differ : (name : List ℕ) (held : List NumberedModule) → position (λ (h : NumberedModule). is_named name h.loaded) held ≡ None →
-    (k : ℕ) (d : NumberedModule) → k < length held → (get_or held k d).loaded.name ≢ name
-names_differ name held none k d lt = λ e. let f = all_fail (λ (h : NumberedModule). is_named name h.loaded) held none k d lt in
+pub names_differ : (name : List ℕ) (held : List NumberedModule)
+    → position (λ (h : NumberedModule). is_named name h.loaded) held ≡ None
+    → (k : ℕ) (d : NumberedModule) → k < length held → (get_or held k d).loaded.name ≢ name
+names_differ name held none k d lt = λ e. let f =
+    all_fail (λ (h : NumberedModule). is_named name h.loaded) held none k d lt in
     true≢false (sym ((bytes_eq-Decides (get_or held k d).loaded.name name).1 e) ∙ f)
 
 pub whole : {X : Type 0} (xs ys : List X) (n : ℕ) → length xs ≡ n → take n (xs ++ ys) ≡ xs
@@ -40,29 +48,42 @@ whole (x ∷ xs) ys zero e = absurd (omega arith)
 whole (x ∷ xs) ys (suc n) e = ap (λ l. x ∷ l) (whole xs ys n (omega arith))
 
 -- the same list, where the one that is moved was written in its place first
-pub turned_set : (held items xs : List NumberedModule) (own at base : ℕ) (h was d : NumberedModule) → items ≡ held → own < length held →
-    xs ≡ set items own h → h ≡ rebased base was → was ≡ get_or items own was →
-    relocated xs own at (get_or xs own d) ≡ relocated held own at (rebased base (get_or held own d))
+pub turned_set : (held items xs : List NumberedModule) (own at base : ℕ) (h was d : NumberedModule)
+    → items ≡ held → own < length held
+    → xs ≡ set items own h → h ≡ rebased base was → was ≡ get_or items own was
+    → relocated xs own at (get_or xs own d)
+    ≡ relocated held own at (rebased base (get_or held own d))
 turned_set held items xs own at base h was d same lt written is old =
-    let there : own < length items = subst (λ (l : List NumberedModule). own < length l) (sym same) lt in
+    let there : own < length items = subst (λ (l : List NumberedModule). own < length l) (sym same)
+    lt in
     ap (λ (l : List NumberedModule). relocated l own at (get_or l own d)) written
-    ∙ ap₂ (λ (l : List NumberedModule) (g : NumberedModule). insert l (if nat_le at own then at else at - 1) g) (remove-set items own h) (get_or-set_here items own h d there ∙ is ∙ ap (rebased base) (old ∙ get_or_default items own was d there))
+    ∙ ap₂ (λ (l : List NumberedModule) (g : NumberedModule). insert l
+    (if nat_le at own then at else at - 1) g) (remove-set items own h)
+    (get_or-set_here items own h d there ∙ is
+    ∙ ap (rebased base) (old ∙ get_or_default items own was d there))
     ∙ ap (λ (l : List NumberedModule). relocated l own at (rebased base (get_or l own d))) same
 
 -- the first of a name is the only one
-pub only_named : (name : List ℕ) (held : List NumberedModule) → AreRising held → (o : Option ℕ) →
-    o ≡ position (λ (h : NumberedModule). is_named name h.loaded) held → IfSome o (IsOnly held name)
+pub only_named : (name : List ℕ) (held : List NumberedModule) → AreRising held → (o : Option ℕ)
+    → o ≡ position (λ (h : NumberedModule). is_named name h.loaded) held
+    → IfSome o (IsOnly held name)
 only_named name held rising None e = tt
-only_named name held rising (Some own) e = record { within = within held own (sym e); here = here; others = others }
+only_named name held rising (Some own) e =
+    record { within = within held own (sym e); here = here; others = others }
   where
-    within : (hs : List NumberedModule) (i : ℕ) → position (λ (h : NumberedModule). is_named name h.loaded) hs ≡ Some i → i < length hs
+    within : (hs : List NumberedModule) (i : ℕ)
+        → position (λ (h : NumberedModule). is_named name h.loaded) hs ≡ Some i → i < length hs
     within [] i e = cc
-    within (x ∷ xs) i e = (position-Some (λ (h : NumberedModule). is_named name h.loaded) (x ∷ xs) i x e).0
+    within (x ∷ xs) i e = (position-Some (λ (h : NumberedModule). is_named name h.loaded) (x ∷ xs) i
+        x e).0
 
     here : (d : NumberedModule) → (get_or held own d).loaded.name ≡ name
     here d =
-        (bytes_eq-Decides (get_or held own d).loaded.name name).0 (position-Some (λ (h : NumberedModule). is_named name h.loaded) held own d (sym e)).1
+        (bytes_eq-Decides (get_or held own d).loaded.name name).0
+        (position-Some (λ (h : NumberedModule). is_named name h.loaded) held own d (sym e)).1
 
-    others : (k : ℕ) (d : NumberedModule) → k < length held → IsOther own k → (get_or held k d).loaded.name ≢ name
-    others k d lt (inl below) = λ same. rising.names k own d below (within held own (sym e)) (same ∙ sym (here d))
+    others : (k : ℕ) (d : NumberedModule) → k < length held → IsOther own k
+        → (get_or held k d).loaded.name ≢ name
+    others k d lt (inl below) = λ same. rising.names k own d below (within held own (sym e))
+        (same ∙ sym (here d))
     others k d lt (inr above) = λ same. rising.names own k d above lt (here d ∙ sym same)

@@ -1,5 +1,6 @@
 -- A search by halving among modules by rising address.
-use Rattle.std.proofs.Common.{◌≡◌, ◌⊎◌, inl, inr, ℕ, ◌+◌, ◌-◌, ◌/◌, ◌<◌, ◌≤◌, Bool, true, false, List, length, get_or, refl, subst, arith}
+use Rattle.std.proofs.Common.{◌≡◌, ◌⊎◌, inl, inr, ℕ, ◌+◌, ◌-◌, ◌/◌, ◌<◌, ◌≤◌, Bool, true, false}
+use Rattle.std.proofs.Common.{List, length, get_or, refl, subst, arith}
 use Rattle.std.specs.Prelude.{None, Some, position, nat_lt, nat_le, ◌&&◌}
 use Rattle.std.proofs.lemmas.Bool.{ltb-true, lt-ltb, le-leb, leb-true, cases_lt}
 use Rattle.addr_table.specs.Steps.{bits, counted}
@@ -12,11 +13,14 @@ use Rattle.module_map.proofs.Halving.{Halved, halved_none, halved_more, halved_a
 use Rattle.module_map.proofs.Positions.{is_at, is_nowhere}
 
 -- the number is `low` at least and `high` at most
-pub record Narrowed (held : List NumberedModule) (address low high : ℕ) (before now : Steps) : Type 0 where
+pub record Narrowed (held : List NumberedModule) (address low high : ℕ) (before now : Steps) : Type
+    0 where
   pub order : low ≤ high
   pub within : high ≤ length held
-  pub begins : (k : ℕ) (d : NumberedModule) → k + 1 ≡ low → start_of (get_or held k d).loaded ≤ address
-  pub later : (k : ℕ) (d : NumberedModule) → high ≤ k → k < length held → address < start_of (get_or held k d).loaded
+  pub begins : (k : ℕ) (d : NumberedModule) → k + 1 ≡ low
+      → start_of (get_or held k d).loaded ≤ address
+  pub later : (k : ℕ) (d : NumberedModule) → high ≤ k → k < length held
+      → address < start_of (get_or held k d).loaded
   pub used : ℕ
   pub first : (low ≡ 0) ⊎ (1 ≤ used)
   pub taken : now ≡ counted used before
@@ -25,7 +29,8 @@ pub record Narrowed (held : List NumberedModule) (address low high : ℕ) (befor
 minus_zero : (n : ℕ) → n ≡ n - 0
 minus_zero n = omega arith
 
-pub narrowed_none : (held : List NumberedModule) (address : ℕ) (steps : Steps) → Narrowed held address 0 (length held) steps steps
+pub narrowed_none : (held : List NumberedModule) (address : ℕ) (steps : Steps)
+    → Narrowed held address 0 (length held) steps steps
 narrowed_none held address steps = record {
   order = omega arith;
   within = omega arith;
@@ -34,12 +39,16 @@ narrowed_none held address steps = record {
   used = 0;
   first = inl refl;
   taken = refl;
-  halved = subst (λ n. Halved (length held) n 0) (minus_zero (length held)) (halved_none (length held));
+  halved = subst (λ n. Halved (length held) n 0) (minus_zero (length held))
+      (halved_none (length held));
 }
 
-pub narrowed_up : (held : List NumberedModule) (address low high middle : ℕ) (before now then : Steps) →
-    Narrowed held address low high before now → low < high →
-    middle ≡ low + (high - low) / 2 → ((d : NumberedModule) → start_of (get_or held middle d).loaded ≤ address) → then ≡ counted 1 now → Narrowed held address (middle + 1) high before then
+pub narrowed_up : (held : List NumberedModule) (address low high middle : ℕ)
+    (before now then : Steps)
+    → Narrowed held address low high before now → low < high
+    → middle ≡ low + (high - low) / 2 → ((d : NumberedModule)
+    → start_of (get_or held middle d).loaded ≤ address) → then ≡ counted 1 now
+    → Narrowed held address (middle + 1) high before then
 narrowed_up held address low high middle before now then n some is begins taken = record {
   order = let o = n.order in omega arith;
   within = n.within;
@@ -48,12 +57,16 @@ narrowed_up held address low high middle before now then n some is begins taken 
   used = n.used + 1;
   first = inr (omega arith);
   taken = counted_one n.used before now then n.taken taken;
-  halved = halved_more (length held) (high - low) (high - (middle + 1)) n.used n.halved (omega arith) (let o = n.order in omega arith);
+  halved = halved_more (length held) (high - low) (high - (middle + 1)) n.used n.halved
+      (omega arith) (let o = n.order in omega arith);
 }
 
-pub narrowed_down : (held : List NumberedModule) (address low high middle : ℕ) (before now then : Steps) → AreRising held →
-    Narrowed held address low high before now → low < high →
-    middle ≡ low + (high - low) / 2 → ((d : NumberedModule) → address < start_of (get_or held middle d).loaded) → then ≡ counted 1 now → Narrowed held address low middle before then
+pub narrowed_down : (held : List NumberedModule) (address low high middle : ℕ)
+    (before now then : Steps) → AreRising held
+    → Narrowed held address low high before now → low < high
+    → middle ≡ low + (high - low) / 2 → ((d : NumberedModule)
+    → address < start_of (get_or held middle d).loaded) → then ≡ counted 1 now
+    → Narrowed held address low middle before then
 narrowed_down held address low high middle before now then rising n some is begins taken = record {
   order = let o = n.order in omega arith;
   within = let o = n.order in let w = n.within in omega arith;
@@ -62,27 +75,32 @@ narrowed_down held address low high middle before now then rising n some is begi
   used = n.used + 1;
   first = inr (omega arith);
   taken = counted_one n.used before now then n.taken taken;
-  halved = halved_more (length held) (high - low) (middle - low) n.used n.halved (omega arith) (let o = n.order in omega arith);
+  halved = halved_more (length held) (high - low) (middle - low) n.used n.halved (omega arith)
+      (let o = n.order in omega arith);
 }
   where
-    later : (k : ℕ) (d : NumberedModule) → middle ≤ k → (middle < k) ⊎ (k ≤ middle) → k < length held →
-        address < start_of (get_or held k d).loaded
+    later : (k : ℕ) (d : NumberedModule) → middle ≤ k → (middle < k) ⊎ (k ≤ middle)
+        → k < length held
+        → address < start_of (get_or held k d).loaded
     later k d le (inr here) lt = let same : k ≡ middle = omega arith in rw same (begins d)
     later k d le (inl past) lt =
-        let b = begins d in let a = rising.apart middle k d past lt in let s = rising.sound middle d (omega arith) in omega arith
+        let b = begins d in let a = rising.apart middle k d past lt in let s =
+        rising.sound middle d (omega arith) in omega arith
 
-pub narrowed_all : (held : List NumberedModule) (address low high : ℕ) (before now : Steps) → Narrowed held address low high before now →
-    high ≤ low → HasBegun held address low
+pub narrowed_all : (held : List NumberedModule) (address low high : ℕ) (before now : Steps)
+    → Narrowed held address low high before now
+    → high ≤ low → HasBegun held address low
 narrowed_all held address low high before now n end = record {
   within = let o = n.order in let w = n.within in omega arith;
   before = n.begins;
   after = λ k d le in'. n.later k d (let o = n.order in omega arith) in';
 }
 
-pub narrowed_count : (held : List NumberedModule) (address low high : ℕ) (before now : Steps) →
-    Narrowed held address low high before now →
-    (n : ℕ) × (n ≤ bits (length held)) × ((low ≡ 0) ⊎ (1 ≤ n)) × (now ≡ counted n before)
-narrowed_count held address low high before now n = (n.used, halved_all (length held) (high - low) n.used n.halved, n.first, n.taken)
+pub narrowed_count : (held : List NumberedModule) (address low high : ℕ) (before now : Steps)
+    → Narrowed held address low high before now
+    → (n : ℕ) × (n ≤ bits (length held)) × ((low ≡ 0) ⊎ (1 ≤ n)) × (now ≡ counted n before)
+narrowed_count held address low high before now n =
+    (n.used, halved_all (length held) (high - low) n.used n.halved, n.first, n.taken)
 
 -- ---- the module that holds an address
 
@@ -104,7 +122,8 @@ test_past s e a p = by (nat_le s a) (nat_lt a e) refl
     by true false t = refl
     by false false t = refl
 
-module _ (held : List NumberedModule) (address n : ℕ) (rising : AreRising held) (begun : HasBegun held address n) where
+module _ (held : List NumberedModule) (address n : ℕ) (rising : AreRising held)
+    (begun : HasBegun held address n) where
   -- those before the last that begins there or before end where it begins, or before
   pub passed : (k : ℕ) (d : NumberedModule) → k + 1 < n → end_of (get_or held k d).loaded ≤ address
   passed k d lt =
@@ -113,22 +132,29 @@ module _ (held : List NumberedModule) (address n : ℕ) (rising : AreRising held
       omega arith
 
   -- one of another place does not hold the address
-  others : (k : ℕ) (d : NumberedModule) → k < length held → (k + 1 < n) ⊎ (n ≤ k) → holds address (get_or held k d).loaded ≡ false
+  others : (k : ℕ) (d : NumberedModule) → k < length held → (k + 1 < n) ⊎ (n ≤ k)
+      → holds address (get_or held k d).loaded ≡ false
   others k d lt (inl before) = test_past _ _ address (passed k d before)
   others k d lt (inr after) = test_below _ _ address (begun.after k d after lt)
 
-  pub held_here : (at : ℕ) → at + 1 ≡ n → ((d : NumberedModule) → address < end_of (get_or held at d).loaded) →
-      position (λ h. holds address h.loaded) held ≡ Some at
-  held_here at last ends = is_at (λ (h : NumberedModule). holds address h.loaded) held at (let w = begun.within in omega arith)
-      (λ d. test_holds _ _ address (begun.before at d last) (ends d)) (λ k d lt. test_past _ _ address (passed k d (omega arith)))
+  pub held_here : (at : ℕ) → at + 1 ≡ n → ((d : NumberedModule)
+      → address < end_of (get_or held at d).loaded)
+      → position (λ h. holds address h.loaded) held ≡ Some at
+  held_here at last ends = is_at (λ (h : NumberedModule). holds address h.loaded) held at
+      (let w = begun.within in omega arith)
+      (λ d. test_holds _ _ address (begun.before at d last) (ends d))
+      (λ k d lt. test_past _ _ address (passed k d (omega arith)))
 
-  pub held_nowhere : ((at : ℕ) (d : NumberedModule) → at + 1 ≡ n → end_of (get_or held at d).loaded ≤ address) →
-      position (λ h. holds address h.loaded) held ≡ None
+  pub held_nowhere : ((at : ℕ) (d : NumberedModule) → at + 1 ≡ n
+      → end_of (get_or held at d).loaded ≤ address)
+      → position (λ h. holds address h.loaded) held ≡ None
   held_nowhere past =
-      is_nowhere (λ (h : NumberedModule). holds address h.loaded) held (λ k d lt. at_place k d lt (cases_lt (k + 1) n) (cases_lt k n))
+      is_nowhere (λ (h : NumberedModule). holds address h.loaded) held
+      (λ k d lt. at_place k d lt (cases_lt (k + 1) n) (cases_lt k n))
     where
-      at_place : (k : ℕ) (d : NumberedModule) → k < length held → (k + 1 < n) ⊎ (n ≤ k + 1) → (k < n) ⊎ (n ≤ k) →
-          holds address (get_or held k d).loaded ≡ false
+      at_place : (k : ℕ) (d : NumberedModule) → k < length held → (k + 1 < n) ⊎ (n ≤ k + 1)
+          → (k < n) ⊎ (n ≤ k)
+          → holds address (get_or held k d).loaded ≡ false
       at_place k d lt (inl before) from = others k d lt (inl before)
       at_place k d lt (inr to) (inr after) = others k d lt (inr after)
       at_place k d lt (inr to) (inl last) = test_past _ _ address (past k d (omega arith))

@@ -5,12 +5,15 @@ use Rattle.addr_table.proofs.outwards.next_told.Goals as goal
 
 pub returns-then-is_held-clause-told : goal.returns-then-is_held-clause-told
 returns-then-is_held-clause-told c =
-    inlined (c.loop-near.near - 1) (omega (arith, c.loop-near-test.true)) c.if-number-top.false (λ d. sym (c.if-is_held.ensures d))
+    inlined (c.loop-near.near - 1) (omega (arith, c.loop-near-test.true)) c.if-number-top.false
+    (λ d. sym (c.if-is_held.ensures d))
 
 pub loop-near-preserved : goal.loop-near-preserved
 loop-near-preserved c =
     let p =
-    pass c.args.link c.args.scopes.now.scopes c.args.parents.now c.loop-near.near c.args.top 0 c.requires.have
-    c.loop-near.invariant.within c.loop-near-test.true c.loop-near.invariant.ends c.if-number-top.false
+    pass c.args.link c.args.scopes.now.scopes c.args.parents.now c.loop-near.near c.args.top 0
+    c.requires.have
+    c.loop-near.invariant.within c.loop-near-test.true c.loop-near.invariant.ends
+    c.if-number-top.false
     (λ d. sym (c.if-is_held.ensures d)) in
     record { within = p.within; chain = p.chain ∙ c.loop-near.invariant.chain; ends = p.ends }

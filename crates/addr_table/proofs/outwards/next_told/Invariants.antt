@@ -5,7 +5,8 @@ use Rattle.addr_table.proofs.outwards.next_told.Given as goal
 abbrev pub invariant-loop-near : goal.invariant-loop-near
 invariant-loop-near l = record {
   within : l.near ≤ length l.scopes.scopes;
-  chain : chain_around l.link l.scopes.scopes l.near ≡ chain_around l.link l.scopes.scopes l.fn.near;
+  chain : chain_around l.link l.scopes.scopes l.near ≡ chain_around l.link l.scopes.scopes
+      l.fn.near;
   ends : EndsAt l.link l.scopes.scopes l.near l.top;
 }
 

@@ -15,7 +15,8 @@ loop-next-preserved c =
     ] in
     record {
       counted = ap (λ (n : ℕ). c.if-is_cover.covers + left_from n c.args.rows.now) place
-          ∙ covers-more (c.loop-next.next - 1) c.loop-next.next _ _ _ _ _ _ _ here c.loop-next-test.true c.is_cover.ensures more
+          ∙ covers-more (c.loop-next.next - 1) c.loop-next.next _ _ _ _ _ _ _ here
+          c.loop-next-test.true c.is_cover.ensures more
           c.loop-next.invariant.counted;
       few = elim c.if-is_cover.branch [
         | then-is_cover w ↦ omega (arith, w.covers-is, c.loop-next.invariant.few)
@@ -25,6 +26,7 @@ loop-next-preserved c =
 
 pub returns : goal.returns
 returns c =
-    let over : length c.args.rows.now ≤ suc (c.loop-next.next - 1) = omega (arith, c.loop-next.auto.next, c.loop-next-test.false) in
+    let over : length c.args.rows.now ≤ suc (c.loop-next.next - 1) =
+    omega (arith, c.loop-next.auto.next, c.loop-next-test.false) in
     let none = covers-end _ _ over in
     omega (arith, none, c.loop-next.invariant.counted)

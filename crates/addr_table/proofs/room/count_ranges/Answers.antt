@@ -10,7 +10,11 @@ pub loop-number-preserved : goal.loop-number-preserved
 loop-number-preserved c =
     let lt : c.loop-number.number < length c.args.scopes.now.scopes =
     omega (arith, c.loop-number-test.true, c.count-number-end.ensures.count) in
-    let more = sum_by_more (λ s. length s.ranges) c.args.scopes.now.scopes c.loop-number.number no_scope lt in
-    let ranges = ap (λ (rs : List Range). length rs) (c.ranges-in-loop-number.ensures ∙ (c.scope_at-scope.ensures no_scope).ranges_are) in
-    c.saturating_add-ranges.ensures ∙ ap (λ (n : ℕ). min (c.loop-number.ranges + n) (2 ^ 64 - 1)) ranges
-    ∙ stopped-more (sum_by (λ s. length s.ranges) (take c.loop-number.number c.args.scopes.now.scopes)) _ _ _ _ c.loop-number.invariant more
+    let more = sum_by_more (λ s. length s.ranges) c.args.scopes.now.scopes c.loop-number.number
+    no_scope lt in
+    let ranges = ap (λ (rs : List Range). length rs)
+    (c.ranges-in-loop-number.ensures ∙ (c.scope_at-scope.ensures no_scope).ranges_are) in
+    c.saturating_add-ranges.ensures ∙ ap (λ (n : ℕ). min (c.loop-number.ranges + n) (2 ^ 64 - 1))
+    ranges
+    ∙ stopped-more (sum_by (λ s. length s.ranges)
+    (take c.loop-number.number c.args.scopes.now.scopes)) _ _ _ _ c.loop-number.invariant more

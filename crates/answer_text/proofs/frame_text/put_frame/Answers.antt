@@ -8,4 +8,5 @@ returns-in_err-put_name-clause-bytes g c =
     rw (p.1) (cut_more _ _ _ _ _ c.in_err-put_name.ensures.bytes)
 
 pub returns-clause-bytes : goal.returns-clause-bytes
-returns-clause-bytes g c = puts_then _ _ _ _ _ _ _ _ _ c.in_ok-put_name.ensures.bytes c.put_place.ensures.bytes
+returns-clause-bytes g c = puts_then _ _ _ _ _ _ _ _ _ c.in_ok-put_name.ensures.bytes
+    c.put_place.ensures.bytes

@@ -8,4 +8,5 @@ returns-in_err-put-clause-bytes g c =
     rw (p.1) (cut_first _ _ _ _ _ _ c.before_later.ensures c.in_err-put.ensures.bytes)
 
 pub returns-clause-bytes : goal.returns-clause-bytes
-returns-clause-bytes g c = puts_first _ _ _ _ _ _ _ _ _ _ c.before_later.ensures c.in_ok-put.ensures.bytes c.put_frame.ensures.bytes
+returns-clause-bytes g c = puts_first _ _ _ _ _ _ _ _ _ _ c.before_later.ensures
+    c.in_ok-put.ensures.bytes c.put_frame.ensures.bytes

@@ -1,4 +1,5 @@
-use Rattle.std.proofs.Common.{◌≡◌, ℕ, suc, ◌+◌, ◌-◌, ◌<◌, ◌≤◌, ◌/◌, ◌%◌, List, [], ◌∷◌, ◌++◌, length, take, drop, set, sym, ◌∙◌, ap}
+use Rattle.std.proofs.Common.{◌≡◌, ℕ, suc, ◌+◌, ◌-◌, ◌<◌, ◌≤◌, ◌/◌, ◌%◌, List, [], ◌∷◌, ◌++◌}
+use Rattle.std.proofs.Common.{length, take, drop, set, sym, ◌∙◌, ap}
 use Rattle.std.proofs.Common.{append_assoc, arith}
 use Rattle.std.specs.Prelude.{codes}
 use Rattle.std.specs.Char.{digit_char}
@@ -7,24 +8,29 @@ use Rattle.answer_text.specs.Numerals.{hex_digits, address_text}
 use Rattle.answer_text.proofs.numerals.address_text.Goals as goal
 
 -- one more digit in front of those that stand
-digit_before : (n at : ℕ) (text all : List ℕ) (digit : ℕ) → 2 < at → at ≤ length text → digit ≡ digit_char (n % 16)
-    → hex_digits (at - 2) n ++ drop at text ≡ all →
-    hex_digits (at - 1 - 2) (n / 16) ++ drop (at - 1) (set text (at - 1) digit) ≡ all
+digit_before : (n at : ℕ) (text all : List ℕ) (digit : ℕ) → 2 < at → at ≤ length text
+    → digit ≡ digit_char (n % 16)
+    → hex_digits (at - 2) n ++ drop at text ≡ all
+    → hex_digits (at - 1 - 2) (n / 16) ++ drop (at - 1) (set text (at - 1) digit) ≡ all
 digit_before n at text all digit ge le is h =
     let there : at - 1 + 1 ≡ at = omega arith in
     let less : at - 2 ≡ suc (at - 1 - 2) = omega arith in
-    ap (λ (z : List ℕ). hex_digits (at - 1 - 2) (n / 16) ++ z) (drop-set text (at - 1) digit (omega arith))
+    ap (λ (z : List ℕ). hex_digits (at - 1 - 2) (n / 16) ++ z)
+    (drop-set text (at - 1) digit (omega arith))
     ∙ ap (λ (z : ℕ). hex_digits (at - 1 - 2) (n / 16) ++ digit ∷ drop z text) there
     ∙ ap (λ (z : ℕ). hex_digits (at - 1 - 2) (n / 16) ++ z ∷ drop at text) is
-    ∙ sym (append_assoc (hex_digits (at - 1 - 2) (n / 16)) (digit_char (n % 16) ∷ []) (drop at text))
+    ∙ sym (append_assoc (hex_digits (at - 1 - 2) (n / 16)) (digit_char (n % 16) ∷ [])
+    (drop at text))
     ∙ ap (λ (z : ℕ). hex_digits z n ++ drop at text) (sym less) ∙ h
 
 all_digits : (address left at : ℕ) (text : List ℕ) → at ≡ 2 → take 2 text ≡ codes "0x"
     → hex_digits (at - 2) left ++ drop at text ≡ hex_digits 16 address → text ≡ address_text address
 unfolding address_text
 all_digits address left at text is prefix h =
-    let rest : drop 2 text ≡ hex_digits 16 address = ap (λ (z : ℕ). hex_digits (z - 2) left ++ drop z text) (sym is) ∙ h in
-    sym (take-append-drop 2 text) ∙ ap (λ (z : List ℕ). z ++ drop 2 text) prefix ∙ ap (λ (z : List ℕ). codes "0x" ++ z) rest
+    let rest : drop 2 text ≡ hex_digits 16 address =
+    ap (λ (z : ℕ). hex_digits (z - 2) left ++ drop z text) (sym is) ∙ h in
+    sym (take-append-drop 2 text) ∙ ap (λ (z : List ℕ). z ++ drop 2 text) prefix
+    ∙ ap (λ (z : List ℕ). codes "0x" ++ z) rest
 
 pub loop-at-preserved : goal.loop-at-preserved
 loop-at-preserved c =
@@ -34,7 +40,8 @@ loop-at-preserved c =
       to = omega (arith, i.to);
       len = length-set _ _ _ ∙ i.len;
       prefix = take-set-le 2 _ _ _ (omega (arith, c.loop-at-test.true)) ∙ i.prefix;
-      digits = digit_before _ _ _ _ _ c.loop-at-test.true (omega (arith, i.to, i.len)) c.hex_digit.ensures i.digits;
+      digits = digit_before _ _ _ _ _ c.loop-at-test.true (omega (arith, i.to, i.len))
+          c.hex_digit.ensures i.digits;
     }
 
 pub returns : goal.returns

@@ -3,8 +3,16 @@ use Rattle.answer_text.proofs.NumeralLemmas.{digit_fits}
 use Rattle.answer_text.proofs.numerals.parse_digits.Goals as goal
 
 pub overflow_mul-value : goal.overflow_mul-value
-overflow_mul-value c = omega (arith, digit_fits _ _ _ c.loop-byte.invariant.1 c.loop-byte-test.true (omega arith))
+overflow_mul-value c = omega (
+  arith,
+  digit_fits _ _ _ c.loop-byte.invariant.1 c.loop-byte-test.true
+      (omega arith),
+)
 
 pub overflow_add-value : goal.overflow_add-value
 overflow_add-value c =
-    omega (arith, digit_fits _ _ _ c.loop-byte.invariant.1 c.loop-byte-test.true (omega arith), c.in_ok-digit.ensures.2)
+    omega (
+      arith,
+      digit_fits _ _ _ c.loop-byte.invariant.1 c.loop-byte-test.true (omega arith),
+      c.in_ok-digit.ensures.2,
+    )

@@ -6,4 +6,5 @@ use Rattle.answer_text.proofs.numerals.parse_digits.Given as goal
 
 abbrev pub invariant-loop-byte : goal.invariant-loop-byte
 invariant-loop-byte l = (l.value ≡ hex_value (take l.byte-index l.digits))
-    × (l.value < 16 ^ l.byte-index) × (list_all is_ascii_hexdigit (take l.byte-index l.digits) ≡ true)
+    × (l.value < 16 ^ l.byte-index) × (list_all is_ascii_hexdigit (take l.byte-index l.digits)
+    ≡ true)

@@ -7,5 +7,6 @@ use Rattle.answer_text.proofs.paths.put_rest.Given as goal
 abbrev pub invariant-loop-part : goal.invariant-loop-part
 invariant-loop-part g l =
     ((done : List (List ℕ)) × (l.initial.part-iterator ≡ done ++ l.part-iterator)
-    × Put (g.W.Sink.written l.initial.writer) (g.W.Sink.written l.writer) l.initial.pending l.pending (flat_map slashed done))
+    × Put (g.W.Sink.written l.initial.writer) (g.W.Sink.written l.writer) l.initial.pending
+    l.pending (flat_map slashed done))
     × (g.W.Sink.failures l.writer ≡ g.W.Sink.failures l.initial.writer)

@@ -11,4 +11,5 @@ returns-in_err-put-clause-bytes g c =
 
 pub returns-clause-bytes : goal.returns-clause-bytes
 returns-clause-bytes g c =
-    puts_then _ _ _ _ _ _ (47 ∷ []) (map printable c.args.part.now) _ c.in_ok-put.ensures.bytes c.put_printable.ensures.bytes
+    puts_then _ _ _ _ _ _ (47 ∷ []) (map printable c.args.part.now) _ c.in_ok-put.ensures.bytes
+    c.put_printable.ensures.bytes

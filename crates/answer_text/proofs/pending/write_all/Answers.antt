@@ -23,5 +23,6 @@ loop-at-preserved g c = (
     c.in_ok-count.ensures.bound,
   ),
   goes_on _ _ _ _ _ _ c.loop-at.invariant.1 c.in_ok-count.ensures.bytes,
-  c.in_ok-count.ensures.failures ∙ took_some DeviceFault _ _ _ c.if-count-eq0.false ∙ c.loop-at.invariant.2,
+  c.in_ok-count.ensures.failures ∙ took_some DeviceFault _ _ _ c.if-count-eq0.false
+      ∙ c.loop-at.invariant.2,
 )

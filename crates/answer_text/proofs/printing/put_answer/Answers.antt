@@ -11,7 +11,8 @@ returns-in_err-put_heading-clause-bytes g c =
     let p = err_from_is_err_and c.from_residual.result c.from_residual.ensures.1 in
     let o = c.args.options.now in
     let a = c.args.answer.now in
-    rw (p.1) (cut_first _ _ _ (heading_text o c.address.result) (heading_text o a.address) (frames_text o a.frames)
+    rw (p.1) (cut_first _ _ _ (heading_text o c.address.result) (heading_text o a.address)
+    (frames_text o a.frames)
     (ap (heading_text o) c.address.ensures) c.in_err-put_heading.ensures.bytes)
 
 pub returns-clause-bytes : goal.returns-clause-bytes
@@ -19,7 +20,8 @@ unfolding answer_text
 returns-clause-bytes g c =
     let o = c.args.options.now in
     let a = c.args.answer.now in
-    puts_first _ _ _ _ _ _ (heading_text o c.address.result) (heading_text o a.address) (frames_text o a.frames) _
+    puts_first _ _ _ _ _ _ (heading_text o c.address.result) (heading_text o a.address)
+    (frames_text o a.frames) _
     (ap (heading_text o) c.address.ensures) c.in_ok-put_heading.ensures.bytes
     (puts_as _ _ _ _ (frames_text o c.frames.result) (frames_text o a.frames) _
     (ap (frames_text o) c.frames.ensures) c.put_frames.ensures.bytes)

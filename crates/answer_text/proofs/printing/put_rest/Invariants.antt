@@ -8,6 +8,7 @@ use Rattle.answer_text.proofs.printing.put_rest.Given as goal
 abbrev pub invariant-loop-frame : goal.invariant-loop-frame
 invariant-loop-frame g l =
     ((done : List Frame) × (l.initial.frame-iterator ≡ done ++ l.frame-iterator)
-    × Put (g.W.Sink.written l.initial.writer) (g.W.Sink.written l.writer) l.initial.pending l.pending
+    × Put (g.W.Sink.written l.initial.writer) (g.W.Sink.written l.writer) l.initial.pending
+    l.pending
     (flat_map (later_text l.options) done))
     × (g.W.Sink.failures l.writer ≡ g.W.Sink.failures l.initial.writer)

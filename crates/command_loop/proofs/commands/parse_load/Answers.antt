@@ -5,5 +5,6 @@ use Rattle.command_loop.proofs.commands.parse_load.Goals as goal
 pub returns : goal.returns
 returns c =
     rw c.in-Some.is (c.check_load.ensures ∙ sym
-    (load_cut c.in-Some.operands.now c.in-Some-rest.rest.now c.in-Some-path.path.now c.cut.result.0.now c.cut-2.result.0.now
+    (load_cut c.in-Some.operands.now c.in-Some-rest.rest.now c.in-Some-path.path.now
+    c.cut.result.0.now c.cut-2.result.0.now
     (c.cut.ensures ∙ (rw c.in-Some-rest.is refl)) (c.cut-2.ensures ∙ (rw c.in-Some-path.is refl))))

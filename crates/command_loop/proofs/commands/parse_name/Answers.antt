@@ -6,8 +6,17 @@ use Rattle.command_loop.proofs.commands.parse_name.Goals as goal
 
 pub returns-in-Ok : goal.returns-in-Ok
 unfolding is_name
-returns-in-Ok c = (grind (arith, nat_tests, c.if-not-are_name_parts.ensures, c.are_name_parts.ensures), c.in-Ok.ensures.cases.0)
+returns-in-Ok c = (
+  grind (
+    arith,
+    nat_tests,
+    c.if-not-are_name_parts.ensures,
+    c.are_name_parts.ensures,
+  ),
+  c.in-Ok.ensures.cases.0,
+)
 
 pub returns-in-Err : goal.returns-in-Err
 unfolding is_name
-returns-in-Err c = absurd (c.in-Err.ensures.cases.0 (name_is_text _ (sym c.if-not-are_name_parts.ensures)))
+returns-in-Err c = absurd (c.in-Err.ensures.cases.0
+    (name_is_text _ (sym c.if-not-are_name_parts.ensures)))

@@ -8,5 +8,6 @@ use Rattle.command_loop.proofs.replies.put_modules.Given as goal
 abbrev pub invariant-loop-listed : goal.invariant-loop-listed
 invariant-loop-listed g l =
     ((done : List Listed) × (l.initial.listed-iterator ≡ done ++ l.listed-iterator)
-    × Put (g.W.Sink.written l.initial.writer) (g.W.Sink.written l.writer) l.initial.pending l.pending (flat_map module_text done))
+    × Put (g.W.Sink.written l.initial.writer) (g.W.Sink.written l.writer) l.initial.pending
+    l.pending (flat_map module_text done))
     × (g.W.Sink.failures l.writer ≡ g.W.Sink.failures l.initial.writer)

@@ -16,7 +16,8 @@ pub returns-in-Range-clause-bytes : goal.returns-in-Range-clause-bytes
 returns-in-Range-clause-bytes g c = rw c.in-Range.is c.write_refusal-in-Range.ensures.bytes
 
 pub returns-in-Overlap-clause-bytes : goal.returns-in-Overlap-clause-bytes
-returns-in-Overlap-clause-bytes g c = rw (c.in-Overlap.is, ← c.name_at.ensures) c.write_overlap.ensures.bytes
+returns-in-Overlap-clause-bytes g c = rw (c.in-Overlap.is, ← c.name_at.ensures)
+    c.write_overlap.ensures.bytes
 
 pub returns-in-Memory-clause-bytes : goal.returns-in-Memory-clause-bytes
 returns-in-Memory-clause-bytes g c = rw c.in-Memory.is c.write_refusal-in-Memory.ensures.bytes

@@ -1,6 +1,7 @@
 use Rattle.std.proofs.Common.{sym}
 use Rattle.command_loop.proofs.RunLemmas.{on_err_at, on_ok_at}
-use Rattle.command_loop.proofs.RunningLemmas.{lines_served, lines_reading, lines_writing, no_words, words_served_at, words_halted_at}
+use Rattle.command_loop.proofs.RunningLemmas.{lines_served, lines_reading, lines_writing, no_words}
+use Rattle.command_loop.proofs.RunningLemmas.{words_served_at, words_halted_at}
 use Rattle.command_loop.specs.Private.Progress.{RunState}
 use Rattle.command_loop.proofs.running.run.Goals as goal
 
@@ -13,7 +14,8 @@ returns-then-is_empty-clause-served g c =
       written = g.W.Sink.written
           c.args.writer.now;
     } in
-    lines_served _ _ _ _ _ _ _ start _ _ (no_words _ _ _ c.deref-words.ensures.value c.is_empty.ensures c.if-is_empty.true)
+    lines_served _ _ _ _ _ _ _ start _ _
+    (no_words _ _ _ c.deref-words.ensures.value c.is_empty.ensures c.if-is_empty.true)
     c.in-Ok-begin.ensures c.serve_input.ensures.reads
 
 pub returns-then-is_empty-clause-reading : goal.returns-then-is_empty-clause-reading
@@ -25,7 +27,8 @@ returns-then-is_empty-clause-reading g c =
       written = g.W.Sink.written
           c.args.writer.now;
     } in
-    lines_reading _ _ _ _ _ _ _ start _ _ (no_words _ _ _ c.deref-words.ensures.value c.is_empty.ensures c.if-is_empty.true)
+    lines_reading _ _ _ _ _ _ _ start _ _
+    (no_words _ _ _ c.deref-words.ensures.value c.is_empty.ensures c.if-is_empty.true)
     c.in-Ok-begin.ensures c.serve_input.ensures.reads
 
 pub returns-then-is_empty-clause-writing : goal.returns-then-is_empty-clause-writing
@@ -37,7 +40,8 @@ returns-then-is_empty-clause-writing g c =
       written = g.W.Sink.written
           c.args.writer.now;
     } in
-    lines_writing _ _ _ _ _ _ _ start _ _ (no_words _ _ _ c.deref-words.ensures.value c.is_empty.ensures c.if-is_empty.true)
+    lines_writing _ _ _ _ _ _ _ start _ _
+    (no_words _ _ _ c.deref-words.ensures.value c.is_empty.ensures c.if-is_empty.true)
     c.in-Ok-begin.ensures c.serve_input.ensures.reads
 
 pub returns-then-is_err-clause-writing : goal.returns-then-is_err-clause-writing
@@ -49,7 +53,8 @@ returns-then-is_err-clause-writing g c =
       written = g.W.Sink.written
           c.args.writer.now;
     } in
-    λ _. words_halted_at _ _ _ _ _ _ start _ _ _ c.deref-words.ensures.value c.is_empty.ensures c.if-is_empty.false c.in-Ok-begin.ensures
+    λ _. words_halted_at _ _ _ _ _ _ start _ _ _ c.deref-words.ensures.value c.is_empty.ensures
+    c.if-is_empty.false c.in-Ok-begin.ensures
     (on_err_at _ (sym c.if-is_err.ensures.value) c.serve_words.ensures.halts)
 
 pub returns-clause-served : goal.returns-clause-served
@@ -61,5 +66,6 @@ returns-clause-served g c =
       written = g.W.Sink.written
           c.args.writer.now;
     } in
-    words_served_at _ _ _ _ start _ _ _ _ c.deref-words.ensures.value c.is_empty.ensures c.if-is_empty.false c.in-Ok-begin.ensures
+    words_served_at _ _ _ _ start _ _ _ _ c.deref-words.ensures.value c.is_empty.ensures
+    c.if-is_empty.false c.in-Ok-begin.ensures
     (on_ok_at _ (sym c.if-is_err.ensures.value) c.serve_words.ensures.handled)

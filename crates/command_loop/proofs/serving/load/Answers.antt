@@ -1,6 +1,7 @@
 use Rattle.std.proofs.Common.{refl, false, [], ◌∷◌}
 use Rattle.std.specs.Prelude.{Ok, Err}
-use Rattle.command_loop.proofs.ServingLemmas.{refused_world, refused_reply, accepted_world, accepted_reply}
+use Rattle.command_loop.proofs.ServingLemmas.{refused_world, refused_reply, accepted_world}
+use Rattle.command_loop.proofs.ServingLemmas.{accepted_reply}
 use Rattle.command_loop.proofs.serving.load.Goals as goal
 
 pub returns-in-Err : goal.returns-in-Err

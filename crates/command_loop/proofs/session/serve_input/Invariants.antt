@@ -4,10 +4,19 @@ use Rattle.command_loop.proofs.session.serve_input.Given as goal
 
 abbrev pub invariant-pieces : goal.invariant-pieces
 invariant-pieces g l =
-    HasRead l.options (record
-    { world = l.fn.modules.world; asked = g.O.Objects.asked l.fn.source; written = g.W.Sink.written l.fn.writer })
+    HasRead l.options (record {
+      world = l.fn.modules.world;
+      asked = g.O.Objects.asked l.fn.source;
+      written =
+          g.W.Sink.written l.fn.writer;
+    })
     (g.R.Feed.left l.fn.reader) (g.R.Feed.left l.reader)
-    (record { world = l.session.modules.world; asked = g.O.Objects.asked l.source; written = g.W.Sink.written l.writer }) l.session.line
+    (record {
+      world = l.session.modules.world;
+      asked = g.O.Objects.asked l.source;
+      written =
+          g.W.Sink.written l.writer;
+    }) l.session.line
     × (length l.piece ≡ 4096)
     × (g.R.Feed.failures l.reader ≡ g.R.Feed.failures l.fn.reader)
     × (g.W.Sink.failures l.writer ≡ g.W.Sink.failures l.fn.writer)

@@ -4,8 +4,11 @@ use Rattle.command_loop.proofs.ServingLemmas.{exe_refused, exe_loaded}
 use Rattle.command_loop.proofs.starting.load_exe.Goals as goal
 
 pub returns-in-Err : goal.returns-in-Err
-returns-in-Err g c =
-    (record { fetched = Err c.in-Err.fault; short = false }, refl, record { each = refl; asked = c.in-Err.ensures.asked })
+returns-in-Err g c = (
+  record { fetched = Err c.in-Err.fault; short = false },
+  refl,
+  record { each = refl; asked = c.in-Err.ensures.asked },
+)
 
 pub returns-in-Err-load : goal.returns-in-Err-load
 returns-in-Err-load g c =

@@ -5,8 +5,17 @@ use Rattle.command_loop.proofs.words.serve_words.Given as goal
 
 abbrev pub invariant-loop-word : goal.invariant-loop-word
 invariant-loop-word g l =
-    ServedInOrder l.options (record
-    { world = l.initial.modules.world; asked = g.O.Objects.asked l.initial.source; written = g.W.Sink.written l.initial.writer })
+    ServedInOrder l.options (record {
+      world = l.initial.modules.world;
+      asked = g.O.Objects.asked l.initial.source;
+      written =
+          g.W.Sink.written l.initial.writer;
+    })
     (map ask_of (take l.word-index l.words))
-    (record { world = l.modules.world; asked = g.O.Objects.asked l.source; written = g.W.Sink.written l.writer })
+    (record {
+      world = l.modules.world;
+      asked = g.O.Objects.asked l.source;
+      written =
+          g.W.Sink.written l.writer;
+    })
     × (g.W.Sink.failures l.writer ≡ g.W.Sink.failures l.initial.writer)

@@ -1,4 +1,5 @@
-use Rattle.dwarf_bytes.proofs.FaultLaws.{uleb_fault, uleb_cut, uleb_leb, only_short, only_leb, either}
+use Rattle.dwarf_bytes.proofs.FaultLaws.{uleb_fault, uleb_cut, uleb_leb, only_short, only_leb}
+use Rattle.dwarf_bytes.proofs.FaultLaws.{either}
 use Rattle.dwarf_bytes.proofs.laws.uleb_faults.Goals as goal
 
 pub returns-clause-short : goal.returns-clause-short

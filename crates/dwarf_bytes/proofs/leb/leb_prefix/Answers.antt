@@ -17,7 +17,8 @@ returns-then-byte-lt128 c =
     (grown _ _ _ _ c.loop-i-test.true (omega (
       arith,
       size,
-    )) c.loop-i.invariant.value_is c.loop-i.invariant.small c.from.ensures) c.loop-i.invariant.go_on c.if-byte-lt128.true
+    )) c.loop-i.invariant.value_is c.loop-i.invariant.small c.from.ensures) c.loop-i.invariant.go_on
+    c.if-byte-lt128.true
 
 pub loop-i-preserved : goal.loop-i-preserved
 loop-i-preserved c =
@@ -27,9 +28,11 @@ loop-i-preserved c =
     record {
       value_is = g.value_is;
       small = g.small;
-      go_on = All-more (λ (byte : ℕ). 128 ≤ byte) _ _ 0 c.loop-i-test.true c.loop-i.invariant.go_on c.if-byte-lt128.false;
+      go_on = All-more (λ (byte : ℕ). 128 ≤ byte) _ _ 0 c.loop-i-test.true c.loop-i.invariant.go_on
+          c.if-byte-lt128.false;
     }
 
 pub returns : goal.returns
 returns c = low _ _ _ _
-    (omega arith) c.if-bytes-lt-LOW_BYTES.false c.loop-i-test.false c.loop-i.auto.i-end c.loop-i.invariant.value_is c.loop-i.invariant.small c.loop-i.invariant.go_on
+    (omega arith) c.if-bytes-lt-LOW_BYTES.false c.loop-i-test.false c.loop-i.auto.i-end
+    c.loop-i.invariant.value_is c.loop-i.invariant.small c.loop-i.invariant.go_on

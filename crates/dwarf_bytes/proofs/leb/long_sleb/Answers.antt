@@ -3,7 +3,9 @@ use Rattle.std.specs.Int.{w64}
 use Rattle.std.proofs.Common.{arith, refl, rules}
 use Rattle.std.proofs.lemmas.Int.{to_z-of_z}
 use Rattle.std.proofs.lemmas.Result.{err_from_is_err_and}
-use Rattle.dwarf_bytes.proofs.LebPrefixes.{sleb_whole, sleb_short, sleb_zero, sleb_minus, sleb_tenth, nine_go_on}
+use Rattle.dwarf_bytes.proofs.SlebPrefixes.{sleb_whole, sleb_short, sleb_zero, sleb_minus}
+use Rattle.dwarf_bytes.proofs.SlebPrefixes.{sleb_tenth}
+use Rattle.dwarf_bytes.proofs.UlebPrefixes.{nine_go_on}
 use Rattle.dwarf_bytes.proofs.leb.long_sleb.Goals as goal
 
 pub returns-in_err-value-clause-value : goal.returns-in_err-value-clause-value
@@ -12,12 +14,15 @@ returns-in_err-value-clause-value c =
     let open_bytes = c.in_err-value.ensures in
     rw (p.1, p.2, open_bytes.0) (sleb_short _ (omega (arith, open_bytes.1)) open_bytes.2)
 
-pub returns-in_err-tenth-in-Continued-clause-value : goal.returns-in_err-tenth-in-Continued-clause-value
+pub returns-in_err-tenth-in-Continued-clause-value :
+    goal.returns-in_err-tenth-in-Continued-clause-value
 returns-in_err-tenth-in-Continued-clause-value c =
-    let p = err_from_is_err_and c.from_residual-in_err-tenth-in-Continued.result c.from_residual-in_err-tenth-in-Continued.ensures.1 in
+    let p = err_from_is_err_and c.from_residual-in_err-tenth-in-Continued.result
+    c.from_residual-in_err-tenth-in-Continued.ensures.1 in
     let nine = rw c.in-Continued.is at c.in_ok-value.ensures in
     let no_tenth = c.in_err-tenth-in-Continued.ensures in
-    rw (p.1, p.2, no_tenth.0) (sleb_short _ (omega (arith, no_tenth.1)) (nine_go_on _ _ nine no_tenth.1))
+    rw (p.1, p.2, no_tenth.0) (sleb_short _ (omega (arith, no_tenth.1))
+    (nine_go_on _ _ nine no_tenth.1))
 
 pub returns-in-Whole-clause-value : goal.returns-in-Whole-clause-value
 returns-in-Whole-clause-value c =

@@ -1,6 +1,7 @@
 use Rattle.std.proofs.Common.{arith}
 use Rattle.std.proofs.lemmas.Result.{err_from_is_err_and}
-use Rattle.dwarf_bytes.proofs.LebPrefixes.{uleb_whole, uleb_short, uleb_ten, uleb_tenth, nine_go_on}
+use Rattle.dwarf_bytes.proofs.UlebPrefixes.{uleb_whole, uleb_short, uleb_ten, uleb_tenth}
+use Rattle.dwarf_bytes.proofs.UlebPrefixes.{nine_go_on}
 use Rattle.dwarf_bytes.proofs.leb.long_uleb.Goals as goal
 
 pub returns-in_err-value-clause-value : goal.returns-in_err-value-clause-value
@@ -11,10 +12,12 @@ returns-in_err-value-clause-value c =
 
 pub returns-in_err-top-in-Continued-clause-value : goal.returns-in_err-top-in-Continued-clause-value
 returns-in_err-top-in-Continued-clause-value c =
-    let p = err_from_is_err_and c.from_residual-in_err-top-in-Continued.result c.from_residual-in_err-top-in-Continued.ensures.1 in
+    let p = err_from_is_err_and c.from_residual-in_err-top-in-Continued.result
+    c.from_residual-in_err-top-in-Continued.ensures.1 in
     let nine = rw c.in-Continued.is at c.in_ok-value.ensures in
     let no_tenth = c.in_err-top-in-Continued.ensures in
-    rw (p.1, p.2, no_tenth.0) (uleb_short _ (omega (arith, no_tenth.1)) (nine_go_on _ _ nine no_tenth.1))
+    rw (p.1, p.2, no_tenth.0) (uleb_short _ (omega (arith, no_tenth.1))
+    (nine_go_on _ _ nine no_tenth.1))
 
 pub returns-then-top-gt1-clause-value : goal.returns-then-top-gt1-clause-value
 returns-then-top-gt1-clause-value c =

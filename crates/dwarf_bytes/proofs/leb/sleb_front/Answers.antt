@@ -2,7 +2,7 @@ use Rattle.std.specs.Prelude.{FitsSigned}
 use Rattle.std.specs.Int.{w64}
 use Rattle.std.proofs.Common.{arith, rules}
 use Rattle.std.proofs.lemmas.Int.{to_z-of_z}
-use Rattle.dwarf_bytes.proofs.LebPrefixes.{sleb_byte}
+use Rattle.dwarf_bytes.proofs.SlebPrefixes.{sleb_byte}
 use Rattle.dwarf_bytes.proofs.leb.sleb_front.Goals as goal
 
 pub returns-in-len1-up-clause-value : goal.returns-in-len1-up-clause-value

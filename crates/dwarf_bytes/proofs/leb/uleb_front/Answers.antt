@@ -1,6 +1,7 @@
 use Rattle.std.proofs.Common.{arith}
-use Rattle.dwarf_bytes.proofs.LebPrefixes.{uleb_byte}
+use Rattle.dwarf_bytes.proofs.SlebPrefixes.{uleb_byte}
 use Rattle.dwarf_bytes.proofs.leb.uleb_front.Goals as goal
 
 pub returns-in-len1-up-clause-value : goal.returns-in-len1-up-clause-value
-returns-in-len1-up-clause-value c = rw c.from.ensures (uleb_byte _ c.in-len1-up.len_at_least (omega arith))
+returns-in-len1-up-clause-value c = rw c.from.ensures
+    (uleb_byte _ c.in-len1-up.len_at_least (omega arith))

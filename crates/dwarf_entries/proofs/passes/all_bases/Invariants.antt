@@ -9,5 +9,6 @@ use Rattle.dwarf_entries.proofs.passes.all_bases.Given as goal
 
 abbrev pub invariant-loop-unit : goal.invariant-loop-unit
 invariant-loop-unit l =
-    (headers : List UnitHeader) (dies : List (List Die)) → map kept_of l.units ≡ kept_units headers dies
+    (headers : List UnitHeader) (dies : List (List Die))
+    → map kept_of l.units ≡ kept_units headers dies
     → BasesSoFar (sections_of l.sections) headers dies l.unit-index l.all.items

@@ -9,6 +9,7 @@ abbrev pub invariant-loop-header : goal.invariant-loop-header
 invariant-loop-header l = record {
   so_far :
       (all : List (List Declaration)) → tables_of l.sections.debug_abbrev.now l.headers ≡ Ok all
-      → EntriesSoFar l.sections.debug_info.now l.headers all l.fn.marks l.marks l.header-index (map kept_of l.units.items);
+      → EntriesSoFar l.sections.debug_info.now l.headers all l.fn.marks l.marks l.header-index
+      (map kept_of l.units.items);
   section : l.tables.section ≡ l.sections.debug_abbrev.now;
 }

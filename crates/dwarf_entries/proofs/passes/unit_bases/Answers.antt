@@ -4,4 +4,5 @@ use Rattle.dwarf_entries.proofs.passes.unit_bases.Goals as goal
 
 pub returns-in-Err : goal.returns-in-Err
 returns-in-Err c =
-    root_fault (sections_of c.args.sections.now) c.args.unit.now.header.format c.args.unit.now.root c.in-Some.root c.in-Err.cause c.told.result c.in-Some.is c.in-Err.ensures c.told.ensures
+    root_fault (sections_of c.args.sections.now) c.args.unit.now.header.format c.args.unit.now.root
+    c.in-Some.root c.in-Err.cause c.told.result c.in-Some.is c.in-Err.ensures c.told.ensures

@@ -24,19 +24,37 @@ pub returns-in_err-entry-clause-member : goal.returns-in_err-entry-clause-member
 returns-in_err-entry-clause-member c s us are read reader m at =
     let q = err_from_is_err_and c.from_residual.result c.from_residual.ensures.1 in
     let unit = c.in-Some.ensures.lookup.3 in
-    let found = unit-at c.args.units.now us are c.args.place.unit c.in-Some.kept.now unit.0 unit.1 in
+    let found = unit-at c.args.units.now us are c.args.place.unit c.in-Some.kept.now unit.0
+    unit.1 in
     let one = read c.args.place.unit m.unit at.unit_is in
-    let header : c.in-Some.kept.now.header ≡ m.unit.header = found.header ∙ ap (λ (v : CompilationUnit). v.header) (same_Some found.unit m.unit (sym found.is ∙ at.unit_is)) in
-    let table = ap (λ (h : UnitHeader). declarations_of declarations_limit s.debug_abbrev h.abbreviations) header ∙ one.table_is in
-    let there = named-at s m.unit at.index m.die c.in-Some.kept.now.header c.args.place.offset one header at.offset_is at.there in
-    rw (q.1, q.2) (again-memory c.in_err-entry.field-0.0 (named_entry_at c.in-Some.kept.now.header.format one.table (take c.in-Some.kept.now.header.end s.debug_info) c.args.place.offset) (named_entry m.die) there (c.in_err-entry.ensures.named s one.table reader table))
+    let header : c.in-Some.kept.now.header ≡ m.unit.header =
+    found.header ∙ ap (λ (v : CompilationUnit). v.header)
+    (same_Some found.unit m.unit (sym found.is ∙ at.unit_is)) in
+    let table = ap (λ (h : UnitHeader). declarations_of declarations_limit s.debug_abbrev
+    h.abbreviations) header ∙ one.table_is in
+    let there = named-at s m.unit at.index m.die c.in-Some.kept.now.header c.args.place.offset one
+    header at.offset_is at.there in
+    rw (q.1, q.2) (again-memory c.in_err-entry.field-0.0
+    (named_entry_at c.in-Some.kept.now.header.format one.table
+    (take c.in-Some.kept.now.header.end s.debug_info) c.args.place.offset) (named_entry m.die)
+    there (c.in_err-entry.ensures.named s one.table reader table))
 
 pub returns-clause-member : goal.returns-clause-member
 returns-clause-member c s us are read reader m at =
     let unit = c.in-Some.ensures.lookup.3 in
-    let found = unit-at c.args.units.now us are c.args.place.unit c.in-Some.kept.now unit.0 unit.1 in
+    let found = unit-at c.args.units.now us are c.args.place.unit c.in-Some.kept.now unit.0
+    unit.1 in
     let one = read c.args.place.unit m.unit at.unit_is in
-    let header : c.in-Some.kept.now.header ≡ m.unit.header = found.header ∙ ap (λ (v : CompilationUnit). v.header) (same_Some found.unit m.unit (sym found.is ∙ at.unit_is)) in
-    let table = ap (λ (h : UnitHeader). declarations_of declarations_limit s.debug_abbrev h.abbreviations) header ∙ one.table_is in
-    let there = named-at s m.unit at.index m.die c.in-Some.kept.now.header c.args.place.offset one header at.offset_is at.there in
-    record { unit_is = at.unit_is; entry_is = same_ok c.in_ok-entry.entry (named_entry m.die) (sym (c.in_ok-entry.ensures.named s one.table reader table) ∙ there) }
+    let header : c.in-Some.kept.now.header ≡ m.unit.header =
+    found.header ∙ ap (λ (v : CompilationUnit). v.header)
+    (same_Some found.unit m.unit (sym found.is ∙ at.unit_is)) in
+    let table = ap (λ (h : UnitHeader). declarations_of declarations_limit s.debug_abbrev
+    h.abbreviations) header ∙ one.table_is in
+    let there = named-at s m.unit at.index m.die c.in-Some.kept.now.header c.args.place.offset one
+    header at.offset_is at.there in
+    record {
+      unit_is = at.unit_is;
+      entry_is =
+          same_ok c.in_ok-entry.entry (named_entry m.die)
+          (sym (c.in_ok-entry.ensures.named s one.table reader table) ∙ there);
+    }

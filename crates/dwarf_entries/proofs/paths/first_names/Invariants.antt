@@ -11,7 +11,9 @@ use Rattle.dwarf_entries.proofs.paths.first_names.Given as goal
 abbrev pub invariant-loop-last : goal.invariant-loop-last
 invariant-loop-last l = record {
   reader : (s : Sections) → IsReaderOf s l.fn.reader → IsReaderOf s l.reader;
-  so_far : (us : List CompilationUnit) → AreKept l.units us → AreMarked l.marks us → (m : Member) → IsMember us l.fn.start.unit l.fn.start.entry m → (s : Sections) → AreReadIn s us → IsReaderOf s l.fn.reader → Followed us l.fn.hops m l.left l.last l.firsts;
+  so_far : (us : List CompilationUnit) → AreKept l.units us → AreMarked l.marks us → (m : Member)
+      → IsMember us l.fn.start.unit l.fn.start.entry m → (s : Sections) → AreReadIn s us
+      → IsReaderOf s l.fn.reader → Followed us l.fn.hops m l.left l.last l.firsts;
 }
 
 abbrev pub decreases-loop-last : goal.decreases-loop-last

@@ -1,12 +1,13 @@
 use Rattle.std.proofs.Common.{◌≡◌, ◌-◌, length}
 use Rattle.dwarf_walk.specs.Sections.{sections_of}
-use Rattle.dwarf_entries.proofs.RangeLaws.{ListedSoFar}
+use Rattle.dwarf_entries.proofs.RangeTurns.{ListedSoFar}
 use Rattle.dwarf_entries.proofs.ranges.list.Given as goal
 
 abbrev pub invariant-loop-entry : goal.invariant-loop-entry
 invariant-loop-entry l = record {
   bytes : l.cursor.bytes ≡ l.sections.debug_rnglists.now;
-  listed : ListedSoFar l.room (sections_of l.sections) l.bases l.sections.debug_rnglists.now l.place l.cursor.place l.items l.base l.fn.all.items l.all.items;
+  listed : ListedSoFar l.room (sections_of l.sections) l.bases l.sections.debug_rnglists.now l.place
+      l.cursor.place l.items l.base l.fn.all.items l.all.items;
 }
 
 abbrev pub decreases-loop-entry : goal.decreases-loop-entry

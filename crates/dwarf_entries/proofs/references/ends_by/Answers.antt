@@ -7,5 +7,11 @@ use Rattle.dwarf_entries.proofs.references.ends_by.Goals as goal
 
 pub returns-clause-parts : goal.returns-clause-parts
 returns-clause-parts c = λ rise.
-    let parts = IsPartitionPoint-from_clause (λ (u : UnitEntries). nat_le u.header.end c.args.offset) c.args.units.now c.partition_point.result c.partition_point.ensures.partitioned (IsPartitionedBy-leb (λ (u : UnitEntries). u.header.end) c.args.units.now c.args.offset rise) (λ a r f called. search rules) in
-    (λ k d low high. leb-true _ c.args.offset (parts.0 k d low high), λ k d low high. leb-false _ c.args.offset (parts.1 k d low high))
+    let parts = IsPartitionPoint-from_clause
+    (λ (u : UnitEntries). nat_le u.header.end c.args.offset) c.args.units.now
+    c.partition_point.result c.partition_point.ensures.partitioned
+    (IsPartitionedBy-leb (λ (u : UnitEntries). u.header.end) c.args.units.now c.args.offset
+    rise) (λ a r f called. search rules) in (
+      λ k d low high. leb-true _ c.args.offset (parts.0 k d low high),
+      λ k d low high. leb-false _ c.args.offset (parts.1 k d low high),
+    )

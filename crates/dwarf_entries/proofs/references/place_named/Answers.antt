@@ -4,13 +4,17 @@ use Rattle.std.proofs.lemmas.Option.{slice_get_within}
 use Rattle.dwarf_bytes.specs.declared.fault.Cause.{Cause}
 use Rattle.dwarf_entries.specs.Names.{Member}
 use Rattle.dwarf_entries.specs.Private.Members.{LeadsTo}
-use Rattle.dwarf_entries.proofs.ReferenceLaws.{kept-length, start-kept, anywhere, within_unit}
+use Rattle.dwarf_entries.proofs.ReferenceLaws.{kept-length, start-kept}
+use Rattle.dwarf_entries.proofs.ReferencedEntries.{anywhere, within_unit}
 use Rattle.dwarf_entries.proofs.references.place_named.Goals as goal
 
-pub returns-then-reference-eq-DW_FORM_REF_ADDR-clause-leads : goal.returns-then-reference-eq-DW_FORM_REF_ADDR-clause-leads
+pub returns-then-reference-eq-DW_FORM_REF_ADDR-clause-leads :
+    goal.returns-then-reference-eq-DW_FORM_REF_ADDR-clause-leads
 returns-then-reference-eq-DW_FORM_REF_ADDR-clause-leads c = λ us are u at.
     subst (λ (outcome : Result Member Cause). LeadsTo us c.place_in.result outcome)
-    (anywhere c.args.units.now us are c.ends_by.result c.from-number.result c.ends_by.ensures.within c.ends_by.ensures.parts u c.args.reference c.if-reference-eq-DW_FORM_REF_ADDR.true (sym c.from-number.ensures)) (c.place_in.ensures.leads us are)
+    (anywhere c.args.units.now us are c.ends_by.result c.from-number.result c.ends_by.ensures.within
+    c.ends_by.ensures.parts u c.args.reference c.if-reference-eq-DW_FORM_REF_ADDR.true
+    (sym c.from-number.ensures)) (c.place_in.ensures.leads us are)
 
 pub returns-in_err-start-clause-leads : goal.returns-in_err-start-clause-leads
 returns-in_err-start-clause-leads c = λ us are u at.
@@ -22,7 +26,10 @@ returns-in_err-start-clause-leads c = λ us are u at.
 pub returns-clause-leads : goal.returns-clause-leads
 returns-clause-leads c = λ us are u at.
     let unit = c.in_ok-start.ensures.lookup.3 in
-    let start = start-kept c.args.units.now us are c.args.unit c.in_ok-start.field-0.now unit.0 unit.1 u at in
+    let start = start-kept c.args.units.now us are c.args.unit c.in_ok-start.field-0.now unit.0
+    unit.1 u at in
     let number = c.from-number.ensures in
     subst (λ (outcome : Result Member Cause). LeadsTo us c.place_in-2.result outcome)
-    (within_unit us c.args.unit (c.in_ok-start.field-0.now.header.start + c.from-number.result) u c.args.reference c.if-reference-eq-DW_FORM_REF_ADDR.false at (omega (arith, start, number))) (c.place_in-2.ensures.leads us are)
+    (within_unit us c.args.unit (c.in_ok-start.field-0.now.header.start + c.from-number.result) u
+    c.args.reference c.if-reference-eq-DW_FORM_REF_ADDR.false at (omega (arith, start, number)))
+    (c.place_in-2.ensures.leads us are)

@@ -6,21 +6,42 @@ use Rattle.dwarf_entries.proofs.scopes.roots.Goals.{in-Some+in_ok-push, in_defau
 
 pub loop-unit-preserved : goal.loop-unit-preserved
 loop-unit-preserved c =
-    let counted = count_within c.args.units.now c.loop-unit.unit-index c.unit-item.result c.loop-unit.first c.loop-unit.invariant.first_is c.loop-unit-test.true c.unit-item.is in
+    let counted = count_within c.args.units.now c.loop-unit.unit-index c.unit-item.result
+    c.loop-unit.first c.loop-unit.invariant.first_is c.loop-unit-test.true c.unit-item.is in
     elim c.match-unit.branch [
       | in-Some+in_ok-push w ↦ record {
-        first_is = omega (arith, w.first-is, c.len.ensures, c.unit-item.result.scopes.ok.0, counted);
+        first_is = omega (
+          arith,
+          w.first-is,
+          c.len.ensures,
+          c.unit-item.result.scopes.ok.0,
+          counted,
+        );
         so_far = λ us same.
             rw (w.roots-is, w.in_ok-push.ensures.items, w.first-is)
-            (roots_turn c.args.units.now us c.loop-unit.unit-index c.loop-unit.first (c.loop-unit.first + c.len.result) c.unit-item.result (Some w.in-Some.root) c.loop-unit.roots.items same c.loop-unit-test.true c.unit-item.is (c.loop-unit.invariant.so_far us same) (ap (λ n. c.loop-unit.first + n) c.len.ensures) w.in-Some.is);
+            (roots_turn c.args.units.now us c.loop-unit.unit-index c.loop-unit.first
+            (c.loop-unit.first + c.len.result) c.unit-item.result (Some w.in-Some.root)
+            c.loop-unit.roots.items same c.loop-unit-test.true c.unit-item.is
+            (c.loop-unit.invariant.so_far us same)
+            (ap (λ n. c.loop-unit.first + n) c.len.ensures) w.in-Some.is);
       }
       | in_default w ↦ record {
-        first_is = omega (arith, w.first-is, c.len.ensures, c.unit-item.result.scopes.ok.0, counted);
+        first_is = omega (
+          arith,
+          w.first-is,
+          c.len.ensures,
+          c.unit-item.result.scopes.ok.0,
+          counted,
+        );
         so_far = λ us same.
             rw (w.roots-is, w.first-is, ← append-nil c.loop-unit.roots.items)
-            (roots_turn c.args.units.now us c.loop-unit.unit-index c.loop-unit.first (c.loop-unit.first + c.len.result) c.unit-item.result None c.loop-unit.roots.items same c.loop-unit-test.true c.unit-item.is (c.loop-unit.invariant.so_far us same) (ap (λ n. c.loop-unit.first + n) c.len.ensures) w.in_default.is);
+            (roots_turn c.args.units.now us c.loop-unit.unit-index c.loop-unit.first
+            (c.loop-unit.first + c.len.result) c.unit-item.result None c.loop-unit.roots.items
+            same c.loop-unit-test.true c.unit-item.is (c.loop-unit.invariant.so_far us same)
+            (ap (λ n. c.loop-unit.first + n) c.len.ensures) w.in_default.is);
       }
     ]
 
 pub returns : goal.returns
-returns c us same = roots_end c.args.units.now us c.loop-unit.unit-index c.loop-unit.first c.loop-unit.roots.items same c.loop-unit-test.false (c.loop-unit.invariant.so_far us same)
+returns c us same = roots_end c.args.units.now us c.loop-unit.unit-index c.loop-unit.first
+    c.loop-unit.roots.items same c.loop-unit-test.false (c.loop-unit.invariant.so_far us same)

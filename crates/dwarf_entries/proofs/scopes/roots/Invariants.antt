@@ -9,5 +9,6 @@ use Rattle.dwarf_entries.proofs.scopes.roots.Given as goal
 abbrev pub invariant-loop-unit : goal.invariant-loop-unit
 invariant-loop-unit l = record {
   first_is : l.first ≡ scope_count (take l.unit-index l.units);
-  so_far : (us : List CompilationUnit) → map kept_of l.units ≡ map kept_unit_of us → RootsSoFar us l.unit-index l.first l.roots.items;
+  so_far : (us : List CompilationUnit) → map kept_of l.units ≡ map kept_unit_of us
+      → RootsSoFar us l.unit-index l.first l.roots.items;
 }

@@ -1,4 +1,4 @@
-use Rattle.dwarf_entries.proofs.RootParts.{roots-part, scopes-of-roots}
+use Rattle.dwarf_entries.proofs.RootScopes.{roots-part, scopes-of-roots}
 use Rattle.dwarf_entries.proofs.tree_laws.roots_part_scopes.Goals as goal
 
 pub returns : goal.returns

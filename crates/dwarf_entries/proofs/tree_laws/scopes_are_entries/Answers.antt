@@ -1,4 +1,4 @@
-use Rattle.dwarf_entries.proofs.EntryScopes.{units-were-read, scopes-enter, entries-told}
+use Rattle.dwarf_entries.proofs.EntriesOfScopes.{units-were-read, scopes-enter, entries-told}
 use Rattle.dwarf_entries.proofs.tree_laws.scopes_are_entries.Goals as goal
 
 pub returns : goal.returns

@@ -11,8 +11,11 @@ loop-table-smaller c =
     let first = c.args.cursor.now.place in
     let known = c.extend.new.lists.known in
     let inv = c.loop-table.invariant in
-    let so_far = so_far-told c.args.room first bytes c.loop-table.cursor.place c.loop-table.lists c.extend.new.lists c.loop-table.table c.in-Ok-true.ensures.grows inv.told inv.read in
-    let turn = turn_item c.args.room first bytes (tell known c.loop-table.table) (tell known c.extend.new.self) c.loop-table.cursor c.extend.new.cursor c.in-Ok-true.field-0 inv.bytes so_far c.in-Ok-true.ensures.table c.in-Ok-true.field-0-test in
+    let so_far = so_far-told c.args.room first bytes c.loop-table.cursor.place c.loop-table.lists
+    c.extend.new.lists c.loop-table.table c.in-Ok-true.ensures.grows inv.told inv.read in
+    let turn = turn_item c.args.room first bytes (tell known c.loop-table.table)
+    (tell known c.extend.new.self) c.loop-table.cursor c.extend.new.cursor c.in-Ok-true.field-0
+    inv.bytes so_far c.in-Ok-true.ensures.table c.in-Ok-true.field-0-test in
     rw (turn.bytes_stay, inv.bytes) (omega (arith, turn.moves, turn.within))
 
 pub loop-table-preserved : goal.loop-table-preserved
@@ -21,14 +24,18 @@ loop-table-preserved c =
     let first = c.args.cursor.now.place in
     let known = c.extend.new.lists.known in
     let inv = c.loop-table.invariant in
-    let so_far = so_far-told c.args.room first bytes c.loop-table.cursor.place c.loop-table.lists c.extend.new.lists c.loop-table.table c.in-Ok-true.ensures.grows inv.told inv.read in
-    let turn = turn_item c.args.room first bytes (tell known c.loop-table.table) (tell known c.extend.new.self) c.loop-table.cursor c.extend.new.cursor c.in-Ok-true.field-0 inv.bytes so_far c.in-Ok-true.ensures.table c.in-Ok-true.field-0-test in
+    let so_far = so_far-told c.args.room first bytes c.loop-table.cursor.place c.loop-table.lists
+    c.extend.new.lists c.loop-table.table c.in-Ok-true.ensures.grows inv.told inv.read in
+    let turn = turn_item c.args.room first bytes (tell known c.loop-table.table)
+    (tell known c.extend.new.self) c.loop-table.cursor c.extend.new.cursor c.in-Ok-true.field-0
+    inv.bytes so_far c.in-Ok-true.ensures.table c.in-Ok-true.field-0-test in
     record {
       bytes = turn.bytes_stay;
       few = omega (arith, turn.few, length-map c.extend.new.self (told known));
       read = turn.read;
       told = c.in-Ok-true.ensures.told;
-      grows = grows-both c.args.lists.now c.loop-table.lists c.extend.new.lists inv.grows c.in-Ok-true.ensures.grows;
+      grows = grows-both c.args.lists.now c.loop-table.lists c.extend.new.lists inv.grows
+          c.in-Ok-true.ensures.grows;
     }
 
 pub returns-in-Ok-false-clause-decodes : goal.returns-in-Ok-false-clause-decodes
@@ -37,8 +44,11 @@ returns-in-Ok-false-clause-decodes c =
     let first = c.args.cursor.now.place in
     let known = c.extend.new.lists.known in
     let inv = c.loop-table.invariant in
-    let so_far = so_far-told c.args.room first bytes c.loop-table.cursor.place c.loop-table.lists c.extend.new.lists c.loop-table.table c.in-Ok-false.ensures.grows inv.told inv.read in
-    turn_end c.args.room first bytes (tell known c.loop-table.table) (tell known c.extend.new.self) c.loop-table.cursor c.extend.new.cursor c.in-Ok-false.field-0 inv.bytes so_far c.in-Ok-false.ensures.table c.in-Ok-false.field-0-test
+    let so_far = so_far-told c.args.room first bytes c.loop-table.cursor.place c.loop-table.lists
+    c.extend.new.lists c.loop-table.table c.in-Ok-false.ensures.grows inv.told inv.read in
+    turn_end c.args.room first bytes (tell known c.loop-table.table) (tell known c.extend.new.self)
+    c.loop-table.cursor c.extend.new.cursor c.in-Ok-false.field-0 inv.bytes so_far
+    c.in-Ok-false.ensures.table c.in-Ok-false.field-0-test
 
 pub returns-in-Err-clause-decodes : goal.returns-in-Err-clause-decodes
 returns-in-Err-clause-decodes c =
@@ -46,5 +56,8 @@ returns-in-Err-clause-decodes c =
     let first = c.args.cursor.now.place in
     let known = c.extend.new.lists.known in
     let inv = c.loop-table.invariant in
-    let so_far = so_far-told c.args.room first bytes c.loop-table.cursor.place c.loop-table.lists c.extend.new.lists c.loop-table.table c.in-Err.ensures.grows inv.told inv.read in
-    turn_fault c.args.room first bytes (tell known c.loop-table.table) c.loop-table.cursor c.in-Err.cause c.place-at.result c.told.result inv.bytes so_far c.in-Err.ensures.table c.place-at.ensures.place c.told.ensures
+    let so_far = so_far-told c.args.room first bytes c.loop-table.cursor.place c.loop-table.lists
+    c.extend.new.lists c.loop-table.table c.in-Err.ensures.grows inv.told inv.read in
+    turn_fault c.args.room first bytes (tell known c.loop-table.table) c.loop-table.cursor
+    c.in-Err.cause c.place-at.result c.told.result inv.bytes so_far c.in-Err.ensures.table
+    c.place-at.ensures.place c.told.ensures

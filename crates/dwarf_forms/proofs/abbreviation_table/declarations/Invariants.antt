@@ -9,7 +9,8 @@ abbrev pub invariant-loop-table : goal.invariant-loop-table
 invariant-loop-table l = record {
   bytes : l.cursor.bytes ≡ l.fn.cursor.bytes;
   few : length l.table ≤ l.fn.room;
-  read : SoFar (length l.fn.cursor.bytes) (declaration_at l.fn.room l.fn.cursor.bytes) l.fn.cursor.place (tell l.lists.known l.table) l.cursor.place;
+  read : SoFar (length l.fn.cursor.bytes) (declaration_at l.fn.room l.fn.cursor.bytes)
+      l.fn.cursor.place (tell l.lists.known l.table) l.cursor.place;
   told : AreTold l.lists.known l.table;
   grows : Grows l.fn.lists l.lists;
 }

@@ -1,4 +1,4 @@
-use Rattle.dwarf_forms.proofs.JoinedLaws.{attributes_joined}
+use Rattle.dwarf_forms.proofs.JoinedLists.{attributes_joined}
 use Rattle.dwarf_forms.proofs.laws.attributes_are_joined.Goals as goal
 
 pub returns : goal.returns

@@ -1,4 +1,4 @@
-use Rattle.dwarf_forms.proofs.TableSpelling.{one_table}
+use Rattle.dwarf_forms.proofs.SpelledTables.{one_table}
 use Rattle.dwarf_forms.proofs.laws.table_is_unique.Goals as goal
 
 pub returns : goal.returns

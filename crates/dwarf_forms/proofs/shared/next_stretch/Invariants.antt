@@ -11,9 +11,11 @@ abbrev pub invariant-loop-number : goal.invariant-loop-number
 invariant-loop-number l = record {
   bytes : l.cursor.bytes ≡ l.fn.cursor.bytes;
   names : HoldsNames l.later (drop 32 l.attributes.items);
-  read : SoFar (length l.fn.cursor.bytes) (attribute_at l.fn.cursor.bytes) l.fn.cursor.place l.attributes.items l.cursor.place;
+  read : SoFar (length l.fn.cursor.bytes) (attribute_at l.fn.cursor.bytes) l.fn.cursor.place
+      l.attributes.items l.cursor.place;
   at : l.cursor.place ≡ place_after l.fn.cursor.bytes l.fn.cursor.place (length l.attributes.items);
-  places : l.places.items ≡ drop 64 (places_from l.fn.cursor.bytes l.fn.cursor.place (length l.attributes.items));
+  places : l.places.items ≡ drop 64 (places_from l.fn.cursor.bytes l.fn.cursor.place
+      (length l.attributes.items));
   unknown : All (IsUnknown l.fn.lists.known) l.places.items;
 }
 

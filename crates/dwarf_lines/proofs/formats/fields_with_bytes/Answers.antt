@@ -4,4 +4,5 @@ use Rattle.dwarf_lines.specs.Private.Readers.{has_bytes}
 use Rattle.dwarf_lines.proofs.formats.fields_with_bytes.Goals as goal
 
 pub returns : goal.returns
-returns c = filter_from_retain _ has_bytes (λ p x b q r. search rules) _ _ _ c.retain.ensures.filtered
+returns c = filter_from_retain _ has_bytes (λ p x b q r. search rules) _ _ _
+    c.retain.ensures.filtered

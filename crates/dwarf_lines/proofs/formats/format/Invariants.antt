@@ -6,5 +6,6 @@ use Rattle.dwarf_lines.proofs.formats.format.Given as goal
 abbrev pub invariant-loop : goal.invariant-loop
 invariant-loop l = record {
   same : l.cursor.bytes ≡ l.fn.cursor.bytes;
-  rest : with_items l.fields.items (repeated_at format_at (l.count - l.counter) l.cursor.bytes l.cursor.place) ≡ repeated_at format_at l.count l.fn.cursor.bytes l.fn.cursor.place;
+  rest : with_items l.fields.items (repeated_at format_at (l.count - l.counter) l.cursor.bytes
+      l.cursor.place) ≡ repeated_at format_at l.count l.fn.cursor.bytes l.fn.cursor.place;
 }

@@ -1,4 +1,4 @@
-use Rattle.dwarf_lines.proofs.HeaderSpelling.{header_stands, header_again}
+use Rattle.dwarf_lines.proofs.HeadersSpelled.{header_stands, header_again}
 use Rattle.dwarf_lines.proofs.laws.headers_are_spelled.Goals as goal
 
 pub returns : goal.returns

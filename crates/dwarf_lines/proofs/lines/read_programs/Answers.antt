@@ -1,4 +1,5 @@
-use Rattle.std.proofs.Common.{◌≡◌, ◌<◌, ◌≤◌, [], ◌∷◌, ◌++◌, length, map, vec_len, sym, ◌∙◌, subst, arith, rules, ℕ, Ok}
+use Rattle.std.proofs.Common.{◌≡◌, ◌<◌, ◌≤◌, [], ◌∷◌, ◌++◌, length, map, vec_len, sym, ◌∙◌, subst}
+use Rattle.std.proofs.Common.{arith, rules, ℕ, Ok}
 use Rattle.std.proofs.lemmas.List.{length-map}
 use Rattle.dwarf_bytes.specs.Refusals.{Fails}
 use Rattle.dwarf_lines.specs.Sections.{LineSections}
@@ -25,8 +26,13 @@ loop-place-preserved c =
     let count : vec_len c.loop-place.programs ≡ length c.loop-place.programs.items = search rules in
     let number = count ∙ sym (length-map c.loop-place.programs.items tables_in) in
     let lt : c.loop-place.place < length c.args.sections.line.now = omega arith in
-    let found = subst (λ (n : ℕ). program_at_place s n c.loop-place.place ≡ Ok e.0) number e.1 in
-    (c.loop-place.invariant.0 ++ e.0 ∷ [], rw (e.2, e.3, e.4) (goes_on s c.loop-place.invariant.0 c.loop-place.place c.loop-place.rows.items (map tables_in c.loop-place.programs.items) c.loop-place.invariant.1 e.0 lt found))
+    let found = subst (λ (n : ℕ). program_at_place s n c.loop-place.place ≡ Ok e.0) number e.1 in (
+      c.loop-place.invariant.0 ++ e.0 ∷ [],
+      rw (e.2, e.3, e.4) (goes_on s c.loop-place.invariant.0 c.loop-place.place
+          c.loop-place.rows.items (map tables_in c.loop-place.programs.items)
+          c.loop-place.invariant.1
+          e.0 lt found),
+    )
 
 pub returns-in-Err : goal.returns-in-Err
 returns-in-Err c =
@@ -34,14 +40,18 @@ returns-in-Err c =
     let count : vec_len c.loop-place.programs ≡ length c.loop-place.programs.items = search rules in
     let number = count ∙ sym (length-map c.loop-place.programs.items tables_in) in
     let lt : c.loop-place.place < length c.args.sections.line.now = omega arith in
-    let fails = subst (λ (n : ℕ). Fails c.in-Err.cause (program_at_place s n c.loop-place.place)) number c.in-Err.ensures in
-    rw c.told.ensures (refuses s c.loop-place.invariant.0 c.loop-place.place c.loop-place.rows.items (map tables_in c.loop-place.programs.items) c.loop-place.invariant.1 c.in-Err.cause lt fails)
+    let fails = subst (λ (n : ℕ). Fails c.in-Err.cause (program_at_place s n c.loop-place.place))
+    number c.in-Err.ensures in
+    rw c.told.ensures (refuses s c.loop-place.invariant.0 c.loop-place.place c.loop-place.rows.items
+    (map tables_in c.loop-place.programs.items) c.loop-place.invariant.1 c.in-Err.cause lt
+    fails)
 
 pub returns : goal.returns
 returns c =
     let s : LineSections = sections_of c.args.sections in
     let le : length c.args.sections.line.now ≤ c.loop-place.place = omega arith in
-    gives s c.loop-place.invariant.0 c.loop-place.place c.loop-place.rows.items (map tables_in c.loop-place.programs.items) c.loop-place.invariant.1 le
+    gives s c.loop-place.invariant.0 c.loop-place.place c.loop-place.rows.items
+    (map tables_in c.loop-place.programs.items) c.loop-place.invariant.1 le
 
 pub invariant_of-result : goal.invariant_of-result
 invariant_of-result c =
@@ -49,4 +59,5 @@ invariant_of-result c =
     let le : length c.args.sections.line.now ≤ c.loop-place.place = omega arith in
     let reads = c.loop-place.invariant.1 in
     kept-rise s c.loop-place.invariant.0 0 c.loop-place.programs.items c.loop-place.place
-    (is_done s c.loop-place.invariant.0 c.loop-place.place c.loop-place.rows.items (map tables_in c.loop-place.programs.items) reads le) reads.tables_are
+    (is_done s c.loop-place.invariant.0 c.loop-place.place c.loop-place.rows.items
+    (map tables_in c.loop-place.programs.items) reads le) reads.tables_are

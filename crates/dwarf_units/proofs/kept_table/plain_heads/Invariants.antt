@@ -5,4 +5,5 @@ use Rattle.dwarf_units.proofs.PlainEntries.{PlainSoFar}
 use Rattle.dwarf_units.proofs.kept_table.plain_heads.Given as goal
 
 abbrev pub invariant-loop-place : goal.invariant-loop-place
-invariant-loop-place l = (format : Format) → l.plans ≡ plans_of format l.table → PlainSoFar format l.table l.place l.heads.items
+invariant-loop-place l = (format : Format) → l.plans ≡ plans_of format l.table
+    → PlainSoFar format l.table l.place l.heads.items

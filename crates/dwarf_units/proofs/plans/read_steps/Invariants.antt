@@ -7,5 +7,6 @@ use Rattle.dwarf_units.proofs.plans.read_steps.Given as goal
 abbrev pub invariant-loop-step : goal.invariant-loop-step
 invariant-loop-step l = record {
   bytes : l.cursor.bytes ≡ l.fn.cursor.bytes;
-  kept : KeptSoFar l.format (drop l.step-index l.steps) l.fn.cursor.bytes l.found l.cursor.place (used_behind l.fn.found (steps_at l.format l.steps l.fn.cursor.bytes l.fn.cursor.place));
+  kept : KeptSoFar l.format (drop l.step-index l.steps) l.fn.cursor.bytes l.found l.cursor.place
+      (used_behind l.fn.found (steps_at l.format l.steps l.fn.cursor.bytes l.fn.cursor.place));
 }

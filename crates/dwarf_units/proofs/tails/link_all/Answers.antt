@@ -10,13 +10,32 @@ loop-format-preserved c =
     let format = c.args.format in
     let links = c.loop-format.links.items in
     let inv = c.loop-format.invariant in
-    let list = c.attribute-attribute.ensures ∙ ap (λ (ss : List AttributeSpecification). c.attribute-attribute.result.now ∷ ss) (sym c.next.ensures.list) in
-    let made : (keep : Bool) → IsLink keep format known c.len-number.result (link_by keep c.of-made.result) =
-    c.of-made.ensures known c.len-number.result (subst (AreLinked format known) (sym c.deref.ensures.value) inv.linked) list c.next.ensures.before in
-    let place : c.len-number.result ≡ length links = omega (arith, c.len-number.ensures, c.loop-format.links.ok) in
+    let list = c.attribute-attribute.ensures
+    ∙ ap (λ (ss : List AttributeSpecification). c.attribute-attribute.result.now ∷ ss)
+    (sym c.next.ensures.list) in
+    let made : (keep : Bool) → IsLink keep format known c.len-number.result
+    (link_by keep c.of-made.result) =
+    c.of-made.ensures known c.len-number.result
+    (subst (AreLinked format known) (sym c.deref.ensures.value) inv.linked) list
+    c.next.ensures.before in
+    let place : c.len-number.result ≡ length links =
+    omega (arith, c.len-number.ensures, c.loop-format.links.ok) in
     record {
       linked =
-          linked-push format known links c.push.new.self.items c.of-made.result inv.linked (omega (arith, c.len.ensures, c.len-in-loop-format.ensures.value, c.loop-format-test.true))
-          (subst (λ (n : ℕ). (keep : Bool) → IsLink keep format known n (link_by keep c.of-made.result)) place made) c.in_ok-push.ensures.items;
-      grows = omega (arith, inv.grows, ap length c.in_ok-push.ensures.items, c.in_ok-push.ensures.len);
+          linked-push format known links c.push.new.self.items c.of-made.result inv.linked
+          (omega (
+            arith,
+            c.len.ensures,
+            c.len-in-loop-format.ensures.value,
+            c.loop-format-test.true,
+          ))
+          (subst (λ (n : ℕ). (keep : Bool)
+          → IsLink keep format known n (link_by keep c.of-made.result)) place made)
+          c.in_ok-push.ensures.items;
+      grows = omega (
+        arith,
+        inv.grows,
+        ap length c.in_ok-push.ensures.items,
+        c.in_ok-push.ensures.len,
+      );
     }

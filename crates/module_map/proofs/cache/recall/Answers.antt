@@ -11,7 +11,8 @@ pub returns-clause-order : goal.returns-clause-order
 returns-clause-order c = ap (λ s. s.entries) c.get.follows.holds-at-none
 
 pub returns-clause-found : goal.returns-clause-found
-returns-clause-found c = found_key c.args.key c.args.answers.now.entries c.copied.result (c.copied.ensures ∙ c.get.ensures.value)
+returns-clause-found c = found_key c.args.key c.args.answers.now.entries c.copied.result
+    (c.copied.ensures ∙ c.get.ensures.value)
 
 pub returns-clause-cached : goal.returns-clause-cached
 returns-clause-cached c = λ e h. Contains-promoted (is_key c.args.key) c.args.answers.now.entries e
@@ -19,4 +20,5 @@ returns-clause-cached c = λ e h. Contains-promoted (is_key c.args.key) c.args.a
 
 pub returns-clause-count : goal.returns-clause-count
 returns-clause-count c =
-    ap (λ s. length s.entries) c.get.follows.holds-at-none ∙ length-promoted (is_key c.args.key) c.args.answers.now.entries
+    ap (λ s. length s.entries) c.get.follows.holds-at-none ∙ length-promoted (is_key c.args.key)
+    c.args.answers.now.entries

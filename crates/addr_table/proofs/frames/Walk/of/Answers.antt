@@ -4,10 +4,12 @@ use Rattle.addr_table.proofs.frames.Walk.of.Goals as goal
 
 pub returns-in-Some : goal.returns-in-Some
 returns-in-Some c =
-    begun-some _ _ _ _ c.args.place.link _ _ _ _ _ c.requires c.count.ensures.count c.begin-begun.ensures
+    begun-some _ _ _ _ c.args.place.link _ _ _ _ _ c.requires c.count.ensures.count
+    c.begin-begun.ensures
     (sym c.in-Some.is ∙ c.top.ensures)
 
 pub returns-in-None : goal.returns-in-None
 returns-in-None c =
-    begun-none _ _ _ _ c.args.place.link _ _ _ _ _ c.requires c.count.ensures.count c.begin-begun.ensures
+    begun-none _ _ _ _ c.args.place.link _ _ _ _ _ c.requires c.count.ensures.count
+    c.begin-begun.ensures
     (sym c.in-None.is ∙ c.top.ensures) c.is_some.ensures

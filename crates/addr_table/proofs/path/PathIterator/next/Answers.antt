@@ -7,5 +7,6 @@ pub returns-clause-steps : goal.returns-clause-steps
 returns-clause-steps c =
     let lookup = c.in_ok-part.ensures.lookup in
     rw (← c.self.view_is, c.part_in.ensures)
-    (path-step _ c.self.inside.parts c.self.inside.next _ (ltb-true _ _ (sym (rw c.parts.ensures at lookup.0)))
+    (path-step _ c.self.inside.parts c.self.inside.next _
+    (ltb-true _ _ (sym (rw c.parts.ensures at lookup.0)))
     (rw c.parts.ensures at lookup.1))

@@ -5,6 +5,8 @@ use Rattle.addr_table.proofs.texts.Texts.file.Goals as goal
 
 pub returns : goal.returns
 returns c =
-    let s = lines_read c.args.self.bytes.now _ _ _ _ c.args.self.placed c.of-line.ensures c.of-line_str.ensures c.of-str.ensures in
-    path-read c.args.self.bytes.now c.args.self.lines.now c.args.program c.args.file _ _ _ s (c.new.ensures _ refl)
+    let s = lines_read c.args.self.bytes.now _ _ _ _ c.args.self.placed c.of-line.ensures
+    c.of-line_str.ensures c.of-str.ensures in
+    path-read c.args.self.bytes.now c.args.self.lines.now c.args.program c.args.file _ _ _ s
+    (c.new.ensures _ refl)
     (sym c.in_ok-parts.ensures)

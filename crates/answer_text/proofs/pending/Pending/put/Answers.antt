@@ -12,4 +12,5 @@ returns-in_err-make_room-clause-bytes g c =
 pub returns-then-text-room-clause-bytes : goal.returns-then-text-room-clause-bytes
 returns-then-text-room-clause-bytes g c =
     puts_after _ _ _ _ _ _ _ _ c.in_ok-make_room.ensures.bytes
-    (puts_through _ _ _ _ _ (none_held _ _ _ c.in_ok-make_room.ensures.room c.room.ensures c.if-text-room.true) c.write_all.ensures.bytes)
+    (puts_through _ _ _ _ _ (none_held _ _ _ c.in_ok-make_room.ensures.room c.room.ensures
+    c.if-text-room.true) c.write_all.ensures.bytes)

@@ -11,7 +11,8 @@ pub returns-in_err-serve-clause-breaks : goal.returns-in_err-serve-clause-breaks
 returns-in_err-serve-clause-breaks g c =
     let p =
     err_from_is_err_and c.from_residual.result c.from_residual.ensures.1 in rw (p.1)
-    (breaks_line _ _ _ _ (λ e. false≢true (c.if-is_empty.ensures.1 e)) (rw c.text.ensures at c.in_err-serve.ensures.served))
+    (breaks_line _ _ _ _ (λ e. false≢true (c.if-is_empty.ensures.1 e))
+    (rw c.text.ensures at c.in_err-serve.ensures.served))
 
 pub returns-clause-goes_on : goal.returns-clause-goes_on
 returns-clause-goes_on g c =

@@ -1,5 +1,5 @@
 use Rattle.std.proofs.Common.{◌≡◌, length}
-use Rattle.command_loop.proofs.ReadLemmas.{ServedTo}
+use Rattle.command_loop.proofs.ServedReads.{ServedTo}
 use Rattle.command_loop.proofs.session.Session.take_piece.Given as goal
 
 abbrev pub invariant-lines : goal.invariant-lines
@@ -11,7 +11,12 @@ invariant-lines g l =
       written = g.W.Sink.written
           l.initial.writer;
     }) l.initial.self.line
-    (record { world = l.self.modules.world; asked = g.O.Objects.asked l.source; written = g.W.Sink.written l.writer }) l.self.line
+    (record {
+      world = l.self.modules.world;
+      asked = g.O.Objects.asked l.source;
+      written =
+          g.W.Sink.written l.writer;
+    }) l.self.line
     × (g.W.Sink.failures l.writer ≡ g.W.Sink.failures l.initial.writer)
 
 abbrev pub decreases-lines : goal.decreases-lines

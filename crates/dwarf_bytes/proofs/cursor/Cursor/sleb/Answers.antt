@@ -3,7 +3,7 @@ use Rattle.std.specs.Int.{w64}
 use Rattle.std.proofs.Common.{refl, rules}
 use Rattle.std.proofs.lemmas.Int.{to_z-of_z}
 use Rattle.std.proofs.lemmas.Result.{err_from_is_err_and}
-use Rattle.dwarf_bytes.proofs.LebPrefixes.{sleb_at-ok, sleb_at-err}
+use Rattle.dwarf_bytes.proofs.LebPlaces.{sleb_at-ok, sleb_at-err}
 use Rattle.dwarf_bytes.proofs.cursor.Cursor.sleb.Goals as goal
 
 pub returns-in_err-value-clause-reads : goal.returns-in_err-value-clause-reads
@@ -14,4 +14,5 @@ returns-in_err-value-clause-reads c =
 pub returns-clause-reads : goal.returns-clause-reads
 returns-clause-reads c =
     let fits : FitsSigned w64 c.in_ok-value.value = search rules in
-    rw (to_z-of_z w64 c.in_ok-value.value fits, ← c.self.view_is) (sleb_at-ok _ _ _ _ c.in_ok-value.ensures.value, refl)
+    rw (to_z-of_z w64 c.in_ok-value.value fits, ← c.self.view_is)
+    (sleb_at-ok _ _ _ _ c.in_ok-value.ensures.value, refl)

@@ -1,6 +1,6 @@
 use Rattle.std.proofs.Common.{refl}
 use Rattle.std.proofs.lemmas.Result.{err_from_is_err_and}
-use Rattle.dwarf_bytes.proofs.LebPrefixes.{uleb_at-ok, uleb_at-err}
+use Rattle.dwarf_bytes.proofs.LebPlaces.{uleb_at-ok, uleb_at-err}
 use Rattle.dwarf_bytes.proofs.cursor.Cursor.uleb.Goals as goal
 
 pub returns-in_err-value-clause-reads : goal.returns-in_err-value-clause-reads
@@ -9,4 +9,5 @@ returns-in_err-value-clause-reads c =
     rw (p.1, p.2, ← c.self.view_is) (uleb_at-err _ _ _ c.in_err-value.ensures.value, refl)
 
 pub returns-clause-reads : goal.returns-clause-reads
-returns-clause-reads c = rw (← c.self.view_is) (uleb_at-ok _ _ _ _ c.in_ok-value.ensures.value, refl)
+returns-clause-reads c = rw (← c.self.view_is)
+    (uleb_at-ok _ _ _ _ c.in_ok-value.ensures.value, refl)

@@ -7,4 +7,5 @@ returns-then-offset-self-clause-number c =
 
 pub returns-clause-number : goal.returns-clause-number
 returns-clause-number c =
-    rw (← c.self.view_is) (number-at _ _ _ _ c.self.invariant c.if-offset-self.false c.number_of.ensures.number)
+    rw (← c.self.view_is) (number-at _ _ _ _ c.self.invariant c.if-offset-self.false
+    c.number_of.ensures.number)

@@ -6,6 +6,11 @@ use Rattle.dwarf_entries.proofs.paths.FirstNames.or.Goals as goal
 
 pub returns : goal.returns
 returns c = λ us path m kept at. record {
-  name = first-more us DW_AT_NAME c.args.last.unit path m c.args.self.name c.args.last.entry.name at.unit_is (ap (λ (e : NamedEntry). e.name) at.entry_is) kept.name c.first.result c.first.ensures;
-  linkage_name = first-more us DW_AT_LINKAGE_NAME c.args.last.unit path m c.args.self.linkage_name c.args.last.entry.linkage_name at.unit_is (ap (λ (e : NamedEntry). e.linkage_name) at.entry_is) kept.linkage_name c.first-2.result c.first-2.ensures;
+  name = first-more us DW_AT_NAME c.args.last.unit path m c.args.self.name c.args.last.entry.name
+      at.unit_is (ap (λ (e : NamedEntry). e.name) at.entry_is) kept.name c.first.result
+      c.first.ensures;
+  linkage_name = first-more us DW_AT_LINKAGE_NAME c.args.last.unit path m c.args.self.linkage_name
+      c.args.last.entry.linkage_name at.unit_is
+      (ap (λ (e : NamedEntry). e.linkage_name) at.entry_is) kept.linkage_name c.first-2.result
+      c.first-2.ensures;
 }

@@ -2,4 +2,6 @@ use Rattle.dwarf_entries.proofs.TellLaws.{own-kept}
 use Rattle.dwarf_entries.proofs.scopes.Scopes.scopes.Goals as goal
 
 pub returns : goal.returns
-returns c = rw (← c.self.view_is, c.as_slice.ensures.value) (own-kept c.self.inside.roots.items c.self.inside.lists.wide.items c.self.inside.lists.ranges.items 0 c.self.inside.lists.scopes.items)
+returns c = rw (← c.self.view_is, c.as_slice.ensures.value)
+    (own-kept c.self.inside.roots.items c.self.inside.lists.wide.items
+    c.self.inside.lists.ranges.items 0 c.self.inside.lists.scopes.items)

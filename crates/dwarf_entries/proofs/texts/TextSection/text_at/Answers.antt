@@ -4,8 +4,10 @@ use Rattle.dwarf_entries.proofs.texts.TextSection.text_at.Goals as goal
 
 pub returns-then-offset-self : goal.returns-then-offset-self
 returns-then-offset-self c =
-    let none = behind-all _ _ _ c.self.invariant c.if-offset-self.true in rw (← c.self.view_is, none) refl
+    let none = behind-all _ _ _ c.self.invariant c.if-offset-self.true in
+    rw (← c.self.view_is, none) refl
 
 pub returns : goal.returns
 returns c =
-    let found = before-all _ _ _ c.self.invariant c.if-offset-self.false in rw (← c.self.view_is, found.1) refl
+    let found = before-all _ _ _ c.self.invariant c.if-offset-self.false in
+    rw (← c.self.view_is, found.1) refl

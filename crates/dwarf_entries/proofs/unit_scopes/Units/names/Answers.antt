@@ -9,6 +9,8 @@ use Rattle.dwarf_entries.proofs.unit_scopes.Units.names.Goals as goal
 
 pub returns-in-Some-clause-names : goal.returns-in-Some-clause-names
 returns-in-Some-clause-names c us are marked same read reader knew m at =
-    subst (λ (r : Result EntryNames Cause). Gives (λ (names : EntryNames). names) c.names_behind.result r)
-    (sym (names-by-reference (sections_of c.args.self.sections.now) us c.args.start.unit c.args.start.entry m c.in-Some.reference at c.in-Some.ensures.some))
+    subst (λ (r : Result EntryNames Cause). Gives (λ (names : EntryNames). names)
+    c.names_behind.result r)
+    (sym (names-by-reference (sections_of c.args.self.sections.now) us c.args.start.unit
+    c.args.start.entry m c.in-Some.reference at c.in-Some.ensures.some))
     (c.names_behind.ensures.names us are marked same read reader knew m.unit at.unit_is)

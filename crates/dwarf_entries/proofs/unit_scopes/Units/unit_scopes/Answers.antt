@@ -3,7 +3,9 @@ use Rattle.dwarf_bytes.specs.declared.fault.Section.TheVariants as names
 use Rattle.dwarf_bytes.specs.Refusals.{told}
 use Rattle.dwarf_walk.specs.declared.kept.ScopePlace.{ScopePlace}
 use Rattle.dwarf_walk.specs.Sections.{sections_of}
-use Rattle.dwarf_entries.proofs.ScopesPass.{place_known, all_there, is_place, judged_next, judged_end, judged_fault, again_fault}
+use Rattle.dwarf_entries.proofs.ScopesPass.{is_place, judged_next}
+use Rattle.dwarf_entries.proofs.ScopesEnds.{place_known, all_there, judged_end, judged_fault}
+use Rattle.dwarf_entries.proofs.ScopesEnds.{again_fault}
 use Rattle.dwarf_entries.proofs.unit_scopes.Units.unit_scopes.Goals as goal
 
 -- the default of a place
@@ -14,40 +16,73 @@ pub returns-in-Err-clause-scopes : goal.returns-in-Err-clause-scopes
 returns-in-Err-clause-scopes c us u before are marked read reader knew found root judged =
     let s = sections_of c.args.self.sections.now in
     let of_sections = c.loop-place.invariant.reader s reader in
-    let known = place_known s c.args.self.units.now c.args.self.bases.now us u c.args.unit c.loop-place.place-index c.index-self-unit.result c.as_slice-place-items.result.now d are read found c.as_slice-place-items.ensures.value c.loop-place-test.true in
-    again_fault s us u before c.loop-place.place-index c.loop-place.lists c.loop-place.left _ _ c.in-Err.cause c.told.result known (c.in-Err.ensures.scope s known.read.table of_sections known.table_is)
+    let known = place_known s c.args.self.units.now c.args.self.bases.now us u c.args.unit
+    c.loop-place.place-index c.index-self-unit.result c.as_slice-place-items.result.now d are
+    read found c.as_slice-place-items.ensures.value c.loop-place-test.true in
+    again_fault s us u before c.loop-place.place-index c.loop-place.lists c.loop-place.left _ _
+    c.in-Err.cause c.told.result known
+    (c.in-Err.ensures.scope s known.read.table of_sections known.table_is)
     (c.told.ensures ∙ ap (λ (k : ℕ). told names.DebugInfo c.in-Err.cause k) c.from-at.ensures)
 
 pub returns-in-Err-scope-clause-scopes : goal.returns-in-Err-scope-clause-scopes
 returns-in-Err-scope-clause-scopes c us u before are marked read reader knew found root judged =
     let s = sections_of c.args.self.sections.now in
     let of_sections = c.loop-place.invariant.reader s reader in
-    let known = place_known s c.args.self.units.now c.args.self.bases.now us u c.args.unit c.loop-place.place-index c.index-self-unit.result c.as_slice-place-items.result.now d are read found c.as_slice-place-items.ensures.value c.loop-place-test.true in
-    let so_far = c.loop-place.invariant.so_far us u before are marked read reader knew found root judged in
-    let place = is_place s us u before _ c.loop-place.place-index c.loop-place.lists c.loop-place.left _ _ c.in-Ok.entry so_far found root known (c.len.ensures ∙ c.loop-place.lists.scopes.ok.0) refl (c.in-Ok.ensures.scope s known.read.table of_sections known.table_is) in
-    judged_fault s us u before c.loop-place.place-index c.loop-place.lists c.loop-place.lists c.loop-place.left c.loop-place.left _ c.in-Err-scope.cause c.told-in-Err-scope.result so_far known.site
-    (c.in-Err-scope.ensures.judged us so_far.judged known.site.place are marked place read (c.in-Ok.ensures.reader s of_sections) (c.loop-place.invariant.known us are marked read reader knew)) (c.told-in-Err-scope.ensures ∙ ap (λ (k : ℕ). told names.DebugInfo c.in-Err-scope.cause k) c.from-at.ensures)
+    let known = place_known s c.args.self.units.now c.args.self.bases.now us u c.args.unit
+    c.loop-place.place-index c.index-self-unit.result c.as_slice-place-items.result.now d are
+    read found c.as_slice-place-items.ensures.value c.loop-place-test.true in
+    let so_far = c.loop-place.invariant.so_far us u before are marked read reader knew found root
+    judged in
+    let place = is_place s us u before _ c.loop-place.place-index c.loop-place.lists
+    c.loop-place.left _ _ c.in-Ok.entry so_far found root known
+    (c.len.ensures ∙ c.loop-place.lists.scopes.ok.0) refl
+    (c.in-Ok.ensures.scope s known.read.table of_sections known.table_is) in
+    judged_fault s us u before c.loop-place.place-index c.loop-place.lists c.loop-place.lists
+    c.loop-place.left c.loop-place.left _ c.in-Err-scope.cause c.told-in-Err-scope.result so_far
+    known.site
+    (c.in-Err-scope.ensures.judged us so_far.judged known.site.place are marked place read
+    (c.in-Ok.ensures.reader s of_sections)
+    (c.loop-place.invariant.known us are marked read reader knew))
+    (c.told-in-Err-scope.ensures ∙ ap (λ (k : ℕ). told names.DebugInfo c.in-Err-scope.cause k)
+    c.from-at.ensures)
 
 pub loop-place-preserved : goal.loop-place-preserved
 loop-place-preserved c = record {
-  reader = λ t reader. c.in-Ok-scope.ensures.reader t (c.in-Ok.ensures.reader t (c.loop-place.invariant.reader t reader));
+  reader = λ t reader. c.in-Ok-scope.ensures.reader t
+      (c.in-Ok.ensures.reader t (c.loop-place.invariant.reader t reader));
   known = λ us are marked read reader knew.
       let s = sections_of c.args.self.sections.now in
-      c.in-Ok-scope.ensures.known us are marked read (c.in-Ok.ensures.reader s (c.loop-place.invariant.reader s reader)) (c.loop-place.invariant.known us are marked read reader knew);
+      c.in-Ok-scope.ensures.known us are marked read
+      (c.in-Ok.ensures.reader s (c.loop-place.invariant.reader s reader))
+      (c.loop-place.invariant.known us are marked read reader knew);
   so_far = λ us u before are marked read reader knew found root judged.
       let s = sections_of c.args.self.sections.now in
       let of_sections = c.loop-place.invariant.reader s reader in
-      let known = place_known s c.args.self.units.now c.args.self.bases.now us u c.args.unit c.loop-place.place-index c.index-self-unit.result c.as_slice-place-items.result.now d are read found c.as_slice-place-items.ensures.value c.loop-place-test.true in
-      let so_far = c.loop-place.invariant.so_far us u before are marked read reader knew found root judged in
-      let place = is_place s us u before _ c.loop-place.place-index c.loop-place.lists c.loop-place.left _ _ c.in-Ok.entry so_far found root known (c.len.ensures ∙ c.loop-place.lists.scopes.ok.0) refl (c.in-Ok.ensures.scope s known.read.table of_sections known.table_is) in
-      judged_next s us u before c.loop-place.place-index c.loop-place.lists (record c.loop-place.lists { ranges = c.scope-in-loop-place.new.ranges }) _ c.loop-place.left _ _ c.in-Ok-scope.items c.in-Ok-scope.facts so_far known.site
-      (c.in-Ok-scope.ensures.judged us so_far.judged known.site.place are marked place read (c.in-Ok.ensures.reader s of_sections) (c.loop-place.invariant.known us are marked read reader knew)) refl refl c.in_ok-push-in-Ok-scope.ensures (omega (arith, c.in-Ok-scope.ensures.room));
+      let known = place_known s c.args.self.units.now c.args.self.bases.now us u c.args.unit
+      c.loop-place.place-index c.index-self-unit.result c.as_slice-place-items.result.now d are
+      read found c.as_slice-place-items.ensures.value c.loop-place-test.true in
+      let so_far = c.loop-place.invariant.so_far us u before are marked read reader knew found root
+      judged in
+      let place = is_place s us u before _ c.loop-place.place-index c.loop-place.lists
+      c.loop-place.left _ _ c.in-Ok.entry so_far found root known
+      (c.len.ensures ∙ c.loop-place.lists.scopes.ok.0) refl
+      (c.in-Ok.ensures.scope s known.read.table of_sections known.table_is) in
+      judged_next s us u before c.loop-place.place-index c.loop-place.lists
+      (record c.loop-place.lists { ranges = c.scope-in-loop-place.new.ranges }) _
+      c.loop-place.left _ _ c.in-Ok-scope.items c.in-Ok-scope.facts so_far known.site
+      (c.in-Ok-scope.ensures.judged us so_far.judged known.site.place are marked place read
+      (c.in-Ok.ensures.reader s of_sections)
+      (c.loop-place.invariant.known us are marked read reader knew)) refl refl
+      c.in_ok-push-in-Ok-scope.ensures (omega (arith, c.in-Ok-scope.ensures.room));
 }
 
 pub returns-clause-scopes : goal.returns-clause-scopes
 returns-clause-scopes c us u before are marked read reader knew found root judged =
-    judged_end (sections_of c.args.self.sections.now) us u before c.loop-place.place-index c.loop-place.lists c.loop-place.left (c.loop-place.invariant.so_far us u before are marked read reader knew found root judged)
-    (all_there c.args.self.units.now c.args.self.bases.now us u c.args.unit c.loop-place.place-index _ _ are found c.as_slice-place-items.ensures.value c.loop-place-test.false)
+    judged_end (sections_of c.args.self.sections.now) us u before c.loop-place.place-index
+    c.loop-place.lists c.loop-place.left
+    (c.loop-place.invariant.so_far us u before are marked read reader knew found root judged)
+    (all_there c.args.self.units.now c.args.self.bases.now us u c.args.unit c.loop-place.place-index
+    _ _ are found c.as_slice-place-items.ensures.value c.loop-place-test.false)
 
 pub returns-in-Err-clause-reader : goal.returns-in-Err-clause-reader
 returns-in-Err-clause-reader c s reader =
@@ -59,10 +94,12 @@ returns-in-Err-scope-clause-reader c s reader =
     let of_sections = c.loop-place.invariant.reader s reader in
     c.in-Err-scope.ensures.reader s (c.in-Ok.ensures.reader s of_sections)
 
-pub returns-in_err-push-in-Ok-scope-clause-reader : goal.returns-in_err-push-in-Ok-scope-clause-reader
+pub returns-in_err-push-in-Ok-scope-clause-reader :
+    goal.returns-in_err-push-in-Ok-scope-clause-reader
 returns-in_err-push-in-Ok-scope-clause-reader c s reader =
     let of_sections = c.loop-place.invariant.reader s reader in
     c.in-Ok-scope.ensures.reader s (c.in-Ok.ensures.reader s of_sections)
 
 pub returns-clause-known : goal.returns-clause-known
-returns-clause-known c us are marked read reader knew = c.loop-place.invariant.known us are marked read reader knew
+returns-clause-known c us are marked read reader knew =
+    c.loop-place.invariant.known us are marked read reader knew

@@ -13,8 +13,17 @@ use Rattle.dwarf_entries.proofs.unit_scopes.Units.unit_scopes.Given as goal
 abbrev pub invariant-loop-place : goal.invariant-loop-place
 invariant-loop-place l = record {
   reader : (s : Sections) → IsReaderOf s l.fn.reader → IsReaderOf s l.reader;
-  known : (us : List CompilationUnit) → AreUnits l.self.units.now l.self.bases.now us → AreMarked l.self.marks.now us → AreReadIn (sections_of l.self.sections.now) us → IsReaderOf (sections_of l.self.sections.now) l.fn.reader → AreKnownOf (sections_of l.self.sections.now) us l.fn.known → AreKnownOf (sections_of l.self.sections.now) us l.known;
+  known : (us : List CompilationUnit) → AreUnits l.self.units.now l.self.bases.now us
+      → AreMarked l.self.marks.now us → AreReadIn (sections_of l.self.sections.now) us
+      → IsReaderOf (sections_of l.self.sections.now) l.fn.reader
+      → AreKnownOf (sections_of l.self.sections.now) us l.fn.known
+      → AreKnownOf (sections_of l.self.sections.now) us l.known;
   so_far :
-      (us : List CompilationUnit) (u : CompilationUnit) (before : List Judged) → AreUnits l.self.units.now l.self.bases.now us → AreMarked l.self.marks.now us → AreReadIn (sections_of l.self.sections.now) us → IsReaderOf (sections_of l.self.sections.now) l.fn.reader
-      → AreKnownOf (sections_of l.self.sections.now) us l.fn.known → slice_get us l.unit ≡ Some u → IsRootOf us l.root u → AreJudged (roots_from 0 us) before l.fn.lists l.fn.left → JudgedSoFar (sections_of l.self.sections.now) us u before l.place-index l.lists l.left;
+      (us : List CompilationUnit) (u : CompilationUnit) (before : List Judged)
+      → AreUnits l.self.units.now l.self.bases.now us → AreMarked l.self.marks.now us
+      → AreReadIn (sections_of l.self.sections.now) us
+      → IsReaderOf (sections_of l.self.sections.now) l.fn.reader
+      → AreKnownOf (sections_of l.self.sections.now) us l.fn.known → slice_get us l.unit ≡ Some u
+      → IsRootOf us l.root u → AreJudged (roots_from 0 us) before l.fn.lists l.fn.left
+      → JudgedSoFar (sections_of l.self.sections.now) us u before l.place-index l.lists l.left;
 }

@@ -6,4 +6,6 @@ use Rattle.dwarf_forms.proofs.known_lists.KnownLists.attribute.Goals as goal
 pub returns : goal.returns
 returns c =
     let view = ap (λ (l : KnownPlaces). l.known) c.self.view_is in
-    head-is _ _ _ (step-at c.self.inside.section.now c.self.inside.known.items c.args.self.now.known c.self.inside.places c.self.inside.names c.args.number c.index.result.now c.self.invariant view c.requires c.index.ensures)
+    head-is _ _ _ (step-at c.self.inside.section.now c.self.inside.known.items c.args.self.now.known
+    c.self.inside.places c.self.inside.names c.args.number c.index.result.now c.self.invariant
+    view c.requires c.index.ensures)

@@ -1,4 +1,5 @@
-use Rattle.std.proofs.Common.{◌≡◌, ℕ, ◌%◌, ◌/◌, ◌<◌, ◌++◌, ◌∷◌, [], length, true, refl, subst, arith}
+use Rattle.std.proofs.Common.{◌≡◌, ℕ, ◌%◌, ◌/◌, ◌<◌, ◌++◌, ◌∷◌, [], length, true, refl, subst}
+use Rattle.std.proofs.Common.{arith}
 use Rattle.dwarf_forms.specs.declared.name_sets.Branch.{Branch}
 use Rattle.dwarf_forms.specs.Private.NameSets.{side}
 use Rattle.dwarf_forms.proofs.Elements.{if_ok}
@@ -11,8 +12,11 @@ returns-then-name-eq0-clause-names t c =
     let new = c.put.new.self in
     let b = c.branch-branch.result in
     let ended : Branch = record { ends = true; zero = b.zero; one = b.one } in
-    if_ok (λ (more : ℕ). (more ≡ length old) × (new ≡ old ++ ended ∷ [])) (λ (more : ℕ). HasMore old new c.args.set more c.args.name) c.put.result c.put.ensures.ok
-    (λ more made. more-ends old new c.args.set more c.args.name b ended c.branch-branch.ensures.value c.requires c.branch-branch.ensures.within c.if-name-eq0.true made.0 made.1 refl c.put.ensures.stay)
+    if_ok (λ (more : ℕ). (more ≡ length old) × (new ≡ old ++ ended ∷ []))
+    (λ (more : ℕ). HasMore old new c.args.set more c.args.name) c.put.result c.put.ensures.ok
+    (λ more made. more-ends old new c.args.set more c.args.name b ended
+    c.branch-branch.ensures.value c.requires c.branch-branch.ensures.within c.if-name-eq0.true
+    made.0 made.1 refl c.put.ensures.stay)
 
 pub returns-clause-names : goal.returns-clause-names
 returns-clause-names t c =
@@ -23,10 +27,17 @@ returns-clause-names t c =
     let turned = c.with_side.result in
     let behind = c.in_ok-behind.behind in
     let some : 0 < c.args.name = omega (arith, c.if-name-eq0.false) in
-    let rest : HasMore old mid (side b (c.args.name % 2)) behind (c.args.name / 2) = subst (λ (s : ℕ). HasMore old mid s behind (c.args.name / 2)) c.side.ensures c.in_ok-behind.ensures.names in
-    if_ok (λ (more : ℕ). (more ≡ length mid) × (new ≡ mid ++ turned ∷ [])) (λ (more : ℕ). HasMore old new c.args.set more c.args.name) c.put-2.result c.put-2.ensures.ok
+    let rest : HasMore old mid (side b (c.args.name % 2)) behind (c.args.name / 2) =
+    subst (λ (s : ℕ). HasMore old mid s behind (c.args.name / 2)) c.side.ensures
+    c.in_ok-behind.ensures.names in
+    if_ok (λ (more : ℕ). (more ≡ length mid) × (new ≡ mid ++ turned ∷ []))
+    (λ (more : ℕ). HasMore old new c.args.set more c.args.name) c.put-2.result
+    c.put-2.ensures.ok
     (λ more made.
-    more-bits old mid new c.args.set behind more c.args.name b turned c.branch-branch.ensures.value c.branch-branch.ensures.within some made.0 made.1 c.in_ok-behind.ensures.within c.with_side.ensures.ends c.with_side.ensures.behind c.with_side.ensures.others c.in_ok-behind.ensures.stay
+    more-bits old mid new c.args.set behind more c.args.name b turned c.branch-branch.ensures.value
+    c.branch-branch.ensures.within some made.0 made.1 c.in_ok-behind.ensures.within
+    c.with_side.ensures.ends c.with_side.ensures.behind c.with_side.ensures.others
+    c.in_ok-behind.ensures.stay
     c.put-2.ensures.stay rest)
 
 pub returns-in_err-behind-clause-few : goal.returns-in_err-behind-clause-few
@@ -37,5 +48,7 @@ returns-in_err-behind-clause-few t c =
 pub returns-clause-few : goal.returns-clause-few
 returns-clause-few t c =
     let some : 0 < c.args.name = omega (arith, c.if-name-eq0.false) in
-    let one = put-few c.with.new.self c.put-2.new.self c.with_side.result c.put-2.result c.put-2.ensures.ok c.put-2.ensures.err in
-    few-bits c.args.self.now c.with.new.self c.put-2.new.self c.args.name some c.with.ensures.few one
+    let one = put-few c.with.new.self c.put-2.new.self c.with_side.result c.put-2.result
+    c.put-2.ensures.ok c.put-2.ensures.err in
+    few-bits c.args.self.now c.with.new.self c.put-2.new.self c.args.name some c.with.ensures.few
+    one

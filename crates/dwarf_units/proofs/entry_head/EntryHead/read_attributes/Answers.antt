@@ -10,18 +10,26 @@ returns-in_err-read_steps c =
     let inside = c.self.inside in
     let list = inside.declaration.now.list in
     let steps = c.steps.ensures inside.format list.own c.self.invariant.0 in
-    let within : c.args.cursor.now.place ≤ length c.args.cursor.now.bytes = omega (arith, c.place.ensures.place, c.place.ensures.within) in
+    let within : c.args.cursor.now.place ≤ length c.args.cursor.now.bytes =
+    omega (arith, c.place.ensures.place, c.place.ensures.within) in
     rw (p.1, p.2)
     (rw (← c.self.view_is)
-    (own-fault c.args.keep inside.format list.own (rest_attributes inside.lists.now.places.known list.rest) c.args.cursor.now.bytes c.args.cursor.now.place c.in_err-read_steps.field-0.0 within (rw (steps, c.clear.ensures) at c.in_err-read_steps.ensures)))
+    (own-fault c.args.keep inside.format list.own
+    (rest_attributes inside.lists.now.places.known list.rest) c.args.cursor.now.bytes
+    c.args.cursor.now.place c.in_err-read_steps.field-0.0 within
+    (rw (steps, c.clear.ensures) at c.in_err-read_steps.ensures)))
 
 pub returns : goal.returns
 returns c =
     let inside = c.self.inside in
     let list = inside.declaration.now.list in
     let steps = c.steps.ensures inside.format list.own c.self.invariant.0 in
-    let within : c.args.cursor.now.place ≤ length c.args.cursor.now.bytes = omega (arith, c.place.ensures.place, c.place.ensures.within) in
+    let within : c.args.cursor.now.place ≤ length c.args.cursor.now.bytes =
+    omega (arith, c.place.ensures.place, c.place.ensures.within) in
     let own = rw (steps, c.clear.ensures) at c.in_ok-read_steps.ensures in
     let rest = c.rest-rest.ensures ∙ ap (λ l. l.rest) c.list.ensures in
     rw (← c.self.view_is)
-    (read-both c.args.keep inside.format list.own (rest_attributes inside.lists.now.places.known list.rest) c.args.cursor.now c.read_steps.new.cursor c.read.new.cursor c.read_steps.new.found c.read.new.found c.read.result within own.0 own.1 (rw rest at c.read.ensures))
+    (read-both c.args.keep inside.format list.own
+    (rest_attributes inside.lists.now.places.known list.rest) c.args.cursor.now
+    c.read_steps.new.cursor c.read.new.cursor c.read_steps.new.found c.read.new.found
+    c.read.result within own.0 own.1 (rw rest at c.read.ensures))

@@ -6,5 +6,7 @@ use Rattle.dwarf_units.proofs.kept_table.KeptTable.find.Goals as goal
 
 pub returns-clause-some : goal.returns-clause-some
 returns-clause-some c =
-    subst (λ (t : SharedTable). IfSome c.planned.result (λ found. (find (λ d. d.code == c.args.code) t.declarations ≡ Some found.0.now) × (found.1.now ≡ plan_of t.format found.0.now.list.own))) c.self.view_is
+    subst (λ (t : SharedTable). IfSome c.planned.result
+    (λ found. (find (λ d. d.code == c.args.code) t.declarations ≡ Some found.0.now)
+    × (found.1.now ≡ plan_of t.format found.0.now.list.own))) c.self.view_is
     (c.planned.ensures.some c.self.inside.format (c.deref.ensures.value ∙ c.self.invariant.0))

@@ -4,5 +4,8 @@ use Rattle.dwarf_units.proofs.kept_table.KeptTable.size.Goals as goal
 
 pub returns : goal.returns
 returns c =
-    size_sum _ c.args.self.now c.declarations.result.now c.deref.result.now c.from.result c.attribute_count-attributes.result c.step_count.result c.self.view_is c.declarations.ensures (c.deref.ensures.value ∙ c.self.invariant.0)
-    (c.from.ensures ∙ c.len.ensures) c.attribute_count-attributes.ensures.sum c.step_count.ensures.sum
+    size_sum _ c.args.self.now c.declarations.result.now c.deref.result.now c.from.result
+    c.attribute_count-attributes.result c.step_count.result c.self.view_is
+    c.declarations.ensures (c.deref.ensures.value ∙ c.self.invariant.0)
+    (c.from.ensures ∙ c.len.ensures) c.attribute_count-attributes.ensures.sum
+    c.step_count.ensures.sum

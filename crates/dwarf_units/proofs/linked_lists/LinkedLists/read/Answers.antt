@@ -11,8 +11,11 @@ use Rattle.dwarf_units.proofs.linked_lists.LinkedLists.read.Goals as goal
 -- of no known attribute nothing is kept
 pub returns-then-is_none : goal.returns-then-is_none
 unfolding steps_of
-returns-then-is_none c =
-    (kept-end c.args.format _ c.args.cursor.now.bytes c.args.found.now c.args.cursor.now.place _ (rw (absent c.args.first (c.is_none.ensures ∙ ap not c.if-is_none.true)) refl) refl, refl)
+returns-then-is_none c = (
+  kept-end c.args.format _ c.args.cursor.now.bytes c.args.found.now c.args.cursor.now.place _
+      (rw (absent c.args.first (c.is_none.ensures ∙ ap not c.if-is_none.true)) refl) refl,
+  refl,
+)
   where
     absent : (first : Option ℕ) → is_some first ≡ false → first ≡ None
     absent None is = refl
@@ -24,18 +27,26 @@ returns-in_err-read_step c =
     let inv = c.loop-next.invariant in
     let number = c.in-Some.number in
     let within : number < linked_in c.args.self.now c.args.format = rw c.in-Some.is at inv.linked in
-    let link : IsLink c.args.keep c.args.format c.args.self.now.places.known number c.by-link.result.now =
-    linked-at c.args.keep c.args.format c.args.self.now.places.known c.links-links.result.now number _ c.by-link.result.now c.links-links.ensures.links (omega (arith, within, c.links-links.ensures.all)) c.by-link.ensures in
+    let link : IsLink c.args.keep c.args.format c.args.self.now.places.known number
+    c.by-link.result.now =
+    linked-at c.args.keep c.args.format c.args.self.now.places.known c.links-links.result.now number
+    _ c.by-link.result.now c.links-links.ensures.links
+    (omega (arith, within, c.links-links.ensures.all)) c.by-link.ensures in
     rw (p.1, p.2)
-    (kept-fault c.args.format c.by-link.result.now.step _ _ c.args.cursor.now.bytes c.loop-next.found c.loop-next.cursor c.in_err-read_step.field-0.0 _ link.steps inv.bytes (rw c.in-Some.is at inv.kept) c.in_err-read_step.ensures)
+    (kept-fault c.args.format c.by-link.result.now.step _ _ c.args.cursor.now.bytes
+    c.loop-next.found c.loop-next.cursor c.in_err-read_step.field-0.0 _ link.steps inv.bytes
+    (rw c.in-Some.is at inv.kept) c.in_err-read_step.ensures)
 
 pub loop-next-smaller : goal.loop-next-smaller
 loop-next-smaller c =
     let inv = c.loop-next.invariant in
     let number = c.in-Some.number in
     let within : number < linked_in c.args.self.now c.args.format = rw c.in-Some.is at inv.linked in
-    let link : IsLink c.args.keep c.args.format c.args.self.now.places.known number c.by-link.result.now =
-    linked-at c.args.keep c.args.format c.args.self.now.places.known c.links-links.result.now number _ c.by-link.result.now c.links-links.ensures.links (omega (arith, within, c.links-links.ensures.all)) c.by-link.ensures in
+    let link : IsLink c.args.keep c.args.format c.args.self.now.places.known number
+    c.by-link.result.now =
+    linked-at c.args.keep c.args.format c.args.self.now.places.known c.links-links.result.now number
+    _ c.by-link.result.now c.links-links.ensures.links
+    (omega (arith, within, c.links-links.ensures.all)) c.by-link.ensures in
     rw c.in-Some.is (next-smaller c.by-link.result.now.next number link.before)
 
 pub loop-next-preserved : goal.loop-next-preserved
@@ -43,17 +54,26 @@ loop-next-preserved c =
     let inv = c.loop-next.invariant in
     let number = c.in-Some.number in
     let within : number < linked_in c.args.self.now c.args.format = rw c.in-Some.is at inv.linked in
-    let link : IsLink c.args.keep c.args.format c.args.self.now.places.known number c.by-link.result.now =
-    linked-at c.args.keep c.args.format c.args.self.now.places.known c.links-links.result.now number _ c.by-link.result.now c.links-links.ensures.links (omega (arith, within, c.links-links.ensures.all)) c.by-link.ensures in
+    let link : IsLink c.args.keep c.args.format c.args.self.now.places.known number
+    c.by-link.result.now =
+    linked-at c.args.keep c.args.format c.args.self.now.places.known c.links-links.result.now number
+    _ c.by-link.result.now c.links-links.ensures.links
+    (omega (arith, within, c.links-links.ensures.all)) c.by-link.ensures in
     record {
-      linked = before-both number c.by-link.result.now.next (linked_in c.args.self.now c.args.format) link.before within;
+      linked = before-both number c.by-link.result.now.next
+          (linked_in c.args.self.now c.args.format) link.before within;
       bytes = c.in_ok-read_step.ensures.1 ∙ inv.bytes;
       kept =
-          kept-more c.args.format c.by-link.result.now.step _ _ c.args.cursor.now.bytes c.loop-next.found c.read_step.new.found c.loop-next.cursor c.read_step.new.cursor _ link.steps inv.bytes (rw c.in-Some.is at inv.kept) c.in_ok-read_step.ensures.0;
+          kept-more c.args.format c.by-link.result.now.step _ _ c.args.cursor.now.bytes
+          c.loop-next.found c.read_step.new.found c.loop-next.cursor c.read_step.new.cursor _
+          link.steps inv.bytes (rw c.in-Some.is at inv.kept) c.in_ok-read_step.ensures.0;
     }
 
 pub returns : goal.returns
 unfolding steps_of
 returns c =
-    let inv = c.loop-next.invariant in
-    (kept-end c.args.format _ c.args.cursor.now.bytes c.loop-next.found c.loop-next.cursor.place _ (rw (None-from_no_Some _ c.in_default.not-Some) refl) inv.kept, inv.bytes)
+    let inv = c.loop-next.invariant in (
+      kept-end c.args.format _ c.args.cursor.now.bytes c.loop-next.found c.loop-next.cursor.place _
+          (rw (None-from_no_Some _ c.in_default.not-Some) refl) inv.kept,
+      inv.bytes,
+    )

@@ -11,8 +11,11 @@ abbrev pub invariant-loop-next : goal.invariant-loop-next
 invariant-loop-next l = record {
   linked : IsLinked l.self l.format l.next;
   bytes : l.cursor.bytes ≡ l.fn.cursor.bytes;
-  kept : KeptSoFar l.format (steps_of l.keep l.format (rest_attributes l.self.places.known l.next)) l.fn.cursor.bytes l.found l.cursor.place
-      (used_behind l.fn.found (steps_at l.format (steps_of l.keep l.format (rest_attributes l.self.places.known l.fn.first)) l.fn.cursor.bytes l.fn.cursor.place));
+  kept : KeptSoFar l.format (steps_of l.keep l.format (rest_attributes l.self.places.known l.next))
+      l.fn.cursor.bytes l.found l.cursor.place
+      (used_behind l.fn.found (steps_at l.format
+      (steps_of l.keep l.format (rest_attributes l.self.places.known l.fn.first))
+      l.fn.cursor.bytes l.fn.cursor.place));
 }
 
 abbrev pub decreases-loop-next : goal.decreases-loop-next

@@ -5,12 +5,17 @@ use Rattle.dwarf_units.proofs.StoreLaws.{limit_of}
 use Rattle.dwarf_units.proofs.tables.Tables.judge_unit.Goals as goal
 
 pub returns-in-Some-clause-limit : goal.returns-in-Some-clause-limit
-returns-in-Some-clause-limit c = subst IsWithinLimit c.self.view_is (limit_of c.self.inside.lists c.self.inside.store c.self.invariant)
+returns-in-Some-clause-limit c = subst IsWithinLimit c.self.view_is
+    (limit_of c.self.inside.lists c.self.inside.store c.self.invariant)
 
 pub returns-clause-stays : goal.returns-clause-stays
 returns-clause-stays c =
-    (stays_behind c.args.self.now c.add.new.self c.args.unit.now c.args.left.now c.add.new.left _ (subst (λ (k : KeptTables). k.kept ≤ length k.tables) c.self.view_is c.self.invariant.kept.within) c.requires c.in_ok-add.ensures.ok).0
+    (stays_behind c.args.self.now c.add.new.self c.args.unit.now c.args.left.now c.add.new.left _
+    (subst (λ (k : KeptTables). k.kept ≤ length k.tables) c.self.view_is
+    c.self.invariant.kept.within) c.requires c.in_ok-add.ensures.ok).0
 
 pub returns-clause-grows : goal.returns-clause-grows
 returns-clause-grows c =
-    (stays_behind c.args.self.now c.add.new.self c.args.unit.now c.args.left.now c.add.new.left _ (subst (λ (k : KeptTables). k.kept ≤ length k.tables) c.self.view_is c.self.invariant.kept.within) c.requires c.in_ok-add.ensures.ok).1
+    (stays_behind c.args.self.now c.add.new.self c.args.unit.now c.args.left.now c.add.new.left _
+    (subst (λ (k : KeptTables). k.kept ≤ length k.tables) c.self.view_is
+    c.self.invariant.kept.within) c.requires c.in_ok-add.ensures.ok).1

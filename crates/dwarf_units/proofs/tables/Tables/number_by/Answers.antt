@@ -3,30 +3,42 @@ use Rattle.std.specs.Prelude.{Ok, Result, Some, option_copied, slice_get, ℕ}
 use Rattle.dwarf_bytes.specs.declared.fault.LoadFault.{LoadFault}
 use Rattle.dwarf_forms.proofs.Codes.{got}
 use Rattle.dwarf_units.specs.Private.SharedTables.{SharedTable}
-use Rattle.dwarf_units.proofs.StoreLaws.{known-is, known-number}
+use Rattle.dwarf_units.proofs.StoredTables.{known-is, known-number}
 use Rattle.dwarf_units.proofs.tables.Tables.number_by.Goals as goal
 
 pub returns-in-Some-clause-ok : goal.returns-in-Some-clause-ok
 returns-in-Some-clause-ok c =
     let there : slice_get c.self.inside.store.tables.items c.args.guess ≡ Some c.in-Some.table.now =
-    ap (λ (ts : List SharedTable). slice_get ts c.args.guess) (sym c.deref.ensures.value) ∙ (sym (got c.deref.result.now c.args.guess c.get.result c.get.ensures.lookup.0 c.get.ensures.lookup.1) ∙ ap (λ r. option_copied r) c.in-Some.is) in
+    ap (λ (ts : List SharedTable). slice_get ts c.args.guess) (sym c.deref.ensures.value)
+    ∙ (sym (got c.deref.result.now c.args.guess c.get.result c.get.ensures.lookup.0
+    c.get.ensures.lookup.1) ∙ ap (λ r. option_copied r) c.in-Some.is) in
     let is = c.if-is_of.ensures.0 refl in
-    known-is c.self.inside.lists c.self.inside.store c.args.self.now c.args.guess c.in-Some.table.now c.args.unit.now.format c.args.unit.now.abbreviations c.self.invariant c.self.view_is there is.0 is.1
+    known-is c.self.inside.lists c.self.inside.store c.args.self.now c.args.guess
+    c.in-Some.table.now c.args.unit.now.format c.args.unit.now.abbreviations c.self.invariant
+    c.self.view_is there is.0 is.1
 
 pub returns-in-Some-clause-known : goal.returns-in-Some-clause-known
 returns-in-Some-clause-known c = λ number table at is_at.
     let there : slice_get c.self.inside.store.tables.items c.args.guess ≡ Some c.in-Some.table.now =
-    ap (λ (ts : List SharedTable). slice_get ts c.args.guess) (sym c.deref.ensures.value) ∙ (sym (got c.deref.result.now c.args.guess c.get.result c.get.ensures.lookup.0 c.get.ensures.lookup.1) ∙ ap (λ r. option_copied r) c.in-Some.is) in
+    ap (λ (ts : List SharedTable). slice_get ts c.args.guess) (sym c.deref.ensures.value)
+    ∙ (sym (got c.deref.result.now c.args.guess c.get.result c.get.ensures.lookup.0
+    c.get.ensures.lookup.1) ∙ ap (λ r. option_copied r) c.in-Some.is) in
     let is = c.if-is_of.ensures.0 refl in (
       ap (λ (k : ℕ). let o : Result ℕ LoadFault = Ok k in o)
-          (known-number c.self.inside.lists c.self.inside.store c.args.self.now c.args.guess number c.in-Some.table.now table c.args.unit.now.format c.args.unit.now.abbreviations c.self.invariant c.self.view_is there is.0 is.1 at is_at),
+          (known-number c.self.inside.lists c.self.inside.store c.args.self.now c.args.guess number
+          c.in-Some.table.now table c.args.unit.now.format c.args.unit.now.abbreviations
+          c.self.invariant c.self.view_is there is.0 is.1 at is_at),
       refl,
     )
 
 pub returns-in-Some-clause-added : goal.returns-in-Some-clause-added
 returns-in-Some-clause-added c = λ elsewhere.
     let there : slice_get c.self.inside.store.tables.items c.args.guess ≡ Some c.in-Some.table.now =
-    ap (λ (ts : List SharedTable). slice_get ts c.args.guess) (sym c.deref.ensures.value) ∙ (sym (got c.deref.result.now c.args.guess c.get.result c.get.ensures.lookup.0 c.get.ensures.lookup.1) ∙ ap (λ r. option_copied r) c.in-Some.is) in
+    ap (λ (ts : List SharedTable). slice_get ts c.args.guess) (sym c.deref.ensures.value)
+    ∙ (sym (got c.deref.result.now c.args.guess c.get.result c.get.ensures.lookup.0
+    c.get.ensures.lookup.1) ∙ ap (λ r. option_copied r) c.in-Some.is) in
     let is = c.if-is_of.ensures.0 refl in
-    let found = known-is c.self.inside.lists c.self.inside.store c.args.self.now c.args.guess c.in-Some.table.now c.args.unit.now.format c.args.unit.now.abbreviations c.self.invariant c.self.view_is there is.0 is.1 in
+    let found = known-is c.self.inside.lists c.self.inside.store c.args.self.now c.args.guess
+    c.in-Some.table.now c.args.unit.now.format c.args.unit.now.abbreviations c.self.invariant
+    c.self.view_is there is.0 is.1 in
     absurd (elsewhere c.args.guess found.0 found.1 (found.3, found.4))

@@ -10,20 +10,30 @@ pub returns-in_err-head-clause-found : goal.returns-in_err-head-clause-found
 returns-in_err-head-clause-found c =
     let code = c.in_ok-code.field-0.now in
     let byte : slice_get c.args.bytes.now c.args.place ≡ Some code =
-    sym (got c.args.bytes.now c.args.place c.get.result c.get.ensures.lookup.0 c.get.ensures.lookup.1) ∙ ap (λ r. option_copied r) c.in_ok-code.was in
-    let same = same-code c.self.inside.lists.now.places.known c.self.inside.table.now c.args.self.now code c.self.view_is c.self.invariant.told in
+    sym (got c.args.bytes.now c.args.place c.get.result c.get.ensures.lookup.0
+    c.get.ensures.lookup.1) ∙ ap (λ r. option_copied r) c.in_ok-code.was in
+    let same = same-code c.self.inside.lists.now.places.known c.self.inside.table.now
+    c.args.self.now code c.self.view_is c.self.invariant.told in
     c.from_residual-in_err-head.ensures
-    ∙ found-at c.args.self.now c.args.depth c.args.bytes.now c.args.place (Some code) None None (omega (arith, c.if-depth-eq0.false)) (omega (arith, c.if-depth-gt-DEPTH_LIMIT.false)) byte (sym same ∙ sym c.in_err-head.ensures) refl
+    ∙ found-at c.args.self.now c.args.depth c.args.bytes.now c.args.place (Some code) None None
+    (omega (arith, c.if-depth-eq0.false)) (omega (arith, c.if-depth-gt-DEPTH_LIMIT.false)) byte
+    (sym same ∙ sym c.in_err-head.ensures) refl
 
 pub returns-then-after-bytes-clause-found : goal.returns-then-after-bytes-clause-found
 returns-then-after-bytes-clause-found c =
     let code = c.in_ok-code.field-0.now in
     let head = c.in_ok-head.head in
     let byte : slice_get c.args.bytes.now c.args.place ≡ Some code =
-    sym (got c.args.bytes.now c.args.place c.get.result c.get.ensures.lookup.0 c.get.ensures.lookup.1) ∙ ap (λ r. option_copied r) c.in_ok-code.was in
-    let same = same-code c.self.inside.lists.now.places.known c.self.inside.table.now c.args.self.now code c.self.view_is c.self.invariant.told in
-    let past : nat_lt (length c.args.bytes.now) (c.args.place + 1 + head.len) ≡ true = lt-ltb (length c.args.bytes.now) (c.args.place + 1 + head.len) (omega (arith, c.if-after-bytes.true, c.from.ensures)) in
-    found-at c.args.self.now c.args.depth c.args.bytes.now c.args.place (Some code) (Some head) None (omega (arith, c.if-depth-eq0.false)) (omega (arith, c.if-depth-gt-DEPTH_LIMIT.false)) byte (sym same ∙ sym c.in_ok-head.ensures)
+    sym (got c.args.bytes.now c.args.place c.get.result c.get.ensures.lookup.0
+    c.get.ensures.lookup.1) ∙ ap (λ r. option_copied r) c.in_ok-code.was in
+    let same = same-code c.self.inside.lists.now.places.known c.self.inside.table.now
+    c.args.self.now code c.self.view_is c.self.invariant.told in
+    let past : nat_lt (length c.args.bytes.now) (c.args.place + 1 + head.len) ≡ true =
+    lt-ltb (length c.args.bytes.now) (c.args.place + 1 + head.len)
+    (omega (arith, c.if-after-bytes.true, c.from.ensures)) in
+    found-at c.args.self.now c.args.depth c.args.bytes.now c.args.place (Some code) (Some head) None
+    (omega (arith, c.if-depth-eq0.false)) (omega (arith, c.if-depth-gt-DEPTH_LIMIT.false)) byte
+    (sym same ∙ sym c.in_ok-head.ensures)
     (ap (λ (b : Bool). cond b None (Some (head, c.args.place + 1 + head.len))) past)
 
 pub returns-clause-found : goal.returns-clause-found
@@ -31,20 +41,31 @@ returns-clause-found c =
     let code = c.in_ok-code.field-0.now in
     let head = c.in_ok-head.head in
     let byte : slice_get c.args.bytes.now c.args.place ≡ Some code =
-    sym (got c.args.bytes.now c.args.place c.get.result c.get.ensures.lookup.0 c.get.ensures.lookup.1) ∙ ap (λ r. option_copied r) c.in_ok-code.was in
-    let same = same-code c.self.inside.lists.now.places.known c.self.inside.table.now c.args.self.now code c.self.view_is c.self.invariant.told in
-    let fits : nat_lt (length c.args.bytes.now) (c.args.place + 1 + head.len) ≡ false = le-ltb (length c.args.bytes.now) (c.args.place + 1 + head.len) (omega (arith, c.if-after-bytes.false, c.from.ensures)) in
+    sym (got c.args.bytes.now c.args.place c.get.result c.get.ensures.lookup.0
+    c.get.ensures.lookup.1) ∙ ap (λ r. option_copied r) c.in_ok-code.was in
+    let same = same-code c.self.inside.lists.now.places.known c.self.inside.table.now
+    c.args.self.now code c.self.view_is c.self.invariant.told in
+    let fits : nat_lt (length c.args.bytes.now) (c.args.place + 1 + head.len) ≡ false =
+    le-ltb (length c.args.bytes.now) (c.args.place + 1 + head.len)
+    (omega (arith, c.if-after-bytes.false, c.from.ensures)) in
     rw c.from.ensures
-    (found-at c.args.self.now c.args.depth c.args.bytes.now c.args.place (Some code) (Some head) (Some (head, c.args.place + 1 + head.len)) (omega (arith, c.if-depth-eq0.false)) (omega (arith, c.if-depth-gt-DEPTH_LIMIT.false)) byte
-    (sym same ∙ sym c.in_ok-head.ensures) (ap (λ (b : Bool). cond b None (Some (head, c.args.place + 1 + head.len))) fits))
+    (found-at c.args.self.now c.args.depth c.args.bytes.now c.args.place (Some code) (Some head)
+    (Some (head, c.args.place + 1 + head.len)) (omega (arith, c.if-depth-eq0.false))
+    (omega (arith, c.if-depth-gt-DEPTH_LIMIT.false)) byte
+    (sym same ∙ sym c.in_ok-head.ensures)
+    (ap (λ (b : Bool). cond b None (Some (head, c.args.place + 1 + head.len))) fits))
 
 pub returns-clause-stands : goal.returns-clause-stands
 returns-clause-stands c =
     let code = c.in_ok-code.field-0.now in
     let head = c.in_ok-head.head in
     let byte : slice_get c.args.bytes.now c.args.place ≡ Some code =
-    sym (got c.args.bytes.now c.args.place c.get.result c.get.ensures.lookup.0 c.get.ensures.lookup.1) ∙ ap (λ r. option_copied r) c.in_ok-code.was in
+    sym (got c.args.bytes.now c.args.place c.get.result c.get.ensures.lookup.0
+    c.get.ensures.lookup.1) ∙ ap (λ r. option_copied r) c.in_ok-code.was in
     let plain = at-hand c.self.inside.table.now code head (sym c.in_ok-head.ensures) in
     rw c.from.ensures
-    (plain-stands c.self.inside.lists.now.places.known c.self.inside.table.now c.args.self.now c.args.depth code c.args.bytes.now c.args.place head c.self.view_is plain.1.1 plain.0 plain.1.0 byte
-    (omega (arith, c.if-depth-eq0.false)) (omega (arith, c.if-depth-gt-DEPTH_LIMIT.false)) (omega (arith, c.if-after-bytes.false, c.from.ensures)))
+    (plain-stands c.self.inside.lists.now.places.known c.self.inside.table.now c.args.self.now
+    c.args.depth code c.args.bytes.now c.args.place head c.self.view_is plain.1.1 plain.0
+    plain.1.0 byte
+    (omega (arith, c.if-depth-eq0.false)) (omega (arith, c.if-depth-gt-DEPTH_LIMIT.false))
+    (omega (arith, c.if-after-bytes.false, c.from.ensures)))

@@ -6,8 +6,12 @@ use Rattle.dwarf_units.proofs.used_attributes.UsedAttributes.add.Goals as goal
 
 pub returns-then-not-self-slot : goal.returns-then-not-self-slot
 returns-then-not-self-slot c =
-    put-is _ c.self.inside.has c.self.inside.values (under_name c.args.name c.args.value) c.args.name c.slot-slot.result c.self.view_is c.slot-slot.ensures.slot (named c.args.name) (omega arith) (omega arith) c.if-not-self-slot.true
+    put-is _ c.self.inside.has c.self.inside.values (under_name c.args.name c.args.value)
+    c.args.name c.slot-slot.result c.self.view_is c.slot-slot.ensures.slot (named c.args.name)
+    (omega arith) (omega arith) c.if-not-self-slot.true
 
 pub returns-else-not-self-slot : goal.returns-else-not-self-slot
 returns-else-not-self-slot c =
-    kept-is _ c.self.inside.has c.self.inside.values (under_name c.args.name c.args.value) c.args.name c.slot-slot.result c.self.view_is c.slot-slot.ensures.slot (named c.args.name) c.if-not-self-slot.false
+    kept-is _ c.self.inside.has c.self.inside.values (under_name c.args.name c.args.value)
+    c.args.name c.slot-slot.result c.self.view_is c.slot-slot.ensures.slot (named c.args.name)
+    c.if-not-self-slot.false

@@ -7,5 +7,6 @@ use Rattle.module_map.proofs.modules.Modules.is_taken.Goals as goal
 
 pub returns : goal.returns
 returns c =
-    c.is_some.ensures ∙ ap is_some c.position.ensures.place ∙ any_is (is_named c.args.name.now) c.self.inside.sorted
+    c.is_some.ensures ∙ ap is_some c.position.ensures.place ∙ any_is (is_named c.args.name.now)
+    c.self.inside.sorted
     ∙ ap (λ m. is_taken c.args.name.now m.world) c.self.view_is

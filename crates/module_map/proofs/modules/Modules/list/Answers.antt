@@ -3,12 +3,14 @@ use Rattle.module_map.specs.Private.Serials.{NumberedModule, loaded_of}
 use Rattle.module_map.specs.Listing.{Listed, listed}
 use Rattle.module_map.proofs.modules.Modules.list.Goals as goal
 
-through : (hs : List NumberedModule) → map (λ (h : NumberedModule). listed h.loaded) hs ≡ map listed (map loaded_of hs)
+through : (hs : List NumberedModule) → map (λ (h : NumberedModule). listed h.loaded) hs
+    ≡ map listed (map loaded_of hs)
 through [] = refl
 through (h ∷ hs) = ap (λ (l : List Listed). listed h.loaded ∷ l) (through hs)
 
 pub returns-clause-modules : goal.returns-clause-modules
-returns-clause-modules c = c.list.ensures ∙ through c.self.inside.sorted ∙ ap (λ v. map listed v.world.modules) c.self.view_is
+returns-clause-modules c = c.list.ensures ∙ through c.self.inside.sorted
+    ∙ ap (λ v. map listed v.world.modules) c.self.view_is
 
 long : (hs : List NumberedModule) → length (map loaded_of hs) ≡ length hs
 long [] = refl

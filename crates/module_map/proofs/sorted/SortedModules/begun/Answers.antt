@@ -6,13 +6,18 @@ use Rattle.module_map.proofs.sorted.SortedModules.begun.Goals as goal
 
 pub loop-low-preserved-then-reached : goal.loop-low-preserved-then-reached
 loop-low-preserved-then-reached c =
-    let begins = leb-true c.start.result c.args.address (sym c.reached.ensures.answer ∙ c.if-reached.true) in
-    narrowed_up _ _ _ _ _ _ _ _ c.loop-low.invariant c.loop-low-test.true refl (λ d. rw (← c.start.ensures d) begins) c.reached.ensures.counted
+    let begins = leb-true c.start.result c.args.address
+    (sym c.reached.ensures.answer ∙ c.if-reached.true) in
+    narrowed_up _ _ _ _ _ _ _ _ c.loop-low.invariant c.loop-low-test.true refl
+    (λ d. rw (← c.start.ensures d) begins) c.reached.ensures.counted
 
 pub loop-low-preserved : goal.loop-low-preserved
 loop-low-preserved c =
-    let begins = leb-false c.start.result c.args.address (sym c.reached.ensures.answer ∙ c.if-reached.false) in
-    narrowed_down _ _ _ _ _ _ _ _ (subst AreRising c.self.view_is c.self.invariant) c.loop-low.invariant c.loop-low-test.true refl (λ d. rw (← c.start.ensures d) begins) c.reached.ensures.counted
+    let begins = leb-false c.start.result c.args.address
+    (sym c.reached.ensures.answer ∙ c.if-reached.false) in
+    narrowed_down _ _ _ _ _ _ _ _ (subst AreRising c.self.view_is c.self.invariant)
+    c.loop-low.invariant c.loop-low-test.true refl (λ d. rw (← c.start.ensures d) begins)
+    c.reached.ensures.counted
 
 pub returns-clause-counted : goal.returns-clause-counted
 returns-clause-counted c = narrowed_count _ _ _ _ _ _ c.loop-low.invariant

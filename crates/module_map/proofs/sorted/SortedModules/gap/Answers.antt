@@ -12,31 +12,45 @@ use Rattle.module_map.proofs.sorted.SortedModules.gap.Goals.{else-next-len-via-t
 use Rattle.module_map.proofs.sorted.SortedModules.gap.Goals.{else-next-len-via-else-next-len}
 
 -- the last one that begins at the low end or before it ends there or before, or is the one left out
-last_ends : (c : After-next_place-next) (at : ℕ) (d : NumberedModule) → at + 1 ≡ c.begun-begun.result → IsOther c.args.own at →
-    end_of (get_or c.args.self.now at d).loaded ≤ c.args.extent.low
-last_ends c at d last other = let same : at ≡ c.begun-begun.result - 1 = omega arith in elim c.else-begun-gt0.branch [
-  | else-begun-gt0-via-then-begun-gt0+then-begun-own+else-end-extent w ↦ let ends = w.if-end-extent.false in rw (same, ← w.end.ensures d) ends
-  | else-begun-gt0-via-then-begun-gt0+else-begun-own w ↦ let own = w.if-begun-own.false in absurd (not_own c.args.own at other (omega arith))
-  | else-begun-gt0-via-else-begun-gt0 w ↦ let none = w.if-begun-gt0.false in absurd (omega arith)
-]
+last_ends : (c : After-next_place-next) (at : ℕ) (d : NumberedModule)
+    → at + 1 ≡ c.begun-begun.result → IsOther c.args.own at
+    → end_of (get_or c.args.self.now at d).loaded ≤ c.args.extent.low
+last_ends c at d last other = let same : at ≡ c.begun-begun.result - 1 = omega arith in
+    elim c.else-begun-gt0.branch [
+      | else-begun-gt0-via-then-begun-gt0+then-begun-own+else-end-extent w ↦ let ends =
+          w.if-end-extent.false in rw (same, ← w.end.ensures d) ends
+      | else-begun-gt0-via-then-begun-gt0+else-begun-own w ↦ let own = w.if-begun-own.false in
+          absurd (not_own c.args.own at other (omega arith))
+      | else-begun-gt0-via-else-begun-gt0 w ↦ let none = w.if-begun-gt0.false in
+          absurd (omega arith)
+    ]
 
-next_is : (c : After-next_place-next) → IsNext c.args.own (length c.args.self.now) c.begun-begun.result c.next_place-next.result
-next_is c = subst (λ n. IsNext c.args.own n c.begun-begun.result c.next_place-next.result) c.len-len.ensures c.next_place-next.ensures
+next_is : (c : After-next_place-next) → IsNext c.args.own (length c.args.self.now)
+    c.begun-begun.result c.next_place-next.result
+next_is c = subst (λ n. IsNext c.args.own n c.begun-begun.result c.next_place-next.result)
+    c.len-len.ensures c.next_place-next.ensures
 
 pub returns-then-end-extent : goal.returns-then-end-extent
 returns-then-end-extent c = let ends = c.if-end-extent.true in
-    met_last _ _ _ _ _ (subst AreRising c.self.view_is c.self.invariant) c.begun-begun.ensures.begun c.requires _ (omega (arith, c.if-begun-gt0.true)) c.if-begun-own.true (λ d. rw (← c.end.ensures d) ends)
+    met_last _ _ _ _ _ (subst AreRising c.self.view_is c.self.invariant) c.begun-begun.ensures.begun
+    c.requires _ (omega (arith, c.if-begun-gt0.true)) c.if-begun-own.true
+    (λ d. rw (← c.end.ensures d) ends)
 
 pub returns-then-start-extent : goal.returns-then-start-extent
 returns-then-start-extent c =
     let a = (goal.at.returns-then-start-extent c).After-next_place-next in
     let begins = c.if-start-extent.true in
-    met_next _ _ _ _ _ (subst AreRising c.self.view_is c.self.invariant) c.begun-begun.ensures.begun c.requires (last_ends a) _ (next_is a) (omega arith) (λ d. rw (← c.start.ensures d) begins)
+    met_next _ _ _ _ _ (subst AreRising c.self.view_is c.self.invariant) c.begun-begun.ensures.begun
+    c.requires (last_ends a) _ (next_is a) (omega arith) (λ d. rw (← c.start.ensures d) begins)
 
 pub returns : goal.returns
 returns c =
     let a = (goal.at.returns c).After-next_place-next in
-    clear_all _ _ _ _ _ (subst AreRising c.self.view_is c.self.invariant) c.begun-begun.ensures.begun c.requires (last_ends a) _ (next_is a) (λ lt d. elim c.else-next-len.branch [
-      | else-next-len-via-then-next-len+else-start-extent w ↦ let from = w.if-start-extent.false in rw (← w.start.ensures d) from
-      | else-next-len-via-else-next-len w ↦ let over = w.if-next-len.false in let len = c.len-len.ensures in absurd (omega arith)
+    clear_all _ _ _ _ _ (subst AreRising c.self.view_is c.self.invariant)
+    c.begun-begun.ensures.begun c.requires (last_ends a) _ (next_is a)
+    (λ lt d. elim c.else-next-len.branch [
+      | else-next-len-via-then-next-len+else-start-extent w ↦ let from = w.if-start-extent.false in
+          rw (← w.start.ensures d) from
+      | else-next-len-via-else-next-len w ↦ let over = w.if-next-len.false in let len =
+          c.len-len.ensures in absurd (omega arith)
     ])

@@ -7,5 +7,8 @@ use Rattle.module_map.proofs.sorted.SortedModules.insert.Goals as goal
 
 pub invariant_of-self-2 : goal.invariant_of-self-2
 invariant_of-self-2 c =
-    let rising = rising_insert c.args.self.now c.args.at c.args.loaded (subst AreRising c.self.view_is c.self.invariant) c.requires.clear c.extent-extent.ensures.order (names_differ _ _ c.requires.new) in
-    subst AreRising (ap (λ l. insert l c.args.at c.args.loaded) (sym c.self.view_is) ∙ sym c.in_ok-insert.ensures.items) rising
+    let rising = rising_insert c.args.self.now c.args.at c.args.loaded
+    (subst AreRising c.self.view_is c.self.invariant) c.requires.clear
+    c.extent-extent.ensures.order (names_differ _ _ c.requires.new) in
+    subst AreRising (ap (λ l. insert l c.args.at c.args.loaded) (sym c.self.view_is)
+    ∙ sym c.in_ok-insert.ensures.items) rising

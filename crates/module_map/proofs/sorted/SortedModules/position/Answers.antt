@@ -5,4 +5,5 @@ use Rattle.module_map.proofs.sorted.SortedModules.position.Goals as goal
 
 pub returns-clause-only : goal.returns-clause-only
 returns-clause-only c =
-    only_named c.args.name.now c.args.self.now (subst AreRising c.self.view_is c.self.invariant) c.first_of.result c.first_of.ensures
+    only_named c.args.name.now c.args.self.now (subst AreRising c.self.view_is c.self.invariant)
+    c.first_of.result c.first_of.ensures

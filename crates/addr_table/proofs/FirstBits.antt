@@ -1,0 +1,150 @@
+-- The first bit that is set, of a word and of words, from a bit on.
+use Rattle.std.proofs.Common.{◌≡◌, ℕ, ◌+◌, ◌-◌, ◌*◌, ◌/◌, ◌%◌, ◌^◌, ◌<◌, ◌≤◌, List, length, get_or}
+use Rattle.std.proofs.Common.{false, refl, ap, sym, ◌∙◌, subst, inl, inr, arith}
+use Rattle.std.specs.Prelude.{nat_eq, Option, Some, None}
+use Rattle.std.specs.Int.{bit_at, trailing_zeros, w64}
+use Rattle.std.proofs.lemmas.Bool.{cases_eq, cases_lt, both_ways}
+use Rattle.std.proofs.lemmas.Bool.Decides.{nat_tests}
+use Rattle.std.proofs.lemmas.List.{get_or_past}
+use Rattle.std.proofs.lemmas.Nat.{shr-shr, shr_le}
+use Rattle.std.proofs.lemmas.Nat.Bits.{bit_at-zero, bit_at-trailing_zeros, same_from_bits_below}
+use Rattle.std.proofs.lemmas.Nat.Bits.{bit_at_above}
+use Rattle.addr_table.specs.Private.Bits.{has, is_filled, IsFirstFrom, IsFirstInWord}
+
+-- ---- the first bit of a word from a bit on
+
+-- what stands of a word from a bit on, by the word moved down
+pub none_from : (word from i : ℕ) → word / 2 ^ from ≡ 0 → from ≤ i → bit_at word i ≡ 0
+none_from word from i h le =
+    let moved : word / 2 ^ from / 2 ^ (i - from) ≡ word / 2 ^ (from + (i - from)) =
+    shr-shr word from (i - from) in
+    let place : from + (i - from) ≡ i = omega arith in
+    let zero_there : bit_at 0 (i - from) ≡ 0 = bit_at-zero (i - from) in
+    let Q : ℕ → Type 0 = λ n. n % 2 ≡ 0 in
+    let P : ℕ → Type 0 = λ n. word / 2 ^ n % 2 ≡ 0 in
+    let Z : ℕ → Type 0 = λ n. n / 2 ^ (i - from) % 2 ≡ 0 in
+    subst P place (subst Q moved (subst Z (sym h) zero_there))
+
+pub moved_bit : (word from i : ℕ) → bit_at (word / 2 ^ from) i ≡ bit_at word (from + i)
+moved_bit word from i = ap (λ n. n % 2) (shr-shr word from i)
+
+-- ---- the first bit from a number on
+
+-- a word that has no bit is 0
+pub empty_word : (word : ℕ) → word < 2 ^ 64 → ((i : ℕ) → i < 64 → bit_at word i ≡ 0) → word ≡ 0
+empty_word word fits none = same_from_bits_below 64 word 0 fits (omega arith)
+    (λ i lt. none i lt ∙ sym (bit_at-zero i))
+
+has_none : (x : ℕ) → x ≡ 0 → nat_eq x 1 ≡ false
+has_none x h = grind (arith, nat_tests)
+
+-- a word that is 0 has no bit
+pub not_filled : (words : List ℕ) (k : ℕ) → is_filled words (k / 64) ≡ false → has words k ≡ false
+not_filled words k h =
+    let empty : get_or words (k / 64) 0 ≡ 0 = grind (arith, nat_tests) in
+    has_none _ (ap (λ n. bit_at n (k % 64)) empty ∙ bit_at-zero (k % 64))
+
+pub past_words : (words : List ℕ) (k : ℕ) → length words ≤ k / 64 → has words k ≡ false
+past_words words k h = has_none _ (ap (λ n. bit_at n (k % 64)) (get_or_past words (k / 64) 0 h)
+    ∙ bit_at-zero (k % 64))
+
+-- nothing in the word itself, and no later word has a bit
+pub climbed_none : (words : List ℕ) (from : ℕ) → IsFirstInWord words from None
+    → IsFirstFrom (is_filled words) (from / 64 + 1) None
+    → IsFirstFrom (has words) from None
+climbed_none words from here above k le = elim (cases_eq (k / 64) (from / 64)) [
+  | inl same ↦ here k le same
+  | inr other ↦ not_filled words k (above (k / 64) (omega arith))
+]
+
+-- .. or the first bit of the first later word that has one
+pub climbed_some : (words : List ℕ) (from w : ℕ) (first : Option ℕ) → IsFirstInWord words from None
+    → IsFirstFrom (is_filled words) (from / 64 + 1) (Some w)
+    → IsFirstInWord words (w * 64) first
+    → (first ≡ None → w * 64 % 64 ≡ 0 → is_filled words (w * 64 / 64) ≡ false)
+    → IsFirstFrom (has words) from first
+climbed_some words from w None here above found empty =
+    let word : w * 64 / 64 ≡ w = omega arith in
+    let none : is_filled words (w * 64 / 64) ≡ false = empty refl (omega arith) in
+    let W : ℕ → Type 0 = λ n. is_filled words n ≡ false in
+    absurd (both_ways (is_filled words w) (subst W word none) above.1)
+climbed_some words from w (Some r) here above found empty =
+    let same : r / 64 ≡ w * 64 / 64 = found.1 in
+    let le : from / 64 + 1 ≤ w = above.0 in (
+      omega arith,
+      found.2,
+      λ k low high. elim (cases_eq (k / 64) (from / 64)) [
+        | inl same ↦ here k low same
+        | inr other ↦ elim (cases_lt (k / 64) w) [
+          | inl before ↦ not_filled words k (above.2 (k / 64) (omega arith) before)
+          | inr after ↦ found.3 k (omega arith) high
+        ]
+      ],
+    )
+
+-- ---- the first bit of a word from a bit on
+
+pub first_bit : (word from : ℕ) → word < 2 ^ 64 → from < 64 → (word / 2 ^ from ≡ 0 → ⊥)
+    → (from ≤ from + trailing_zeros w64 (word / 2 ^ from))
+    × (from + trailing_zeros w64 (word / 2 ^ from) < 64) ×
+    (bit_at word (from + trailing_zeros w64 (word / 2 ^ from)) ≡ 1)
+    × ((i : ℕ) → from ≤ i → i < from + trailing_zeros w64 (word / 2 ^ from) → bit_at word i ≡ 0)
+first_bit word from fits lt some =
+    let rest : ℕ = word / 2 ^ from in
+    let less : word / 2 ^ from ≤ word = shr_le word from in
+    let found = bit_at-trailing_zeros w64 (word / 2 ^ from) (omega arith) (omega arith) in
+    let one : bit_at word (from + trailing_zeros w64 (word / 2 ^ from)) ≡ 1 =
+    sym (moved_bit word from (trailing_zeros w64 (word / 2 ^ from))) ∙ found.1 in (
+      omega arith,
+      within (from + trailing_zeros w64 (word / 2 ^ from)) one,
+      one,
+      λ i low high.
+          let place : from + (i - from) ≡ i = omega arith in
+          let P : ℕ → Type 0 = λ n. bit_at word n ≡ 0 in
+          subst P place (sym (moved_bit word from (i - from)) ∙ found.2 (i - from) (omega arith)),
+    )
+  where
+    within : (t : ℕ) → bit_at word t ≡ 1 → t < 64
+    within t one = elim (cases_lt t 64) [
+      | inl lt ↦ lt
+      | inr ge ↦ let none : bit_at word t ≡ 0 = bit_at_above word 64 t fits ge in
+          absurd (omega arith)
+    ]
+
+-- ---- the first bit from a number on, word by word
+
+-- no bit from a number on, up to a word
+abbrev pub NoneUpTo : List ℕ → ℕ → ℕ → Type 0
+NoneUpTo words from w = (k : ℕ) → from ≤ k → k / 64 < w → has words k ≡ false
+
+pub word-init : (words : List ℕ) (from : ℕ) → IsFirstInWord words from None
+    → NoneUpTo words from (from / 64 + 1)
+word-init words from h k le lt = h k le (omega arith)
+
+pub word-more : (words : List ℕ) (from w : ℕ) → NoneUpTo words from w
+    → IsFirstInWord words (w * 64) None → NoneUpTo words from (w + 1)
+word-more words from w h here k le lt = elim (cases_lt (k / 64) w) [
+  | inl before ↦ h k le before
+  | inr after ↦ let at : w * 64 / 64 ≡ w = omega arith in here k (omega arith) (omega arith)
+]
+
+pub word-found : (words : List ℕ) (from w r : ℕ) → NoneUpTo words from w → from / 64 + 1 ≤ w
+    → IsFirstInWord words (w * 64) (Some r)
+    → IsFirstFrom (has words) from (Some r)
+word-found words from w r h le found =
+    let at : w * 64 / 64 ≡ w = omega arith in
+    let same : r / 64 ≡ w * 64 / 64 = found.1 in (
+      omega arith,
+      found.2,
+      λ k low high. elim (cases_lt (k / 64) w) [
+        | inl before ↦ h k low before
+        | inr after ↦ found.3 k (omega arith) high
+      ],
+    )
+
+pub word-end : (words : List ℕ) (from w : ℕ) → NoneUpTo words from w → length words ≤ w
+    → IsFirstFrom (has words) from None
+word-end words from w h le k low = elim (cases_lt (k / 64) w) [
+  | inl before ↦ h k low before
+  | inr after ↦ past_words words k (omega arith)
+]

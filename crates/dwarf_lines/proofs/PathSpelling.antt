@@ -1,0 +1,219 @@
+-- A path, and an index of a directory, as what is spelled: in both directions.
+use Rattle.std.proofs.Common.{◌≡◌, ℕ, ◌+◌, ◌<◌, List, ◌++◌, length, drop, Bool, true, false, ◌||◌}
+use Rattle.std.proofs.Common.{◌==◌, Result, Ok, Err, Some, None, refl, ap, subst, arith}
+use Rattle.std.proofs.Common.{length-append, length-drop}
+use Rattle.std.specs.Prelude.{Option}
+use Rattle.std.specs.Option.{option_map_or}
+use Rattle.dwarf_bytes.specs.declared.constants.TheConstants.{DW_FORM_STRING, DW_FORM_STRP}
+use Rattle.dwarf_bytes.specs.declared.constants.TheConstants.{DW_FORM_LINE_STRP, DW_FORM_DATA1}
+use Rattle.dwarf_bytes.specs.declared.constants.TheConstants.{DW_FORM_DATA2, DW_FORM_UDATA}
+use Rattle.dwarf_bytes.specs.declared.fault.ReadFault.{ReadFault}
+use Rattle.dwarf_bytes.specs.declared.fault.ReadFault.TheVariants.{Unterminated}
+use Rattle.dwarf_bytes.specs.declared.fault.Cause.{Cause}
+use Rattle.dwarf_bytes.specs.declared.fault.Section.{Section}
+use Rattle.dwarf_bytes.specs.declared.fault.Section.TheVariants as sections
+use Rattle.dwarf_bytes.specs.declared.format.Format.{Format}
+use Rattle.dwarf_bytes.specs.declared.format.Format.TheVariants.{Dwarf32, Dwarf64}
+use Rattle.dwarf_bytes.specs.Items.{reading}
+use Rattle.dwarf_bytes.specs.Numbers.{IsFixed, IsText, IsUleb, StandsAt, text_front, cstr_at}
+use Rattle.dwarf_bytes.specs.Numbers.{text_at, fixed_at, u8_at, u16_at, uleb_at, offset_at}
+use Rattle.dwarf_bytes.specs.Numbers.{offset_len}
+use Rattle.dwarf_bytes.proofs.Advance.{after_bind, chosen, reading_ok}
+use Rattle.dwarf_bytes.proofs.Spelling.{uleb_stands, uleb_again}
+use Rattle.dwarf_bytes.proofs.Standing.{fixed_stands, fixed_again}
+use Rattle.dwarf_bytes.proofs.TextLaws.{text_stands, text_again}
+use Rattle.dwarf_lines.specs.declared.entries.PathText.{PathText}
+use Rattle.dwarf_lines.specs.Sections.{LineSections}
+use Rattle.dwarf_lines.specs.Formats.{is_text_form, is_index_form}
+use Rattle.dwarf_lines.specs.Entries.{text_from, text_by_offset, path_at, index_at}
+use Rattle.dwarf_lines.specs.HeaderSpelling.{SpellsPath, string, strp, line_strp, SpellsIndex}
+use Rattle.dwarf_lines.specs.HeaderSpelling.{data1, data2, udata}
+use Rattle.dwarf_lines.proofs.BoundsLaws.{ok_is}
+use Rattle.dwarf_lines.proofs.OperandSpelling.{eqb-eq}
+
+-- what stands at a place, in other words
+pub spelled_as : {X Y : Type 0} (S : List ℕ → X → Type 0) (T : List ℕ → Y → Type 0) (bytes : List ℕ)
+    (at : ℕ) (x : X) (y : Y) (next : ℕ)
+    → ((front : List ℕ) → S front x → T front y) → StandsAt S bytes at x next
+    → StandsAt T bytes at y next
+spelled_as S T bytes at x y next as_other s =
+    record {
+      front = s.front;
+      rest = s.rest;
+      spelled = as_other s.front s.spelled;
+      parts = s.parts;
+      next_is = s.next_is;
+    }
+
+-- the last of three forms
+third : (a b c : Bool) → (a || b || c) ≡ true → a ≡ false → b ≡ false → c ≡ true
+third true b c h not_a not_b = cc
+third false true c h not_a not_b = cc
+third false false c h not_a not_b = h
+
+-- ---- numbers and texts
+
+pub number_again : (n : ℕ) (bytes : List ℕ) (at value next : ℕ) → 0 < n
+    → StandsAt (IsFixed n) bytes at value next
+    → fixed_at n bytes at ≡ Ok (value, next)
+number_again n bytes at value next some s =
+    fixed_again n bytes at value next (omega (
+      arith,
+      some,
+      s.spelled.0,
+      length-drop at bytes,
+      ap length s.parts,
+      length-append s.front s.rest,
+    )) s
+
+pub offset_stands : (format : Format) (bytes : List ℕ) (at value next : ℕ)
+    → offset_at format bytes at ≡ Ok (value, next)
+    → StandsAt (IsFixed (offset_len format)) bytes at value next
+offset_stands Dwarf32 bytes at value next h = fixed_stands 4 bytes at value next h
+offset_stands Dwarf64 bytes at value next h = fixed_stands 8 bytes at value next h
+
+pub offset_again : (format : Format) (bytes : List ℕ) (at value next : ℕ)
+    → StandsAt (IsFixed (offset_len format)) bytes at value next
+    → offset_at format bytes at ≡ Ok (value, next)
+offset_again Dwarf32 bytes at value next s = number_again 4 bytes at value next (omega arith) s
+offset_again Dwarf64 bytes at value next s = number_again 8 bytes at value next (omega arith) s
+
+-- the text at an offset is the one that is read there
+text_found : (texts : List ℕ) (offset : ℕ) (text : List ℕ) → text_at texts offset ≡ Ok text
+    → (past : ℕ) × StandsAt IsText texts offset text past
+unfolding text_at cstr_at
+text_found texts offset text h = (
+  offset + length text + 1,
+  text_stands texts offset text
+      (offset + length text + 1) (by (text_front (drop offset texts)) h),
+)
+  where
+    by : (found : Option (List ℕ)) → option_map_or (λ t. Ok t) found (Err Unterminated) ≡ Ok text
+        → option_map_or {U = Result (List ℕ × ℕ) ReadFault} (λ t. Ok (t, offset + length t + 1))
+        found (Err Unterminated) ≡ Ok (text, offset + length text + 1)
+    by None h = cc
+    by (Some t) h = ap (λ (t : List ℕ). Ok (t, offset + length t + 1))
+        (ok_is {E = ReadFault} t text h)
+
+text_there : (texts : List ℕ) (offset : ℕ) (text : List ℕ) (past : ℕ)
+    → StandsAt IsText texts offset text past
+    → text_at texts offset ≡ Ok text
+unfolding text_at cstr_at
+text_there texts offset text past s = by (text_front (drop offset texts))
+    (text_again texts offset text past s)
+  where
+    by : (found : Option (List ℕ)) → option_map_or {U = Result (List ℕ × ℕ) ReadFault}
+        (λ t. Ok (t, offset + length t + 1)) found (Err Unterminated) ≡ Ok (text, past)
+        → option_map_or (λ t. Ok t) found (Err Unterminated) ≡ Ok text
+    by None h = cc
+    by (Some t) h = ap (λ (p : List ℕ × ℕ). Ok p.0)
+        (ok_is {E = ReadFault} (t, offset + length t + 1) (text, past) h)
+
+module _ (s : LineSections) (format : Format) (bytes : List ℕ) (at : ℕ) where
+  -- ---- paths
+
+  by_offset_stands : (section : Section) (texts : List ℕ) (form : ℕ) (text : PathText) (next : ℕ)
+      → ((front : List ℕ) (offset past : ℕ) (found : List ℕ)
+      → IsFixed (offset_len format) front offset → StandsAt IsText texts offset found past
+      → SpellsPath s format at form front (text_from section offset found))
+      → text_by_offset format section texts bytes at ≡ Ok (text, next)
+      → StandsAt (SpellsPath s format at form) bytes at text next
+  by_offset_stands section texts form text next make h =
+      let P : Type 0 = StandsAt (SpellsPath s format at form) bytes at text next in
+      after_bind (reading (offset_at format bytes at)) _ (text, next) h P (λ offset offset_is h1.
+      after_bind (reading (text_at texts offset.0)) _ (text, next) h1 P (λ found found_is h2.
+      let a = offset_stands format bytes at offset.0 offset.1
+      (reading_ok (offset_at format bytes at) offset offset_is) in
+      let there = text_found texts offset.0 found
+      (reading_ok (text_at texts offset.0) found found_is) in
+      subst (λ (p : PathText × ℕ). StandsAt (SpellsPath s format at form) bytes at p.0 p.1)
+      (ok_is {E = Cause} (text_from section offset.0 found, offset.1) (text, next) h2)
+      (spelled_as (IsFixed (offset_len format)) (SpellsPath s format at form) bytes at offset.0
+      (text_from section offset.0 found) offset.1
+      (λ front is. make front offset.0 there.0 found is there.1) a)))
+
+  pub path_stands : (form : ℕ) (text : PathText) (next : ℕ) → is_text_form form ≡ true
+      → path_at s format form bytes at ≡ Ok (text, next)
+      → StandsAt (SpellsPath s format at form) bytes at text next
+  path_stands form text next good h =
+      let P : Type 0 = StandsAt (SpellsPath s format at form) bytes at text next in
+      chosen (form == DW_FORM_STRING) _ _ (Ok (text, next)) h P
+      (λ is h1. after_bind (reading (cstr_at bytes at)) _ (text, next) h1 P (λ found found_is h2.
+      let a = text_stands bytes at found.0 found.1 (reading_ok (cstr_at bytes at) found found_is) in
+      let whole = spelled_as IsText (SpellsPath s format at DW_FORM_STRING) bytes at found.0
+      (text_from sections.DebugLine at found.0) found.1 (λ front there. string found.0 there)
+      a in
+      rw (eqb-eq form DW_FORM_STRING is)
+      (subst (λ (p : PathText × ℕ). StandsAt (SpellsPath s format at DW_FORM_STRING) bytes at p.0
+      p.1) (ok_is {E = Cause} (text_from sections.DebugLine at found.0, found.1) (text, next)
+      h2) whole)))
+      (λ not8 h1. chosen (form == DW_FORM_STRP) _ _ (Ok (text, next)) h1 P
+      (λ is h2. rw (eqb-eq form DW_FORM_STRP is)
+      (by_offset_stands sections.DebugStr s.str DW_FORM_STRP text next
+      (λ front offset past found is there. strp offset past found is there) h2))
+      (λ not14 h2. rw (eqb-eq form DW_FORM_LINE_STRP
+      (third (form == DW_FORM_STRING) (form == DW_FORM_STRP) (form == DW_FORM_LINE_STRP) good
+      not8 not14))
+      (by_offset_stands sections.DebugLineStr s.line_str DW_FORM_LINE_STRP text next
+      (λ front offset past found is there. line_strp offset past found is there) h2)))
+
+  pub path_again : (form : ℕ) (front : List ℕ) (text : PathText) (next : ℕ) → (rest : List ℕ)
+      → drop at bytes ≡ front ++ rest
+      → next ≡ at + length front → SpellsPath s format at form front text
+      → path_at s format form bytes at ≡ Ok (text, next)
+  path_again form front text next rest parts next_is (string found is) =
+      rw (text_again bytes at found next
+      (record { front = front; rest = rest; spelled = is; parts = parts; next_is = next_is }))
+      refl
+  path_again form front text next rest parts next_is (strp offset past found is there) =
+      rw (
+        offset_again format bytes at offset next
+            (record { front = front; rest = rest; spelled = is; parts = parts; next_is = next_is }),
+        text_there s.str offset found past there,
+      ) refl
+  path_again form front text next rest parts next_is (line_strp offset past found is there) =
+      rw (
+        offset_again format bytes at offset next
+            (record { front = front; rest = rest; spelled = is; parts = parts; next_is = next_is }),
+        text_there s.line_str offset found past there,
+      ) refl
+
+  -- ---- directory indexes
+
+  pub index_stands : (form index next : ℕ) → is_index_form form ≡ true
+      → index_at form bytes at ≡ Ok (index, next)
+      → StandsAt (SpellsIndex form) bytes at index next
+  index_stands form index next good h =
+      let P : Type 0 = StandsAt (SpellsIndex form) bytes at index next in
+      chosen (form == DW_FORM_DATA1) _ _ (Ok (index, next)) h P
+      (λ is h1. rw (eqb-eq form DW_FORM_DATA1 is)
+      (spelled_as (IsFixed 1) (SpellsIndex DW_FORM_DATA1) bytes at index index next
+      (λ front there. data1 there) (fixed_stands 1 bytes at index next
+      (reading_ok (u8_at bytes at) (index, next) h1))))
+      (λ not11 h1. chosen (form == DW_FORM_DATA2) _ _ (Ok (index, next)) h1 P
+      (λ is h2. rw (eqb-eq form DW_FORM_DATA2 is)
+      (spelled_as (IsFixed 2) (SpellsIndex DW_FORM_DATA2) bytes at index index next
+      (λ front there. data2 there) (fixed_stands 2 bytes at index next
+      (reading_ok (u16_at bytes at) (index, next) h2))))
+      (λ not5 h2. rw (eqb-eq form DW_FORM_UDATA
+      (third (form == DW_FORM_DATA1) (form == DW_FORM_DATA2) (form == DW_FORM_UDATA) good not11
+      not5))
+      (spelled_as IsUleb (SpellsIndex DW_FORM_UDATA) bytes at index index next
+      (λ front there. udata there) (uleb_stands bytes at index next
+      (reading_ok (uleb_at bytes at) (index, next) h2)))))
+
+  pub index_again : (form : ℕ) (front : List ℕ) (index next : ℕ) → (rest : List ℕ)
+      → drop at bytes ≡ front ++ rest → next ≡ at + length front
+      → SpellsIndex form front index → index_at form bytes at ≡ Ok (index, next)
+  index_again form front index next rest parts next_is (data1 is) =
+      rw (number_again 1 bytes at index next (omega arith)
+      (record { front = front; rest = rest; spelled = is; parts = parts; next_is = next_is }))
+      refl
+  index_again form front index next rest parts next_is (data2 is) =
+      rw (number_again 2 bytes at index next (omega arith)
+      (record { front = front; rest = rest; spelled = is; parts = parts; next_is = next_is }))
+      refl
+  index_again form front index next rest parts next_is (udata is) =
+      rw (uleb_again bytes at index next
+      (record { front = front; rest = rest; spelled = is; parts = parts; next_is = next_is }))
+      refl

@@ -1,0 +1,128 @@
+-- An attribute in a plain layout is read, or passed, without a test.
+use Rattle.std.proofs.Common.{◌≡◌, ℕ, List, [], Bool, true, false, cond, refl, ap, sym, ◌∙◌, subst}
+use Rattle.std.specs.Prelude.{Option, Some, None, Result, Ok, Err, not, ◌==◌, ◌||◌}
+use Rattle.dwarf_bytes.specs.declared.constants.TheConstants.{DW_FORM_INDIRECT}
+use Rattle.dwarf_bytes.specs.declared.fault.ReadFault.{ReadFault}
+use Rattle.dwarf_bytes.specs.declared.fault.Cause.{Cause}
+use Rattle.dwarf_bytes.specs.declared.fault.Cause.TheVariants as causes
+use Rattle.dwarf_bytes.specs.declared.format.Format.{Format}
+use Rattle.dwarf_bytes.specs.declared.form.Form.{Form}
+use Rattle.dwarf_bytes.specs.declared.form.Form.TheVariants.{Direct, ImplicitConst, Indirect}
+use Rattle.dwarf_bytes.specs.declared.form.ValueLayout.{ValueLayout}
+use Rattle.dwarf_bytes.specs.Bind.{◌>>=◌}
+use Rattle.dwarf_bytes.specs.Forms.{form_of}
+use Rattle.dwarf_bytes.specs.Contents.{Content, content_at}
+use Rattle.dwarf_bytes.specs.Items.{reading, refuse_if}
+use Rattle.dwarf_bytes.specs.Numbers.{uleb_at}
+use Rattle.dwarf_forms.specs.declared.values.ValueFault.{ValueFault}
+use Rattle.dwarf_forms.specs.declared.attribute.AttributeSpecification.{AttributeSpecification}
+use Rattle.dwarf_forms.specs.Values.{Value, reading_value as of_value, value_at}
+use Rattle.dwarf_units.specs.declared.attributes.Attribute.{Attribute}
+use Rattle.dwarf_units.specs.Attributes.{is_used, accepts, is_negative_count, number_of}
+use Rattle.dwarf_units.specs.Entries.{reading_value, is_direct, attribute_at}
+use Rattle.dwarf_units.specs.Private.Plans.{is_plain, known_layout, taken_at}
+use Rattle.dwarf_units.proofs.PlainLaws.{not_indirect, direct_chain, IsFine, known-fine}
+use Rattle.dwarf_units.proofs.PlainLaws.{value-direct, direct-content}
+
+-- ---- so it is not judged
+
+-- a content as a value, a value as the attribute, and the same with the test between
+abbrev as_value : AttributeSpecification → Content × ℕ → Result (Value × ℕ) ValueFault
+as_value s c = Ok (record { form = s.form; content = c.0 }, c.1)
+
+abbrev as_attribute : AttributeSpecification → Content × ℕ → Result (Attribute × ℕ) Cause
+as_attribute s c = Ok (
+  record {
+    name = s.name;
+    value =
+        record { form = s.form; number = number_of c.0 c.1 };
+  },
+  c.1,
+)
+
+abbrev judged : AttributeSpecification → ℕ → Value × ℕ → Result (Attribute × ℕ) Cause
+judged s form value = refuse_if (is_negative_count s.name value.0.content) causes.AttrForm
+    >>= λ _. Ok (
+      record {
+        name = s.name;
+        value =
+            record { form = form; number = number_of value.0.content value.1 };
+      },
+      value.1,
+    )
+
+not-judged : (s : AttributeSpecification) (r : Result (Content × ℕ) ReadFault) → IsFine s.name r
+    → (reading r >>= as_attribute s) ≡ (reading_value (of_value r >>= as_value s)
+    >>= judged s s.form)
+not-judged s (Ok c) fine = rw fine refl
+not-judged s (Err e) fine = refl
+
+known-is : (format : Format) (s : AttributeSpecification) (layout : ValueLayout) (bytes : List ℕ)
+    (at : ℕ) → accepts s.name s.form ≡ true → form_of s.form ≡ Some (Direct layout)
+    → (is_plain layout || not (is_used s.name)) ≡ true
+    → taken_at format s layout bytes at ≡ attribute_at format s bytes at
+known-is format s layout bytes at fine is known =
+    let rest : ℕ × ℕ → Result (Attribute × ℕ) Cause =
+    λ form. reading_value (value_at form.0 format s.constant bytes form.1)
+    >>= judged s form.0 in
+    let inner : Result (ℕ × ℕ) Cause = reading (uleb_at bytes at)
+    >>= λ inner. refuse_if (not (is_direct (form_of inner.0))) causes.Form >>= λ _. Ok inner in
+    let chain = direct_chain (s.form == DW_FORM_INDIRECT) inner s.form at
+    (λ form. accepts s.name form) rest (not_indirect s.form (Direct layout) is (λ e. cc))
+    fine in
+    let read : value_at s.form format s.constant bytes at
+    ≡ (of_value (content_at layout format bytes at) >>= as_value s) =
+    value-direct s.form layout format s.constant bytes at is ∙ direct-content s.form layout format
+    bytes at is in
+    not-judged s (content_at layout format bytes at)
+    (known-fine s.name layout format bytes at known)
+    ∙ sym (ap (λ (r : Result (Value × ℕ) ValueFault). reading_value r >>= judged s s.form) read)
+    ∙ sym chain
+
+same_layout : (l k : ValueLayout) → (let some : ValueLayout → Option ValueLayout = λ x. Some x in
+    some l ≡ some k) → l ≡ k
+same_layout l k h = cc
+
+pub taken-is : (format : Format) (s : AttributeSpecification) (layout : ValueLayout)
+    (bytes : List ℕ) (at : ℕ) → known_layout s ≡ Some layout
+    → taken_at format s layout bytes at ≡ attribute_at format s bytes at
+taken-is format s layout bytes at h = by_form (accepts s.name s.form) refl (form_of s.form) refl h
+  where
+    by_known : accepts s.name s.form ≡ true → (l : ValueLayout) → form_of s.form ≡ Some (Direct l)
+        → (b : Bool) → (is_plain l || not (is_used s.name)) ≡ b → cond b (Some l) None ≡ Some layout
+        → taken_at format s layout bytes at ≡ attribute_at format s bytes at
+    by_known fine l is false known h = cc
+    by_known fine l is true known h =
+        subst (λ (k : ValueLayout). taken_at format s k bytes at ≡ attribute_at format s bytes at)
+        (same_layout l layout h) (known-is format s l bytes at fine is known)
+
+    by_form : (b : Bool) → accepts s.name s.form ≡ b → (found : Option Form)
+        → form_of s.form ≡ found → cond b (elim found as (λ _. Option ValueLayout) [
+          | None ↦ None
+          | Some (Direct layout) ↦ cond (is_plain layout || not (is_used s.name)) (Some layout) None
+          | Some ImplicitConst ↦ None
+          | Some Indirect ↦ None
+        ]) None ≡ Some layout → taken_at format s layout bytes at ≡ attribute_at format s bytes at
+    by_form false fine found is h = cc
+    by_form true fine None is h = cc
+    by_form true fine (Some (Direct l)) is h =
+        by_known fine l is (is_plain l || not (is_used s.name)) refl h
+    by_form true fine (Some ImplicitConst) is h = cc
+    by_form true fine (Some Indirect) is h = cc
+
+-- what is behind a value, where it is not kept
+abbrev pub none_behind : {X : Type 0} → X × ℕ → Result (List Attribute × ℕ) Cause
+none_behind x = Ok ([], x.1)
+
+pub passed-is : (format : Format) (s : AttributeSpecification) (layout : ValueLayout)
+    (bytes : List ℕ) (at : ℕ) → known_layout s ≡ Some layout
+    → (reading (content_at layout format bytes at) >>= none_behind)
+    ≡ (attribute_at format s bytes at >>= none_behind)
+passed-is format s layout bytes at h = by_read (reading (content_at layout format bytes at))
+    ∙ ap (λ (r : Result (Attribute × ℕ) Cause). r >>= none_behind)
+    (taken-is format s layout bytes at h)
+  where
+    by_read : (r : Result (Content × ℕ) Cause)
+        → (r >>= none_behind) ≡ ((r >>= as_attribute s) >>= none_behind)
+    by_read (Ok c) = refl
+    by_read (Err e) = refl
