@@ -5,7 +5,7 @@ use Rattle.std.specs.Prelude.{Option, Some, None, option_map, position, ◌==◌
 use Rattle.std.specs.List.{prefix_len}
 use Rattle.std.proofs.lemmas.Bool.{lt-ltb}
 use Rattle.std.proofs.lemmas.List.{drop_all, drop-drop}
-use Rattle.memchr.specs.Find.{IsFirstByte, is_byte}
+use Rattle.bstr.specs.Find.{IsFirstByte, is_byte}
 use Rattle.dwarf_bytes.specs.Private.Nuls.{nul_from, block_len}
 
 -- the first place that a test picks, behind an element that it does not pick

@@ -7,7 +7,7 @@ ghost use Rattle.dwarf_bytes.specs.Words.{section_name};
 ghost use Rattle.dwarf_bytes.specs.Private.SectionNames.{EndsTexts, IsNumberAt, begins_with};
 
 use crate::fault::{ReadFault, Section};
-use memchr::memrchr;
+use bstr::ByteSlice;
 use std::marker::Model;
 
 /// The sections that are wanted.
@@ -68,7 +68,7 @@ impl<'a> SectionNames<'a> {
 fn texts_end(bytes: &[u8]) -> usize
     ensures { EndsTexts bytes.now result }
 {
-    match memrchr(0, bytes) {
+    match bytes.rfind_byte(0) {
         Some(last) => last + 1,
         None => 0,
     }

@@ -6,7 +6,7 @@ ghost use Rattle.dwarf_bytes.specs.Numbers.{text_front, text_at};
 
 use crate::fault::{ReadFault, Section};
 use crate::layout::Span;
-use memchr::memchr;
+use bstr::ByteSlice;
 
 /// A text, by where it stands in one of the sections, without its NUL.
 #[derive(Clone, Copy, Debug, PartialEq, Eq)]
@@ -20,7 +20,7 @@ pub(crate) fn first_nul(bytes: &[u8]) -> Option<usize>
     ensures place { result ≡ position (λ byte. byte == 0) bytes.now }
     ensures within { IfSome result (λ place. place < length bytes.now) }
 {
-    memchr(0, bytes)
+    bytes.find_byte(0)
 }
 
 /// The text that the bytes begin with, without its NUL.

@@ -2,4 +2,4 @@ use Rattle.dwarf_bytes.proofs.FirstNuls.{found_first}
 use Rattle.dwarf_bytes.proofs.text.first_nul.Goals as goal
 
 pub returns-clause-place : goal.returns-clause-place
-returns-clause-place c = found_first c.args.bytes.now c.memchr.result c.memchr.ensures
+returns-clause-place c = found_first c.args.bytes.now c.find_byte.result c.find_byte.ensures
