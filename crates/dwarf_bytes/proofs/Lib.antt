@@ -27,3 +27,5 @@ pub mod EachPlaces
 pub mod FirstNuls
 pub mod NulIndex
 pub mod SectionNames
+pub mod ReadFaults
+pub mod FirstInvalid

@@ -81,3 +81,28 @@ abbrev pub Lists : {X : Type 0} → (List X → ℕ → Result (Next X) Cause) �
 Lists step before at [] after = step before at ≡ Ok (End after)
 Lists step before at (x ∷ xs) after =
     (mid : ℕ) × (step before at ≡ Ok (Item x mid)) × Lists step (before ++ x ∷ []) mid xs after
+
+-- Valid items stand from one place to another: each is what the step gives after the ones before it.
+abbrev pub Reach : {X : Type 0} → (List X → ℕ → Result (Next X) Cause) → List X → ℕ → List X → ℕ
+    → Type 0
+Reach step before at [] offset = at ≡ offset
+Reach step before at (x ∷ xs) offset =
+    (mid : ℕ) × (step before at ≡ Ok (Item x mid)) × Reach step (before ++ x ∷ []) mid xs offset
+
+-- The first invalid item of a list: valid items stand up to its offset, and there the step refuses.
+pub record IsFirstInvalid {X : Type 0} (step : List X → ℕ → Result (Next X) Cause) (before : List X)
+    (at : ℕ) (cause : Cause) (offset : ℕ) : Type 0 where
+  pub items : List X
+  pub valid : Reach step before at items offset
+  pub refused : step (before ++ items) offset ≡ Err cause
+
+-- The first element of a list that is refused: something is made of each one before it.
+pub record IsFirstRefused {X Y : Type 0} (make : List Y → X → Result Y At) (before : List Y)
+    (xs : List X) (fault : At) : Type 0 where
+  pub front : List X
+  pub element : X
+  pub rest : List X
+  pub made : List Y
+  pub parts : xs ≡ front ++ element ∷ rest
+  pub made_is : each_from make before front ≡ Ok made
+  pub refused : make (before ++ made) element ≡ Err fault

@@ -1,7 +1,7 @@
 -- Numbers and texts as DWARF 5 spells them. A read takes bytes and a place in them, and answers the
 -- value and the place after it, or the fault.
 use Rattle.std.specs.Prelude.{All, ◌≢◌, FitsSigned, int_le, int_lt, ◌&&◌, ◌==◌, position}
-use Rattle.std.specs.Prelude.{option_map, Option, ◌≡◌, ℕ, ◌+◌, ◌*◌, ◌-◌, ◌%◌, ◌^◌, ◌<◌, ◌≤◌, ℤ, pos}
+use Rattle.std.specs.Prelude.{◌⊎◌, option_map, Option, ◌≡◌, ℕ, ◌+◌, ◌*◌, ◌-◌, ◌%◌, ◌^◌, ◌<◌, ◌≤◌, ℤ, pos}
 use Rattle.std.specs.Prelude.{◌-ℤ◌, List, [], ◌∷◌, ◌++◌, length, take, drop, slice_index, Bool}
 use Rattle.std.specs.Prelude.{Result, Ok, Err, nat_lt, nat_le, if◌then◌else◌}
 use Rattle.std.specs.Option.{option_map_or}
@@ -191,3 +191,15 @@ initial_length_at bytes at = do
         long ← u64_at bytes read.1
         Ok ((Dwarf64, long.0), long.1))
       else Err Length
+
+-- No initial length is at the front of bytes that end inside it: fewer than four, or fewer than
+-- twelve where they begin with 0xffffffff; ..
+abbrev pub IsCutLength : List ℕ → Type 0
+IsCutLength bytes =
+    (length bytes < 4) ⊎ ((field 4 bytes 0 ≡ 0xffffffff) × (length bytes < 12))
+
+-- .. nor where the first four bytes are a reserved value: from 0xfffffff0 on, and not 0xffffffff.
+pub record IsReservedLength (bytes : List ℕ) : Type 0 where
+  pub whole : 4 ≤ length bytes
+  pub reserved : 0xfffffff0 ≤ field 4 bytes 0
+  pub no_escape : field 4 bytes 0 ≢ 0xffffffff
