@@ -162,18 +162,3 @@ fn refuses_a_longer_file_that_is_cut(rt: HostRuntime) {
         are_equal(&rt, (n, found.err()), (n, elf(Cause::Table, 0)));
     }
 }
-
-#[test]
-fn tells_a_fault_in_words(rt: HostRuntime) -> Result<(), Fail> {
-    let fault = LoadFault::told(Section::DebugStrOffsets, Cause::PcAndRanges, 54);
-    let text = fault.to_string(rt.alloc())?;
-    are_equal(
-        &rt,
-        text.as_str(),
-        "object .debug_str_offsets pc-and-ranges at 54",
-    );
-    let memory = LoadFault::told(Section::DebugInfo, Cause::Memory, 54);
-    are_equal(&rt, (memory.section, memory.at), (Section::Elf, 0));
-    are_equal(&rt, (Cause::NotElf as u8, Cause::RangeKind as u8), (1, 46));
-    Ok(())
-}

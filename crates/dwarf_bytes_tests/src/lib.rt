@@ -6,6 +6,8 @@ mod checks;
 #[cfg(test)]
 mod elf;
 #[cfg(test)]
+mod messages;
+#[cfg(test)]
 mod names;
 #[cfg(test)]
 mod numbers;

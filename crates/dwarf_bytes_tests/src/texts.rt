@@ -1,7 +1,7 @@
 //! Texts of sections, and where they end.
 
 use crate::checks::are_equal;
-use dwarf_bytes::{LoadFault, ReadFault, Section, Span, Text, TextIndex};
+use dwarf_bytes::{LoadFault, ReadFault, Section, Span, Text, TextIndex, text_at};
 use std::alloc::{AllocGlobal, Global};
 use std::process::Abort;
 use std::test::*;
@@ -15,7 +15,8 @@ fn run(alloc: Global, len: usize) -> Result<Vec<u8>, LoadFault> {
     Ok(bytes)
 }
 
-/// Whether the text at each offset has this length; none has where there is no text.
+/// Checks the length of the string at each offset, and that the index finds what a read from the
+/// section finds.
 fn has_texts(
     rt: &(impl Abort + AllocGlobal),
     section: &[u8],
@@ -26,6 +27,7 @@ fn has_texts(
         let text = index.text_at(*offset);
         let want = len.ok_or(ReadFault::Unterminated);
         are_equal(rt, (offset, text.map(|text| text.len())), (offset, want));
+        are_equal(rt, (offset, text), (offset, text_at(section, *offset)));
     }
     Ok(())
 }

@@ -1,0 +1,35 @@
+//! What faults print, and the numbers of causes.
+
+use crate::checks::are_equal;
+use dwarf_bytes::{Cause, LoadFault, ReadFault, Section};
+use std::test::*;
+
+#[test]
+fn prints_read_faults(rt: HostRuntime) -> Result<(), Fail> {
+    let messages = [
+        (ReadFault::Short, "short"),
+        (ReadFault::Leb, "leb"),
+        (ReadFault::Unterminated, "unterminated"),
+        (ReadFault::Length, "length"),
+    ];
+    for (fault, message) in messages {
+        let printed = fault.to_string(rt.alloc())?;
+        are_equal(&rt, printed.as_str(), message);
+    }
+    Ok(())
+}
+
+#[test]
+fn prints_load_faults(rt: HostRuntime) -> Result<(), Fail> {
+    let fault = LoadFault::told(Section::DebugStrOffsets, Cause::PcAndRanges, 54);
+    let text = fault.to_string(rt.alloc())?;
+    are_equal(
+        &rt,
+        text.as_str(),
+        "object .debug_str_offsets pc-and-ranges at 54",
+    );
+    let memory = LoadFault::told(Section::DebugInfo, Cause::Memory, 54);
+    are_equal(&rt, (memory.section, memory.at), (Section::Elf, 0));
+    are_equal(&rt, (Cause::NotElf as u8, Cause::RangeKind as u8), (1, 46));
+    Ok(())
+}
