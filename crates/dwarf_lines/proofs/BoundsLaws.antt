@@ -11,6 +11,8 @@ use Rattle.dwarf_bytes.specs.declared.fault.Cause.TheVariants as causes
 use Rattle.dwarf_bytes.specs.Items.{reading}
 use Rattle.dwarf_bytes.specs.Numbers.{block_at, fixed_at, little_endian, u8_at, u16_at, offset_at}
 use Rattle.dwarf_bytes.specs.Numbers.{initial_length_at}
+use Rattle.dwarf_bytes.specs.declared.format.Format.{Format}
+use Rattle.dwarf_bytes.specs.declared.format.Format.TheVariants.{Dwarf32, Dwarf64}
 use Rattle.dwarf_bytes.proofs.Advance.{after_bind, after_test, chosen, reading_ok}
 use Rattle.dwarf_bytes.proofs.LengthLaws.{initial_length_at-moves}
 use Rattle.dwarf_lines.specs.declared.formats.EntryTable.TheVariants.{Directories, Files}
@@ -38,6 +40,12 @@ fixed_at-place n bytes at v h =
     let place : block.1 ≡ v.1 = ap (λ (p : ℕ × ℕ). p.1) pair in
     omega arith))
 
+-- an offset into a section has a byte
+offset_at-moves : (format : Format) (bytes : List ℕ) (at : ℕ) (v : ℕ × ℕ)
+    → offset_at format bytes at ≡ Ok v → at < v.1
+offset_at-moves Dwarf32 bytes at v h = let last = fixed_at-place 4 bytes at v h in omega (arith, last)
+offset_at-moves Dwarf64 bytes at v h = let last = fixed_at-place 8 bytes at v h in omega (arith, last)
+
 pub within-is : (bytes : List ℕ) (place found : ℕ) → within bytes place ≡ Ok found
     → (found ≡ place) × (found ≤ length bytes)
 within-is bytes place found h = grind (arith, nat_tests)
@@ -45,6 +53,7 @@ within-is bytes place found h = grind (arith, nat_tests)
 -- the bounds of a program lie in one another
 pub record AreNested (line : List ℕ) (place : ℕ) (b : ProgramBounds) : Type 0 where
   pub starts : place < b.past
+  pub front : place < b.fields
   pub fields : b.fields ≤ b.first
   pub first : b.first ≤ b.past
   pub past : b.past ≤ length line
@@ -75,8 +84,18 @@ bounds_at-nested line place b h =
     let ended = within-is line (unit.1 + unit.0.1) past past_is in
     let began = within-is (take past line) (len.1 + len.0) first first_is in
     let cut = length-take past line in
+    let before_len = fixed_at-place 2 (take past line) unit.1 version
+    (reading_ok (u16_at (take past line) unit.1) version version_is) in
+    let before_segment = fixed_at-place 1 (take past line) version.1 address
+    (reading_ok (u8_at (take past line) version.1) address address_is) in
+    let before_offset = fixed_at-place 1 (take past line) address.1 segment
+    (reading_ok (u8_at (take past line) address.1) segment segment_is) in
+    let before_fields = offset_at-moves unit.0.0 (take past line) segment.1 len
+    (reading_ok (offset_at unit.0.0 (take past line) segment.1) len len_is) in
     record {
       starts = omega (arith, start.0, ended.0);
+      front = omega
+          (arith, start.0, before_len, before_segment, before_offset, before_fields, fields);
       fields = omega (arith, began.0);
       first =
           omega (arith, began.1, cut);
@@ -109,3 +128,29 @@ header_at-past s place h is =
     let starts = nested.starts in
     let past = nested.past in
     (omega arith, omega arith)))))
+
+-- where the instructions of a program whose header is good begin
+pub header_at-first : (s : LineSections) (place : ℕ) (h : LineHeader) → header_at s place ≡ Ok h
+    → place ≤ h.first
+unfolding header_at
+header_at-first s place h is =
+    let P : Type 0 = place ≤ h.first in
+    after_bind (bounds_at s.line place) _ h is P (λ bounds bounds_is h1.
+    after_bind (encoding_at (take bounds.first s.line) bounds.fields) _ h h1 P
+    (λ encoding encoding_is h2.
+    after_bind (table_at s bounds.format Directories (take bounds.first s.line) encoding.1) _ h h2 P
+    (λ directories directories_is h3.
+    after_bind (table_at s bounds.format (Files (length directories.0)) (take bounds.first s.line)
+    directories.1) _ h h3 P (λ files files_is h4.
+    let same : bounds.first ≡ h.first = ap (λ (c : LineHeader). c.first)
+    (ok_is {E = Cause} (record {
+      encoding = encoding.0;
+      directories = directories.0;
+      files = files.0;
+      first = bounds.first;
+      past = bounds.past;
+    }) h h4) in
+    let nested = bounds_at-nested s.line place bounds bounds_is in
+    let front = nested.front in
+    let fields = nested.fields in
+    omega (arith, front, fields, same)))))

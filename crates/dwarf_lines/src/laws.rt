@@ -47,6 +47,12 @@ pub fn rows_are_in_order_of_programs()
         → IsNonDecreasingBy (λ (row : Row). row.program.0) lines.rows }
 {}
 
+/// Each row takes a byte of the section or more.
+pub fn rows_take_bytes()
+    ensures { (s : LineSections) (lines : Lines) → lines_in s ≡ Ok lines
+        → length lines.rows ≤ length s.line }
+{}
+
 /// Each program starts past the one before it.
 pub fn program_offsets_rise()
     ensures { (s : LineSections) (lines : Lines) → lines_in s ≡ Ok lines

@@ -1,0 +1,5 @@
+use Rattle.dwarf_lines.proofs.RowCounts.{rows-take-bytes}
+use Rattle.dwarf_lines.proofs.laws.rows_take_bytes.Goals as goal
+
+pub returns : goal.returns
+returns c = rows-take-bytes
