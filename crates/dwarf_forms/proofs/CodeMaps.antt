@@ -9,6 +9,9 @@ use Rattle.std.specs.BTreeMap.{BTreeMap, get}
 use Rattle.std.proofs.lemmas.Grind.{common_steps}
 use Rattle.std.proofs.lemmas.List.{length-map}
 use Rattle.dwarf_bytes.specs.declared.fault.Cause.{Cause}
+use Rattle.dwarf_bytes.specs.Position.{Position}
+use Rattle.dwarf_bytes.specs.Refusals.{ReadsNext}
+use Rattle.dwarf_bytes.specs.Items.{Item, End}
 use Rattle.dwarf_forms.specs.declared.declaration.Head.{Head}
 use Rattle.dwarf_forms.specs.Declarations.{Declaration}
 use Rattle.dwarf_forms.specs.Tables.{head_at}
@@ -104,6 +107,21 @@ pub head-is : (room : ℕ) (section : List ℕ) (before : List Declaration) (at 
     → head_behind room section (map (λ (d : Declaration). d.code) before) at
     ≡ head_at room section before at
 head-is room section before at = simp (any-map, length-map)
+
+abbrev code_of : Declaration → ℕ
+code_of d = d.code
+
+-- .. where the codes go by other names
+pub reads-head : (room : ℕ) (codes : List ℕ) (xs before : List Declaration) (found : Result (Option Head) Cause) (old new : Position) → codes ≡ map code_of xs → xs ≡ before → ReadsNext found (λ bytes. head_behind room bytes codes) old new → ReadsNext found (λ bytes. head_at room bytes before) old new
+reads-head room codes xs before found old new are seen read = by_result found read
+  where
+    same : head_behind room old.bytes codes old.place ≡ head_at room old.bytes before old.place
+    same = ap (λ (cs : List ℕ). head_behind room old.bytes cs old.place) (are ∙ ap (map code_of) seen) ∙ head-is room old.bytes before old.place
+
+    by_result : (r : Result (Option Head) Cause) → ReadsNext r (λ bytes. head_behind room bytes codes) old new → ReadsNext r (λ bytes. head_at room bytes before) old new
+    by_result (Ok (Some head)) h = (sym same ∙ h.0, h.1)
+    by_result (Ok None) h = (sym same ∙ h.0, h.1)
+    by_result (Err cause) h = sym same ∙ h
 
 -- ---- codes of what a table has
 

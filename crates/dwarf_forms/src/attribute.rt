@@ -1,14 +1,16 @@
 //! The attributes that a declaration names (DWARF 5, 7.5.3).
 
-ghost use Rattle.std.specs.Prelude.{◌≡◌, ◌==◌, ◌&&◌, ◌||◌, drop, is_none};
+ghost use Rattle.std.specs.Prelude.{◌≡◌, ◌==◌, ◌&&◌, ◌||◌, [], length, drop, is_none};
 ghost use Rattle.std.specs.List.{list_any};
 ghost use Rattle.dwarf_bytes.specs.Forms.{form_of};
-ghost use Rattle.dwarf_bytes.specs.Refusals.{ReadsField, ReadsNext};
-ghost use Rattle.dwarf_forms.specs.Tables.{constant_at, attribute_at};
+ghost use Rattle.dwarf_bytes.specs.Items.{items_from, untold};
+ghost use Rattle.dwarf_bytes.specs.Refusals.{ReadsField, ReadsItems, ReadsNext};
+ghost use Rattle.dwarf_forms.specs.Tables.{constant_at, attribute_at, attributes_at};
 ghost use Rattle.dwarf_forms.specs.Private.Index.{HoldsNames};
 
 use dwarf_bytes::constants::DW_FORM_IMPLICIT_CONST;
 use dwarf_bytes::{Cause, Cursor, Form};
+use std::alloc::Global;
 use std::collections::BTreeSet;
 
 /// How many names of a declaration are compared one by one; those behind them are in a set.
@@ -21,6 +23,24 @@ pub struct AttributeSpecification {
     pub name: u64,
     pub form: u64,
     pub constant: Option<i64>,
+}
+
+/// The attributes of a declaration, up to the two zeros that end them.
+pub(crate) fn attributes(
+    alloc: Global,
+    cursor: &mut Cursor,
+) -> Result<Vec<AttributeSpecification>, Cause>
+    ensures { ReadsItems result attributes_at cursor.old cursor.new }
+{
+    let mut all = Vec::new(alloc);
+    let mut later = BTreeSet::new(alloc);
+    while let Some(next) = next_attribute(&all, &later, cursor)? {
+        if all.len() >= FEW {
+            later.insert(next.name)?;
+        }
+        all.push(next)?;
+    }
+    Ok(all)
 }
 
 /// The next attribute of a declaration, or none where two zeros end them. `later` are the names of

@@ -1,12 +1,14 @@
-//! What stands in abbreviation declarations before their attributes (DWARF 5, 7.5.3).
+//! Abbreviation declarations (DWARF 5, 7.5.3).
 
 ghost use Rattle.std.specs.Prelude.{◌≡◌, ◌==◌, false, IfOk, IfSome};
 ghost use Rattle.std.specs.List.{list_any};
 ghost use Rattle.dwarf_bytes.specs.Refusals.{ReadsNext};
 ghost use Rattle.dwarf_forms.specs.Private.Codes.{head_behind};
 
+use crate::attribute::AttributeSpecification;
 use crate::code_index::CodeIndex;
 use dwarf_bytes::{Cause, Cursor};
+use std::marker::Model;
 
 /// What stands in a declaration before its attributes.
 #[derive(Clone, Copy, Debug)]
@@ -49,5 +51,66 @@ impl Head {
             tag,
             children: children == 1,
         }))
+    }
+}
+
+/// An abbreviation declaration.
+#[derive(Debug, Drop)]
+pub struct Decl {
+    head: Head,
+    attributes: Vec<AttributeSpecification>,
+}
+
+impl Model for Decl {
+    ghost use Rattle.dwarf_forms.specs.Declarations.{Declaration};
+
+    ghost Value = { Declaration };
+
+    ghost view = { λ d. record {
+      code = d.head.code;
+      tag = d.head.tag;
+      children = d.head.children;
+      attributes = d.attributes.items;
+    } };
+}
+
+impl Decl {
+    pub(crate) fn new(head: Head, attributes: Vec<AttributeSpecification>) -> Decl
+        ensures { result ≡ record {
+          code = head.code;
+          tag = head.tag;
+          children = head.children;
+          attributes = attributes.items;
+        } }
+    {
+        Decl { head, attributes }
+    }
+
+    /// The number by which entries name it; never 0.
+    pub fn code(&self) -> u64
+        ensures { result ≡ self.now.code }
+    {
+        self.head.code
+    }
+
+    /// What its entries describe (DWARF 5, 7.5.3, table 7.3).
+    pub fn tag(&self) -> u64
+        ensures { result ≡ self.now.tag }
+    {
+        self.head.tag
+    }
+
+    /// Whether its entries have a list of children.
+    pub fn children(&self) -> bool
+        ensures { result ≡ self.now.children }
+    {
+        self.head.children
+    }
+
+    /// The attributes of its entries, in their order.
+    pub fn attributes(&self) -> &[AttributeSpecification]
+        ensures { result.now ≡ self.now.attributes }
+    {
+        &self.attributes
     }
 }

@@ -12,13 +12,16 @@ pub mod laws;
 mod name_sets;
 mod reading;
 mod shared;
+mod table;
 mod values;
 
 pub use abbreviation_declaration::AbbreviationDeclaration;
 pub use abbreviation_table::AbbreviationTable;
 pub use attribute::AttributeSpecification;
+pub use declaration::Decl;
 pub use dwarf_bytes::Content;
 pub use known_lists::{KnownAttribute, KnownLists};
 pub use reading::value;
 pub use shared::{SharedList, UNSHARED};
+pub use table::Abbrevs;
 pub use values::{Value, ValueFault};

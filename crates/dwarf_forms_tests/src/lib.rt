@@ -2,9 +2,9 @@
 #![tactic(auto)]
 
 #[cfg(test)]
-mod checks;
+mod both_readers;
 #[cfg(test)]
-mod listed;
+mod checks;
 #[cfg(test)]
 mod shared;
 #[cfg(test)]

@@ -1,7 +1,7 @@
 //! Tables that stand within one list of attributes.
 
+use crate::both_readers::attributes_of;
 use crate::checks::are_equal;
-use crate::listed::attributes_of;
 use dwarf_forms::{AbbreviationTable, AttributeSpecification, KnownLists, UNSHARED};
 use std::alloc::{AllocError, Global};
 use std::process::Abort;

@@ -1,9 +1,8 @@
 //! Tables of declarations, good and bad.
 
 use crate::checks::are_equal;
-use crate::listed::{Listed, declarations_of, fault_at};
 use dwarf_bytes::{Cause, LoadFault, Section};
-use dwarf_forms::AttributeSpecification;
+use dwarf_forms::{Abbrevs, AttributeSpecification};
 use dwarf_samples::inlined;
 use std::alloc::{AllocError, Global};
 use std::process::Abort;
@@ -13,166 +12,129 @@ use std::test::*;
 const MOST: u64 = 4_194_304;
 
 /// Checks that the table at the section's start has this fault, and that the count stays.
-fn is_refused(
-    rt: &(impl Abort + AllocGlobal),
-    table: &[u8],
-    cause: Cause,
-    at: u64,
-) -> Result<(), Fail> {
+fn is_refused(rt: &(impl Abort + AllocGlobal), table: &[u8], cause: Cause, at: u64) {
     let mut left = 4;
     let fault = LoadFault {
         section: Section::DebugAbbrev,
         cause,
         at,
     };
-    let told = fault_at(rt.alloc(), table, 0, &mut left)?;
-    are_equal(rt, (told, left), (Some(fault), 4));
-    Ok(())
-}
-
-/// What the head of a declaration tells: its code, its tag, whether it has children, and how many
-/// attributes.
-fn head_of(declaration: &Listed) -> (u64, u64, bool, usize) {
-    let attributes = declaration.attributes.len();
-    (
-        declaration.code,
-        declaration.tag,
-        declaration.children,
-        attributes,
-    )
+    let refused = Abbrevs::read(rt.alloc(), table, 0, &mut left).err();
+    are_equal(rt, (refused, left), (Some(fault), 4));
 }
 
 #[test]
 fn declarations_of_a_unit(rt: HostRuntime) -> Result<(), Fail> {
     let mut left = MOST;
-    let declarations = declarations_of(rt.alloc(), &inlined()[120..163], &mut left)?;
-    are_equal(&rt, (declarations.len(), left), (4, MOST - 4));
-    let heads = [
+    let table = Abbrevs::read(rt.alloc(), &inlined()[120..163], 0, &mut left)?;
+    are_equal(&rt, left, MOST - 4);
+    let decls = table.decls();
+    are_equal(&rt, decls.len(), 4);
+    for (decl, (code, tag, children, attributes)) in decls.iter().zip([
         (1, 0x11, true, 2),
         (2, 0x2e, true, 3),
         (3, 0x1d, true, 5),
         (4, 0x2e, false, 1),
-    ];
-    for (declaration, head) in declarations.iter().zip(heads) {
-        are_equal(&rt, head_of(declaration), head);
+    ]) {
+        are_equal(&rt, decl.code(), code);
+        are_equal(&rt, decl.tag(), tag);
+        are_equal(&rt, decl.children(), children);
+        are_equal(&rt, decl.attributes().len(), attributes);
     }
-    Ok(())
-}
-
-#[test]
-fn attributes_of_a_declaration(rt: HostRuntime) -> Result<(), Fail> {
-    let mut left = MOST;
-    let declarations = declarations_of(rt.alloc(), &inlined()[120..163], &mut left)?;
-    let inlined = declarations.get(2).ok_or("no declaration 3")?;
-    are_equal(&rt, inlined.attributes.len(), 5);
-    let attributes = [
+    let names = [
         (0x31, 0x13),
         (0x11, 0x01),
         (0x12, 0x06),
         (0x58, 0x0b),
         (0x59, 0x0b),
     ];
-    for (told, (name, form)) in inlined.attributes.iter().zip(attributes) {
+    let inlined = decls.get(2).ok_or("no declaration 3")?;
+    for (attribute, (name, form)) in inlined.attributes().iter().zip(names) {
         let wanted = AttributeSpecification {
             name,
             form,
             constant: None,
         };
-        are_equal(&rt, *told, wanted);
+        are_equal(&rt, *attribute, wanted);
     }
     Ok(())
 }
 
 /// Where the declarations of the sample start: a bad first byte of each is told there.
 #[test]
-fn faults_stand_at_declarations(rt: HostRuntime) -> Result<(), Fail> {
+fn faults_stand_at_declarations(rt: HostRuntime) {
     for (place, at) in [(2, 0), (11, 9), (22, 20), (37, 35)] {
         let mut object = *inlined();
         object[120 + place] = 2;
-        is_refused(&rt, &object[120..163], Cause::Children, at)?;
+        is_refused(&rt, &object[120..163], Cause::Children, at);
     }
-    Ok(())
 }
 
 #[test]
 fn constants_in_declarations(rt: HostRuntime) -> Result<(), Fail> {
-    let section = [1, 0x11, 0, 3, 0x21, 0x7f, 0, 0, 0];
     let mut left = MOST;
-    let declarations = declarations_of(rt.alloc(), &section, &mut left)?;
-    are_equal(&rt, declarations.len(), 1);
-    let declaration = declarations.first().ok_or("no declaration")?;
-    let attribute = declaration.attributes.first().ok_or("no attribute")?;
-    are_equal(&rt, attribute.constant, Some(-1));
+    let section = [1, 0x11, 0, 3, 0x21, 0x7f, 0, 0, 0];
+    let table = Abbrevs::read(rt.alloc(), &section, 0, &mut left)?;
+    are_equal(&rt, table.decls().len(), 1);
+    let attributes = table.decls().first().ok_or("no declaration")?.attributes();
+    let constant = attributes.first().map(|attribute| attribute.constant);
+    are_equal(&rt, constant, Some(Some(-1)));
     Ok(())
 }
 
 #[test]
-fn refused_tables(rt: HostRuntime) -> Result<(), Fail> {
-    is_refused(&rt, &[1, 0x11, 2, 0, 0, 0], Cause::Children, 0)?;
-    is_refused(&rt, &[1, 0x11, 0, 3, 0, 0, 0, 0], Cause::Form, 0)?;
-    is_refused(&rt, &[1, 0x11, 0, 0, 3, 0, 0, 0], Cause::Form, 0)?;
-    is_refused(&rt, &[1, 0x11, 0, 3, 0x1c, 0, 0, 0], Cause::Form, 0)?;
-    is_refused(&rt, &[1, 0x11, 0, 3, 8, 3, 8, 0, 0, 0], Cause::AttrTwice, 0)?;
+fn refused_tables(rt: HostRuntime) {
+    is_refused(&rt, &[1, 0x11, 2, 0, 0, 0], Cause::Children, 0);
+    is_refused(&rt, &[1, 0x11, 0, 3, 0, 0, 0, 0], Cause::Form, 0);
+    is_refused(&rt, &[1, 0x11, 0, 0, 3, 0, 0, 0], Cause::Form, 0);
+    is_refused(&rt, &[1, 0x11, 0, 3, 0x1c, 0, 0, 0], Cause::Form, 0);
+    is_refused(&rt, &[1, 0x11, 0, 3, 8, 3, 8, 0, 0, 0], Cause::AttrTwice, 0);
     // the form is judged before the name is
-    is_refused(&rt, &[1, 0x11, 0, 3, 8, 3, 0x1c, 0, 0, 0], Cause::Form, 0)?;
+    is_refused(&rt, &[1, 0x11, 0, 3, 8, 3, 0x1c, 0, 0, 0], Cause::Form, 0);
     is_refused(
         &rt,
         &[1, 0x11, 0, 0, 0, 1, 0x11, 0, 0, 0, 0],
         Cause::AbbrevTwice,
         5,
-    )?;
+    );
     is_refused(
         &rt,
         &[7, 0x11, 0, 0, 0, 7, 0x11, 0, 0, 0, 0],
         Cause::AbbrevTwice,
         5,
-    )?;
-    is_refused(&rt, &[1, 0x11, 0, 0, 0], Cause::Short, 5)?;
-    is_refused(&rt, &[1, 0x11, 0, 3, 0x21, 0xff], Cause::Short, 0)?;
-    is_refused(&rt, &[], Cause::Short, 0)?;
+    );
+    is_refused(&rt, &[1, 0x11, 0, 0, 0], Cause::Short, 5);
+    is_refused(&rt, &[1, 0x11, 0, 3, 0x21, 0xff], Cause::Short, 0);
+    is_refused(&rt, &[], Cause::Short, 0);
     let long = [
         0x80, 0x80, 0x80, 0x80, 0x80, 0x80, 0x80, 0x80, 0x80, 0x80, 0,
     ];
-    is_refused(&rt, &long, Cause::Leb, 0)?;
+    is_refused(&rt, &long, Cause::Leb, 0);
     let five = [
         1, 9, 0, 0, 0, 2, 9, 0, 0, 0, 3, 9, 0, 0, 0, 4, 9, 0, 0, 0, 5, 9, 0, 0, 0, 0,
     ];
-    is_refused(&rt, &five, Cause::TooMany, 20)
-}
-
-/// Three declarations, and the end.
-const THREE: [u8; 16] = [1, 9, 0, 0, 0, 2, 9, 0, 0, 0, 3, 9, 0, 0, 0, 0];
-
-/// Checks that a table has so many declarations, where no more are left.
-fn has_as_many_as_are_left(
-    rt: &(impl Abort + AllocGlobal),
-    table: &[u8],
-    count: u64,
-) -> Result<(), Fail> {
-    let mut left = count;
-    let declarations = declarations_of(rt.alloc(), table, &mut left)?;
-    are_equal(rt, (declarations.len() as u64, left), (count, 0));
-    Ok(())
+    is_refused(&rt, &five, Cause::TooMany, 20);
 }
 
 #[test]
 fn limits(rt: HostRuntime) -> Result<(), Fail> {
     // an end code is no declaration
-    has_as_many_as_are_left(&rt, &[0], 0)?;
-    has_as_many_as_are_left(&rt, &THREE, 3)
-}
-
-#[test]
-fn tables_past_the_end(rt: HostRuntime) -> Result<(), Fail> {
     let mut left = 0;
+    let table = Abbrevs::read(rt.alloc(), &[0], 0, &mut left)?;
+    are_equal(&rt, table.decls().len(), 0);
+    let mut left = 3;
+    let three = [1, 9, 0, 0, 0, 2, 9, 0, 0, 0, 3, 9, 0, 0, 0, 0];
+    let table = Abbrevs::read(rt.alloc(), &three, 0, &mut left)?;
+    are_equal(&rt, table.decls().len(), 3);
+    are_equal(&rt, left, 0);
     for offset in [16, 17, u64::MAX] {
         let fault = LoadFault {
             section: Section::DebugAbbrev,
             cause: Cause::Short,
             at: offset,
         };
-        let told = fault_at(rt.alloc(), &THREE, offset, &mut left)?;
-        are_equal(&rt, told, Some(fault));
+        let refused = Abbrevs::read(rt.alloc(), &three, offset, &mut left).err();
+        are_equal(&rt, refused, Some(fault));
     }
     Ok(())
 }
@@ -184,20 +146,21 @@ fn codes_out_of_order(rt: HostRuntime) -> Result<(), Fail> {
         5, 9, 0, 0, 0, 2, 10, 0, 0, 0, 1, 11, 0, 0, 0, 0x80, 0x02, 12, 0, 0, 0, 0,
     ];
     let mut left = MOST;
-    let declarations = declarations_of(rt.alloc(), &section, &mut left)?;
-    for (decl, code) in declarations.iter().zip([5, 2, 1, 256]) {
-        are_equal(&rt, decl.code, code);
+    let table = Abbrevs::read(rt.alloc(), &section, 0, &mut left)?;
+    for (decl, code) in table.decls().iter().zip([5, 2, 1, 256]) {
+        are_equal(&rt, decl.code(), code);
     }
     let again = [
         5, 9, 0, 0, 0, 2, 10, 0, 0, 0, 0x80, 0x02, 11, 0, 0, 0, 0x80, 0x02, 12, 0, 0, 0, 0,
     ];
-    is_refused(&rt, &again, Cause::AbbrevTwice, 16)?;
+    is_refused(&rt, &again, Cause::AbbrevTwice, 16);
     is_refused(
         &rt,
         &[2, 9, 0, 0, 0, 1, 9, 0, 0, 0, 2, 9, 0, 0, 0, 0],
         Cause::AbbrevTwice,
         10,
-    )
+    );
+    Ok(())
 }
 
 /// A table of one declaration with so many attributes, of names that count up from 1.
@@ -215,11 +178,11 @@ fn wide(alloc: Global, attributes: u8, again: u8) -> Result<Vec<u8>, AllocError>
 fn many_names(rt: HostRuntime) -> Result<(), Fail> {
     let table = wide(rt.alloc(), 100, 100)?;
     let mut left = 1;
-    let declarations = declarations_of(rt.alloc(), &table, &mut left)?;
-    let decl = declarations.first().ok_or("no declaration")?;
-    are_equal(&rt, decl.attributes.len(), 100);
+    let read = Abbrevs::read(rt.alloc(), &table, 0, &mut left)?;
+    let decl = read.decls().first().ok_or("no declaration")?;
+    are_equal(&rt, decl.attributes().len(), 100);
     for again in [1, 32, 33, 99] {
-        is_refused(&rt, &wide(rt.alloc(), 100, again)?, Cause::AttrTwice, 0)?;
+        is_refused(&rt, &wide(rt.alloc(), 100, again)?, Cause::AttrTwice, 0);
     }
     Ok(())
 }

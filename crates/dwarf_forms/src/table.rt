@@ -1,0 +1,132 @@
+//! Tables of abbreviation declarations (DWARF 5, 7.5.3).
+
+ghost use Rattle.std.specs.Prelude.{◌≡◌, ◌+◌, ◌≤◌, ◌==◌, [], ◌∷◌, ◌++◌, false, length};
+ghost use Rattle.std.specs.Prelude.{IfOk, OnOk, OnErr};
+ghost use Rattle.std.specs.List.{list_any};
+ghost use Rattle.dwarf_bytes.specs.declared.fault.Section.TheVariants as sections;
+ghost use Rattle.dwarf_bytes.specs.Refusals.{Decodes, in_section, ReadsNext};
+ghost use Rattle.dwarf_forms.specs.Tables.{head_at, declaration_at, declarations_of};
+ghost use Rattle.dwarf_forms.specs.Private.TableSteps.{ExtendsTable};
+
+use crate::attribute::attributes;
+use crate::code_index::CodeIndex;
+use crate::declaration::{Decl, Head};
+use dwarf_bytes::{Cause, Cursor, LoadFault, Section};
+use std::alloc::{AllocError, Global};
+use std::marker::Model;
+
+/// The declarations of one table of `.debug_abbrev`, in their order. No code stands twice.
+#[derive(Drop)]
+pub struct Abbrevs {
+    decls: Vec<Decl>,
+    codes: CodeIndex,
+}
+
+impl Model for Abbrevs {
+    ghost use Rattle.std.specs.Prelude.{◌≡◌, List, map};
+    ghost use Rattle.dwarf_forms.specs.Declarations.{Declaration};
+
+    ghost Value = { List Declaration };
+
+    ghost view = { λ t. t.decls.items };
+
+    ghost invariant = { λ t. t.codes ≡ map (λ declaration. declaration.code) t.decls.items };
+}
+
+impl Abbrevs {
+    /// The table at an offset from the section's start, up to the code 0 that ends it. `left` is
+    /// how many more declarations may be read; it falls by one for each of the table's. A fault is
+    /// told at the declaration that holds it, in `.debug_abbrev`.
+    pub fn read(
+        alloc: Global,
+        section: &[u8],
+        offset: u64,
+        left: &mut u64,
+    ) -> Result<Abbrevs, LoadFault>
+        ensures decodes { Decodes (λ table. table) result (in_section sections.DebugAbbrev
+            (declarations_of left.old section.now offset)) }
+        ensures counted { IfOk result (λ table. left.new + length table ≡ left.old) }
+        ensures unchanged { OnErr result (left.new ≡ left.old) }
+    {
+        let mut cursor = Cursor::new(section);
+        if cursor.seek(offset as usize).is_err() {
+            return Err(LoadFault::told(Section::DebugAbbrev, Cause::Short, offset));
+        }
+        let table = declarations(alloc, *left, &mut cursor)?;
+        *left -= table.len() as u64;
+        Ok(table)
+    }
+
+    /// The declarations, in their order.
+    pub fn decls(&self) -> &[Decl]
+        ensures { result.now ≡ self.now }
+    {
+        self.decls.as_slice()
+    }
+
+    fn new(alloc: Global) -> Abbrevs
+        ensures { result ≡ [] }
+    {
+        Abbrevs {
+            decls: Vec::new(alloc),
+            codes: CodeIndex::new(alloc),
+        }
+    }
+
+    fn len(&self) -> usize
+        ensures { result ≡ length self.now }
+    {
+        self.decls.len()
+    }
+
+    /// Adds a declaration behind the others.
+    fn push(&mut self, decl: Decl) -> Result<(), AllocError>
+        requires { list_any (λ declaration. declaration.code == decl.code) self.old ≡ false }
+        ensures ok { OnOk result (self.new ≡ self.old ++ decl ∷ []) }
+        ensures err { OnErr result (self.new ≡ self.old) }
+    {
+        let code = decl.code();
+        self.decls.push(decl)?;
+        if let Err(error) = self.codes.push(code) {
+            let _ = self.decls.pop();
+            return Err(error);
+        }
+        Ok(())
+    }
+
+    /// Reads the next declaration and adds it; false where the code 0 stands.
+    fn extend(&mut self, alloc: Global, room: u64, cursor: &mut Cursor) -> Result<bool, Cause>
+        ensures { ExtendsTable result room self.old self.new cursor.old cursor.new }
+    {
+        let Some(head) = self.next_head(room, cursor)? else {
+            return Ok(false);
+        };
+        let attributes = attributes(alloc, cursor)?;
+        self.push(Decl::new(head, attributes))?;
+        Ok(true)
+    }
+
+    /// What stands in the next declaration before its attributes, or none where the code 0 stands.
+    fn next_head(&self, room: u64, cursor: &mut Cursor) -> Result<Option<Head>, Cause>
+        ensures { ReadsNext result (λ bytes. head_at room bytes self.now) cursor.old cursor.new }
+    {
+        Head::next(&self.codes, room, cursor)
+    }
+}
+
+/// The table at the cursor, of `room` declarations at most.
+fn declarations(alloc: Global, room: u64, cursor: &mut Cursor) -> Result<Abbrevs, LoadFault>
+    ensures decodes { Decodes (λ table. table) result (in_section sections.DebugAbbrev
+        (declarations_of room cursor.old.bytes cursor.old.place)) }
+    ensures few { IfOk result (λ table. length table ≤ room) }
+{
+    let mut table = Abbrevs::new(alloc);
+    loop {
+        let at = cursor.place() as u64;
+        match table.extend(alloc, room, cursor) {
+            Ok(true) => {}
+            Ok(false) => return Ok(table),
+            Err(cause) => return Err(LoadFault::told(Section::DebugAbbrev, cause, at)),
+        }
+    }
+}
