@@ -6,9 +6,9 @@ ghost use Rattle.dwarf_bytes.specs.Private.SectionNames.{EndsTexts};
 ghost use Rattle.dwarf_walk.specs.Sections.{sections_of};
 ghost use Rattle.dwarf_entries.specs.Private.Texts.{AreTexts, text_place};
 
+use bstr::ByteSlice;
 use dwarf_bytes::ReadFault;
 use dwarf_walk::Sections;
-use memchr::memrchr;
 use std::marker::Model;
 
 /// A section that texts stand in.
@@ -56,7 +56,7 @@ impl<'a> TextSection<'a> {
 fn texts_end(bytes: &[u8]) -> usize
     ensures { EndsTexts bytes.now result }
 {
-    match memrchr(0, bytes) {
+    match bytes.rfind_byte(0) {
         Some(last) => last + 1,
         None => 0,
     }
