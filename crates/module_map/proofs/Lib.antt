@@ -15,3 +15,4 @@ pub mod Loading
 pub mod Asking
 pub mod Answering
 pub mod Listings
+pub mod RisingModules

@@ -1,5 +1,6 @@
 -- The modules that are loaded.
-use Rattle.std.specs.Prelude.{ℕ, ◌+◌, Bool, not, ◌&&◌, List, [], ◌∷◌, filter, nat_lt, nat_le}
+use Rattle.std.specs.Prelude.{◌≡◌, ◌≢◌, ℕ, ◌+◌, ◌<◌, ◌≤◌, Bool, true, not, ◌&&◌, List, [], ◌∷◌}
+use Rattle.std.specs.Prelude.{length, filter, nat_lt, nat_le, slice_index_or}
 use Rattle.std.specs.Prelude.{Option, if◌then◌else◌, position, slice_get}
 use Rattle.std.specs.Option.{option_map_or}
 use Rattle.std.specs.Str.{bytes_eq}
@@ -61,3 +62,19 @@ met_at m modules = position (λ other. not (is_named m.name other) && meets m ot
 -- the name of the module at a place
 abbrev pub name_at : List Loaded → ℕ → List ℕ
 name_at modules place = option_map_or (λ m. m.name) (slice_get modules place) []
+
+-- The modules rise: each has an address, each ends before the next one begins, and no two have one
+-- name.
+pub record AreRising (modules : List Loaded) : Type 0 where
+  pub nonempty : (i : ℕ) (d : Loaded) → i < length modules →
+      start_of (slice_index_or modules i d) < end_of (slice_index_or modules i d)
+  pub apart : (i j : ℕ) (d : Loaded) → i < j → j < length modules →
+      end_of (slice_index_or modules i d) ≤ start_of (slice_index_or modules j d)
+  pub names : (i j : ℕ) (d : Loaded) → i < j → j < length modules →
+      (slice_index_or modules i d).name ≢ (slice_index_or modules j d).name
+
+-- at most one of the modules holds an address
+abbrev pub HoldOnce : List Loaded → Type 0
+HoldOnce modules = (address i j : ℕ) (d : Loaded) → i < length modules → j < length modules →
+    holds address (slice_index_or modules i d) ≡ true →
+    holds address (slice_index_or modules j d) ≡ true → i ≡ j

@@ -2,7 +2,7 @@
 
 ghost use Rattle.std.specs.Prelude.{◌≡◌, ◌≤◌, ◌⊎◌, Bool, true, false, Some, None};
 ghost use Rattle.std.specs.Prelude.{length, IfOk, IfErr, MatchResult};
-ghost use Rattle.module_map.specs.World.{Loaded, no_modules};
+ghost use Rattle.module_map.specs.World.{Loaded, no_modules, AreRising, HoldOnce};
 ghost use Rattle.module_map.specs.Changes.{is_taken, is_full, place_fault, with_module};
 ghost use Rattle.module_map.specs.Changes.{IsExtentOf, Loads, Unloads, Moves};
 ghost use Rattle.module_map.specs.Answers.{asked as asked_of, frames_at};
@@ -237,9 +237,12 @@ impl Modules {
         )
     }
 
-    /// The modules by rising address: the name, the extent and the base of each.
+    /// The name, the extent and the base of each module, by rising address. No two of them have
+    /// one name or share an address.
     pub fn list(&self) -> Listing<'_>
         ensures modules { result ≡ listing self.now.world }
+        ensures rising { AreRising self.now.world.modules }
+        ensures one { HoldOnce self.now.world.modules }
         ensures few { length self.now.world.modules ≤ 4096 }
     {
         self.sorted.list()

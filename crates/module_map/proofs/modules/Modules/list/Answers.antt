@@ -1,4 +1,6 @@
-use Rattle.std.proofs.Common.{◌≡◌, ◌∙◌, List, [], ◌∷◌, map, refl, ap, suc, length, arith}
+use Rattle.std.proofs.Common.{◌≡◌, ◌∙◌, List, [], ◌∷◌, map, refl, ap, suc, length, arith, subst}
+use Rattle.module_map.specs.World.{AreRising}
+use Rattle.module_map.proofs.RisingModules.{hold_once}
 use Rattle.module_map.specs.Private.Serials.{NumberedModule, loaded_of}
 use Rattle.module_map.specs.Listing.{Listed, listed}
 use Rattle.module_map.proofs.modules.Modules.list.Goals as goal
@@ -9,7 +11,7 @@ through [] = refl
 through (h ∷ hs) = ap (λ (l : List Listed). listed h.loaded ∷ l) (through hs)
 
 pub returns-clause-modules : goal.returns-clause-modules
-returns-clause-modules c = c.list.ensures ∙ through c.self.inside.sorted
+returns-clause-modules c = c.list.ensures.modules ∙ through c.self.inside.sorted
     ∙ ap (λ v. map listed v.world.modules) c.self.view_is
 
 long : (hs : List NumberedModule) → length (map loaded_of hs) ≡ length hs
@@ -22,3 +24,11 @@ returns-clause-few c =
     let count = long c.self.inside.sorted in
     let seen = ap (λ v. length v.world.modules) c.self.view_is in
     omega arith
+
+pub returns-clause-rising : goal.returns-clause-rising
+returns-clause-rising c =
+    subst (λ v. AreRising v.world.modules) c.self.view_is c.list.ensures.rising
+
+pub returns-clause-one : goal.returns-clause-one
+returns-clause-one c = hold_once _
+    (subst (λ v. AreRising v.world.modules) c.self.view_is c.list.ensures.rising)
