@@ -47,3 +47,4 @@ pub mod WalkLaws
 pub mod ChainEnds
 pub mod FrameTurns
 pub mod FaultLaws
+pub mod SegmentLaws

@@ -11,6 +11,7 @@ mod joins;
 pub mod laws;
 mod low_ends;
 mod module;
+mod optional_index;
 mod outwards;
 mod packed;
 mod parents;
@@ -28,6 +29,7 @@ mod texts;
 
 pub use frames::{Frame, Frames};
 pub use module::{Module, Scan};
+pub use optional_index::OptionalIndex;
 pub use path::Path;
 pub use place::Place;
 pub use segment::Segment;

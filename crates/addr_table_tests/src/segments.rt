@@ -17,8 +17,8 @@ fn is_segment(
     scope: usize,
 ) {
     let told = segment.map(|segment| {
-        let ends = (segment.from(), segment.to());
-        (ends, segment.row(), segment.scope())
+        let ends = (segment.from, segment.to);
+        (ends, segment.row.get(), segment.scope.get())
     });
     are_equal(rt, told, Some((ends, Some(row), Some(scope))));
 }
