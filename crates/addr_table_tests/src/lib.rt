@@ -2,6 +2,8 @@
 #![tactic(auto)]
 
 #[cfg(test)]
+mod changed_bytes;
+#[cfg(test)]
 mod cuts;
 #[cfg(test)]
 mod faults;
@@ -11,6 +13,8 @@ mod fixtures;
 mod frames;
 #[cfg(test)]
 mod places;
+#[cfg(test)]
+mod plain_scan;
 #[cfg(test)]
 mod samples;
 #[cfg(test)]

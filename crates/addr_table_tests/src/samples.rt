@@ -2,7 +2,9 @@
 
 use crate::fixtures::*;
 use addr_table::{Frames, Path};
-use dwarf_samples::{inlined, leaf_without_code, two_sequences};
+use dwarf_samples::{
+    dropped_main, dropped_mid, dropped_sequence, inlined, leaf_without_code, two_sequences,
+};
 use std::process::Abort;
 use std::test::*;
 
@@ -105,5 +107,8 @@ fn segments_and_scan_tell_the_same_places(rt: HostRuntime) -> Result<(), Fail> {
     tell_the_same(&rt, inlined())?;
     tell_the_same(&rt, two_sequences())?;
     tell_the_same(&rt, &leaf_without_code())?;
+    tell_the_same(&rt, &dropped_main())?;
+    tell_the_same(&rt, &dropped_mid())?;
+    tell_the_same(&rt, &dropped_sequence())?;
     tell_the_same(&rt, &without_entries())
 }

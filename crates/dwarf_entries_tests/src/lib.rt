@@ -26,6 +26,8 @@ mod limits;
 #[cfg(test)]
 mod long_entries;
 #[cfg(test)]
+mod many_scopes;
+#[cfg(test)]
 mod names;
 #[cfg(test)]
 mod overlapping_tables;
@@ -33,6 +35,8 @@ mod overlapping_tables;
 mod pairs;
 #[cfg(test)]
 mod passes;
+#[cfg(test)]
+mod range_limits;
 #[cfg(test)]
 mod ranges;
 #[cfg(test)]

@@ -2,7 +2,6 @@
 
 use crate::fixtures::*;
 use dwarf_bytes::{Cause, LoadFault, Section};
-use dwarf_entries::Sections;
 use std::alloc::{AllocError, Global};
 use std::process::Abort;
 use std::test::*;
@@ -52,62 +51,6 @@ fn declarations_of_an_object(rt: HostRuntime) -> Result<(), Fail> {
         at: 1,
     };
     has_fault(&rt, &sections(&info, &table), Some(fault));
-    Ok(())
-}
-
-/// A unit of this low_pc with so many subprograms, the first at 21 and each of five bytes, whose
-/// ranges are the list at 0, and with what stands behind them.
-fn listed_scopes(
-    alloc: Global,
-    low_pc: &[u8; 8],
-    count: usize,
-    behind: &[u8],
-) -> Result<Vec<u8>, AllocError> {
-    let mut entries = Vec::new(alloc);
-    entries.push(1)?;
-    entries.extend_from_slice(low_pc)?;
-    for _ in 0..count {
-        entries.extend_from_slice(&[2, 0, 0, 0, 0])?;
-    }
-    entries.extend_from_slice(behind)?;
-    entries.push(0)?;
-    unit(alloc, &entries)
-}
-
-/// A list of so many times offset_pair 0 to 0.
-fn empty_pairs(alloc: Global, count: usize) -> Result<Vec<u8>, AllocError> {
-    let mut list = Vec::new(alloc);
-    for _ in 0..count {
-        list.extend_from_slice(&[4, 0, 0])?;
-    }
-    list.push(0)?;
-    Ok(list)
-}
-
-/// A list of 65,536 entries, which is 2^16, is read for each scope: 64 scopes take all 2^22.
-/// Entries of dropped code count too, and so does a pair.
-#[test]
-fn range_items_of_an_object(rt: HostRuntime) -> Result<(), Fail> {
-    // unit: low_pc as addr; subprograms: ranges as sec_offset; and low_pc as addr, high_pc as data1
-    let table = [
-        1, 0x11, 1, 0x11, 0x01, 0, 0, 2, 0x2e, 0, 0x55, 0x17, 0, 0, 3, 0x2e, 0, 0x11, 0x01, 0x12,
-        0x0b, 0, 0, 0,
-    ];
-    let pair = [3, 0xff, 0xff, 0xff, 0xff, 0xff, 0xff, 0xff, 0xff, 1];
-    let lists = empty_pairs(rt.alloc(), 65_536)?;
-    let dropped = [0xff; 8];
-    for (low_pc, count, behind, cause) in [
-        ([0; 8], 65, [].as_slice(), Some(Cause::TooMany)),
-        (dropped, 64, &[], None),
-        (dropped, 64, &pair, Some(Cause::TooMany)),
-    ] {
-        let info = listed_scopes(rt.alloc(), &low_pc, count, behind)?;
-        let all = Sections {
-            debug_rnglists: &lists,
-            ..sections(&info, &table)
-        };
-        has_fault(&rt, &all, cause.map(|cause| fault(cause, 341)));
-    }
     Ok(())
 }
 

@@ -1,0 +1,62 @@
+//! Each byte of the headers of the first sample, with each of its 256 values.
+
+use crate::fixtures::{are_equal, find, numbers};
+use crate::plain_scan::PlainObject;
+use addr_table::Module;
+use dwarf_samples::inlined;
+use std::process::Abort;
+use std::test::*;
+
+/// Checks that an object is refused, or answers each address as a plain scan does.
+fn is_scanned(rt: &(impl Abort + AllocGlobal), object: &[u8]) -> Result<(), Fail> {
+    let mut bytes = Vec::new(rt.alloc());
+    bytes.extend_from_slice(object)?;
+    let Ok(module) = Module::decode(rt.alloc(), bytes) else {
+        return Ok(());
+    };
+    let plain = PlainObject::read(rt.alloc(), object)?;
+    for link in 0xff0..0x1021 {
+        are_equal(
+            rt,
+            (link, numbers(find(&module, link))),
+            (link, plain.numbers(link)),
+        );
+    }
+    Ok(())
+}
+
+/// Checks the sample with each value of a byte.
+fn is_changed(rt: &(impl Abort + AllocGlobal), place: usize) -> Result<(), Fail> {
+    let mut object = *inlined();
+    for value in 0..=255 {
+        if let Some(byte) = object.get_mut(place) {
+            *byte = value;
+        }
+        is_scanned(rt, &object)?;
+    }
+    Ok(())
+}
+
+#[test]
+fn bytes_of_the_elf_header_and_the_program_header(rt: HostRuntime) -> Result<(), Fail> {
+    for place in 0..120 {
+        is_changed(&rt, place)?;
+    }
+    Ok(())
+}
+
+#[test]
+fn bytes_of_the_unit_header_and_the_line_header(rt: HostRuntime) -> Result<(), Fail> {
+    for place in (163..175).chain(259..314) {
+        is_changed(&rt, place)?;
+    }
+    Ok(())
+}
+
+#[test]
+fn bytes_of_the_section_headers(rt: HostRuntime) -> Result<(), Fail> {
+    for place in 383..703 {
+        is_changed(&rt, place)?;
+    }
+    Ok(())
+}

@@ -1,0 +1,47 @@
+//! More scopes, ranges and calls than sixteen bits count.
+
+use crate::fixtures::*;
+use dwarf_bytes::Section;
+use std::alloc::{AllocError, Global};
+use std::test::*;
+
+/// A unit without attributes; a subprogram with a name; and one with low_pc as addr, high_pc as
+/// data1, call_file as data8 and abstract_origin as ref4.
+const TABLE: [u8; 29] = [
+    1, 0x11, 1, 0, 0, 2, 0x2e, 0, 0x03, 0x08, 0, 0, 3, 0x2e, 0, 0x11, 0x01, 0x12, 0x0b, 0x58, 0x07,
+    0x31, 0x13, 0, 0, 0, 0, 0, 0,
+];
+
+/// The subprogram `f` at 13, and from 16 on, each of 22 bytes, so many whose origin it is. Each
+/// covers the 16 bytes after those of the one before, from 0x1000 on, and is called in the next
+/// file, from 2^32 on.
+fn unit_of_many(alloc: Global, count: u64) -> Result<Vec<u8>, AllocError> {
+    let mut entries = Vec::new(alloc);
+    entries.extend_from_slice(&[1, 2, b'f', 0])?;
+    for number in 0..count {
+        entries.push(3)?;
+        let low_pc = number.saturating_mul(16).saturating_add(0x1000);
+        entries.extend_from_slice(&low_pc.to_le_bytes())?;
+        entries.push(16)?;
+        let call_file = number.saturating_add(0x1_0000_0000);
+        entries.extend_from_slice(&call_file.to_le_bytes())?;
+        entries.extend_from_slice(&[13, 0, 0, 0])?;
+    }
+    entries.push(0)?;
+    unit(alloc, &entries)
+}
+
+#[test]
+fn the_last_of_seventy_thousand_scopes(rt: HostRuntime) -> Result<(), Fail> {
+    let info = unit_of_many(rt.alloc(), 70_000)?;
+    let read = scopes_of(rt.alloc(), &sections(&info, &TABLE))?;
+    are_equal(&rt, read.scopes().len(), 70_001);
+    let last = read.scopes().last().ok_or("no scope")?;
+    let stands = (last.number(), last.offset(), last.end());
+    are_equal(&rt, stands, (70_000, 1_539_994, 70_001));
+    let covered = [range(1_124_080, 1_124_096)];
+    are_equal(&rt, last.ranges(&read), covered.as_slice());
+    are_equal(&rt, last.name(), text(Section::DebugInfo, 14));
+    are_equal(&rt, call_of(&read, last), (Some(4_295_037_295), None));
+    Ok(())
+}

@@ -1,0 +1,95 @@
+//! The limit of range items of an object.
+
+use crate::fixtures::*;
+use dwarf_bytes::Cause;
+use dwarf_entries::Sections;
+use std::alloc::{AllocError, Global};
+use std::process::Abort;
+use std::test::*;
+
+/// The unit has low_pc as addr; the subprograms have ranges as sec_offset, or low_pc as addr and
+/// high_pc as data1.
+const TABLE: [u8; 24] = [
+    1, 0x11, 1, 0x11, 0x01, 0, 0, 2, 0x2e, 0, 0x55, 0x17, 0, 0, 3, 0x2e, 0, 0x11, 0x01, 0x12, 0x0b,
+    0, 0, 0,
+];
+
+/// A low_pc of 0, and the one of dropped code.
+const LIVE: [u8; 8] = [0; 8];
+
+const DROPPED: [u8; 8] = [0xff; 8];
+
+/// A subprogram with a pair of addresses.
+const PAIR: [u8; 10] = [3, 0xff, 0xff, 0xff, 0xff, 0xff, 0xff, 0xff, 0xff, 1];
+
+/// A unit of this low_pc with so many subprograms, the first at 21 and each of five bytes, whose
+/// ranges are the list at 0, and with what stands behind them.
+fn listed_scopes(
+    alloc: Global,
+    low_pc: &[u8; 8],
+    count: usize,
+    behind: &[u8],
+) -> Result<Vec<u8>, AllocError> {
+    let mut entries = Vec::new(alloc);
+    entries.push(1)?;
+    entries.extend_from_slice(low_pc)?;
+    for _ in 0..count {
+        entries.extend_from_slice(&[2, 0, 0, 0, 0])?;
+    }
+    entries.extend_from_slice(behind)?;
+    entries.push(0)?;
+    unit(alloc, &entries)
+}
+
+/// A list of so many times offset_pair 0 to 0.
+fn empty_pairs(alloc: Global, count: usize) -> Result<Vec<u8>, AllocError> {
+    let mut list = Vec::new(alloc);
+    for _ in 0..count {
+        list.extend_from_slice(&[4, 0, 0])?;
+    }
+    list.push(0)?;
+    Ok(list)
+}
+
+/// Checks whether a unit of this low_pc is refused for its range items, at 341. The list at 0 has
+/// 65,536 entries, which is 2^16, and each subprogram reads all of them.
+fn has_too_many(
+    rt: &(impl Abort + AllocGlobal),
+    low_pc: &[u8; 8],
+    count: usize,
+    behind: &[u8],
+    cause: Option<Cause>,
+) -> Result<(), Fail> {
+    let lists = empty_pairs(rt.alloc(), 65_536)?;
+    let info = listed_scopes(rt.alloc(), low_pc, count, behind)?;
+    let all = Sections {
+        debug_rnglists: &lists,
+        ..sections(&info, &TABLE)
+    };
+    has_fault(rt, &all, cause.map(|cause| fault(cause, 341)));
+    Ok(())
+}
+
+/// 64 scopes take all 2^22 items. Entries of dropped code count too, and so does a pair.
+#[test]
+fn range_items_of_an_object(rt: HostRuntime) -> Result<(), Fail> {
+    has_too_many(&rt, &LIVE, 65, &[], Some(Cause::TooMany))?;
+    has_too_many(&rt, &DROPPED, 64, &[], None)?;
+    has_too_many(&rt, &DROPPED, 64, &PAIR, Some(Cause::TooMany))
+}
+
+#[test]
+fn empty_pairs_give_no_ranges(rt: HostRuntime) -> Result<(), Fail> {
+    let lists = empty_pairs(rt.alloc(), 65_536)?;
+    let info = listed_scopes(rt.alloc(), &LIVE, 64, &[])?;
+    let all = Sections {
+        debug_rnglists: &lists,
+        ..sections(&info, &TABLE)
+    };
+    let read = scopes_of(rt.alloc(), &all)?;
+    are_equal(&rt, read.scopes().len(), 64);
+    for scope in read.scopes() {
+        are_equal(&rt, scope.ranges(&read).len(), 0);
+    }
+    Ok(())
+}
