@@ -3,6 +3,7 @@
 
 PREFIX ?= /usr/local
 PROGRAM = crates/addr2line_live/out/addr2line_live
+TESTS = crates/command_loop_tests/out/command_loop_tests_tests
 INSTALLED = $(DESTDIR)$(PREFIX)
 COMPILERS = gcc g++ objcopy
 READERS = readelf objdump nm addr2line llvm-symbolizer llvm-dwarfdump
@@ -94,7 +95,8 @@ fuzz:
 memory:
 	@tools/needs.sh memory rt python3 cc
 	@tools/build.sh addr2line_live
-	tools/memory.py $(PROGRAM) $(or $(DURATION),60)
+	cd crates/command_loop_tests && rt test > ../../out/tests.log 2>&1
+	tools/memory.py $(PROGRAM) $(TESTS) $(or $(DURATION),60)
 
 # One process over many commands; then full and closed outputs, and odd files.
 long-run:

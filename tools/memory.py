@@ -2,10 +2,11 @@
 """Runs the program with each growth of memory, each read and each write refused in turn, by a
 library that is loaded before it (tools/refuse.c).
 
-memory.py PROGRAM SECONDS tries each number of each script below: the call of that number fails, or
-it and all later ones. It fails where the outcome is none of those that the script may have.
-Scripts of chance follow until SECONDS are over, whose outcomes are those of a plain session
-without some of the objects.
+memory.py PROGRAM TESTS SECONDS tries each number of each script below: the call of that number
+fails, or it and all later ones. It fails where the outcome is none of those that the script may
+have. The first script is run once more by a test of TESTS, over I/O streams of fixed memory: the
+test prints which outcome it had, and each must come. Random scripts follow until SECONDS are over,
+whose outcomes are those of a plain session without some of the objects.
 """
 import os
 import random
@@ -22,6 +23,7 @@ TOOLS = Path(__file__).parent
 SAMPLE = (TOOLS / "../crates/measure/data/inlined").read_bytes()
 REAL = (TOOLS / "demo.stored").read_bytes()
 NO_MEMORY = b"addr2line_live: no memory\n"
+TEST_OUTCOMES = [b"outcome: all replies", b"outcome: without the object", b"outcome: no memory"]
 SCRIPT = [b"load a 0x10000 A", b"11004", b"move a 0x20000", b"21004", b"unload a"]
 BESIDE = [b"load a 0x10000 A", b"11004", b"load b 0x30000 D", b"list", b"11004", b"11008", b"31060",
           b"move a 0x20000", b"21004", b"unload b", b"list"]
@@ -67,6 +69,24 @@ class Runner:
         told = (f"{count} times {name}" for name, count in sorted(seen.items(), key=str))
         print(f"{' '.join(words) or 'no words'}, {len(lines)} lines: {counts[0]} growths, "
               + ", ".join(told), flush=True)
+
+
+    def each_growth_of_a_test(self, tests, name, outcomes):
+        """Refuses each growth of a test in turn. It must pass, and print each of the outcomes."""
+        self.program, program = os.path.abspath(tests), self.program
+        _, counts = self.run([name], [])
+        seen = Counter()
+        for number in range(1, counts[0] + 1):
+            (status, text, _), _ = self.run([name], [], REFUSE=number)
+            told = [outcome for outcome in outcomes if outcome in text.splitlines()]
+            seen.update(told)
+            if status or len(told) != 1:
+                self.wrong.append(f"growth {number} of {name}: status {status}, {text}")
+        self.program = program
+        for outcome in set(outcomes) - set(seen):
+            self.wrong.append(f"{name}: no growth that is refused gives {outcome}")
+        told = (f"{count} times {outcome.decode()}" for outcome, count in sorted(seen.items()))
+        print(f"{name}: {counts[0]} growths, " + ", ".join(told), flush=True)
 
 
 def plain(folder, letters, lines, without=()):
@@ -167,7 +187,7 @@ def chance(runner, folder, seconds):
 
 
 def main():
-    program, seconds = sys.argv[1], float(sys.argv[2])
+    program, tests, seconds = sys.argv[1], sys.argv[2], float(sys.argv[3])
     print("memory: each growth of memory, each read and each write refused in turn", flush=True)
     start = time.monotonic()
     with tempfile.TemporaryDirectory() as folder:
@@ -180,6 +200,7 @@ def main():
         runner = Runner(program, library, folder)
         for words, lines, allowed in [*scripts(folder), *words_alone(runner)]:
             runner.each_growth(words, lines, merged(allowed))
+        runner.each_growth_of_a_test(tests, "failures::memory_fails", TEST_OUTCOMES)
         devices(runner)
         chance(runner, folder, seconds - (time.monotonic() - start))
     for wrong in runner.wrong[:10]:
