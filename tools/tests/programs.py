@@ -1,10 +1,14 @@
 """What the tests of the tools share: the program, and objects that gcc compiles for a test."""
 import os
 import subprocess
+import sys
 from pathlib import Path
 
 TOP = Path(__file__).resolve().parents[2]
 TOOLS = TOP / "tools"
+sys.path.insert(0, str(TOOLS))
+import live
+
 PROGRAM = Path(os.environ.get("ADDR2LINE_LIVE", TOP / "crates/addr2line_live/out/addr2line_live"))
 
 
@@ -43,23 +47,11 @@ def tool(name, *arguments, text=""):
     return output_of(TOOLS / name, *arguments, text=text)
 
 
-class Live:
+class Live(live.Live):
     """An addr2line_live that stays up."""
 
     def __init__(self, *options):
-        pipe = subprocess.PIPE
-        self.running = subprocess.Popen([PROGRAM, *options], stdin=pipe, stdout=pipe, text=True)
-
-    def say(self, line):
-        """The lines of the reply to a line."""
-        self.running.stdin.write(f"{line}\n.\n")
-        self.running.stdin.flush()
-        lines = []
-        for told in self.running.stdout:
-            if told == "refused command\n":
-                return lines
-            lines.append(told.rstrip("\n"))
-        raise EOFError("addr2line_live has ended")
+        super().__init__(*options, path=PROGRAM)
 
     def end(self):
         """The exit status after the end of input."""

@@ -27,6 +27,13 @@ int main(void)
     return spin(300000000) == 1;
 }
 """
+METHODS = """
+namespace net { struct Parser { __attribute__((noinline)) int run(int); }; }
+namespace db { struct Query { __attribute__((noinline)) int run(int); }; }
+int net::Parser::run(int x) { return x + 1; }
+int db::Query::run(int x) { return x + 2; }
+int main(int count, char **) { return net::Parser().run(count) + db::Query().run(count); }
+"""
 STEP, SPIN, MAIN = 4, 10, 15  # the lines of the product and of the calls of `step` and `spin`
 HEAD = "spin 12 1.000001:  250000 cpu-clock: "
 
@@ -100,6 +107,21 @@ class SymbolizePerf(unittest.TestCase):
             f"\t0 _init+0x0 ({self.path})\n"
         )
         self.assertEqual(tool("symbolize_perf", text=text), text)
+
+    @unittest.skipUnless(shutil.which("c++filt"), "c++filt is not installed")
+    def test_methods_of_one_name(self):
+        """Two methods that are called alike keep their classes."""
+        source = self.folder / "methods.cc"
+        source.write_text(METHODS)
+        path = self.folder / "methods"
+        output_of("g++", "-g", "-gdwarf-5", "-O1", "-no-pie", "-o", path, source)
+        symbols = [line.split() for line in output_of("nm", path).splitlines()]
+        starts = [int(words[0], 16) - 0x400000 for words in symbols if "3run" in words[-1]]
+        text = HEAD + "\n" + "".join(f"\t{start:x} run+0x0 ({path})\n" for start in starts[:1])
+        shown = tool("symbolize_perf", text=text)
+        self.assertIn(f" db::Query::run(int) ({source}:5)\n", shown)
+        text = HEAD + "\n" + "".join(f"\t{start:x} run+0x0 ({path})\n" for start in starts[1:])
+        self.assertIn(f" net::Parser::run(int) ({source}:4)\n", tool("symbolize_perf", text=text))
 
     @unittest.skipUnless(shutil.which("perf"), "perf is not installed")
     def test_a_recorded_process(self):

@@ -1,0 +1,27 @@
+"""Demangled names, by one c++filt."""
+import shutil
+import subprocess
+
+
+class Demangler:
+    """A c++filt, started at the first name. Without it names stay as they are."""
+
+    def __init__(self, style="auto"):
+        self.command = ["c++filt", *([] if style == "auto" else [f"--format={style}"])]
+        self.running, self.known = None, {}
+
+    def name(self, name):
+        if name not in self.known:
+            self.known[name] = self.asked(name)
+        return self.known[name]
+
+    def asked(self, name):
+        if not self.running and shutil.which(self.command[0]):
+            pipes = {"stdin": subprocess.PIPE, "stdout": subprocess.PIPE}
+            text = {"encoding": "utf-8", "errors": "surrogateescape"}
+            self.running = subprocess.Popen(self.command, **pipes, **text)
+        if not self.running:
+            return name
+        self.running.stdin.write(f"{name}\n")
+        self.running.stdin.flush()
+        return self.running.stdout.readline().rstrip("\n") or name

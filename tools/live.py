@@ -1,0 +1,44 @@
+"""A client of addr2line_live: one process that answers line by line."""
+import os
+import shutil
+import subprocess
+from pathlib import Path
+
+TOOLS = Path(__file__).resolve().parent
+BUILT = TOOLS.parent / "crates/addr2line_live/out/addr2line_live"
+INSTALLED = TOOLS.parent.parent / "bin/addr2line_live"
+
+
+def program():
+    """The program to start: $ADDR2LINE_LIVE, or the one beside these tools, or the one in PATH."""
+    beside = next((str(path) for path in (BUILT, INSTALLED) if path.exists()), None)
+    found = os.environ.get("ADDR2LINE_LIVE") or beside or shutil.which("addr2line_live")
+    return found or "addr2line_live"
+
+
+class Ended(Exception):
+    """The process ended before its reply did."""
+
+
+class Live:
+    """An addr2line_live with these options."""
+
+    def __init__(self, *options, path=None):
+        pipes = {"stdin": subprocess.PIPE, "stdout": subprocess.PIPE}
+        text = {"encoding": "utf-8", "errors": "surrogateescape"}
+        self.running = subprocess.Popen([path or program(), *options], **pipes, **text)
+
+    def say(self, line):
+        """Returns the lines of the reply to a line. A line that is no command follows it: the
+        reply to that one marks the end."""
+        try:
+            self.running.stdin.write(f"{line}\n.\n")
+            self.running.stdin.flush()
+        except BrokenPipeError as fault:
+            raise Ended from fault
+        lines = []
+        for reply in self.running.stdout:
+            if reply == "refused command\n":
+                return lines
+            lines.append(reply.rstrip("\n"))
+        raise Ended
