@@ -61,7 +61,9 @@ install: program
 	install -D -m 644 docs/PROTOCOL.md $(INSTALLED)/share/doc/addr2line_live/PROTOCOL.md
 	install -D -m 755 tools/loads_of_process $(INSTALLED)/libexec/addr2line_live/loads_of_process
 	install -D -m 755 tools/symbolize_perf $(INSTALLED)/libexec/addr2line_live/symbolize_perf
-	install -D -m 644 tools/loaded_objects.py $(INSTALLED)/libexec/addr2line_live/loaded_objects.py
+	install -D -m 755 tools/addr2line $(INSTALLED)/libexec/addr2line_live/addr2line
+	for module in debug_files demangle live loaded_objects; do \
+	    install -D -m 644 tools/$$module.py $(INSTALLED)/libexec/addr2line_live/$$module.py; done
 
 # Real processes, perf's text, a library that comes and goes, and the clients of docs/PROTOCOL.md.
 tools-test:

@@ -44,6 +44,11 @@ class Install(unittest.TestCase):
         loads = self.run_installed("loads_of_process", "-", text=maps)
         self.assertEqual(loads, f"load app 0 {self.path}\n")
 
+    def test_addr2line(self):
+        words = ["-e", self.path, "-f", hex(self.main)]
+        self.assertEqual(self.run_installed("addr2line", *words, text=""),
+                         f"main\n{self.path}.c:2\n")
+
     def test_symbolize_perf(self):
         place = f"\t{self.main - 0x400000:x} main"
         text = f"{SAMPLE}{place}+0x0 ({self.path})\n"

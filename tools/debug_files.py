@@ -1,0 +1,123 @@
+"""Debug information of ELF objects: separate debug files, and compressed sections.
+
+A stripped object names its debug file by its build id and by its debug link. The files are looked
+for where gdb looks: FOLDER/.build-id/NN/REST.debug, and the debug link beside the object, in
+.debug beside it, and in FOLDER under the object's own folder. FOLDER is /usr/lib/debug, and each
+folder of DEBUGINFOD_CACHE_PATH or debuginfod's cache has BUILDID/debuginfo. Objects with compressed
+sections are decompressed by objcopy into a cache.
+"""
+import os
+import struct
+import subprocess
+import sys
+import tempfile
+from pathlib import Path
+from typing import NamedTuple
+
+FOLDERS = ("/usr/lib/debug",)
+COMPRESSED, NOBITS = 0x800, 8  # SHF_COMPRESSED among the flags, SHT_NOBITS among the types
+
+
+class Section(NamedTuple):
+    kind: int
+    flags: int
+    address: int
+    offset: int
+    size: int
+
+
+def sections(path):
+    """The sections of a 64-bit little-endian ELF object by their names; none of another file."""
+    try:
+        with open(path, "rb") as file:
+            header = file.read(64)
+            if len(header) < 64 or header[:6] != b"\x7fELF\x02\x01":
+                return {}
+            file.seek(int.from_bytes(header[40:48], "little"))
+            size, count, names = struct.unpack_from("<HHH", header, 58)
+            rows = [struct.unpack("<IIQQQQIIQQ", file.read(64)) for _ in range(count)]
+            if size != 64 or names >= count:
+                return {}
+            file.seek(rows[names][4])
+            text = file.read(rows[names][5])
+    except (OSError, struct.error):
+        return {}
+    return {text[row[0] :].split(b"\0", 1)[0].decode("latin-1"): Section(*row[1:6]) for row in rows}
+
+
+def contents(path, section):
+    with open(path, "rb") as file:
+        file.seek(section.offset)
+        return file.read(section.size)
+
+
+def build_id(path, found):
+    """The build id in hexadecimal, or None."""
+    note = found.get(".note.gnu.build-id")
+    return contents(path, note)[16:].hex() if note else None
+
+
+def debug_link(path, found):
+    """The name of the debug file, or None."""
+    link = found.get(".gnu_debuglink")
+    name = contents(path, link).split(b"\0", 1)[0] if link else b""
+    return os.fsdecode(name) or None
+
+
+def caches():
+    """Folders in which debuginfod's clients store what they downloaded."""
+    home = os.environ.get("XDG_CACHE_HOME") or os.path.expanduser("~/.cache")
+    return [os.environ.get("DEBUGINFOD_CACHE_PATH") or os.path.join(home, "debuginfod_client")]
+
+
+def candidates(path, found, folders):
+    """Where the debug file of an object may be, in the order in which it is looked for."""
+    identity, name = build_id(path, found), debug_link(path, found)
+    if identity:
+        for folder in folders:
+            yield Path(folder, ".build-id", identity[:2], identity[2:] + ".debug")
+        for folder in caches():
+            yield Path(folder, identity, "debuginfo")
+    if name:
+        beside = Path(path).resolve().parent
+        yield from (beside / name, beside / ".debug" / name)
+        yield from (Path(str(folder) + str(beside), name) for folder in folders)
+
+
+def has_debug(found):
+    info = found.get(".debug_info") or found.get(".debug_line")
+    return bool(info) and info.kind != NOBITS
+
+
+def decompressed(path, found):
+    """The object without compressed sections: itself, or a copy in the cache."""
+    if not any(row.flags & COMPRESSED for row in found.values()):
+        return str(path)
+    home = os.environ.get("XDG_CACHE_HOME") or os.path.expanduser("~/.cache")
+    status = os.stat(path)
+    name = build_id(path, found) or f"{status.st_dev:x}-{status.st_ino:x}"
+    copy = Path(home, "addr2line_live", f"{name}-{status.st_size:x}-{status.st_mtime_ns:x}")
+    if not copy.exists():
+        copy.parent.mkdir(parents=True, exist_ok=True)
+        with tempfile.NamedTemporaryFile(dir=copy.parent, delete=False) as part:
+            command = ["objcopy", "--decompress-debug-sections", str(path), part.name]
+        try:
+            subprocess.run(command, check=True, stderr=subprocess.PIPE)
+            os.replace(part.name, copy)
+        except (OSError, subprocess.CalledProcessError) as fault:
+            os.unlink(part.name)
+            print(f"{path}: not decompressed: {fault}", file=sys.stderr)
+            return str(path)
+    return str(copy)
+
+
+def with_debug(path, folders=FOLDERS):
+    """The file to load in place of an object: the object itself if it has debug information, else
+    its debug file if there is one; without compressed sections."""
+    found = sections(path)
+    if not has_debug(found):
+        for candidate in candidates(path, found, folders):
+            other = sections(candidate)
+            if has_debug(other):
+                return decompressed(candidate, other)
+    return decompressed(path, found)
