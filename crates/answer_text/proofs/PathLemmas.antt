@@ -1,12 +1,15 @@
 -- Paths, part by part.
 use Rattle.std.proofs.Common.{◌≡◌, ◌≢◌, ℕ, ◌+◌, ◌-◌, Bool, List, [], ◌∷◌, ◌++◌, length, drop, cond}
+use Rattle.std.proofs.Common.{true, false, take, get_or, subst, ◌<◌}
 use Rattle.std.proofs.Common.{refl, sym, ap, ap₂, ◌∙◌, append_assoc}
 use Rattle.std.proofs.Common.{append-nil, arith, map, length-append}
-use Rattle.std.specs.Prelude.{not, ◌==◌, flat_map, reverse, Some}
+use Rattle.std.specs.Prelude.{not, ◌==◌, flat_map, reverse, Some, None}
 use Rattle.std.specs.List.{suffix_len, prefix_len, join_with_byte}
 use Rattle.std.proofs.lemmas.List.{reverse-append, map-append}
-use Rattle.std.proofs.lemmas.List.Sums.{suffix_len-le-length}
+use Rattle.std.proofs.lemmas.List.Sums.{suffix_len-le-length, suffix_len_is}
+use Rattle.std.proofs.lemmas.List.{take_rest}
 use Rattle.std.proofs.Math.Seq.{drop-append-add}
+use Rattle.bstr.specs.Find.{IsLastByte, is_byte}
 use Rattle.answer_text.specs.Printable.{printable, known_text}
 use Rattle.answer_text.specs.Text.{base_name}
 use Rattle.answer_text.specs.Private.Paths.{last_behind, slashed}
@@ -45,6 +48,36 @@ base_behind part rest =
     ) in
     ap₂ drop far glued ∙ drop-append-add (part ++ 47 ∷ []) rest
     (length rest - suffix_len is_other rest)
+
+-- the test of the byte at an index, as its negation
+other_byte : (b : Bool) → (b ≡ true → ⊥) → not b ≡ true
+other_byte true never = absurd (never refl)
+other_byte false never = refl
+
+slash_byte : (b : Bool) → b ≡ true → not b ≡ false
+slash_byte b e = rw e refl
+
+-- all of a path without a slash
+pub no_slash : (path : List ℕ) → IsLastByte (is_byte 47) path None → path ≡ base_name path
+no_slash path nowhere =
+    let all : suffix_len is_other path ≡ length path - 0 =
+    suffix_len_is is_other path 0 0 (omega arith)
+    (λ k low lt. other_byte (get_or path k 0 == 47) (nowhere k low lt))
+    (λ (lt : 0 < 0). absurd (omega (arith, lt))) in
+    let start : 0 ≡ length path - suffix_len is_other path = omega (arith, all) in
+    ap (λ (n : ℕ). drop n path) start
+
+-- what follows the last slash
+pub last_slash : (path : List ℕ) (at : ℕ) → IsLastByte (is_byte 47) path (Some at)
+    → take (length path - (at + 1)) (drop (at + 1) path) ≡ base_name path
+last_slash path at found =
+    let here : at ≡ at + 1 - 1 = omega arith in
+    let rest : suffix_len is_other path ≡ length path - (at + 1) =
+    suffix_len_is is_other path (at + 1) 0 (omega (arith, found.0.high))
+    (λ k low lt. other_byte (get_or path k 0 == 47) (found.0.after k low lt))
+    (λ lt. subst (λ (k : ℕ). is_other (get_or path k 0) ≡ false) here
+    (slash_byte (get_or path at 0 == 47) found.1)) in
+    take_rest path (at + 1) ∙ ap (λ (n : ℕ). drop n path) (omega (arith, rest, found.0.high))
 
 -- it stands in the last part
 base_of_behind : (parts : List (List ℕ)) (part : List ℕ)

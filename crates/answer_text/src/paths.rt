@@ -11,16 +11,16 @@ ghost use Rattle.answer_text.specs.Private.Paths.{last_behind, slashed};
 use crate::devices::{DeviceFault, Sink};
 use crate::pending::Pending;
 use addr_table::Path;
+use bstr::ByteSlice;
 
 /// What follows the last slash of a path: all of it where there is none.
 fn base_name(path: &[u8]) -> &[u8]
     ensures { result.now ≡ base_name path.now }
 {
-    let mut start = path.len();
-    while start > 0 && path[start - 1] != b'/' {
-        start -= 1;
+    match path.rfind_byte(b'/') {
+        None => path,
+        Some(slash) => &path[slash + 1..],
     }
-    &path[start..]
 }
 
 /// The last part of a path; nothing where it has none.

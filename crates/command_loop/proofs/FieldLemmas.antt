@@ -2,15 +2,18 @@
 use Rattle.std.proofs.Common.{◌≡◌, ℕ, ◌+◌, ◌-◌, ◌<◌, ◌≤◌, Bool, true, false, nat_lt, cond, List, []}
 use Rattle.std.proofs.Common.{◌∷◌, length, take, drop, get_or}
 use Rattle.std.proofs.Common.{refl, sym, ◌∙◌, ap, subst, arith}
-use Rattle.std.specs.Prelude.{Option, None, Some, is_some, option_copied, position, ◌==◌, IsUtf8}
-use Rattle.std.specs.Prelude.{Err}
+use Rattle.std.specs.Prelude.{Option, None, Some, is_some, option_copied, ◌==◌, IsUtf8}
+use Rattle.std.specs.Prelude.{Err, not}
 use Rattle.std.specs.List.{position_or_len, join_with_byte, list_all}
 use Rattle.std.proofs.lemmas.Bool.{ltb-true, lt-ltb, false≢true}
 use Rattle.std.proofs.lemmas.List.{take_rest, get_or_past}
 use Rattle.std.proofs.lemmas.List.Elements.{All-from_get_or, All-get_or}
-use Rattle.std.proofs.lemmas.List.Sums.{fails_before_first, AllPass-from_list_all}
+use Rattle.std.proofs.lemmas.List.Sums.{position_or_len_is, AllPass-from_list_all}
+use Rattle.std.proofs.lemmas.List.Sums.{list_all-from_AllPass}
+use Rattle.std.proofs.lemmas.List.Folds.{list_all_at}
 use Rattle.std.proofs.lemmas.Str.{IsUtf8-from_ascii, IsUtf8-from_is_utf8}
 use Rattle.std.specs.Str.{is_utf8}
+use Rattle.bstr.specs.Find.{IsFirstByte, is_byte}
 use Rattle.std.specs.Borrow.{Bor}
 use Rattle.std.proofs.lemmas.Bool.Decides.{nat_tests}
 use Rattle.std.proofs.lemmas.List.Splits.{slice_split_first, slice_split_none}
@@ -25,42 +28,54 @@ use Rattle.answer_text.specs.Numbers.{number}
 abbrev pub is_space : ℕ → Bool
 is_space byte = byte == 32
 
-found_at : (v : Bool) (n at : ℕ) → Some at ≡ cond v (Some n) None → (v ≡ true) × (at ≡ n)
-found_at true n at h = (refl, cc)
-found_at false n at h = cc
-
-none_at : (v : Bool) (n : ℕ) → None ≡ cond v (Some n) None → v ≡ false
-none_at true n h = cc
-none_at false n h = refl
+no_pass : (v : Bool) → (v ≡ true → ⊥) → v ≡ false
+no_pass true never = absurd (never refl)
+no_pass false never = refl
 
 not_less : (a b : ℕ) → nat_lt a b ≡ false → b ≤ a
 not_less a b e = omega (arith, λ (lt : a < b). false≢true (sym e ∙ lt-ltb a b lt))
 
-not_below : (a b k : ℕ) → nat_lt a b ≡ false → k < b → k < a
-not_below a b k e h = at (nat_lt a b) refl
-  where
-    at : (v : Bool) → nat_lt a b ≡ v → k < a
-    at true t = absurd (false≢true (sym e ∙ t))
-    at false t = omega (arith, λ (lt : a < b). false≢true (sym e ∙ lt-ltb a b lt))
-
-pub no_space : (text : List ℕ) → None ≡ position is_space text → fields text ≡ text ∷ []
-no_space text h =
-    let beyond = none_at (nat_lt (position_or_len is_space text) (length text))
-    (position_or_len is_space text) h in
+pub no_space : (text : List ℕ) → IsFirstByte (is_byte 32) text None → fields text ≡ text ∷ []
+no_space text nowhere =
     slice_split_none is_space text (All-from_get_or (λ x. is_space x ≡ false) text 0
-    (λ i lt. fails_before_first is_space text i 0
-    (not_below (position_or_len is_space text) (length text) i beyond lt)))
+    (λ i lt. no_pass (is_space (get_or text i 0)) (nowhere i (omega arith) lt)))
 
-pub one_space : (text : List ℕ) (at : ℕ) → Some at ≡ position is_space text
+pub one_space : (text : List ℕ) (at : ℕ) → IsFirstByte (is_byte 32) text (Some at)
     → fields text ≡ take at text ∷ fields (take (length text - (at + 1)) (drop (at + 1) text))
-one_space text at h =
+one_space text at found =
     let n : ℕ = position_or_len is_space text in
-    let w = found_at (nat_lt n (length text)) n at h in
+    let there : n ≡ at =
+    position_or_len_is is_space text at 0 (omega (arith, found.0.high))
+    (λ k lt. no_pass (is_space (get_or text k 0)) (found.0.before k (omega arith) lt))
+    (λ lt. found.1) in
     let cut : fields text ≡ take n text ∷ fields (drop (n + 1) text) =
-    slice_split_first is_space text 0 (ltb-true n (length text) w.0) in
+    slice_split_first is_space text 0 (omega (arith, there, found.0.high)) in
     let P : ℕ → Type 0 = λ z. fields text ≡ take z text ∷ fields (drop (z + 1) text) in
-    subst P (sym w.1) cut ∙ ap (λ (z : List ℕ). take at text ∷ fields z)
+    subst P there cut ∙ ap (λ (z : List ℕ). take at text ∷ fields z)
     (sym (take_rest text (at + 1)))
+
+-- a path has no NUL where a search finds none
+abbrev is_no_nul : ℕ → Bool
+is_no_nul byte = not (byte == 0)
+
+no_nul_at : (v : Bool) → (v ≡ true → ⊥) → not v ≡ true
+no_nul_at true never = absurd (never refl)
+no_nul_at false never = refl
+
+nul_at : (v : Bool) → v ≡ true → not v ≡ false
+nul_at v e = rw e refl
+
+pub negated : (a b : Bool) → a ≡ not b → b ≡ not a
+negated a true h = rw h refl
+negated a false h = rw h refl
+
+pub finds_no_nul : (text : List ℕ) (found : Option ℕ) → IsFirstByte (is_byte 0) text found
+    → not (is_some found) ≡ list_all is_no_nul text
+finds_no_nul text None nowhere =
+    sym (list_all-from_AllPass is_no_nul text (All-from_get_or (λ x. is_no_nul x ≡ true) text 0
+    (λ i lt. no_nul_at (get_or text i 0 == 0) (nowhere i (omega arith) lt))))
+finds_no_nul text (Some at) found =
+    sym (list_all_at is_no_nul text at 0 found.0.high (nul_at (get_or text at 0 == 0) found.1))
 
 -- the fields of a load
 pub load_cut : (operands rest path name base : List ℕ) → fields operands ≡ name ∷ fields rest

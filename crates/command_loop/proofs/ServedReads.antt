@@ -7,7 +7,7 @@ use Rattle.std.proofs.lemmas.Bool.{eqb-true}
 use Rattle.std.proofs.lemmas.List.{get_or-take, take_all, length-drop}
 use Rattle.answer_text.specs.declared.options.Options.{Options}
 use Rattle.command_loop.proofs.LineLemmas.{HasNoFeed}
-use Rattle.memchr.specs.Find.{IsFirstByte, is_byte}
+use Rattle.bstr.specs.Find.{IsFirstByte, is_byte}
 use Rattle.command_loop.specs.Lines.{longer}
 use Rattle.command_loop.specs.Output.{Exchanges}
 use Rattle.command_loop.specs.Private.Progress.{RunState, ReadSoFar, ReadsOn, StopsWithin}

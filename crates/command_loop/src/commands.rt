@@ -11,7 +11,7 @@ ghost use Rattle.answer_text.specs.Numbers.{number};
 ghost use Rattle.command_loop.specs.Private.Commands.{parsed, cut_parts};
 
 use answer_text::parse_number;
-use std::str;
+use bstr::ByteSlice;
 use thiserror::Error;
 
 /// Why a line is no request.
@@ -47,18 +47,11 @@ pub enum Command<'a> {
     Ask(u64),
 }
 
-/// The place of the first space.
-fn first_space(text: &[u8]) -> Option<usize>
-    ensures { result ≡ position (λ byte. byte == 32) text.now }
-{
-    text.iter().position(|byte| *byte == b' ')
-}
-
 /// What stands before the first space, and what follows it, if there is one.
 fn cut(text: &[u8]) -> (&[u8], Option<&[u8]>)
     ensures { fields text.now ≡ result.0.now ∷ cut_parts (option_copied result.1) }
 {
-    match first_space(text) {
+    match text.find_byte(b' ') {
         None => (text, None),
         Some(at) => (&text[..at], Some(&text[at + 1..])),
     }
@@ -81,7 +74,7 @@ fn are_name_parts(text: &[u8]) -> bool
 fn has_no_nul(text: &[u8]) -> bool
     ensures { result ≡ list_all (λ byte. not (byte == 0)) text.now }
 {
-    text.iter().all(|byte| *byte != 0)
+    text.find_byte(0).is_none()
 }
 
 /// The text of a name.
@@ -93,7 +86,7 @@ fn parse_name(text: &[u8]) -> Option<&str>
     if text.is_empty() || text.len() > 64 || !are_name_parts(text) {
         return None;
     }
-    match str::from_utf8(text) {
+    match text.to_str() {
         Ok(name) => Some(name),
         Err(_) => None,
     }
@@ -108,7 +101,7 @@ fn parse_path(text: &[u8]) -> Option<&str>
     if text.is_empty() || !has_no_nul(text) {
         return None;
     }
-    match str::from_utf8(text) {
+    match text.to_str() {
         Ok(path) => Some(path),
         Err(_) => None,
     }

@@ -8,7 +8,7 @@ ghost use Rattle.command_loop.specs.Private.Progress.{RunState, ReadsOn, StopsWi
 use crate::line_buffer::LineBuffer;
 use crate::serving::serve;
 use answer_text::{DeviceFault, Feed, Objects, Options, RunFault, Sink};
-use memchr::memchr;
+use bstr::ByteSlice;
 use module_map::Modules;
 
 /// The modules, and the line that is being read.
@@ -83,7 +83,7 @@ impl Session {
         ensures failures { W.failures writer.new ≡ failures_after (W.failures writer.old) result }
     {
         let mut rest = piece;
-        'lines: while let Some(end) = memchr(b'\n', rest) {
+        'lines: while let Some(end) = rest.find_byte(b'\n') {
             self.line.extend(&rest[..end]);
             self.end_line(options, writer, source)?;
             rest = &rest[end + 1..];

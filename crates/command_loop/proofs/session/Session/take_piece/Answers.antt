@@ -9,7 +9,7 @@ lines-init g c = (served_none _ _ _ _, refl)
 
 pub lines-preserved : goal.lines-preserved
 lines-preserved g c = (
-  serves_line _ _ _ _ _ _ _ _ _ _ (cut_at_feed _ _ _ c.in-Some.is c.memchr.ensures)
+  serves_line _ _ _ _ _ _ _ _ _ _ (cut_at_feed _ _ _ c.in-Some.is c.find_byte.ensures)
       c.lines.invariant.0
       (rw c.extend.ensures at c.in_ok-end_line.ensures.goes_on),
   c.in_ok-end_line.ensures.failures ∙ c.lines.invariant.1,
@@ -19,11 +19,11 @@ pub returns-in_err-end_line-clause-breaks : goal.returns-in_err-end_line-clause-
 returns-in_err-end_line-clause-breaks g c =
     let p =
     err_from_is_err_and c.from_residual.result c.from_residual.ensures.1 in rw (p.1)
-    (breaks_at_line _ _ _ _ _ _ _ _ _ _ (cut_at_feed _ _ _ c.in-Some.is c.memchr.ensures)
+    (breaks_at_line _ _ _ _ _ _ _ _ _ _ (cut_at_feed _ _ _ c.in-Some.is c.find_byte.ensures)
     c.lines.invariant.0
     (rw c.extend.ensures at c.in_err-end_line.ensures.breaks))
 
 pub returns-clause-goes_on : goal.returns-clause-goes_on
 returns-clause-goes_on g c =
-    rw c.extend-2.ensures (serves_rest _ _ _ _ _ _ _ (no_feed _ _ c.in_default.is c.memchr.ensures)
+    rw c.extend-2.ensures (serves_rest _ _ _ _ _ _ _ (no_feed _ _ c.in_default.is c.find_byte.ensures)
     c.lines.invariant.0)
