@@ -1,8 +1,10 @@
 //! The run.
 
-ghost use Rattle.std.specs.Prelude.{◌≡◌, ℕ, ◌≤◌, List, [], ◌++◌, length, Option, OnOk, IsErrOf};
+ghost use Rattle.std.specs.Prelude.{◌≡◌, ◌≢◌, ℕ, ◌≤◌, List, [], ◌++◌, length, Option, OnOk};
+ghost use Rattle.std.specs.Prelude.{IsErrOf};
 ghost use Rattle.std.specs.Prelude.{IfErr, IfOk};
 ghost use Rattle.std.specs.Io.KnownBytes.{Consumes, Keeps};
+ghost use Rattle.answer_text.specs.declared.faults.ExeFault.{ExeFault};
 ghost use Rattle.command_loop.specs.Lines.{lines, ended_lines};
 ghost use Rattle.command_loop.specs.Requests.{requests};
 ghost use Rattle.command_loop.specs.Devices.{read_failures_after, write_failures_after};
@@ -40,10 +42,14 @@ pub fn run<R: Feed, W: Sink, O: Objects>(
     ensures writing { IsErrOf result RunFault.Writing →
         Stopped options.now (R.left reader.old) (R.left reader.new) (O.asked source.old)
         (O.asked source.new) (W.written writer.old) (W.written writer.new) }
-    // Without memory to begin with, nothing was read, asked or written.
-    ensures memory { IsErrOf result RunFault.Memory →
-        (R.left reader.new ≡ R.left reader.old) × (O.asked source.new ≡ O.asked source.old)
-        × (W.written writer.new ≡ W.written writer.old) }
+    // Without memory for the cache, the reader, the writer and the source are not used at all.
+    ensures memory { IsErrOf result RunFault.Memory → (reader.new ≡ reader.old)
+        × (writer.new ≡ writer.old) × (source.new ≡ source.old) }
+    // The reader is not used if there are addresses to answer.
+    ensures unread { asks options.now ≢ [] → reader.new ≡ reader.old }
+    // Neither the reader nor the writer is used if the object of the command line is refused.
+    ensures unused { (why : ExeFault) → IsErrOf result (RunFault.Exe why) →
+        (reader.new ≡ reader.old) × (writer.new ≡ writer.old) }
     // Where the object of the command line is refused, nothing but its path was asked.
     ensures exe { IfErr result
         (Refused (exe_of options.now) (R.left reader.old) (R.left reader.new) (O.asked source.old)

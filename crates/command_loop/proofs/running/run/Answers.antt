@@ -44,6 +44,10 @@ returns-then-is_empty-clause-writing g c =
     (no_words _ _ _ c.deref-words.ensures.value c.is_empty.ensures c.if-is_empty.true)
     c.in-Ok-begin.ensures c.serve_input.ensures.reads
 
+pub returns-then-is_empty-clause-unread : goal.returns-then-is_empty-clause-unread
+returns-then-is_empty-clause-unread g c = λ some. absurd
+    (some (no_words _ _ _ c.deref-words.ensures.value c.is_empty.ensures c.if-is_empty.true))
+
 pub returns-then-is_err-clause-writing : goal.returns-then-is_err-clause-writing
 returns-then-is_err-clause-writing g c =
     let start : RunState =
