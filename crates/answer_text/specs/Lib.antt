@@ -4,4 +4,5 @@ pub mod Numerals
 pub mod Numbers
 pub mod Pending
 pub mod Text
+pub mod Words
 pub mod Private

@@ -1,20 +1,34 @@
 //! Why a source gives no bytes, and why a run ends early.
 
+ghost use Rattle.std.specs.Prelude.{◌≡◌};
+ghost use Rattle.answer_text.specs.Words.{fetch_word};
+
 use module_map::MapFault;
 use thiserror::Error;
 
 /// Why a source gives no bytes.
 #[derive(Clone, Copy, Debug, PartialEq, Eq, Error)]
+#[error("{}", self.word())]
 pub enum FetchFault {
     /// The file cannot be opened or read.
-    #[error("file")]
     File = 1,
     /// The file is over the limit of an object's bytes.
-    #[error("too-large")]
     TooLarge = 2,
     /// The file does not fit into memory.
-    #[error("memory")]
     Memory = 3,
+}
+
+impl FetchFault {
+    /// The word after `refused`.
+    pub fn word(self) -> &'static str
+        ensures { result.now ≡ fetch_word self }
+    {
+        match self {
+            FetchFault::File => "file",
+            FetchFault::TooLarge => "too-large",
+            FetchFault::Memory => "memory",
+        }
+    }
 }
 
 /// Why the object that is to be loaded first is not loaded.

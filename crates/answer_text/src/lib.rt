@@ -14,6 +14,6 @@ mod printing;
 pub use devices::{Device, DeviceFault, Feed, Objects, Sink};
 pub use faults::{ExeFault, FetchFault, RunFault};
 pub use numerals::{address_text, parse_number};
-pub use options::{DEFAULT_CACHE, Options};
+pub use options::Options;
 pub use pending::{Pending, write_texts};
 pub use printing::print;

@@ -4,9 +4,6 @@ ghost use Rattle.std.specs.Prelude.{◌≡◌, [], false, None};
 
 use std::alloc::Global;
 
-/// The answers that are kept in the cache, where nothing else is said.
-pub const DEFAULT_CACHE: usize = 1024;
-
 /// What the command line says.
 #[derive(Debug, Drop)]
 pub struct Options {
@@ -31,13 +28,13 @@ pub struct Options {
 }
 
 impl Options {
-    /// No option and no word, and a cache of 1,024 answers. It takes no memory.
+    /// No option, no word, and no cache. It takes no memory.
     pub fn plain(alloc: Global) -> Options
         ensures flags { (result.addresses ≡ false) × (result.functions ≡ false)
             × (result.inlines ≡ false)
             × (result.pretty ≡ false) × (result.basenames ≡ false) × (result.linkage ≡ false) }
         ensures exe { result.exe ≡ None }
-        ensures cache { result.cache ≡ 1024 }
+        ensures cache { result.cache ≡ 0 }
         ensures words { result.words.items ≡ [] }
     {
         Options {
@@ -48,7 +45,7 @@ impl Options {
             basenames: false,
             linkage: false,
             exe: None,
-            cache: DEFAULT_CACHE,
+            cache: 0,
             words: Vec::new(alloc),
         }
     }

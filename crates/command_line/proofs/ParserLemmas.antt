@@ -1,18 +1,15 @@
 -- The parser's description of the command.
 use Rattle.std.proofs.Common.{◌≡◌, ◌∙◌, sym, ap, subst, refl, true, List, ℕ, Result, Ok, Err, []}
-use Rattle.std.proofs.Common.{◌∷◌, map}
-use Rattle.std.specs.Prelude.{MatchResult, IfOk, string_bytes}
+use Rattle.std.specs.Prelude.{MatchResult, IfOk}
 use Rattle.clap.specs.Walk.{rows_of}
 use Rattle.clap.specs.Matches.{found_of}
-use Rattle.clap.specs.Simple.{App, app_of, is_simple, matches_of, HasMatchesOf}
+use Rattle.clap.specs.Simple.{App, is_simple, matches_of, HasMatchesOf}
 use Rattle.clap.specs.Kinds.{FailsBy, HasKind}
 use Rattle.clap.specs.Faults.{fault_of, is_simple_and_free}
 use Rattle.clap.specs.declared.parser.matches.ArgMatches.{ArgMatches}
 use Rattle.clap.specs.declared.error.Error.{Error}
 use Rattle.clap.proofs.OnLiterals.{clap_on_literals}
-use Rattle.clap.specs.declared.builder.value_parser.ValueParser.TheVariants.{Signed}
-use Rattle.std.specs.Prelude.{pos}
-use Rattle.command_line.specs.CommandLine.{our_app, app_with, cache_rule}
+use Rattle.command_line.specs.CommandLine.{our_app, all_rules}
 
 pub our_app_is_simple : is_simple our_app ≡ true
 unfolding clap_on_literals our_app
@@ -23,7 +20,7 @@ unfolding clap_on_literals our_app
 our_app_is_free = refl
 
 -- the command is what its description says
-pub our_app_is : our_app ≡ app_with (cache_rule (Signed (pos 0) (pos 65536)))
+pub our_app_is : our_app ≡ all_rules
 unfolding our_app
 our_app_is = refl
 

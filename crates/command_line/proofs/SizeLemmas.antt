@@ -1,10 +1,18 @@
--- Decimal digits, one after another.
-use Rattle.std.proofs.Common.{ℕ, ◌+◌, ◌*◌, ◌<◌, ◌≤◌, ◌^◌, arith, lit<}
-use Rattle.std.proofs.Math.Nat.{pow-le-pow_right}
+-- The size of the cache, as it is read from the text that is given.
+use Rattle.std.proofs.Common.{◌≡◌, ℕ, List, refl}
+use Rattle.std.specs.Prelude.{Option, None, Some, Ok, Err}
+use Rattle.std.specs.Str.Parse.{ParsesUnsigned}
+use Rattle.command_line.specs.Settings.{IsCacheSize}
 
--- one more decimal digit fits
-pub digit_fits : (value i n : ℕ) → value < 10 ^ i → i < n → n ≤ 16 → value * 10 + 9 < 2 ^ 64
-digit_fits value i n below lt most =
-    let room : 10 ^ i ≤ 10 ^ 15 = pow-le-pow_right (lit< tt) {j = 15} (omega arith) in
-    let small : value < 10 ^ 15 = omega (arith, room, below) in
-    omega (arith, small)
+some_is_not_none : (size : ℕ) → Some size ≡ None → ⊥
+some_is_not_none size e = cc
+
+pub size_read : (E : Type 0) (o : Option (List ℕ)) (size : ℕ) → (o ≡ None → Some size ≡ None)
+    → ((t : List ℕ) → o ≡ Some t → ParsesUnsigned {E = E} 32 10 t (Ok size)) → IsCacheSize o size
+size_read E None size none read = absurd (some_is_not_none size (none refl))
+size_read E (Some t) size none read = λ numeral below. (read t refl).1
+
+pub size_not_read : (E : Type 0) (o : Option (List ℕ))
+    → ((t : List ℕ) → o ≡ Some t → (e : E) × ParsesUnsigned {E = E} 32 10 t (Err e)) → IsCacheSize o 1024
+size_not_read E None read = refl
+size_not_read E (Some t) read = λ numeral below. absurd ((read t refl).1 (numeral, below))

@@ -2,7 +2,6 @@
 use Rattle.std.specs.Prelude.{ℕ, List, Some, codes, pos}
 use Rattle.clap.specs.Walk.{Rule}
 use Rattle.clap.specs.Simple.{App, new_app, new_rule, with_rule}
-use Rattle.clap.specs.declared.builder.value_parser.ValueParser.{ValueParser}
 use Rattle.clap.specs.declared.builder.value_parser.ValueParser.TheVariants.{Signed}
 use Rattle.clap.specs.declared.builder.action.ArgAction.TheVariants.{SetTrue, Set, Append}
 
@@ -23,12 +22,13 @@ exe_rule = record (new_rule (codes "exe")) {
   action = Some Set;
 }
 
-abbrev pub cache_rule : ValueParser → Rule
-cache_rule parser = record (new_rule (codes "cache")) {
+-- the cache has from 0 to 65,536 entries
+abbrev pub cache_rule : Rule
+cache_rule = record (new_rule (codes "cache")) {
   long = Some (codes "cache");
   value_names = 1;
   action = Some Set;
-  parser = Some parser;
+  parser = Some (Signed (pos 0) (pos 65536));
 }
 
 -- all other words
@@ -44,10 +44,9 @@ flags =
     (flag_rule 105 (codes "inlines"))) (flag_rule 112 (codes "pretty-print")))
     (flag_rule 115 (codes "basenames"))) linkage_rule
 
--- the command, with an argument for the size of the cache
-abbrev pub app_with : Rule → App
-app_with size = with_rule (with_rule (with_rule flags exe_rule) size) words_rule
+-- the command with all of its arguments
+abbrev pub all_rules : App
+all_rules = with_rule (with_rule (with_rule flags exe_rule) cache_rule) words_rule
 
--- the cache has from 0 to 65,536 entries
 unfoldable pub our_app : App
-our_app = app_with (cache_rule (Signed (pos 0) (pos 65536)))
+our_app = all_rules

@@ -1,24 +1,18 @@
 //! The command line as the parser is told of it.
 
-ghost use Rattle.std.specs.Prelude.{◌≡◌, IfOk, MatchResult, map, false, pos, string_bytes};
+ghost use Rattle.std.specs.Prelude.{◌≡◌, IfOk, MatchResult, map, false, string_bytes};
 ghost use Rattle.clap.specs.Walk.{rows_of, rule_of};
 ghost use Rattle.clap.specs.Matches.{found_of};
 ghost use Rattle.clap.specs.Simple.{matches_of, app_of};
 ghost use Rattle.clap.specs.Kinds.{HasKind};
 ghost use Rattle.clap.specs.Faults.{fault_of};
-ghost use Rattle.clap.specs.declared.builder.value_parser.ValueParser.TheVariants.{Names, Signed};
 ghost use Rattle.command_line.specs.CommandLine.{flag_rule, exe_rule, cache_rule, linkage_rule};
-ghost use Rattle.command_line.specs.CommandLine.{words_rule, app_with, our_app};
+ghost use Rattle.command_line.specs.CommandLine.{words_rule, all_rules, our_app};
 ghost use Rattle.command_line.specs.Refusals.{IsTaken};
-ghost use Rattle.command_line.specs.Private.Parsing.{IsNoAddress};
 
-use crate::faults::CliFault;
 use crate::help::{ABOUT, COMMANDS};
 use clap::{Arg, ArgAction, ArgMatches, Command, Error};
 use std::alloc::{AllocError, Global};
-
-/// The sizes that a cache may have, as a refusal names them.
-const SIZES: [&str; 1] = ["a number from 0 to 65536"];
 
 /// A flag with a letter and a long name, which is its id.
 fn flag(alloc: Global, letter: char, name: &'static str, help: &'static str) -> Arg<'static>
@@ -58,7 +52,7 @@ fn exe(alloc: Global) -> Arg<'static>
 
 /// How many answers may be kept.
 fn cache<'a>(alloc: Global) -> Arg<'a>
-    ensures rule { rule_of result ≡ cache_rule (Signed (pos 0) (pos 65536)) }
+    ensures rule { rule_of result ≡ cache_rule }
     ensures local { result.global ≡ false }
 {
     Arg::new(alloc, "cache")
@@ -67,18 +61,6 @@ fn cache<'a>(alloc: Global) -> Arg<'a>
         .help("Keep N answers, 0 to 65536 [default: 1024]")
         .action(ArgAction::Set)
         .value_parser(clap::value_parser!(u32).range(0..=65536))
-}
-
-/// The same, where every size is refused.
-fn no_cache<'a>(alloc: Global, sizes: &'a [&'a str]) -> Arg<'a>
-    ensures rule { rule_of result ≡ cache_rule (Names sizes.entry) }
-    ensures local { result.global ≡ false }
-{
-    Arg::new(alloc, "cache")
-        .long("cache")
-        .value_name("N")
-        .action(ArgAction::Set)
-        .value_parser(sizes)
 }
 
 /// The addresses.
@@ -92,10 +74,9 @@ fn addresses(alloc: Global) -> Arg<'static>
         .action(ArgAction::Append)
 }
 
-/// The command, but for its help, with an argument for the size of the cache.
-fn command<'a>(alloc: Global, size: Arg<'a>) -> Result<Command<'a>, AllocError>
-    requires { size.global ≡ false }
-    ensures { IfOk result (λ c. app_of c ≡ app_with (rule_of size.entry)) }
+/// The command, but for its help.
+fn command<'a>(alloc: Global) -> Result<Command<'a>, AllocError>
+    ensures { IfOk result (λ c. app_of c ≡ all_rules) }
 {
     Command::new(alloc, "addr2line_live")
         .arg(flag(
@@ -115,7 +96,7 @@ fn command<'a>(alloc: Global, size: Arg<'a>) -> Result<Command<'a>, AllocError>
         .arg(flag(alloc, 's', "basenames", "Print base names of files"))?
         .arg(linkage(alloc))?
         .arg(exe(alloc))?
-        .arg(size)?
+        .arg(cache(alloc))?
         .arg(addresses(alloc))
 }
 
@@ -126,24 +107,9 @@ pub fn parse<'a>(alloc: Global, words: &'a [String]) -> Result<ArgMatches<'a>, E
         × (rows_of (found_of m) ≡ matches_of our_app (map string_bytes words.entry.now)))
         (HasKind (fault_of our_app (map string_bytes words.entry.now))) }
 {
-    let command = command(alloc, cache(alloc))?;
+    let command = command(alloc)?;
     command
         .about(ABOUT)
         .after_help(COMMANDS)
         .try_get_matches_from(words)
-}
-
-/// The refusal of words in which only the size of the cache is bad: it has a sign, say, which the
-/// parser would take. It comes of a command that refuses all sizes.
-pub fn refused_size<'a>(alloc: Global, words: &'a [String]) -> CliFault<'a>
-    ensures { IsNoAddress result }
-{
-    let command = match command(alloc, no_cache(alloc, &SIZES)) {
-        Ok(command) => command,
-        Err(_) => return CliFault::Memory,
-    };
-    match command.try_get_matches_from(words) {
-        Ok(_) => CliFault::Memory,
-        Err(error) => CliFault::of(error),
-    }
 }

@@ -1,29 +1,50 @@
-//! Why the words of a command line are refused.
+//! Why the arguments of a command line are refused.
 
+ghost use Rattle.std.specs.Prelude.{◌≡◌};
 ghost use Rattle.command_line.specs.Private.Parsing.{TellsOf};
+ghost use Rattle.command_line.specs.declared.faults.CliFault.TheVariants.{Memory};
 
-use clap::Error;
 use clap::error::ErrorKind;
+use std::alloc::{AllocError, AllocFailed};
+use thiserror::Error;
 
-/// Why the words of a command line are refused.
-#[derive(Debug, Drop)]
+/// Why the arguments of a command line are refused.
+#[derive(Debug, Drop, Error)]
 pub enum CliFault<'a> {
-    /// The parser refuses the words, or is asked for help: its error has the text.
-    Usage(Error),
+    /// The parser refuses the arguments, or help was requested: the error has the text.
+    #[error("{0}")]
+    Usage(clap::Error),
     /// The first word that is no address.
+    #[error("bad address {0}")]
     Address(&'a str),
     /// There is not enough memory.
+    #[error("no memory")]
     Memory,
 }
 
-impl<'a> CliFault<'a> {
-    /// What an error of the parser says.
-    pub(crate) fn of(error: Error) -> CliFault<'a>
-        ensures { TellsOf error result }
-    {
+impl<'a> From<clap::Error> for CliFault<'a> {
+    ghost from_gives = { TellsOf };
+
+    fn from(error: clap::Error) -> CliFault<'a> {
         if error.kind() == ErrorKind::OutOfMemory {
             return CliFault::Memory;
         }
         CliFault::Usage(error)
+    }
+}
+
+impl<'a> From<AllocError> for CliFault<'a> {
+    ghost from_gives = { λ _ fault. fault ≡ Memory };
+
+    fn from(_error: AllocError) -> CliFault<'a> {
+        CliFault::Memory
+    }
+}
+
+impl<'a, T: Drop> From<AllocFailed<T>> for CliFault<'a> {
+    ghost from_gives = { λ _ fault. fault ≡ Memory };
+
+    fn from(_error: AllocFailed<T>) -> CliFault<'a> {
+        CliFault::Memory
     }
 }

@@ -6,7 +6,6 @@ mod faults;
 mod given;
 mod help;
 mod settings;
-mod size;
 mod words;
 
 pub use faults::CliFault;

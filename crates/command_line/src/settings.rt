@@ -3,10 +3,9 @@
 ghost use Rattle.std.specs.Prelude.{◌≡◌, IfOk, MatchResult, map, option_map, string_bytes};
 ghost use Rattle.command_line.specs.Refusals.{AreOptions, IsRefused};
 
-use crate::command::{parse, refused_size};
+use crate::command::parse;
 use crate::faults::CliFault;
-use crate::given::{is_set, text, words};
-use crate::size::cache_size;
+use crate::given::{cache_size, is_set, text, words};
 use crate::words::addresses;
 use answer_text::Options;
 use std::alloc::{AllocError, Global};
@@ -22,26 +21,15 @@ fn owned(alloc: Global, text: Option<&str>) -> Result<Option<String>, AllocError
     }
 }
 
-/// The options that the words of a command line give, the first word being the program's name. Help
-/// that is asked for is told as a refusal, whose error has the text.
+/// Reads the options from the arguments of a command line, of which the first is the program's
+/// name. A request for help is returned as a refusal, whose error has the text.
 pub fn options<'a>(alloc: Global, arguments: &'a [String]) -> Result<Options, CliFault<'a>>
     ensures { MatchResult result (AreOptions (map string_bytes arguments.entry.now))
         (IsRefused (map string_bytes arguments.entry.now)) }
 {
-    let matches = match parse(alloc, arguments) {
-        Ok(matches) => matches,
-        Err(error) => return Err(CliFault::of(error)),
-    };
-    let Some(cache) = cache_size(text(&matches, "cache")) else {
-        return Err(refused_size(alloc, arguments));
-    };
-    let addresses = match addresses(alloc, words(&matches)) {
-        Ok(addresses) => addresses,
-        Err(fault) => return Err(fault),
-    };
-    let Ok(exe) = owned(alloc, text(&matches, "exe")) else {
-        return Err(CliFault::Memory);
-    };
+    let matches = parse(alloc, arguments)?;
+    let addresses = addresses(alloc, words(&matches))?;
+    let exe = owned(alloc, text(&matches, "exe"))?;
     Ok(Options {
         addresses: is_set(&matches, "addresses"),
         functions: is_set(&matches, "functions"),
@@ -50,7 +38,7 @@ pub fn options<'a>(alloc: Global, arguments: &'a [String]) -> Result<Options, Cl
         basenames: is_set(&matches, "basenames"),
         linkage: is_set(&matches, "linkage"),
         exe,
-        cache,
+        cache: cache_size(&matches),
         words: addresses,
     })
 }

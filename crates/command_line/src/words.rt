@@ -19,9 +19,7 @@ fn numbers<'a>(alloc: Global, words: &[&'a str]) -> Result<Vec<u64>, CliFault<'a
         let Some(number) = parse_number(word.as_bytes()) else {
             return Err(CliFault::Address(word));
         };
-        let Ok(()) = numbers.push(number) else {
-            return Err(CliFault::Memory);
-        };
+        numbers.push(number)?;
     }
     Ok(numbers)
 }

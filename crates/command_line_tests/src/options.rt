@@ -103,6 +103,9 @@ fn object_and_addresses(rt: HostRuntime) -> Result<(), Fail> {
 fn sizes_of_the_cache(rt: HostRuntime) -> Result<(), Fail> {
     assert_eq!(rt; taken(&rt, rt.alloc(), &["--cache", "65536"])?.cache, 65536);
     assert_eq!(rt; taken(&rt, rt.alloc(), &["--cache=0"])?.cache, 0);
+    assert_eq!(rt; taken(&rt, rt.alloc(), &["--cache", "+5"])?.cache, 5);
+    assert_eq!(rt; taken(&rt, rt.alloc(), &["--cache=-0"])?.cache, 0);
+    assert_eq!(rt; taken(&rt, rt.alloc(), &["--cache=00000000000065536"])?.cache, 65536);
     Ok(())
 }
 
@@ -114,7 +117,6 @@ fn bad_sizes(rt: HostRuntime) -> Result<(), Fail> {
         &["--cache", "65537"],
         ErrorKind::ValueValidation,
     )?;
-    is_usage(&rt, rt.alloc(), &["--cache", "+5"], ErrorKind::InvalidValue)?;
     Ok(())
 }
 
@@ -146,12 +148,6 @@ fn usage_before_a_bad_address(rt: HostRuntime) -> Result<(), Fail> {
         rt.alloc(),
         &["zz", "--cache", "65537"],
         ErrorKind::ValueValidation,
-    )?;
-    is_usage(
-        &rt,
-        rt.alloc(),
-        &["zz", "--cache", "+5"],
-        ErrorKind::InvalidValue,
     )?;
     Ok(())
 }

@@ -8,8 +8,7 @@ use Rattle.module_map.specs.declared.faults.MapFault.TheVariants as modules
 use Rattle.answer_text.specs.Numerals.{address_text}
 use Rattle.answer_text.specs.Text.{answer_text}
 use Rattle.answer_text.specs.declared.options.Options.{Options}
-use Rattle.answer_text.specs.declared.faults.FetchFault.{FetchFault}
-use Rattle.answer_text.specs.declared.faults.FetchFault.TheVariants as sources
+use Rattle.answer_text.specs.Words.{fetch_word}
 use Rattle.command_loop.specs.Replies.{Reply}
 use Rattle.command_loop.specs.Replies.Reply.{Unreadable, NotFetched, Refused, LoadedAt, Unloaded}
 use Rattle.command_loop.specs.Replies.Reply.{MovedTo, AllListed, Answered}
@@ -23,11 +22,6 @@ line_word lines.Fields = codes "fields"
 line_word lines.Name = codes "name"
 line_word lines.Number = codes "number"
 line_word lines.Path = codes "path"
-
-abbrev pub fetch_word : FetchFault → List ℕ
-fetch_word sources.File = codes "file"
-fetch_word sources.TooLarge = codes "too-large"
-fetch_word sources.Memory = codes "memory"
 
 abbrev pub object_text : LoadFault → List ℕ
 object_text fault =

@@ -1,7 +1,7 @@
 //! The program over its devices: the words of its command line, a run, the exit status, and what it
 //! says on standard error.
 
-use crate::replies::{fetch_word, write_object_refusal, write_refusal};
+use crate::replies::{write_object_refusal, write_refusal};
 use crate::running::run;
 use answer_text::{DeviceFault, ExeFault, Feed, Objects, Options, RunFault, Sink, write_texts};
 use clap::Error;
@@ -22,7 +22,7 @@ fn write_message<E: Sink>(message: &str, errors: &mut E) -> Result<(), DeviceFau
 fn write_exe_fault<E: Sink>(fault: ExeFault, errors: &mut E) -> Result<(), DeviceFault> {
     write_texts(&[NAME], errors)?;
     let fault = match fault {
-        ExeFault::NotFetched(fault) => return write_refusal(fetch_word(fault), errors),
+        ExeFault::NotFetched(fault) => return write_refusal(fault.word(), errors),
         ExeFault::NotLoaded(fault) => fault,
     };
     match fault {

@@ -5,16 +5,14 @@ ghost use Rattle.answer_text.specs.Devices.{failures_after, Writes};
 ghost use Rattle.answer_text.specs.Pending.{Puts};
 ghost use Rattle.module_map.specs.Listing.{Listed, listed};
 ghost use Rattle.command_loop.specs.Private.Serving.{reply_of, IsCurrent};
-ghost use Rattle.command_loop.specs.Text.{line_word, fetch_word, map_words, object_text, refused};
+ghost use Rattle.command_loop.specs.Text.{line_word, map_words, object_text, refused};
 ghost use Rattle.command_loop.specs.Text.{done_at, unloaded, module_text, list_text, text};
 ghost use Rattle.command_loop.specs.Replies.{met_name};
 ghost use Rattle.module_map.specs.World.{name_at};
 
 use crate::commands::BadLine;
 use crate::serving::Done;
-use answer_text::{
-    DeviceFault, FetchFault, Options, Pending, Sink, address_text, print, write_texts,
-};
+use answer_text::{DeviceFault, Options, Pending, Sink, address_text, print, write_texts};
 use dwarf_bytes::LoadFault;
 use itoa::Buffer;
 use module_map::{Extent, Listing, MapFault, Modules};
@@ -30,17 +28,6 @@ fn line_word(bad: BadLine) -> &'static str
         BadLine::Name => "name",
         BadLine::Number => "number",
         BadLine::Path => "path",
-    }
-}
-
-/// The word for an object that the source does not give.
-pub fn fetch_word(fault: FetchFault) -> &'static str
-    ensures { result.now ≡ fetch_word fault }
-{
-    match fault {
-        FetchFault::File => "file",
-        FetchFault::TooLarge => "too-large",
-        FetchFault::Memory => "memory",
     }
 }
 
@@ -215,7 +202,7 @@ pub fn write_reply<W: Sink>(
 {
     match done {
         Done::Unreadable(bad) => write_refusal(line_word(*bad), writer),
-        Done::NotFetched(fault) => write_refusal(fetch_word(*fault), writer),
+        Done::NotFetched(fault) => write_refusal(fault.word(), writer),
         Done::Refused(fault) => write_map_refusal(modules, *fault, writer),
         Done::LoadedAt(name, extent) => write_done_at(b"loaded ", name, extent, writer),
         Done::Unloaded(name) => write_unloaded(name, writer),

@@ -8,12 +8,6 @@ use Rattle.clap.specs.declared.error.kind.ErrorKind.TheVariants.{OutOfMemory}
 use Rattle.command_line.specs.declared.faults.CliFault.{CliFault}
 use Rattle.command_line.specs.declared.faults.CliFault.TheVariants.{Usage, Address, Memory}
 
--- a refusal by the parser, or for want of memory
-abbrev pub IsNoAddress : CliFault → Type 0
-IsNoAddress (Address word) = ⊥
-IsNoAddress (Usage error) = ⊤
-IsNoAddress Memory = ⊤
-
 -- the first word that is no number, or want of memory
 abbrev pub IsBadWord : Result (List ℕ) (List ℕ) → CliFault → Type 0
 IsBadWord outcome (Address word) = outcome ≡ Err word.now

@@ -14,4 +14,4 @@ loop-word-preserved c =
     number_more c.args.words.now c.loop-word.word-index _ c.loop-word.numbers.items _
     c.loop-word.invariant c.in-Some.number c.push.new.self.items c.loop-word-test.true
     (ap number (sym c.as_bytes.ensures.value) ∙ sym c.parse_number.ensures ∙ c.in-Some.is)
-    c.in-Ok.ensures.items
+    c.in_ok-push.ensures.items
