@@ -3,7 +3,7 @@
 use crate::devices::{Paper, Script};
 use crate::fixtures::*;
 use crate::shelf::Shelf;
-use crate::turns::{Bell, Turns};
+use crate::turns::{Bell, FlushCheck, Turns};
 use answer_text::{Options, RunFault};
 use command_loop::run;
 use std::alloc::Global;
@@ -56,27 +56,41 @@ fn nothing_fails(rt: HostRuntime) {
     assert!(rt; is_first_replies(writer.text(), 5));
 }
 
-/// Where any allocation is refused the replies are those without the object, or none; or all of
-/// them are as they are with memory, since a cache may do without it.
+/// Which of its three outcomes a run has where an allocation may be refused: all replies, those
+/// without the object, or none.
+fn outcome_without_memory(run: Result<(), RunFault>, text: &[u8]) -> &'static str {
+    match run {
+        Ok(()) if is_first_replies(text, 5) => "all replies",
+        Ok(()) if text == WITHOUT_MEMORY => "without the object",
+        Err(RunFault::Memory) if text.is_empty() => "no memory",
+        _ => "another",
+    }
+}
+
+/// Any allocation may be refused, by the way in which the tests are run: the outcome is printed.
 #[test]
-fn memory_fails(rt: HostRuntime) {
+fn memory_fails(rt: HostRuntime) -> Result<(), Fail> {
     let alloc = rt.alloc();
     let mut writer = Paper::new();
-    match outcome(
-        alloc,
-        &small(alloc),
-        &mut Script::new(SCRIPT, 7),
-        &mut writer,
-    ) {
-        Err(fault) => {
-            assert_eq!(rt; fault, RunFault::Memory);
-            assert_eq!(rt; writer.text(), b"".as_slice());
-        }
-        Ok(()) => {
-            let text = writer.text();
-            assert!(rt; is_first_replies(text, 5) || text == WITHOUT_MEMORY);
-        }
-    }
+    let mut reader = Script::new(SCRIPT, 7);
+    let result = outcome(alloc, &small(alloc), &mut reader, &mut writer);
+    let outcome = outcome_without_memory(result, writer.text());
+    assert_ne!(rt; outcome, "another");
+    println!(rt; "outcome: {outcome}")?;
+    Ok(())
+}
+
+/// The cache is made for as many answers as the options say.
+#[test]
+fn a_cache_of_more_answers_than_memory_has(rt: HostRuntime) {
+    let alloc = rt.alloc();
+    let mut options = Options::plain(alloc);
+    options.cache = usize::MAX;
+    let mut writer = Paper::new();
+    let mut reader = Script::new(SCRIPT, 4096);
+    let result = outcome(alloc, &options, &mut reader, &mut writer);
+    assert_eq!(rt; result, Err(RunFault::Memory));
+    assert_eq!(rt; (writer.text(), reader.input), (b"".as_slice(), SCRIPT));
 }
 
 #[test]
@@ -150,4 +164,17 @@ fn flushes_each_reply_before_it_reads_on(rt: HostRuntime) {
     assert_eq!(rt; result, Ok(()));
     assert_eq!(rt; flushes.get(), 4);
     assert!(rt; !reader.is_early);
+}
+
+/// Each reply is one write here, and is flushed before the next, though all lines come at once.
+#[test]
+fn flushes_each_reply_to_lines_of_one_piece(rt: HostRuntime) {
+    let alloc = rt.alloc();
+    let mut reader = Script::new(b"load a 0 A\n1004\nx\n1008\n", 4096);
+    let mut writer = FlushCheck::new();
+    let mut source = Shelf::new(alloc);
+    let options = Options::plain(alloc);
+    let result = run(alloc, &options, &mut reader, &mut writer, &mut source);
+    assert_eq!(rt; result, Ok(()));
+    assert_eq!(rt; (writer.writes, writer.is_late), (4, false));
 }

@@ -35,9 +35,10 @@ pub fn outcome(
     run(alloc, options, reader, writer, &mut Shelf::new(alloc))
 }
 
-/// Compares what is written for an input, handed out in pieces of several sizes.
-pub fn compare(rt: &impl Abort, options: &Options, alloc: Global, input: &[u8], wanted: &[u8]) {
-    for most in [1, 7, 4096] {
+/// Compares what is written for an input, in pieces of several sizes and with several caches.
+pub fn compare(rt: &impl Abort, options: &mut Options, alloc: Global, input: &[u8], wanted: &[u8]) {
+    for (most, cache) in [(1, 0), (7, 1), (4096, 1024)] {
+        options.cache = cache;
         let mut writer = Paper::new();
         let result = outcome(alloc, options, &mut Script::new(input, most), &mut writer);
         assert_eq!(rt; result, Ok(()));
@@ -47,7 +48,7 @@ pub fn compare(rt: &impl Abort, options: &Options, alloc: Global, input: &[u8], 
 
 /// The same of a run that begins without a module.
 pub fn fresh(rt: &impl Abort, alloc: Global, letters: &[u8], input: &[u8], wanted: &[u8]) {
-    compare(rt, &options(alloc, letters), alloc, input, wanted);
+    compare(rt, &mut options(alloc, letters), alloc, input, wanted);
 }
 
 /// The same of a run that begins with the first sample object at 0x10000.
@@ -62,7 +63,7 @@ pub fn loaded(
     whole.extend_from_slice(input)?;
     let mut text = LOADED.to_vec(alloc)?;
     text.extend_from_slice(wanted)?;
-    compare(rt, &options(alloc, letters), alloc, &whole, &text);
+    compare(rt, &mut options(alloc, letters), alloc, &whole, &text);
     Ok(())
 }
 

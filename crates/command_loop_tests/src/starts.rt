@@ -140,11 +140,33 @@ fn commands_after_the_first_object(rt: HostRuntime) -> Result<(), Fail> {
     options.exe = Some(String::from_str(alloc, "A")?);
     compare(
         &rt,
-        &options,
+        &mut options,
         alloc,
         b"1004\nload exe 0x10000 A\nmove exe 0x10000\n11004\nunload exe\n",
         b"/src/a.c:11\nrefused name-taken\nmoved exe 0x0000000000011000-0x0000000000012000\n\
             /src/a.c:11\nunloaded exe\n",
     );
+    Ok(())
+}
+
+#[test]
+fn commands_of_standard_input(rt: HostRuntime) -> Result<(), Fail> {
+    let alloc = rt.alloc();
+    let words = words(alloc, &["-f", "--cache", "4"])?;
+    let mut reader = Script::new(b"11004\nload a 0x10000 A\n11004\n", 7);
+    let mut writer = Paper::new();
+    let mut errors = Paper::new();
+    let mut source = Shelf::new(alloc);
+    let status = program(
+        alloc,
+        &words,
+        &mut reader,
+        &mut writer,
+        &mut errors,
+        &mut source,
+    );
+    assert_eq!(rt; (status, errors.text()), (0, b"".as_slice()));
+    let wanted = b"??\n??:0\nloaded a 0x0000000000011000-0x0000000000012000\nleaf\n/src/a.c:11\n";
+    assert_eq!(rt; writer.text(), wanted.as_slice());
     Ok(())
 }

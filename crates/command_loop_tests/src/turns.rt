@@ -1,4 +1,5 @@
-//! A reader that hands out a line at a time, and a writer whose flushes it sees.
+//! A reader that hands out a line at a time, a writer whose flushes it sees, and a writer that
+//! checks that each write is flushed before the next.
 
 ghost use Rattle.std.specs.Prelude.{None, length};
 
@@ -56,6 +57,42 @@ impl<'a> Sink for Bell<'a> {
 
     fn flush(&mut self) -> Result<(), DeviceFault> {
         self.flushes.set(self.flushes.get().saturating_add(1));
+        Ok(())
+    }
+}
+
+/// Takes everything, and notes whether something was written before the write before it was flushed.
+#[derive(Drop)]
+pub struct FlushCheck {
+    pub writes: u64,
+    pub is_late: bool,
+    is_pending: bool,
+}
+
+impl FlushCheck {
+    pub fn new() -> FlushCheck {
+        FlushCheck {
+            writes: 0,
+            is_late: false,
+            is_pending: false,
+        }
+    }
+}
+
+impl Sink for FlushCheck {
+    ghost written = { λ _. None };
+
+    ghost failures = { λ _. 0 };
+
+    fn write(&mut self, bytes: &[u8]) -> Result<usize, DeviceFault> {
+        self.writes = self.writes.saturating_add(1);
+        self.is_late = self.is_late || self.is_pending;
+        self.is_pending = true;
+        Ok(bytes.len())
+    }
+
+    fn flush(&mut self) -> Result<(), DeviceFault> {
+        self.is_pending = false;
         Ok(())
     }
 }

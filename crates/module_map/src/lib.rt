@@ -12,8 +12,10 @@ mod loaded_module;
 mod modules;
 mod sorted;
 
+pub use addr_table::{Frame, Frames, Path};
 pub use answer::Answer;
 pub use asked::{Asked, Found};
+pub use dwarf_bytes::LoadFault;
 pub use faults::{Extent, MapFault};
 pub use listing::Listing;
 pub use modules::Modules;
