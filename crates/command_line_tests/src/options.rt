@@ -105,7 +105,10 @@ fn sizes_of_the_cache(rt: HostRuntime) -> Result<(), Fail> {
     assert_eq!(rt; taken(&rt, rt.alloc(), &["--cache=0"])?.cache, 0);
     assert_eq!(rt; taken(&rt, rt.alloc(), &["--cache", "+5"])?.cache, 5);
     assert_eq!(rt; taken(&rt, rt.alloc(), &["--cache=-0"])?.cache, 0);
-    assert_eq!(rt; taken(&rt, rt.alloc(), &["--cache=00000000000065536"])?.cache, 65536);
+    assert_eq!(rt;
+        taken(&rt, rt.alloc(), &["--cache=00000000000065536"])?.cache,
+        65536
+    );
     Ok(())
 }
 
