@@ -62,7 +62,7 @@ install: program
 	install -D -m 755 tools/loads_of_process $(INSTALLED)/libexec/addr2line_live/loads_of_process
 	install -D -m 755 tools/symbolize_perf $(INSTALLED)/libexec/addr2line_live/symbolize_perf
 	install -D -m 755 tools/addr2line $(INSTALLED)/libexec/addr2line_live/addr2line
-	for module in debug_files demangle live loaded_objects; do \
+	for module in core_files debug_files demangle live loaded_objects; do \
 	    install -D -m 644 tools/$$module.py $(INSTALLED)/libexec/addr2line_live/$$module.py; done
 
 # Real processes, perf's text, a library that comes and goes, and the clients of docs/PROTOCOL.md.

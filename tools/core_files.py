@@ -1,0 +1,70 @@
+"""The files that a process had mapped when its core file was written (NT_FILE), as lines of
+/proc/PID/maps."""
+import os
+import struct
+from typing import NamedTuple
+
+NOTE, LOAD, EXECUTABLE = 4, 1, 1  # PT_NOTE and PT_LOAD among the types, PF_X among the flags
+FILES = 0x46494C45  # NT_FILE
+CORE = 4  # ET_CORE
+
+
+class Segment(NamedTuple):
+    kind: int
+    flags: int
+    offset: int
+    address: int
+    physical: int
+    in_file: int
+    size: int
+
+
+def notes(data):
+    """The type and the contents of each note."""
+    at = 0
+    while at + 12 <= len(data):
+        name, size, kind = struct.unpack_from("<III", data, at)
+        start = at + 12 + (name + 3) // 4 * 4
+        yield kind, data[start : start + size]
+        at = start + (size + 3) // 4 * 4
+
+
+def files(note):
+    """The start, end, offset and path of each file that NT_FILE names."""
+    count, page = struct.unpack_from("<QQ", note)
+    paths = note[16 + 24 * count :].split(b"\0")
+    for number in range(count):
+        start, end, offset = struct.unpack_from("<QQQ", note, 16 + 24 * number)
+        yield start, end, offset * page, os.fsdecode(paths[number])
+
+
+def is_executable(start, end, segments):
+    """Whether a mapping is. gdb leaves out the segments of code that is as in its file."""
+    flags = [row.flags for row in segments
+             if row.kind == LOAD and row.address < end and start < row.address + row.size]
+    return not flags or any(flag & EXECUTABLE for flag in flags)
+
+
+def mappings_of(path):
+    """The mappings of files, as lines of /proc/PID/maps: those that are executable have an `x`."""
+    with open(path, "rb") as file:
+        header = file.read(64)
+        if header[:6] != b"\x7fELF\x02\x01" or header[16] != CORE:
+            raise ValueError("not a 64-bit core file")
+        file.seek(int.from_bytes(header[32:40], "little"))
+        size, count = struct.unpack_from("<HH", header, 54)
+        table = file.read(size * count)
+        rows = [Segment(*struct.unpack_from("<IIQQQQQ", table, at))
+                for at in range(0, len(table), size)]
+        mapped = []
+        for row in rows:
+            if row.kind == NOTE:
+                file.seek(row.offset)
+                mapped += [note for kind, note in notes(file.read(row.in_file)) if kind == FILES]
+    if not mapped:
+        raise ValueError("it names no mapped files")
+    lines = []
+    for start, end, offset, name in files(mapped[0]):
+        rights = "r-xp" if is_executable(start, end, rows) else "r--p"
+        lines.append(f"{start:x}-{end:x} {rights} {offset:08x} 00:00 0 {name}")
+    return lines
