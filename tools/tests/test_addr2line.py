@@ -34,8 +34,9 @@ int db::Query::run(int x) { return x + 2; }
 int main(int count, char **) { return net::Parser().run(count) + db::Query().run(count); }
 """
 OPTIONS = (
-    "", "-f", "-i", "-f -i", "-a", "-a -f -i", "-p", "-a -f -i -p", "-s -f", "-afips", "-j .text -f",
-    "--functions --inl --pretty", "-C -f -r", "--demangle=gnu-v3 -f", "-b elf64-x86-64",
+    "", "-f", "-i", "-f -i", "-a", "-a -f -i", "-p", "-a -f -i -p", "-s -f", "-afips",
+    "-j .text -f", "--functions --inl --pretty", "-C -f -r", "--demangle=gnu-v3 -f",
+    "-b elf64-x86-64",
 )
 ODD = [",", "", "zz", "-1", "main", "main+1", "twice+0x2", "none+2", "0", "ffffffffffffffff"]
 
