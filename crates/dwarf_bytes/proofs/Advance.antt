@@ -1,4 +1,4 @@
--- Each read of a LEB128 number or a byte takes a byte or more, and none reaches past the end.
+-- Each read of a LEB128 number or a byte moves at least one byte on, and not past the end.
 use Rattle.std.specs.Option.{option_map_or}
 use Rattle.std.proofs.Common.{◌≡◌, ℕ, ◌+◌, ◌^◌, ◌<◌, ◌≤◌, ℤ, List, Bool, true, false, cond, length}
 use Rattle.std.proofs.Common.{take, drop, refl, ap, subst, arith, length-take, length-drop}
@@ -11,14 +11,15 @@ use Rattle.dwarf_bytes.specs.Bind.{◌>>=◌}
 use Rattle.dwarf_bytes.specs.Numbers.{leb_front, uleb_value, uleb_at, sleb_value, sleb_at, fits_i64}
 use Rattle.dwarf_bytes.specs.Items.{reading, refuse_if}
 
--- an Ok of two steps comes from an Ok of each
+-- if two steps in sequence return Ok, each of them does
 pub bind_ok : {A B E : Type 0} (r : Result A E) (f : A → Result B E) (y : B) → (r >>= f) ≡ Ok y
     → (x : A) × (r ≡ Ok x)
     × (f x ≡ Ok y)
 bind_ok (Ok x) f y h = (x, refl, h)
 bind_ok (Err e) f y h = cc
 
--- the same with variables for what each step gives, which keeps the terms of a long chain small
+-- the same with variables for the results of the steps, so that the terms of a long chain stay
+-- small
 pub after_bind : {A B E : Type 0} (r : Result A E) (f : A → Result B E) (y : B) → (r >>= f) ≡ Ok y
     → (P : Type 0)
     → ((x : A) → r ≡ Ok x → f x ≡ Ok y → P) → P
@@ -34,13 +35,13 @@ pub reading_ok : {A : Type 0} (r : Result A ReadFault) (x : A) → reading r ≡
 reading_ok (Ok y) x h = cc
 reading_ok (Err e) x h = cc
 
--- an Ok behind a test comes where it does not refuse
+-- if a test and the step after it return Ok, the test is false
 pub refuse_if_ok : {B : Type 0} (b : Bool) (c : Cause) (f : Unit {0} → Result B Cause) (y : B)
     → (refuse_if b c >>= f) ≡ Ok y → (b ≡ false) × (f tt ≡ Ok y)
 refuse_if_ok true c f y h = cc
 refuse_if_ok false c f y h = (refl, h)
 
--- a choice
+-- case analysis on a conditional
 pub chosen : {B : Type 0} (b : Bool) (x y z : B) → cond b x y ≡ z → (P : Type 0)
     → (b ≡ true → x ≡ z → P)
     → (b ≡ false → y ≡ z → P) → P
@@ -65,7 +66,7 @@ leb_front-length bytes leb h = by_position (position (λ b. nat_lt b 128) (take 
         subst (λ (l : List ℕ). (0 < length l) × (length l ≤ length bytes)) same
         (omega (arith, at.0, shorter, taken), omega (arith, at.0, shorter, taken))
 
--- what a read leaves: a place behind, and not past the end
+-- the offset after a read: greater than the one before, and not past the end
 abbrev pub MovesOn : List ℕ → ℕ → ℕ → Type 0
 MovesOn bytes at after = (at < after) × (after ≤ length bytes)
 

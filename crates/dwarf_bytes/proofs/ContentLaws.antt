@@ -1,4 +1,4 @@
--- A value is read exactly where the bytes at the place begin with what spells it in its layout.
+-- A value is read if and only if an encoding of it in its layout is at the offset.
 use Rattle.std.proofs.Common.{◌≡◌, ℕ, ◌+◌, ◌≤◌, List, [], ◌++◌, length, drop, Result, Ok, Err, ap}
 use Rattle.std.proofs.Common.{sym, refl, subst, ◌∙◌, arith, length-append, length-drop}
 use Rattle.std.proofs.Common.{append_assoc}
@@ -23,7 +23,7 @@ same_content : (x y : Content × ℕ) → (let f : Content × ℕ → Result (Co
     → x ≡ y
 same_content x y h = cc
 
--- another word for what stands at a place
+-- converts between two encoding relations for the bytes at an offset
 pub standing_as : {X Y : Type 0} (S : List ℕ → X → Type 0) (T : List ℕ → Y → Type 0)
     (bytes : List ℕ)
     (at : ℕ) (x : X)
@@ -38,7 +38,7 @@ standing_as S T bytes at x y next as_other s =
       next_is = s.next_is;
     }
 
--- what is read as a content stands as one
+-- if a value is read as a content, an encoding of the content is at the offset
 read_stands : {X : Type 0} (S : List ℕ → X → Type 0) (T : List ℕ → Content → Type 0)
     (make : X → Content)
     (bytes : List ℕ) (at : ℕ) (content : Content) (next : ℕ)
@@ -57,22 +57,22 @@ read_stands {X = X} S T make bytes at content next as_content read stands e =
     here in
     subst (λ (c : Content). StandsAt T bytes at c next) (ap (λ (p : Content × ℕ). p.0) pairs) whole
 
--- what is read so, is read as a content
+-- a value that is read is also read as a content
 pub read_again : {X : Type 0} (make : X → Content) (read : Result (X × ℕ) ReadFault) (x : X)
     (next : ℕ)
     → read ≡ Ok (x, next) → read_as make read ≡ Ok (make x, next)
 read_again make read x next is = rw is refl
 
--- ---- a length, and so many bytes
+-- ---- a length, followed by that many bytes
 
--- the bytes behind what stands at a place
+-- the bytes after the encoding at an offset
 pub behind : (bytes : List ℕ) (at : ℕ) (front rest : List ℕ) → drop at bytes ≡ front ++ rest
     → drop (at + length front) bytes ≡ rest
 behind bytes at front rest parts =
     sym (drop-drop (length front) at bytes) ∙ ap (drop (length front)) parts
     ∙ drop_at front rest (length front) refl
 
--- a block whose length is spelled before it
+-- a block preceded by the encoding of its length
 abbrev IsCounted : (List ℕ → ℕ → Type 0) → List ℕ → List ℕ → Type 0
 IsCounted L bytes block = (len : List ℕ) × (bytes ≡ len ++ block) × L len (length block)
 
@@ -127,7 +127,7 @@ counted_again L bytes at block next read within again s =
     omega (arith, s.next_is, ap length s.spelled.1, length-append len block) in
     rw (counted, blocked) (ap (λ (n : ℕ). Ok (block, n)) end)
 
--- the content of a counted block
+-- the content of a block with a length
 pub counted_as : (bytes : List ℕ) (read : Result (ℕ × ℕ) ReadFault)
     → (read >>= λ len. read_as Bytes (block_at len.0 bytes len.1)) ≡ read_as Bytes
     (read >>= λ len. block_at len.0 bytes len.1)

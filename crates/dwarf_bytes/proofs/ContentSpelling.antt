@@ -1,4 +1,4 @@
--- A content that is spelled is read, in each layout.
+-- An encoded content is read, in each layout.
 use Rattle.std.proofs.Common.{◌≡◌, ℕ, ◌+◌, ◌<◌, ◌≤◌, List, [], ◌∷◌, ◌++◌, length, drop, Ok, ap, sym}
 use Rattle.std.proofs.Common.{◌∙◌, arith, length-append, length-drop}
 use Rattle.dwarf_bytes.specs.declared.format.Format.{Format}
@@ -25,7 +25,7 @@ block_again n bytes at block next within s =
     ∙ ap (λ (b : List ℕ). Ok (b, at + length s.front)) (sym s.spelled.1)
     ∙ ap (λ (m : ℕ). Ok (block, m)) (sym s.next_is)
 
--- what stands as a content of this kind
+-- an encoding of a content of this kind is an encoding of its value
 as_it_is : {X : Type 0} (S : List ℕ → X → Type 0) (T : List ℕ → Content → Type 0) (bytes : List ℕ)
     (at : ℕ) (x : X)
     (c : Content) (next : ℕ) → ((front : List ℕ) → T front c → S front x)
@@ -33,7 +33,7 @@ as_it_is : {X : Type 0} (S : List ℕ → X → Type 0) (T : List ℕ → Conten
     → StandsAt S bytes at x next
 as_it_is S T bytes at x c next is s = standing_as T S bytes at c x next is s
 
--- what takes a byte or more stands inside the bytes
+-- an encoding of at least one byte starts before the end of the bytes
 pub front_within : (bytes : List ℕ) (at : ℕ) (front rest : List ℕ) → drop at bytes ≡ front ++ rest
     → 0 < length front
     → at ≤ length bytes

@@ -1,4 +1,4 @@
--- What was made of each element of a list, by its place.
+-- The elements of a mapped list, by index.
 use Rattle.std.proofs.Common.{◌≡◌, ℕ, zero, suc, ◌<◌, List, [], ◌∷◌, ◌++◌, length, take, get_or}
 use Rattle.std.proofs.Common.{refl, sym, ap, ◌∙◌, subst, arith, append_assoc, append-nil}
 use Rattle.std.specs.Prelude.{Result, Ok, Err}
@@ -19,7 +19,7 @@ each-length make before (x ∷ xs) ys h =
     ap length (sym (same_ok (y ∷ rest) ys last)) ∙ ap (λ (n : ℕ). suc n)
     (each-length make (before ++ y ∷ []) xs rest rest_is)))
 
--- each was made behind those before it
+-- each result depends on the results before it
 pub each-place : {X Y : Type 0} (make : List Y → X → Result Y At) (before : List Y) (xs : List X)
     (ys : List Y)
     → each_from make before xs ≡ Ok ys → (i : ℕ) (dx : X) (dy : Y) → i < length xs
@@ -47,7 +47,7 @@ each-place {X = X} {Y = Y} make before (x ∷ xs) ys h i dx dy within =
         (sym (append_assoc before (y ∷ []) (take i rest)))
         ∙ later i (omega (arith, within))
 
--- those that are made of two lists, one after the other
+-- mapping the concatenation of two lists
 pub each-append : {X Y : Type 0} (make : List Y → X → Result Y At) (before : List Y)
     (xs more : List X)
     → each_from make before (xs ++ more) ≡ (each_from make before xs >>= λ ys. each_from make

@@ -1,4 +1,4 @@
--- Which fault stands where no LEB128 number does.
+-- Which fault an invalid LEB128 number gives.
 use Rattle.std.proofs.Common.{◌≡◌, ℕ, ◌+◌, ◌^◌, ◌≤◌, Bool, true, false, not, cond, ltb, List}
 use Rattle.std.proofs.Common.{length, drop, take, Some, None, Result, Ok, Err, ap, sym, refl, subst}
 use Rattle.std.proofs.Common.{◌∙◌, arith, inl, inr}
@@ -17,7 +17,7 @@ use Rattle.dwarf_bytes.proofs.Spelling.{goes_on, front_ok, front_again, fits_of_
 use Rattle.dwarf_bytes.proofs.Spelling.{tests_of_fits}
 use Rattle.dwarf_bytes.proofs.LebPrefixes.{GoOn, leb_front-open}
 
--- the faults of a front, and when each comes
+-- the faults of an encoding at the start of the bytes, and their conditions
 abbrev pub IsFrontFault : List ℕ → ReadFault → Type 0
 IsFrontFault bytes fault = ((fault ≡ Short) × IsCutLeb bytes) ⊎ ((fault ≡ Leb) × IsEndlessLeb bytes)
 
@@ -28,7 +28,7 @@ goes-large b h = ltb-false b 128 (by (ltb b 128) h)
     by true h = absurd cc
     by false h = refl
 
--- bytes none of which is the last of a number
+-- all bytes have bit 7 set
 all_go_on : (bytes : List ℕ) → length bytes ≤ prefix_len goes_on bytes → GoOn bytes
 all_go_on bytes h = λ k d lt. goes-large _ (prefix_len_passes goes_on bytes k d (omega arith))
 
@@ -65,14 +65,14 @@ pub endless_front : (bytes : List ℕ) → IsEndlessLeb bytes → leb_front byte
 endless_front bytes h = leb_front-open bytes h.1 ∙ ap (λ (t : Bool). Err (cond t Short Leb))
     (le-ltb _ _ h.0)
 
--- ---- a number by its front and a test of it
+-- ---- a number, by its encoding and a test of its value
 
--- what is read of a front
+-- the value of an encoding, if it fits
 abbrev numbered : {X : Type 0} → (List ℕ → X) → (List ℕ → Bool) → ℕ → List ℕ
     → Result (X × ℕ) ReadFault
 numbered value fits at leb = cond (fits leb) (Ok (value leb, at + length leb)) (Err Leb)
 
--- the faults of a number
+-- the faults of a number, and their conditions
 abbrev IsFault : (List ℕ → Type 0) → List ℕ → ReadFault → Type 0
 IsFault IsOver bytes fault =
     ((fault ≡ Short) × IsCutLeb bytes) ⊎
@@ -186,7 +186,7 @@ sleb_leb bytes at (inr o) =
     number_again sleb_value (λ leb. fits_i64 (sleb_value leb)) IsOverSleb at (drop at bytes)
     sleb_unfit o
 
--- ---- which of the two it is
+-- ---- which of the two faults it is
 
 pub only_short : {P Q : Type 0} → ((Short ≡ Short) × P) ⊎ ((Short ≡ Leb) × Q) → P
 only_short (inl p) = p.1

@@ -1,5 +1,5 @@
--- A list of items fails at its first invalid one, and what is made of a list at the first element
--- that is refused.
+-- Parsing a list of items fails at the first invalid item, and mapping a list fails at the first
+-- element that is refused.
 use Rattle.std.proofs.Common.{◌≡◌, ℕ, zero, suc, ◌+◌, ◌<◌, ◌≤◌, List, [], ◌∷◌, ◌++◌, refl, ap, sym}
 use Rattle.std.proofs.Common.{◌∙◌, subst, arith, append_assoc, append-nil}
 use Rattle.std.specs.Prelude.{Result, Ok, Err}
@@ -12,7 +12,7 @@ use Rattle.dwarf_bytes.proofs.ItemLaws.{put_front, first_step, items_from-step}
 same_fault : {Y : Type 0} (x y : At) → (let f : At → Result Y At = λ e. Err e in f x ≡ f y) → x ≡ y
 same_fault x y h = cc
 
--- the rest fails as the whole does
+-- a fault of the whole list is a fault of the rest
 rest_fails : {X : Type 0} (x : X) (rest : Result (List X × ℕ) At) (e : At)
     → put_front x rest ≡ Err e → rest ≡ Err e
 rest_fails x (Ok others) e h = absurd cc
@@ -100,7 +100,7 @@ pub first_invalid_again : {X : Type 0} (end : ℕ) (step : List X → ℕ → Re
 first_invalid_again end step adv before at cause offset f =
     fails_after end step adv f.items before at cause offset f.valid f.refused
 
--- ---- what is made of each element
+-- ---- mapping a list
 
 refused_here : {X Y : Type 0} (make : List Y → X → Result Y At) (before : List Y) (x : X)
     (xs : List X) (fault : At) → make before x ≡ Err fault

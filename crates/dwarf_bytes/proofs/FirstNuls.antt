@@ -1,4 +1,4 @@
--- The first NUL from a place on, by blocks.
+-- The first NUL at or after an offset, by blocks.
 use Rattle.std.proofs.Common.{◌≡◌, ℕ, zero, suc, ◌+◌, ◌-◌, ◌<◌, ◌≤◌, List, [], ◌∷◌, Bool, true}
 use Rattle.std.proofs.Common.{false, length, take, drop, get_or, refl, ap, sym, ◌∙◌, arith}
 use Rattle.std.specs.Prelude.{Option, Some, None, option_map, position, ◌==◌, nat_lt, not}
@@ -8,7 +8,7 @@ use Rattle.std.proofs.lemmas.List.{drop_all, drop-drop}
 use Rattle.bstr.specs.Find.{IsFirstByte, is_byte}
 use Rattle.dwarf_bytes.specs.Private.Nuls.{nul_from, block_len}
 
--- the first place that a test picks, behind an element that it does not pick
+-- the first index that satisfies a test, after an element that does not
 pub position-skip : {X : Type 0} (p : X → Bool) (x : X) (xs : List X) → p x ≡ false
     → position p (x ∷ xs) ≡ option_map (λ n. 1 + n) (position p xs)
 position-skip {X = X} p x xs is = by_len (prefix_len (λ y. not (p y)) xs) refl
@@ -35,7 +35,7 @@ position-first p x xs is =
     let some : nat_lt 0 (length (x ∷ xs)) ≡ true = lt-ltb 0 (length (x ∷ xs)) (omega arith) in
     rw (is, some) refl
 
--- the place that a test picks, where it picks none before
+-- an index that satisfies a test is the first one if no smaller index does
 position-is : (p : ℕ → Bool) (xs : List ℕ) (i : ℕ) → i < length xs → p (get_or xs i 0) ≡ true
     → ((k : ℕ) → k < i → p (get_or xs k 0) ≡ false) → position p xs ≡ Some i
 position-is p [] i within picks none = absurd (omega (arith, within))
@@ -53,7 +53,7 @@ position-none p (x ∷ xs) none =
     position-skip p x xs (none 0 (omega arith)) ∙ ap (λ (n : Option ℕ). option_map (λ n. 1 + n) n)
     (position-none p xs (λ k lt. none (suc k) (omega (arith, lt))))
 
--- the first byte that a search finds
+-- the byte that a search finds is the first NUL
 pub found_first : (bytes : List ℕ) (found : Option ℕ) → IsFirstByte (is_byte 0) bytes found
     → found ≡ position (λ b. b == 0) bytes
 found_first bytes None nowhere =
@@ -81,7 +81,8 @@ twice : (j : ℕ) (found : Option ℕ) → option_map (λ n. 1 + n) (option_map 
 twice j None = refl
 twice j (Some n) = ap (λ (k : ℕ). Some k) (omega arith)
 
--- where none of the first elements is picked, the first picked one is one of those behind them
+-- if none of the first elements satisfies the test, the first match is among the elements after
+-- them
 pub none-ahead : {X : Type 0} (p : X → Bool) (xs : List X) (m j : ℕ) → j ≤ m
     → position p (take m xs) ≡ None
     → position p xs ≡ option_map (λ n. j + n) (position p (drop j xs))
@@ -108,7 +109,7 @@ none-ahead p (x ∷ xs) (suc m) (suc j) few none =
         behind None h = refl
         behind (Some n) h = cc
 
--- one that is picked among the first elements is the first one of all
+-- a first match among the first elements is the first match of the whole list
 pub some-ahead : {X : Type 0} (p : X → Bool) (xs : List X) (m n : ℕ)
     → position p (take m xs) ≡ Some n
     → position p xs ≡ Some n
@@ -144,7 +145,7 @@ added : (at j : ℕ) (found : Option ℕ) → option_map (λ n. at + n) (option_
 added at j None = refl
 added at j (Some n) = ap (λ (k : ℕ). Some k) (omega arith)
 
--- without a NUL near a place, the first NUL from the place on is that from any place near it on
+-- without a NUL in the next block_len bytes, a search may start at any offset among them
 pub nul-behind : (section : List ℕ) (at j : ℕ) → j ≤ block_len
     → position is_nul (take block_len (drop at section)) ≡ None
     → nul_from section at ≡ nul_from section (at + j)
@@ -173,7 +174,7 @@ none-near section at h = by_found (position is_nul (take block_len (drop at sect
     by_found None h = refl
     by_found (Some n) h = cc
 
--- no NUL stands past the end
+-- there is no NUL past the end
 pub nul-outside : (section : List ℕ) (at : ℕ) → length section ≤ at → nul_from section at ≡ None
 nul-outside section at past =
     ap (λ (xs : List ℕ). option_map (λ n. at + n) (position is_nul xs)) (drop_all at section past)

@@ -1,4 +1,4 @@
--- An object without a fault: its load segments, and its sections.
+-- A valid object: its load segments, and its sections.
 use Rattle.std.proofs.Common.{◌≡◌, ℕ, zero, suc, ◌<◌, ◌≤◌, Bool, true, false, List, [], ◌∷◌, length}
 use Rattle.std.proofs.Common.{get_or, Option, Some, None, refl, sym, ◌∙◌, arith, min, max, inl, inr}
 use Rattle.std.specs.Prelude.{map, unwrap_or, Contains, ◌⊎◌}
@@ -23,7 +23,7 @@ pub or_none : {X : Type 0} (a b : Option X) → option_or a b ≡ None → (a �
 or_none None b h = (refl, h)
 or_none (Some x) b h = absurd cc
 
--- the three parts of an object without a fault
+-- the three parts of a valid object: without a fault of the object, none has a fault
 good_loads : (bytes : List ℕ) → elf_fault bytes ≡ None → first_fault sections.Elf (load_items bytes)
     ≡ None
 good_loads bytes h = (or_none _ _ (or_none _ _ (sym (fault_is bytes) ∙ h)).0).1
@@ -32,7 +32,7 @@ pub good_sections : (bytes : List ℕ) → elf_fault bytes ≡ None
     → first_fault sections.Elf (section_items bytes) ≡ None
 good_sections bytes h = (or_none _ _ (sym (fault_is bytes) ∙ h)).1
 
--- ---- the extent
+-- ---- the address range
 
 some_loads : (bytes : List ℕ) → elf_fault bytes ≡ None → is_empty (loads bytes) ≡ false
 unfolding load_items
@@ -55,7 +55,7 @@ min_is x y = elim (cases_lt x y) [ inl lt ↦ inl (omega arith) | inr le ↦ inr
 max_is : (x y : ℕ) → (max x y ≡ x) ⊎ (max x y ≡ y)
 max_is x y = elim (cases_lt x y) [ inl lt ↦ inr (omega arith) | inr le ↦ inl (omega arith) ]
 
--- what is one of two numbers or one of the others, is one of them all
+-- membership in a list whose first element is one of two numbers
 one_of : (x y w m : ℕ) (xs : List ℕ) → (w ≡ x) ⊎ (w ≡ y) → Contains (w ∷ xs) m
     → Contains (x ∷ y ∷ xs) m
 one_of x y w m xs which c = by c.0 c.1 c.2 which

@@ -1,4 +1,4 @@
--- The sections of an object without faults.
+-- The sections of a valid object.
 use Rattle.std.proofs.Common.{◌≡◌, ◌≢◌, ℕ, zero, suc, ◌+◌, ◌<◌, ◌≤◌, Bool, true, false, cond, ◌&&◌}
 use Rattle.std.proofs.Common.{List, [], ◌∷◌, Option, Some, None, refl, sym, ap, subst, ◌∙◌, arith}
 use Rattle.std.proofs.Common.{inl, inr, is_none}
@@ -36,7 +36,7 @@ good_items f (suc n) a h (suc i) lt =
     subst (λ (k : ℕ). item_fault sections.Elf (f k) ≡ None) same
     (good_items f n (a + 1) (or_none _ _ h).1 i (omega arith))
 
--- where a search of numbers ends
+-- the result of a search in a range of numbers
 pub record IsFirst (p : ℕ → Bool) (a n k : ℕ) : Type 0 where
   pub low : a ≤ k
   pub high : k < a + n
@@ -60,7 +60,7 @@ find_first : (p : ℕ → Bool) (n a k : ℕ) → find p (range_with_len a n) �
 find_first p zero a k e = absurd cc
 find_first p (suc n) a k e = found_first p n a (p a) refl (λ j. find_first p n (a + 1) j) k e
 
--- the first of some numbers, or one behind it
+-- a number of a range is the first one, or one after it
 first_or : (k a : ℕ) → a ≤ k → (k ≡ a) ⊎ (a + 1 ≤ k)
 first_or k a le = elim (cases_lt a k) [ inl lt ↦ inr (omega arith) | inr ge ↦ inl (omega arith) ]
 
@@ -79,7 +79,7 @@ find_none p zero a e k le lt = absurd (omega arith)
 find_none p (suc n) a e k le lt = none_from p n a (p a) refl e (find_none p n (a + 1)) k
     (first_or k a le) lt
 
--- the header table of an object that has some
+-- each section header of a valid object is valid
 good_headers : (bytes : List ℕ) → elf_fault bytes ≡ None → (k : ℕ) → k < (file_header bytes).shnum
     → item_fault sections.Elf (section_item bytes k) ≡ None
 unfolding section_items
@@ -94,7 +94,7 @@ good_headers bytes h k lt =
     subst (λ (j : ℕ). item_fault sections.Elf (section_item bytes j) ≡ None) zero_on
     (good_items (section_item bytes) (file_header bytes).shnum 0 parts.1 k lt)
 
--- a wanted section is one of those that are looked for
+-- every section other than the ELF tables is a wanted one
 wanted_any : (s : Section) → s ≢ sections.Elf → (p : Section → Bool) → p s ≡ true
     → list_any p wanted ≡ true
 wanted_any sections.Elf ne p h = absurd (ne refl)
@@ -107,7 +107,7 @@ wanted_any sections.DebugStrOffsets ne p h = list_any_at p wanted 5 sections.Elf
 wanted_any sections.DebugAddr ne p h = list_any_at p wanted 6 sections.Elf (omega arith) h
 wanted_any sections.DebugRnglists ne p h = list_any_at p wanted 7 sections.Elf (omega arith) h
 
--- what the tests of a wanted section's header say where none fails
+-- the properties of a wanted section's header whose tests all pass
 pub record IsGoodHeader (bytes : List ℕ) (k : ℕ) : Type 0 where
   pub fresh : is_seen bytes k ≡ false
   pub has_bits : is_nobits (section_header bytes k) ≡ false
@@ -147,7 +147,7 @@ good_header bytes k s h lt ne named =
     let t = tests_pass _ _ _ _ _ header.at item in
     record { fresh = t.0; has_bits = t.1; plain = t.2; inside = ltb-false _ _ t.3 }
 
--- two headers of one name would be seen
+-- of two headers with one name, the later one fails its test
 seen_by : (bytes : List ℕ) (j k : ℕ) (s : Section) → j < k → s ≢ sections.Elf
     → is_named bytes j s ≡ true
     → is_named bytes k s ≡ true → is_seen bytes k ≡ true

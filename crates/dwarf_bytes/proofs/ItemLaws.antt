@@ -1,5 +1,4 @@
--- One step of a list of items, whatever the number of steps that stands for "enough"; and the
--- whole-list form.
+-- One step of a list of items, for any sufficient number of steps, and the whole-list form.
 use Rattle.std.proofs.Common.{◌≡◌, ℕ, zero, suc, ◌+◌, ◌-◌, ◌<◌, ◌≤◌, List, [], ◌∷◌, ◌++◌, refl, ap}
 use Rattle.std.proofs.Common.{sym, ◌∙◌, subst, arith, append_assoc, append-nil, take, get_or}
 use Rattle.std.proofs.Common.{length}
@@ -9,7 +8,7 @@ use Rattle.dwarf_bytes.specs.Bind.{◌>>=◌}
 use Rattle.dwarf_bytes.specs.Items.{At, Next, Item, End, told_at, items_within, items_from}
 use Rattle.dwarf_bytes.specs.Items.{Advances, Lists}
 
--- an item in front of the rest
+-- an item followed by the rest
 abbrev pub put_front : {X : Type 0} → X → Result (List X × ℕ) At → Result (List X × ℕ) At
 put_front x (Ok others) = Ok (x ∷ others.0, others.1)
 put_front x (Err e) = Err e
@@ -19,7 +18,7 @@ pub put_front-is : {X : Type 0} (x : X) (rest : Result (List X × ℕ) At)
 put_front-is x (Ok others) = refl
 put_front-is x (Err e) = refl
 
--- what is made of the next item, where the rest is read so
+-- continues after the next item with a given way to read the rest
 abbrev pub go_on : {X : Type 0} → (List X → ℕ → Result (List X × ℕ) At) → List X → Next X
     → Result (List X × ℕ) At
 go_on rest before (End after) = Ok ([], after)
@@ -49,7 +48,7 @@ items_within-suc {X = X} n step before at = by_result (step before at)
     by_result (Ok (End after)) = refl
     by_result (Ok (Item x after)) = put_front-is x (items_within n step (before ++ x ∷ []) after)
 
--- two ways to read the rest that agree where it is read
+-- two ways to read the rest are equal if they agree after the next item
 pub first_step-same : {X : Type 0} (r s : List X → ℕ → Result (List X × ℕ) At) (before : List X)
     (at : ℕ)
     (found : Result (Next X) Cause)
@@ -60,7 +59,7 @@ first_step-same r s before at (Err cause) h = refl
 first_step-same r s before at (Ok (End after)) h = refl
 first_step-same r s before at (Ok (Item x after)) h = rw (h x after refl) refl
 
--- enough steps are as good as any other number that is enough
+-- all sufficient numbers of steps give the same result
 pub items_within-enough : {X : Type 0} (end : ℕ) (step : List X → ℕ → Result (Next X) Cause)
     → Advances end step
     → (n m : ℕ) (before : List X) (at : ℕ)
@@ -88,7 +87,7 @@ items_within-enough end step adv (suc n) (suc m) before at hn hm =
     (omega arith) (omega arith))
     ∙ sym (items_within-suc (suc m) step before at)
 
--- One step: the fault, the end, or an item and the items behind it.
+-- One step: the fault, the end, or an item and the items after it.
 pub items_from-step : {X : Type 0} (end : ℕ) (step : List X → ℕ → Result (Next X) Cause)
     → Advances end step
     → (before : List X) (at : ℕ)
@@ -107,7 +106,7 @@ items_from-step {X = X} end step adv before at =
         items_within-enough end step adv n (end - after) (before ++ x ∷ []) after (omega arith)
         (omega arith)
 
--- what was read in front of a rest
+-- the items of a prefix, followed by the items of the rest
 abbrev pub with_front : {X : Type 0} → List X → Result (List X × ℕ) At → Result (List X × ℕ) At
 with_front front (Ok rest) = Ok (front ++ rest.0, rest.1)
 with_front front (Err e) = Err e
@@ -118,7 +117,7 @@ with_front-item front x (Ok rest) = ap (λ (all : List _). Ok (all, rest.1))
     (sym (append_assoc front (x ∷ []) rest.0))
 with_front-item front x (Err e) = refl
 
--- The three ways in which a loop over items goes: what is read so far, in front of what is read
+-- The three outcomes of an iteration of a loop over items: the items so far, followed by the items
 -- from here on.
 pub loop-item : {X : Type 0} (end : ℕ) (step : List X → ℕ → Result (Next X) Cause)
     → Advances end step
@@ -147,7 +146,7 @@ loop-fault end step adv before at cause is = rw (items_from-step end step adv be
 pub ok_same : {A : Type 0} (x y : A) → (let f : A → Result A At = λ z. Ok z in f x ≡ f y) → x ≡ y
 ok_same x y h = cc
 
--- What is read so is listed in the whole-list form.
+-- A list that is read satisfies the whole-list form.
 pub Lists-within : {X : Type 0} (n : ℕ) (step : List X → ℕ → Result (Next X) Cause)
     (before : List X) (at : ℕ)
     (xs : List X) (after : ℕ)
@@ -191,7 +190,7 @@ Lists-within {X = X} (suc n) step before at xs after h =
     by_result further (Ok (Item x mid)) is h =
         by_rest x mid is (further x mid) (items_within n step (before ++ x ∷ []) mid) refl h
 
--- What is listed in the whole-list form is read so.
+-- A list that satisfies the whole-list form is read.
 pub items_from-Lists : {X : Type 0} (end : ℕ) (step : List X → ℕ → Result (Next X) Cause)
     → Advances end step
     → (before : List X) (at : ℕ) (xs : List X) (after : ℕ)
@@ -206,7 +205,7 @@ items_from-Lists end step adv before at (x ∷ xs) after h =
           (before ++ x ∷ []) h.0 xs after h.2,
     ) refl
 
--- What each step makes sure of, holds of each item and the items before it.
+-- A property that each step ensures holds for each item and the items before it.
 pub Lists-each : {X : Type 0} (P : List X → X → Type 0) (step : List X → ℕ → Result (Next X) Cause)
     → ((before : List X) (at : ℕ) (x : X) (after : ℕ) → step before at ≡ Ok (Item x after)
     → P before x)

@@ -1,4 +1,4 @@
--- The number at a place, by that at the front of what stands there.
+-- The number at an offset equals the number at the start of the remaining bytes.
 use Rattle.std.proofs.Common.{◌≡◌, ℕ, ◌+◌, ◌-◌, ◌^◌, Bool, true, false, cond, ltb, List, length}
 use Rattle.std.proofs.Common.{drop, take, refl, arith, length-drop, Result, Ok, Err}
 use Rattle.std.specs.Prelude.{ℤ}
@@ -9,9 +9,9 @@ use Rattle.dwarf_bytes.specs.Bind.{◌>>=◌}
 use Rattle.dwarf_bytes.specs.Numbers.{uleb_at, sleb_at, leb_front, uleb_value, sleb_value, fits_i64}
 use Rattle.dwarf_bytes.specs.Private.LebPrefixes.{uleb_front, sleb_front}
 
--- ---- the number at a place
+-- ---- the number at an offset
 
--- the bytes from a place on, as a range to the end of the bytes
+-- the bytes from an offset on, as a range that ends with the bytes
 abbrev pub range_from : List ℕ → ℕ → List ℕ
 range_from bytes at = take (length bytes - at) (drop at bytes)
 

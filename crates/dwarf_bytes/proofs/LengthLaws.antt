@@ -1,4 +1,4 @@
--- An initial length is read exactly where the bytes at the place begin with a spelling of it.
+-- An initial length is read if and only if an encoding of it in its format is at the offset.
 use Rattle.std.proofs.Common.{◌≡◌, ℕ, ◌+◌, ◌<◌, ◌≤◌, List, ◌++◌, length, drop, true, ◌==◌}
 use Rattle.std.proofs.Common.{if◌then◌else◌, Result, Ok, Err, ap, sym, refl, subst, ◌∙◌, arith}
 use Rattle.std.proofs.Common.{length-append, length-drop, append_assoc}
@@ -17,11 +17,11 @@ use Rattle.dwarf_bytes.proofs.Standing.{fixed_stands, fixed_again}
 use Rattle.dwarf_bytes.proofs.ContentLaws.{behind}
 use Rattle.dwarf_bytes.proofs.ContentSpelling.{front_within}
 
--- what is read: a format, a length, and the place behind
+-- the result of a read: the format, the length, and the offset after it
 abbrev Read : Type 0
 Read = (Format × ℕ) × ℕ
 
--- a length of either format, from the four bytes that it begins with
+-- a length of either format, by its first four bytes
 abbrev by_first : List ℕ → ℕ × ℕ → Result Read ReadFault
 by_first bytes read =
     if nat_lt read.0 0xfffffff0 then Ok ((Dwarf32, read.0), read.1) else if read.0 == 0xffffffff
@@ -34,7 +34,7 @@ same_read x y h = cc
 is_escape : (n : ℕ) → (n == 0xffffffff) ≡ true → n ≡ 0xffffffff
 is_escape n h = grind (arith, nat_tests)
 
--- four bytes, and eight behind them
+-- four bytes followed by eight
 long_stands : (bytes : List ℕ) (at first mid len next : ℕ) → StandsAt (IsFixed 4) bytes at first mid
     → first ≡ 0xffffffff → StandsAt (IsFixed 8) bytes mid len next
     → StandsAt IsLongLength bytes at len next
@@ -135,7 +135,7 @@ spelled_length Dwarf32 bytes len s = omega (arith, s.0.0)
 spelled_length Dwarf64 bytes len s = omega
     (arith, s.escape_is.0, ap length s.whole, length-append s.escape s.long)
 
--- what the read of a length leaves: a place behind, and not past the end
+-- the offset after an initial length: greater than the one before, and not past the end
 pub initial_length_at-moves : (bytes : List ℕ) (at : ℕ) (read : Read)
     → initial_length_at bytes at ≡ Ok read
     → (at < read.1) × (read.1 ≤ length bytes)

@@ -1,4 +1,4 @@
--- What each read takes, and what its answer is made of.
+-- The number of bytes that each read consumes, and the form of its result.
 use Rattle.std.proofs.Common.{◌≡◌, ℕ, ◌+◌, ◌≤◌, ℤ, List, length, take, drop, ap, sym, ◌∙◌, arith}
 use Rattle.std.specs.Prelude.{Result, Ok, Err, nat_lt}
 use Rattle.std.proofs.lemmas.Bool.{ltb-false}
@@ -32,7 +32,7 @@ pub sleb_moves : (section : List ℕ) (at : ℕ) (read : ℤ × ℕ) → reading
 sleb_moves section at read h = sleb_at-moves section at read.0 read.1
     (reading_ok (sleb_at section at) read h)
 
--- a field of n bytes takes them
+-- a read of a field of n bytes consumes them
 pub block_at-moves : (n : ℕ) (bytes : List ℕ) (at : ℕ) (read : List ℕ × ℕ)
     → block_at n bytes at ≡ Ok read
     → (at + n ≤ length bytes) × (read ≡ (take n (drop at bytes), at + n))

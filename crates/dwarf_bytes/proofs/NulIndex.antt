@@ -1,4 +1,4 @@
--- The index of the first NULs of blocks, and the text at an offset by it.
+-- The index of the first NULs of blocks, and the lookup of strings in it.
 use Rattle.std.proofs.Common.{◌≡◌, ℕ, zero, suc, ◌+◌, ◌-◌, ◌*◌, ◌/◌, ◌<◌, ◌≤◌, ◌⊎◌, inl, inr, List}
 use Rattle.std.proofs.Common.{[], ◌∷◌, ◌++◌, length, take, drop, get_or, reverse, refl, ap, sym}
 use Rattle.std.proofs.Common.{◌∙◌, arith}
@@ -37,12 +37,12 @@ nuls-get section block (suc count) (suc i) found h =
     nuls-get section (block + 1) count i found h ∙ ap (λ (k : ℕ). nul_from section (block_len * k))
     (omega arith)
 
--- the block behind a place begins near it
+-- the next block starts at most block_len bytes after an offset
 near-block : (at : ℕ) → (at < block_len * (at / block_len + 1))
     × (block_len * (at / block_len + 1) ≤ at + block_len)
 near-block at = (omega arith, omega arith)
 
--- without a NUL near a place, the index tells the first one
+-- without a NUL in the next block_len bytes, the index contains the first one
 pub nul-indexed : (section : List ℕ) (nuls : List (Option ℕ)) (at : ℕ) (found : Option ℕ)
     → AreNuls section nuls
     → position is_nul (take block_len (drop at section)) ≡ None
@@ -71,7 +71,7 @@ nul-unindexed section nuls at are none past =
     let beyond : length section ≤ at + j = omega (arith, place, are.all, sizes, past) in
     sym (nul-behind section at j (omega (arith, near.1)) none ∙ nul-outside section (at + j) beyond)
 
--- the index tells the first NUL, if there is one, where none is near
+-- without a NUL in the next block_len bytes, the index entry is the first NUL, if there is one
 pub nul-told : (section : List ℕ) (nuls : List (Option ℕ)) (at : ℕ) → AreNuls section nuls
     → None ≡ option_map (λ n. at + n) (position is_nul (take block_len (drop at section)))
     → unwrap_or (slice_get nuls (at / block_len + 1)) None ≡ nul_from section at
@@ -99,7 +99,7 @@ near-outside section at past =
     ap (λ (xs : List ℕ). option_map (λ n. at + n) (position is_nul (take block_len xs)))
     (sym (drop_all at section past))
 
--- ---- the loop that makes the index, from the last block to the first
+-- ---- the loop that builds the index, from the last block to the first
 
 pub record BuiltNuls (section : List ℕ) (nuls : List (Option ℕ)) (block : ℕ)
     (behind : Option ℕ) : Type 0 where
@@ -173,7 +173,7 @@ nuls_end section nuls items block behind so_far none items_are =
       all = so_far.all;
     }
 
--- ---- the text at an offset
+-- ---- the string at an offset
 
 pub text-ended : (section : List ℕ) (offset nul : ℕ) → nul_from section offset ≡ Some nul
     → text_at section offset ≡ Ok (take (nul - offset) (drop offset section))
@@ -205,7 +205,7 @@ text-endless section offset h = by_found (position is_nul (drop offset section))
     by_found None h = refl
     by_found (Some n) h = cc
 
--- the same, by what a search found
+-- the same, by the result of a search
 pub text-found : (section : List ℕ) (offset nul : ℕ) (found : Option ℕ)
     → found ≡ nul_from section offset
     → Ok nul ≡ ok_or found Unterminated → text_at section offset

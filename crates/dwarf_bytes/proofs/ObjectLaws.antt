@@ -1,4 +1,4 @@
--- The fault of a file from those of its parts, and its layout.
+-- The fault of a file, from the faults of its parts, and its layout.
 use Rattle.std.proofs.Common.{◌≡◌, ℕ, List, ◌∷◌, Option, Some, None, refl, sym, ap, ◌∙◌, option_map}
 use Rattle.std.proofs.Common.{find}
 use Rattle.std.specs.Prelude.{unwrap_or}

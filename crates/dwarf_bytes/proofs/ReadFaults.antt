@@ -1,4 +1,4 @@
--- Which fault is given where no number of fixed width, no initial length and no string stands.
+-- Which fault an invalid fixed-width number, initial length or string gives.
 use Rattle.std.proofs.Common.{◌≡◌, ℕ, ◌+◌, ◌<◌, ◌≤◌, Bool, true, false, cond, ltb, List, length}
 use Rattle.std.proofs.Common.{drop, take, Result, Ok, Err, ap, sym, refl, subst, ◌∙◌, arith, inl}
 use Rattle.std.proofs.Common.{inr, length-drop, ◌==◌, Some, None}
@@ -44,7 +44,7 @@ fixed_cut n bytes at fault h = rw (lt-ltb _ _ h.1) (ap (λ (f : ReadFault). Err 
 abbrev Read : Type 0
 Read = (Format × ℕ) × ℕ
 
--- the four bytes at a place, as a number
+-- the first four bytes at an offset, decoded
 abbrev first_four : List ℕ → ℕ → ℕ
 first_four bytes at = little_endian (take 4 (drop at bytes))
 
@@ -69,7 +69,7 @@ unfolding initial_length_at fixed_at block_at
 length_is_by true bytes at is = rw is refl
 length_is_by false bytes at is = rw is refl
 
--- the faults of an initial length, and when each comes
+-- the faults of an initial length, and their conditions
 abbrev pub IsLengthFault : List ℕ → ReadFault → Type 0
 IsLengthFault bytes fault =
     ((fault ≡ Short) × IsCutLength bytes) ⊎ ((fault ≡ Length) × IsReservedLength bytes)
@@ -172,7 +172,7 @@ pub short_or_length : {P Q : Type 0} (fault : ReadFault)
 short_or_length fault (inl p) = inl p.0
 short_or_length fault (inr p) = inr p.0
 
--- ---- the string of a section at an offset
+-- ---- the string at an offset of a section
 
 abbrev text_read : Option (List ℕ) → Result (List ℕ) ReadFault
 text_read found = option_map_or (λ text. Ok text) found (Err Unterminated)

@@ -20,7 +20,7 @@ use Rattle.dwarf_bytes.proofs.SectionItems.{in_file}
 
 -- ---- the first test that fails
 
--- what the tests of a wanted section give, as the fault of its item
+-- the first failure of a wanted section's tests is the fault of its item
 by_tests : (bytes : List ℕ) (entry : SectionHeader) (seen here : Bool) (cause : Option Cause)
     → seen ≡ here
     → cause ≡ first_failure (wanted_tests bytes entry seen)
@@ -91,7 +91,7 @@ and_true : (b : Bool) → (b && true) ≡ false → b ≡ false
 and_true true h = h
 and_true false h = refl
 
--- where a file has no section headers
+-- a file without section headers has no fault in them
 pub without : (bytes : List ℕ) (header : FileHeader) → header ≡ file_header bytes → header.shnum ≡ 0
     → is_bad_section_table bytes header ≡ false → first_fault sections.Elf (section_items bytes)
     ≡ None
@@ -110,7 +110,7 @@ without bytes header same zero_sections sound =
     (range_with_len 0 (file_header bytes).shnum))) none'
     ∙ ap (λ (n : ℕ). first_fault sections.Elf (map (section_item bytes) (range_with_len 0 n))) zero'
 
--- where it has some
+-- a file with section headers: the fault of the name section, or the first fault of a header
 pub with_some : (bytes : List ℕ) (header : FileHeader) → header ≡ file_header bytes
     → (header.shnum == 0) ≡ false
     → first_fault sections.Elf (section_items bytes)

@@ -1,4 +1,4 @@
--- The item of a section header, and the spans with it.
+-- The item of a section header, and the spans after it is processed.
 use Rattle.std.proofs.Common.{◌≡◌, ℕ, suc, ◌+◌, Bool, true, false, cond, ◌&&◌, List, [], ◌∷◌}
 use Rattle.std.proofs.Common.{get_or, set, Option, Some, None, refl, sym, ap, ◌∙◌, arith, position}
 use Rattle.std.proofs.Common.{option_map, is_some, is_none, find, Result, Ok, Err}
@@ -48,7 +48,7 @@ named_err bytes table k offset entry fault t o e read =
     ∙ ap (λ (b : List ℕ). result_ok (text_at b offset)) (sym t)
     ∙ ap (λ (r : Result (List ℕ) ReadFault). result_ok r) read
 
--- the fault of an item by its tests
+-- the fault of an item, by the outcomes of its tests
 abbrev pub fault_by : Bool → Bool → Bool → Bool → Bool → Bool → ℕ → Option LoadFault
 fault_by unnamed seen here nobits compressed outside at =
     item_fault sections.Elf (record {
@@ -136,7 +136,7 @@ unnamed bytes k entry named e =
     (is_compressed h)
     (is_outside bytes h.offset h.size) g.at) (sym e)
 
--- ---- the spans with the k-th
+-- ---- the spans after the k-th header
 
 or_none : {X : Type 0} (o : Option X) → option_or o None ≡ o
 or_none None = refl
@@ -175,7 +175,7 @@ no_span_yet : {X : Type 0} (o p : Option X) → is_some o ≡ false → option_o
 no_span_yet None p h = refl
 no_span_yet (Some x) p h = absurd cc
 
--- one more of the wanted
+-- the k-th header adds the span of a wanted section
 pub spans_set : (bytes : List ℕ) (k i : ℕ) (name : List ℕ) (entry : SectionHeader)
     (found : List (Option Span))
     → name_of bytes k ≡ Some name → Some i ≡ position (is_name name) wanted
@@ -195,7 +195,7 @@ spans_set bytes k i name entry found named number e f free =
     (ap (λ (spans : List (Option Span)). is_some (get_or spans i None)) (sym f)
     ∙ free)
 
--- none more of the wanted
+-- the k-th header adds no span
 pub spans_same : (bytes : List ℕ) (k : ℕ) (name : List ℕ) (found : List (Option Span))
     → name_of bytes k ≡ Some name
     → None ≡ position (is_name name) wanted → found ≡ spans_before bytes k

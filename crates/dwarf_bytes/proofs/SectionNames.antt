@@ -1,4 +1,4 @@
--- A name that is not walked to its end: whether it has one, and whether it is a wanted one.
+-- A name that is not scanned to its end: whether it has a NUL, and whether it is a wanted one.
 use Rattle.std.proofs.Common.{◌≡◌, ℕ, zero, suc, ◌+◌, ◌-◌, ◌<◌, ◌≤◌, Bool, true, false, not, ◌&&◌}
 use Rattle.std.proofs.Common.{◌||◌, cond, List, [], ◌∷◌, length, take, drop, get_or, Option, Some}
 use Rattle.std.proofs.Common.{None, Ok, Err, refl, sym, ap, ◌∙◌, arith}
@@ -18,7 +18,7 @@ use Rattle.dwarf_bytes.specs.Elf.{wanted}
 use Rattle.dwarf_bytes.specs.Private.SectionNames.{EndsTexts, begins_with, IsNumberAt}
 use Rattle.dwarf_bytes.proofs.FirstNuls.{is_nul, position-skip, position-first, position-none}
 
--- no text begins behind the last NUL
+-- no string starts after the last NUL
 pub behind-all : (names : List ℕ) (end offset : ℕ) → EndsTexts names end → end ≤ offset
     → text_at names offset ≡ Err Unterminated
 unfolding text_at text_front
@@ -34,7 +34,7 @@ behind-all names end offset ends behind =
     (option_map (λ n. take n (drop offset names)) o)
     (Err Unterminated)) none
 
--- where the search finds none, none is one
+-- if a search finds nothing, no element satisfies the predicate
 none-fails : (p : ℕ → Bool) (xs : List ℕ) → position p xs ≡ None → (k : ℕ) → k < length xs
     → p (get_or xs k 0) ≡ false
 none-fails p [] none k lt = absurd (omega (arith, lt))
@@ -57,7 +57,7 @@ none-fails p (x ∷ xs) none k lt =
     by_test false is later (suc k) lt =
         later (inner (position p xs) (sym (position-skip p x xs is) ∙ none)) k (omega (arith, lt))
 
--- one begins before it
+-- every offset before the last NUL is that of a string
 pub before-all : (names : List ℕ) (end offset : ℕ) → EndsTexts names end → offset < end
     → (name : List ℕ)
     × (text_at names offset ≡ Ok name) × (text_front (drop offset names) ≡ Some name)
@@ -84,7 +84,7 @@ before-all names end offset ends before = by_found (position is_nul (drop offset
         get_or-drop offset names k 0 ∙ (ap (λ (i : ℕ). get_or names i 0) place ∙ nul.2) in
         absurd (eqb-false (get_or (drop offset names) k 0) 0 fails zero_is)
 
--- ---- the text at the front of bytes, by its own bytes and its NUL
+-- ---- the string at the start of the bytes, by its own bytes and its NUL
 
 abbrev HasNoNul : List ℕ → Type 0
 HasNoNul text = list_any is_nul text ≡ false
@@ -111,7 +111,7 @@ lt-suc a b = by (nat_lt a b) refl
     by true h = let lt : a < b = ltb-true a b h in lt-ltb (suc a) (suc b) (omega (arith, lt))
     by false h = let le : b ≤ a = ltb-false a b h in le-ltb (suc a) (suc b) (omega (arith, le))
 
--- the text at the front of one byte more
+-- the string at the start, with one more byte before it
 front-nul : (b : ℕ) (bytes : List ℕ) → is_nul b ≡ true → text_front (b ∷ bytes) ≡ Some []
 unfolding text_front
 front-nul b bytes is = ap (λ (o : Option ℕ). option_map (λ n. take n (b ∷ bytes)) o)
@@ -144,7 +144,7 @@ turned true false p g = refl
 turned false true p g = refl
 turned false false p g = refl
 
--- .. is this one where the bytes begin with it and a NUL
+-- the string at the start equals `text` if and only if the bytes start with `text` and a NUL
 pub front-is : (bytes text name : List ℕ) → HasNoNul text → text_front bytes ≡ Some name
     → begins_with bytes text ≡ bytes_eq name text
 front-is [] text name plain h = absurd (front-none name h)
@@ -215,7 +215,7 @@ same-position p q same xs =
     ap (λ (n : ℕ). cond (nat_lt n (length xs)) (Some n) None)
     (same-prefix (λ y. not (p y)) (λ y. not (q y)) (λ x. ap not (same x)) xs)
 
--- the number of the name at an offset, by what the bytes there begin with
+-- the index of the name at an offset, by the bytes there
 pub number-at : (names : List ℕ) (end offset : ℕ) (number : Option ℕ) → EndsTexts names end
     → offset < end
     → number ≡ position (λ s. begins_with (take (length names - offset) (drop offset names))

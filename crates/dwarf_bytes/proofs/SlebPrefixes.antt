@@ -1,4 +1,4 @@
--- The signed number at the front of bytes, and numbers of one byte.
+-- The signed number at the start of the bytes, and numbers of one byte.
 use Rattle.std.proofs.Common.{◌≡◌, ℕ, zero, suc, ◌+◌, ◌*◌, ◌-◌, ◌%◌, ◌^◌, ◌<◌, ◌≤◌, Bool, true}
 use Rattle.std.proofs.Common.{false, cond, ltb, List, [], ◌∷◌, length, take, get_or, ap, sym, refl}
 use Rattle.std.proofs.Common.{◌∙◌, arith, length-take, Ok, Err}
@@ -22,14 +22,14 @@ pub power_of_128 : (n : ℕ) → 128 ^ n ≡ 2 ^ (7 * n)
 power_of_128 zero = refl
 power_of_128 (suc n) = pow-suc 128 n ∙ omega (arith, power_of_128 n, next_power n)
 
--- what is taken off where the sign is set
+-- the amount subtracted from a negative number
 pub sign_part : (negative : Bool) (len n : ℕ) → n ≡ len
     → cond negative (128 ^ n) 0 ≡ cond negative (2 ^ (7 * len)) 0
 sign_part negative len n is =
     ap (λ (k : ℕ). cond negative (128 ^ k) 0) is ∙ ap (λ (k : ℕ). cond negative k 0)
     (power_of_128 len)
 
--- the sign of the first len bytes
+-- the sign of the number in the first len bytes
 pub sign_of : (bytes : List ℕ) (len : ℕ) → 0 < len → len ≤ length bytes
     → leb_sign (take len bytes) ≡ nat_le 64 (get_or bytes (len - 1) 0 % 128)
 sign_of bytes len some within =
@@ -84,7 +84,7 @@ sleb_whole bytes u len negative value w sign is fits =
     0)) w.value_is
     ∙ sym same) fits
 
--- the value of ten bytes by the last of them
+-- the value of ten bytes, by the last of them
 pub sleb_value-ten : (bytes : List ℕ) (nine top : ℕ) → IsContinued bytes nine → 9 < length bytes
     → top ≡ get_or bytes 9 0 → sleb_value (take 10 bytes) ≡ pos (nine + top % 128 * 2 ^ 63) -ℤ pos
     (cond (nat_le 64 (top % 128)) (2 ^ 70) 0)

@@ -1,4 +1,4 @@
--- What is read at a place stands there, and what stands there is read.
+-- Blocks and fixed-width numbers are read at an offset if and only if they are there.
 use Rattle.std.proofs.Common.{◌≡◌, ℕ, ◌+◌, ◌≤◌, Bool, true, false, cond, ltb, List, ◌++◌, length}
 use Rattle.std.proofs.Common.{drop, take, Result, Ok, Err, ap, sym, refl, ◌∙◌, arith, length-append}
 use Rattle.std.proofs.Common.{length-drop}
@@ -11,7 +11,7 @@ use Rattle.dwarf_bytes.proofs.Spelling.{bind_ok}
 
 -- ---- blocks and numbers of fixed width
 
--- a block of so many bytes
+-- a block of n bytes
 abbrev pub IsBlock : ℕ → List ℕ → List ℕ → Type 0
 IsBlock n bytes block = (length bytes ≡ n) × (block ≡ bytes)
 
@@ -44,7 +44,7 @@ unfolding block_at
 block_stands n bytes at block next e = block_by (ltb (length bytes) (at + n)) n bytes at block next
     refl e
 
--- bytes that stand at a place are read as a block
+-- bytes at an offset are read as a block
 pub block_of : (bytes : List ℕ) (at : ℕ) (front rest : List ℕ) → at ≤ length bytes
     → drop at bytes ≡ front ++ rest
     → block_at (length front) bytes at ≡ Ok (front, at + length front)
@@ -77,7 +77,7 @@ fixed_stands n bytes at value next e =
         f x ≡ f y) → x ≡ y
     same_number x y h = cc
 
--- a number that stands at a place is read there
+-- a number encoded at an offset is read there
 pub fixed_of : (bytes : List ℕ) (at : ℕ) (front rest : List ℕ) → at ≤ length bytes
     → drop at bytes ≡ front ++ rest
     → fixed_at (length front) bytes at ≡ Ok (little_endian front, at + length front)

@@ -1,4 +1,4 @@
--- A text is read where it stands with its NUL, and is missing where none follows.
+-- A string is read if it is at the offset with its NUL. Without a NUL the read fails.
 use Rattle.std.proofs.Common.{◌≡◌, ℕ, suc, ◌+◌, ◌<◌, ◌≤◌, Bool, true, false, not, cond, ltb, eqb}
 use Rattle.std.proofs.Common.{List, [], ◌∷◌, ◌++◌, length, drop, take, get_or, Some, None, Result}
 use Rattle.std.proofs.Common.{Ok, Err, ap, sym, refl, subst, ◌∙◌, arith, length-append, length-take}
@@ -18,7 +18,7 @@ use Rattle.dwarf_bytes.specs.Numbers.{IsText, StandsAt, text_front, cstr_at}
 abbrev is_text_byte : ℕ → Bool
 is_text_byte b = not (eqb b 0)
 
--- how many bytes stand before the first NUL
+-- the number of bytes before the first NUL
 abbrev text_len : List ℕ → ℕ
 text_len bytes = prefix_len is_text_byte bytes
 
@@ -39,7 +39,7 @@ stops-zero b h = eqb-true b 0 (by (eqb b 0) h)
     by true h = refl
     by false h = absurd cc
 
--- the bytes before the first NUL are none
+-- no byte before the first NUL is a NUL
 no_nul_before : (bytes : List ℕ) (n : ℕ) → n ≤ text_len bytes → HasNoNul (take n bytes)
 no_nul_before bytes n le k d lt =
     let below : k < n = let size = length-take n bytes in omega (arith, size) in
@@ -47,7 +47,7 @@ no_nul_before bytes n le k d lt =
     (prefix_len_passes is_text_byte bytes k d (omega arith)) in
     rw (get_or-take n bytes k d below) here
 
--- a text and its NUL at the front of bytes
+-- a string and its NUL at the start of the bytes
 front_len : (text rest : List ℕ) → HasNoNul text → text_len (text ++ 0 ∷ rest) ≡ length text
 front_len [] rest h = refl
 front_len (b ∷ text) rest h =
@@ -55,7 +55,7 @@ front_len (b ∷ text) rest h =
     let here : eqb b 0 ≡ false = ne_eqb b 0 (All-head (λ (byte : ℕ). byte ≢ 0) b text h) in
     rw here (omega (arith, more))
 
--- where the bytes have no NUL
+-- bytes without a NUL
 none_len : (bytes : List ℕ) → HasNoNul bytes → ltb (text_len bytes) (length bytes) ≡ false
 none_len bytes h = by (ltb (text_len bytes) (length bytes)) refl
   where
@@ -69,7 +69,7 @@ same_text : (x y : List ℕ × ℕ) → (let f : List ℕ × ℕ → Result (Lis
     f x ≡ f y) → x ≡ y
 same_text x y h = cc
 
--- what the bytes at a place give, by whether a NUL follows
+-- the result of reading a string, by whether a NUL follows
 abbrev text_by : Bool → ℕ → List ℕ → ℕ → Result (List ℕ × ℕ) ReadFault
 text_by found n bytes at =
     option_map_or (λ text. Ok (text, at + length text + 1))

@@ -1,4 +1,4 @@
--- The turns of a loop over items, from what was read so far.
+-- The iterations of a loop over items, with the items read so far.
 use Rattle.std.proofs.Common.{◌≡◌, ℕ, ◌<◌, ◌≤◌, List, [], ◌∷◌, ◌++◌, refl, sym, ◌∙◌, append-nil, ap}
 use Rattle.std.proofs.Common.{subst, arith}
 use Rattle.std.specs.Prelude.{Result, Ok, Err, Option, Some, None}
@@ -8,8 +8,7 @@ use Rattle.dwarf_bytes.specs.Position.{Position}
 use Rattle.dwarf_bytes.specs.Refusals.{ReadsNext}
 use Rattle.dwarf_bytes.proofs.ItemLaws.{with_front, loop-item, loop-end, loop-fault}
 
--- what was read so far, in front of what is read from here on, is what is read from the first place
--- on
+-- the items so far, followed by the items from here on, are all items from the first offset on
 abbrev pub SoFar : {X : Type 0} → ℕ → (List X → ℕ → Result (Next X) Cause) → ℕ → List X → ℕ → Type 0
 SoFar end step first before at = with_front before (items_from end step before at)
     ≡ items_from end step [] first
@@ -47,7 +46,7 @@ pub so_far-fault : {X : Type 0} (end : ℕ) (step : List X → ℕ → Result (N
 so_far-fault end step adv first before at cause so_far is =
     sym so_far ∙ loop-fault end step adv before at cause is
 
--- each item takes a byte or more, and so does the end
+-- each item has at least one byte, and so does the end of the items
 abbrev pub Ends : {X : Type 0} → ℕ → (List X → ℕ → Result (Next X) Cause) → Type 0
 Ends {X} end step = (before : List X) (at after : ℕ) → step before at ≡ Ok (End after)
     → (at < after) × (after ≤ end)
@@ -66,7 +65,7 @@ pub None-from_no_Some : {A : Type 0} (o : Option A) → ((x : A) → o ≡ Some 
 None-from_no_Some None h = refl
 None-from_no_Some (Some x) h = absurd (h x refl)
 
--- ---- what a turn found, where the cursor's bytes and the list so far go by other names
+-- ---- the result of an iteration, with variables for the cursor's bytes and the list so far
 
 pub next_item : {X : Type 0} (step : List ℕ → List X → ℕ → Result (Next X) Cause) (bytes : List ℕ)
     (old new : Position)

@@ -1,4 +1,4 @@
--- The unsigned number at the front of bytes.
+-- The unsigned number at the start of the bytes.
 use Rattle.std.proofs.Common.{◌≡◌, ℕ, ◌+◌, ◌*◌, ◌-◌, ◌%◌, ◌^◌, ◌<◌, ◌≤◌, Bool, true, false, cond}
 use Rattle.std.proofs.Common.{ltb, List, [], ◌∷◌, ◌++◌, length, take, get_or, ap, sym, refl, ◌∙◌}
 use Rattle.std.proofs.Common.{subst, arith, length-take, Ok, Err}
@@ -14,9 +14,9 @@ use Rattle.dwarf_bytes.specs.Private.LebPrefixes.{IsWhole, IsContinued, uleb_fro
 use Rattle.dwarf_bytes.proofs.LebPrefixes.{GoOn, uleb_value-push, IsLeb-push, leb_front-open}
 use Rattle.dwarf_bytes.proofs.LebPrefixes.{leb_front-take}
 
--- ---- the number at the front
+-- ---- the number at the start
 
--- a spelling whose number fits
+-- an encoding whose number fits in 64 bits
 pub uleb_of : (bytes : List ℕ) (value len : ℕ) → IsLeb (take len bytes) → len ≤ 10
     → len ≤ length bytes
     → value ≡ uleb_value (take len bytes) → value < 2 ^ 64 → uleb_front bytes ≡ Ok (value, len)
@@ -35,7 +35,7 @@ uleb_whole bytes value len w =
     uleb_of bytes value len w.leb (omega (arith, few)) w.within w.value_is
     (omega (arith, small, bound))
 
--- a spelling whose number does not
+-- an encoding whose number does not fit
 pub uleb_over : (bytes : List ℕ) (len : ℕ) → IsLeb (take len bytes) → len ≤ 10
     → 2 ^ 64 ≤ uleb_value (take len bytes)
     → uleb_front bytes ≡ Err Leb
@@ -44,13 +44,13 @@ uleb_over bytes len leb few large =
     let over : ltb (uleb_value (take len bytes)) (2 ^ 64) ≡ false = le-ltb _ _ large in
     rw (leb_front-take bytes len leb few, over) refl
 
--- no spelling
+-- no encoding
 pub uleb_none : (bytes : List ℕ) → GoOn (take 10 bytes)
     → uleb_front bytes ≡ Err (cond (ltb (length bytes) 10) Short Leb)
 unfolding uleb_front
 uleb_none bytes go = rw (leb_front-open bytes go) refl
 
--- all of the bytes go on, and there are fewer than ten
+-- fewer than ten bytes, all with bit 7 set
 pub few_go_on : (bytes : List ℕ) → length bytes < 10 → GoOn bytes → (GoOn (take 10 bytes))
     × (cond (ltb (length bytes) 10) Short Leb ≡ Short)
 few_go_on bytes few go = (All-take (λ (byte : ℕ). 128 ≤ byte) 10 bytes go, rw (lt-ltb _ _ few) refl)
@@ -63,7 +63,7 @@ pub nine_go_on : (bytes : List ℕ) (value : ℕ) → IsContinued bytes value �
     → GoOn bytes
 nine_go_on bytes value is few = subst GoOn (take_all 9 bytes few) is.go_on
 
--- ten bytes: nine that go on, and the tenth
+-- ten bytes: the first nine, and the tenth
 pub ten : (bytes : List ℕ) → 9 < length bytes → take 10 bytes ≡ take 9 bytes ++ get_or bytes 9 0
     ∷ []
 ten bytes more = take-suc bytes 9 0 more
@@ -86,7 +86,7 @@ ten_value bytes value top is more at =
     ∙ ap (λ (n : ℕ). n + get_or bytes 9 0 % 128 * 2 ^ 63) (sym is.value_is)
     ∙ ap (λ (n : ℕ). value + n % 128 * 2 ^ 63) (sym at)
 
--- ten bytes that go on
+-- ten bytes with bit 7 set
 pub ten_open : (bytes : List ℕ) (value top : ℕ) → IsContinued bytes value → 9 < length bytes
     → top ≡ get_or bytes 9 0
     → 128 ≤ top → (GoOn (take 10 bytes)) × (cond (ltb (length bytes) 10) Short Leb ≡ Leb)

@@ -1,4 +1,4 @@
--- The contents of values (DWARF 5, 7.5.5 and 7.5.6): how each layout spells one, and how it is
+-- The contents of values (DWARF 5, 7.5.5 and 7.5.6): how each layout encodes a value, and how it is
 -- read.
 use Rattle.std.specs.Prelude.{◌≡◌, ℕ, ℤ, List, [], ◌++◌, length, Result, Ok}
 use Rattle.dwarf_bytes.specs.declared.fault.ReadFault.{ReadFault}
@@ -12,24 +12,24 @@ use Rattle.dwarf_bytes.specs.Numbers.{block_at, fixed_at, offset_len, offset_at,
 use Rattle.dwarf_bytes.specs.Numbers.{cstr_at, IsFixed, IsText, IsUleb, IsSleb}
 use Rattle.dwarf_bytes.specs.Forms.{byte_len}
 
--- what a value is, wherever its bytes lie
+-- a value, independent of where its bytes are stored
 pub data Content : Type 0 where
   Number : ℕ → Content
   Signed : ℤ → Content
   Bytes : List ℕ → Content
 
--- a content of the program
+-- the model of a content of the program
 abbrev pub content_of : Lent → Content
 content_of (lent.Number n) = Number n
 content_of (lent.Signed z) = Signed z
 content_of (lent.Bytes b) = Bytes b.now
 
--- the bytes that a content is
+-- the bytes of a content
 abbrev pub block_in : Content → List ℕ
 block_in (Bytes b) = b
 block_in content = []
 
--- The bytes spell the content in this layout.
+-- The bytes encode the content in this layout.
 abbrev pub SpellsContent : ValueLayout → Format → List ℕ → Content → Type 0
 SpellsContent (layouts.Fixed width) format bytes (Number v) = IsFixed (byte_len width) bytes v
 SpellsContent layouts.Offset format bytes (Number v) = IsFixed (offset_len format) bytes v
@@ -44,12 +44,12 @@ SpellsContent layouts.LongBlock format bytes (Bytes block) =
     (len : List ℕ) × (bytes ≡ len ++ block) × IsUleb len (length block)
 SpellsContent layout format bytes content = ⊥
 
--- what is read, as a content
+-- converts the value of a read into a content
 abbrev pub read_as : {X : Type 0} → (X → Content) → Result (X × ℕ) ReadFault
     → Result (Content × ℕ) ReadFault
 read_as content read = read >>= λ x. Ok (content x.0, x.1)
 
--- the content of a layout at a place, and the place after it
+-- the content in a layout at an offset, and the offset after it
 unfoldable pub content_at : ValueLayout → Format → List ℕ → ℕ → Result (Content × ℕ) ReadFault
 content_at (layouts.Fixed width) format bytes at =
     read_as Number (fixed_at (byte_len width) bytes at)

@@ -29,7 +29,7 @@ use Rattle.dwarf_bytes.specs.declared.form.Width.TheVariants.{One, Two, Three, F
 use Rattle.dwarf_bytes.specs.declared.form.Form.{Form}
 use Rattle.dwarf_bytes.specs.declared.form.Form.TheVariants.{Direct, ImplicitConst, Indirect}
 
--- the bytes of a width
+-- the number of bytes of a width
 abbrev pub byte_len : Width → ℕ
 byte_len One = 1
 byte_len Two = 2
@@ -37,8 +37,8 @@ byte_len Three = 3
 byte_len Four = 4
 byte_len Eight = 8
 
--- Each form that is read, and how its value is laid out. DW_FORM_ref_sup4 (0x1c), DW_FORM_strp_sup
--- (0x1d), DW_FORM_ref_sup8 (0x24) and every other number are refused.
+-- The supported forms and the layouts of their values. DW_FORM_ref_sup4 (0x1c), DW_FORM_strp_sup
+-- (0x1d), DW_FORM_ref_sup8 (0x24) and all other numbers are refused.
 abbrev pub forms : List (ℕ × Form)
 forms =
     (DW_FORM_ADDR, Direct (Fixed Eight)) ∷
@@ -83,6 +83,6 @@ forms =
     (DW_FORM_ADDRX4, Direct (Fixed Four)) ∷
     []
 
--- what a form says of its value
+-- the form with a number, if it is supported
 abbrev pub form_of : ℕ → Option Form
 form_of number = option_map (λ row. row.1) (find (λ row. nat_eq number row.0) forms)

@@ -1,5 +1,5 @@
--- Numbers and texts as DWARF 5 spells them. A read takes bytes and a place in them, and answers the
--- value and the place after it, or the fault.
+-- The encodings of numbers and strings in DWARF 5. A read takes bytes and an offset into them. It
+-- returns the value and the offset after it, or a fault.
 use Rattle.std.specs.Prelude.{All, ◌≢◌, FitsSigned, int_le, int_lt, ◌&&◌, ◌==◌, position}
 use Rattle.std.specs.Prelude.{◌⊎◌, option_map, Option, ◌≡◌, ℕ, ◌+◌, ◌*◌, ◌-◌, ◌%◌, ◌^◌, ◌<◌, ◌≤◌, ℤ, pos}
 use Rattle.std.specs.Prelude.{◌-ℤ◌, List, [], ◌∷◌, ◌++◌, length, take, drop, slice_index, Bool}
@@ -12,7 +12,7 @@ use Rattle.dwarf_bytes.specs.declared.format.Format.{Format}
 use Rattle.dwarf_bytes.specs.declared.format.Format.TheVariants.{Dwarf32, Dwarf64}
 use Rattle.dwarf_bytes.specs.Bind.{◌>>=◌}
 
--- the n bytes at the place
+-- the n bytes at the offset
 unfoldable pub block_at : ℕ → List ℕ → ℕ → Result (List ℕ × ℕ) ReadFault
 block_at n bytes at =
     if nat_lt (length bytes) (at + n) then Err Short else Ok (take n (drop at bytes), at + n)
@@ -22,15 +22,15 @@ abbrev pub little_endian : List ℕ → ℕ
 little_endian [] = 0
 little_endian (b ∷ bs) = b + 256 * little_endian bs
 
--- n bytes spell a number
+-- n bytes encode a number
 abbrev pub IsFixed : ℕ → List ℕ → ℕ → Type 0
 IsFixed n bytes value = (length bytes ≡ n) × (value ≡ little_endian bytes)
 
--- the number that the n bytes at the place spell, where they are there
+-- the number encoded in the n bytes at the offset, if they are present
 abbrev pub field : ℕ → List ℕ → ℕ → ℕ
 field n bytes at = little_endian (take n (drop at bytes))
 
--- the same, read
+-- the read of such a number
 unfoldable pub fixed_at : ℕ → List ℕ → ℕ → Result (ℕ × ℕ) ReadFault
 fixed_at n bytes at = do
   block ← block_at n bytes at
@@ -62,15 +62,15 @@ abbrev pub uleb_value : List ℕ → ℕ
 uleb_value [] = 0
 uleb_value (b ∷ bs) = b % 128 + 128 * uleb_value bs
 
--- bit 6 of the last byte
+-- whether bit 6 of the last byte is set
 abbrev pub leb_sign : List ℕ → Bool
 leb_sign bytes = nat_le 64 (slice_index bytes (length bytes - 1) % 128)
 
--- the same, less 128 ^ n where bit 6 of the last of the n bytes is set
+-- the unsigned value, minus 128 ^ n if bit 6 of the last of the n bytes is set
 abbrev pub sleb_value : List ℕ → ℤ
 sleb_value bytes = pos (uleb_value bytes) -ℤ pos (if leb_sign bytes then 128 ^ length bytes else 0)
 
--- a spelling of at most 10 bytes, of a number of 64 bits
+-- an encoding of a 64-bit number in at most 10 bytes
 pub record IsUleb (bytes : List ℕ) (value : ℕ) : Type 0 where
   pub leb : IsLeb bytes
   pub len : length bytes ≤ 10
@@ -83,15 +83,15 @@ pub record IsSleb (bytes : List ℕ) (value : ℤ) : Type 0 where
   pub value_is : value ≡ sleb_value bytes
   pub fits : FitsSigned w64 value
 
--- No LEB128 number stands at the front of bytes that are cut: fewer than ten, all with bit 7; ..
+-- The bytes contain no LEB128 number if they are truncated: fewer than ten, all with bit 7 set; ..
 abbrev pub IsCutLeb : List ℕ → Type 0
 IsCutLeb bytes = (length bytes < 10) × All (λ byte. 128 ≤ byte) bytes
 
--- .. nor where ten bytes have bit 7; ..
+-- .. or if the first ten bytes have bit 7 set; ..
 abbrev pub IsEndlessLeb : List ℕ → Type 0
 IsEndlessLeb bytes = (10 ≤ length bytes) × All (λ byte. 128 ≤ byte) (take 10 bytes)
 
--- .. nor where the number that they spell is none of 64 bits.
+-- .. or if the encoded number does not fit in 64 bits.
 pub record IsOverLeb (IsOver : List ℕ → Type 0) (bytes : List ℕ) : Type 0 where
   pub front : List ℕ
   pub rest : List ℕ
@@ -106,7 +106,7 @@ IsOverUleb front = 2 ^ 64 ≤ uleb_value front
 abbrev pub IsOverSleb : List ℕ → Type 0
 IsOverSleb front = ¬ (FitsSigned w64 (sleb_value front))
 
--- the bytes at the place begin with what spells the value, and next is the place after it
+-- the bytes at the offset start with an encoding of the value, and next is the offset after it
 pub record StandsAt {X : Type 0} (Spells : List ℕ → X → Type 0) (bytes : List ℕ) (at : ℕ)
     (value : X)
     (next : ℕ) : Type 0 where
@@ -116,8 +116,8 @@ pub record StandsAt {X : Type 0} (Spells : List ℕ → X → Type 0) (bytes : L
   pub parts : drop at bytes ≡ front ++ rest
   pub next_is : next ≡ at + length front
 
--- the spelling at the front of the bytes: up to the first byte below 128, which is one of the first
--- ten
+-- The encoding at the start of the bytes. It ends with the first byte below 128, which is one of
+-- the first ten.
 unfoldable pub leb_front : List ℕ → Result (List ℕ) ReadFault
 leb_front bytes =
     option_map_or (λ last. Ok (take (last + 1) bytes))
@@ -129,7 +129,7 @@ uleb_at bytes at = do
   leb ← leb_front (drop at bytes)
   if nat_lt (uleb_value leb) (2 ^ 64) then Ok (uleb_value leb, at + length leb) else Err Leb
 
--- whether 64 bits hold a number, as two's complement
+-- whether a number fits in 64 bits in two's complement
 abbrev pub fits_i64 : ℤ → Bool
 fits_i64 z = int_le (pos 0 -ℤ pos (2 ^ 63)) z && int_lt z (pos (2 ^ 63))
 
@@ -138,11 +138,11 @@ sleb_at bytes at = do
   leb ← leb_front (drop at bytes)
   if fits_i64 (sleb_value leb) then Ok (sleb_value leb, at + length leb) else Err Leb
 
--- A text runs up to a NUL (DWARF 5, 7.5.5), which is not of it.
+-- A string ends before its NUL (DWARF 5, 7.5.5), which is not part of it.
 abbrev pub IsText : List ℕ → List ℕ → Type 0
 IsText bytes text = (bytes ≡ text ++ 0 ∷ []) × All (λ byte. byte ≢ 0) text
 
--- the text at the front of the bytes
+-- the string at the start of the bytes
 unfoldable pub text_front : List ℕ → Option (List ℕ)
 text_front bytes = option_map (λ n. take n bytes) (position (λ b. b == 0) bytes)
 
@@ -151,12 +151,12 @@ cstr_at bytes at =
     option_map_or (λ text. Ok (text, at + length text + 1)) (text_front (drop at bytes))
     (Err Unterminated)
 
--- the text of a section at an offset into it
+-- the string at an offset of a section
 unfoldable pub text_at : List ℕ → ℕ → Result (List ℕ) ReadFault
 text_at section offset =
     option_map_or (λ text. Ok text) (text_front (drop offset section)) (Err Unterminated)
 
--- the bytes of an initial length, and of an offset into a section (DWARF 5, 7.4)
+-- the number of bytes of an initial length, and of an offset into a section (DWARF 5, 7.4)
 abbrev pub length_len : Format → ℕ
 length_len Dwarf32 = 4
 length_len Dwarf64 = 12
@@ -169,7 +169,7 @@ abbrev pub offset_at : Format → List ℕ → ℕ → Result (ℕ × ℕ) ReadF
 offset_at Dwarf32 = u32_at
 offset_at Dwarf64 = u64_at
 
--- An initial length of the 64-bit format is 0xffffffff, and the length in eight bytes.
+-- An initial length of the 64-bit format is 0xffffffff, followed by the length in eight bytes.
 pub record IsLongLength (bytes : List ℕ) (len : ℕ) : Type 0 where
   pub escape : List ℕ
   pub long : List ℕ
@@ -177,12 +177,12 @@ pub record IsLongLength (bytes : List ℕ) (len : ℕ) : Type 0 where
   pub escape_is : IsFixed 4 escape 0xffffffff
   pub long_is : IsFixed 8 long len
 
--- The bytes are an initial length (7.4). One of the 32-bit format is below 0xfffffff0.
+-- The bytes encode an initial length (7.4). One of the 32-bit format is below 0xfffffff0.
 abbrev pub IsInitialLength : Format → List ℕ → ℕ → Type 0
 IsInitialLength Dwarf32 bytes len = IsFixed 4 bytes len × (len < 0xfffffff0)
 IsInitialLength Dwarf64 bytes len = IsLongLength bytes len
 
--- the same, read: from 0xfffffff0 to 0xfffffffe there is none
+-- the read of an initial length: the values from 0xfffffff0 to 0xfffffffe are reserved
 unfoldable pub initial_length_at : List ℕ → ℕ → Result ((Format × ℕ) × ℕ) ReadFault
 initial_length_at bytes at = do
   read ← u32_at bytes at
@@ -192,13 +192,13 @@ initial_length_at bytes at = do
         Ok ((Dwarf64, long.0), long.1))
       else Err Length
 
--- No initial length is at the front of bytes that end inside it: fewer than four, or fewer than
--- twelve where they begin with 0xffffffff; ..
+-- The bytes contain no initial length if they are truncated: fewer than four, or fewer than twelve
+-- that start with 0xffffffff; ..
 abbrev pub IsCutLength : List ℕ → Type 0
 IsCutLength bytes =
     (length bytes < 4) ⊎ ((field 4 bytes 0 ≡ 0xffffffff) × (length bytes < 12))
 
--- .. nor where the first four bytes are a reserved value: from 0xfffffff0 on, and not 0xffffffff.
+-- .. or if the first four bytes are reserved: at least 0xfffffff0, but not 0xffffffff.
 pub record IsReservedLength (bytes : List ℕ) : Type 0 where
   pub whole : 4 ≤ length bytes
   pub reserved : 0xfffffff0 ≤ field 4 bytes 0

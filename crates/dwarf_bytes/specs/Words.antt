@@ -1,4 +1,4 @@
--- The words of sections and causes.
+-- The names of sections and the reply words of causes.
 use Rattle.std.specs.Prelude.{ℕ, List, codes}
 use Rattle.dwarf_bytes.specs.declared.fault.Section.{Section}
 use Rattle.dwarf_bytes.specs.declared.fault.Section.TheVariants as sections
@@ -67,7 +67,7 @@ cause_word causes.LineRange = codes "line-range"
 cause_word causes.Children = codes "children"
 cause_word causes.RangeKind = codes "range-kind"
 
--- the cause that a fault of a read is
+-- the cause that corresponds to a read fault
 abbrev pub cause_of : ReadFault → Cause
 cause_of Short = causes.Short
 cause_of Leb = causes.Leb

@@ -1,5 +1,5 @@
-//! The numbers of DWARF 5, under the names of its tables (chapter 7). The definitions of specs/
-//! name the same ones.
+//! The constants of DWARF 5 under the names used in its tables (chapter 7). The definitions in
+//! specs/ refer to the same constants.
 
 // Unit types (7.5.1, table 7.2).
 pub const DW_UT_COMPILE: u8 = 0x01;
@@ -139,12 +139,12 @@ pub const DW_LNE_END_SEQUENCE: u8 = 0x01;
 
 pub const DW_LNE_SET_ADDRESS: u8 = 0x02;
 
-// What an entry of a line program's header holds (7.22, table 7.27).
+// Content types of line program header entries (7.22, table 7.27).
 pub const DW_LNCT_PATH: u64 = 0x1;
 
 pub const DW_LNCT_DIRECTORY_INDEX: u64 = 0x2;
 
-// Entries of range lists (7.25, table 7.30).
+// Range list entries (7.25, table 7.30).
 pub const DW_RLE_END_OF_LIST: u8 = 0x00;
 
 pub const DW_RLE_BASE_ADDRESSX: u8 = 0x01;

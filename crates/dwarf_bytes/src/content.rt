@@ -1,4 +1,4 @@
-//! The contents of values.
+//! Attribute values, read by their layout.
 
 ghost use Rattle.std.specs.Prelude.{◌≡◌, ◌≤◌, length, IfOk, IfErr, Ok, Err};
 ghost use Rattle.dwarf_bytes.specs.Position.{Reads};
@@ -11,17 +11,17 @@ use crate::fault::ReadFault;
 use crate::form::{ValueLayout, Width};
 use crate::format::Format;
 
-/// What a value is.
+/// A decoded value, before it is interpreted by the attribute that has it.
 #[derive(Clone, Copy, Debug)]
 pub enum Content<'a> {
     Number(u64),
     Signed(i64),
-    /// The bytes of a block, or of a text without its NUL.
+    /// The bytes of a block, or of a string without its NUL.
     Bytes(&'a [u8]),
 }
 
 impl<'a> Content<'a> {
-    /// The content of a layout at the cursor. After a fault the cursor is as before.
+    /// Reads a value in the given layout at the cursor. On a fault the cursor does not move.
     #[tactic(auto, unfolding(crate::specs::Contents::content_at))]
     pub fn read(
         layout: ValueLayout,
@@ -52,7 +52,7 @@ impl<'a> Content<'a> {
     }
 }
 
-/// The next number of a width.
+/// Reads a number of the given width.
 fn number(width: Width, cursor: &mut Cursor) -> Result<u64, ReadFault>
     ensures { Reads (λ x. x) result (fixed_at (byte_len width)) cursor.old cursor.new }
 {
@@ -65,7 +65,7 @@ fn number(width: Width, cursor: &mut Cursor) -> Result<u64, ReadFault>
     })
 }
 
-/// So many bytes; the cursor goes back to `start` where they are not there.
+/// Reads `len` bytes. If fewer remain, moves the cursor back to `start`.
 fn block<'a>(len: u64, start: usize, cursor: &mut Cursor<'a>) -> Result<Content<'a>, ReadFault>
     requires { start ≤ length cursor.old.bytes }
     ensures block { IfOk result (λ c.

@@ -1,4 +1,4 @@
-//! What other errors are told as.
+//! Conversions of allocation failures and read faults into `Cause` and `LoadFault`.
 
 ghost use Rattle.std.specs.Prelude.{◌≡◌};
 ghost use Rattle.dwarf_bytes.specs.Words.{cause_of};

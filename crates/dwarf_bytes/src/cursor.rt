@@ -1,4 +1,4 @@
-//! A cursor over bytes, which reads the numbers and texts that they spell.
+//! A cursor over bytes, which reads encoded numbers and strings.
 
 ghost use Rattle.std.specs.Prelude.{◌≡◌, ◌≤◌, ◌<◌, ◌+◌, ◌↔◌, length, take, OnOk, OnErr, IsOk, IfOk};
 ghost use Rattle.dwarf_bytes.specs.Position.{Position, Reads};
@@ -13,13 +13,13 @@ use crate::text::text_front;
 use byteorder::{ByteOrder, LittleEndian};
 use std::marker::Model;
 
-/// The first of the initial lengths that are no length of the 32-bit format.
+/// The first reserved initial length: 32-bit DWARF lengths are below it.
 const RESERVED_LENGTHS: u32 = 0xffff_fff0;
 
-/// What stands before a length of the 64-bit format.
+/// The escape that precedes a length of the 64-bit format.
 const LONG_LENGTH: u32 = 0xffff_ffff;
 
-/// A place in bytes.
+/// A byte slice and an offset into it.
 #[derive(Debug, Drop)]
 pub struct Cursor<'a> {
     bytes: &'a [u8],
@@ -38,14 +38,14 @@ impl<'a> Model for Cursor<'a> {
 }
 
 impl<'a> Cursor<'a> {
-    /// A cursor at the front of the bytes.
+    /// Creates a cursor at offset 0.
     pub fn new(bytes: &'a [u8]) -> Cursor<'a>
         ensures { result ≡ record { bytes = bytes.now; place = 0 } }
     {
         Cursor { bytes, place: 0 }
     }
 
-    /// Another cursor at the same place of the same bytes.
+    /// Returns a copy of the cursor, at the same offset of the same bytes.
     #[inline(always)]
     pub fn fork(&self) -> Cursor<'a>
         ensures { result ≡ self.now }
@@ -56,7 +56,7 @@ impl<'a> Cursor<'a> {
         }
     }
 
-    /// How many bytes stand before the cursor.
+    /// Returns the cursor's offset from the start of its bytes.
     pub fn place(&self) -> usize
         ensures place { result ≡ self.now.place }
         ensures within { result ≤ length self.now.bytes }
@@ -64,7 +64,8 @@ impl<'a> Cursor<'a> {
         self.place // of the next byte
     }
 
-    /// Moves to a place of the bytes, or to their end.
+    /// Moves to an offset from the start of the bytes. The end of the bytes is allowed; beyond it,
+    /// returns `Short` and does not move.
     pub fn seek(&mut self, place: usize) -> Result<(), ReadFault>
         ensures ok { OnOk result (self.new ≡ record self.old { place = place }) }
         ensures within { IsOk result ↔ (place ≤ length self.old.bytes) }
@@ -78,7 +79,7 @@ impl<'a> Cursor<'a> {
         Ok(())
     }
 
-    /// A cursor at the same place, over the bytes as far as `len` behind it.
+    /// Returns a cursor at the same offset whose bytes end `len` bytes after it.
     pub fn part(&self, len: u64) -> Result<Cursor<'a>, ReadFault>
         ensures part { IfOk result (λ part. part ≡
             record { bytes = take (self.now.place + len) self.now.bytes; place = self.now.place }) }
@@ -95,7 +96,7 @@ impl<'a> Cursor<'a> {
         })
     }
 
-    /// The next `len` bytes.
+    /// Reads the next `len` bytes.
     #[tactic(auto, unfolding(crate::specs::Numbers::block_at))]
     pub fn block(&mut self, len: u64) -> Result<&'a [u8], ReadFault>
         ensures block { Reads (λ block. block.now) result (block_at len) self.old self.new }
@@ -150,7 +151,7 @@ impl<'a> Cursor<'a> {
         Ok(LittleEndian::read_u64(self.block(8)?))
     }
 
-    /// The text up to the next NUL, which is read too.
+    /// Reads a string and its NUL, and returns the string without the NUL.
     #[tactic(auto, unfolding(crate::specs::Numbers::cstr_at))]
     pub fn cstr(&mut self) -> Result<&'a [u8], ReadFault>
         ensures reads { Reads (λ text. text.now) result cstr_at self.old self.new }
@@ -161,7 +162,7 @@ impl<'a> Cursor<'a> {
         Ok(text)
     }
 
-    /// An unsigned LEB128 number.
+    /// Reads an unsigned LEB128 number.
     #[inline]
     pub fn uleb(&mut self) -> Result<u64, ReadFault>
         ensures reads { Reads (λ x. x) result uleb_at self.old self.new }
@@ -172,7 +173,7 @@ impl<'a> Cursor<'a> {
         Ok(value)
     }
 
-    /// A signed LEB128 number.
+    /// Reads a signed LEB128 number.
     #[inline]
     pub fn sleb(&mut self) -> Result<i64, ReadFault>
         ensures reads { Reads (λ x. x) result sleb_at self.old self.new }
@@ -183,7 +184,7 @@ impl<'a> Cursor<'a> {
         Ok(value)
     }
 
-    /// The length at the front of a unit.
+    /// Reads the initial length of a unit (DWARF 5, 7.4). The length also determines the format.
     #[tactic(auto, unfolding(crate::specs::Numbers::initial_length_at))]
     pub fn initial_length(&mut self) -> Result<(Format, u64), ReadFault>
         ensures reads { Reads (λ x. x) result initial_length_at self.old self.new }
@@ -206,7 +207,7 @@ impl<'a> Cursor<'a> {
         Err(fault)
     }
 
-    /// An offset into a section.
+    /// Reads an offset into a section: 4 or 8 bytes, depending on the format.
     pub fn offset(&mut self, format: Format) -> Result<u64, ReadFault>
         ensures reads { Reads (λ x. x) result (offset_at format) self.old self.new }
         ensures moves { IfOk result (λ _. self.old.place < self.new.place) }

@@ -1,4 +1,4 @@
-//! Why bytes could not be read, and why an object is refused.
+//! Faults: why bytes could not be decoded, and why an object is refused.
 
 ghost use Rattle.std.specs.Prelude.{◌≡◌, Some};
 ghost use Rattle.dwarf_bytes.specs.Words.{section_name, cause_word};
@@ -7,24 +7,24 @@ ghost use Rattle.dwarf_bytes.specs.Refusals.{told};
 use std::fmt;
 use thiserror::Error;
 
-/// What is wrong at a place of the bytes.
+/// Why a field could not be read.
 #[derive(Clone, Copy, Debug, PartialEq, Eq, Error)]
 pub enum ReadFault {
     /// The bytes end before the field does.
     #[error("short")]
     Short = 1,
-    /// A LEB128 number has more than ten bytes, or a value outside 64 bits.
+    /// A LEB128 number has more than ten bytes, or its value does not fit in 64 bits.
     #[error("leb")]
     Leb = 2,
-    /// A text has no NUL.
+    /// A string has no NUL.
     #[error("unterminated")]
     Unterminated = 3,
-    /// A reserved initial length.
+    /// An initial length is one of the reserved values (DWARF 5, 7.4).
     #[error("length")]
     Length = 4,
 }
 
-/// The part of an object that holds a fault: its ELF tables, or a section.
+/// The part of an object that contains a fault: its ELF tables, or a section.
 #[derive(Clone, Copy, Debug, PartialEq, Eq)]
 pub enum Section {
     Elf,
@@ -39,7 +39,7 @@ pub enum Section {
 }
 
 impl Section {
-    /// Its name in an object.
+    /// Returns the section's name in an object file, or `elf` for the ELF tables.
     pub fn name(self) -> &'static str
         ensures { result.now ≡ section_name self }
     {
@@ -117,7 +117,7 @@ pub enum Cause {
 }
 
 impl Cause {
-    /// Its word in a reply.
+    /// Returns the word that names the cause in a reply.
     pub fn word(self) -> &'static str
         ensures { result.now ≡ cause_word self }
     {
@@ -180,7 +180,7 @@ impl fmt::Display for Cause {
     }
 }
 
-/// Why an object is refused: the section, what is wrong, and the offset of the item that holds it.
+/// Why an object is refused: the section, the cause, and the offset of the invalid item.
 #[derive(Clone, Copy, Debug, PartialEq, Eq, Error)]
 #[error("object {section} {cause} at {at}")]
 pub struct LoadFault {
@@ -189,7 +189,7 @@ pub struct LoadFault {
     pub at: u64,
 }
 
-/// Want of memory, which is no fault of the bytes.
+/// Out of memory, which is not a fault of the bytes.
 pub(crate) const MEMORY_FAULT: LoadFault = LoadFault {
     section: Section::Elf,
     cause: Cause::Memory,
@@ -197,8 +197,8 @@ pub(crate) const MEMORY_FAULT: LoadFault = LoadFault {
 };
 
 impl LoadFault {
-    /// The fault of an item of a section. Want of memory is no fault of an item: it is told as
-    /// `elf` at 0.
+    /// Returns the fault of an item of a section. Out of memory is not the fault of an item: it is
+    /// reported as `elf` at offset 0.
     pub fn told(section: Section, cause: Cause, at: u64) -> LoadFault
         ensures { result ≡ told section cause at }
     {

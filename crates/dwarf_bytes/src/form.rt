@@ -1,11 +1,11 @@
-//! The forms of attributes, and how their values are laid out (DWARF 5, 7.5.6).
+//! Attribute forms and the layouts of their values (DWARF 5, 7.5.6).
 
 ghost use Rattle.std.specs.Prelude.{◌≡◌};
 ghost use Rattle.dwarf_bytes.specs.Forms.{form_of};
 
 use crate::constants::*;
 
-/// How many bytes a number has.
+/// The width of a number in bytes.
 #[derive(Clone, Copy, Debug, PartialEq, Eq)]
 pub enum Width {
     One,
@@ -15,10 +15,10 @@ pub enum Width {
     Eight,
 }
 
-/// How a value is laid out.
+/// The layout of a value.
 #[derive(Clone, Copy, Debug, PartialEq, Eq)]
 pub enum ValueLayout {
-    /// A number of so many bytes.
+    /// A number of the given width.
     Fixed(Width),
     /// An offset into a section, as wide as the unit's format says.
     Offset,
@@ -28,29 +28,29 @@ pub enum ValueLayout {
     Signed,
     /// An unsigned LEB128 number.
     Unsigned,
-    /// A text up to its NUL.
+    /// A NUL-terminated string.
     Text,
-    /// Sixteen bytes as they stand.
+    /// Sixteen uninterpreted bytes.
     Sixteen,
-    /// A length of so many bytes, and so many bytes as it says.
+    /// A block: a length of the given width, then that many bytes.
     Block(Width),
-    /// An unsigned LEB128 length, and so many bytes as it says.
+    /// A block: an unsigned LEB128 length, then that many bytes.
     LongBlock,
 }
 
-/// What a form says of its value.
+/// Where a form's value is encoded, and how.
 #[derive(Clone, Copy, Debug, PartialEq, Eq)]
 pub enum Form {
-    /// The value stands in the entry, in this layout.
+    /// The value is in the entry, in this layout.
     Direct(ValueLayout),
-    /// The value stands in the declaration (DW_FORM_implicit_const).
+    /// The value is in the abbreviation declaration (DW_FORM_implicit_const).
     ImplicitConst,
-    /// The form stands before the value (DW_FORM_indirect).
+    /// The actual form precedes the value in the entry (DW_FORM_indirect).
     Indirect,
 }
 
 impl Form {
-    /// The form of a number; none for a number that is not read.
+    /// Returns the form with a number, or `None` if the form is not supported.
     pub fn of(number: u64) -> Option<Form>
         ensures { result ≡ form_of number }
     {

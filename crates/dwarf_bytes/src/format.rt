@@ -3,7 +3,7 @@
 ghost use Rattle.std.specs.Prelude.{◌≡◌};
 ghost use Rattle.dwarf_bytes.specs.Numbers.{length_len, offset_len};
 
-/// How wide the offsets and lengths of a unit are.
+/// The format of a unit, which determines the width of its offsets and lengths.
 #[derive(Clone, Copy, Debug, PartialEq, Eq)]
 pub enum Format {
     /// The 32-bit format.
@@ -13,7 +13,7 @@ pub enum Format {
 }
 
 impl Format {
-    /// The bytes of an initial length.
+    /// Returns the number of bytes of an initial length.
     pub fn length_len(self) -> u64
         ensures { result ≡ length_len self }
     {
@@ -23,7 +23,7 @@ impl Format {
         }
     }
 
-    /// The bytes of an offset into a section.
+    /// Returns the number of bytes of an offset into a section.
     pub fn offset_len(self) -> u64
         ensures { result ≡ offset_len self }
     {

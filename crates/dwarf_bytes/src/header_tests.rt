@@ -1,4 +1,4 @@
-//! Whether the header of a file is that of an object.
+//! Validation of the ELF file header.
 
 ghost use Rattle.std.specs.Prelude.{◌≡◌, ◌≤◌, ◌<◌, ◌+◌, ◌*◌, ◌⊎◌, length, MatchResult, Some, None};
 ghost use Rattle.std.specs.Prelude.{IfOk, IsTrue, false};
@@ -13,12 +13,13 @@ use crate::headers::{
     ET_DYN, ET_EXEC, FileHeader, PN_XNUM, SHN_LORESERVE, file_header, is_outside,
 };
 
-/// The most bytes of an object.
+/// The maximum size of an object: 1 GiB.
 const MAX_BYTES: usize = 1 << 30;
 
 const MAGIC: [u8; 4] = [0x7f, b'E', b'L', b'F'];
 
-/// The header of a file, where it and the places of its tables are good.
+/// Parses the file header. Returns the first cause if the header is invalid, or if one of its
+/// tables is invalid or outside the file.
 pub(crate) fn checked_header(bytes: &[u8]) -> Result<FileHeader, Cause>
     ensures header { MatchResult result
         (λ header. (first_failure (header_tests bytes.now) ≡ None)

@@ -7,19 +7,19 @@ ghost use Rattle.dwarf_bytes.specs.Private.LebPrefixes.{IsLebPrefix, uleb_front,
 
 use crate::fault::ReadFault;
 
-/// The bytes of a LEB128 number below its tenth.
+/// The number of bytes before the tenth. Their 63 bits fit in a `u64`.
 const LOW_BYTES: usize = 9;
 
-/// What the first nine bytes of a LEB128 number spell.
+/// The first nine bytes of a LEB128 number, decoded as unsigned.
 #[derive(Clone, Copy, Debug)]
 pub(crate) enum LebPrefix {
-    /// A whole number, and how many bytes spell it.
+    /// A complete number, and the length of its encoding in bytes.
     Whole(u64, usize),
-    /// The nine low groups of a number that goes on.
+    /// The low 63 bits of a number that continues after nine bytes.
     Continued(u64),
 }
 
-/// The groups of seven bits, the lowest first, of the first nine bytes.
+/// Decodes up to nine bytes: groups of seven bits, the lowest first.
 fn leb_prefix(bytes: &[u8]) -> Result<LebPrefix, ReadFault>
     ensures { IsLebPrefix bytes.now result }
 {
@@ -37,7 +37,7 @@ fn leb_prefix(bytes: &[u8]) -> Result<LebPrefix, ReadFault>
     Ok(LebPrefix::Continued(value))
 }
 
-/// The tenth byte, which is the last that a number may have.
+/// Returns the tenth byte, which is the last that a number may have.
 fn tenth(bytes: &[u8]) -> Result<u8, ReadFault>
     ensures { MatchResult result (λ byte. (9 < length bytes.now) × (byte ≡ slice_index bytes.now 9))
         (λ fault. (fault ≡ Short) × (length bytes.now ≤ 9)) }
@@ -48,7 +48,8 @@ fn tenth(bytes: &[u8]) -> Result<u8, ReadFault>
     Ok(bytes[LOW_BYTES])
 }
 
-/// The unsigned number at the front of the bytes, and how many bytes spell it.
+/// Decodes the unsigned number at the start of the bytes. Returns it and the length of its
+/// encoding.
 #[inline]
 pub(crate) fn uleb_front(bytes: &[u8]) -> Result<(u64, usize), ReadFault>
     ensures value { MatchResult result (λ read. uleb_front bytes.now ≡ Ok read)
@@ -62,7 +63,7 @@ pub(crate) fn uleb_front(bytes: &[u8]) -> Result<(u64, usize), ReadFault>
     }
 }
 
-/// The same for a number of any length.
+/// Decodes an unsigned number of any length.
 fn long_uleb(bytes: &[u8]) -> Result<(u64, usize), ReadFault>
     ensures value { MatchResult result (λ read. uleb_front bytes.now ≡ Ok read)
         (λ fault. uleb_front bytes.now ≡ Err fault) }
@@ -81,7 +82,7 @@ fn long_uleb(bytes: &[u8]) -> Result<(u64, usize), ReadFault>
     }
 }
 
-/// The signed number at the front of the bytes, and how many bytes spell it.
+/// Decodes the signed number at the start of the bytes. Returns it and the length of its encoding.
 #[inline]
 pub(crate) fn sleb_front(bytes: &[u8]) -> Result<(i64, usize), ReadFault>
     ensures value { MatchResult result (λ read. sleb_front bytes.now ≡ Ok read)
@@ -95,7 +96,7 @@ pub(crate) fn sleb_front(bytes: &[u8]) -> Result<(i64, usize), ReadFault>
     }
 }
 
-/// The number of one group in two's complement.
+/// Sign-extends one group of seven bits.
 fn signed_group(byte: u8) -> i64
     requires { byte < 128 }
     ensures { result ≡ (pos byte -ℤ pos (if nat_le 64 byte then 128 else 0)) }
@@ -107,7 +108,7 @@ fn signed_group(byte: u8) -> i64
     }
 }
 
-/// The same for a number of any length.
+/// Decodes a signed number of any length.
 fn long_sleb(bytes: &[u8]) -> Result<(i64, usize), ReadFault>
     ensures value { MatchResult result (λ read. sleb_front bytes.now ≡ Ok read)
         (λ fault. sleb_front bytes.now ≡ Err fault) }
@@ -127,7 +128,7 @@ fn long_sleb(bytes: &[u8]) -> Result<(i64, usize), ReadFault>
     }
 }
 
-/// The number of so many groups in two's complement.
+/// Subtracts 2^(7 × `len`) from the value of `len` groups if the number is negative.
 fn signed(value: u64, len: usize, negative: bool) -> i64
     requires small { value < 2 ^ (7 * len) }
     requires few { len ≤ 9 }

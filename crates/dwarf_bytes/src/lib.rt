@@ -1,5 +1,5 @@
-//! Numbers, texts, values and ELF sections, read from bytes: DWARF 5, chapter 7, and the ELF-64
-//! object file format.
+//! Numbers, strings, attribute values and ELF sections, decoded from bytes: DWARF 5, chapter 7, and
+//! the ELF-64 object file format.
 #![tactic(auto)]
 
 pub mod constants;

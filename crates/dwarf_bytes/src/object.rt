@@ -1,4 +1,4 @@
-//! The tables of an ELF file.
+//! The ELF tables: load segments and sections of an object.
 
 ghost use Rattle.std.specs.Prelude.{◌≡◌, ◌≤◌, ◌<◌, ◌+◌, ◌*◌, length, MatchResult, Some, None};
 ghost use Rattle.std.specs.Prelude.{false, Ok, Err};
@@ -19,14 +19,14 @@ use crate::headers::{
 use crate::layout::{Layout, Span};
 use crate::section_names::SectionNames;
 
-/// Where an absent section stands.
+/// The span of an absent section.
 const NOWHERE: Span = Span { place: 0, len: 0 };
 
-/// A file that is to be an object.
+/// A file to load as an object.
 pub struct Object;
 
 impl Object {
-    /// Where the sections of an object stand, or its first fault.
+    /// Finds the sections and the address range of an object, or returns its first fault.
     pub fn find(bytes: &[u8]) -> Result<Layout, LoadFault>
         ensures { MatchResult result (λ found. (elf_fault bytes.now ≡ None)
             × (found ≡ layout bytes.now) × AreInside bytes.now found)
@@ -42,7 +42,7 @@ impl Object {
     }
 }
 
-/// The layout of the sections found, in the order in which they are wanted.
+/// Builds the layout from the spans found, which are in the order of `WANTED`.
 fn layout(found: [Option<Span>; 8], low: u64, high: u64) -> Layout
     ensures { result ≡ layout_of found low high }
 {
@@ -80,7 +80,7 @@ fn elf(cause: Cause, at: u64) -> LoadFault
     }
 }
 
-/// The lowest address and the first past the highest, after one more header is judged.
+/// Extends the address range by one program header, or returns the fault of the header.
 fn extended(
     extent: Option<(u64, u64)>,
     entry: &ProgramHeader,
@@ -100,7 +100,7 @@ fn extended(
     }))
 }
 
-/// The addresses that the load segments take.
+/// Returns the address range of the load segments: the lowest address and the end (exclusive).
 fn extent(bytes: &[u8], header: &FileHeader) -> Result<(u64, u64), LoadFault>
     requires header { header.now ≡ file_header bytes.now }
     requires segments { 0 < header.now.phnum →
@@ -117,7 +117,7 @@ fn extent(bytes: &[u8], header: &FileHeader) -> Result<(u64, u64), LoadFault>
     extent.ok_or(elf(Cause::NoLoad, 0))
 }
 
-/// The k-th section header.
+/// Parses the k-th section header.
 #[tactic(auto, unfolding(crate::specs::Elf::section_header))]
 fn nth_section(bytes: &[u8], header: &FileHeader, k: u16) -> SectionHeader
     requires header { header.now ≡ file_header bytes.now }
@@ -128,7 +128,7 @@ fn nth_section(bytes: &[u8], header: &FileHeader, k: u16) -> SectionHeader
     section_header_at(bytes, header.shoff as usize + 64 * usize::from(k))
 }
 
-/// The section of the names.
+/// Returns the bytes of the section that contains the section names.
 #[tactic(auto, unfolding(crate::specs::Elf::names))]
 fn name_section<'a>(bytes: &'a [u8], header: &FileHeader) -> Result<&'a [u8], LoadFault>
     requires header { header.now ≡ file_header bytes.now }
@@ -146,7 +146,7 @@ fn name_section<'a>(bytes: &'a [u8], header: &FileHeader) -> Result<&'a [u8], Lo
     Ok(&bytes[start..start + entry.size as usize])
 }
 
-/// What is wrong with the header of a wanted section, where one before it may have its name.
+/// Validates the header of a wanted section. `is_seen` says whether an earlier header has its name.
 fn wanted_fault(bytes: &[u8], entry: &SectionHeader, is_seen: bool) -> Option<Cause>
     ensures { result ≡ first_failure (wanted_tests bytes.now entry.now is_seen) }
 {
@@ -165,7 +165,7 @@ fn wanted_fault(bytes: &[u8], entry: &SectionHeader, is_seen: bool) -> Option<Ca
     None
 }
 
-/// Where the wanted sections stand, after the k-th header is judged.
+/// Validates the k-th header, and records its span if its section is wanted.
 fn with_section(
     bytes: &[u8],
     header: &FileHeader,
@@ -200,7 +200,7 @@ fn with_section(
     Ok(found)
 }
 
-/// Where the wanted sections stand.
+/// Finds the spans of the wanted sections. Returns the fault of the first invalid header.
 fn sections(bytes: &[u8], header: &FileHeader) -> Result<[Option<Span>; 8], LoadFault>
     requires header { header.now ≡ file_header bytes.now }
     requires sound { is_bad_section_table bytes.now header.now ≡ false }

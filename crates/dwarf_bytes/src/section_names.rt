@@ -1,5 +1,5 @@
-//! The names of sections. A name may be as long as the section of the names, and every header may
-//! name it: so none is walked to its end.
+//! Section names. A malicious file may have a very long name to which every header refers, so no
+//! name is scanned to its end.
 
 ghost use Rattle.std.specs.Prelude.{◌≡◌, ◌<◌, Ok, Err, MatchResult, IfOk, IfSome, position};
 ghost use Rattle.dwarf_bytes.specs.Numbers.{text_at};
@@ -10,7 +10,7 @@ use crate::fault::{ReadFault, Section};
 use bstr::ByteSlice;
 use std::marker::Model;
 
-/// The sections that are wanted.
+/// The sections to find, in the order in which their spans are stored.
 const WANTED: [Section; 8] = [
     Section::DebugInfo,
     Section::DebugAbbrev,
@@ -22,11 +22,11 @@ const WANTED: [Section; 8] = [
     Section::DebugRnglists,
 ];
 
-/// The section of the names.
+/// The section of the section names.
 #[derive(Drop)]
 pub(crate) struct SectionNames<'a> {
     bytes: &'a [u8],
-    /// How many bytes stand up to the last NUL, with it.
+    /// The offset after the last NUL.
     end: usize,
 }
 
@@ -51,7 +51,8 @@ impl<'a> SectionNames<'a> {
         }
     }
 
-    /// Which of the wanted sections has the name at an offset; a name without a NUL is refused.
+    /// Returns the index in `WANTED` of the section with the name at an offset. Returns a fault if
+    /// the name has no NUL.
     pub(crate) fn wanted(&self, offset: u64) -> Result<Option<usize>, ReadFault>
         ensures number { MatchResult result (λ number. IsNumberAt self.now offset number)
             (λ fault. text_at self.now offset ≡ Err fault) }
@@ -64,7 +65,7 @@ impl<'a> SectionNames<'a> {
     }
 }
 
-/// How many bytes stand up to the last NUL, with it.
+/// Returns the offset after the last NUL, or 0 if there is none.
 fn texts_end(bytes: &[u8]) -> usize
     ensures { EndsTexts bytes.now result }
 {
@@ -74,7 +75,7 @@ fn texts_end(bytes: &[u8]) -> usize
     }
 }
 
-/// Which of the wanted names the bytes begin with.
+/// Returns the index in `WANTED` of the name at the start of the bytes.
 fn number_of(bytes: &[u8]) -> Option<usize>
     ensures number { result ≡ position (λ s. begins_with bytes.now (section_name s)) WANTED }
     ensures within { IfSome result (λ number. number < 8) }
@@ -84,7 +85,7 @@ fn number_of(bytes: &[u8]) -> Option<usize>
         .position(|section| begins_with(bytes, section.name().as_bytes()))
 }
 
-/// Whether the bytes begin with a text and its NUL.
+/// Whether the bytes start with the string and a NUL.
 fn begins_with(bytes: &[u8], text: &[u8]) -> bool
     ensures { result ≡ begins_with bytes.now text.now }
 {

@@ -1,4 +1,4 @@
-//! The tables that a unit's bases point into.
+//! The tables that a unit's base attributes point into.
 
 ghost use Rattle.std.specs.Prelude.{◌≡◌, MatchResult, Ok, Err, nat_lt, if◌then◌else◌};
 ghost use Rattle.std.specs.Prelude.{◌≤◌, ◌+◌, ◌*◌, length};
@@ -11,7 +11,7 @@ use crate::fault::Cause;
 use crate::fields::{byte_at, u16_at, u32_at, u64_at};
 use crate::format::Format;
 
-/// Which table.
+/// The kind of table: `.debug_str_offsets`, `.debug_addr` or `.debug_rnglists`.
 #[derive(Clone, Copy, Debug, PartialEq, Eq)]
 pub enum TableKind {
     StrOffsets,
@@ -20,7 +20,7 @@ pub enum TableKind {
 }
 
 impl TableKind {
-    /// The bytes of its header.
+    /// Returns the size of the table's header in bytes.
     fn head_len(self, format: Format) -> u64
         ensures { result ≡ head_len self format }
     {
@@ -31,7 +31,7 @@ impl TableKind {
     }
 }
 
-/// Where a table ends, and how many items it has.
+/// The end of a table as an offset into its section, and the number of its items.
 #[derive(Clone, Copy, Debug, PartialEq, Eq)]
 pub struct TableHead {
     pub end: u64,
@@ -39,8 +39,8 @@ pub struct TableHead {
 }
 
 impl TableHead {
-    /// The head of the table whose header stands before the base, which counts from the section's
-    /// start. The format is that of the unit which has the base.
+    /// Parses the header that precedes `base`, an offset into the section. `format` is the format
+    /// of the unit with that base.
     #[tactic(auto, unfolding(crate::specs::Tables::table_before))]
     pub fn before(
         section: &[u8],
@@ -84,8 +84,8 @@ impl TableHead {
     }
 }
 
-/// The items that stand between the base and the end. Where the header tells how many offsets of
-/// lists follow the base, there must be room for them.
+/// Returns the number of items between the base and the end. If the header has an offset count,
+/// that many offsets must fit.
 fn items_up_to(
     end: u64,
     section: &[u8],
@@ -113,7 +113,7 @@ fn items_up_to(
     }
 }
 
-/// Whether a length of the other format begins there and is cut.
+/// Whether a 64-bit initial length starts at `start` of a 32-bit unit and is truncated.
 fn is_cut(section: &[u8], start: usize, format: Format) -> bool
     requires { start + length_len format + 4 ≤ length section.now }
     ensures { result ≡ is_cut format section.now start }

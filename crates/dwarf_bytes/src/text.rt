@@ -1,4 +1,4 @@
-//! Texts, which run up to a NUL (DWARF 5, 7.5.5, class string).
+//! NUL-terminated strings (DWARF 5, 7.5.5, class string).
 
 ghost use Rattle.std.specs.Prelude.{◌≡◌, ◌<◌, Ok, Err, IfSome, option_map, MatchResult, ◌==◌};
 ghost use Rattle.std.specs.Prelude.{position, length};
@@ -8,14 +8,14 @@ use crate::fault::{ReadFault, Section};
 use crate::layout::Span;
 use bstr::ByteSlice;
 
-/// A text, by where it stands in one of the sections, without its NUL.
+/// A string, stored as its section and its span without the NUL.
 #[derive(Clone, Copy, Debug, PartialEq, Eq)]
 pub struct Text {
     pub section: Section,
     pub span: Span,
 }
 
-/// The place of the first NUL.
+/// Returns the offset of the first NUL.
 pub(crate) fn first_nul(bytes: &[u8]) -> Option<usize>
     ensures place { result ≡ position (λ byte. byte == 0) bytes.now }
     ensures within { IfSome result (λ place. place < length bytes.now) }
@@ -23,7 +23,7 @@ pub(crate) fn first_nul(bytes: &[u8]) -> Option<usize>
     bytes.find_byte(0)
 }
 
-/// The text that the bytes begin with, without its NUL.
+/// Returns the string at the start of the bytes, without its NUL.
 #[tactic(auto, unfolding(crate::specs::Numbers::text_front))]
 pub(crate) fn text_front(bytes: &[u8]) -> Option<&[u8]>
     ensures text { option_map (λ text. text.now) result ≡ text_front bytes.now }
@@ -33,7 +33,7 @@ pub(crate) fn text_front(bytes: &[u8]) -> Option<&[u8]>
     Some(&bytes[..len])
 }
 
-/// The text of a section at an offset, without its NUL.
+/// Returns the string at an offset of a section, without its NUL.
 #[tactic(auto, unfolding(crate::specs::Numbers::text_at), using(crate::proofs::Texts::outside))]
 pub fn text_at(section: &[u8], offset: u64) -> Result<&[u8], ReadFault>
     ensures { MatchResult result (λ text. text_at section.now offset ≡ Ok text.now)

@@ -1,5 +1,6 @@
-//! Where texts end (DWARF 5, 7.5.5). A text may be as long as its section, and every name may stand
-//! in it: so its end is found by way of an index.
+//! An index of NULs (DWARF 5, 7.5.5). A malicious object may have a string as long as its section,
+//! in which every name starts. With the index, at most one block is scanned for the end of a
+//! string.
 
 ghost use Rattle.std.specs.Prelude.{◌≡◌, ◌+◌, ◌==◌, IfOk, MatchResult, Ok, Err, take, drop};
 ghost use Rattle.std.specs.Prelude.{option_map, position, slice_get, unwrap_or, None};
@@ -12,11 +13,11 @@ use crate::text::first_nul;
 use std::alloc::{AllocError, Global};
 use std::marker::Model;
 
-/// The bytes of a block.
+/// The size of a block in bytes.
 const BLOCK_LEN: usize = 4096;
 
-/// The texts of a section, with an index of where they end: the first NUL from the start of each
-/// block on.
+/// The strings of a section, with an index: for the start of each block, the first NUL at or after
+/// it.
 #[derive(Debug, Drop)]
 pub struct TextIndex<'a> {
     section: &'a [u8],
@@ -35,7 +36,7 @@ impl<'a> Model for TextIndex<'a> {
 }
 
 impl<'a> TextIndex<'a> {
-    /// Of a section.
+    /// Builds the index of a section.
     pub fn of(alloc: Global, section: &'a [u8]) -> Result<TextIndex<'a>, AllocError>
         ensures { IfOk result (λ index. index ≡ section.now) }
     {
@@ -43,7 +44,7 @@ impl<'a> TextIndex<'a> {
         Ok(TextIndex { section, nuls })
     }
 
-    /// The text at an offset of the section, without its NUL.
+    /// Returns the string at an offset of the section, without its NUL.
     pub fn text_at(&self, offset: u64) -> Result<&'a [u8], ReadFault>
         ensures { MatchResult result (λ text. text_at self.now offset ≡ Ok text.now)
             (λ fault. text_at self.now offset ≡ Err fault) }
@@ -54,7 +55,7 @@ impl<'a> TextIndex<'a> {
     }
 }
 
-/// The first NUL from the start of each block of a section on.
+/// Returns, for the start of each block, the first NUL at or after it.
 fn first_nuls(alloc: Global, section: &[u8]) -> Result<Vec<Option<usize>>, AllocError>
     ensures { IfOk result (λ nuls. AreNuls section.now nuls.items) }
 {
@@ -70,7 +71,7 @@ fn first_nuls(alloc: Global, section: &[u8]) -> Result<Vec<Option<usize>>, Alloc
     Ok(nuls)
 }
 
-/// The first NUL among so many bytes from a place on as a block has.
+/// Returns the first NUL among the `BLOCK_LEN` bytes from `at` on.
 fn nul_near(section: &[u8], at: usize) -> Option<usize>
     ensures { result ≡ option_map (λ n. at + n)
         (position (λ byte. byte == 0) (take BLOCK_LEN (drop at section.now))) }
@@ -85,7 +86,7 @@ fn nul_near(section: &[u8], at: usize) -> Option<usize>
     }
 }
 
-/// The first NUL from a place on, by the first ones from the start of each block on.
+/// Returns the first NUL at or after `at`. Scans one block at most.
 fn nul_from(section: &[u8], nuls: &[Option<usize>], at: usize) -> Option<usize>
     requires { AreNuls section.now nuls.now }
     ensures { result ≡ nul_from section.now at }
@@ -96,7 +97,7 @@ fn nul_from(section: &[u8], nuls: &[Option<usize>], at: usize) -> Option<usize>
     }
 }
 
-/// The first NUL from the start of a block on; none where there is no such block.
+/// Returns the index entry of a block, or `None` if there is no such block.
 fn nul_of(nuls: &[Option<usize>], block: usize) -> Option<usize>
     ensures { result ≡ unwrap_or (slice_get nuls.now block) None }
 {

@@ -1,4 +1,4 @@
--- The addresses that load segments take, header by header, for the contracts of the steps.
+-- The address range of the load segments, header by header, for the contracts of the steps.
 use Rattle.std.specs.Prelude.{ℕ, ◌+◌, ◌*◌, ◌-◌, ◌^◌, List, map, cond, Option, Some, None, Result}
 use Rattle.std.specs.Prelude.{Ok, Err, min, max, nat_le}
 use Rattle.std.specs.List.{range_with_len}
@@ -8,12 +8,12 @@ use Rattle.dwarf_bytes.specs.declared.fault.Cause.TheVariants as causes
 use Rattle.dwarf_bytes.specs.declared.headers.ProgramHeader.{ProgramHeader}
 use Rattle.dwarf_bytes.specs.Headers.{is_load, load_end, file_header, program_header}
 
--- the lowest address and the end, with one more segment
+-- the address range extended by one load segment
 abbrev pub joined : Option (ℕ × ℕ) → ProgramHeader → Option (ℕ × ℕ)
 joined None header = Some (header.vaddr, load_end header)
 joined (Some e) header = Some (min e.0 header.vaddr, max e.1 (load_end header))
 
--- the same, after one more header is judged
+-- the address range extended by one program header, or the fault of the header
 abbrev pub extended : Option (ℕ × ℕ) → ProgramHeader → Result (Option (ℕ × ℕ)) LoadFault
 extended extent header =
     cond (is_load header)

@@ -1,4 +1,4 @@
--- The sections that are found, header by header, for the contracts of the steps.
+-- The spans of the sections found, header by header, for the contracts of the steps.
 use Rattle.std.specs.Prelude.{◌≡◌, ℕ, zero, suc, Bool, true, false, List, [], ◌∷◌, find, map}
 use Rattle.std.specs.Prelude.{get_or, Option, None, unwrap_or}
 use Rattle.std.specs.List.{range_with_len, list_any}
@@ -12,23 +12,23 @@ use Rattle.dwarf_bytes.specs.declared.headers.SectionHeader.{SectionHeader}
 use Rattle.dwarf_bytes.specs.Headers.{is_nobits, is_compressed, is_outside}
 use Rattle.dwarf_bytes.specs.Elf.{no_span, section_header, span_of, is_named, wanted}
 
--- where the section of a name stands, by the headers below the k-th
+-- the span of a section by its name, among the headers before the k-th
 abbrev pub span_before : List ℕ → ℕ → Section → Option Span
 span_before bytes k section =
     option_map (λ j. span_of (section_header bytes j))
     (find (λ j. is_named bytes j section) (range_with_len 0 k))
 
--- the same for each wanted section
+-- the spans of all wanted sections, among the headers before the k-th
 unfoldable pub spans_before : List ℕ → ℕ → List (Option Span)
 spans_before bytes k = map (span_before bytes k) wanted
 
--- only the i-th passes
+-- the i-th element is the only one that satisfies the predicate
 abbrev pub IsOnly : {X : Type 0} → (X → Bool) → List X → ℕ → Type 0
 IsOnly p [] i = ⊥
 IsOnly p (x ∷ xs) zero = (p x ≡ true) × (list_any p xs ≡ false)
 IsOnly p (x ∷ xs) (suc i) = (p x ≡ false) × IsOnly p xs i
 
--- what is wrong with the header of a wanted section, where one before it may have its name
+-- the tests of the header of a wanted section; seen says whether an earlier header has its name
 abbrev pub wanted_tests : List ℕ → SectionHeader → Bool → List (Bool × Cause)
 wanted_tests bytes header seen =
     (seen, causes.SectionTwice)
@@ -37,7 +37,7 @@ wanted_tests bytes header seen =
     ∷ (is_outside bytes header.offset header.size, causes.Table)
     ∷ []
 
--- the layout of what was found for each wanted section
+-- the layout with the spans of the wanted sections
 abbrev pub layout_of : List (Option Span) → ℕ → ℕ → Layout
 layout_of found low high =
     let span = λ (i : ℕ). unwrap_or (get_or found i None) no_span in

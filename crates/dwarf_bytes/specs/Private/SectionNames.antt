@@ -1,4 +1,4 @@
--- The names of sections, for the contracts of the look-up that walks over none of them.
+-- Section names, for the contracts of the lookup that scans no name to its end.
 use Rattle.std.specs.Prelude.{◌≡◌, ◌≢◌, ℕ, ◌+◌, ◌<◌, ◌≤◌, ◌&&◌, ◌==◌, Bool, List, length, nat_eq}
 use Rattle.std.specs.Prelude.{nat_lt, get_or, Option, Ok, position}
 use Rattle.std.specs.List.{starts_with}
@@ -7,19 +7,19 @@ use Rattle.dwarf_bytes.specs.Numbers.{text_at}
 use Rattle.dwarf_bytes.specs.Words.{section_name}
 use Rattle.dwarf_bytes.specs.Elf.{wanted}
 
--- how many bytes stand up to the last NUL, which is one of them
+-- the offset after the last NUL, or 0 if there is none
 pub record EndsTexts (bytes : List ℕ) (end : ℕ) : Type 0 where
   pub within : end ≤ length bytes
   pub last : 0 < end → (nul : ℕ) × (end ≡ nul + 1) × (get_or bytes nul 0 ≡ 0)
   pub none_behind : (k : ℕ) → end ≤ k → k < length bytes → get_or bytes k 0 ≢ 0
 
--- whether the bytes begin with a text and its NUL
+-- whether the bytes start with the string and its NUL
 abbrev pub begins_with : List ℕ → List ℕ → Bool
 begins_with bytes text =
     nat_lt (length text) (length bytes)
     && (starts_with nat_eq bytes text && (get_or bytes (length text) 0 == 0))
 
--- a name stands at the offset, and this is its number among the wanted ones
+-- a string is at the offset, and number is its index in the wanted names
 abbrev pub IsNumberAt : List ℕ → ℕ → Option ℕ → Type 0
 IsNumberAt names offset number =
     (name : List ℕ) × (text_at names offset ≡ Ok name)

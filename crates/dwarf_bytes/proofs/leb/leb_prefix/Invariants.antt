@@ -3,7 +3,7 @@ use Rattle.std.specs.Prelude.{All}
 use Rattle.dwarf_bytes.specs.Numbers.{uleb_value}
 use Rattle.dwarf_bytes.proofs.leb.leb_prefix.Given as goal
 
--- the bytes so far go on, and this is what they spell
+-- the bytes so far have bit 7 set, and `value` is their decoded value
 abbrev pub invariant-loop-i : goal.invariant-loop-i
 invariant-loop-i l = record {
   value_is : l.value ≡ uleb_value (take l.i l.low);
