@@ -1,5 +1,5 @@
--- Where the parts of a line program stand: each program has a byte and none reaches past the
--- section.
+-- The offsets of the parts of a line program: each program has at least one byte and ends within
+-- the section.
 use Rattle.std.proofs.Common.{◌≡◌, ℕ, ◌+◌, ◌<◌, ◌≤◌, List, length, take, drop, not, ◌==◌, Result}
 use Rattle.std.proofs.Common.{Ok, Err, ap, arith, length-take}
 use Rattle.std.specs.Prelude.{nat_lt}
@@ -40,7 +40,7 @@ fixed_at-place n bytes at v h =
     let place : block.1 ≡ v.1 = ap (λ (p : ℕ × ℕ). p.1) pair in
     omega arith))
 
--- an offset into a section has a byte
+-- an offset into a section has at least one byte
 offset_at-moves : (format : Format) (bytes : List ℕ) (at : ℕ) (v : ℕ × ℕ)
     → offset_at format bytes at ≡ Ok v → at < v.1
 offset_at-moves Dwarf32 bytes at v h = let last = fixed_at-place 4 bytes at v h in omega (arith, last)
@@ -50,7 +50,7 @@ pub within-is : (bytes : List ℕ) (place found : ℕ) → within bytes place �
     → (found ≡ place) × (found ≤ length bytes)
 within-is bytes place found h = grind (arith, nat_tests)
 
--- the bounds of a program lie in one another
+-- the bounds of a program are in ascending order
 pub record AreNested (line : List ℕ) (place : ℕ) (b : ProgramBounds) : Type 0 where
   pub starts : place < b.past
   pub front : place < b.fields
@@ -102,7 +102,7 @@ bounds_at-nested line place b h =
       past = omega (arith, ended.1);
     }))))))))))
 
--- where a program whose header is good ends
+-- the end of a program with a valid header
 pub header_at-past : (s : LineSections) (place : ℕ) (h : LineHeader) → header_at s place ≡ Ok h
     → (place < h.past) × (h.past ≤ length s.line)
 unfolding header_at
@@ -129,7 +129,7 @@ header_at-past s place h is =
     let past = nested.past in
     (omega arith, omega arith)))))
 
--- where the instructions of a program whose header is good begin
+-- the first instruction of a program with a valid header
 pub header_at-first : (s : LineSections) (place : ℕ) (h : LineHeader) → header_at s place ≡ Ok h
     → place ≤ h.first
 unfolding header_at

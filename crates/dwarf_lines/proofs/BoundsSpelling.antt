@@ -1,4 +1,4 @@
--- The bounds of a line program, as what is spelled: in both directions.
+-- The encoding of the bounds of a line program, in both directions.
 use Rattle.std.proofs.Common.{◌≡◌, ℕ, ◌+◌, ◌-◌, ◌<◌, ◌≤◌, List, [], ◌∷◌, ◌++◌, length, take, drop}
 use Rattle.std.proofs.Common.{true, not, ◌==◌, Ok, refl, sym, ap, ◌∙◌, subst, arith, append_assoc}
 use Rattle.std.proofs.Common.{length-take, length-drop}
@@ -22,7 +22,7 @@ use Rattle.dwarf_lines.proofs.Stretches.{byte_again}
 use Rattle.dwarf_lines.proofs.PathSpelling.{offset_stands, offset_again}
 use Rattle.dwarf_lines.proofs.EncodingSpelling.{asked_for, inside}
 
--- ---- bytes that are cut at an end
+-- ---- bytes truncated at an end
 
 pub cut : (n : ℕ) (bytes : List ℕ) (at : ℕ) (front : List ℕ) (next : ℕ) → next ≤ n
     → Stretch bytes at front next
@@ -50,7 +50,7 @@ uncut n bytes at front next some there =
     ∙ append_assoc front (drop next (take n bytes)) (drop n bytes))) in
     stretch bytes at front (drop next (take n bytes) ++ drop n bytes) next parts there.next_is
 
--- what stands between two places
+-- the bytes between two offsets
 pub between : (bytes : List ℕ) (at next : ℕ) → at ≤ next → next ≤ length bytes
     → (front : List ℕ) × Stretch bytes at front next
 between bytes at next le within =
@@ -65,7 +65,7 @@ between bytes at next le within =
 
 -- ---- bounds
 
--- the fields up to header_length, and what they bound
+-- the encoded fields up to header_length, and the bounds they give
 pub record AreSpelled (line : List ℕ) (place : ℕ) (b : ProgramBounds) : Type 0 where
   pub unit_length : List ℕ
   pub header_length : List ℕ

@@ -1,4 +1,4 @@
--- What a header says of the instructions, as what is spelled: in both directions.
+-- The encoding of the header fields on instructions, in both directions.
 use Rattle.std.proofs.Common.{◌≡◌, ℕ, ◌+◌, ◌-◌, ◌<◌, ◌≤◌, List, [], ◌∷◌, length, take, drop, Bool}
 use Rattle.std.proofs.Common.{true, false, not, ◌==◌, Ok, refl, sym, ap, ◌∙◌, subst, arith}
 use Rattle.std.proofs.Common.{length-append, length-drop}
@@ -22,11 +22,11 @@ pub passed : (b : Bool) → not b ≡ false → b ≡ true
 passed true h = refl
 passed false h = absurd cc
 
--- a number that a test asks for
+-- a number that a test requires
 pub asked_for : (a b : ℕ) → not (a == b) ≡ false → a ≡ b
 asked_for a b h = eqb-eq a b (passed (a == b) h)
 
--- a stretch of a byte or more ends inside the bytes
+-- a nonempty range ends within the bytes
 pub inside : (bytes : List ℕ) (at : ℕ) (front : List ℕ) (next : ℕ) → 0 < length front
     → Stretch bytes at front next → next ≤ length bytes
 inside bytes at front next some there = omega (
@@ -133,7 +133,7 @@ module _ (bytes : List ℕ) where
       (minimum.0 ∷ operations.0 ∷ is_stmt.0 ∷ base.0 ∷ range.0 ∷ opcode_base.0 ∷ lengths.0) s0
       spelled)))))))))))
 
-  -- the byte at the front of a stretch, and what stands behind it
+  -- the first byte of a range, and the bytes after it
   byte_first : (at byte : ℕ) (rest : List ℕ) (next : ℕ) → Stretch bytes at (byte ∷ rest) next
       → (u8_at bytes at ≡ Ok (byte, at + length {A = ℕ} (byte ∷ [])))
       × Stretch bytes (at + length {A = ℕ} (byte ∷ [])) rest next

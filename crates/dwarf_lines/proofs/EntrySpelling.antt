@@ -1,4 +1,4 @@
--- The entries of a table, as what is spelled: in both directions.
+-- The encoding of the entries of a table, in both directions.
 use Rattle.std.proofs.Common.{◌≡◌, ℕ, ◌+◌, ◌≤◌, List, [], ◌∷◌, ◌++◌, length, drop, Bool, true}
 use Rattle.std.proofs.Common.{false, cond, not, ◌&&◌, ◌==◌, Ok, refl, sym, ap, ◌∙◌, subst, arith}
 use Rattle.std.specs.Prelude.{count_by, nat_le}
@@ -25,7 +25,7 @@ use Rattle.dwarf_lines.proofs.Stretches.{rest_of}
 use Rattle.dwarf_lines.proofs.EncodingSpelling.{passed}
 use Rattle.dwarf_lines.proofs.PartSpelling.{part_stands, part_again}
 
--- ---- how many fields are of a kind
+-- ---- the number of fields of a content type
 
 one_if : Bool → ℕ
 one_if b = cond b 1 0
@@ -58,7 +58,7 @@ module _ {X : Type 0} (p : X → Bool) (x : X) (xs : List X) where
   none_of_both is none = let zero_is : one_if (p x) ≡ 0 = rw is refl in
       omega (arith, count_more, zero_is)
 
--- what a good format is
+-- the conditions on a valid format
 format_tests : (paths indexes : ℕ) (forms : Bool) → ((paths == 1) && nat_le indexes 1 && forms)
     ≡ true
     → (paths ≡ 1) × (indexes ≤ 1) × (forms ≡ true)
@@ -77,7 +77,7 @@ good_format table fields h = format_tests (count_by is_path fields)
     (count_by (is_index table) fields) (list_all (has_good_form table) fields) h
 
 module _ (s : LineSections) (format : Format) (table : EntryTable) (bytes : List ℕ) where
-  -- a field says the same of an entry that has it too
+  -- an encoded field of one entry is also one of an entry that agrees in it
   same_part : (a b : Entry) (at : ℕ) (front : List ℕ) (field : Field)
       → (is_path field ≡ true → b.path ≡ a.path)
       → (is_index table field ≡ true → b.directory ≡ a.directory)
@@ -93,7 +93,7 @@ module _ (s : LineSections) (format : Format) (table : EntryTable) (bytes : List
   Parts entry at fields next = StandsAt (SpellsEach (SpellsPart s format table entry) at) bytes at
       fields next
 
-  -- what no field says is as before
+  -- a path or directory that no field gives is unchanged
   abbrev Unsaid : List Field → Entry → Entry → Type 0
   Unsaid fields before entry = (count_by is_path fields ≡ 0 → entry.path ≡ before.path)
       × (count_by (is_index table) fields ≡ 0 → entry.directory ≡ before.directory)

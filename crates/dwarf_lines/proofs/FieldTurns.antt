@@ -1,4 +1,4 @@
--- Reading the fields of an entry one after the other, as a loop does.
+-- The iterations of the loop that reads the fields of an entry.
 use Rattle.std.proofs.Common.{◌≡◌, ℕ, ◌+◌, ◌<◌, ◌≤◌, List, length, drop, get_or, Result, Ok, Err}
 use Rattle.std.proofs.Common.{refl, sym, ◌∙◌, add-one}
 use Rattle.std.proofs.Math.Seq.{drop-cons}

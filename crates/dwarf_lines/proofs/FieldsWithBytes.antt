@@ -1,4 +1,4 @@
--- Fields without bytes: what is read of an entry is what is read by the other fields.
+-- Fields without bytes do not affect an entry: it is the same if they are not read.
 use Rattle.std.proofs.Common.{◌≡◌, ℕ, zero, suc, ◌<◌, List, [], ◌∷◌, filter, Bool, true, false, not}
 use Rattle.std.proofs.Common.{◌==◌, Result, Ok, Err, refl, sym, ap, subst, ◌∙◌, ◌&&◌, arith, Vec}
 use Rattle.std.specs.Prelude.{count_by, nat_le}
@@ -55,7 +55,7 @@ module _ (s : LineSections) (format : Format) (table : EntryTable) where
           cc
       by false p false index = rw (p, index) refl
 
-  -- The fields of a good format that have bytes give the entry that all give.
+  -- The fields with bytes of a valid format give the same entry as all fields.
   pub with-bytes : (fields : List Field) → list_all (has_good_form table) fields ≡ true
       → (entry : Entry) (bytes : List ℕ) (place : ℕ)
       → fields_at s format table (filter has_bytes fields) entry bytes place
@@ -107,7 +107,8 @@ module _ (s : LineSections) (format : Format) (table : EntryTable) where
       rw (same bytes place) (bind_same (g bytes place) _ _
       (λ first. rw (repeated-same f g same count bytes first.1) refl))
 
-  -- So many entries of a good format are those that the fields with bytes give.
+  -- The entries read with all fields of a valid format equal those read with the fields that have
+  -- bytes.
   pub entries-with-bytes : (fields : List Field) (count : ℕ)
       → (0 < count → is_format table fields ≡ true) → (bytes : List ℕ) (place : ℕ)
       → repeated_at (entry_at s format table (filter has_bytes fields)) count bytes place
@@ -118,7 +119,7 @@ module _ (s : LineSections) (format : Format) (table : EntryTable) where
       repeated-same _ _ (λ b p. entry-with-bytes fields (good (omega arith)) b p) (suc count) bytes
       place
 
--- The items that a step reads are those of another one that reads the same.
+-- The items that a step reads are also those of another step with the same result.
 pub reads_same : {X : Type 0} (result : Result (Vec X Global) Cause)
     (f g : List ℕ → ℕ → Result (List X × ℕ) Cause) (old new : Position)
     → f old.bytes old.place ≡ g old.bytes old.place → ReadsItems result f old new

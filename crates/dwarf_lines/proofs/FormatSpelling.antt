@@ -1,4 +1,4 @@
--- Items that stand one after another, and formats, as what is spelled: in both directions.
+-- The encoding of consecutive items and of formats, in both directions.
 use Rattle.std.proofs.Common.{◌≡◌, ℕ, zero, suc, ◌+◌, ◌<◌, List, [], ◌∷◌, ◌++◌, length, Result, Ok}
 use Rattle.std.proofs.Common.{refl, sym, ap, ◌∙◌, subst, arith}
 use Rattle.dwarf_bytes.specs.declared.fault.Cause.{Cause}
@@ -13,7 +13,7 @@ use Rattle.dwarf_lines.proofs.BoundsLaws.{ok_is}
 use Rattle.dwarf_lines.proofs.Stretches.{Stretch, stretch_of, stands_of, none_at, join, first_of}
 use Rattle.dwarf_lines.proofs.Stretches.{rest_of}
 
--- what is read at each place stands there, and what stands there is read
+-- if an item is read at an offset, an encoding of it is there
 abbrev pub Stands : {X : Type 0} → (ℕ → List ℕ → X → Type 0) → (List ℕ → ℕ → Result (X × ℕ) Cause)
     → List ℕ → Type 0
 Stands {X = X} spells item bytes = (at : ℕ) (x : X) (next : ℕ) → item bytes at ≡ Ok (x, next)

@@ -1,4 +1,4 @@
--- The header of a line program, as what is spelled: in both directions.
+-- The encoding of a line program header, in both directions.
 use Rattle.std.proofs.Common.{◌≡◌, ℕ, ◌+◌, ◌<◌, ◌≤◌, List, ◌++◌, length, take, Ok, refl, ap, subst}
 use Rattle.std.proofs.Common.{arith, length-take}
 use Rattle.dwarf_bytes.specs.declared.format.Format.{Format}
@@ -16,7 +16,7 @@ use Rattle.dwarf_lines.proofs.TableSpelling.{table_again}
 use Rattle.dwarf_lines.proofs.EncodingSpelling.{inside, encoding_again}
 use Rattle.dwarf_lines.proofs.BoundsSpelling.{cut, uncut, between}
 
--- each part has a byte
+-- each part has at least one byte
 some_encoding : (bytes : List ℕ) (e : Encoding) → SpellsEncoding bytes e → 0 < length bytes
 some_encoding bytes e is = omega (arith, ap length is.whole)
 
@@ -26,7 +26,7 @@ some_table : (s : LineSections) (format : Format) (table : EntryTable) (place : 
 some_table s format table place bytes entries is = omega (arith, ap length is.whole)
 
 module _ (s : LineSections) (format : Format) (start : ℕ) (header : LineHeader) where
-  -- the tables and what stands before and behind them, within the header
+  -- the encoding parameters, the tables and the unread bytes fill the header
   pub fields_stand : (e d f : ℕ) → header.first ≤ length s.line
       → StandsAt SpellsEncoding (take header.first s.line) start header.encoding e
       → StandsAt (SpellsTable s format Directories e) (take header.first s.line) e
@@ -75,7 +75,7 @@ module _ (s : LineSections) (format : Format) (start : ℕ) (header : LineHeader
         },
       )
 
--- the parts that are read from a program's fields
+-- the parts of the fields of a program are read
 module _ (s : LineSections) (format : Format) (start : ℕ) (fields : List ℕ) (header : LineHeader)
     (t : SpellsFields s format start fields header)
     (there : Stretch s.line start fields header.first) where

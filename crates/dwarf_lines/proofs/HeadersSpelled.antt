@@ -1,4 +1,4 @@
--- The header at a place, as it is spelled.
+-- The encoding of the header at an offset.
 use Rattle.std.proofs.Common.{◌≡◌, ℕ, ◌+◌, List, ◌∷◌, ◌++◌, length, take, Ok, refl, sym, ap, ◌∙◌}
 use Rattle.std.proofs.Common.{subst, arith, length-append}
 use Rattle.dwarf_bytes.specs.declared.fault.Cause.{Cause}
@@ -18,7 +18,7 @@ use Rattle.dwarf_lines.proofs.BoundsSpelling.{between, AreSpelled, bounds_stand,
 use Rattle.dwarf_lines.proofs.HeaderSpelling.{fields_stand, encoding_is, directories_are, files_are}
 
 module _ (s : LineSections) (place : ℕ) where
-  -- a program, of its bounds and its fields
+  -- a program, composed of its bounds and its fields
   program_stands : (b : ProgramBounds) (header : LineHeader) → header.first ≡ b.first
       → header.past ≡ b.past → AreSpelled s.line place b
       → (fields : List ℕ) → Stretch s.line b.fields fields b.first

@@ -1,4 +1,4 @@
--- What is spelled as an instruction is read.
+-- An encoded instruction is read.
 use Rattle.std.proofs.Common.{◌≡◌, ◌≢◌, ℕ, suc, ◌+◌, ◌-◌, ◌<◌, ◌≤◌, true, false, List, [], ◌∷◌}
 use Rattle.std.proofs.Common.{◌++◌, length, Ok, refl, sym, ◌∙◌, subst, arith, eq-eqb}
 use Rattle.std.specs.Prelude.{nat_le, slice_index}
@@ -98,7 +98,7 @@ module _ (e : Encoding) (bytes : List ℕ) (at : ℕ) where
   unfolding extended_of
   other_is opcode operands not1 not2 = rw (is_not opcode 1 not1, is_not opcode 2 not2) refl
 
-  -- the opcode of a front, and what stands behind it
+  -- the opcode at the start of a range, and the bytes after it
   opcode_of : (opcode : ℕ) (operand : List ℕ) (next : ℕ) → Stretch bytes at (opcode ∷ operand) next
       → (u8_at bytes at ≡ Ok (opcode, at + length {A = ℕ} (opcode ∷ [])))
       × Stretch bytes (at + length {A = ℕ} (opcode ∷ [])) operand next
@@ -159,7 +159,7 @@ module _ (e : Encoding) (bytes : List ℕ) (at : ℕ) where
       extended_again next (suc (length operands)) len (opcode ∷ operands) Skipped some there is
       (omega arith) (omega arith) (other_is opcode operands not1 not2)
 
-  -- what is spelled so is read
+  -- an instruction whose encoding is at the offset is read
   pub instruction_again : (i : Instruction) (next : ℕ) → 0 < e.opcode_base
       → StandsAt (Spells e) bytes at i next
       → instruction_at e bytes at ≡ Ok (i, next)

@@ -1,4 +1,4 @@
--- What the lines of a section are like.
+-- Properties of the line tables of a section.
 use Rattle.std.proofs.Common.{◌≡◌, map, Ok, sym, subst}
 use Rattle.std.specs.List.Sorted.{IsStrictlyIncreasing}
 use Rattle.dwarf_lines.specs.Sections.{LineSections}

@@ -1,4 +1,4 @@
--- The registers of the machine are the sums over the instructions that it has executed.
+-- The registers of the machine equal the sums over the instructions that it has executed.
 use Rattle.std.proofs.Common.{◌≡◌, ℕ, List, [], ◌∷◌, Bool, true, if◌then◌else◌, Result, Ok, refl}
 use Rattle.std.proofs.Common.{sym, ap, ◌∙◌, arith}
 use Rattle.std.specs.Prelude.{ℤ, pos, ◌+ℤ◌}
@@ -50,7 +50,7 @@ same_registers : (a b : ℕ) (f g : ℕ) (l k : ℤ) (p q : ℕ) (u v d c : Bool
 same_registers a b f g l k p q u v d c a_is f_is l_is p_is u_is d_is =
     rw (a_is, f_is, l_is, p_is, u_is, d_is) refl
 
--- no change of the line
+-- adding 0 does not change the line
 stays : (z : ℤ) → z +ℤ pos 0 ≡ z
 stays z = omega (arith, ints)
 
@@ -59,7 +59,7 @@ after_end : (e : Encoding) (before : List Instruction) → registers e (EndSeque
 unfolding address_after file_after line_after row_before is_open is_dead
 after_end e before = refl
 
--- each step goes from the registers of the instructions before it to those of them and it
+-- a step leads from the registers after some instructions to the registers after one more
 step-registers : (e : Encoding) (before : List Instruction) (i : Instruction)
     → step e (registers e before) i ≡ registers e (i ∷ before)
 step-registers e before Copy =
@@ -164,11 +164,11 @@ step-registers e before Skipped =
     (sym (row_stays e Skipped before refl refl))
     (sym (open_stays Skipped before refl refl)) (sym (dead_stays Skipped before refl refl))
 
--- the row of registers
+-- the row of the registers
 row_from : Origin → ℕ → Machine → Result (List Row) Cause
 row_from o previous m = line_row o previous m.address m.line m.file >>= λ row. Ok (row ∷ [])
 
--- what the machine appends is what the sums make
+-- the rows that the machine appends are the ones defined by the sums
 appended-live : (e : Encoding) (o : Origin) (before : List Instruction) (i : Instruction)
     → appended_live e o (registers e before) i ≡ made_live e o before i
 unfolding row_from

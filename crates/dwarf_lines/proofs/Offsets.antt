@@ -1,4 +1,4 @@
--- Each program starts where the one before it ends, so that their offsets rise.
+-- Each program starts where the one before it ends, so their offsets increase.
 use Rattle.std.proofs.Common.{◌≡◌, ℕ, ◌<◌, List, [], ◌∷◌, ◌++◌, length, get_or, map, Ok, refl, sym}
 use Rattle.std.proofs.Common.{ap, ◌∙◌, subst, arith}
 use Rattle.std.specs.Prelude.{nat_le}
@@ -57,7 +57,7 @@ next-offset s before place x after h =
     subst (λ (p : Program). p.offset ≡ place) same
     (program_at_place-offset s (length before) place program program_is)))
 
--- the programs that are listed from a place on
+-- the offsets of programs listed from an offset on
 pub listed-rise : (s : LineSections) (before : List Program) (place : ℕ) (programs : List Program)
     (after : ℕ)
     → Lists (next_program s) before place programs after
@@ -98,7 +98,7 @@ offsets-in [] = refl
 offsets-in (program ∷ programs) = ap (λ (offsets : List ℕ). program.offset ∷ offsets)
     (offsets-in programs)
 
--- the offsets of what is kept of them
+-- the offsets of the stored tables
 pub kept-rise : (s : LineSections) (before : List Program) (place : ℕ)
     (programs : List ProgramFiles) (after : ℕ)
     → programs_of s ≡ Ok (before, after) → map tables_in programs ≡ map tables_of before

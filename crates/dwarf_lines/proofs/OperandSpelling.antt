@@ -1,4 +1,4 @@
--- Operands that are passed over, as they are spelled.
+-- The encoding of skipped operands.
 use Rattle.std.proofs.Common.{◌≡◌, ◌≢◌, ℕ, zero, suc, ◌+◌, ◌-◌, true, false, ◌==◌, List, [], ◌∷◌}
 use Rattle.std.proofs.Common.{◌++◌, length, Ok, ap, subst, arith}
 use Rattle.std.proofs.lemmas.Bool.Decides.{nat_tests}
@@ -22,7 +22,7 @@ differs a b h = grind (arith, nat_tests)
 pub is_not : (a b : ℕ) → a ≢ b → (a == b) ≡ false
 is_not a b h = grind (arith, nat_tests)
 
--- operands that are passed over
+-- skipped operands
 pub ulebs_stand : (count : ℕ) (bytes : List ℕ) (at next : ℕ) → after_ulebs count bytes at ≡ Ok next
     → (operands : List ℕ) × AreUlebs count operands × Stretch bytes at operands next
 unfolding after_ulebs

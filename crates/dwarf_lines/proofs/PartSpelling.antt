@@ -1,4 +1,4 @@
--- A field of an entry, as what is spelled: in both directions.
+-- The encoding of a field of an entry, in both directions.
 use Rattle.std.proofs.Common.{◌≡◌, ℕ, ◌+◌, List, ◌++◌, length, drop, Bool, true, false, cond, Ok}
 use Rattle.std.proofs.Common.{Err, Some, None, refl, sym, subst}
 use Rattle.std.specs.Prelude.{Option, is_some}
@@ -33,7 +33,7 @@ module _ (s : LineSections) (format : Format) (bytes : List ℕ) (at : ℕ) wher
   -- ---- fields
 
   module _ (table : EntryTable) where
-    -- what the entry has of a field and what it had before, where the field is another
+    -- a field changes neither the path nor the directory unless it is that field
     abbrev KeptBy : Field → Entry → Entry → Type 0
     KeptBy field before after = (is_path field ≡ false → after.path ≡ before.path)
         × (is_index table field ≡ false → after.directory ≡ before.directory)
@@ -139,7 +139,8 @@ module _ (s : LineSections) (format : Format) (bytes : List ℕ) (at : ℕ) wher
         (Err causes.FileFormat) ≡ Ok next) (sym is)
         (rw (content_again layout format bytes at content next there) refl)
 
-    -- what is read over an entry, of which the other fields are as they will be
+    -- an encoded field of `entry` is read into `before`; the result agrees with `entry` in the path
+    -- and the directory if `before` agrees in the one that the field does not give
     pub part_again : (entry before : Entry) (field : Field) (front rest : List ℕ) (next : ℕ)
         → drop at bytes ≡ front ++ rest
         → next ≡ at + length front → SpellsPart s format table entry at front field

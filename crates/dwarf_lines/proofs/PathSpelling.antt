@@ -1,4 +1,4 @@
--- A path, and an index of a directory, as what is spelled: in both directions.
+-- The encoding of a path and of a directory index, in both directions.
 use Rattle.std.proofs.Common.{◌≡◌, ℕ, ◌+◌, ◌<◌, List, ◌++◌, length, drop, Bool, true, false, ◌||◌}
 use Rattle.std.proofs.Common.{◌==◌, Result, Ok, Err, Some, None, refl, ap, subst, arith}
 use Rattle.std.proofs.Common.{length-append, length-drop}
@@ -31,7 +31,7 @@ use Rattle.dwarf_lines.specs.HeaderSpelling.{data1, data2, udata}
 use Rattle.dwarf_lines.proofs.BoundsLaws.{ok_is}
 use Rattle.dwarf_lines.proofs.OperandSpelling.{eqb-eq}
 
--- what stands at a place, in other words
+-- converts between two encoding relations for the bytes at an offset
 pub spelled_as : {X Y : Type 0} (S : List ℕ → X → Type 0) (T : List ℕ → Y → Type 0) (bytes : List ℕ)
     (at : ℕ) (x : X) (y : Y) (next : ℕ)
     → ((front : List ℕ) → S front x → T front y) → StandsAt S bytes at x next
@@ -45,13 +45,13 @@ spelled_as S T bytes at x y next as_other s =
       next_is = s.next_is;
     }
 
--- the last of three forms
+-- the third of three alternatives
 third : (a b c : Bool) → (a || b || c) ≡ true → a ≡ false → b ≡ false → c ≡ true
 third true b c h not_a not_b = cc
 third false true c h not_a not_b = cc
 third false false c h not_a not_b = h
 
--- ---- numbers and texts
+-- ---- numbers and strings
 
 pub number_again : (n : ℕ) (bytes : List ℕ) (at value next : ℕ) → 0 < n
     → StandsAt (IsFixed n) bytes at value next
@@ -78,7 +78,7 @@ pub offset_again : (format : Format) (bytes : List ℕ) (at value next : ℕ)
 offset_again Dwarf32 bytes at value next s = number_again 4 bytes at value next (omega arith) s
 offset_again Dwarf64 bytes at value next s = number_again 8 bytes at value next (omega arith) s
 
--- the text at an offset is the one that is read there
+-- the string at an offset is the one that is read there
 text_found : (texts : List ℕ) (offset : ℕ) (text : List ℕ) → text_at texts offset ≡ Ok text
     → (past : ℕ) × StandsAt IsText texts offset text past
 unfolding text_at cstr_at

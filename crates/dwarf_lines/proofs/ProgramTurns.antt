@@ -1,4 +1,4 @@
--- Reading programs one after the other, as a loop does.
+-- The iterations of the loop that reads the programs.
 use Rattle.std.proofs.Common.{◌≡◌, ℕ, ◌<◌, ◌≤◌, List, [], ◌∷◌, ◌++◌, length, take, map, true, false}
 use Rattle.std.proofs.Common.{Result, Ok, Err, refl, sym, ap, ◌∙◌, subst, arith, inl, inr}
 use Rattle.std.specs.Prelude.{nat_le, ◌⊎◌}
@@ -24,7 +24,7 @@ use Rattle.dwarf_lines.specs.Programs.{rows_of}
 use Rattle.dwarf_lines.specs.Lines.{FileTables, tables_of, lines_in}
 use Rattle.dwarf_lines.proofs.BoundsLaws.{ok_is, header_at-past}
 
--- what stands behind the rows before
+-- the rows of the outcome, after the rows before them
 pub front_ok : (front : List Row) (outcome : Result (List Row) Cause) (all : List Row)
     → with_front front outcome ≡ Ok all
     → (rows : List Row) × (outcome ≡ Ok rows) × (all ≡ front ++ rows)
@@ -49,7 +49,7 @@ unfolding program_at_place
 is_program s number place n files header rows n_is files_is header_is rows_is =
     rw (header_is, ← n_is, ← files_is, rows_is) refl
 
--- the program of a header and its rows
+-- the program with a header and its rows
 pub program_of : (s : LineSections) (number place n files : ℕ) (header : LineHeader)
     (old new : List Row) → n ≡ number
     → files ≡ length header.files → header_at s place ≡ Ok header
@@ -75,7 +75,7 @@ program_of s number place n files header old new n_is files_is header_is ran =
       found.2,
     )
 
--- a program has a byte, and does not reach past the section
+-- a program has at least one byte, and ends within the section
 pub program_at_place-past : (s : LineSections) (number place : ℕ) (program : Program)
     → program_at_place s number place ≡ Ok program
     → (place < program.past) × (program.past ≤ length s.line)
@@ -120,7 +120,7 @@ programs-advance s before place x after h =
     let places = program_at_place-past s (length before) place program program_is in
     (omega (arith, places.0), omega (arith, places.1))))
 
--- A loop over the programs stands at a place, after these programs.
+-- The invariant of the loop over the programs: these programs are before the current offset.
 pub record IsReading (s : LineSections) (before : List Program) (place : ℕ) (rows : List Row)
     (tables : List FileTables) : Type 0 where
   pub rows_are : rows ≡ rows_of before
@@ -129,7 +129,7 @@ pub record IsReading (s : LineSections) (before : List Program) (place : ℕ) (r
   pub outcome : with_programs before (items_from (length s.line) (next_program s) before place)
       ≡ programs_of s
 
--- the loop begins at the front with no program before it
+-- the loop starts at offset 0 with no programs
 pub begins : (s : LineSections) → IsReading s [] 0 [] []
 begins s = record {
   rows_are = refl;
@@ -189,7 +189,7 @@ module _ (s : LineSections) (before : List Program) (place : ℕ) (rows : List R
   unfolding lines_in
   gives le = rw (is_done le, reads.rows_are, reads.tables_are) refl
 
--- want of memory is told apart; every other cause as it is
+-- out of memory is reported without the item; every other cause is reported with it
 told-cases : (section : Section) (cause : Cause) (at : ℕ)
     → (told section cause at ≡ memory_fault)
     ⊎ (told section cause at ≡ record { section = section; cause = cause; at = at })

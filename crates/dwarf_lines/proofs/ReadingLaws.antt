@@ -1,4 +1,4 @@
--- What is read without a fault is spelled, each byte of it, and what is spelled is read.
+-- A reading without a fault corresponds to an encoding of all bytes, in both directions.
 use Rattle.std.proofs.Common.{◌≡◌, ℕ, zero, suc, ◌+◌, ◌-◌, ◌<◌, ◌≤◌, List, [], ◌∷◌, ◌++◌, length}
 use Rattle.std.proofs.Common.{drop, Result, Ok, Err, Some, None, refl, sym, ap, subst, arith}
 use Rattle.std.specs.Prelude.{Option, nat_lt}
@@ -21,7 +21,7 @@ use Rattle.dwarf_lines.proofs.InstructionReads.{instruction_again}
 abbrev pub good : List Instruction → Reading
 good is = record { instructions = is; fault = None }
 
--- each instruction has its opcode
+-- each instruction has at least its opcode
 spelled_some : (e : Encoding) (front : List ℕ) (i : Instruction) → Spells e front i
     → 0 < length front
 spelled_some e front i (copy known) = omega arith

@@ -1,4 +1,4 @@
--- Reading items one after the other, as a loop does.
+-- The iterations of a loop that reads count items.
 use Rattle.std.proofs.Common.{◌≡◌, ℕ, suc, ◌-◌, ◌+◌, ◌≤◌, ◌<◌, List, [], ◌∷◌, ◌++◌, Result, Ok, Err}
 use Rattle.std.proofs.Common.{refl, sym, ap, ◌∙◌, append_assoc, arith}
 use Rattle.std.proofs.lemmas.List.{append-nil}
@@ -6,7 +6,7 @@ use Rattle.dwarf_bytes.specs.Bind.{◌>>=◌}
 use Rattle.dwarf_bytes.specs.declared.fault.Cause.{Cause}
 use Rattle.dwarf_lines.specs.Entries.{repeated_at}
 
--- what was read before, and what is still read
+-- the items read so far, followed by the rest
 abbrev pub with_items : {X : Type 0} → List X → Result (List X × ℕ) Cause
     → Result (List X × ℕ) Cause
 with_items front read = read >>= λ x. Ok (front ++ x.0, x.1)

@@ -30,7 +30,7 @@ use Rattle.dwarf_lines.proofs.BoundsLaws.{ok_is, header_at-past, header_at-first
 use Rattle.dwarf_lines.proofs.ProgramTurns.{programs-advance, item_or}
 use Rattle.dwarf_lines.proofs.SequenceChains.{found_at, lines_in-ok}
 
--- ---- an instruction makes a row or none
+-- ---- an instruction makes at most one row
 
 abbrev AtMostOne : List Row → Type 0
 AtMostOne rows = length rows ≤ 1
@@ -79,7 +79,7 @@ rows-few e o before (i ∷ rest) rows h =
     let whole = ap length (ok_is {E = Cause} (row ++ more) rows h2) in
     omega (arith, here, others, whole, length-append row more)))
 
--- ---- an instruction has a byte
+-- ---- an instruction has at least one byte
 
 read_on-few : (read : Result (Instruction × ℕ) Cause) (rest : ℕ → Reading) (steps : ℕ)
     → ((place : ℕ) → length (rest place).instructions ≤ steps)

@@ -1,4 +1,4 @@
--- The rows of a program stand before those of the next one.
+-- The rows of a program precede the rows of later programs.
 use Rattle.std.proofs.Common.{◌≡◌, ℕ, zero, suc, ◌<◌, ◌≤◌, List, [], ◌∷◌, ◌++◌, Bool, false, not}
 use Rattle.std.proofs.Common.{length, Ok, sym, subst, arith}
 use Rattle.std.specs.Prelude.{slice_index_or}
@@ -14,7 +14,7 @@ use Rattle.dwarf_lines.specs.Lines.{Lines, lines_in}
 use Rattle.dwarf_lines.proofs.Sequences.{IsChain}
 use Rattle.dwarf_lines.proofs.SequenceChains.{program-chain, found_at, lines_in-ok}
 
--- the numbers of the rows' programs do not fall, from low on
+-- the program numbers of the rows are in ascending order, from low on
 abbrev RiseFrom : ℕ → List Row → Type 0
 RiseFrom low [] = Unit {0}
 RiseFrom low (row ∷ rows) = (low ≤ row.program.0) × RiseFrom row.program.0 rows

@@ -38,7 +38,7 @@ use Rattle.dwarf_lines.proofs.Sequences.{IsChain, Kind, quiet, makes, ends, kind
 use Rattle.dwarf_lines.proofs.SequenceChains.{program-chain, found_at, lines_in-ok, some_is}
 use Rattle.dwarf_lines.proofs.WholePrograms.{program_stands}
 
--- ---- what all elements have
+-- ---- properties of all elements
 
 abbrev Each : {X : Type 0} → (X → Type 0) → List X → Type 0
 Each P [] = Unit {0}
@@ -65,7 +65,7 @@ got [] i lt = absurd (omega (arith, lt))
 got (x ∷ xs) zero lt = (x, refl)
 got (x ∷ xs) (suc i) lt = got xs i (omega (arith, lt))
 
--- ---- the file of a row is there
+-- ---- the file of a row exists
 
 abbrev HasFile : ℕ → Row → Type 0
 HasFile files row = row.«end» ≡ false → row.file < files
@@ -138,7 +138,7 @@ rows-files e o before (i ∷ rest) rows is =
     (each-append (HasFile o.files) row others (made-files e o before i row row_is (kind_of i))
     (rows-files e o (i ∷ before) rest others others_is))))
 
--- ---- the directory of a file is there
+-- ---- the directory of a file exists
 
 abbrev Known : EntryTable → Entry → Type 0
 Known table entry = has_directory table entry ≡ true
@@ -197,7 +197,7 @@ program-paths s number place program h =
     known) files files in
     subst (λ (q : Program). Each (HasPath q) program.rows) (sym p.program_is) paths
 
--- ---- and of those of a section
+-- ---- the paths of a section's rows
 
 abbrev HasPathIn : List FileTables → Row → Type 0
 HasPathIn tables row = row.«end» ≡ false
@@ -211,7 +211,7 @@ chain-programs program has_row previous [] chain = tt
 chain-programs program has_row previous (row ∷ rows) chain =
     (chain.0, chain-programs program _ row.address rows chain.2)
 
--- the tables behind others
+-- the tables after others
 tables_at : (before : List Program) (program : Program) (programs : List Program)
     → slice_get (map tables_of (before ++ program ∷ programs)) (length before)
     ≡ Some (tables_of program)

@@ -1,4 +1,4 @@
--- The programs of a section, one after another, and the texts of parts.
+-- The programs of a section, in order, and the strings of parts.
 use Rattle.std.proofs.Common.{◌≡◌, ℕ, List, [], ◌∷◌, ◌++◌, length, take, drop, Ok, ap, ◌∙◌, arith}
 use Rattle.std.proofs.lemmas.List.{take-append-le, take_all, append_assoc}
 use Rattle.dwarf_bytes.specs.Items.{Lists}

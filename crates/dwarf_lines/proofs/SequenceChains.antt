@@ -32,7 +32,7 @@ use Rattle.dwarf_lines.proofs.Sequences.{IsChain, Kind, quiet, makes, ends, kind
 use Rattle.dwarf_lines.proofs.Sequences.{after_end, at_first, shut_kept, dead_kept, kept_stays}
 use Rattle.dwarf_lines.proofs.Sequences.{any_address, none_more, line_more, end_more}
 
--- what one instruction makes stands in front of what the others make
+-- the row of one instruction precedes the rows of the others
 one_more : (e : Encoding) (o : Origin) (before : List Instruction) (i : Instruction)
     (row rest : List Row) → made e o before i ≡ Ok row
     → Kind i
@@ -70,7 +70,7 @@ one_more e o before i row rest is (ends i_is) chain = by (is_dead before) refl
     by true d = none_more e o before EndSequence row rest made_is d (after_end e before).0 closed
     by false d = end_more e o before row rest made_is d closed
 
--- the rows of instructions behind these, after which no sequence is left open
+-- the rows of instructions after the given ones, if no sequence is left open
 rows-chain : (e : Encoding) (o : Origin) (before rest : List Instruction) (rows : List Row)
     → rows_from e o before rest ≡ Ok rows
     → is_open (latest_first before rest) ≡ false
@@ -139,7 +139,7 @@ program-chain s number place program h =
     { program = record { 0 = number }; files = length header.files }) (take header.past s.line)
     header.first rows rows_is)))
 
--- a row and the rows behind it
+-- a row and the rows after it
 abbrev pub Continues : Row → List Row → Type 0
 Continues row [] = row.«end» ≡ true
 Continues row (next ∷ rows) = row.«end» ≡ false → (next.program ≡ row.program)
@@ -193,7 +193,7 @@ listed-continue s before place (program ∷ programs) after h =
     (program-chain s (length before) place program (found_at s before place program h.0 h.1))
     (listed-continue s (before ++ program ∷ []) h.0 programs after h.2)
 
--- the programs that the lines are of
+-- the programs from which the line tables are made
 pub lines_in-ok : (s : LineSections) (lines : Lines) → lines_in s ≡ Ok lines
     → (programs : List Program) × (after : ℕ) × (programs_of s ≡ Ok (programs, after))
     × (lines ≡ lines_of programs)

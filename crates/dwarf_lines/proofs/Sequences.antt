@@ -1,4 +1,4 @@
--- Each row that does not end its sequence has the next row of its sequence behind it.
+-- Each row that does not end its sequence is followed by the next row of its sequence.
 use Rattle.std.proofs.Common.{◌≡◌, ℕ, ◌≤◌, List, [], ◌∷◌, ◌++◌, Bool, true, false, not}
 use Rattle.std.proofs.Common.{if◌then◌else◌, Ok, refl, sym, ap, ◌∙◌, subst, arith}
 use Rattle.std.specs.Prelude.{ℤ}
@@ -24,9 +24,8 @@ use Rattle.dwarf_lines.proofs.BoundsLaws.{ok_is}
 use Rattle.dwarf_lines.proofs.Steps.{open_stays, row_here, open_here, dead_here, dead_settled}
 use Rattle.dwarf_lines.proofs.StepRows.{made_row, made_dead, made_alive}
 
--- The rows of a program from a place in a sequence on, which has a row at the address previous
--- before it or none, up to
--- the end of the last sequence.
+-- The rows of a program from some point of a sequence on, up to the end of the last sequence. If
+-- has_row, a row at the address previous precedes them in the sequence.
 abbrev pub IsChain : ProgramNo → Bool → ℕ → List Row → Type 0
 IsChain program has_row previous [] = has_row ≡ false
 IsChain program has_row previous (row ∷ rows) =
@@ -78,7 +77,7 @@ end_row-is o previous sum row h =
       end_is = sym (ap (λ (r : Row). r.«end») same);
     })
 
--- what an instruction is to the rows
+-- the effect of an instruction on the rows
 pub data Kind (i : Instruction) : Type 0 where
   quiet : ends_sequence i ≡ false → makes_line i ≡ false → Kind i
   makes : ends_sequence i ≡ false → makes_line i ≡ true → Kind i
@@ -96,7 +95,7 @@ kind_of EndSequence = ends refl
 kind_of (Special n) = makes refl refl
 kind_of Skipped = quiet refl refl
 
--- whether the sequence has a row, which was not dropped
+-- whether the sequence has a row and is not dead
 abbrev pub keeps_row : List Instruction → Bool
 keeps_row before = if is_dead before then false else is_open before
 
@@ -141,7 +140,7 @@ any_address program has_row a b [] shut chain = chain
 any_address program has_row a b (row ∷ rows) shut chain =
     (chain.0, λ h. absurd (false≢true (sym shut ∙ h)), chain.2)
 
--- in a dead sequence an instruction makes nothing
+-- in a dead sequence an instruction makes no row
 pub none_more : (e : Encoding) (o : Origin) (before : List Instruction) (i : Instruction)
     (row rest : List Row) → made e o before i ≡ Ok row
     → is_dead before ≡ true → keeps_row (i ∷ before) ≡ false
@@ -158,7 +157,7 @@ none_more e o before i row rest is d shut chain =
     subst (λ (r : List Row). IsChain o.program (keeps_row before) (row_before e before) (r ++ rest))
     none here
 
--- a row of one that is not dead
+-- a row in a sequence that is not dead
 pub line_more : (e : Encoding) (o : Origin) (before : List Instruction) (i : Instruction)
     (row rest : List Row) → made e o before i ≡ Ok row
     → is_dead before ≡ false → ends_sequence i ≡ false → makes_line i ≡ true
@@ -184,7 +183,7 @@ line_more e o before i row rest is d e_is m_is chain =
     subst (λ (r : List Row). IsChain o.program (keeps_row before) (row_before e before) (r ++ rest))
     same (at.program_is, λ _. rises, behind))
 
--- .. and the row that ends it
+-- .. and the row that ends the sequence
 pub end_more : (e : Encoding) (o : Origin) (before : List Instruction) (row rest : List Row)
     → made e o before EndSequence ≡ Ok row
     → is_dead before ≡ false

@@ -1,4 +1,4 @@
--- What is read as an instruction is spelled so, and what is spelled so is read.
+-- An instruction that is read has an encoding in the bytes.
 use Rattle.std.proofs.Common.{◌≡◌, ℕ, suc, ◌+◌, ◌-◌, ◌<◌, ◌==◌, List, [], ◌∷◌, ◌++◌, length, Result}
 use Rattle.std.proofs.Common.{Ok, refl, sym, ap, ◌∙◌, subst, arith}
 use Rattle.std.specs.Prelude.{nat_le, slice_index}
@@ -30,7 +30,7 @@ module _ (e : Encoding) (bytes : List ℕ) (at : ℕ) where
   abbrev Stands : Instruction → ℕ → Type 0
   Stands i next = StandsAt (Spells e) bytes at i next
 
-  -- a pair that was read is the one that is asked for
+  -- a pair that is read is the one given
   is_read : (j i : Instruction) (after next : ℕ)
       → (let f : Instruction × ℕ → Result (Instruction × ℕ) Cause = λ z. Ok z in
       f (j, after) ≡ f (i, next)) → Stands j after → Stands i next
@@ -184,7 +184,7 @@ module _ (e : Encoding) (bytes : List ℕ) (at : ℕ) where
         (stretch_of IsUleb bytes place len.0 len.1 length_there) body_there.0
         (omega (arith, body_there.1, nonzero)) j_is)))))
 
-  -- what is read is spelled so
+  -- if an instruction is read, an encoding of it is at the offset
   pub instruction_stands : (i : Instruction) (next : ℕ) → instruction_at e bytes at ≡ Ok (i, next)
       → Stands i next
   unfolding instruction_at

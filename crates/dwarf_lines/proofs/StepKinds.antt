@@ -1,4 +1,4 @@
--- The steps of each kind of instruction.
+-- The steps for each kind of instruction.
 use Rattle.std.proofs.Common.{◌≡◌, ℕ, ◌+◌, List, [], ◌∷◌, Bool, true, false, if◌then◌else◌, Some}
 use Rattle.std.proofs.Common.{None, Result, Ok, Err, refl, sym, ap, ◌∙◌, arith}
 use Rattle.std.specs.Prelude.{ℤ, pos, ◌+ℤ◌, Option, option_to_list, IfOk}
@@ -39,7 +39,7 @@ quiet_step e o i before old new h m r address line file previous has_row dead = 
       has_row dead,
 )
 
--- a step over an instruction that makes a row, from the registers mid that it has made
+-- a step over an instruction that makes a row from the registers mid
 module _ (e : Encoding) (o : Origin) (i : Instruction) (before : List Instruction) (mid : Registers)
     (ends : ends_sequence i ≡ false) (makes : makes_line i ≡ true)
     (address : IsSum mid.address (address_after e (i ∷ before)))
@@ -74,7 +74,7 @@ module _ (e : Encoding) (o : Origin) (i : Instruction) (before : List Instructio
       made_row e o i before makes live ∙ outcome_is live
       ∙ ap (λ (r : Result Row Cause). r >>= λ row. Ok (row ∷ [])) k.1
 
--- the registers that a Copy makes its row from are those before it
+-- the registers for the row of a Copy are those before it
 pub copy_sums : (e : Encoding) (before : List Instruction) (r : Registers) → AreRegisters e before r
     → IsSum r.address (address_after e (Copy ∷ before)) × (r.line ≡ line_after e (Copy ∷ before))
     × (r.file ≡ file_after (Copy ∷ before))
@@ -85,7 +85,7 @@ copy_sums e before r h =
     omega (arith, ints, line_goes_on e Copy before refl) in
     (rw same h.address, h.line ∙ sym line, h.file ∙ sym (file_goes_on Copy before refl refl))
 
--- those of a special opcode are moved first
+-- a special opcode first advances the registers
 pub special_sums : (e : Encoding) (adjusted : ℕ) (before : List Instruction)
     (old on mid : Registers) → AreRegisters e before old
     → ((sum : ℕ) → IsSum old.address sum → IsSum on.address (sum + advance e (Special adjusted)))
@@ -108,7 +108,7 @@ special_sums e adjusted before old on mid r address rest moves =
       ap (λ (r : Registers). r.dead) moves ∙ ap (λ (r : Registers). r.dead) rest ∙ r.dead,
     )
 
--- a step over an instruction that changes the address alone
+-- a step over an instruction that changes only the address
 pub advance_step : (e : Encoding) (o : Origin) (i : Instruction) (before : List Instruction)
     (old new : Registers) → ends_sequence i ≡ false
     → makes_line i ≡ false → sets_address i ≡ false → file_set i ≡ None → line_change e i ≡ pos 0
@@ -125,7 +125,7 @@ advance_step e o i before old new ends makes sets file still r address rest =
     (ap (λ (r : Registers). r.previous) rest) (ap (λ (r : Registers). r.has_row) rest)
     (ap (λ (r : Registers). r.dead) rest ∙ r.dead ∙ sym (dead_stays i before ends sets))
 
--- a step over an instruction that changes the line alone
+-- a step over an instruction that changes only the line
 pub line_step : (e : Encoding) (o : Origin) (change : ℤ) (before : List Instruction)
     (old new : Registers) → AreRegisters e before old
     → new ≡ record old { line = old.line +ℤ change }
@@ -179,7 +179,7 @@ address_step e o address before old r =
     (sym (address_is e address before)) (omega (arith, ints))
     (r.file ∙ sym (file_goes_on (SetAddress address) before refl refl)) refl refl dead
 
--- the row at the end of a sequence
+-- the row that ends a sequence
 end_row-made : (r : Result Row Cause) → (r >>= λ row. Ok (row ∷ []))
     ≡ (last_row false r >>= λ row. Ok (option_to_list row))
 end_row-made (Ok row) = refl
@@ -215,14 +215,14 @@ end_step e o before old r result h = by (is_dead before) refl
         ∙ ap (λ (r : Result (Option Row) Cause). r >>= λ row. Ok (option_to_list row))
         (sym (found false is))
 
--- a change of the line, as it was cast and as it is
+-- a line increment, with and without the cast
 pub moves_by : (old new : Registers) (change result : ℤ) → SFits w128 result → result ≡ change
     → new ≡ record old { line = old.line +ℤ to_z w128 (of_z w128 result) }
     → new ≡ record old { line = old.line +ℤ change }
 moves_by old new change result fits is moves =
     moves ∙ ap (λ z. record old { line = old.line +ℤ z }) (to_z-of_z w128 result fits ∙ is)
 
--- what holds without a look at the answer
+-- a property that does not depend on the result
 pub where_ok : {A E : Type 0} (r : Result A E) (P : Type 0) → P → IfOk r (λ _. P)
 where_ok (Ok x) P h = h
 where_ok (Err e) P h = tt

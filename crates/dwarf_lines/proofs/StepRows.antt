@@ -1,4 +1,4 @@
--- What a step of the machine leaves of its registers and rows.
+-- The effect of a step of the machine on its registers and rows.
 use Rattle.std.proofs.Common.{◌≡◌, ℕ, ◌+◌, List, [], ◌∷◌, Bool, true, false, if◌then◌else◌, Result}
 use Rattle.std.proofs.Common.{Ok, Err, refl, sym, ap, ◌∙◌, arith}
 use Rattle.std.specs.Prelude.{ℤ, ◌+ℤ◌}
@@ -27,7 +27,7 @@ use Rattle.dwarf_lines.proofs.Steps.{dead_here, dropped_stays, dropped_here}
 
 -- ---- steps
 
--- what the registers are after an instruction that makes no row
+-- the registers after an instruction that makes no row
 pub moved : (e : Encoding) (i : Instruction) (before : List Instruction) (old new : Registers)
     → ends_sequence i ≡ false
     → makes_line i ≡ false → AreRegisters e before old
@@ -57,7 +57,7 @@ address_of (Err _) = 0
 judged_is : (previous sum address : ℕ) → judged_address previous sum ≡ Ok address → address ≡ sum
 judged_is previous sum address h = grind (arith, common_steps)
 
--- the address of a row is the sum that it was made at
+-- the address of a row is the given sum
 pub row_address : (o : Origin) (previous sum : ℕ) (line : ℤ) (file : ℕ) (row : Row)
     → line_row o previous sum line file ≡ Ok row
     → row.address ≡ sum
@@ -92,7 +92,7 @@ row_address o previous sum line file row h =
     })) row b.2 in
     sym (ap (λ (r : Result Row Cause). address_of r) d.2) ∙ judged_is previous sum a.0 a.1
 
--- what the registers are after an instruction that makes a row
+-- the registers after an instruction that makes a row
 pub row_kept : (e : Encoding) (o : Origin) (i : Instruction) (before : List Instruction)
     (mid new : Registers) (row : Row)
     → ends_sequence i ≡ false → makes_line i ≡ true
@@ -112,7 +112,7 @@ row_kept e o i before mid new row h m address line file dead made kept = rw kept
   dead = dead ∙ sym (dead_here i before h m);
 })
 
--- .. and where the row is dropped
+-- .. and if the row is discarded
 pub row_dropped : (e : Encoding) (i : Instruction) (before : List Instruction) (mid new : Registers)
     → ends_sequence i ≡ false
     → makes_line i ≡ true
@@ -129,7 +129,7 @@ row_dropped e i before mid new h m address line file dead is kept = rw kept (rec
   dead = dead ∙ sym (dead_here i before h m);
 })
 
--- after the end of a sequence all is as at the beginning
+-- after the end of a sequence, the registers are those at the start of one
 pub starts_again : (e : Encoding) (before : List Instruction) (r : Registers) → AreRegisters e [] r
     → AreRegisters e (EndSequence ∷ before) r
 unfolding address_after line_after file_after row_before is_open is_dead

@@ -1,4 +1,4 @@
--- Stretches of bytes that stand one behind another, and the fixed fields that they are.
+-- Contiguous ranges of bytes, and the fixed-width fields in them.
 use Rattle.std.proofs.Common.{◌≡◌, ℕ, ◌+◌, ◌<◌, ◌≤◌, List, [], ◌∷◌, ◌++◌, length, take, drop, Ok}
 use Rattle.std.proofs.Common.{Err, refl, sym, ap, ◌∙◌, subst, arith, append_assoc}
 use Rattle.std.specs.Prelude.{nat_lt}
@@ -12,12 +12,12 @@ use Rattle.dwarf_bytes.specs.Numbers.{StandsAt, little_endian, block_at, fixed_a
 use Rattle.dwarf_bytes.proofs.Advance.{after_bind, chosen}
 use Rattle.dwarf_lines.proofs.BoundsLaws.{ok_is}
 
--- the front stands at the place, up to the next one
+-- the range from at to next has the bytes front
 pub record Stretch (bytes : List ℕ) (at : ℕ) (front : List ℕ) (next : ℕ) : Type 0 where
   pub parts : drop at bytes ≡ front ++ drop next bytes
   pub next_is : next ≡ at + length front
 
--- what follows the front is the rest from the next place on
+-- the bytes after the front are the rest from the next offset on
 pub rest_is : (bytes : List ℕ) (at : ℕ) (front rest : List ℕ) → drop at bytes ≡ front ++ rest
     → rest ≡ drop (at + length front) bytes
 rest_is bytes at front rest h =
@@ -56,7 +56,7 @@ stands_of S bytes at x next front h spelled =
 pub none_at : (bytes : List ℕ) (at : ℕ) → Stretch bytes at [] at
 none_at bytes at = record { parts = refl; next_is = omega arith }
 
--- one stretch behind another
+-- two contiguous ranges
 pub join : (bytes : List ℕ) (at : ℕ) (a : List ℕ) (mid : ℕ) (b : List ℕ) (next : ℕ)
     → Stretch bytes at a mid → Stretch bytes mid b next
     → Stretch bytes at (a ++ b) next
@@ -120,7 +120,7 @@ two_bytes (b ∷ []) h = absurd (omega (arith, h))
 two_bytes (b ∷ c ∷ []) h = (b, c, refl)
 two_bytes (b ∷ c ∷ d ∷ bs) h = absurd (omega (arith, h))
 
--- a field is the number of the bytes of its width
+-- a field of n bytes is read from a range of n bytes
 pub fixed_stands : (n : ℕ) (bytes : List ℕ) (at : ℕ) (v : ℕ × ℕ) → fixed_at n bytes at ≡ Ok v
     → (block : List ℕ) × Stretch bytes at block v.1 × (length block ≡ n)
     × (v.0 ≡ little_endian block)

@@ -1,4 +1,4 @@
--- A table of a header, as what is spelled: in both directions.
+-- The encoding of a table of a header, in both directions.
 use Rattle.std.proofs.Common.{◌≡◌, ℕ, zero, suc, ◌+◌, ◌<◌, List, [], ◌∷◌, ◌++◌, length, Bool, true}
 use Rattle.std.proofs.Common.{false, not, ◌&&◌, ◌==◌, Ok, refl, sym, ap, subst, arith}
 use Rattle.dwarf_bytes.specs.declared.fault.Cause.TheVariants as causes
@@ -21,7 +21,7 @@ use Rattle.dwarf_lines.proofs.EncodingSpelling.{passed}
 use Rattle.dwarf_lines.proofs.FormatSpelling.{each_stands, each_again, format_stands, format_again}
 use Rattle.dwarf_lines.proofs.EntrySpelling.{entry_stands, entry_again}
 
--- a format is judged where there are entries
+-- the format is validated if there are entries
 judged : (count : ℕ) (good : Bool) → (not (count == 0) && not good) ≡ false → 0 < count
     → good ≡ true
 judged count good h some = passed good (rw (is_not count 0 (λ none. omega (arith, some, none))) at

@@ -20,7 +20,7 @@ use Rattle.dwarf_lines.proofs.HeadersSpelled.{header_stands, header_again}
 use Rattle.dwarf_lines.proofs.ReadingLaws.{reading_is_spelled, spelled_is_read}
 use Rattle.dwarf_lines.proofs.MachineLaws.{rows-by-machine}
 
--- the instructions stand in the program, and an opcode base is there
+-- the instructions are within the program, and opcode_base is not 0
 pub first_inside : (s : LineSections) (place : ℕ) (header : LineHeader) (bytes : List ℕ)
     → SpellsHeader s place bytes header
     → (header.first ≤ header.past) × (0 < header.encoding.opcode_base)

@@ -1,4 +1,5 @@
--- The entries of a line header's two tables (DWARF 5, 6.2.4 and 6.2.4.1).
+-- The entries of the directory table and the file table of a line program header (DWARF 5, 6.2.4
+-- and 6.2.4.1).
 use Rattle.std.specs.Prelude.{ℕ, zero, suc, List, [], ◌∷◌, length, Bool, true, not, ◌&&◌, Result}
 use Rattle.std.specs.Prelude.{Ok, Err, slice_index, nat_lt, ◌==◌, if◌then◌else◌}
 use Rattle.std.specs.Option.{option_map_or}
@@ -21,48 +22,48 @@ use Rattle.dwarf_lines.specs.declared.entries.Entry.{Entry}
 use Rattle.dwarf_lines.specs.Sections.{LineSections}
 use Rattle.dwarf_lines.specs.Formats.{is_path, is_index, layout_of, is_format}
 
--- where a text stands, and whether it begins with a slash
+-- the location of a string, and whether it starts with a slash
 abbrev pub text_from : Section → ℕ → List ℕ → PathText
 text_from section place text = record {
   part = record { section = section; span = record { place = place; len = length text } };
   absolute = slice_index text 0 == 47;
 }
 
--- the text of a section at the offset that stands at a place (7.5.5: strp, line_strp)
+-- the string of a section whose offset is encoded at an offset (7.5.5: strp, line_strp)
 abbrev pub text_by_offset : Format → Section → List ℕ → List ℕ → ℕ → Result (PathText × ℕ) Cause
 text_by_offset format section texts bytes place = do
   offset ← reading (offset_at format bytes place)
   text ← reading (text_at texts offset.0)
   Ok (text_from section offset.0 text, offset.1)
 
--- the text at a place (7.5.5: string)
+-- the string at an offset (7.5.5: string)
 abbrev pub text_here : List ℕ → ℕ → Result (PathText × ℕ) Cause
 text_here bytes place = do
   text ← reading (cstr_at bytes place)
   Ok (text_from sections.DebugLine place text.0, text.1)
 
--- a path
+-- a path with a form
 abbrev pub path_at : LineSections → Format → ℕ → List ℕ → ℕ → Result (PathText × ℕ) Cause
 path_at s format form bytes place =
     if form == DW_FORM_STRING then text_here bytes place
     else if form == DW_FORM_STRP then text_by_offset format sections.DebugStr s.str bytes place
     else text_by_offset format sections.DebugLineStr s.line_str bytes place
 
--- a directory index
+-- a directory index with a form
 abbrev pub index_at : ℕ → List ℕ → ℕ → Result (ℕ × ℕ) Cause
 index_at form bytes place =
     if form == DW_FORM_DATA1 then reading (u8_at bytes place)
     else if form == DW_FORM_DATA2 then reading (u16_at bytes place)
     else reading (uleb_at bytes place)
 
--- the place after a value that is passed over
+-- the offset after a skipped value
 abbrev pub after_value : Format → ℕ → List ℕ → ℕ → Result ℕ Cause
 after_value format form bytes place =
     option_map_or (λ layout. reading (content_at layout format bytes place)
     >>= λ content. Ok content.1)
     (layout_of form) (Err causes.FileFormat)
 
--- One field of an entry: a path or a directory index is kept, all else is passed over.
+-- One field of an entry. A path or a directory index is stored; any other value is skipped.
 unfoldable pub field_at : LineSections → Format → EntryTable → Field → Entry → List ℕ → ℕ
     → Result (Entry × ℕ) Cause
 field_at s format table field entry bytes place =
@@ -81,16 +82,16 @@ fields_at s format table (field ∷ fields) entry bytes place = do
   next ← field_at s format table field entry bytes place
   fields_at s format table fields next.0 bytes next.1
 
--- an entry before its fields: no text, and directory 0
+-- an entry without fields: an empty path, and directory 0
 abbrev pub no_entry : Entry
 no_entry = record { path = text_from sections.DebugLine 0 []; directory = 0 }
 
--- whether the directory of an entry is there
+-- whether the directory of an entry exists
 abbrev pub has_directory : EntryTable → Entry → Bool
 has_directory Directories entry = true
 has_directory (Files directories) entry = nat_lt entry.directory directories
 
--- an entry, judged right after its fields
+-- an entry, validated after its fields are read
 unfoldable pub entry_at : LineSections → Format → EntryTable → List Field → List ℕ → ℕ
     → Result (Entry × ℕ) Cause
 entry_at s format table fields bytes place = do
@@ -98,7 +99,7 @@ entry_at s format table fields bytes place = do
   _ ← refuse_if (not (has_directory table entry.0)) causes.DirIndex
   Ok entry
 
--- so many items, one after the other
+-- count consecutive items
 unfoldable pub repeated_at : {X : Type 0} → (List ℕ → ℕ → Result (X × ℕ) Cause) → ℕ → List ℕ → ℕ
     → Result (List X × ℕ) Cause
 repeated_at item zero bytes place = Ok ([], place)
@@ -107,15 +108,15 @@ repeated_at item (suc count) bytes place = do
   rest ← repeated_at item count bytes first.1
   Ok (first.0 ∷ rest.0, rest.1)
 
--- a field of a format: its content and its form
+-- a field of a format: its content type and its form
 unfoldable pub format_at : List ℕ → ℕ → Result (Field × ℕ) Cause
 format_at bytes place = do
   content ← reading (uleb_at bytes place)
   form ← reading (uleb_at bytes content.1)
   Ok (record { content = content.0; form = form.0 }, form.1)
 
--- A table: its format, its count, and its entries. The format of a table without entries is not
--- judged.
+-- A table: its format, its entry count, and its entries. The format of a table without entries is
+-- not validated.
 unfoldable pub table_at : LineSections → Format → EntryTable → List ℕ → ℕ
     → Result (List Entry × ℕ) Cause
 table_at s format table bytes place = do

@@ -1,5 +1,5 @@
--- The formats of a line header's two tables (DWARF 5, 6.2.4 and 6.2.4.1): what the fields of an
--- entry are.
+-- The entry formats of the directory table and the file table of a line program header (DWARF 5,
+-- 6.2.4 and 6.2.4.1).
 use Rattle.std.specs.Prelude.{ℕ, List, Bool, false, ◌&&◌, ◌||◌, Option, Some, None, nat_le, is_some}
 use Rattle.std.specs.Prelude.{count_by, ◌==◌, if◌then◌else◌}
 use Rattle.std.specs.List.{list_all}
@@ -19,7 +19,7 @@ use Rattle.dwarf_lines.specs.declared.formats.EntryTable.TheVariants.{Directorie
 abbrev pub is_path : Field → Bool
 is_path field = field.content == DW_LNCT_PATH
 
--- whether a field of a table is the directory of a file (DW_LNCT_directory_index)
+-- whether a field of a table is the directory index of a file (DW_LNCT_directory_index)
 abbrev pub is_index : EntryTable → Field → Bool
 is_index Directories field = false
 is_index (Files directories) field = field.content == DW_LNCT_DIRECTORY_INDEX
@@ -33,7 +33,7 @@ is_text_form form =
 abbrev pub is_index_form : ℕ → Bool
 is_index_form form = (form == DW_FORM_DATA1) || (form == DW_FORM_DATA2) || (form == DW_FORM_UDATA)
 
--- the layout of a value that stands in its entry
+-- the layout of a value that is directly in its entry
 abbrev pub direct : Option Form → Option ValueLayout
 direct (Some (Direct layout)) = Some layout
 direct (Some ImplicitConst) = None
@@ -43,15 +43,15 @@ direct None = None
 abbrev pub layout_of : ℕ → Option ValueLayout
 layout_of form = direct (form_of form)
 
--- The form of a field is one for its content: a text for a path, a count for a directory index, and
--- any that can be passed over for another content (our choice).
+-- The form of a field suits its content type: a string for a path, an unsigned number for a
+-- directory index, and any form with a known layout for other content types (our choice).
 abbrev pub has_good_form : EntryTable → Field → Bool
 has_good_form table field =
     if is_path field then is_text_form field.form
     else if is_index table field then is_index_form field.form
     else is_some (layout_of field.form)
 
--- A path stands exactly once, a directory index once at most (our choice).
+-- A format has exactly one path and at most one directory index (our choice).
 abbrev pub is_format : EntryTable → List Field → Bool
 is_format table fields =
     (count_by is_path fields == 1)

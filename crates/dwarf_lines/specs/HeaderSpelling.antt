@@ -1,5 +1,5 @@
--- How the header of a line program is spelled (DWARF 5, 6.2.4 and 6.2.4.1). What is spelled may
--- depend on the place in the section at which the bytes stand.
+-- The encoding of a line program header (DWARF 5, 6.2.4 and 6.2.4.1). An encoded value may depend
+-- on the offset of its bytes in the section.
 use Rattle.std.specs.Prelude.{◌≡◌, ◌≢◌, ℕ, suc, ◌+◌, ◌<◌, List, [], ◌∷◌, ◌++◌, length, true, false}
 use Rattle.std.specs.Prelude.{Some, count_by}
 use Rattle.dwarf_bytes.specs.declared.constants.TheConstants.{DW_FORM_STRING, DW_FORM_STRP}
@@ -22,14 +22,14 @@ use Rattle.dwarf_lines.specs.Entries.{text_from, has_directory}
 use Rattle.dwarf_lines.specs.Instructions.{Encoding}
 use Rattle.dwarf_lines.specs.Headers.{LineHeader, are_standard, signed_byte}
 
--- Stretches of the bytes at the place spell the elements, one after another.
+-- Consecutive ranges of the bytes at the offset encode the elements, in order.
 abbrev pub SpellsEach : {X : Type 0} → (ℕ → List ℕ → X → Type 0) → ℕ → List ℕ → List X → Type 0
 SpellsEach spells place bytes [] = bytes ≡ []
 SpellsEach spells place bytes (x ∷ xs) =
     (front rest : List ℕ) × (bytes ≡ front ++ rest) × spells place front x
     × SpellsEach spells (place + length front) rest xs
 
--- A field of a format is a content and a form, wherever it stands.
+-- The bytes encode a field of a format: a content type and a form. The offset does not matter.
 pub record SpellsField (place : ℕ) (bytes : List ℕ) (field : Field) : Type 0 where
   pub content : List ℕ
   pub form : List ℕ
@@ -37,7 +37,8 @@ pub record SpellsField (place : ℕ) (bytes : List ℕ) (field : Field) : Type 0
   pub content_is : IsUleb content field.content
   pub form_is : IsUleb form field.form
 
--- The bytes at the place are a path in a form (7.5.5): a text, or the offset of one in its section.
+-- The bytes at the offset encode a path with a form (7.5.5): a string, or an offset of one in its
+-- section.
 pub data SpellsPath (s : LineSections) (format : Format) (place : ℕ) : ℕ → List ℕ → PathText
     → Type 0 where
   string : {bytes : List ℕ} → (text : List ℕ) → IsText bytes text
@@ -52,7 +53,7 @@ pub data SpellsPath (s : LineSections) (format : Format) (place : ℕ) : ℕ →
       → SpellsPath s format place DW_FORM_LINE_STRP bytes
       (text_from sections.DebugLineStr offset text)
 
--- The bytes are a directory index in a form.
+-- The bytes encode a directory index with a form.
 pub data SpellsIndex : ℕ → List ℕ → ℕ → Type 0 where
   data1 : {bytes : List ℕ} {index : ℕ} → IsFixed 1 bytes index
       → SpellsIndex DW_FORM_DATA1 bytes index
@@ -60,8 +61,8 @@ pub data SpellsIndex : ℕ → List ℕ → ℕ → Type 0 where
       → SpellsIndex DW_FORM_DATA2 bytes index
   udata : {bytes : List ℕ} {index : ℕ} → IsUleb bytes index → SpellsIndex DW_FORM_UDATA bytes index
 
--- The bytes at the place are a field of the entry: its path, its directory, or what the entry does
--- not keep.
+-- The bytes at the offset encode a field of the entry: its path, its directory index, or a value
+-- that the entry does not store.
 pub data SpellsPart (s : LineSections) (format : Format) (table : EntryTable) (entry : Entry)
     (place : ℕ) (bytes : List ℕ) (field : Field) : Type 0 where
   path : is_path field ≡ true → SpellsPath s format place field.form bytes entry.path
@@ -73,16 +74,16 @@ pub data SpellsPart (s : LineSections) (format : Format) (table : EntryTable) (e
       → layout_of field.form ≡ Some layout → SpellsContent layout format bytes content
       → SpellsPart s format table entry place bytes field
 
--- The bytes at the place are an entry: its fields, in the order of the format. Its directory is
--- there, and is directory 0 where no field says one.
+-- The bytes at the offset encode an entry: its fields, in the order of the format. Its directory
+-- exists, and is directory 0 if the format has no directory index.
 pub record SpellsEntry (s : LineSections) (format : Format) (table : EntryTable)
     (fields : List Field) (place : ℕ) (bytes : List ℕ) (entry : Entry) : Type 0 where
   pub parts : SpellsEach (SpellsPart s format table entry) place bytes fields
   pub unsaid : count_by (is_index table) fields ≡ 0 → entry.directory ≡ 0
   pub known : has_directory table entry ≡ true
 
--- The bytes at the place are a table: how many fields its format has, the format, how many entries
--- there are, and these. The format of a table that has entries is a good one.
+-- The bytes at the offset encode a table: the number of fields of its format, the format, the
+-- number of entries, and the entries. The format of a nonempty table is valid.
 pub record SpellsTable (s : LineSections) (format : Format) (table : EntryTable) (place : ℕ)
     (bytes : List ℕ) (entries : List Entry) : Type 0 where
   pub fields : List Field
@@ -96,9 +97,9 @@ pub record SpellsTable (s : LineSections) (format : Format) (table : EntryTable)
   pub entries_are : SpellsEach (SpellsEntry s format table fields)
       (place + 1 + length entry_format + length count) items entries
 
--- The bytes are what a header says of the instructions, from minimum_instruction_length to
--- standard_opcode_lengths. maximum_operations_per_instruction is 1, line_range is not 0, and each
--- opcode before opcode_base has a length.
+-- The bytes encode the header fields from minimum_instruction_length to standard_opcode_lengths.
+-- maximum_operations_per_instruction is 1, line_range is not 0, and each opcode below opcode_base
+-- has an operand count.
 pub record SpellsEncoding (bytes : List ℕ) (e : Encoding) : Type 0 where
   pub default_is_stmt : ℕ
   pub line_base : ℕ
@@ -109,8 +110,8 @@ pub record SpellsEncoding (bytes : List ℕ) (e : Encoding) : Type 0 where
   pub lengths : e.opcode_base ≡ suc (length e.opcode_lengths)
   pub standard : are_standard e.opcode_lengths ≡ true
 
--- The bytes at the place are what header_length counts: the fields from minimum_instruction_length
--- to the last file, and what stands behind them up to the first instruction, which is not read.
+-- The bytes at the offset are the ones that header_length counts: the fields from
+-- minimum_instruction_length to the last file, and unread bytes up to the first instruction.
 pub record SpellsFields (s : LineSections) (format : Format) (place : ℕ) (bytes : List ℕ)
     (header : LineHeader) : Type 0 where
   pub encoding : List ℕ
@@ -125,9 +126,9 @@ pub record SpellsFields (s : LineSections) (format : Format) (place : ℕ) (byte
       (place + length encoding + length directories) files header.files
   pub first_is : header.first ≡ place + length bytes
 
--- The bytes at the place are a line program that has the header. unit_length counts what stands
--- behind it, version is 5, address_size 8 and segment_selector_size 0, and header_length counts
--- what stands between it and the instructions.
+-- The bytes at the offset encode a line program with the header. unit_length is the number of bytes
+-- after it, version is 5, address_size is 8, segment_selector_size is 0, and header_length is the
+-- number of bytes between it and the instructions.
 pub record SpellsHeader (s : LineSections) (place : ℕ) (bytes : List ℕ) (header : LineHeader) : Type
     0 where
   pub format : Format

@@ -14,13 +14,13 @@ use Rattle.dwarf_lines.specs.Sections.{LineSections}
 use Rattle.dwarf_lines.specs.Instructions.{Encoding}
 use Rattle.dwarf_lines.specs.Entries.{table_at}
 
--- what ends past the end of the bytes is short
+-- an offset past the end of the bytes is refused as short
 abbrev pub within : List ℕ → ℕ → Result ℕ Cause
 within bytes place = if nat_le place (length bytes) then Ok place else Err causes.Short
 
--- The bounds of the program at a place: its format, where the fields after header_length stand,
--- where the instructions begin, and where it ends. unit_length is read in the bounds of the
--- section, the others in those of the program.
+-- The bounds of the program at an offset: its format, the offset of the fields after header_length,
+-- the offset of the first instruction, and the end of the program. unit_length must be within the
+-- section, the other fields within the program.
 unfoldable pub bounds_at : List ℕ → ℕ → Result ProgramBounds Cause
 bounds_at line place = do
   unit ← reading (initial_length_at line place)
@@ -35,27 +35,27 @@ bounds_at line place = do
   first ← within (take past line) (len.1 + len.0)
   Ok (record { format = unit.0.0; fields = len.1; first = first; past = past })
 
--- how many operands the opcodes 1 to 12 have (6.2.5.2)
+-- the operand counts of the standard opcodes 1 to 12 (6.2.5.2)
 abbrev pub standard_lengths : List ℕ
 standard_lengths = 0 ∷ 1 ∷ 1 ∷ 1 ∷ 1 ∷ 0 ∷ 0 ∷ 0 ∷ 1 ∷ 0 ∷ 0 ∷ 1 ∷ []
 
--- whether the lengths of opcodes, from opcode 1 on, are the standard's where it has one (our
+-- whether the operand counts, from opcode 1 on, agree with those of the standard opcodes (our
 -- choice)
 abbrev pub are_standard : List ℕ → Bool
 are_standard lengths = list_all (λ pair. pair.0 == pair.1) (zip lengths standard_lengths)
 
--- The lengths of so many opcodes. Each is judged as it is read: those that are there, before a
--- missing one.
+-- The operand counts of count opcodes. The ones that are present are validated, even if the bytes
+-- end before the last.
 unfoldable pub lengths_at : ℕ → List ℕ → ℕ → Result (List ℕ × ℕ) Cause
 lengths_at count bytes place = do
   _ ← refuse_if (not (are_standard (take count (drop place bytes)))) causes.OpcodeLengths
   reading (block_at count bytes place)
 
--- a byte as a number from -128 to 127
+-- converts a byte to a number from -128 to 127
 abbrev pub signed_byte : ℕ → ℤ
 signed_byte byte = pos byte -ℤ pos (if nat_lt byte 128 then 0 else 256)
 
--- what the header says of the instructions: minimum_instruction_length to standard_opcode_lengths
+-- the header fields from minimum_instruction_length to standard_opcode_lengths
 unfoldable pub encoding_at : List ℕ → ℕ → Result (Encoding × ℕ) Cause
 encoding_at bytes place = do
   minimum ← reading (u8_at bytes place)
@@ -83,12 +83,12 @@ pub record LineHeader : Type 0 where
   pub encoding : Encoding
   pub directories : List Entry
   pub files : List Entry
-  -- where the instructions begin, and where the program ends
+  -- the offset of the first instruction, and the end of the program (exclusive)
   pub first : ℕ
   pub past : ℕ
 
--- The header of the program at a place. From minimum_instruction_length to the last file it is read
--- in its own bounds; what stands after that, up to the first instruction, is not read.
+-- The header of the program at an offset. The fields from minimum_instruction_length to the last
+-- file must be within the header. Bytes between them and the first instruction are not read.
 unfoldable pub header_at : LineSections → ℕ → Result LineHeader Cause
 header_at s place = do
   bounds ← bounds_at s.line place

@@ -1,4 +1,4 @@
--- The instructions of a line program (DWARF 5, 6.2.5): what the bytes at a place spell.
+-- The instructions of a line program (DWARF 5, 6.2.5), decoded from the bytes at an offset.
 use Rattle.std.specs.Prelude.{ℕ, zero, suc, ◌-◌, ℤ, List, [], ◌∷◌, length, drop, slice_index}
 use Rattle.std.specs.Prelude.{Result, Ok, Err, Option, Some, None, nat_lt, nat_le, ◌==◌}
 use Rattle.std.specs.Prelude.{if◌then◌else◌}
@@ -22,7 +22,7 @@ use Rattle.dwarf_lines.specs.declared.instruction.Instruction.TheVariants.{SetAd
 use Rattle.dwarf_lines.specs.declared.instruction.Instruction.TheVariants.{Special, Skipped}
 use Rattle.dwarf_bytes.specs.Items.{reading}
 
--- what a header says of the instructions (DWARF 5, 6.2.4)
+-- the header fields that determine how instructions are decoded (DWARF 5, 6.2.4)
 pub record Encoding : Type 0 where
   pub minimum_length : ℕ
   pub line_base : ℤ
@@ -39,19 +39,18 @@ encoding h = record {
   opcode_lengths = h.opcode_lengths.now;
 }
 
--- count unsigned LEB128 operands, which are passed over: the place after them
+-- skips count unsigned LEB128 operands and returns the offset after them
 unfoldable pub after_ulebs : ℕ → List ℕ → ℕ → Result ℕ Cause
 after_ulebs zero bytes place = Ok place
 after_ulebs (suc count) bytes place = do
   operand ← reading (uleb_at bytes place)
   after_ulebs count bytes operand.1
 
--- an instruction that has one operand
+-- an instruction with one operand
 abbrev pub with_operand : {X : Type 0} → (X → Instruction) → X × ℕ → Result (Instruction × ℕ) Cause
 with_operand make operand = Ok (make operand.0, operand.1)
 
--- Extended opcodes (6.2.5.3): an opcode and its operands, all of the bytes of the length before
--- them.
+-- Extended opcodes (6.2.5.3): an opcode and its operands, which fill the preceding length.
 unfoldable pub extended_of : List ℕ → Result Instruction Cause
 extended_of body =
     if slice_index body 0 == DW_LNE_END_SEQUENCE then
@@ -69,7 +68,7 @@ extended_at bytes place = do
     i ← extended_of body.0
     Ok (i, body.1))
 
--- Standard opcodes (6.2.5.2), and those below opcode_base that the standard does not know.
+-- Standard opcodes (6.2.5.2), and unknown opcodes below opcode_base.
 unfoldable pub standard_at : Encoding → ℕ → List ℕ → ℕ → Result (Instruction × ℕ) Cause
 standard_at e opcode bytes place =
     if opcode == DW_LNS_COPY then Ok (Copy, place)
@@ -84,8 +83,8 @@ standard_at e opcode bytes place =
     else after_ulebs (slice_index e.opcode_lengths (opcode - 1)) bytes place
     >>= λ after. Ok (Skipped, after)
 
--- An instruction, and the place after it. From opcode_base on an opcode is special, and is adjusted
--- (6.2.5.1).
+-- An instruction, and the offset after it. Opcodes from opcode_base on are special; they are
+-- decoded as opcode minus opcode_base (6.2.5.1).
 unfoldable pub instruction_at : Encoding → List ℕ → ℕ → Result (Instruction × ℕ) Cause
 instruction_at e bytes place = do
   opcode ← reading (u8_at bytes place)
@@ -93,16 +92,16 @@ instruction_at e bytes place = do
       else if opcode.0 == 0 then extended_at bytes opcode.1
       else standard_at e opcode.0 bytes opcode.1
 
--- the instructions from a place on, and the fault where one can't be read
+-- the instructions from an offset on, and the fault if one cannot be read
 pub record Reading : Type 0 where
   pub instructions : List Instruction
   pub fault : Option Cause
 
--- the instruction that was read, and what is read after it
+-- an instruction, followed by the rest of a reading
 abbrev pub onto_reading : Instruction → Reading → Reading
 onto_reading i rest = record rest { instructions = i ∷ rest.instructions }
 
--- no more is read
+-- the end of a reading
 abbrev pub no_more : Option Cause → Reading
 no_more fault = record { instructions = []; fault = fault }
 
@@ -110,8 +109,8 @@ abbrev pub read_on : Result (Instruction × ℕ) Cause → (ℕ → Reading) →
 read_on (Ok i) rest = onto_reading i.0 (rest i.1)
 read_on (Err cause) rest = no_more (Some cause)
 
--- The instructions up to the end of the bytes or to the first fault. Each has a byte, so as many
--- steps as there are bytes are enough.
+-- The instructions up to the end of the bytes or the first fault. Each instruction has at least one
+-- byte, so the number of bytes is a sufficient number of steps.
 unfoldable pub reading_from : ℕ → Encoding → List ℕ → ℕ → Reading
 reading_from zero e bytes place = no_more None
 reading_from (suc steps) e bytes place =

@@ -1,4 +1,4 @@
--- What callers see of the line programs of an object.
+-- The interface of the line tables of an object.
 use Rattle.std.specs.Prelude.{◌≡◌, ◌+◌, ◌≤◌, false, ℕ, suc, List, [], ◌∷◌, length, map, position}
 use Rattle.std.specs.Prelude.{slice_get, Bool, not, ◌&&◌, nat_le, nat_lt, Result, Ok, Option, Some}
 use Rattle.std.specs.Prelude.{None, ◌==◌, if◌then◌else◌}
@@ -15,13 +15,13 @@ use Rattle.dwarf_lines.specs.Sections.{LineSections}
 use Rattle.dwarf_lines.specs.Programs.{Program, programs_of, rows_of}
 use Rattle.dwarf_lines.specs.Paths.{path_parts}
 
--- a program without its rows: where it starts, and its directories and files
+-- the tables of a program without its rows: its offset, its directories and its files
 pub record FileTables : Type 0 where
   pub offset : ℕ
   pub directories : List Entry
   pub files : List Entry
 
--- the line programs: their rows in file order, and their directories and files
+-- the line tables of an object: the rows in file order, and the directories and files
 pub record Lines : Type 0 where
   pub rows : List Row
   pub programs : List FileTables
@@ -33,16 +33,16 @@ tables_of program =
 abbrev pub lines_of : List Program → Lines
 lines_of programs = record { rows = rows_of programs; programs = map tables_of programs }
 
--- The lines of the sections, or the first fault of their programs.
+-- The line tables of the sections, or the first fault of their programs.
 unfoldable pub lines_in : LineSections → Result Lines LoadFault
 lines_in s = in_section sections.DebugLine (programs_of s) >>= λ programs. Ok (lines_of programs.0)
 
--- the number of the program that starts at an offset
+-- the index of the program that starts at an offset
 abbrev pub program_at : Lines → ℕ → Option ProgramNo
 program_at lines offset = option_map (λ n. record { 0 = n })
     (position (λ program. program.offset == offset) lines.programs)
 
--- how many files a program has; none for a number of no program
+-- the number of files of a program, or 0 if there is no such program
 abbrev pub file_count : Lines → ProgramNo → ℕ
 file_count lines number =
     option_map_or (λ program. length program.files) (slice_get lines.programs number.0) 0
@@ -53,27 +53,27 @@ path_of lines number file =
     option_and_then (λ program. path_parts program.directories program.files file)
     (slice_get lines.programs number.0)
 
--- A row covers an address from its own one on up to that of the next row of its sequence. The next
--- row of one that does not end its sequence is in its sequence.
+-- A row covers the addresses from its own up to that of the next row (exclusive), unless it ends
+-- its sequence. The next row is in the same sequence.
 abbrev pub covers : ℕ → Row → Row → Bool
 covers address row next = not row.«end» && nat_le row.address address && nat_lt address next.address
 
--- the position of the first row that covers an address
+-- the index of the first row that covers an address
 abbrev pub row_of : List Row → ℕ → Option ℕ
 row_of [] address = None
 row_of (row ∷ []) address = None
 row_of (row ∷ next ∷ rows) address =
     if covers address row next then Some 0 else option_map suc (row_of (next ∷ rows) address)
 
--- Behind each row that does not end its sequence stands the next row of the sequence, at no lower
+-- Each row that does not end its sequence is followed by a row of the same program, at no lower
 -- address.
 abbrev pub HaveNext : List Row → Type 0
 HaveNext rows = (i : ℕ) (row : Row) → slice_get rows i ≡ Some row → row.«end» ≡ false
     → (next : Row) × (slice_get rows (i + 1) ≡ Some next) × (next.program ≡ row.program)
     × (row.address ≤ next.address)
 
--- Each row that does not end its sequence has a path: its program and its file are there, and the
--- file's directory is.
+-- Each row that does not end its sequence has a path: its program, its file and the directory of
+-- the file exist.
 abbrev pub HavePaths : Lines → Type 0
 HavePaths lines = (i : ℕ) (row : Row) → slice_get lines.rows i ≡ Some row → row.«end» ≡ false
     → (parts : List Text) × (path_of lines row.program row.file ≡ Some parts)

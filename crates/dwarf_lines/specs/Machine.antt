@@ -1,5 +1,5 @@
--- The line number machine (DWARF 5, 6.2.2): its registers, what each instruction does to them, and
--- the rows that it appends to the matrix.
+-- The line number machine (DWARF 5, 6.2.2): its registers, the effect of each instruction on them,
+-- and the rows that it appends to the matrix.
 use Rattle.std.specs.Prelude.{ℕ, ◌+◌, ◌*◌, ◌-◌, ◌%◌, ℤ, pos, ◌+ℤ◌, List, [], ◌∷◌, ◌++◌, Bool, true}
 use Rattle.std.specs.Prelude.{false, Result, Ok, if◌then◌else◌}
 use Rattle.dwarf_bytes.specs.Bind.{◌>>=◌}
@@ -16,8 +16,8 @@ use Rattle.dwarf_lines.specs.declared.instruction.Instruction.TheVariants.{Speci
 use Rattle.dwarf_lines.specs.Instructions.{Encoding}
 use Rattle.dwarf_lines.specs.Matrix.{address_part, is_mark, line_row, end_row}
 
--- the registers that rows tell, the address of the last row of the sequence (0 where it has none),
--- whether it has a row, and whether it is dead
+-- the registers that become columns of rows, the address of the last row of the sequence (0 if
+-- none), whether the sequence has a row, and whether it is dead
 pub record Machine : Type 0 where
   pub address : ℕ
   pub file : ℕ
@@ -26,7 +26,7 @@ pub record Machine : Type 0 where
   pub has_row : Bool
   pub dead : Bool
 
--- the registers at the beginning of each sequence
+-- the registers at the start of each sequence
 abbrev pub at_start : Machine
 at_start =
     record { address = 0; file = 1; line = pos 1; previous = 0; has_row = false; dead = false }
@@ -37,17 +37,17 @@ advanced addresses m = record m { address = m.address + addresses }
 abbrev pub moved : ℤ → Machine → Machine
 moved lines m = record m { line = m.line +ℤ lines }
 
--- after a row
+-- the registers after a row is appended
 abbrev pub told : Machine → Machine
 told m = record m { previous = m.address; has_row = true }
 
--- after an address is set: before the first row of the sequence, the mark makes it dead, and
--- another address does not
+-- the registers after an address is set; before the first row of the sequence, this determines
+-- whether the sequence is dead
 abbrev pub placed : ℕ → Machine → Machine
 placed address m =
     record m { address = address; dead = if m.has_row then m.dead else is_mark address }
 
--- What an instruction does to the registers (6.2.5.1 to 6.2.5.3).
+-- The effect of an instruction on the registers (6.2.5.1 to 6.2.5.3).
 abbrev pub step : Encoding → Machine → Instruction → Machine
 step e m Copy = told m
 step e m (AdvancePc n) = advanced (e.minimum_length * n) m
@@ -61,24 +61,23 @@ step e m (Special adjusted) = told (moved (e.line_base +ℤ pos (adjusted % e.li
     (advanced (address_part e adjusted) m))
 step e m Skipped = m
 
--- the row of the registers, after a row at the address previous
+-- the row of the registers; previous is the address of the row before it
 abbrev pub row_of_registers : Origin → ℕ → Machine → Result (List Row) Cause
 row_of_registers o previous m = line_row o previous m.address m.line m.file >>= λ row. Ok (row ∷ [])
 
--- what an instruction appends in a sequence that is not dead
+-- the rows that an instruction appends in a sequence that is not dead
 abbrev pub appended_live : Encoding → Origin → Machine → Instruction → Result (List Row) Cause
 appended_live e o m Copy = row_of_registers o m.previous (step e m Copy)
 appended_live e o m (Special adjusted) = row_of_registers o m.previous (step e m (Special adjusted))
 appended_live e o m EndSequence = end_row o m.previous m.address >>= λ row. Ok (row ∷ [])
 appended_live e o m _ = Ok []
 
--- What an instruction appends: a row or nothing, or the first fault of the row; nothing in a dead
--- sequence.
+-- The rows that an instruction appends: at most one, or the first fault of the row. In a dead
+-- sequence no row is appended.
 abbrev pub appended : Encoding → Origin → Machine → Instruction → Result (List Row) Cause
 appended e o m i = if m.dead then Ok [] else appended_live e o m i
 
--- the rows that are appended while the instructions are executed one after the other, or the first
--- fault
+-- the rows appended while the instructions are executed in order, or the first fault
 unfoldable pub rows_by : Encoding → Origin → Machine → List Instruction → Result (List Row) Cause
 rows_by e o m [] = Ok []
 rows_by e o m (i ∷ rest) = do

@@ -8,20 +8,19 @@ use Rattle.dwarf_lines.specs.declared.entries.PathText.{PathText}
 use Rattle.dwarf_lines.specs.declared.entries.Entry.{Entry}
 use Rattle.dwarf_lines.specs.Sections.{LineSections, section_bytes}
 
--- The texts of a path: the file's; where it is not absolute its directory's before it; and where
--- that is not absolute either and not directory 0, that of directory 0.
+-- The strings of a path, in order. A relative file is preceded by its directory. A relative
+-- directory other than directory 0 is preceded by directory 0.
 abbrev pub texts_of : PathText → ℕ → PathText → PathText → List PathText
 texts_of current number directory file =
     if file.absolute then file ∷ []
     else if (number == 0) || directory.absolute then directory ∷ file ∷ []
     else current ∷ directory ∷ file ∷ []
 
--- An empty part is left out, with its slash.
+-- An empty part is omitted, with its slash.
 abbrev pub nonempty_parts : List PathText → List Text
 nonempty_parts texts = filter (λ part. nat_lt 0 part.span.len) (map (λ text. text.part) texts)
 
--- The parts of a file's path, between which slashes stand; directories and files are numbered from
--- 0.
+-- The parts of a file's path, to be joined by slashes. Directories and files are numbered from 0.
 abbrev pub path_parts : List Entry → List Entry → ℕ → Option (List Text)
 path_parts directories files number =
     option_and_then (λ file. option_and_then (λ directory. option_map (λ current.
@@ -35,6 +34,6 @@ part_bytes s part = take part.span.len (drop part.span.place (section_bytes s pa
 abbrev pub path_bytes : LineSections → List Text → List ℕ
 path_bytes s parts = join_with_byte 47 (map (part_bytes s) parts)
 
--- a part that is not empty
+-- a part, or nothing if it is empty
 abbrev pub part_if_any : Text → List Text
 part_if_any part = filter (λ part. nat_lt 0 part.span.len) (part ∷ [])

@@ -1,4 +1,4 @@
--- How a whole line program is spelled (DWARF 5, 6.2.4 and 6.2.5), and the rows that it makes.
+-- The encoding of a whole line program (DWARF 5, 6.2.4 and 6.2.5), and its rows.
 use Rattle.std.specs.Prelude.{◌≡◌, ℕ, List, [], length, take, drop, false, Ok}
 use Rattle.dwarf_bytes.specs.Numbers.{StandsAt}
 use Rattle.dwarf_lines.specs.declared.instruction.Instruction.{Instruction}
@@ -10,8 +10,8 @@ use Rattle.dwarf_lines.specs.Matrix.{is_open, latest_first}
 use Rattle.dwarf_lines.specs.Machine.{at_start, rows_by}
 use Rattle.dwarf_lines.specs.Programs.{Program}
 
--- At the place stands the number-th program: a header, and the spellings of instructions up to the
--- program's end. Its rows are those that the machine appends, and its last sequence is ended.
+-- The program with this number is at the offset: a header, and encoded instructions up to the
+-- program's end. Its rows are the ones that the machine appends, and its last sequence has ended.
 pub record IsProgram (s : LineSections) (number place : ℕ) (program : Program) : Type 0 where
   pub header : LineHeader
   pub instructions : List Instruction

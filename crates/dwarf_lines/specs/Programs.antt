@@ -11,7 +11,7 @@ use Rattle.dwarf_lines.specs.Matrix.{matrix_at}
 use Rattle.dwarf_lines.specs.Sections.{LineSections}
 use Rattle.dwarf_lines.specs.Headers.{header_at}
 
--- a line program: where it starts, its tables, its rows, and where it ends
+-- a line program: its offset, its tables, its rows, and its end (exclusive)
 pub record Program : Type 0 where
   pub offset : ℕ
   pub directories : List Entry
@@ -19,7 +19,7 @@ pub record Program : Type 0 where
   pub rows : List Row
   pub past : ℕ
 
--- the program at a place, the number-th of the section, or its first fault
+-- the program at an offset, with its number in the section, or its first fault
 unfoldable pub program_at_place : LineSections → ℕ → ℕ → Result Program Cause
 program_at_place s number place = do
   header ← header_at s place
@@ -36,14 +36,14 @@ program_at_place s number place = do
     past = header.past;
   })
 
--- what stands at a place after these programs: the next one, or the end of the section
+-- what is at an offset after these programs: the next program, or the end of the section
 abbrev pub next_program : LineSections → List Program → ℕ → Result (Next Program) Cause
 next_program s before place =
     if nat_le (length s.line) place then Ok (End place)
     else program_at_place s (length before) place >>= λ program. Ok (Item program program.past)
 
--- The programs of the section, from its front to its end, each wholly good before the next one is
--- looked at; or the first fault, with the offset of its program.
+-- The programs of the section, or the first fault with the offset of its program. Each program is
+-- fully validated before the next one is read.
 abbrev pub programs_of : LineSections → Result (List Program × ℕ) At
 programs_of s = items_from (length s.line) (next_program s) [] 0
 

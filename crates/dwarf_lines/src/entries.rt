@@ -1,4 +1,4 @@
-//! The entries of a header's tables.
+//! The entries of the directory table and the file table.
 
 ghost use Rattle.std.specs.Prelude.{◌≡◌, ◌==◌, slice_index, length};
 ghost use Rattle.dwarf_bytes.specs.Refusals.{ReadsField, ReadsPlace};
@@ -10,22 +10,22 @@ use crate::formats::{EntryTable, layout_of};
 use dwarf_bytes::constants::{DW_FORM_DATA1, DW_FORM_DATA2, DW_FORM_STRING, DW_FORM_STRP};
 use dwarf_bytes::{Cause, Content, Cursor, Format, Section, Span, Text, TextIndex};
 
-/// The text of a path.
+/// The string of a path.
 #[derive(Clone, Copy, Debug)]
 pub struct PathText {
     pub part: Text,
-    /// Whether it begins with a slash.
+    /// Whether it starts with a slash.
     pub absolute: bool,
 }
 
-/// A directory, or a file and the number of its directory.
+/// A directory, or a file and its directory index.
 #[derive(Clone, Copy, Debug)]
 pub struct Entry {
     pub path: PathText,
     pub directory: u64,
 }
 
-/// The section of the programs, and those of the texts that they name by offsets.
+/// `.debug_line`, and the indexed string sections that it refers to by offset.
 #[derive(Clone, Copy, Debug, Drop)]
 pub struct IndexedSections<'a> {
     pub line: &'a [u8],
@@ -33,7 +33,7 @@ pub struct IndexedSections<'a> {
     pub str: &'a TextIndex<'a>,
 }
 
-/// Where a text stands.
+/// Returns the location of a string.
 fn text_of(section: Section, place: usize, text: &[u8]) -> PathText
     ensures { result ≡ text_from section place text.now }
 {
@@ -52,7 +52,7 @@ fn text_of(section: Section, place: usize, text: &[u8]) -> PathText
     }
 }
 
-/// The text at the cursor.
+/// Reads the string at the cursor.
 fn text_in_place(cursor: &mut Cursor) -> Result<PathText, Cause>
     ensures { ReadsField (λ text. text) result text_here cursor.old cursor.new }
 {
@@ -61,7 +61,7 @@ fn text_in_place(cursor: &mut Cursor) -> Result<PathText, Cause>
     Ok(text_of(Section::DebugLine, place, text))
 }
 
-/// The text of a section at the offset at the cursor.
+/// Reads an offset at the cursor, and returns the string of `section` at that offset.
 fn text_elsewhere(
     section: Section,
     texts: &TextIndex,
@@ -76,7 +76,7 @@ fn text_elsewhere(
     Ok(text_of(section, place as usize, text))
 }
 
-/// A path.
+/// Reads a path with a form.
 pub fn path(
     sections: IndexedSections,
     format: Format,
@@ -93,7 +93,7 @@ pub fn path(
     }
 }
 
-/// Passes over a value.
+/// Skips a value with a form.
 pub fn pass_over(format: Format, form: u64, cursor: &mut Cursor) -> Result<(), Cause>
     ensures { ReadsPlace result (after_value format form) cursor.old cursor.new }
 {
@@ -104,7 +104,7 @@ pub fn pass_over(format: Format, form: u64, cursor: &mut Cursor) -> Result<(), C
     Ok(())
 }
 
-/// A directory index.
+/// Reads a directory index with a form.
 pub fn directory_index(form: u64, cursor: &mut Cursor) -> Result<u64, Cause>
     ensures { ReadsField (λ index. index) result (index_at form) cursor.old cursor.new }
 {
@@ -116,7 +116,7 @@ pub fn directory_index(form: u64, cursor: &mut Cursor) -> Result<u64, Cause>
 }
 
 impl Entry {
-    /// An entry before its fields.
+    /// Returns an entry without fields: an empty path, and directory 0.
     pub fn new() -> Entry
         ensures { result ≡ no_entry }
     {
@@ -126,7 +126,7 @@ impl Entry {
         }
     }
 
-    /// Whether its directory is there.
+    /// Whether the entry's directory index is within the directory table.
     pub fn has_directory(&self, table: EntryTable) -> bool
         ensures { result ≡ has_directory table self.now }
     {

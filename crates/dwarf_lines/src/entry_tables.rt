@@ -1,4 +1,4 @@
-//! The two tables of a header.
+//! A reader for the directory table and the file table of a program header.
 
 ghost use Rattle.std.specs.Prelude.{◌≡◌, ◌<◌, true};
 ghost use Rattle.dwarf_bytes.specs.Refusals.{ReadsField, ReadsItems};
@@ -11,7 +11,7 @@ use crate::formats::{EntryTable, Field, fields_with_bytes, format};
 use dwarf_bytes::{Cause, Cursor, Format};
 use std::alloc::Global;
 
-/// What the values of entries depend on, beside their fields.
+/// The context of an entry: its sections, its format and its table.
 #[derive(Clone, Copy, Debug, Drop)]
 pub struct EntryReader<'a> {
     pub sections: IndexedSections<'a>,
@@ -20,7 +20,7 @@ pub struct EntryReader<'a> {
 }
 
 impl EntryReader<'_> {
-    /// An entry with one more of its fields.
+    /// Reads one field into the entry.
     #[tactic(auto, unfolding(crate::specs::Entries::field_at))]
     fn with_field(&self, field: Field, entry: Entry, cursor: &mut Cursor) -> Result<Entry, Cause>
         ensures { ReadsField (λ entry. entry) result (field_by self.now field entry) cursor.old
@@ -38,7 +38,7 @@ impl EntryReader<'_> {
         Ok(entry)
     }
 
-    /// The fields of an entry.
+    /// Reads the fields of an entry.
     fn fields(&self, fields: &[Field], cursor: &mut Cursor) -> Result<Entry, Cause>
         ensures { ReadsField (λ entry. entry) result (fields_by self.now fields.now) cursor.old
             cursor.new }
@@ -50,7 +50,7 @@ impl EntryReader<'_> {
         Ok(entry)
     }
 
-    /// An entry whose directory is there.
+    /// Reads an entry. Returns `DirIndex` if its directory does not exist.
     #[tactic(auto, unfolding(crate::specs::Entries::entry_at))]
     fn entry(&self, fields: &[Field], cursor: &mut Cursor) -> Result<Entry, Cause>
         ensures { ReadsField (λ entry. entry) result (entry_by self.now fields.now) cursor.old
@@ -63,7 +63,7 @@ impl EntryReader<'_> {
         Ok(entry)
     }
 
-    /// So many entries of these fields.
+    /// Reads `count` entries with these fields.
     fn entries_by(
         &self,
         alloc: Global,
@@ -80,7 +80,7 @@ impl EntryReader<'_> {
         Ok(entries)
     }
 
-    /// So many entries of a good format. Of each, only the fields whose values have bytes are read.
+    /// Reads `count` entries after the format is validated. Fields without bytes are not read.
     fn entries(
         &self,
         alloc: Global,
@@ -95,7 +95,7 @@ impl EntryReader<'_> {
         self.entries_by(alloc, fields.as_slice(), count, cursor)
     }
 
-    /// The table at the cursor.
+    /// Reads the table at the cursor.
     #[tactic(auto, unfolding(crate::specs::Entries::table_at))]
     pub fn table(&self, alloc: Global, cursor: &mut Cursor) -> Result<Vec<Entry>, Cause>
         ensures { ReadsItems result (table_by self.now) cursor.old cursor.new }

@@ -1,4 +1,4 @@
-//! The formats of a header's tables.
+//! The entry formats of the directory table and the file table.
 
 ghost use Rattle.std.specs.Prelude.{◌≡◌, count_by, filter};
 ghost use Rattle.std.specs.List.{list_all};
@@ -15,22 +15,22 @@ use dwarf_bytes::constants::{
 use dwarf_bytes::{Cause, Cursor, Form, ValueLayout};
 use std::alloc::Global;
 
-/// A field of the entries of a table: what it is, and its form (DWARF 5, 6.2.4.1).
+/// A field of the entries of a table: its content type and its form (DWARF 5, 6.2.4.1).
 #[derive(Clone, Copy, Debug)]
 pub struct Field {
     pub content: u64,
     pub form: u64,
 }
 
-/// The two tables of a header (DWARF 5, 6.2.4).
+/// The directory table or the file table of a header (DWARF 5, 6.2.4).
 #[derive(Clone, Copy, Debug)]
 pub enum EntryTable {
     Directories,
-    /// The files, beside so many directories.
+    /// The file table, with the number of directories.
     Files(u64),
 }
 
-/// The layout of a value that stands in its entry.
+/// Returns the layout of a form's values, or `None` if they are not directly in the entry.
 pub fn layout_of(form: u64) -> Option<ValueLayout>
     ensures { result ≡ layout_of form }
 {
@@ -41,7 +41,7 @@ pub fn layout_of(form: u64) -> Option<ValueLayout>
 }
 
 impl Field {
-    /// Whether it is a path.
+    /// Whether the field is a path.
     pub fn is_path(self) -> bool
         ensures { result ≡ is_path self }
     {
@@ -60,7 +60,7 @@ impl Field {
         matches!(self.form, DW_FORM_DATA1 | DW_FORM_DATA2 | DW_FORM_UDATA)
     }
 
-    /// Whether its values have bytes: those of DW_FORM_flag_present have none.
+    /// Whether the field's values have bytes. DW_FORM_flag_present has none.
     fn has_bytes(self) -> bool
         ensures { result ≡ has_bytes self }
     {
@@ -79,7 +79,7 @@ impl Field {
 }
 
 impl EntryTable {
-    /// Whether a field is the directory of a file.
+    /// Whether a field is the directory index of a file.
     pub fn is_index(self, field: Field) -> bool
         ensures { result ≡ is_index self field }
     {
@@ -101,7 +101,7 @@ impl EntryTable {
         }
     }
 
-    /// Whether the table may have a format.
+    /// Whether the table may have this format.
     pub fn accepts(self, fields: &[Field]) -> bool
         ensures { result ≡ is_format self fields.now }
     {
@@ -129,7 +129,8 @@ fn count_of_paths(fields: &[Field]) -> usize
     fields.iter().filter(|field| field.is_path()).count()
 }
 
-/// The fields whose values have bytes. Only these have to be read of an entry: each costs a byte.
+/// Removes the fields without bytes, which need not be read. Each of the others has at least one
+/// byte in every entry.
 pub fn fields_with_bytes(mut fields: Vec<Field>) -> Vec<Field>
     ensures { result.items ≡ filter has_bytes fields.items }
 {
@@ -137,7 +138,7 @@ pub fn fields_with_bytes(mut fields: Vec<Field>) -> Vec<Field>
     fields
 }
 
-/// The fields of the entries of a table, of which there are `count`.
+/// Reads the format of a table, which has `count` fields.
 pub fn format(alloc: Global, count: u8, cursor: &mut Cursor) -> Result<Vec<Field>, Cause>
     ensures { ReadsItems result (repeated_at format_at count) cursor.old cursor.new }
 {

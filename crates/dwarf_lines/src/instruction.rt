@@ -1,4 +1,4 @@
-//! The instructions of a line program.
+//! Line program instructions.
 
 ghost use Rattle.std.specs.Prelude.{◌≡◌, ◌≤◌, ◌<◌, ◌+◌, ◌*◌, ◌-◌, ◌^◌, ◌==◌, ℕ, length};
 ghost use Rattle.std.specs.Prelude.{MatchResult, IfOk, unsigned_abs};
@@ -25,13 +25,13 @@ pub enum Instruction {
     FixedAdvancePc(u16),
     SetAddress(u64),
     EndSequence,
-    /// An opcode from opcode_base on, less opcode_base.
+    /// A special opcode, minus opcode_base.
     Special(u8),
-    /// One that changes no address, line or file and makes no row.
+    /// An instruction that changes no address, line or file and appends no row.
     Skipped,
 }
 
-/// The instruction at the cursor.
+/// Decodes the instruction at the cursor.
 #[tactic(auto, unfolding(crate::specs::Instructions::instruction_at))]
 pub fn decode(header: &LineEncoding, cursor: &mut Cursor) -> Result<Instruction, Cause>
     ensures reads { ReadsField (λ i. i) result (instruction_at (encoding header.now)) cursor.old
@@ -73,7 +73,7 @@ fn standard(header: &LineEncoding, opcode: u8, cursor: &mut Cursor) -> Result<In
     }
 }
 
-/// Passes over operands.
+/// Skips `count` unsigned LEB128 operands.
 fn skip_ulebs(count: u8, cursor: &mut Cursor) -> Result<(), Cause>
     ensures reads { ReadsPlace result (after_ulebs count) cursor.old cursor.new }
     ensures moves { IfOk result (λ _. cursor.old.place ≤ cursor.new.place) }
@@ -115,7 +115,7 @@ fn extended_in(body: &[u8]) -> Result<Instruction, Cause>
     }
 }
 
-/// Whether an address is all that stands behind an extended opcode.
+/// Whether an extended opcode is followed by exactly one 8-byte address.
 fn has_address(body: &[u8]) -> bool
     ensures { result ≡ (length body.now == 9) }
 {

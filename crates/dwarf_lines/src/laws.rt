@@ -1,4 +1,4 @@
-//! What is true of all line programs.
+//! Theorems about all line programs.
 
 ghost use Rattle.std.specs.Prelude.{◌≡◌, ◌<◌, ◌≤◌, ◌↔◌, ℕ, List, [], length, drop, map, Ok, None};
 ghost use Rattle.std.specs.Prelude.{true};
@@ -31,7 +31,7 @@ ghost use Rattle.dwarf_lines.specs.Sections.{section_bytes};
 ghost use Rattle.dwarf_lines.specs.Entries.{text_from};
 ghost use Rattle.dwarf_lines.specs.Paths.{part_bytes};
 
-/// A row that does not end its sequence has a next row, of its program and at no lower address.
+/// A row that does not end its sequence has a next row of the same program, at no lower address.
 pub fn rows_have_next()
     ensures { (s : LineSections) (lines : Lines) → lines_in s ≡ Ok lines → HaveNext lines.rows }
 {}
@@ -41,40 +41,40 @@ pub fn rows_have_paths()
     ensures { (s : LineSections) (lines : Lines) → lines_in s ≡ Ok lines → HavePaths lines }
 {}
 
-/// The rows of a program stand before those of the next one.
+/// The rows of a program precede those of the next one.
 pub fn rows_are_in_order_of_programs()
     ensures { (s : LineSections) (lines : Lines) → lines_in s ≡ Ok lines
         → IsNonDecreasingBy (λ (row : Row). row.program.0) lines.rows }
 {}
 
-/// Each row takes a byte of the section or more.
+/// There are no more rows than bytes of the section.
 pub fn rows_take_bytes()
     ensures { (s : LineSections) (lines : Lines) → lines_in s ≡ Ok lines
         → length lines.rows ≤ length s.line }
 {}
 
-/// Each program starts past the one before it.
+/// Each program starts after the start of the one before it.
 pub fn program_offsets_rise()
     ensures { (s : LineSections) (lines : Lines) → lines_in s ≡ Ok lines
         → IsStrictlyIncreasing (map (λ program. program.offset) lines.programs) }
 {}
 
-/// The rows of instructions, each by the sums over the instructions before it, are those that the
-/// line number machine appends while it executes them (DWARF 5, 6.2.2 and 6.2.5).
+/// Two definitions of the rows agree: row by row from sums over the preceding instructions, and by
+/// execution of the line number machine (DWARF 5, 6.2.2 and 6.2.5).
 pub fn rows_are_appended_by_the_machine()
     ensures { (e : Encoding) (o : Origin) (instructions : List Instruction)
         → rows_from e o [] instructions ≡ rows_by e o at_start instructions }
 {}
 
-/// An instruction is read exactly where the bytes begin with a spelling of it.
+/// An instruction is read if and only if an encoding of it is at the offset.
 pub fn instructions_are_spelled()
     ensures { (e : Encoding) (bytes : List ℕ) (at : ℕ) (i : Instruction) (next : ℕ)
         → 0 < e.opcode_base
         → (instruction_at e bytes at ≡ Ok (i, next)) ↔ StandsAt (Spells e) bytes at i next }
 {}
 
-/// The instructions of a program are read without a fault exactly where its bytes are their
-/// spellings, one after the other.
+/// The instructions of a program are read without a fault if and only if its bytes are their
+/// encodings, in order.
 pub fn instruction_lists_are_spelled()
     ensures { (e : Encoding) (bytes : List ℕ) (at : ℕ) (is : List Instruction)
         → 0 < e.opcode_base → at ≤ length bytes
@@ -82,16 +82,14 @@ pub fn instruction_lists_are_spelled()
         ↔ AreSpelled e (drop at bytes) is }
 {}
 
-/// The fields of a format are read exactly where the bytes at the place begin with spellings of so
-/// many.
+/// The fields of a format are read if and only if encodings of that many fields are at the offset.
 pub fn formats_are_spelled()
     ensures { (count : ℕ) (bytes : List ℕ) (at : ℕ) (fields : List Field) (next : ℕ)
         → (repeated_at format_at count bytes at ≡ Ok (fields, next))
         ↔ (StandsAt (SpellsEach SpellsField at) bytes at fields next × (length fields ≡ count)) }
 {}
 
-/// An entry of a good format is read exactly where the bytes at the place begin with a spelling of
-/// it.
+/// An entry of a valid format is read if and only if an encoding of it is at the offset.
 pub fn entries_are_spelled()
     ensures { (s : LineSections) (format : Format) (table : EntryTable) (fields : List Field)
         (bytes : List ℕ) (at : ℕ) (entry : Entry) (next : ℕ)
@@ -100,7 +98,7 @@ pub fn entries_are_spelled()
         ↔ StandsAt (SpellsEntry s format table fields at) bytes at entry next }
 {}
 
-/// A table of a header is read exactly where the bytes at the place begin with a spelling of it.
+/// A table of a header is read if and only if an encoding of it is at the offset.
 pub fn tables_are_spelled()
     ensures { (s : LineSections) (format : Format) (table : EntryTable) (bytes : List ℕ) (at : ℕ)
         (entries : List Entry) (next : ℕ)
@@ -108,34 +106,34 @@ pub fn tables_are_spelled()
         ↔ StandsAt (SpellsTable s format table at) bytes at entries next }
 {}
 
-/// What a header says of the instructions is read exactly where the bytes at the place begin with a
-/// spelling of it.
+/// The instruction encoding parameters of a header are read if and only if an encoding of them is
+/// at the offset.
 pub fn encodings_are_spelled()
     ensures { (bytes : List ℕ) (at : ℕ) (e : Encoding) (next : ℕ)
         → (encoding_at bytes at ≡ Ok (e, next)) ↔ StandsAt SpellsEncoding bytes at e next }
 {}
 
-/// The header of a line program is read exactly where a program that has it stands.
+/// The header of a line program is read if and only if a program with that header is at the offset.
 pub fn headers_are_spelled()
     ensures { (s : LineSections) (place : ℕ) (header : LineHeader)
         → (header_at s place ≡ Ok header)
         ↔ StandsAt (SpellsHeader s place) s.line place header header.past }
 {}
 
-/// The programs of a section are read exactly where they stand one after another, to its end.
+/// The programs of a section are read if and only if they are contiguous up to its end.
 pub fn sections_are_programs()
     ensures { (s : LineSections) (programs : List Program) (after : ℕ)
         → (programs_of s ≡ Ok (programs, after)) ↔ Lists (next_program s) [] 0 programs after }
 {}
 
-/// The bytes of a part are its text.
+/// The bytes of a part are its string.
 pub fn parts_are_texts()
     ensures { (s : LineSections) (section : Section) (place past : ℕ) (text : List ℕ)
         → StandsAt IsText (section_bytes s section) place text past
         → part_bytes s (text_from section place text).part ≡ text }
 {}
 
-/// A program is read exactly where it stands with its header, its instructions and their rows.
+/// A program is read if and only if its header and instructions are at the offset, with their rows.
 pub fn programs_are_spelled()
     ensures { (s : LineSections) (number place : ℕ) (program : Program)
         → (program_at_place s number place ≡ Ok program) ↔ IsProgram s number place program }

@@ -1,4 +1,4 @@
-//! The line programs of an object.
+//! The line tables of an object.
 
 ghost use Rattle.std.specs.Prelude.{◌≡◌, ◌<◌, ◌≤◌, ◌==◌, position, map, length};
 ghost use Rattle.std.specs.List.Sorted.{IsStrictlyIncreasing, IsPartitionPoint};
@@ -16,7 +16,7 @@ use dwarf_bytes::{LoadFault, Section, TextIndex};
 use std::alloc::Global;
 use std::marker::Model;
 
-/// The line programs of an object.
+/// The rows of all line programs of an object, and their directory and file tables.
 #[derive(Drop)]
 pub struct LineTables {
     rows: Vec<Row>,
@@ -38,8 +38,8 @@ impl Model for LineTables {
 }
 
 impl LineTables {
-    /// The line programs of `.debug_line`, which take texts of `.debug_line_str` and `.debug_str`
-    /// by offsets; or the first fault, with its program's offset in `.debug_line` (DWARF 5, 6.2).
+    /// Decodes the line programs of `.debug_line`, which refer to strings of `.debug_line_str` and
+    /// `.debug_str` by offset (DWARF 5, 6.2). A fault has its program's offset in `.debug_line`.
     pub fn read(
         alloc: Global,
         line: &[u8],
@@ -59,14 +59,14 @@ impl LineTables {
         read_programs(alloc, sections)
     }
 
-    /// The rows of all programs, in file order.
+    /// Returns the rows of all programs, in file order.
     pub fn rows(&self) -> &[Row]
         ensures { result.now ≡ self.now.rows }
     {
         self.rows.as_slice()
     }
 
-    /// The program that starts at an offset of `.debug_line`.
+    /// Returns the program that starts at an offset of `.debug_line`.
     #[tactic(auto, using(crate::proofs::Positions::position_of_map))]
     pub fn program_at(&self, offset: u64) -> Option<ProgramNo>
         ensures { result ≡ program_at self.now offset }
@@ -77,7 +77,7 @@ impl LineTables {
         }
     }
 
-    /// How many files a program has; 0 for a number of no program.
+    /// Returns the number of files of a program, or 0 if there is no such program.
     pub fn files(&self, program: ProgramNo) -> u64
         ensures { result ≡ file_count self.now program }
     {
@@ -87,8 +87,8 @@ impl LineTables {
         }
     }
 
-    /// The parts of the path of a program's file, numbered from 0; none for numbers that are not of
-    /// these tables.
+    /// Returns the parts of the path of a program's file, or `None` if the program, the file or its
+    /// directory does not exist. Files are numbered from 0.
     pub fn path(&self, program: ProgramNo, file: u64) -> Option<PathParts>
         ensures { result ≡ path_of self.now program file }
     {
@@ -97,7 +97,7 @@ impl LineTables {
     }
 }
 
-/// The line programs of a section.
+/// Decodes the line programs of a section.
 fn read_programs(alloc: Global, sections: IndexedSections) -> Result<LineTables, LoadFault>
     ensures { Decodes (λ lines. lines) result (lines_in (sections_of sections.entry)) }
 {
@@ -115,7 +115,7 @@ fn read_programs(alloc: Global, sections: IndexedSections) -> Result<LineTables,
     Ok(LineTables { rows, programs })
 }
 
-/// The path of a file of a program.
+/// Returns the parts of the path of a program's file.
 fn path_in(directories: &[Entry], files: &[Entry], number: u64) -> Option<PathParts>
     ensures { result ≡ path_parts directories.now files.now number }
 {
@@ -125,7 +125,7 @@ fn path_in(directories: &[Entry], files: &[Entry], number: u64) -> Option<PathPa
     Some(parts_of(current.path, file.directory, directory.path, file.path))
 }
 
-/// How many of the programs start before an offset.
+/// Returns the number of programs that start before an offset.
 fn starts_before(programs: &[ProgramFiles], offset: u64) -> usize
     requires { IsStrictlyIncreasing (map (λ program. program.offset) programs.now) }
     ensures within { result ≤ length programs.now }
@@ -136,7 +136,7 @@ fn starts_before(programs: &[ProgramFiles], offset: u64) -> usize
     programs.partition_point(|program| program.offset < offset)
 }
 
-/// The position of the program that starts at an offset.
+/// Returns the index of the program that starts at an offset.
 fn position_of(programs: &[ProgramFiles], offset: u64) -> Option<usize>
     requires { IsStrictlyIncreasing (map (λ program. program.offset) programs.now) }
     ensures { result ≡ position (λ program. program.offset == offset) programs.now }

@@ -1,4 +1,4 @@
-//! The rows of a program.
+//! The rows of a line program.
 
 ghost use Rattle.std.specs.Prelude.{◌≡◌, ◌≤◌, ◌<◌, length};
 ghost use Rattle.dwarf_lines.specs.Instructions.{encoding};
@@ -11,7 +11,7 @@ use crate::registers::Registers;
 use crate::row::{Origin, Row};
 use dwarf_bytes::{Cause, Cursor};
 
-/// Adds the rows of the instructions from `start` on.
+/// Appends the rows of the instructions from offset `start` on.
 pub fn add_rows(
     header: &LineEncoding,
     origin: Origin,

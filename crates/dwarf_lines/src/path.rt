@@ -1,4 +1,4 @@
-//! The parts of a file's path.
+//! The parts of a file path.
 
 ghost use Rattle.std.specs.Prelude.{◌≡◌, ◌<◌, ◌≤◌, ◌+◌, ◌++◌, [], length, filter, nat_lt};
 ghost use Rattle.dwarf_lines.specs.Paths.{part_if_any};
@@ -8,7 +8,7 @@ use crate::entries::PathText;
 use dwarf_bytes::{Section, Span, Text};
 use std::marker::Model;
 
-/// Up to three parts of a path, between which slashes stand.
+/// Up to three parts of a path, to be joined by slashes.
 #[derive(Drop)]
 pub struct PathParts {
     parts: [Text; 3],
@@ -40,7 +40,7 @@ impl PathParts {
         }
     }
 
-    /// Adds the part of a text that is not empty.
+    /// Appends the part of a string unless it is empty.
     fn add(&mut self, text: PathText)
         requires { length self.old < 3 }
         ensures added { self.new ≡ self.old ++ part_if_any text.part }
@@ -59,7 +59,8 @@ impl PathParts {
     }
 }
 
-/// The parts of a path whose file text stands in a directory.
+/// Returns the parts of the path of `file`. A relative file is in `directory`, and a relative
+/// directory other than directory 0 is in `current`.
 pub fn parts_of(current: PathText, number: u64, directory: PathText, file: PathText) -> PathParts
     ensures { result ≡ nonempty_parts (texts_of current number directory file) }
 {

@@ -17,7 +17,7 @@ use crate::row::{Origin, ProgramNo, Row};
 use dwarf_bytes::{Cause, Cursor};
 use std::alloc::Global;
 
-/// The directories and files of a program.
+/// The directories and files of a program, and its offset in the section.
 #[derive(Drop)]
 pub struct ProgramFiles {
     pub offset: u64,
@@ -25,19 +25,19 @@ pub struct ProgramFiles {
     pub files: Vec<Entry>,
 }
 
-/// The header of a program.
+/// The decoded header of a program.
 #[derive(Drop)]
 pub struct LineProgramHeader<'a> {
     pub opcodes: LineEncoding<'a>,
     pub directories: Vec<Entry>,
     pub files: Vec<Entry>,
-    /// The place of the first instruction.
+    /// The offset of the first instruction.
     pub first: usize,
-    /// The place after the program.
+    /// The end of the program (exclusive).
     pub past: usize,
 }
 
-/// The header of the program at a place.
+/// Reads the header of the program at an offset of the section.
 #[tactic(auto, unfolding(crate::specs::Headers::header_at))]
 fn header<'a>(
     alloc: Global,
@@ -75,7 +75,7 @@ fn header<'a>(
     })
 }
 
-/// Adds the program at a place, and gives the place after it.
+/// Appends the rows and the tables of the program at an offset. Returns the end of the program.
 #[tactic(auto, unfolding(crate::specs::Programs::program_at_place))]
 pub fn add_program(
     alloc: Global,

@@ -1,4 +1,4 @@
--- What is kept of the programs, and what the steps of reading them give.
+-- The stored tables of the programs, and the contracts of the steps that read them.
 use Rattle.std.specs.Prelude.{◌≡◌, ℕ, List, [], ◌∷◌, ◌++◌, map, Result, Ok, Err}
 use Rattle.dwarf_bytes.specs.declared.fault.Cause.{Cause}
 use Rattle.dwarf_bytes.specs.Refusals.{Fails}
@@ -26,8 +26,8 @@ header_in h = record {
   past = h.past;
 }
 
--- The program of the outcome was put at the end, its rows and its files, or the fault is the
--- outcome's, unless memory ran out.
+-- The rows and the tables of the outcome's program were appended, or the fault is that of the
+-- outcome, unless memory ran out.
 abbrev pub AddsProgram : Result ℕ Cause → Result Program Cause → List Row → List Row
     → List ProgramFiles
     → List ProgramFiles → Type 0

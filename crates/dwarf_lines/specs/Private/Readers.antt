@@ -1,4 +1,4 @@
--- What the code reads entries from, and what it reads by it.
+-- The model of the code's entry reader, and what it reads.
 use Rattle.std.specs.Prelude.{ℕ, List, Bool, not, ◌==◌, Result}
 use Rattle.dwarf_bytes.specs.declared.constants.TheConstants.{DW_FORM_FLAG_PRESENT}
 use Rattle.dwarf_bytes.specs.declared.fault.Cause.{Cause}
@@ -13,7 +13,7 @@ use Rattle.dwarf_lines.specs.Entries.{table_at}
 abbrev pub sections_of : IndexedSections → LineSections
 sections_of s = record { line = s.line.now; line_str = s.line_str.now; str = s.str.now }
 
--- one more field of an entry, and all of them
+-- one field of an entry, and all fields
 abbrev pub field_by : EntryReader → Field → Entry → List ℕ → ℕ → Result (Entry × ℕ) Cause
 field_by reader = field_at (sections_of reader.sections) reader.format reader.table
 
@@ -21,7 +21,7 @@ abbrev pub fields_by : EntryReader → List Field → List ℕ → ℕ → Resul
 fields_by reader fields =
     fields_at (sections_of reader.sections) reader.format reader.table fields no_entry
 
--- an entry, so many, and the whole table
+-- an entry, count entries, and a whole table
 abbrev pub entry_by : EntryReader → List Field → List ℕ → ℕ → Result (Entry × ℕ) Cause
 entry_by reader fields = entry_at (sections_of reader.sections) reader.format reader.table fields
 
@@ -31,6 +31,6 @@ entries_by reader fields count = repeated_at (entry_by reader fields) count
 abbrev pub table_by : EntryReader → List ℕ → ℕ → Result (List Entry × ℕ) Cause
 table_by reader = table_at (sections_of reader.sections) reader.format reader.table
 
--- whether the values of a field have bytes: those of DW_FORM_flag_present have none
+-- whether the values of a field have bytes: DW_FORM_flag_present has none
 abbrev pub has_bytes : Field → Bool
 has_bytes field = not (field.form == DW_FORM_FLAG_PRESENT)

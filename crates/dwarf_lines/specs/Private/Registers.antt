@@ -1,4 +1,4 @@
--- What the registers of the code hold.
+-- The invariant of the code's registers.
 use Rattle.std.specs.Prelude.{◌≡◌, ℕ, ◌^◌, ◌≤◌, ◌+◌, ℤ, List, ◌∷◌, Option, Some, None, Result, Ok}
 use Rattle.std.specs.Prelude.{Err, option_to_list, Bool, true, false, ◌&&◌, unsigned_abs}
 use Rattle.dwarf_bytes.specs.declared.fault.Cause.{Cause}
@@ -12,17 +12,17 @@ use Rattle.dwarf_lines.specs.Instructions.{Encoding}
 use Rattle.dwarf_lines.specs.Matrix.{address_after, line_after, file_after, is_open, is_dead}
 use Rattle.dwarf_lines.specs.Matrix.{row_before, line_row, made, with_front}
 
--- a sum that is known below 2 ^ 64
+-- a sum that is represented only below 2 ^ 64
 abbrev pub IsSum : Option ℕ → ℕ → Type 0
 IsSum None sum = 2 ^ 64 ≤ sum
 IsSum (Some n) sum = n ≡ sum
 
--- whether the sequence has a row that was dropped
+-- whether the sequence has a row that was discarded
 abbrev pub has_dropped : List Instruction → Bool
 has_dropped before = is_open before && is_dead before
 
--- The registers are those after these instructions. The address of the last row is kept of a
--- sequence that is not dead.
+-- The registers are the ones after these instructions. The address of the last row is only
+-- maintained if no row was discarded.
 pub record AreRegisters (e : Encoding) (before : List Instruction) (r : Registers) : Type 0 where
   pub address : IsSum r.address (address_after e before)
   pub line : r.line ≡ line_after e before
@@ -31,8 +31,8 @@ pub record AreRegisters (e : Encoding) (before : List Instruction) (r : Register
   pub has_row : r.has_row ≡ is_open before
   pub dead : r.dead ≡ is_dead before
 
--- The row of the registers is made at the address sum, and is then the last one; in a dead sequence
--- it is dropped.
+-- The row of the registers is built at the address sum, and becomes the last row. In a dead
+-- sequence it is discarded.
 abbrev pub KeepsRow : Origin → Registers → ℕ → Result (Option Row) Cause → Registers → Type 0
 KeepsRow origin old sum (Ok (Some row)) new = (old.dead ≡ false)
     × (line_row origin old.previous sum old.line old.file ≡ Ok row)
@@ -41,29 +41,30 @@ KeepsRow origin old sum (Ok None) new = (old.dead ≡ true) × (new ≡ record o
 KeepsRow origin old sum (Err cause) new = (old.dead ≡ false)
     × (line_row origin old.previous sum old.line old.file ≡ Err cause)
 
--- the row that ends a sequence, which a dead one has not
+-- the row that ends a sequence; a dead sequence has none
 abbrev pub last_row : Bool → Result Row Cause → Result (Option Row) Cause
 last_row true row = Ok None
 last_row false (Ok row) = Ok (Some row)
 last_row false (Err cause) = Err cause
 
--- A step after these instructions gives what the instruction makes, and the registers after it.
+-- A step after these instructions returns what the instruction makes, and leaves the registers
+-- after it.
 abbrev pub Makes : Encoding → Origin → List Instruction → Instruction → Result (Option Row) Cause
     → Registers → Type 0
 Makes e origin before i (Ok row) new = (made e origin before i ≡ Ok (option_to_list row))
     × AreRegisters e (i ∷ before) new
 Makes e origin before i (Err cause) new = made e origin before i ≡ Err cause
 
--- how far the operand of an instruction goes from line to line
+-- the absolute line increment given by the operand of an instruction
 abbrev pub line_reach : Instruction → ℕ
 line_reach (AdvanceLine change) = unsigned_abs change
 line_reach _ = 0
 
--- the line register moves by no more than a special opcode or the operand says
+-- a bound on the change of the line register by a special opcode or an operand
 abbrev pub IsNear : ℤ → ℤ → Instruction → Type 0
 IsNear old new i = unsigned_abs new ≤ 2 ^ 10 + unsigned_abs old + line_reach i
 
--- The rows of the outcome were put at the end, or the fault is the outcome's, unless memory ran
+-- The rows of the outcome were appended, or the fault is that of the outcome, unless memory ran
 -- out.
 abbrev pub Adds : {X : Type 0} → Result X Cause → List Row → List Row → Result (List Row) Cause
     → Type 0
