@@ -1,4 +1,4 @@
--- What is read as the attributes of a declaration is spelled so.
+-- The attributes that are read of a declaration have an encoding in the bytes.
 use Rattle.std.proofs.Common.{◌≡◌, ℕ, ◌+◌, List, [], ◌++◌, length, false, refl}
 use Rattle.std.specs.Prelude.{Ok, ◌==◌, ◌&&◌}
 use Rattle.dwarf_bytes.specs.Numbers.{StandsAt, IsUleb}
@@ -74,7 +74,7 @@ attribute_read section = record { item = item; end = end }
 
 -- ---- the attributes of a declaration
 
--- what stands in a declaration behind its children flag
+-- the encoding of the part of a declaration after its children flag
 abbrev pub SpellsAttributes : List ℕ → List AttributeSpecification → Type 0
 SpellsAttributes = SpellsAll SpellsAttribute EndsAttributes
 

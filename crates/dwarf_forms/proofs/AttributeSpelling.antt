@@ -1,4 +1,4 @@
--- The reads of a declaration's attributes as what is spelled and good, in both directions.
+-- The attributes of a declaration are read if and only if they are encoded and valid.
 use Rattle.std.proofs.Common.{◌≡◌, ◌≢◌, ℕ, ◌+◌, ℤ, List, [], ◌++◌, length, drop, Bool, true, false}
 use Rattle.std.proofs.Common.{refl, ap, subst, arith, eq-eqb}
 use Rattle.std.specs.Prelude.{Option, Some, None, IsSome, is_none, Ok, ◌==◌, ◌&&◌, ◌||◌}
@@ -76,7 +76,7 @@ constant_reads form section at (Some c) next s =
 
 -- ---- attributes
 
--- what an attribute must have whatever stands before it
+-- the conditions on an attribute that do not depend on the ones before it
 abbrev pub IsUsable : AttributeSpecification → Type 0
 IsUsable attribute = (attribute.name ≢ 0) × IsSome (form_of attribute.form)
 

@@ -1,4 +1,4 @@
--- A code, by the place where it stands.
+-- The lookup of a code by its index.
 use Rattle.std.proofs.Common.{◌≡◌, ℕ, zero, suc, ◌+◌, ◌-◌, ◌≢◌, ◌⊎◌, inl, inr, List, [], ◌∷◌, ◌++◌}
 use Rattle.std.proofs.Common.{length, ◌<◌, ◌≤◌, get_or, Bool, true, false, cond, eq-eqb, refl, sym}
 use Rattle.std.proofs.Common.{ap, subst, ◌∙◌, arith}
@@ -15,7 +15,7 @@ use Rattle.std.proofs.lemmas.List.Sums.{position_or_len_is}
 use Rattle.std.proofs.lemmas.Bool.{false≢true, ltb-true, lt-ltb, eqb-true, eqb-false}
 use Rattle.dwarf_forms.specs.Private.Codes.{AreCodes, is_code_at}
 
--- where no place has the code, none is found
+-- if no element is the code, a search finds nothing
 pub find_none : (xs : List ℕ) (code : ℕ) → ((i : ℕ) (d : ℕ) → slice_get xs i ≡ Some d → d ≢ code)
     → find (λ other. other == code) xs ≡ None
 find_none [] code h = refl
@@ -26,7 +26,7 @@ find_none (x ∷ xs) code h =
     apart_test : (a b : ℕ) → a ≢ b → (a == b) ≡ false
     apart_test a b h = grind arith
 
--- a code that stands neither in its own place nor where the map says stands nowhere
+-- a code that is neither at index code - 1 nor where the map says is not in the list
 pub find_nowhere : (xs : List ℕ) (moved : BTreeMap ℕ ℕ) (code : ℕ) → AreCodes xs moved
     → ((d : ℕ) → slice_get xs (code - 1) ≡ Some d → d ≢ code)
     → ((i : ℕ) → get nat_cmp moved code ≡ Some i → (d : ℕ) → slice_get xs i ≡ Some d → d ≢ code)
@@ -43,7 +43,7 @@ find_nowhere xs moved code indexed own by_map = find_none xs code nowhere
         by_place (inr there) = by_map i (ap (λ (k : ℕ). get nat_cmp moved k) (sym is) ∙ there) d at
             is
 
--- no place has a code that the list lacks
+-- no element is a code that the list lacks
 pub lacks : (xs : List ℕ) (code : ℕ) → list_any (λ other. other == code) xs ≡ false
     → (i : ℕ) (d : ℕ) → slice_get xs i ≡ Some d → d ≢ code
 lacks xs code none i d at is =
@@ -52,7 +52,7 @@ lacks xs code none i d at is =
     false≢true (sym none ∙ list_any_at (λ (e : ℕ). e == code) xs i d (slice_get_within xs i d at)
     test)
 
--- a map that tells another place for a code that the list lacks serves the list as well
+-- an entry of the map for a code that the list lacks does not affect the list
 pub index_kept : (xs : List ℕ) (moved next : BTreeMap ℕ ℕ) (code : ℕ)
     → list_any (λ other. other == code) xs ≡ false
     → ((q : ℕ) → q ≢ code → get nat_cmp next q ≡ get nat_cmp moved q) → AreCodes xs moved
@@ -67,7 +67,7 @@ index_kept xs moved next code none others indexed = record {
     by_place i d apart (inl place) = inl place
     by_place i d apart (inr there) = inr (others d apart ∙ there)
 
--- one more code, whose place is its code or stands in the map
+-- a code is appended whose index is code - 1 or is in the map
 pub index_push : (xs : List ℕ) (moved : BTreeMap ℕ ℕ) (y : ℕ) → list_any (λ other. other == y) xs
     ≡ false
     → (y ≡ length xs + 1) ⊎ (get nat_cmp moved y ≡ Some (length xs)) → AreCodes xs moved
@@ -92,7 +92,7 @@ index_push xs moved y none place indexed = record {
     found_at (x ∷ ys) number before last (suc i) d at =
         found_at ys (λ k. number (suc k)) (λ k e is. before (suc k) e is) last i d at
 
--- ---- the place of a code
+-- ---- the index of a code
 
 position-none : {X : Type 0} (p : X → Bool) (xs : List X) → find p xs ≡ None → position p xs ≡ None
 position-none {X = X} p xs none = by_test (nat_lt (position_or_len p xs) (length xs)) refl
@@ -114,7 +114,7 @@ position-none {X = X} p xs none = by_test (nat_lt (position_or_len p xs) (length
     by_test true within = absurd (by_place within (slice_get_cases xs (position_or_len p xs)).1)
     by_test false past = refl
 
--- a place that has the code is its place
+-- an index at which the code is found is its index
 pub place_is : (xs : List ℕ) (i code : ℕ) → AllPairs (λ a b. a ≢ b) xs → is_code_at xs i code ≡ true
     → position (λ other. other == code) xs ≡ Some i
 place_is xs i code once here = by_declaration (slice_get xs i) refl here
@@ -138,7 +138,7 @@ place_is xs i code once here = by_declaration (slice_get xs i) refl here
         subst (λ (k : ℕ). cond (nat_lt k (length xs)) (Some k) None ≡ Some i) (sym first)
         (rw (lt-ltb i (length xs) within) refl)
 
--- a place that has another code, or none
+-- an index with another code, or past the end
 has_not : (xs : List ℕ) (i code : ℕ) → is_code_at xs i code ≡ false → (d : ℕ)
     → slice_get xs i ≡ Some d → d ≢ code
 has_not xs i code none d at =
@@ -147,7 +147,7 @@ has_not xs i code none d at =
     none in
     λ same. eqb-false d code test same
 
--- The same, for the list that a table is seen as.
+-- the same with variables for the list
 pub place_here : (xs seen now : List ℕ) (i code : ℕ) → seen ≡ xs → xs ≡ now
     → AllPairs (λ a b. a ≢ b) xs → is_code_at seen i code ≡ true
     → Some i ≡ position (λ other. other == code) now

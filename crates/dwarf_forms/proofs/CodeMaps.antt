@@ -1,4 +1,4 @@
--- The map from codes to places, as the table grows.
+-- The map from codes to indexes while the table grows.
 use Rattle.std.proofs.Common.{◌≡◌, ℕ, suc, ◌+◌, ◌-◌, inl, inr, List, [], ◌∷◌, ◌++◌, length, Bool}
 use Rattle.std.proofs.Common.{true, false, cond, refl, sym, ap, subst, ◌∙◌, arith}
 use Rattle.std.specs.Prelude.{map, not, Option, Some, None, position, nat_lt, is_some, ◌==◌, ◌||◌}
@@ -19,7 +19,7 @@ use Rattle.dwarf_forms.specs.Private.Codes.{AreCodes, head_behind}
 use Rattle.dwarf_forms.proofs.Codes.{PutsPlace, others_stay}
 use Rattle.dwarf_forms.proofs.CodeLaws.{index_kept, index_push, place_is}
 
--- ---- the map, as the table grows
+-- ---- the map while the table grows
 
 pub indexed_same : (xs after : List ℕ) (moved : BTreeMap ℕ ℕ) → after ≡ xs → AreCodes xs moved
     → AreCodes after moved
@@ -93,7 +93,7 @@ before-any p (x ∷ xs) = by_test (p x) (before-any p xs)
     by_test true h = first (length xs)
     by_test false h = further (position_or_len p xs) (length xs) ∙ h
 
--- there is a place exactly where an element passes
+-- a search finds an index if and only if some element satisfies the predicate
 pub is_some-position : {X : Type 0} (p : X → Bool) (xs : List X)
     → is_some (position p xs) ≡ list_any p xs
 is_some-position p xs = by_test (nat_lt (position_or_len p xs) (length xs)) ∙ before-any p xs
@@ -102,7 +102,7 @@ is_some-position p xs = by_test (nat_lt (position_or_len p xs) (length xs)) ∙ 
     by_test true = refl
     by_test false = refl
 
--- what stands before a declaration's attributes, by the codes of those before it
+-- the read of a declaration's head only depends on the codes of the declarations before it
 pub head-is : (room : ℕ) (section : List ℕ) (before : List Declaration) (at : ℕ)
     → head_behind room section (map (λ (d : Declaration). d.code) before) at
     ≡ head_at room section before at
@@ -111,7 +111,7 @@ head-is room section before at = simp (any-map, length-map)
 abbrev code_of : Declaration → ℕ
 code_of d = d.code
 
--- .. where the codes go by other names
+-- .. with variables for the codes
 pub reads-head : (room : ℕ) (codes : List ℕ) (xs before : List Declaration) (found : Result (Option Head) Cause) (old new : Position) → codes ≡ map code_of xs → xs ≡ before → ReadsNext found (λ bytes. head_behind room bytes codes) old new → ReadsNext found (λ bytes. head_at room bytes before) old new
 reads-head room codes xs before found old new are seen read = by_result found read
   where
@@ -123,9 +123,9 @@ reads-head room codes xs before found old new are seen read = by_result found re
     by_result (Ok None) h = (sym same ∙ h.0, h.1)
     by_result (Err cause) h = sym same ∙ h
 
--- ---- codes of what a table has
+-- ---- codes of the elements of a table
 
--- a code that no element has is none of their codes
+-- a code that no element has is not among their codes
 pub codes-fresh : {X : Type 0} (f : X → ℕ) (xs seen : List X) (codes : List ℕ) (code given : ℕ)
     → codes ≡ map f xs → xs ≡ seen → given ≡ code → list_any (λ x. f x == code) seen ≡ false
     → list_any (λ other. other == given) codes ≡ false
@@ -134,7 +134,7 @@ codes-fresh f xs seen codes code given are same is none =
     ∙ (ap (λ (cs : List ℕ). list_any (λ (other : ℕ). other == code) cs) (are ∙ ap (map f) same)
     ∙ (any-map f (λ (other : ℕ). other == code) seen ∙ none))
 
--- .. and the other way round, of a head that was read
+-- .. and the converse, for a head that was read
 pub head-fresh : {X : Type 0} (f : X → ℕ) (xs seen : List X) (codes : List ℕ)
     (found : Result (Option Head) Cause) → codes ≡ map f xs → xs ≡ seen
     → IfOk found (λ next. IfSome next (λ head. list_any (λ other. other == head.code) codes

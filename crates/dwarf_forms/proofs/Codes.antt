@@ -1,4 +1,4 @@
--- What is found by its place, in a list or in a map.
+-- Lookup by index, in a list or in a map.
 use Rattle.std.proofs.Common.{◌≡◌, ℕ, ◌≢◌, List, length, get_or, Bool, true, false, cond, refl, sym}
 use Rattle.std.proofs.Common.{ap, ◌∙◌, arith}
 use Rattle.std.specs.Prelude.{Option, Some, None, find, position, nat_lt, is_some, slice_get}
@@ -13,7 +13,7 @@ use Rattle.std.proofs.lemmas.Option.{slice_get_past, slice_get-get_or}
 use Rattle.std.proofs.lemmas.List.Folds.{find_at}
 use Rattle.std.proofs.lemmas.Bool.{ltb-true, ltb-false}
 
--- where none is found there is no place, and where there is one it is found there
+-- the element that a search finds is the one at the index that it finds
 pub find-place : {X : Type 0} (p : X → Bool) (xs : List X) (place : Option ℕ)
     → position p xs ≡ place → find p xs ≡ option_and_then (λ i. slice_get xs i) place
 find-place p xs place is = find_at p xs ∙ sym

@@ -1,4 +1,4 @@
--- Elements of a list, as more are put behind it.
+-- Elements of a list while elements are appended.
 use Rattle.std.proofs.Common.{◌≡◌, ◌⊎◌, inl, inr, ℕ, zero, suc, List, [], ◌∷◌, ◌++◌, length, refl}
 use Rattle.std.proofs.Common.{ap}
 use Rattle.std.specs.Prelude.{Some, slice_get, Result, Ok, Err, IfOk}
@@ -22,7 +22,7 @@ at-front [] ys i z at = cc
 at-front (x ∷ xs) ys zero z at = at
 at-front (x ∷ xs) ys (suc i) z at = at-front xs ys i z at
 
--- what a call gives is told of in other words
+-- weakens a property of a result
 pub if_ok : {X E : Type 0} (P Q : X → Type 0) (r : Result X E) → IfOk r P → ((x : X) → P x → Q x)
     → IfOk r Q
 if_ok P Q (Ok x) h f = f x h

@@ -1,4 +1,4 @@
--- What stands in a declaration before its attributes, as what is spelled, in both directions.
+-- The encoding of a declaration up to its attributes, in both directions.
 use Rattle.std.proofs.Common.{◌≡◌, ◌≢◌, ℕ, ◌+◌, ◌<◌, ◌≤◌, List, [], ◌∷◌, ◌++◌, length, drop, Bool}
 use Rattle.std.proofs.Common.{true, false, cond, refl, ap, ◌∙◌, subst, arith}
 use Rattle.std.specs.Prelude.{Ok, nat_lt, nat_le, ◌==◌, if◌then◌else◌}
@@ -23,7 +23,7 @@ pub record SpellsHead (bytes : List ℕ) (head : Head) : Type 0 where
   pub code_is : IsUleb code head.code
   pub tag_is : IsUleb tag head.tag
 
--- what is asked of a declaration's head behind the declarations before it
+-- the conditions on a declaration's head that depend on the declarations before it
 pub record HeadFits (room : ℕ) (before : List Declaration) (code : ℕ) : Type 0 where
   pub some : code ≢ 0
   pub room_left : length before < room

@@ -1,4 +1,4 @@
--- Lists of attributes that are known from a place on, read behind other attributes.
+-- Memoized suffixes of attribute lists, read after other attributes.
 use Rattle.std.proofs.Common.{◌≡◌, ℕ, List, [], ◌∷◌, Bool, true, false, refl, ap, ◌∙◌, arith}
 use Rattle.std.specs.Prelude.{Ok, Err, is_none, ◌==◌, ◌&&◌, ◌||◌}
 use Rattle.std.specs.List.{list_any}
@@ -16,7 +16,7 @@ use Rattle.dwarf_forms.proofs.AttributeReads.{attribute_read}
 abbrev pub named : ℕ → AttributeSpecification → Bool
 named name attribute = attribute.name == name
 
--- an attribute is read again behind others of which none has its name
+-- an attribute is also read after other attributes if none has its name
 pub attribute-again : (section : List ℕ) (before other : List AttributeSpecification) (at : ℕ)
     (x : AttributeSpecification) (next : ℕ) → attribute_at section before at ≡ Ok (Item x next)
     → list_any (named x.name) other ≡ false → attribute_at section other at ≡ Ok (Item x next)
@@ -24,7 +24,7 @@ attribute-again section before other at x next read new =
     let stands = (attribute_spelled section).item before at x next read in
     (attribute_read section).item other at x next stands.0 (stands.1.0, new)
 
--- .. and none has its name before it
+-- .. and no attribute before it has its name
 pub attribute-new : (section : List ℕ) (before : List AttributeSpecification) (at : ℕ)
     (x : AttributeSpecification) (next : ℕ) → attribute_at section before at ≡ Ok (Item x next)
     → list_any (named x.name) before ≡ false
@@ -36,7 +36,7 @@ pub end-again : (section : List ℕ) (before other : List AttributeSpecification
 end-again section before other at next read =
     (attribute_read section).end other at next ((attribute_spelled section).end before at next read)
 
--- behind others of which one has its name it is refused
+-- an attribute is refused after others if one of them has its name
 pub attribute-twice : (section : List ℕ) (before other : List AttributeSpecification) (at : ℕ)
     (x : AttributeSpecification) (next : ℕ) → attribute_at section before at ≡ Ok (Item x next)
     → list_any (named x.name) other ≡ true → attribute_at section other at ≡ Err causes.AttrTwice
@@ -56,7 +56,7 @@ attribute-twice section before other at x next read twice =
     ap (λ (y : AttributeSpecification). list_any (named y.name) other) same.0 ∙ twice in
     rw (name_is, form_is, not_end, usable, here) refl))))))
 
--- ---- names that two lists share, one attribute of the second list after the other
+-- ---- names that two lists share, by the attributes of the second list
 
 pub either : (a b : Bool) → (a || b) ≡ false → (a ≡ false) × (b ≡ false)
 either true b h = cc

@@ -1,4 +1,4 @@
--- Lists of attributes with a rest that is known.
+-- Attribute lists with a memoized rest.
 use Rattle.std.proofs.Common.{◌≡◌, ℕ, List, [], ◌∷◌, ◌++◌, length, Bool, true, false, refl, ap, sym}
 use Rattle.std.proofs.Common.{◌∙◌, subst, append_assoc, append-nil}
 use Rattle.std.specs.Prelude.{Result, Ok, Err, ◌||◌, if◌then◌else◌}
@@ -19,7 +19,7 @@ use Rattle.dwarf_forms.proofs.JoinedLaws.{attribute-twice, either, shares-cons, 
 
 -- ---- lists
 
--- a list is read again behind more attributes, of which none has a name of its
+-- a list is also read after more attributes if none of them has a name of the list
 pub lists-again : (section : List ℕ) (own before : List AttributeSpecification) (at : ℕ)
     (xs : List AttributeSpecification) (next : ℕ) → Lists (attribute_at section) before at xs next
     → shares_name own xs ≡ false → Lists (attribute_at section) (own ++ before) at xs next
@@ -39,7 +39,7 @@ lists-again section own before at (x ∷ xs) next listed apart =
           next) (sym (append_assoc own before (x ∷ []))) rest,
     )
 
--- .. and behind fewer
+-- .. and after fewer attributes
 pub lists-fewer : (section : List ℕ) (own before : List AttributeSpecification) (at : ℕ)
     (xs : List AttributeSpecification) (next : ℕ)
     → Lists (attribute_at section) (own ++ before) at xs next
@@ -58,7 +58,7 @@ lists-fewer section own before at (x ∷ xs) next listed =
       lists-fewer section own (before ++ x ∷ []) listed.0 xs next rest,
     )
 
--- what is behind the first attribute of a list is a list
+-- the rest of a list after its first attribute is a list
 pub attributes-behind : (section : List ℕ) (at : ℕ) (x : AttributeSpecification)
     (xs : List AttributeSpecification) (next : ℕ) → attributes_at section at ≡ Ok (x ∷ xs, next)
     → (mid : ℕ) × (attribute_at section [] at ≡ Ok (Item x mid))
@@ -75,7 +75,7 @@ attributes-behind section at x xs next read =
           listed.0 xs next rest),
     )
 
--- .. and is refused behind others of which one has
+-- a list is refused after other attributes if one of them has a name of the list
 pub lists-twice : (section : List ℕ) (own before : List AttributeSpecification) (at : ℕ)
     (xs : List AttributeSpecification) (next : ℕ) → Lists (attribute_at section) before at xs next
     → shares_name own xs ≡ true
@@ -119,7 +119,7 @@ lists-twice section own before at (x ∷ xs) next listed shared =
         ) (told x (items_from (length section) (attribute_at section) (own ++ (before ++ x ∷ []))
         listed.0) (rest more))
 
--- what is read of a list behind others
+-- the result of reading a list after other attributes
 pub attributes_joined : (section : List ℕ) (own : List AttributeSpecification) (at : ℕ)
     (rest : List AttributeSpecification) (next : ℕ) → attributes_at section at ≡ Ok (rest, next)
     → untold (items_from (length section) (attribute_at section) own at)
@@ -141,7 +141,7 @@ attributes_joined section own at rest next read =
         (attribute_at-advances section) (own ++ []) at rest next
         (lists-again section own [] at rest next listed apart)) refl
 
--- .. by the test of the names
+-- .. by the result of the name test
 pub joined-ok : (section : List ℕ) (own : List AttributeSpecification) (at : ℕ)
     (rest : List AttributeSpecification) (next : ℕ) → attributes_at section at ≡ Ok (rest, next)
     → Ok tt ≡ refuse_if (shares_name own rest) causes.AttrTwice
@@ -176,7 +176,7 @@ joined-err section own at rest next cause read refused =
         sym_cause h = cc
     by_test false is h = cc
 
--- ---- what is read from the first place on, where a rest is known behind what was read so far
+-- ---- the list from its first offset on, if its rest after the attributes read so far is memoized
 
 pub so_far-joined : (section : List ℕ) (first : ℕ) (own : List AttributeSpecification) (at : ℕ)
     (rest : List AttributeSpecification) (next : ℕ)

@@ -1,4 +1,4 @@
--- How many attributes are known: each place once at the most.
+-- The number of memoized attributes: each offset is memoized at most once.
 use Rattle.std.proofs.Common.{◌≡◌, ◌≢◌, ◌⊎◌, inl, inr, ℕ, suc, ◌<◌, ◌≤◌, List, [], ◌∷◌, length}
 use Rattle.std.proofs.Common.{get_or, Bool, true, false, refl, ap, sym, ◌∙◌, arith}
 use Rattle.std.specs.Prelude.{Some, None, All, AllPairs, map, eqb, slice_get, ◌||◌}
@@ -33,7 +33,7 @@ below-all (x ∷ xs) n all q is = by_test (λ h. below-all xs n
         omega (arith, one, all 0 0 (omega arith))
     by_test behind false apart h = behind h
 
--- so no more attributes are known than the section has bytes
+-- there are at most as many memoized attributes as the section has bytes
 pub known-few : (section : List ℕ) (known : List KnownAttribute) (places : BTreeMap ℕ ℕ)
     (sets : List Branch) → AreKnown section known places sets → length known ≤ length section
 known-few section known places sets are =

@@ -1,4 +1,4 @@
--- Attributes that are known, as more are put behind them.
+-- Memoized attributes while more are appended.
 use Rattle.std.proofs.Common.{◌≡◌, ◌≢◌, ◌⊎◌, inl, inr, ℕ, ◌<◌, ◌≤◌, List, [], ◌∷◌, length, drop}
 use Rattle.std.proofs.Common.{get_or, Bool, true, false, refl, ap, sym, ◌∙◌, subst, arith, eq-eqb}
 use Rattle.std.specs.Prelude.{Option, Some, None, slice_get, ◌==◌, ◌||◌}
@@ -27,9 +27,9 @@ named name attribute = attribute.name == name
 abbrev pub stands : ℕ → KnownAttribute → Bool
 stands place k = k.place == place
 
--- ---- numbers
+-- ---- indexes
 
--- what is known of a number
+-- the invariant for the attribute with an index
 pub good-at : (section : List ℕ) (known seen : List KnownAttribute) (places : BTreeMap ℕ ℕ)
     (sets : List Branch) (number : ℕ) (k : KnownAttribute) → AreKnown section known places sets
     → known ≡ seen → number < length seen → k ≡ get_or known number k
@@ -59,7 +59,7 @@ pub tail-is : (xs rest : List AttributeSpecification) (x : AttributeSpecificatio
     → rest ≡ drop 1 xs
 tail-is xs rest x is = sym (ap (λ (ys : List AttributeSpecification). drop 1 ys) is)
 
--- ---- places
+-- ---- offsets
 
 unknown-from : (known : List KnownAttribute) (place : ℕ)
     → ((number : ℕ) (k : KnownAttribute) → slice_get known number ≡ Some k → k.place ≢ place)
@@ -109,7 +109,7 @@ unknown-elsewhere section known seen read places sets place number are view same
         (ap (λ (n : ℕ). slice_get known n) one ∙ at) here in
         eqb-false k.place place test is
 
--- the attribute that stands at a place
+-- the attribute at an offset
 pub known-at : (known : List KnownAttribute) (number place : ℕ) → is_known_at known number place
     ≡ true → (k : KnownAttribute) × (slice_get known number ≡ Some k) × (k.place ≡ place)
 known-at known number place is = by_item (slice_get known number) refl is

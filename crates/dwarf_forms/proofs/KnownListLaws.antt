@@ -1,4 +1,4 @@
--- The lists of attributes that known attributes tell of, as more are put behind them.
+-- The lists given by memoized attributes while more are appended.
 use Rattle.std.proofs.Common.{◌≡◌, ℕ, ◌+◌, ◌<◌, List, [], ◌∷◌, ◌++◌, length, take, drop, get_or}
 use Rattle.std.proofs.Common.{refl, ap, sym, ◌∙◌, arith, length-append, append_assoc}
 use Rattle.std.proofs.Common.{take-append-drop}
@@ -65,7 +65,7 @@ from-last known k =
     ∙ (get_or-append_seam lists made [] []
     ∙ ap (λ (ys : List AttributeSpecification). k.attribute ∷ ys) (list-is_rest known k.next)))
 
--- the list from an attribute on, by the one behind it
+-- the list from an attribute on, by its successor
 pub from-step : (known : List KnownAttribute) (number : ℕ) (k : KnownAttribute)
     → slice_get known number ≡ Some k → IfSome k.next (λ next. next < number)
     → attributes_from known number ≡ k.attribute ∷ rest_attributes known k.next

@@ -1,4 +1,4 @@
--- One more attribute that is known.
+-- One more memoized attribute.
 use Rattle.std.proofs.Common.{◌≡◌, ◌⊎◌, inl, inr, ℕ, ◌<◌, List, [], ◌∷◌, ◌++◌, length, get_or, true}
 use Rattle.std.proofs.Common.{ap, sym, ◌∙◌, subst}
 use Rattle.std.specs.Prelude.{Option, Some, None, IfSome, Ok, slice_get}
@@ -20,7 +20,7 @@ use Rattle.dwarf_forms.proofs.KnownListLaws.{from-last, from-stays}
 use Rattle.dwarf_forms.proofs.KnownLaws.{named, stands, unknown-apart, known-at, names-share}
 use Rattle.dwarf_forms.proofs.KnownLaws.{names-stay}
 
--- ---- a list that is known, behind others
+-- ---- a memoized list after other attributes
 
 pub record Joins (bytes : List ℕ) (place : ℕ) (sets : List Branch) (k : KnownAttribute)
     (rest : List AttributeSpecification) : Type 0 where
@@ -76,7 +76,7 @@ known-sets section known places old new stay are = record {
   empty = names-stay old new 0 [] stay are.empty;
 }
 
--- a map that finds the same
+-- the invariant holds for a map with the same entries
 pub known-found : (section : List ℕ) (known : List KnownAttribute) (places next : BTreeMap ℕ ℕ)
     (sets : List Branch) → ((place : ℕ) → get nat_cmp next place ≡ get nat_cmp places place)
     → AreKnown section known places sets → AreKnown section known next sets
@@ -93,7 +93,7 @@ known-found section known places next sets same are = record {
   empty = are.empty;
 }
 
--- the map has the place, and the list does not
+-- the invariant holds if only the map has the offset
 pub known-unput : (section : List ℕ) (known now : List KnownAttribute) (places next : BTreeMap ℕ ℕ)
     (sets : List Branch) (place number : ℕ) → IsUnknown known place
     → PutsPlace places next place number → now ≡ known → AreKnown section known places sets
@@ -157,7 +157,7 @@ known-put section known now places next sets number k is read unknown last is_no
         other) (sym same.0) (subst (λ (z : KnownAttribute). IsGoodKnown section (known ++ k ∷ [])
         next sets (length known) z) same.1 new)
 
--- ---- nothing is known
+-- ---- no attribute is memoized
 
 pub known-none : (section : List ℕ) (known : List KnownAttribute) (places : BTreeMap ℕ ℕ)
     (sets : List Branch) → known ≡ [] → HasNames sets 0 [] → AreKnown section known places sets

@@ -1,4 +1,4 @@
--- Items read one after another, as what is spelled: in both directions, for any step.
+-- The encoding of consecutive items, in both directions, for any step.
 use Rattle.std.proofs.Common.{◌≡◌, ◌≢◌, ℕ, zero, suc, ◌+◌, ◌<◌, ◌≤◌, List, [], ◌∷◌, ◌++◌, length}
 use Rattle.std.proofs.Common.{get_or, false, refl, sym, ap, ◌∙◌, subst, arith, append_assoc}
 use Rattle.std.proofs.Common.{append-nil, length-append, eq-eqb}
@@ -15,7 +15,7 @@ use Rattle.dwarf_forms.specs.Declarations.{SpellsEach}
 use Rattle.dwarf_forms.proofs.Stretches.{Stretch, stretch_of, stands_from, joined, first_part}
 use Rattle.dwarf_forms.proofs.Stretches.{second_part, respelled}
 
--- the elements, and what ends them
+-- the encoded elements, followed by the encoded end
 pub record SpellsAll {X : Type 0} (spells : List ℕ → X → Type 0) (ends : List ℕ → Type 0)
     (bytes : List ℕ) (xs : List X) : Type 0 where
   pub items : List ℕ
@@ -24,7 +24,7 @@ pub record SpellsAll {X : Type 0} (spells : List ℕ → X → Type 0) (ends : L
   pub items_are : SpellsEach spells items xs
   pub ends_it : ends end
 
--- each element is good behind those before it
+-- each element is valid after the ones before it
 abbrev pub GoodEach : {X : Type 0} → (List X → X → Type 0) → List X → List X → Type 0
 GoodEach good before [] = Unit {0}
 GoodEach good before (x ∷ xs) = good before x × GoodEach good (before ++ x ∷ []) xs
@@ -32,7 +32,7 @@ GoodEach good before (x ∷ xs) = good before x × GoodEach good (before ++ x �
 abbrev pub EndStands : (List ℕ → Type 0) → List ℕ → ℕ → ℕ → Type 0
 EndStands ends bytes at next = StandsAt (λ b (u : Unit {0}). ends b) bytes at tt next
 
--- what a step answers is what stands there, and is good
+-- if a step returns an item, the item is valid and an encoding of it is at the offset
 pub record IsSpelled {X : Type 0} (spells : List ℕ → X → Type 0) (ends : List ℕ → Type 0)
     (good : List X → X → Type 0) (bytes : List ℕ) (step : List X → ℕ → Result (Next X) Cause) : Type
     0 where
@@ -41,7 +41,7 @@ pub record IsSpelled {X : Type 0} (spells : List ℕ → X → Type 0) (ends : L
   pub end : (before : List X) (at next : ℕ) → step before at ≡ Ok (End next)
       → EndStands ends bytes at next
 
--- and what stands there and is good is what it answers
+-- if an encoding of a valid item is at the offset, the step returns the item
 pub record IsRead {X : Type 0} (spells : List ℕ → X → Type 0) (ends : List ℕ → Type 0)
     (good : List X → X → Type 0) (bytes : List ℕ) (step : List X → ℕ → Result (Next X) Cause) : Type
     0 where
@@ -125,7 +125,7 @@ read_list spells ends good bytes step read before at (x ∷ xs) next items end r
           good_each.1,
     )
 
--- ---- good behind those before it, as a fact about the whole list
+-- ---- validity after the elements before, as a property of the whole list
 
 pub GoodEach-map : {X : Type 0} (g h : List X → X → Type 0)
     → ((before : List X) (x : X) → g before x → h before x) → (before xs : List X)
@@ -143,7 +143,7 @@ GoodEach-both g h before (x ∷ xs) p q = (
       q.1,
 )
 
--- each has P, and a key that none before it has
+-- each element satisfies P, and its key differs from the keys before it
 abbrev pub IsNew : {X : Type 0} → (X → Type 0) → (X → ℕ) → List X → X → Type 0
 IsNew P key before x = P x × (list_any (λ y. key y == key x) before ≡ false)
 
@@ -205,7 +205,7 @@ new_each {X = X} P key before (x ∷ xs) all pairs =
     not_same : (a b : ℕ) → a ≢ b → (a == b) ≡ false
     not_same a b h = grind arith
 
--- there is room for each
+-- fewer than room elements precede the element
 abbrev pub HasRoom : {X : Type 0} → ℕ → List X → X → Type 0
 HasRoom room before x = length before < room
 

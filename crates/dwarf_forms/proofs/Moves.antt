@@ -1,4 +1,4 @@
--- What each read of a declaration's parts takes.
+-- The number of bytes that each read of a part of a declaration consumes.
 use Rattle.std.proofs.Common.{◌≡◌, ℕ, suc, ◌-◌, ◌<◌, ◌≤◌, ℤ, List, [], length, refl, ap, arith}
 use Rattle.std.specs.Prelude.{Option, Some, None, Result, Ok, Err, nat_lt, nat_le, ◌==◌, ◌&&◌, ◌||◌}
 use Rattle.std.specs.Prelude.{is_none}
@@ -21,7 +21,7 @@ use Rattle.dwarf_forms.specs.Tables.{constant_at, attribute_at, attributes_at, h
 use Rattle.dwarf_forms.specs.Tables.{declaration_at}
 use Rattle.dwarf_bytes.proofs.Turns.{Ends, Lists-moves}
 
--- a constant takes bytes or none
+-- a constant has zero or more bytes, and ends within the section
 pub constant_at-moves : (form : ℕ) (section : List ℕ) (at : ℕ) (read : Option ℤ × ℕ)
     → at ≤ length section → constant_at form section at ≡ Ok read
     → (at ≤ read.1) × (read.1 ≤ length section)
@@ -140,7 +140,7 @@ declaration_at-advances room section before at x after h =
         }) x attributes.1 after last).1 in
         (omega (arith, front.0, moved.0, place), omega (arith, moved.1, place)))
 
--- what is read of the attributes, from what is read of their list
+-- the attributes that are read, from the list that is read
 pub attributes_ok : (section : List ℕ) (at : ℕ) (read : List AttributeSpecification × ℕ)
     → items_from (length section) (attribute_at section) [] at ≡ Ok read
     → attributes_at section at ≡ Ok read

@@ -1,4 +1,4 @@
--- The names of a declaration, the first few in a list and those behind them in a set.
+-- The names of a declaration: the first few in a list, and the later ones in a set.
 use Rattle.std.proofs.Common.{◌≡◌, ℕ, ◌<◌, ◌≤◌, List, [], ◌∷◌, ◌++◌, length, take, drop, Bool, true}
 use Rattle.std.proofs.Common.{false, cond, refl, sym, ap, ◌∙◌, arith, take-append-drop, ◌⊎◌, inl}
 use Rattle.std.proofs.Common.{inr}
@@ -26,14 +26,14 @@ front_is xs n = by_length (cases_lt (length xs) n)
         rw all (take_all (length xs) xs (omega arith) ∙ sym (take_all n xs (omega arith)))
     by_length (inr many) = let front : min (length xs) n ≡ n = omega arith in rw front refl
 
--- a name stands in the front or behind it
+-- a name is one of the first n, or a later one
 pub named_parts : (xs : List AttributeSpecification) (n name : ℕ)
     → list_any (named name) xs ≡ (list_any (named name) (take n xs) || list_any (named name)
     (drop n xs))
 named_parts xs n name = ap (λ (ys : List AttributeSpecification). list_any (named name) ys)
     (sym (take-append-drop n xs)) ∙ list_any-append (named name) (take n xs) (drop n xs)
 
--- A name of the first few, and one that is none of them.
+-- A name that is one of the first few, and one that is not.
 pub named_first : (xs front : List AttributeSpecification) (n name : ℕ)
     → front ≡ take (min (length xs) n) xs → list_any (named name) front ≡ true
     → list_any (named name) xs ≡ true
@@ -47,9 +47,9 @@ pub named_later : (xs front : List AttributeSpecification) (later : BTreeSet ℕ
 named_later xs front later n name is held first =
     held name ∙ sym (named_parts xs n name ∙ rw (← front_is xs n, ← is, first) refl)
 
--- ---- the set of the names behind the first few, as the list grows
+-- ---- the set of the later names while the list grows
 
--- as long as there are few, there are none behind them
+-- a list of at most n names has no later ones
 pub held_few : (xs : List AttributeSpecification) (y : AttributeSpecification) (later : BTreeSet ℕ)
     (n : ℕ) → length xs < n → HoldsNames later (drop n xs)
     → HoldsNames later (drop n (xs ++ y ∷ []))
@@ -60,7 +60,7 @@ held_few xs y later n few held name =
     held name ∙ ap (λ (ys : List AttributeSpecification). list_any (named name) ys)
     (none ∙ sym none_more)
 
--- one more name behind the first few is put into the set
+-- a name after the first n is inserted into the set
 pub held_more : (xs : List AttributeSpecification) (y : AttributeSpecification)
     (later next : BTreeSet ℕ) (n : ℕ) → n ≤ length xs
     → ((q : ℕ) → contains nat_cmp next q ≡ cond (is_at (nat_cmp y.name) q) true

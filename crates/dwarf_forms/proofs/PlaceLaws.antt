@@ -1,4 +1,4 @@
--- The places of attributes, one behind another, and the lists that are read from them on.
+-- The offsets of consecutive attributes, and the lists that are read from them on.
 use Rattle.std.proofs.Common.{◌≡◌, ◌≢◌, ℕ, zero, suc, ◌+◌, ◌-◌, ◌<◌, ◌≤◌, List, [], ◌∷◌, ◌++◌}
 use Rattle.std.proofs.Common.{length, drop, get_or, refl, ap, sym, ◌∙◌, subst, arith, length-append}
 use Rattle.std.specs.Prelude.{Ok}
@@ -11,7 +11,7 @@ use Rattle.dwarf_forms.specs.Private.Shared.{StandAt, place_behind, place_after,
 use Rattle.dwarf_forms.proofs.JoinedLaws.{attribute-again}
 use Rattle.dwarf_forms.proofs.JoinedLists.{attributes-behind}
 
--- ---- places
+-- ---- offsets
 
 pub behind-is : (section : List ℕ) (before : List AttributeSpecification) (at : ℕ)
     (x : AttributeSpecification) (after : ℕ) → attribute_at section before at ≡ Ok (Item x after)
@@ -42,7 +42,7 @@ places_from-at section (suc n) at zero d lt = refl
 places_from-at section (suc n) at (suc i) d lt =
     places_from-at section n (place_behind section at) i d (omega (arith, lt))
 
--- what is read from the place after some attributes is what is behind them
+-- the read from the offset after n attributes gives the rest of the list
 pub after-stands : (section : List ℕ) (n at : ℕ) (xs : List AttributeSpecification) (after : ℕ)
     → attributes_at section at ≡ Ok (xs, after) → n ≤ length xs
     → attributes_at section (place_after section at n) ≡ Ok (drop n xs, after)
@@ -62,7 +62,7 @@ drop-both (suc n) (suc i) m [] is = sym (drop_all m [] (omega arith))
 drop-both (suc n) i zero (x ∷ xs) is = absurd (omega (arith, is))
 drop-both (suc n) i (suc m) (x ∷ xs) is = drop-both n i m xs (omega (arith, is))
 
--- from each of the places of a list, but the first ones, the list is read
+-- the rest of a list is read from the offset of each attribute after the first few
 pub places-stand : (section : List ℕ) (first few : ℕ) (own rest : List AttributeSpecification)
     (after : ℕ) (places : List ℕ) → attributes_at section first ≡ Ok (own ++ rest, after)
     → places ≡ drop few (places_from section first (length own))
@@ -93,7 +93,7 @@ places-length section first few own places are =
     ∙ (ap (λ (k : ℕ). k - few) (places_from-length section (length own) first)
     ∙ sym (length-drop few own)))
 
--- one more attribute is read: its place is kept, unless it is one of the first ones
+-- one more attribute is read: its offset is recorded unless it is one of the first few
 pub places-more : (section : List ℕ) (first few : ℕ) (own : List AttributeSpecification)
     (x : AttributeSpecification) (places : List ℕ) (at : ℕ) → few ≤ length own
     → at ≡ place_after section first (length own)
@@ -137,7 +137,7 @@ after-more section first own x at after is read =
     ∙ (ap (λ (k : ℕ). place_behind section k) (sym is) ∙ behind-is section own at x after
     read)))
 
--- attributes of one list stand at different places
+-- the attributes of a list are at different offsets
 pub stand-apart : (section : List ℕ) (places : List ℕ)
     (attributes rest : List AttributeSpecification) (after i k d : ℕ)
     → StandAt section places attributes rest after → length places ≡ length attributes → i < k

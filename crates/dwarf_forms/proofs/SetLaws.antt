@@ -1,4 +1,4 @@
--- Sets of names, as branches are put beside them.
+-- Sets of names while nodes are added.
 use Rattle.std.proofs.Common.{◌≡◌, ◌≢◌, ◌⊎◌, inl, inr, ℕ, zero, suc, ◌+◌, ◌/◌, ◌%◌, ◌<◌, ◌≤◌, List}
 use Rattle.std.proofs.Common.{[], ◌∷◌, ◌++◌, length, reverse, get_or, Bool, true, false, refl, ap}
 use Rattle.std.proofs.Common.{sym, ◌∙◌, subst, arith, length-append}
@@ -29,7 +29,7 @@ is_in-more bs set name more =
     ∙ reverse-append (digits_of 2 (name / 2)) (name % 2 ∷ []) in
     ap (λ (ys : List ℕ). (branch_along bs set ys).ends) bits
 
--- ---- branches
+-- ---- nodes
 
 pub branch-last : (bs now : List Branch) (set : ℕ) (b : Branch) → set ≡ length bs
     → now ≡ bs ++ b ∷ [] → branch_at now set ≡ b
@@ -61,7 +61,7 @@ side-within count bit b within = by_test (bit == 0)
     by_test true = within.0
     by_test false = within.1
 
--- the bits lead the same way where branches are added
+-- bits lead to the same node after nodes are added
 along-stays : (bs more : List Branch) (bits : List ℕ) (set : ℕ) → AreSets bs → set < length bs
     → branch_along (bs ++ more) set bits ≡ branch_along bs set bits
 along-stays bs more [] set sets lt = branch-before bs more set lt
@@ -79,7 +79,7 @@ stay-more bs now more sets is =
           (along-stays bs more (reverse (digits_of 2 name)) set sets lt);
     })
 
--- ---- how many branches there are more
+-- ---- the number of added nodes
 
 pub put-few : {E : Type 0} (old new : List Branch) (b : Branch) (r : Result ℕ E)
     → IfOk r (λ set. (set ≡ length old) × (new ≡ old ++ b ∷ [])) → OnErr r (new ≡ old)
@@ -87,7 +87,7 @@ pub put-few : {E : Type 0} (old new : List Branch) (b : Branch) (r : Result ℕ 
 put-few old new b (Ok set) made none = omega (arith, ap length made.1, length-append old (b ∷ []))
 put-few old new b (Err e) made none = omega (arith, ap length none)
 
--- at most one for each bit of a name, and one more
+-- at most one more node for each bit of a name, and one more
 abbrev pub HasFewMore : List Branch → List Branch → ℕ → Type 0
 HasFewMore old new name = length new ≤ length old + length (digits_of 2 name) + 1
 
@@ -139,7 +139,7 @@ more-ends old new set more name b ended there lt within none last is ends stay x
         (side-within (length old) (suc n % 2) b within)
         ∙ (sym old_way ∙ sym (ap (λ (t : Bool). t || is_in old set (suc n)) apart)))
 
--- a name with more bits, of which the rest is in the set behind the first
+-- a name with more bits; the set for the rest of its bits has the rest of the name
 pub more-bits : (old mid new : List Branch) (set behind more name : ℕ) (b turned : Branch)
     → b ≡ branch_at old set → IsWithin (length old) b → 0 < name → more ≡ length mid
     → new ≡ mid ++ turned ∷ [] → behind < length mid
@@ -202,7 +202,7 @@ more-bits old mid new set behind more name b turned there within some last is in
         ∙ (by_side n (suc n % 2 == name % 2) refl ∙ ap (λ (t : Bool). (suc n == name) || t)
         (sym old_way)))
 
--- the set of no names
+-- the empty set has no names
 pub none-in : (bs : List Branch) (name : ℕ) → bs ≡ no_names ∷ [] → is_in bs 0 name ≡ false
 unfolding is_in
 none-in bs name is = ap (λ (cs : List Branch). is_in cs 0 name) is

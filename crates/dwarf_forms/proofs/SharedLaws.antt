@@ -1,5 +1,4 @@
--- Lists of attributes that are read up to their end or to a place that is known, and are known from
--- then on.
+-- Attribute lists that are read up to their end or to a memoized attribute, and are then memoized.
 use Rattle.std.proofs.Common.{◌≡◌, ◌≢◌, ℕ, zero, suc, ◌+◌, ◌<◌, ◌≤◌, List, [], ◌∷◌, ◌++◌, length}
 use Rattle.std.proofs.Common.{take, drop, get_or, true, false, refl, ap, sym, ◌∙◌, subst, arith}
 use Rattle.std.proofs.Common.{length-append, append_assoc, take-append-drop}
@@ -19,7 +18,7 @@ use Rattle.dwarf_forms.proofs.KnownListLaws.{from-last}
 use Rattle.dwarf_forms.proofs.KnownLaws.{known-at}
 use Rattle.dwarf_forms.proofs.PlaceLaws.{stand-apart, places-length, places-stand}
 
--- ---- what was read
+-- ---- the attributes that were read
 
 pub stretch-is : (lists : KnownPlaces) (bytes : List ℕ) (first after : ℕ) (stretch : Stretch)
     → bytes ≡ lists.section → attributes_at bytes first
@@ -59,14 +58,14 @@ stretch-stand lists first after stretch is =
     places-stand lists.section first UNSHARED stretch.attributes.items
     (rest_attributes lists.known stretch.rest) after stretch.places.items is.read is.places
 
--- no known attribute stands at a place where none was found
+-- if the lookup of an offset finds nothing, no memoized attribute is there
 pub unknown-place : (known : List KnownAttribute) (found : Option ℕ) (count place : ℕ)
     → IfNone found (UNSHARED ≤ count → IsUnknown known place)
     → ((number : ℕ) → found ≡ Some number → ⊥) → UNSHARED ≤ count → IsUnknown known place
 unknown-place known None count place unknown none many = unknown many
 unknown-place known (Some number) count place unknown none many = absurd (none number refl)
 
--- the first attributes and those behind them are all
+-- the first attributes and the rest are the whole list
 pub shared-whole : (old new : List KnownAttribute) (attributes own : List AttributeSpecification)
     (rest next : Option ℕ) (n : ℕ) → own ≡ take n attributes
     → rest_attributes new next ≡ drop n attributes ++ rest_attributes old rest
@@ -78,7 +77,7 @@ shared-whole old new attributes own rest next n first behind =
     ∙ (ap (λ (ys : List AttributeSpecification). take n attributes ++ ys) (sym behind)
     ∙ ap (λ (ys : List AttributeSpecification). ys ++ rest_attributes new next) (sym first)))
 
--- ---- what is known grows
+-- ---- more memoized attributes
 
 pub grows-put : (old now new : KnownPlaces) (number place : ℕ) (attribute : AttributeSpecification)
     (next : Option ℕ) (after : ℕ) → Grows old now → new.section ≡ now.section
@@ -99,7 +98,7 @@ grows-put old now new number place attribute next after grown section put =
           ∙ append_assoc old.known grown.more (last ∷ []));
     }
 
--- ---- attributes that are put, the last of them first
+-- ---- attributes that are memoized, the last of them first
 
 pub record PutFrom (old now : KnownPlaces) (attributes : List AttributeSpecification)
     (places : List ℕ) (rest : List AttributeSpecification) (next : Option ℕ) (left : ℕ) : Type 0
@@ -119,7 +118,7 @@ unknown-put known k place unknown apart =
     unlike : (a b : ℕ) → a ≢ b → (a == b) ≡ false
     unlike a b h = grind arith
 
--- one more is put
+-- one more attribute is memoized
 pub put-turn : (old now new : KnownPlaces) (attributes : List AttributeSpecification)
     (places : List ℕ) (rest : List AttributeSpecification) (next : Option ℕ)
     (left k number d after : ℕ) (e : AttributeSpecification)

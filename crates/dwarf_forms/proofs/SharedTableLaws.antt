@@ -1,4 +1,4 @@
--- Tables whose declarations share attributes, as what is known grows and as they are read.
+-- Tables with shared suffixes of attribute lists, while more attributes are memoized.
 use Rattle.std.proofs.Common.{◌≡◌, ℕ, inl, inr, List, [], ◌∷◌, ◌++◌, length, true, suc, refl, ap}
 use Rattle.std.proofs.Common.{sym, ◌∙◌, subst, arith, length-append, append_assoc}
 use Rattle.std.specs.Prelude.{Option, Some, None, Ok, Err, map}
@@ -24,7 +24,7 @@ use Rattle.dwarf_forms.proofs.KnownListLaws.{rest-stays}
 abbrev pub code_of : SharedDeclaration → ℕ
 code_of declaration = declaration.code
 
--- ---- what is known grows
+-- ---- more memoized attributes
 
 pub rest-grows : (old new : KnownPlaces) (rest : Option ℕ) → Grows old new → IsKnown old.known rest
     → IsKnown new.known rest
@@ -41,7 +41,7 @@ pub told-grows : (old new : KnownPlaces) (table : List SharedDeclaration) → Gr
     → AreTold old.known table → AreTold new.known table
 told-grows old new table grown are = λ k d lt. shared-grows old new _ grown (are k d lt)
 
--- what was told of a table stays
+-- the declarations of a table do not change when more attributes are memoized
 pub told-stays : (old new : KnownPlaces) (table : List SharedDeclaration) → Grows old new
     → AreTold old.known table → tell new.known table ≡ tell old.known table
 told-stays old new [] grown are = refl
@@ -69,7 +69,7 @@ grows-both a b c first second = record {
       ∙ append_assoc a.known first.more second.more);
 }
 
--- .. and so does what was read so far
+-- .. nor does the part of the table that was read so far
 pub so_far-told : (room first : ℕ) (bytes : List ℕ) (at : ℕ) (old new : KnownPlaces)
     (table : List SharedDeclaration) → Grows old new → AreTold old.known table
     → SoFar (length bytes) (declaration_at room bytes) first (tell old.known table) at

@@ -1,4 +1,4 @@
--- Tables that are spelled, and tables that are read.
+-- The encoding of tables, in both directions.
 use Rattle.std.proofs.Common.{◌≡◌, ℕ, suc, ◌+◌, ◌-◌, ◌≤◌, List, [], ◌++◌, length, take, refl, sym}
 use Rattle.std.proofs.Common.{ap, ◌∙◌, arith}
 use Rattle.std.specs.Prelude.{Ok}
@@ -18,8 +18,8 @@ use Rattle.dwarf_forms.proofs.TableSpelling.{DeclarationFits, declaration_spelle
 
 -- ---- tables
 
--- A table is read exactly where one is spelled that is good and has no more declarations than there
--- is room for.
+-- A table is read if and only if an encoding of it is at the offset, it is valid, and it has at
+-- most room declarations.
 pub table_spelled : (room : ℕ) (section : List ℕ) (at : ℕ) (table : List Declaration) (next : ℕ)
     → table_at room section at ≡ Ok (table, next) → StandsAt SpellsTable section at table next
     × AreGood table × (length table ≤ room)
@@ -70,7 +70,7 @@ table_read room section at table next s good few =
     s.spelled.declarations s.spelled.end s.rest whole s.spelled.declarations_are s.spelled.ends
     fits)
 
--- Two good tables with which the same bytes begin are one.
+-- Two valid tables encoded at the start of the same bytes are equal.
 pub one_table : (a b x y : List ℕ) (s t : List Declaration) → SpellsTable a s → AreGood s
     → SpellsTable b t → AreGood t → a ++ x ≡ b ++ y → (a ≡ b) × (s ≡ t)
 one_table a b x y s t is good_s js good_t e =

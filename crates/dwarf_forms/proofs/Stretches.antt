@@ -1,4 +1,4 @@
--- Stretches of bytes one after another, and the reads of fields as what stands there.
+-- Contiguous ranges of bytes, and the reads of fields in them.
 use Rattle.std.proofs.Common.{◌≡◌, ℕ, ◌+◌, ◌<◌, ◌≤◌, List, [], ◌++◌, length, take, drop, false}
 use Rattle.std.proofs.Common.{refl, sym, ap, ◌∙◌, subst, arith, append_assoc, length-append}
 use Rattle.std.proofs.Common.{length-take, length-drop, take-append-drop}
@@ -8,7 +8,7 @@ use Rattle.std.proofs.lemmas.Bool.{le-ltb}
 use Rattle.dwarf_bytes.specs.Numbers.{StandsAt, block_at, fixed_at, little_endian}
 use Rattle.dwarf_bytes.proofs.Moves.{fixed_at-moves}
 
--- the stretch from one place to another, and what follows it
+-- the range from one offset to another, and the bytes after it
 pub record Stretch (bytes : List ℕ) (at : ℕ) (stretch : List ℕ) (next : ℕ) (rest : List ℕ) : Type 0
   where
     pub parts : drop at bytes ≡ stretch ++ rest
@@ -24,7 +24,7 @@ pub stands_from : {X : Type 0} (Spells : List ℕ → X → Type 0) (bytes : Lis
 stands_from Spells bytes at value next front rest s spelled =
     record { front = front; rest = rest; spelled = spelled; parts = s.parts; next_is = s.next_is }
 
--- what follows a stretch is what stands behind it
+-- the bytes after a range start at its end
 pub behind : (bytes : List ℕ) (at : ℕ) (stretch : List ℕ) (next : ℕ) (rest : List ℕ)
     → Stretch bytes at stretch next rest → drop next bytes ≡ rest
 behind bytes at stretch next rest s =
@@ -33,7 +33,7 @@ behind bytes at stretch next rest s =
     ∙ (ap (λ (b : List ℕ). drop (length stretch) b) s.parts
     ∙ drop_at stretch rest (length stretch) refl))
 
--- two stretches one after the other are one
+-- two contiguous ranges form one range
 pub joined : (bytes : List ℕ) (at : ℕ) (a b : List ℕ) (mid next : ℕ) (r rest : List ℕ)
     → Stretch bytes at a mid r → Stretch bytes mid b next rest → Stretch bytes at (a ++ b) next rest
 joined bytes at a b mid next r rest s t = record {
@@ -42,7 +42,7 @@ joined bytes at a b mid next r rest s t = record {
   next_is = omega (arith, s.next_is, t.next_is, length-append a b);
 }
 
--- and one stretch of two parts is two
+-- a range of two parts consists of two ranges
 pub first_part : (bytes : List ℕ) (at : ℕ) (a b : List ℕ) (next : ℕ) (rest : List ℕ)
     → Stretch bytes at (a ++ b) next rest → Stretch bytes at a (at + length a) (b ++ rest)
 first_part bytes at a b next rest s = record
@@ -60,11 +60,11 @@ pub respelled : (bytes : List ℕ) (at : ℕ) (a b : List ℕ) (next : ℕ) (res
 respelled bytes at a b next rest same s =
     subst (λ (x : List ℕ). Stretch bytes at x next rest) same s
 
--- no bytes stand anywhere
+-- an empty range
 pub nothing : (bytes : List ℕ) (at : ℕ) → Stretch bytes at [] at (drop at bytes)
 nothing bytes at = record { parts = refl; next_is = omega arith }
 
--- a stretch reaches no further than the bytes do
+-- a nonempty range ends within the bytes
 pub within : (bytes : List ℕ) (at : ℕ) (stretch : List ℕ) (next : ℕ) (rest : List ℕ)
     → Stretch bytes at stretch next rest → 0 < length stretch → next ≤ length bytes
 within bytes at stretch next rest s some =

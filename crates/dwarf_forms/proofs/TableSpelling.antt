@@ -1,4 +1,4 @@
--- The reads of declarations and tables as what is spelled and good, in both directions.
+-- Declarations and tables are read if and only if they are encoded and valid.
 use Rattle.std.proofs.Common.{◌≡◌, ◌≢◌, ℕ, ◌+◌, List, [], ◌∷◌, ◌++◌, length, Bool, refl, sym, ap}
 use Rattle.std.proofs.Common.{◌∙◌, subst, arith, append_assoc}
 use Rattle.std.specs.Prelude.{Result, Ok, All, AllPairs, if◌then◌else◌}
@@ -21,7 +21,7 @@ use Rattle.dwarf_forms.proofs.AttributeReads.{SpellsAttributes, GoodAttributes, 
 use Rattle.dwarf_forms.proofs.AttributeReads.{attributes_read}
 use Rattle.dwarf_forms.proofs.HeadSpelling.{SpellsHead, head_spelled, head_end, head_read}
 
--- what is asked of a declaration behind those before it
+-- the conditions on a declaration that depend on the ones before it
 abbrev pub DeclarationFits : ℕ → List Declaration → Declaration → Type 0
 DeclarationFits room before declaration = HasRoom room before declaration
     × IsNew IsGood (λ d. d.code) before declaration

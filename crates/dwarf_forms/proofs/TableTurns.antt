@@ -1,4 +1,4 @@
--- The turns of the loop over the declarations of a table.
+-- The iterations of the loop over the declarations of a table.
 use Rattle.std.proofs.Common.{◌≡◌, ℕ, ◌+◌, ◌<◌, ◌≤◌, ◌⊎◌, inl, inr, List, [], ◌∷◌, length, Bool}
 use Rattle.std.proofs.Common.{true, false, refl, sym, ap, ◌∙◌, subst, arith, length-append}
 use Rattle.std.specs.Prelude.{Result, Ok, Err, nat_le, ◌==◌, IsOk, ◌↔◌}
@@ -25,7 +25,7 @@ use Rattle.dwarf_forms.specs.Private.TableSteps.{ExtendsTable}
 use Rattle.dwarf_forms.proofs.Moves.{declaration_at-advances}
 use Rattle.dwarf_bytes.proofs.Turns.{SoFar, so_far-none, so_far-item, so_far-end, so_far-fault}
 
--- a declaration is read only where there is room for one more
+-- a declaration is read only if fewer than room precede it
 head_at-room : (room : ℕ) (section : List ℕ) (before : List Declaration) (at : ℕ) (head : Head)
     (after : ℕ) → head_at room section before at ≡ Ok (Item head after) → length before < room
 head_at-room room section before at head after h =
@@ -57,7 +57,7 @@ declaration_at-room room section before at x after h =
     by_head (End end) is h = cc
     by_head (Item head mid) is h = head_at-room room section before at head mid is
 
--- what a turn with a declaration leaves
+-- the effect of an iteration that reads a declaration
 pub record Turn (room first : ℕ) (bytes : List ℕ) (after : List Declaration)
     (old new : Position) : Type 0 where
   pub bytes_stay : new.bytes ≡ bytes
@@ -107,7 +107,7 @@ turn_end room first bytes before after old new false same so_far step is =
     first before old.place new.place so_far here)
     (ap (λ (xs : List Declaration). Ok xs) (sym step.1))
 
--- the fault that is told is want of memory, or the cause itself
+-- the reported fault is out of memory, or has the cause and the offset
 told_cases : (section : Section) (cause : Cause) (at : ℕ) → (told section cause at ≡ memory_fault)
     ⊎ (told section cause at ≡ record { section = section; cause = cause; at = at })
 told_cases section causes.Memory at = inl refl
@@ -159,7 +159,7 @@ outside room bytes offset h =
     offset [] offset causes.Short (so_far-none (length bytes) (declaration_at room bytes)
     offset) none) refl
 
--- a seek fails past the end alone
+-- a seek fails only past the end
 pub past_end : {A E : Type 0} (sought : Result A E) (failed : Bool) (place len : ℕ)
     → failed ≡ is_err sought → failed ≡ true → (IsOk sought ↔ (place ≤ len)) → len < place
 past_end {A = A} {E = E} sought failed place len is bad within = by_order (cases_lt len place)

@@ -1,4 +1,4 @@
--- The reads of values as what is spelled, in both directions.
+-- Values are read if and only if they are encoded, in both directions.
 use Rattle.std.proofs.Common.{◌≡◌, ℕ, ◌+◌, ℤ, List, [], ◌++◌, length, take, drop, refl, sym, ap}
 use Rattle.std.proofs.Common.{◌∙◌, subst, arith}
 use Rattle.std.specs.Prelude.{Option, Some, None, Result, Ok, Err}
@@ -184,7 +184,7 @@ value_reads form format constant bytes at value next s = by_form (form_of form) 
         (second_part bytes at spelled.front spelled.rest next s.rest both) spelled.value_is) in
         rw (inner, read) refl
 
--- Two spellings with which the same bytes begin are one.
+-- Two encodings at the start of the same bytes are equal.
 pub one_value : (form : ℕ) (format : Format) (constant : Option ℤ) (a b x y : List ℕ) (v w : Value)
     → Spells form format constant a v → Spells form format constant b w → a ++ x ≡ b ++ y
     → (a ≡ b) × (v ≡ w)

@@ -1,4 +1,4 @@
--- Abbreviation declarations (DWARF 5, 7.5.3): what a table says, and how it is spelled.
+-- The contents and the encoding of abbreviation declarations (DWARF 5, 7.5.3).
 use Rattle.std.specs.Prelude.{◌≡◌, ◌≢◌, ℕ, ℤ, List, [], ◌∷◌, ◌++◌, Bool, Option, Some, None, IsSome}
 use Rattle.std.specs.Prelude.{if◌then◌else◌, All, AllPairs}
 use Rattle.dwarf_bytes.specs.declared.constants.TheConstants.{DW_FORM_IMPLICIT_CONST}
@@ -12,12 +12,12 @@ pub record Declaration : Type 0 where
   pub children : Bool
   pub attributes : List AttributeSpecification
 
--- A signed LEB128 constant stands behind DW_FORM_implicit_const, and nothing behind another form.
+-- DW_FORM_implicit_const is followed by a signed LEB128 constant, and other forms by nothing.
 abbrev pub SpellsConstant : ℕ → List ℕ → Option ℤ → Type 0
 SpellsConstant form bytes None = (form ≢ DW_FORM_IMPLICIT_CONST) × (bytes ≡ [])
 SpellsConstant form bytes (Some c) = (form ≡ DW_FORM_IMPLICIT_CONST) × IsSleb bytes c
 
--- The bytes spell an attribute of a declaration: name, form, and the form's constant.
+-- The bytes encode an attribute specification: name, form, and the form's constant.
 pub record SpellsAttribute (bytes : List ℕ) (attribute : AttributeSpecification) : Type 0 where
   pub name : List ℕ
   pub form : List ℕ
@@ -27,13 +27,13 @@ pub record SpellsAttribute (bytes : List ℕ) (attribute : AttributeSpecificatio
   pub form_is : IsUleb form attribute.form
   pub constant_is : SpellsConstant attribute.form constant attribute.constant
 
--- Stretches of the bytes spell the elements, one after another.
+-- Consecutive ranges of the bytes encode the elements, in order.
 abbrev pub SpellsEach : {X : Type 0} → (List ℕ → X → Type 0) → List ℕ → List X → Type 0
 SpellsEach spells bytes [] = bytes ≡ []
 SpellsEach spells bytes (x ∷ xs) =
     (front rest : List ℕ) × (bytes ≡ front ++ rest) × spells front x × SpellsEach spells rest xs
 
--- The attributes are ended by a name 0 and a form 0.
+-- A name 0 and a form 0 end the attributes.
 pub record EndsAttributes (bytes : List ℕ) : Type 0 where
   pub name : List ℕ
   pub form : List ℕ
@@ -41,7 +41,7 @@ pub record EndsAttributes (bytes : List ℕ) : Type 0 where
   pub name_is : IsUleb name 0
   pub form_is : IsUleb form 0
 
--- The bytes spell a declaration: code, tag, children, its attributes, and their end.
+-- The bytes encode a declaration: code, tag, children, its attributes, and their end.
 pub record SpellsDeclaration (bytes : List ℕ) (declaration : Declaration) : Type 0 where
   pub code : List ℕ
   pub tag : List ℕ
@@ -54,7 +54,7 @@ pub record SpellsDeclaration (bytes : List ℕ) (declaration : Declaration) : Ty
   pub attributes_are : SpellsEach SpellsAttribute attributes declaration.attributes
   pub ends : EndsAttributes end
 
--- The bytes spell a table: its declarations, and the code 0.
+-- The bytes encode a table: its declarations, and the code 0.
 pub record SpellsTable (bytes : List ℕ) (table : List Declaration) : Type 0 where
   pub declarations : List ℕ
   pub end : List ℕ
@@ -62,14 +62,15 @@ pub record SpellsTable (bytes : List ℕ) (table : List Declaration) : Type 0 wh
   pub declarations_are : SpellsEach SpellsDeclaration declarations table
   pub ends : IsUleb end 0
 
--- A declaration is good: no code 0, no name 0, each form one that is read, and no name twice.
+-- A declaration is valid: its code and names are not 0, its forms are supported, and its names are
+-- distinct.
 pub record IsGood (declaration : Declaration) : Type 0 where
   pub code : declaration.code ≢ 0
   pub named : All (λ attribute. attribute.name ≢ 0) declaration.attributes
   pub forms : All (λ attribute. IsSome (form_of attribute.form)) declaration.attributes
   pub once : AllPairs (λ a b. a.name ≢ b.name) declaration.attributes
 
--- A table is good: each declaration is, and no code stands twice.
+-- A table is valid: its declarations are valid, and their codes are distinct.
 pub record AreGood (table : List Declaration) : Type 0 where
   pub each : All IsGood table
   pub once : AllPairs (λ a b. a.code ≢ b.code) table

@@ -1,4 +1,4 @@
--- Reading a table of abbreviation declarations (DWARF 5, 7.5.3), up to its first fault.
+-- The read of an abbreviation table (DWARF 5, 7.5.3), up to its first fault.
 use Rattle.std.specs.Prelude.{ℕ, ℤ, List, [], length, Option, Some, None, is_none, Result, Ok}
 use Rattle.std.specs.Prelude.{Bool, nat_lt, nat_le, ◌==◌, ◌||◌, ◌&&◌, if◌then◌else◌}
 use Rattle.std.specs.List.{list_any}
@@ -13,13 +13,13 @@ use Rattle.dwarf_forms.specs.declared.declaration.Head.{Head}
 use Rattle.dwarf_forms.specs.Declarations.{Declaration}
 use Rattle.dwarf_bytes.specs.declared.constants.TheConstants.{DW_FORM_IMPLICIT_CONST}
 
--- the constant that stands behind a form in a declaration
+-- the constant that follows a form in a declaration
 abbrev pub constant_at : ℕ → List ℕ → ℕ → Result (Option ℤ × ℕ) Cause
 constant_at form section at =
     if form == DW_FORM_IMPLICIT_CONST
     then (reading (sleb_at section at) >>= λ c. Ok (Some c.0, c.1)) else Ok (None, at)
 
--- the attribute at a place, behind those before it in its declaration
+-- the attribute at an offset, after the ones before it in its declaration
 abbrev pub attribute_at : List ℕ → List AttributeSpecification → ℕ
     → Result (Next AttributeSpecification) Cause
 attribute_at section before at = do
@@ -40,8 +40,8 @@ abbrev pub shares_name : List AttributeSpecification → List AttributeSpecifica
 shares_name own rest =
     list_any (λ attribute. list_any (λ other. other.name == attribute.name) rest) own
 
--- what stands before the attributes, behind the declarations before it in its table, which may have
--- so many
+-- the fields of a declaration before its attributes, after the declarations before it in its table;
+-- room is the maximum number of declarations of the table
 abbrev pub head_at : ℕ → List ℕ → List Declaration → ℕ → Result (Next Head) Cause
 head_at room section before at = do
   code ← reading (uleb_at section at)
@@ -53,7 +53,7 @@ head_at room section before at = do
     _ ← refuse_if (nat_lt 1 children.0) causes.Children
     Ok (Item (record { code = code.0; tag = tag.0; children = children.0 == 1 }) children.1)
 
--- the declaration at a place
+-- the declaration at an offset
 abbrev pub declaration_at : ℕ → List ℕ → List Declaration → ℕ → Result (Next Declaration) Cause
 declaration_at room section before at = head_at room section before at >>= λ next. elim next [
   | End after ↦ Ok (End after)
@@ -66,10 +66,10 @@ declaration_at room section before at = head_at room section before at >>= λ ne
       }) attributes.1)
 ]
 
--- the table at an offset, of so many declarations at most, and the place after it
+-- the table at an offset with at most room declarations, and the offset after it
 unfoldable pub table_at : ℕ → List ℕ → ℕ → Result (List Declaration × ℕ) At
 table_at room section offset = items_from (length section) (declaration_at room section) [] offset
 
--- its declarations alone
+-- the declarations of the table, without the offset
 abbrev pub declarations_of : ℕ → List ℕ → ℕ → Result (List Declaration) At
 declarations_of room section offset = table_at room section offset >>= λ table. Ok table.0

@@ -1,4 +1,4 @@
--- The values of attributes (DWARF 5, 7.5.5 and 7.5.6): how a form spells one, and how it is read.
+-- Attribute values (DWARF 5, 7.5.5 and 7.5.6): how a form encodes a value, and how it is read.
 use Rattle.std.specs.Prelude.{◌≡◌, ℕ, ℤ, List, [], ◌++◌, Option, Some, None, Result, Ok, Err}
 use Rattle.dwarf_bytes.specs.Bind.{◌>>=◌}
 use Rattle.dwarf_bytes.specs.Numbers.{IsUleb, uleb_at}
@@ -13,23 +13,23 @@ use Rattle.dwarf_forms.specs.declared.values.Value.{Value as Lent}
 use Rattle.dwarf_forms.specs.declared.values.ValueFault.{ValueFault}
 use Rattle.dwarf_forms.specs.declared.values.ValueFault.TheVariants.{Read, Form}
 
--- a value with its form, wherever its bytes lie
+-- a value with its form, independent of where its bytes are stored
 pub record Value : Type 0 where
   pub form : ℕ
   pub content : Content
 
--- a value of the program
+-- the model of a value of the program
 abbrev pub value_of : Lent → Value
 value_of value = record { form = value.form; content = content_of value.content }
 
--- The bytes spell the value in this form, which is neither indirect nor one whose value stands in
--- the declaration.
+-- The bytes encode the value in this form, which is neither indirect nor one whose value is in the
+-- declaration.
 abbrev pub SpellsDirectly : ℕ → Format → List ℕ → Value → Type 0
 SpellsDirectly form format bytes value =
     (layout : ValueLayout) × (form_of form ≡ Some (Direct layout))
     × SpellsContent layout format bytes value.content × (value.form ≡ form)
 
--- The bytes are the number of a form, and behind it a value in that form.
+-- The bytes encode a form, followed by a value in that form.
 pub record SpellsIndirectly (format : Format) (bytes : List ℕ) (value : Value) : Type 0 where
   pub front : List ℕ
   pub rest : List ℕ
@@ -37,7 +37,7 @@ pub record SpellsIndirectly (format : Format) (bytes : List ℕ) (value : Value)
   pub form_is : IsUleb front value.form
   pub value_is : SpellsDirectly value.form format rest value
 
--- The bytes spell the value in this form, in a unit of the format; the constant is that of the
+-- The bytes encode the value in this form, in a unit of the format; the constant is that of the
 -- declaration.
 abbrev pub Spells : ℕ → Format → Option ℤ → List ℕ → Value → Type 0
 Spells form format constant bytes value = elim (form_of form) [
@@ -48,12 +48,12 @@ Spells form format constant bytes value = elim (form_of form) [
   | Some Indirect ↦ SpellsIndirectly format bytes value
 ]
 
--- a read, its fault as one of a value
+-- a read whose fault is converted into one of a value
 abbrev pub reading_value : {X : Type 0} → Result X ReadFault → Result X ValueFault
 reading_value (Ok x) = Ok x
 reading_value (Err fault) = Err (Read fault)
 
--- the value at a place in a form that is neither indirect nor one whose value stands in the
+-- the value at an offset in a form that is neither indirect nor one whose value is in the
 -- declaration
 unfoldable pub direct_at : ℕ → Format → List ℕ → ℕ → Result (Value × ℕ) ValueFault
 direct_at form format bytes at = elim (form_of form) [
@@ -64,7 +64,7 @@ direct_at form format bytes at = elim (form_of form) [
   | Some Indirect ↦ Err Form
 ]
 
--- the value at a place, and the place after it
+-- the value at an offset, and the offset after it
 unfoldable pub value_at : ℕ → Format → Option ℤ → List ℕ → ℕ → Result (Value × ℕ) ValueFault
 value_at form format constant bytes at = elim (form_of form) [
   | None ↦ Err Form
@@ -78,8 +78,8 @@ value_at form format constant bytes at = elim (form_of form) [
       >>= λ inner. direct_at inner.0 format bytes inner.1
 ]
 
--- What a call gives is what is read at the cursor's place, and the cursor stands after it; after a
--- fault it is as before.
+-- The result of a call is the value read at the cursor's offset, and the cursor moves after it. On
+-- a fault the cursor does not move.
 abbrev pub ReadsValue : Result Lent ValueFault → (List ℕ → ℕ → Result (Value × ℕ) ValueFault)
     → Position → Position → Type 0
 ReadsValue (Ok value) read old new =

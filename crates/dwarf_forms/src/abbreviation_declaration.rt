@@ -1,4 +1,4 @@
-//! Abbreviation declarations whose attributes are shared with others (DWARF 5, 7.5.3).
+//! Abbreviation declarations whose attribute lists share suffixes (DWARF 5, 7.5.3).
 
 ghost use Rattle.std.specs.Prelude.{◌≡◌};
 
@@ -6,7 +6,7 @@ use crate::declaration::Head;
 use crate::shared::SharedList;
 use std::marker::Model;
 
-/// An abbreviation declaration.
+/// An abbreviation declaration, with its attributes as a `SharedList`.
 #[derive(Drop)]
 pub struct AbbreviationDeclaration {
     head: Head,
@@ -38,14 +38,14 @@ impl AbbreviationDeclaration {
         AbbreviationDeclaration { head, list }
     }
 
-    /// The number by which entries name it; never 0.
+    /// Returns the code by which entries refer to the declaration. It is never 0.
     pub fn code(&self) -> u64
         ensures { result ≡ self.now.code }
     {
         self.head.code
     }
 
-    /// What its entries describe (DWARF 5, 7.5.3, table 7.3).
+    /// Returns the tag of the entries (DWARF 5, 7.5.3, table 7.3).
     pub fn tag(&self) -> u64
         ensures { result ≡ self.now.tag }
     {
@@ -59,7 +59,7 @@ impl AbbreviationDeclaration {
         self.head.children
     }
 
-    /// The attributes of its entries.
+    /// Returns the attributes of the entries.
     pub fn list(&self) -> &SharedList
         ensures { result.now ≡ self.now.list }
     {

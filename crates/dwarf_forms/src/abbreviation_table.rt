@@ -1,4 +1,4 @@
-//! Tables of abbreviation declarations whose attributes are shared (DWARF 5, 7.5.3).
+//! Abbreviation tables whose attribute lists share suffixes (DWARF 5, 7.5.3).
 
 ghost use Rattle.std.specs.Prelude.{◌≡◌, ◌+◌, ◌≤◌, ◌==◌, ◌∷◌, ◌++◌, [], false, length, map};
 ghost use Rattle.std.specs.Prelude.{IfOk, IfSome, OnOk, OnErr, position};
@@ -20,8 +20,8 @@ use dwarf_bytes::{Cause, Cursor, LoadFault, Section};
 use std::alloc::{AllocError, Global};
 use std::marker::Model;
 
-/// The declarations of one table of `.debug_abbrev`, in their order. No code stands twice. What is
-/// told of their attributes is known of the section.
+/// The declarations of one table of `.debug_abbrev`, in order, without duplicate codes. Shared
+/// suffixes of their attribute lists are stored in the `KnownLists` of the section.
 #[derive(Drop)]
 pub struct AbbreviationTable {
     declarations: Vec<AbbreviationDeclaration>,
@@ -40,10 +40,10 @@ impl Model for AbbreviationTable {
 }
 
 impl AbbreviationTable {
-    /// The table at an offset from the section's start, up to the code 0 that ends it. `left` is
-    /// how many more declarations may be read; it falls by one for each of the table's. A fault is
-    /// told at the declaration that holds it, in `.debug_abbrev`. What is known of the section's
-    /// lists is not read again, and what is read of them is known from then on.
+    /// Parses the table at `offset` from the start of `.debug_abbrev`, up to the code 0 that ends
+    /// it. `left` is the number of declarations that may still be read; on success it decreases by
+    /// the number of the table's declarations. A fault has the offset of its declaration. Memoized
+    /// suffixes of attribute lists are not re-read, and new ones are memoized in `lists`.
     pub fn read(
         alloc: Global,
         lists: &mut KnownLists<'_>,
@@ -66,14 +66,14 @@ impl AbbreviationTable {
         Ok(table)
     }
 
-    /// The declarations, in their order.
+    /// Returns the declarations, in order.
     pub fn declarations(&self) -> &[AbbreviationDeclaration]
         ensures { result.now ≡ self.now }
     {
         self.declarations.as_slice()
     }
 
-    /// The place of the declaration of a code, counted from 0.
+    /// Returns the index of the declaration with a code, from 0.
     pub fn position(&self, code: u64) -> Option<usize>
         ensures { result ≡ position (λ declaration. declaration.code == code) self.now }
     {
@@ -95,7 +95,7 @@ impl AbbreviationTable {
         self.declarations.len()
     }
 
-    /// Adds a declaration behind the others.
+    /// Appends a declaration.
     fn push(&mut self, declaration: AbbreviationDeclaration) -> Result<(), AllocError>
         requires { list_any (λ known. known.code == declaration.code) self.old ≡ false }
         ensures ok { OnOk result (self.new ≡ self.old ++ declaration ∷ []) }
@@ -110,7 +110,8 @@ impl AbbreviationTable {
         Ok(())
     }
 
-    /// Reads the next declaration and adds it; false where the code 0 stands.
+    /// Reads the next declaration and appends it. Returns `false` at the code 0 that ends the
+    /// table.
     fn extend(
         &mut self,
         alloc: Global,
@@ -133,7 +134,7 @@ impl AbbreviationTable {
         Ok(true)
     }
 
-    /// What stands in the next declaration before its attributes, or none where the code 0 stands.
+    /// Reads the next declaration up to its attributes, or returns `None` at the code 0.
     fn next_head(&self, room: u64, cursor: &mut Cursor) -> Result<Option<Head>, Cause>
         ensures reads { ReadsNext result (λ bytes. head_behind room bytes
             (map (λ declaration. declaration.code) self.now)) cursor.old cursor.new }
@@ -144,7 +145,7 @@ impl AbbreviationTable {
     }
 }
 
-/// The table at the cursor, of `room` declarations at most.
+/// Parses the table at the cursor, with at most `room` declarations.
 fn declarations(
     alloc: Global,
     lists: &mut KnownLists<'_>,

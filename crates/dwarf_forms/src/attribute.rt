@@ -1,4 +1,4 @@
-//! The attributes that a declaration names (DWARF 5, 7.5.3).
+//! The attribute specifications of a declaration (DWARF 5, 7.5.3).
 
 ghost use Rattle.std.specs.Prelude.{◌≡◌, ◌==◌, ◌&&◌, ◌||◌, [], length, drop, is_none};
 ghost use Rattle.std.specs.List.{list_any};
@@ -13,11 +13,10 @@ use dwarf_bytes::{Cause, Cursor, Form};
 use std::alloc::Global;
 use std::collections::BTreeSet;
 
-/// How many names of a declaration are compared one by one; those behind them are in a set.
+/// The number of names of a declaration that are compared one by one. Later names are in a set.
 pub(crate) const FEW: usize = 32;
 
-/// An attribute as a declaration names it: its name, its form, and the constant of
-/// DW_FORM_implicit_const.
+/// An attribute specification: its name, its form, and the constant of DW_FORM_implicit_const.
 #[derive(Clone, Copy, Debug, PartialEq, Eq)]
 pub struct AttributeSpecification {
     pub name: u64,
@@ -25,7 +24,7 @@ pub struct AttributeSpecification {
     pub constant: Option<i64>,
 }
 
-/// The attributes of a declaration, up to the two zeros that end them.
+/// Reads the attribute specifications of a declaration, up to the two zeros that end them.
 pub(crate) fn attributes(
     alloc: Global,
     cursor: &mut Cursor,
@@ -43,8 +42,8 @@ pub(crate) fn attributes(
     Ok(all)
 }
 
-/// The next attribute of a declaration, or none where two zeros end them. `later` are the names of
-/// those before it but the first few.
+/// Reads the next attribute specification, or returns `None` at the two zeros that end them.
+/// `later` contains the names of `before` from index `FEW` on.
 pub(crate) fn next_attribute(
     before: &[AttributeSpecification],
     later: &BTreeSet<u64>,
@@ -98,7 +97,7 @@ fn has_name(attributes: &[AttributeSpecification], name: u64) -> bool
     attributes.iter().any(|attribute| attribute.name == name)
 }
 
-/// The constant behind a form in a declaration.
+/// Reads the constant that follows the form DW_FORM_implicit_const. Other forms have none.
 fn constant(form: u64, cursor: &mut Cursor) -> Result<Option<i64>, Cause>
     ensures { ReadsField (λ constant. constant) result (constant_at form) cursor.old cursor.new }
 {

@@ -1,4 +1,4 @@
-//! Codes of declarations, found by their places (DWARF 5, 7.5.3).
+//! An index of abbreviation codes (DWARF 5, 7.5.3).
 
 ghost use Rattle.std.specs.Prelude.{◌≡◌, ◌==◌, ◌∷◌, ◌++◌, [], false, length, position, OnOk, OnErr};
 ghost use Rattle.std.specs.List.{list_any};
@@ -8,11 +8,11 @@ use std::alloc::{AllocError, Global};
 use std::collections::BTreeMap;
 use std::marker::Model;
 
-/// Codes in their order, none of them twice.
+/// The codes of a table in order, without duplicates.
 #[derive(Drop)]
 pub(crate) struct CodeIndex {
     codes: Vec<u64>,
-    /// The places of the codes that are not their places, counted from 1.
+    /// The index, from 0, of each code that differs from its index + 1.
     moved: BTreeMap<u64, usize>,
 }
 
@@ -37,15 +37,15 @@ impl CodeIndex {
         }
     }
 
-    /// How many codes there are.
+    /// Returns the number of codes.
     pub(crate) fn len(&self) -> usize
         ensures { result ≡ length self.now }
     {
         self.codes.len()
     }
 
-    /// The place of a code, counted from 0. It is found in constant time where codes count up from
-    /// 1, and by the logarithm of their number otherwise.
+    /// Returns the index of a code, from 0. Takes constant time if the codes count up from 1, and
+    /// logarithmic time otherwise.
     pub(crate) fn position(&self, code: u64) -> Option<usize>
         ensures { result ≡ position (λ other. other == code) self.now }
     {
@@ -60,14 +60,14 @@ impl CodeIndex {
         None
     }
 
-    /// Whether a code is one of them.
+    /// Whether the table has the code.
     pub(crate) fn has(&self, code: u64) -> bool
         ensures { result ≡ list_any (λ other. other == code) self.now }
     {
         self.position(code).is_some()
     }
 
-    /// Adds a code behind the others.
+    /// Appends a code.
     pub(crate) fn push(&mut self, code: u64) -> Result<(), AllocError>
         requires { list_any (λ other. other == code) self.old ≡ false }
         ensures ok { OnOk result (self.new ≡ self.old ++ code ∷ []) }
@@ -82,7 +82,7 @@ impl CodeIndex {
     }
 }
 
-/// Whether a code stands at a place.
+/// Whether `code` is at index `place`.
 fn is_code_at(codes: &[u64], place: usize, code: u64) -> bool
     ensures { result ≡ is_code_at codes.now place code }
 {

@@ -10,7 +10,7 @@ use crate::code_index::CodeIndex;
 use dwarf_bytes::{Cause, Cursor};
 use std::marker::Model;
 
-/// What stands in a declaration before its attributes.
+/// The fields of a declaration that precede its attributes.
 #[derive(Clone, Copy, Debug)]
 pub(crate) struct Head {
     pub(crate) code: u64,
@@ -19,8 +19,9 @@ pub(crate) struct Head {
 }
 
 impl Head {
-    /// What stands in the next declaration before its attributes, or none where the code 0 stands.
-    /// `codes` are those of the declarations before it, of which there may be `room`.
+    /// Reads the next declaration up to its attributes, or returns `None` at the code 0. `codes`
+    /// are the codes of the declarations before it, and `room` is the maximum number of
+    /// declarations.
     pub(crate) fn next(
         codes: &CodeIndex,
         room: u64,
@@ -54,7 +55,7 @@ impl Head {
     }
 }
 
-/// An abbreviation declaration.
+/// An abbreviation declaration with all its attributes.
 #[derive(Debug, Drop)]
 pub struct Decl {
     head: Head,
@@ -86,14 +87,14 @@ impl Decl {
         Decl { head, attributes }
     }
 
-    /// The number by which entries name it; never 0.
+    /// Returns the code by which entries refer to the declaration. It is never 0.
     pub fn code(&self) -> u64
         ensures { result ≡ self.now.code }
     {
         self.head.code
     }
 
-    /// What its entries describe (DWARF 5, 7.5.3, table 7.3).
+    /// Returns the tag of the entries (DWARF 5, 7.5.3, table 7.3).
     pub fn tag(&self) -> u64
         ensures { result ≡ self.now.tag }
     {
@@ -107,7 +108,7 @@ impl Decl {
         self.head.children
     }
 
-    /// The attributes of its entries, in their order.
+    /// Returns the attributes of the entries, in order.
     pub fn attributes(&self) -> &[AttributeSpecification]
         ensures { result.now ≡ self.now.attributes }
     {

@@ -1,4 +1,4 @@
-//! The attributes of a section that are known, by the places at which they stand.
+//! Memoized attribute specifications of a section, by their offsets.
 
 ghost use Rattle.std.specs.Prelude.{◌≡◌, ◌<◌, ◌≤◌, ◌∷◌, [], ℕ, true, Ok, drop, length};
 ghost use Rattle.std.specs.Prelude.{IfSome, IfNone, IfOk, OnErr};
@@ -17,25 +17,26 @@ use std::alloc::{AllocError, Global};
 use std::collections::BTreeMap;
 use std::marker::Model;
 
-/// An attribute that is known, as is the list from it on, up to the two zeros that end it.
+/// A memoized attribute specification. The rest of its list, up to the two zeros, is memoized too.
 #[derive(Clone, Copy)]
 pub struct KnownAttribute {
     place: usize,
     attribute: AttributeSpecification,
-    /// The number of the attribute behind it.
+    /// The index of the next attribute of the list.
     next: Option<usize>,
-    /// The set of the names from it on.
+    /// The set of the names from this attribute on.
     names: u32,
-    /// The place after the two zeros.
+    /// The offset after the two zeros that end the list.
     after: usize,
 }
 
-/// What was read of a section's lists of attributes, each place once, whatever lists lead to it.
+/// The memoized attribute lists of a section. No offset is memoized twice, even if several lists
+/// contain it.
 #[derive(Drop)]
 pub struct KnownLists<'a> {
     section: &'a [u8],
     known: Vec<KnownAttribute>,
-    /// The numbers of the known attributes, by their places.
+    /// The index of each memoized attribute, by its offset.
     places: BTreeMap<usize, usize>,
     names: NameSets,
 }
@@ -62,14 +63,14 @@ impl<'a> KnownLists<'a> {
         })
     }
 
-    /// The section's bytes.
+    /// Returns the bytes of the section.
     pub(crate) fn section(&self) -> &'a [u8]
         ensures { result.now ≡ self.now.section }
     {
         self.section
     }
 
-    /// How many attributes are known.
+    /// Returns the number of memoized attributes. It is at most the number of bytes of the section.
     pub fn len(&self) -> usize
         ensures value { result ≡ length self.now.known }
         ensures few { result ≤ length self.now.section }
@@ -77,7 +78,7 @@ impl<'a> KnownLists<'a> {
         self.known.len()
     }
 
-    /// The attribute of a number.
+    /// Returns the attribute with an index.
     pub fn attribute(&self, number: usize) -> &AttributeSpecification
         requires { number < length self.now.known }
         ensures { attributes_from self.now.known number
@@ -86,7 +87,7 @@ impl<'a> KnownLists<'a> {
         &self.known[number].attribute
     }
 
-    /// The number of the attribute behind another one, which is the smaller of the two.
+    /// Returns the index of the next attribute of the list, which is less than `number`.
     pub fn next(&self, number: usize) -> Option<usize>
         requires { number < length self.now.known }
         ensures list { rest_attributes self.now.known result
@@ -96,7 +97,7 @@ impl<'a> KnownLists<'a> {
         self.known[number].next
     }
 
-    /// The number of the known attribute at a place.
+    /// Returns the index of the memoized attribute at an offset.
     pub(crate) fn find(&self, place: usize) -> Option<usize>
         ensures none { IfNone result (IsUnknown self.now.known place) }
         ensures some { IfSome result (λ number. is_known_at self.now.known number place ≡ true) }
@@ -108,7 +109,8 @@ impl<'a> KnownLists<'a> {
         None
     }
 
-    /// Passes over a list that is known, which stands at the cursor behind other attributes.
+    /// Skips a memoized list at the cursor, whose attributes follow the attributes `own`. Returns
+    /// `AttrTwice` if the two lists share a name.
     pub(crate) fn join(
         &self,
         number: usize,
@@ -129,7 +131,8 @@ impl<'a> KnownLists<'a> {
         Ok(())
     }
 
-    /// Knows an attribute at a place, the attributes behind it, and the place after them.
+    /// Memoizes the attribute specification at `place`, its successor, and the offset after the
+    /// list. Returns its index.
     pub(crate) fn put(
         &mut self,
         place: usize,
@@ -161,14 +164,14 @@ impl<'a> KnownLists<'a> {
     }
 }
 
-/// Whether the attribute of a number stands at a place.
+/// Whether the attribute with an index is at offset `place`.
 fn is_known_at(known: &[KnownAttribute], number: usize, place: usize) -> bool
     ensures { result ≡ is_known_at known.now number place }
 {
     known.get(number).is_some_and(|known| known.place == place)
 }
 
-/// The set of the names of the attributes behind one.
+/// Returns the set of the names from the attribute `next` on.
 fn names_behind(known: &[KnownAttribute], next: Option<usize>) -> u32
     ensures { result ≡ names_behind known.now next }
 {
@@ -178,7 +181,7 @@ fn names_behind(known: &[KnownAttribute], next: Option<usize>) -> u32
     known.get(number).map_or(EMPTY, |known| known.names)
 }
 
-/// Whether a set has the name of an attribute.
+/// Whether a set contains the name of one of the attributes.
 fn has_any(names: &NameSets, set: u32, own: &[AttributeSpecification]) -> bool
     ensures { result ≡ list_any (λ attribute. is_in names.now set attribute.name) own.now }
 {

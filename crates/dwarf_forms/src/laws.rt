@@ -1,4 +1,5 @@
-//! What the reads of declarations and values are, in the words of the standard.
+//! Theorems that state what the reads of declarations and values return in the terms of the
+//! standard.
 
 ghost use Rattle.std.specs.Prelude.{◌≡◌, ◌++◌, ◌≤◌, ◌↔◌, List, Option, ℕ, ℤ, Ok, Err, length};
 ghost use Rattle.std.specs.Prelude.{if◌then◌else◌};
@@ -13,22 +14,22 @@ ghost use Rattle.dwarf_forms.specs.declared.attribute.AttributeSpecification.{
 ghost use Rattle.dwarf_forms.specs.Tables.{attribute_at, attributes_at, shares_name, table_at};
 ghost use Rattle.dwarf_forms.specs.Values.{Value, Spells, value_at};
 
-/// A table is read exactly where the bytes at the place begin with a spelling of it, it is good,
-/// and it has no more declarations than there is room for.
+/// A table is read if and only if an encoding of it is at the offset, it is valid, and it has at
+/// most `room` declarations.
 pub fn table_is_spelled()
     ensures { (room : ℕ) (section : List ℕ) (at : ℕ) (table : List Declaration) (next : ℕ)
         → (table_at room section at ≡ Ok (table, next))
         ↔ (StandsAt SpellsTable section at table next × AreGood table × (length table ≤ room)) }
 {}
 
-/// No spelling of a good table begins another, and each has one table.
+/// No encoding of a valid table is a proper prefix of another, and each encodes one table.
 pub fn table_is_unique()
     ensures { (a b x y : List ℕ) (s t : List Declaration) → SpellsTable a s → AreGood s
         → SpellsTable b t → AreGood t → a ++ x ≡ b ++ y → (a ≡ b) × (s ≡ t) }
 {}
 
-/// Attributes that are read from a place on are read so behind others too, where none of those has
-/// a name of theirs; where one has, it is a name twice, whichever of them it is.
+/// A list of attributes that is read on its own is also read after other attributes, unless the two
+/// share a name. If they do, the read fails with `AttrTwice`, whichever name is shared.
 pub fn attributes_are_joined()
     ensures { (section : List ℕ) (own : List Specification) (at : ℕ)
         (rest : List Specification) (next : ℕ)
@@ -37,7 +38,7 @@ pub fn attributes_are_joined()
         ≡ (if shares_name own rest then Err causes.AttrTwice else Ok (rest, next)) }
 {}
 
-/// A value is read exactly where the bytes at the place begin with a spelling of it.
+/// A value is read if and only if an encoding of it is at the offset.
 pub fn value_is_spelled()
     ensures { (form : ℕ) (format : Format) (constant : Option ℤ) (bytes : List ℕ) (at : ℕ)
         (value : Value) (next : ℕ) → (value_at form format constant bytes at ≡ Ok (
@@ -46,7 +47,7 @@ pub fn value_is_spelled()
         )) ↔ StandsAt (Spells form format constant) bytes at value next }
 {}
 
-/// No spelling in a form begins another, and each has one value.
+/// No encoding in a form is a proper prefix of another, and each encodes one value.
 pub fn value_is_unique()
     ensures { (form : ℕ) (format : Format) (constant : Option ℤ) (a b x y : List ℕ)
         (v w : Value) → Spells form format constant a v → Spells form format constant b w

@@ -1,5 +1,4 @@
-//! Tables of abbreviation declarations, and the values that entries hold by them: DWARF 5, 7.5.3
-//! to 7.5.6.
+//! Abbreviation tables, and the attribute values that they describe: DWARF 5, 7.5.3 to 7.5.6.
 #![tactic(auto)]
 
 mod abbreviation_declaration;

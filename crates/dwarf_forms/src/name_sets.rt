@@ -1,4 +1,4 @@
-//! Sets of names that share what they have in common.
+//! Persistent sets of names: a set with one more name shares most of its nodes with the original.
 
 ghost use Rattle.std.specs.Prelude.{◌≡◌, ◌==◌, ◌||◌, ◌<◌, ◌≤◌, ◌+◌, ◌%◌, ◌^◌, ◌≢◌, ◌∷◌, ◌++◌, []};
 ghost use Rattle.std.specs.Prelude.{ℕ, IfOk, OnErr, OkIff, length};
@@ -9,29 +9,29 @@ ghost use Rattle.dwarf_forms.specs.Private.NameSets.{branch_at, is_in, no_names,
 use std::alloc::{AllocError, Global};
 use std::marker::Model;
 
-/// The number of the set without names.
+/// The index of the empty set.
 pub(crate) const EMPTY: u32 = 0;
 
-/// The names that begin with the same bits, the lowest bit first.
+/// A node of a binary trie: the names that start with the same bits, the lowest bit first.
 #[derive(Clone, Copy)]
 pub(crate) struct Branch {
-    /// Whether one of them has no more bits.
+    /// Whether a name ends at this node.
     ends: bool,
-    /// The branch of those whose next bit is 0.
+    /// The index of the node for names whose next bit is 0.
     zero: u32,
-    /// The branch of those whose next bit is 1.
+    /// The index of the node for names whose next bit is 1.
     one: u32,
 }
 
 impl Branch {
-    /// The branch behind the lowest bit of a name.
+    /// Returns the index of the child for the lowest bit of a name.
     fn side(self, name: u64) -> u32
         ensures { result ≡ side self (name % 2) }
     {
         if name % 2 == 0 { self.zero } else { self.one }
     }
 
-    /// The same with another branch behind the lowest bit of a name.
+    /// Returns the node with another child for the lowest bit of a name.
     fn with_side(self, name: u64, behind: u32) -> Branch
         ensures ends { result.ends ≡ self.ends }
         ensures behind { side result (name % 2) ≡ behind }
@@ -53,8 +53,8 @@ impl Branch {
     }
 }
 
-/// Sets of names, each by the number of its first branch. A set with one more name shares all
-/// branches with it but those along the name: one for each bit of it, and one more.
+/// Sets of names as tries; each set is the index of its root. Adding a name copies the nodes on its
+/// path, one per bit and one more, and shares the others.
 #[derive(Drop)]
 pub(crate) struct NameSets {
     branches: Vec<Branch>,
@@ -73,7 +73,7 @@ impl Model for NameSets {
 }
 
 impl NameSets {
-    /// The empty set alone.
+    /// Creates the sets with only the empty set.
     pub(crate) fn new(alloc: Global) -> Result<NameSets, AllocError>
         ensures { IfOk result (λ sets. sets ≡ no_names ∷ []) }
     {
@@ -97,7 +97,7 @@ impl NameSets {
         self.has(branch.side(name), name / 2)
     }
 
-    /// The set with one more name. The sets of before stay.
+    /// Returns the set with one more name. Existing sets do not change.
     pub(crate) fn with(&mut self, set: u32, name: u64) -> Result<u32, AllocError>
         requires { set < length self.old }
         ensures within { IfOk result (λ more. more < length self.new) }
@@ -117,7 +117,7 @@ impl NameSets {
         self.put(branch.with_side(name, behind))
     }
 
-    /// The first branch of a set.
+    /// Returns the root of a set.
     fn branch(&self, set: u32) -> Branch
         ensures value { result ≡ branch_at self.now set }
         ensures within { IsWithin (length self.now) result }
@@ -129,7 +129,7 @@ impl NameSets {
         self.branches[EMPTY as usize]
     }
 
-    /// One more branch, and its number.
+    /// Appends a node, and returns its index.
     fn put(&mut self, branch: Branch) -> Result<u32, AllocError>
         requires { IsWithin (length self.old) branch }
         ensures ok { IfOk result (λ set. (set ≡ length self.old)
@@ -143,7 +143,7 @@ impl NameSets {
     }
 }
 
-/// A number below 2^32; another one is told as want of memory.
+/// Converts an index to 32 bits. An index from 2^32 on is an allocation failure.
 fn narrow(number: usize) -> Result<u32, AllocError>
     ensures { OkIff result (number < 2 ^ 32) number }
 {

@@ -1,4 +1,4 @@
-//! Reading the values of attributes (DWARF 5, 7.5.5 and 7.5.6).
+//! Decoding of attribute values (DWARF 5, 7.5.5 and 7.5.6).
 
 ghost use Rattle.std.specs.Prelude.{◌≡◌};
 ghost use Rattle.dwarf_forms.specs.Values.{direct_at, value_at, ReadsValue};
@@ -6,7 +6,7 @@ ghost use Rattle.dwarf_forms.specs.Values.{direct_at, value_at, ReadsValue};
 use crate::values::{Value, ValueFault};
 use dwarf_bytes::{Content, Cursor, Form, Format};
 
-/// The value of a form that stands behind no indirect one, and that no declaration holds.
+/// Reads a value in a form that is neither DW_FORM_indirect nor DW_FORM_implicit_const.
 #[tactic(auto, unfolding(crate::specs::Values::direct_at))]
 fn direct<'a>(form: u64, format: Format, cursor: &mut Cursor<'a>) -> Result<Value<'a>, ValueFault>
     ensures { ReadsValue result (direct_at form format) cursor.old cursor.new }
@@ -20,9 +20,9 @@ fn direct<'a>(form: u64, format: Format, cursor: &mut Cursor<'a>) -> Result<Valu
     }
 }
 
-/// The value of a form at the cursor, in a unit of the format. `constant` is that of the
-/// declaration, for DW_FORM_implicit_const. Behind DW_FORM_indirect neither that form nor
-/// DW_FORM_implicit_const may stand. After a fault the cursor is as before.
+/// Reads the value of a form at the cursor, in a unit of the given format. `constant` is the
+/// declaration's constant, for DW_FORM_implicit_const. DW_FORM_indirect may be followed neither by
+/// itself nor by DW_FORM_implicit_const. On a fault the cursor does not move.
 #[tactic(auto, unfolding(crate::specs::Values::value_at))]
 pub fn value<'a>(
     form: u64,

@@ -1,4 +1,4 @@
-//! The attributes of a declaration, where the end of their list may be known (DWARF 5, 7.5.3).
+//! Attribute lists of declarations, with memoized suffixes (DWARF 5, 7.5.3).
 
 ghost use Rattle.std.specs.Prelude.{◌≡◌, ◌++◌, ◌≤◌, All, IfNone, IfOk, IfSome, length, true};
 ghost use Rattle.dwarf_forms.specs.Private.Known.{Grows, IsKnown, IsUnknown, is_known_at};
@@ -12,11 +12,11 @@ use std::alloc::{AllocError, Global};
 use std::collections::BTreeSet;
 use std::marker::Model;
 
-/// How many attributes of a list, the first ones, are kept with it and not by their places:
-/// compilers write shorter lists.
+/// The number of attributes at the start of a list that are stored in the list and never memoized.
+/// Compilers write shorter lists.
 pub const UNSHARED: usize = 64;
 
-/// The attributes of a declaration: its own, and behind them those from a known one on.
+/// The attributes of a declaration: its own first attributes, and the memoized rest of the list.
 #[derive(Drop)]
 pub struct SharedList {
     own: Vec<AttributeSpecification>,
@@ -32,14 +32,14 @@ impl Model for SharedList {
 }
 
 impl SharedList {
-    /// Its first attributes.
+    /// Returns the first attributes, which are not memoized.
     pub fn own(&self) -> &[AttributeSpecification]
         ensures { result.now ≡ self.now.own }
     {
         &self.own
     }
 
-    /// The number of the known attribute behind them.
+    /// Returns the index of the memoized attribute that follows them.
     pub fn rest(&self) -> Option<usize>
         ensures { result ≡ self.now.rest }
     {
@@ -47,18 +47,18 @@ impl SharedList {
     }
 }
 
-/// What was read of a list, up to its end or to an attribute that is known.
+/// The attributes that were read of a list, up to its end or to a memoized attribute.
 #[derive(Drop)]
 pub(crate) struct Stretch {
     attributes: Vec<AttributeSpecification>,
-    /// The places of the attributes, but of the first ones.
+    /// The offsets of the attributes, except for the first `UNSHARED`.
     places: Vec<usize>,
-    /// The number of the known attribute behind them.
+    /// The index of the memoized attribute that follows them.
     rest: Option<usize>,
 }
 
-/// The attributes of a declaration, up to the two zeros that end them. Behind the first ones each
-/// place is read once, and known from then on.
+/// Reads the attributes of a declaration, up to the two zeros that end them. Attributes after the
+/// first `UNSHARED` are memoized, and are read only if they were not memoized before.
 pub(crate) fn shared_attributes(
     alloc: Global,
     lists: &mut KnownLists<'_>,
@@ -86,8 +86,8 @@ pub(crate) fn shared_attributes(
     Ok(SharedList { own, rest })
 }
 
-/// The attributes at the cursor, up to their end or to the first place, behind the first ones, that
-/// is known.
+/// Reads the attributes at the cursor, up to their end or to the first memoized attribute after the
+/// first `UNSHARED`.
 fn next_stretch(
     alloc: Global,
     lists: &KnownLists<'_>,
@@ -127,7 +127,8 @@ fn next_stretch(
     }
 }
 
-/// The number of the known attribute at a place, behind so many others of its list.
+/// Returns the index of the memoized attribute at offset `place`, if at least `UNSHARED` attributes
+/// of the list precede it.
 fn known_behind(lists: &KnownLists<'_>, count: usize, place: usize) -> Option<usize>
     ensures none { IfNone result (UNSHARED ≤ count → IsUnknown lists.now.known place) }
     ensures some { IfSome result (λ number. is_known_at lists.now.known number place ≡ true) }
@@ -139,7 +140,7 @@ fn known_behind(lists: &KnownLists<'_>, count: usize, place: usize) -> Option<us
     lists.find(place)
 }
 
-/// Knows attributes at their places, which stand in front of a rest. Gives the number of the first.
+/// Memoizes attributes at their offsets, followed by `rest`. Returns the index of the first.
 fn put_all(
     lists: &mut KnownLists<'_>,
     attributes: &[AttributeSpecification],

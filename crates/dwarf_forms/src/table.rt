@@ -1,4 +1,4 @@
-//! Tables of abbreviation declarations (DWARF 5, 7.5.3).
+//! Abbreviation tables (DWARF 5, 7.5.3).
 
 ghost use Rattle.std.specs.Prelude.{◌≡◌, ◌+◌, ◌≤◌, ◌==◌, [], ◌∷◌, ◌++◌, false, length};
 ghost use Rattle.std.specs.Prelude.{IfOk, OnOk, OnErr};
@@ -15,7 +15,7 @@ use dwarf_bytes::{Cause, Cursor, LoadFault, Section};
 use std::alloc::{AllocError, Global};
 use std::marker::Model;
 
-/// The declarations of one table of `.debug_abbrev`, in their order. No code stands twice.
+/// The declarations of one table of `.debug_abbrev`, in order, without duplicate codes.
 #[derive(Drop)]
 pub struct Abbrevs {
     decls: Vec<Decl>,
@@ -34,9 +34,9 @@ impl Model for Abbrevs {
 }
 
 impl Abbrevs {
-    /// The table at an offset from the section's start, up to the code 0 that ends it. `left` is
-    /// how many more declarations may be read; it falls by one for each of the table's. A fault is
-    /// told at the declaration that holds it, in `.debug_abbrev`.
+    /// Parses the table at `offset` from the start of `.debug_abbrev`, up to the code 0 that ends
+    /// it. `left` is the number of declarations that may still be read; on success it decreases by
+    /// the number of the table's declarations. A fault has the offset of its declaration.
     pub fn read(
         alloc: Global,
         section: &[u8],
@@ -57,7 +57,7 @@ impl Abbrevs {
         Ok(table)
     }
 
-    /// The declarations, in their order.
+    /// Returns the declarations, in order.
     pub fn decls(&self) -> &[Decl]
         ensures { result.now ≡ self.now }
     {
@@ -79,7 +79,7 @@ impl Abbrevs {
         self.decls.len()
     }
 
-    /// Adds a declaration behind the others.
+    /// Appends a declaration.
     fn push(&mut self, decl: Decl) -> Result<(), AllocError>
         requires { list_any (λ declaration. declaration.code == decl.code) self.old ≡ false }
         ensures ok { OnOk result (self.new ≡ self.old ++ decl ∷ []) }
@@ -94,7 +94,8 @@ impl Abbrevs {
         Ok(())
     }
 
-    /// Reads the next declaration and adds it; false where the code 0 stands.
+    /// Reads the next declaration and appends it. Returns `false` at the code 0 that ends the
+    /// table.
     fn extend(&mut self, alloc: Global, room: u64, cursor: &mut Cursor) -> Result<bool, Cause>
         ensures { ExtendsTable result room self.old self.new cursor.old cursor.new }
     {
@@ -106,7 +107,7 @@ impl Abbrevs {
         Ok(true)
     }
 
-    /// What stands in the next declaration before its attributes, or none where the code 0 stands.
+    /// Reads the next declaration up to its attributes, or returns `None` at the code 0.
     fn next_head(&self, room: u64, cursor: &mut Cursor) -> Result<Option<Head>, Cause>
         ensures { ReadsNext result (λ bytes. head_at room bytes self.now) cursor.old cursor.new }
     {
@@ -114,7 +115,7 @@ impl Abbrevs {
     }
 }
 
-/// The table at the cursor, of `room` declarations at most.
+/// Parses the table at the cursor, with at most `room` declarations.
 fn declarations(alloc: Global, room: u64, cursor: &mut Cursor) -> Result<Abbrevs, LoadFault>
     ensures decodes { Decodes (λ table. table) result (in_section sections.DebugAbbrev
         (declarations_of room cursor.old.bytes cursor.old.place)) }

@@ -1,9 +1,9 @@
-//! Values of attributes.
+//! Attribute values.
 
 use dwarf_bytes::{Content, ReadFault};
 use thiserror::Error;
 
-/// A value with its form, which for an indirect one is the form that stands before it.
+/// A value with its form. For DW_FORM_indirect this is the actual form, which precedes the value.
 #[derive(Clone, Copy, Debug)]
 pub struct Value<'a> {
     pub form: u64,
@@ -13,10 +13,11 @@ pub struct Value<'a> {
 /// Why a value could not be read.
 #[derive(Clone, Copy, Debug, PartialEq, Eq, Error)]
 pub enum ValueFault {
-    /// The bytes spell no value of the form.
+    /// The bytes do not encode a value of the form.
     #[error("{0}")]
     Read(ReadFault),
-    /// The form is not read, or not in this place.
+    /// The form is not supported, is not allowed after DW_FORM_indirect, or is
+    /// DW_FORM_implicit_const without a constant.
     #[error("form")]
     Form,
 }

@@ -1,4 +1,4 @@
--- Codes of declarations, and how they are found without a look at each.
+-- Abbreviation codes and their index.
 use Rattle.std.specs.Prelude.{◌≡◌, ◌≢◌, ◌⊎◌, ℕ, ◌+◌, List, Bool, false, Some, slice_get, ◌==◌}
 use Rattle.std.specs.Prelude.{AllPairs, Result, Ok, length}
 use Rattle.std.specs.Prelude.{nat_le, nat_lt, if◌then◌else◌}
@@ -13,17 +13,17 @@ use Rattle.dwarf_bytes.specs.Items.{Next, Item, End, reading, refuse_if}
 use Rattle.dwarf_bytes.specs.Numbers.{u8_at, uleb_at}
 use Rattle.dwarf_forms.specs.declared.declaration.Head.{Head}
 
--- No code stands twice, and each stands in its own place, counted from 1, or where the map says.
+-- The codes are distinct, and each is its index + 1 or has its index in the map.
 pub record AreCodes (codes : List ℕ) (moved : BTreeMap ℕ ℕ) : Type 0 where
   pub once : AllPairs (λ a b. a ≢ b) codes
   pub found : (i code : ℕ) → slice_get codes i ≡ Some code → (code ≡ i + 1)
       ⊎ (get nat_cmp moved code ≡ Some i)
 
--- whether a code stands at a place
+-- whether a code is at an index
 abbrev pub is_code_at : List ℕ → ℕ → ℕ → Bool
 is_code_at codes place code = option_map_or (λ other. other == code) (slice_get codes place) false
 
--- what stands before a declaration's attributes, behind declarations of these codes
+-- a declaration up to its attributes, after declarations with these codes
 abbrev pub head_behind : ℕ → List ℕ → List ℕ → ℕ → Result (Next Head) Cause
 head_behind room section codes at = do
   code ← reading (uleb_at section at)

@@ -1,11 +1,11 @@
--- How names are found without a look at each.
+-- The set that is used to look up names.
 use Rattle.std.specs.Prelude.{◌≡◌, ℕ, List, ◌==◌}
 use Rattle.std.specs.List.{list_any}
 use Rattle.std.specs.Ordering.{nat_cmp}
 use Rattle.std.specs.BTreeSet.{BTreeSet, contains}
 use Rattle.dwarf_forms.specs.declared.attribute.AttributeSpecification.{AttributeSpecification}
 
--- the set is that of the attributes' names
+-- the set contains the names of the attributes
 abbrev pub HoldsNames : BTreeSet ℕ → List AttributeSpecification → Type 0
 HoldsNames names attributes = (name : ℕ) → contains nat_cmp names name
     ≡ list_any (λ attribute. attribute.name == name) attributes

@@ -1,4 +1,4 @@
--- Lists of attributes that share what is behind their first ones.
+-- Attribute lists with memoized suffixes.
 use Rattle.std.specs.Prelude.{◌≡◌, ℕ, zero, suc, ◌<◌, ◌≤◌, List, [], ◌∷◌, ◌++◌, Option, Result, Ok}
 use Rattle.std.specs.Prelude.{Err, drop, length, get_or, All, IfSome}
 use Rattle.dwarf_bytes.specs.declared.fault.Cause.{Cause}
@@ -12,24 +12,25 @@ use Rattle.dwarf_forms.specs.declared.shared.TheConstants.{UNSHARED}
 use Rattle.dwarf_forms.specs.Tables.{attribute_at, attributes_at}
 use Rattle.dwarf_forms.specs.Private.Known.{KnownPlaces, IsKnown, IsUnknown, rest_attributes}
 
--- the first attributes of a list, and the number of the known one behind them
+-- the first attributes of a list, and the index of the memoized attribute after them
 pub record SharedAttributes : Type 0 where
   pub own : List AttributeSpecification
   pub rest : Option ℕ
 
--- all of its attributes
+-- all attributes of the list
 abbrev pub all_of : List KnownAttribute → SharedAttributes → List AttributeSpecification
 all_of known list = list.own ++ rest_attributes known list.rest
 
--- It has its first attributes itself, and those behind so many are known.
+-- The index of the rest is that of a memoized attribute. The list stores at most UNSHARED
+-- attributes itself, and exactly that many if it has a memoized rest.
 pub record IsShared (known : List KnownAttribute) (list : SharedAttributes) : Type 0 where
   pub rest : IsKnown known list.rest
   pub few : length list.own ≤ UNSHARED
   pub full : IfSome list.rest (λ _. length list.own ≡ UNSHARED)
 
--- ---- places of attributes
+-- ---- offsets of attributes
 
--- the place after what stands at a place
+-- the offset after an attribute or after the end of a list
 abbrev pub after_next : ℕ → Result (Next AttributeSpecification) Cause → ℕ
 after_next at (Ok (Item _ after)) = after
 after_next at (Ok (End after)) = after
@@ -38,27 +39,28 @@ after_next at (Err _) = at
 abbrev pub place_behind : List ℕ → ℕ → ℕ
 place_behind section at = after_next at (attribute_at section [] at)
 
--- the place after so many
+-- the offset after n attributes
 abbrev pub place_after : List ℕ → ℕ → ℕ → ℕ
 place_after section at zero = at
 place_after section at (suc n) = place_after section (place_behind section at) n
 
--- the places of so many
+-- the offsets of n attributes
 abbrev pub places_from : List ℕ → ℕ → ℕ → List ℕ
 places_from section at zero = []
 places_from section at (suc n) = at ∷ places_from section (place_behind section at) n
 
--- From each of these places on a list of the attributes is read, with a rest behind it.
+-- From each of these offsets, the rest of the attributes is read, followed by `rest`.
 abbrev pub StandAt : List ℕ → List ℕ → List AttributeSpecification → List AttributeSpecification → ℕ
     → Type 0
 StandAt section places attributes rest after = (i d : ℕ) → i < length places
     → attributes_at section (get_or places i d) ≡ Ok (drop i attributes ++ rest, after)
 
--- ---- what was read of a list
+-- ---- the attributes that were read of a list
 
--- The attributes from a place on are these and those that are known behind them, the place after
--- them is this, and the places are those of the attributes but the first ones; none was known. Only
--- behind the first ones are others known.
+-- The list that starts at offset `first` consists of the attributes that were read and the memoized
+-- rest, and `after` is the offset after it. The recorded offsets belong to the attributes after the
+-- first UNSHARED, and none of them was memoized. A memoized rest only follows UNSHARED or more
+-- attributes.
 pub record IsStretch (lists : KnownPlaces) (first : ℕ) (stretch : Stretch) (after : ℕ)
     : Type 0 where
   pub read : attributes_at lists.section first
@@ -74,7 +76,7 @@ ReadsStretch (Ok stretch) lists old new =
     IsStretch lists old.place stretch new.place × (new.bytes ≡ old.bytes)
 ReadsStretch (Err cause) lists old new = Fails cause (attributes_at old.bytes old.place)
 
--- The list's attributes are those that are read at the cursor, and it stands after them, unless
+-- The list has the attributes that are read at the cursor, and the cursor moves after them, unless
 -- memory ran out.
 abbrev pub ReadsShared : Result SharedAttributes Cause → List KnownAttribute → Position → Position
     → Type 0

@@ -1,4 +1,4 @@
--- Tables of declarations whose attributes are shared, as what is known tells them.
+-- Tables of declarations with shared suffixes, resolved by means of the memoized attributes.
 use Rattle.std.specs.Prelude.{ℕ, List, Bool, map, All}
 use Rattle.dwarf_forms.specs.declared.known_lists.KnownAttribute.{KnownAttribute}
 use Rattle.dwarf_forms.specs.Declarations.{Declaration}
@@ -19,10 +19,10 @@ told known declaration = record {
   attributes = all_of known declaration.list;
 }
 
--- the declarations of a table
+-- the declarations of a table with all of their attributes
 abbrev pub tell : List KnownAttribute → List SharedDeclaration → List Declaration
 tell known table = map (told known) table
 
--- each declaration has its first attributes, and those behind them are known
+-- the attribute lists of all declarations are consistent with the memoized attributes
 abbrev pub AreTold : List KnownAttribute → List SharedDeclaration → Type 0
 AreTold known table = All (λ declaration. IsShared known declaration.list) table

@@ -1,4 +1,4 @@
--- What one step of reading a table leaves, for the contracts of its parts.
+-- The contract of one step of reading a table.
 use Rattle.std.specs.Prelude.{◌≡◌, ℕ, List, [], ◌∷◌, ◌++◌, Bool, true, false, Result, Ok, Err}
 use Rattle.dwarf_bytes.specs.declared.fault.Cause.{Cause}
 use Rattle.dwarf_bytes.specs.Items.{Item, End}
@@ -7,8 +7,8 @@ use Rattle.dwarf_bytes.specs.Position.{Position}
 use Rattle.dwarf_forms.specs.Declarations.{Declaration}
 use Rattle.dwarf_forms.specs.Tables.{declaration_at}
 
--- The table has one more declaration, that at the cursor, and the cursor stands after it; or the
--- end stands there.
+-- The declaration at the cursor is appended to the table, or the end of the table is there. The
+-- cursor moves after it.
 abbrev pub ExtendsTable : Result Bool Cause → ℕ → List Declaration → List Declaration → Position
     → Position → Type 0
 ExtendsTable (Ok true) room before after old new =
