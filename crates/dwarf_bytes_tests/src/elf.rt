@@ -5,7 +5,7 @@ use dwarf_bytes::{Cause, Layout, LoadFault, Object, Section, Span};
 use dwarf_samples::{inlined, two_sequences};
 use std::test::Fail;
 
-/// The first object with other bytes at some places.
+/// Returns the first sample object with some bytes changed.
 fn changed(edits: &[(usize, u8)]) -> [u8; 703] {
     let mut object = *inlined();
     for (place, byte) in edits {
@@ -47,7 +47,7 @@ fn span(place: usize, len: usize) -> Span {
     Span { place, len }
 }
 
-/// The segment of the first program header, at 2^64-1.
+/// Edits that set the address in the first program header to 2^64-1.
 const HIGHEST_SEGMENT: [(usize, u8); 8] = [
     (80, 0xff),
     (81, 0xff),
@@ -76,10 +76,10 @@ fn refuses_each_changed_header(rt: HostRuntime) {
         (&[(520, 8)], Cause::Compressed, 511),
         (&[(481, 1)], Cause::Table, 447),
         (&[(0, 0x7e)], Cause::NotElf, 0),
-        // the name section without bytes, and compressed
+        // the name section is SHT_NOBITS, or compressed
         (&[(643, 8)], Cause::Table, 639),
         (&[(648, 8)], Cause::Table, 639),
-        // a second .debug_info, without bytes
+        // a second .debug_info, of type SHT_NOBITS
         (&[(575, 0x0f), (579, 8)], Cause::SectionTwice, 575),
     ];
     for (edits, cause, at) in table {
@@ -121,7 +121,7 @@ fn reads_a_file_without_section_headers(rt: HostRuntime) {
     are_equal(&rt, Object::find(&changed(&edits)), Ok(layout));
 }
 
-/// A name section that ends before the names do: the first header whose name it cuts is refused.
+/// Refuses the first header whose name is truncated by the end of the name section.
 #[test]
 fn refuses_a_cut_name_section(rt: HostRuntime) {
     let headers = [

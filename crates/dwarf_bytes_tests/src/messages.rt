@@ -1,4 +1,4 @@
-//! What faults print, and the numbers of causes.
+//! The messages of faults, and the numbers of causes.
 
 use crate::checks::are_equal;
 use dwarf_bytes::{Cause, LoadFault, ReadFault, Section};

@@ -1,16 +1,16 @@
-//! Names of sections in an object with many headers.
+//! Section names in an object with many section headers.
 
 use crate::checks::are_equal;
 use dwarf_bytes::{Cause, LoadFault, Object, Section, Span};
 use std::alloc::Global;
 use std::test::Fail;
 
-/// The headers of sections, and the bytes of the long name.
+/// The number of section headers, and the size of the long name in bytes.
 const HEADERS: u16 = 20_000;
 
 const NAME_LEN: u32 = 100_000;
 
-/// The place of the program header, of the names, and of the section headers.
+/// The offsets of the program header, the names, and the section headers.
 const SEGMENT: usize = 64;
 
 const NAMES: usize = SEGMENT + 56;
@@ -19,7 +19,7 @@ const NAMES_LEN: u32 = NAME_LEN + 15;
 
 const SECTIONS: usize = NAMES + NAMES_LEN as usize;
 
-/// The header of a file with so many sections, the last of which has the names.
+/// Returns the header of a file with `HEADERS` sections, the last of which has the names.
 fn file_header() -> [u8; 64] {
     let mut header = [0; 64];
     header[..7].copy_from_slice(b"\x7fELF\x02\x01\x01");
@@ -34,7 +34,7 @@ fn file_header() -> [u8; 64] {
     header
 }
 
-/// A load segment of 0x1000 bytes.
+/// Returns the header of a load segment of 0x1000 bytes.
 fn segment() -> [u8; 56] {
     let mut header = [0; 56];
     header[0] = 1;
@@ -42,7 +42,7 @@ fn segment() -> [u8; 56] {
     header
 }
 
-/// A section with its name at an offset.
+/// Returns a section header with its name at an offset.
 fn section(name: u32, place: usize, len: usize) -> [u8; 64] {
     let mut header = [0; 64];
     header[..4].copy_from_slice(&name.to_le_bytes());
@@ -51,8 +51,8 @@ fn section(name: u32, place: usize, len: usize) -> [u8; 64] {
     header
 }
 
-/// All headers but the last two name one long text, at an offset into it; the one before the last
-/// names `.debug_str` behind it.
+/// Builds an object where all section headers but the last two refer to one long name, at an offset
+/// into it. The one before the last is named `.debug_str`, which follows the long name.
 fn long_names(alloc: Global, offset: u32) -> Result<Vec<u8>, LoadFault> {
     let mut object = Vec::new(alloc);
     object.extend_from_slice(&file_header())?;

@@ -1,4 +1,4 @@
-//! Numbers and texts at a cursor.
+//! Numbers and strings read by a cursor.
 
 use crate::checks::are_equal;
 use dwarf_bytes::{Cursor, Format, ReadFault, text_at};
@@ -34,7 +34,7 @@ fn seeks_to_the_end_and_no_further(rt: HostRuntime) {
     are_equal(&rt, cursor.place(), 2);
 }
 
-/// A part ends so many bytes behind the cursor, and its places are those of the whole.
+/// A part ends `len` bytes after the cursor, and its offsets are those of the whole.
 #[test]
 fn parts_end_behind_the_cursor(rt: HostRuntime) -> Result<(), Fail> {
     let mut cursor = Cursor::new(&[1, 2, 3, 4]);
@@ -47,7 +47,7 @@ fn parts_end_behind_the_cursor(rt: HostRuntime) -> Result<(), Fail> {
     Ok(())
 }
 
-/// A fork stands where the cursor does, over the same bytes, and moves alone.
+/// A fork has the bytes and the offset of its cursor, and moves independently.
 #[test]
 fn forks_move_alone(rt: HostRuntime) -> Result<(), Fail> {
     let mut cursor = Cursor::new(&[1, 2, 3]);
@@ -61,7 +61,7 @@ fn forks_move_alone(rt: HostRuntime) -> Result<(), Fail> {
     Ok(())
 }
 
-/// The longest part, an empty one, and those that pass the end.
+/// The longest part, an empty one, and parts that extend past the end.
 #[test]
 fn parts_end_with_the_whole(rt: HostRuntime) -> Result<(), Fail> {
     let mut cursor = Cursor::new(&[1, 2, 3, 4]);
@@ -73,8 +73,8 @@ fn parts_end_with_the_whole(rt: HostRuntime) -> Result<(), Fail> {
     Ok(())
 }
 
-/// Checks what was read of these bytes, and where the cursor stands behind it: at their end, or
-/// where it was.
+/// Checks the result of a read of these bytes. The cursor must be at their end on success, and at
+/// their start on a fault.
 fn is_read<T: Copy + Debug + PartialEq>(
     rt: &impl Abort,
     bytes: &[u8],

@@ -1,4 +1,4 @@
-//! The heads of tables before their bases.
+//! The table headers that precede the bases of a unit.
 
 use crate::checks::are_equal;
 use dwarf_bytes::{Cause, Format, TableHead, TableKind};

@@ -1,4 +1,4 @@
-//! Texts of sections, and where they end.
+//! Strings of sections, and their ends.
 
 use crate::checks::are_equal;
 use dwarf_bytes::{LoadFault, ReadFault, Section, Span, Text, TextIndex, text_at};
@@ -6,7 +6,7 @@ use std::alloc::{AllocGlobal, Global};
 use std::process::Abort;
 use std::test::*;
 
-/// So many bytes `a`.
+/// Returns `len` bytes `a`.
 fn run(alloc: Global, len: usize) -> Result<Vec<u8>, LoadFault> {
     let mut bytes = Vec::new(alloc);
     for _ in 0..len {
@@ -15,8 +15,7 @@ fn run(alloc: Global, len: usize) -> Result<Vec<u8>, LoadFault> {
     Ok(bytes)
 }
 
-/// Checks the length of the string at each offset, and that the index finds what a read from the
-/// section finds.
+/// Checks the length of the string at each offset, both by the index and by a read of the section.
 fn has_texts(
     rt: &(impl Abort + AllocGlobal),
     section: &[u8],
@@ -32,8 +31,8 @@ fn has_texts(
     Ok(())
 }
 
-/// Texts of 4,095 and 4,096 bytes, whose NULs are the last byte of a block and the first of one, a
-/// text of one byte, and one without a NUL.
+/// Strings of 4,095 and 4,096 bytes, whose NULs are the last byte of a block and the first of one;
+/// a string of one byte; and one without a NUL.
 #[test]
 fn ends_texts_at_the_ends_of_blocks(rt: HostRuntime) -> Result<(), Fail> {
     let mut section = run(rt.alloc(), 4_095)?;
@@ -60,7 +59,7 @@ fn ends_texts_at_the_ends_of_blocks(rt: HostRuntime) -> Result<(), Fail> {
     Ok(())
 }
 
-/// A text over three blocks.
+/// A string that extends over three blocks.
 #[test]
 fn ends_texts_past_their_block(rt: HostRuntime) -> Result<(), Fail> {
     let mut section = run(rt.alloc(), 10_000)?;
@@ -90,7 +89,7 @@ fn ends_no_text_without_a_nul(rt: HostRuntime) -> Result<(), Fail> {
     Ok(())
 }
 
-/// A span that passes the end of the bytes is what is there of it.
+/// A span that extends past the end of the bytes is truncated.
 #[test]
 fn spans_are_of_any_bytes(rt: HostRuntime) {
     let bytes = b"abcd";

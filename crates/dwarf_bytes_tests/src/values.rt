@@ -1,9 +1,9 @@
-//! Forms, and the contents of values.
+//! Attribute forms, and the contents of values.
 
 use crate::checks::are_equal;
 use dwarf_bytes::{Content, Cursor, Form, Format, ReadFault, ValueLayout, Width};
 
-/// The forms of DWARF 5, table 7.6, by how their values are laid out.
+/// The layouts of the forms of DWARF 5, table 7.6.
 #[test]
 fn knows_the_forms(rt: HostRuntime) {
     let layouts: [(ValueLayout, &[u64]); 13] = [
@@ -35,8 +35,8 @@ fn knows_the_forms(rt: HostRuntime) {
     }
 }
 
-/// Forms of blocks with a length of two and four bytes, the forms that are not direct, and numbers
-/// of no form.
+/// Block forms with lengths of two and four bytes, the forms that are not direct, and unknown
+/// forms.
 #[test]
 fn knows_the_other_forms(rt: HostRuntime) {
     let blocks = [(0x03, Width::Two), (0x04, Width::Four)];
@@ -62,7 +62,7 @@ fn knows_forty_forms(rt: HostRuntime) {
     are_equal(&rt, count, 40);
 }
 
-/// A content as a number, or the length of its bytes.
+/// Returns a content as a number, or the length of its bytes.
 fn shown(content: Result<Content<'_>, ReadFault>) -> Result<i128, ReadFault> {
     match content {
         Ok(Content::Number(n)) => Ok(i128::from(n)),
