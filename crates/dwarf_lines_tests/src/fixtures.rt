@@ -1,5 +1,5 @@
-//! Line programs for the tests, and what is said of them. What reads has no contract here, so that
-//! the proof that a test is safe knows nothing of what is read, which it does not need.
+//! Line programs for the tests, and assertions on them. The functions that read have no contract,
+//! so the proof that a test is safe does not depend on what is read.
 
 ghost use Rattle.std.specs.Prelude.{◌≡◌, ◌+◌, length};
 
@@ -11,17 +11,17 @@ use std::fmt::Debug;
 use std::process::Abort;
 use std::test::*;
 
-/// Checks that both are the same.
+/// Checks that two values are equal.
 pub fn are_equal<T: Copy + Debug + PartialEq>(rt: &impl Abort, told: T, wanted: T) {
     assert_eq!(rt; told, wanted);
 }
 
-/// Checks that both have the same bytes.
+/// Checks that two slices have the same bytes.
 pub fn are_same_bytes(rt: &impl Abort, told: &[u8], wanted: &[u8]) {
     assert_eq!(rt; told, wanted);
 }
 
-/// What is read of a `.debug_line` without other sections.
+/// Reads a `.debug_line` without other sections.
 pub fn read(alloc: Global, line: &[u8]) -> Result<LineTables, LoadFault> {
     LineTables::read(alloc, line, &[], &[])
 }
@@ -75,7 +75,7 @@ pub fn have_fault(
     Ok(())
 }
 
-/// Checks the path of a file of a program, whose parts stand in these sections.
+/// Checks the path of a file of a program, whose parts are in these sections.
 pub fn has_path(
     rt: &(impl Abort + AllocGlobal),
     tables: &LineTables,
@@ -88,21 +88,21 @@ pub fn has_path(
     Ok(())
 }
 
-/// The 75 bytes of the first sample's `.debug_line`.
+/// Returns the 75 bytes of the first sample's `.debug_line`.
 pub fn one_sequence() -> [u8; 75] {
     let mut line = [0; 75];
     line.copy_from_slice(&inlined()[259..334]);
     line
 }
 
-/// The 97 bytes of the second sample's `.debug_line`.
+/// Returns the 97 bytes of the second sample's `.debug_line`.
 pub fn two_sequences() -> [u8; 97] {
     let mut line = [0; 97];
     line.copy_from_slice(&second_sample()[259..356]);
     line
 }
 
-/// Both, one after the other.
+/// Returns both, one after the other.
 pub fn two_programs() -> [u8; 172] {
     let mut line = [0; 172];
     line[..75].copy_from_slice(&inlined()[259..334]);
@@ -110,14 +110,14 @@ pub fn two_programs() -> [u8; 172] {
     line
 }
 
-/// The first sample's program, whose sequence is dead.
+/// Returns the first sample's program with a dead sequence.
 pub fn dead_program() -> [u8; 75] {
     let mut line = one_sequence();
     line[58..66].copy_from_slice(&[0xff; 8]);
     line
 }
 
-/// The first sample's header with these instructions behind it.
+/// Builds a program with the first sample's header and these instructions.
 pub fn with_instructions(alloc: Global, instructions: &[u8]) -> Result<Vec<u8>, AllocError> {
     let mut line = Vec::new(alloc);
     line.push(51u8.saturating_add(instructions.len().min(200) as u8))?;
@@ -126,7 +126,7 @@ pub fn with_instructions(alloc: Global, instructions: &[u8]) -> Result<Vec<u8>, 
     Ok(line)
 }
 
-/// A program without instructions, of these directories and one file in directory 1.
+/// Builds a program without instructions, with these directories and one file in directory 1.
 pub fn with_paths(
     alloc: Global,
     directories: [&[u8]; 2],
@@ -149,8 +149,8 @@ pub fn with_paths(
     Ok(line)
 }
 
-/// A program of a directory at 0 of `.debug_line_str` and a file at 3 of `.debug_str`; two bytes
-/// stand between its header's tables and its instructions, of which it has none.
+/// Builds a program without instructions, with a directory at offset 0 of `.debug_line_str` and a
+/// file at offset 3 of `.debug_str`. Two bytes follow the tables of its header.
 pub fn with_offsets(alloc: Global) -> Result<Vec<u8>, AllocError> {
     let mut line = Vec::new(alloc);
     line.extend_from_slice(&[44, 0, 0, 0, 5, 0, 8, 0, 36, 0, 0, 0])?;
@@ -160,7 +160,7 @@ pub fn with_offsets(alloc: Global) -> Result<Vec<u8>, AllocError> {
     Ok(line)
 }
 
-/// A fault of the program at an offset.
+/// Returns a fault of the program at an offset.
 pub fn fault(cause: Cause, at: u64) -> LoadFault {
     LoadFault {
         section: Section::DebugLine,
@@ -169,7 +169,7 @@ pub fn fault(cause: Cause, at: u64) -> LoadFault {
     }
 }
 
-/// Want of memory.
+/// Returns the out-of-memory fault.
 pub fn memory_fault() -> LoadFault {
     LoadFault {
         section: Section::Elf,
@@ -178,7 +178,7 @@ pub fn memory_fault() -> LoadFault {
     }
 }
 
-/// A row of a program's file 1.
+/// Returns a row of a program's file 1.
 pub fn row(program: usize, address: u64, line: u32) -> Row {
     Row {
         address,
@@ -189,7 +189,7 @@ pub fn row(program: usize, address: u64, line: u32) -> Row {
     }
 }
 
-/// The end of a sequence.
+/// Returns the end of a sequence.
 pub fn end(program: usize, address: u64) -> Row {
     Row {
         address,
@@ -200,7 +200,7 @@ pub fn end(program: usize, address: u64) -> Row {
     }
 }
 
-/// The bytes of a path, whose parts stand in these sections.
+/// Returns the bytes of a path, whose parts are in these sections.
 pub fn path(
     alloc: Global,
     tables: &LineTables,

@@ -1,4 +1,4 @@
-//! The headers of line programs, their paths, and the first fault.
+//! Line program headers: their paths, and their first fault.
 
 use crate::fixtures::*;
 use dwarf_bytes::Cause;
@@ -8,7 +8,7 @@ use std::alloc::AllocError;
 use std::process::Abort;
 use std::test::*;
 
-/// Checks the path of a file of the first program, where all texts stand in `.debug_line`.
+/// Checks the path of a file of the first program, if all its strings are in `.debug_line`.
 fn has_first_path(
     rt: &(impl Abort + AllocGlobal),
     line: &[u8],
@@ -99,7 +99,7 @@ fn samples_with_faults(rt: HostRuntime) {
     has_fault(&rt, &cut_line_program()[259..333], Cause::Short, 0);
 }
 
-/// Checks the fault of a program that stands behind a good one.
+/// Checks the fault of a program that follows a valid one.
 fn second_has_fault(
     rt: &(impl Abort + AllocGlobal),
     second: &[u8],

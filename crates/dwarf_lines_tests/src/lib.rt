@@ -1,4 +1,4 @@
-//! Tests of `dwarf_lines` on small line programs, with answers worked out by hand.
+//! Tests of `dwarf_lines` on small line programs, with expected results worked out by hand.
 #![tactic(auto)]
 
 #[cfg(test)]

@@ -153,7 +153,7 @@ fn a_dead_sequence_has_no_rows(rt: HostRuntime) -> Result<(), Fail> {
         ],
         &[row(0, 0, 1), end(0, 0)],
     )?;
-    // a sequence of its end alone is dead too
+    // a sequence that consists only of its end is dead too
     have_rows(
         &rt,
         &[0, 9, 2, 255, 255, 255, 255, 255, 255, 255, 255, 0, 1, 1],
@@ -184,7 +184,7 @@ fn no_programs(rt: HostRuntime) -> Result<(), Fail> {
     Ok(())
 }
 
-// Each allocation can be made to fail by the way in which the tests are run.
+// The test runner can make each allocation fail.
 #[test]
 fn want_of_memory_is_the_only_other_answer(rt: HostRuntime) {
     match read(rt.alloc(), &two_programs()) {

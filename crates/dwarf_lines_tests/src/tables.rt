@@ -1,4 +1,4 @@
-//! The tables of headers, where they could cost more than their bytes.
+//! Tables of headers that could cost more time or memory than their size warrants.
 
 use crate::fixtures::{are_equal, fault, has_path, read};
 use dwarf_bytes::{Cause, Section, Span};
@@ -8,7 +8,7 @@ use std::alloc::{AllocError, Global};
 use std::process::Abort;
 use std::test::*;
 
-/// A program without instructions, whose header has these tables.
+/// Builds a program without instructions, whose header has these tables.
 fn with_tables(alloc: Global, tables: &[u8]) -> Result<Vec<u8>, AllocError> {
     let fields = u32::try_from(tables.len()).unwrap_or(0).saturating_add(18);
     let mut line = Vec::new(alloc);
@@ -20,7 +20,8 @@ fn with_tables(alloc: Global, tables: &[u8]) -> Result<Vec<u8>, AllocError> {
     Ok(line)
 }
 
-/// Tables of 100,000 directories at 0 of `.debug_line_str`, and one file `c` in the last of them.
+/// Builds tables of 100,000 directories at offset 0 of `.debug_line_str`, and one file `c` in the
+/// last of them.
 fn with_long_directories(alloc: Global) -> Result<Vec<u8>, AllocError> {
     let mut tables = Vec::new(alloc);
     tables.extend_from_slice(&[1, 1, 0x1f, 0xa0, 0x8d, 0x06])?;
@@ -31,7 +32,8 @@ fn with_long_directories(alloc: Global) -> Result<Vec<u8>, AllocError> {
     with_tables(alloc, tables.as_slice())
 }
 
-/// Tables of 1,000 directories of a path and 254 flags, and one file `c` in directory 999.
+/// Builds tables of 1,000 directories with a path and 254 flags each, and one file `c` in directory
+/// 999.
 fn with_flags(alloc: Global) -> Result<Vec<u8>, AllocError> {
     let mut tables = Vec::new(alloc);
     tables.push(255)?;
@@ -50,8 +52,8 @@ fn with_flags(alloc: Global) -> Result<Vec<u8>, AllocError> {
     with_tables(alloc, tables.as_slice())
 }
 
-/// Tables of the directories `d` and `e`, and one file `c`, whose directory index has this form and
-/// these bytes.
+/// Builds tables of the directories `d` and `e`, and one file `c`, whose directory index has this
+/// form and these bytes.
 fn with_index(alloc: Global, form: u8, index: &[u8]) -> Result<Vec<u8>, AllocError> {
     let mut tables = Vec::new(alloc);
     tables.extend_from_slice(&[1, 1, 8, 2, b'd', 0, b'e', 0])?;
@@ -60,7 +62,7 @@ fn with_index(alloc: Global, form: u8, index: &[u8]) -> Result<Vec<u8>, AllocErr
     with_tables(alloc, tables.as_slice())
 }
 
-/// A text of so many bytes, without its NUL.
+/// Returns a string of `len` bytes, without its NUL.
 fn long_text(alloc: Global, len: u32) -> Result<Vec<u8>, AllocError> {
     let mut text = Vec::new(alloc);
     for _ in 0..len {
