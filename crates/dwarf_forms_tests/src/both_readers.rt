@@ -1,4 +1,4 @@
-//! The reader of one table beside the one that shares attributes between tables.
+//! A comparison of the reader of a single table and the one that shares attributes between tables.
 
 use crate::checks::are_equal;
 use dwarf_forms::{
@@ -9,7 +9,7 @@ use std::alloc::{AllocError, Global};
 use std::process::Abort;
 use std::test::*;
 
-/// The attributes of a declaration, in their order: its own, then the known ones behind them.
+/// Returns the attributes of a declaration, in order: its own, and then the memoized ones.
 pub fn attributes_of(
     alloc: Global,
     lists: &KnownLists<'_>,
@@ -29,7 +29,7 @@ pub fn attributes_of(
     Ok(attributes)
 }
 
-/// Checks that a declaration is the same by both readers.
+/// Checks that both readers return the same declaration.
 fn is_same(
     rt: &(impl Abort + AllocGlobal),
     decl: &Decl,
@@ -43,7 +43,7 @@ fn is_same(
     Ok(())
 }
 
-/// Reads the table at an offset by both readers, and checks that they agree.
+/// Reads the table at an offset with both readers, and checks that they agree.
 fn agree_at(
     rt: &(impl Abort + AllocGlobal),
     section: &[u8],
@@ -66,8 +66,8 @@ fn agree_at(
     Ok(())
 }
 
-/// Each offset of a section begins a table, valid or not: those of the sample, and of three
-/// declarations with a constant, a repeated code and a repeated attribute among them.
+/// Reads a table, valid or not, at each offset of four sections: the sample's, and sections with a
+/// constant, a repeated code and a repeated attribute.
 #[test]
 fn readers_agree_at_each_offset(rt: HostRuntime) -> Result<(), Fail> {
     let sections: [&[u8]; 4] = [

@@ -1,10 +1,10 @@
-//! What the tests say of two values.
+//! Assertions shared by the tests.
 
 use std::fmt::Debug;
 use std::process::Abort;
 use std::test::*;
 
-/// Checks that both are the same.
+/// Checks that two values are equal.
 pub fn are_equal<T: Copy + Debug + PartialEq>(rt: &impl Abort, told: T, wanted: T) {
     assert_eq!(rt; told, wanted);
 }

@@ -1,4 +1,4 @@
-//! Tables that stand within one list of attributes.
+//! Tables that overlap one list of attributes.
 
 use crate::both_readers::attributes_of;
 use crate::checks::are_equal;
@@ -7,8 +7,8 @@ use std::alloc::{AllocError, Global};
 use std::process::Abort;
 use std::test::*;
 
-/// A declaration of 100 attributes, of the names from 0x80 on and of the form addr. Another table
-/// begins at each form: its code and whether it has children are forms of the list.
+/// Builds a declaration of 100 attributes, with names from 0x80 on and the form addr. Another table
+/// starts at each form: its code and its children flag are forms of the list.
 fn one_list(alloc: Global) -> Result<Vec<u8>, AllocError> {
     let mut section = Vec::new(alloc);
     for byte in [1, 1, 0] {
@@ -25,7 +25,7 @@ fn one_list(alloc: Global) -> Result<Vec<u8>, AllocError> {
     Ok(section)
 }
 
-/// The attributes of that list from a name on.
+/// Returns the attributes of that list from a name on.
 fn attributes_from(alloc: Global, first: u64) -> Result<Vec<AttributeSpecification>, AllocError> {
     let mut attributes = Vec::new(alloc);
     for name in first..0x80 + 100 {
@@ -38,8 +38,8 @@ fn attributes_from(alloc: Global, first: u64) -> Result<Vec<AttributeSpecificati
     Ok(attributes)
 }
 
-/// What is read of the table at an offset: the attributes of its first declaration, and how many
-/// of them it has itself.
+/// Reads the table at an offset. Returns the attributes of its first declaration, and the number of
+/// them that the declaration stores itself.
 fn first_of(
     alloc: Global,
     lists: &mut KnownLists<'_>,
@@ -52,8 +52,8 @@ fn first_of(
     Ok((attributes, declaration.list().own().len()))
 }
 
-/// Checks that the table at an offset has a declaration with the attributes from a name on, and
-/// how many it has itself, where so many are known behind it.
+/// Checks that the table at an offset has a declaration with the attributes from a name on. Also
+/// checks the number of attributes that it stores itself and the number that are then memoized.
 fn is_shared(
     rt: &(impl Abort + AllocGlobal),
     lists: &mut KnownLists<'_>,
@@ -69,7 +69,7 @@ fn is_shared(
     Ok(())
 }
 
-/// Checks the same where nothing else is known of the section.
+/// Checks the same if no other attribute of the section is memoized.
 fn is_alone(
     rt: &(impl Abort + AllocGlobal),
     section: &[u8],
@@ -88,7 +88,8 @@ fn tables_within_one_list(rt: HostRuntime) -> Result<(), Fail> {
     let mut lists = KnownLists::new(rt.alloc(), &section)?;
     let behind = 100 - UNSHARED;
     is_shared(&rt, &mut lists, 0, 0x80, UNSHARED, behind)?;
-    // from the forms of the attributes 9, 34 and 35: their tables have what is behind the next one
+    // from the forms of the attributes 9, 34 and 35: their tables have the attributes after the
+    // next one
     is_shared(&rt, &mut lists, 32, 0x8b, UNSHARED, behind)?;
     is_shared(&rt, &mut lists, 107, 0xa4, UNSHARED, behind)?;
     is_shared(&rt, &mut lists, 110, 0xa5, 63, behind)

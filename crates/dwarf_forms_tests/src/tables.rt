@@ -1,4 +1,4 @@
-//! Tables of declarations, good and bad.
+//! Valid and invalid tables of declarations.
 
 use crate::checks::are_equal;
 use dwarf_bytes::{Cause, LoadFault, Section};
@@ -8,10 +8,10 @@ use std::alloc::{AllocError, Global};
 use std::process::Abort;
 use std::test::*;
 
-/// How many declarations a whole object may have.
+/// The maximum number of declarations of a whole object.
 const MOST: u64 = 4_194_304;
 
-/// Checks that the table at the section's start has this fault, and that the count stays.
+/// Checks that the table at the section's start has this fault, and that the count does not change.
 fn is_refused(rt: &(impl Abort + AllocGlobal), table: &[u8], cause: Cause, at: u64) {
     let mut left = 4;
     let fault = LoadFault {
@@ -60,7 +60,7 @@ fn declarations_of_a_unit(rt: HostRuntime) -> Result<(), Fail> {
     Ok(())
 }
 
-/// Where the declarations of the sample start: a bad first byte of each is told there.
+/// The offsets of the sample's declarations: a fault in one of them is reported there.
 #[test]
 fn faults_stand_at_declarations(rt: HostRuntime) {
     for (place, at) in [(2, 0), (11, 9), (22, 20), (37, 35)] {
@@ -89,7 +89,7 @@ fn refused_tables(rt: HostRuntime) {
     is_refused(&rt, &[1, 0x11, 0, 0, 3, 0, 0, 0], Cause::Form, 0);
     is_refused(&rt, &[1, 0x11, 0, 3, 0x1c, 0, 0, 0], Cause::Form, 0);
     is_refused(&rt, &[1, 0x11, 0, 3, 8, 3, 8, 0, 0, 0], Cause::AttrTwice, 0);
-    // the form is judged before the name is
+    // the form is validated before the name
     is_refused(&rt, &[1, 0x11, 0, 3, 8, 3, 0x1c, 0, 0, 0], Cause::Form, 0);
     is_refused(
         &rt,
@@ -118,7 +118,7 @@ fn refused_tables(rt: HostRuntime) {
 
 #[test]
 fn limits(rt: HostRuntime) -> Result<(), Fail> {
-    // an end code is no declaration
+    // an end code does not count as a declaration
     let mut left = 0;
     let table = Abbrevs::read(rt.alloc(), &[0], 0, &mut left)?;
     are_equal(&rt, table.decls().len(), 0);
@@ -139,7 +139,7 @@ fn limits(rt: HostRuntime) -> Result<(), Fail> {
     Ok(())
 }
 
-/// Codes in any order; each is that of one declaration.
+/// Codes in any order, each of one declaration.
 #[test]
 fn codes_out_of_order(rt: HostRuntime) -> Result<(), Fail> {
     let section = [
@@ -163,7 +163,8 @@ fn codes_out_of_order(rt: HostRuntime) -> Result<(), Fail> {
     Ok(())
 }
 
-/// A table of one declaration with so many attributes, of names that count up from 1.
+/// Builds a table of one declaration with `attributes` attributes. Their names count up from 1,
+/// except for the last, which is `again`.
 fn wide(alloc: Global, attributes: u8, again: u8) -> Result<Vec<u8>, AllocError> {
     let mut table = Vec::new(alloc);
     table.extend_from_slice(&[1, 0x11, 0])?;

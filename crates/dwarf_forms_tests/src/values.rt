@@ -1,4 +1,4 @@
-//! Each form, with a value and with that value cut short.
+//! Each form, with a value and with that value truncated.
 
 use crate::checks::are_equal;
 use dwarf_bytes::{Cursor, Format, ReadFault};
@@ -6,14 +6,14 @@ use dwarf_forms::{Content, Value, ValueFault, value};
 use std::process::Abort;
 use std::test::*;
 
-/// What is read of the bytes in a form, and how many of them.
+/// Reads a value in a form. Returns it and the number of bytes read.
 fn read(form: u64, format: Format, bytes: &[u8]) -> (Result<Value<'_>, ValueFault>, usize) {
     let mut cursor = Cursor::new(bytes);
     let value = value(form, format, None, &mut cursor);
     (value, cursor.place())
 }
 
-/// The form of a number that was read, and the number.
+/// Returns the form and the number of a value.
 fn number_of(value: Result<Value<'_>, ValueFault>) -> Option<(u64, u64)> {
     match value.ok()? {
         Value {
@@ -24,7 +24,7 @@ fn number_of(value: Result<Value<'_>, ValueFault>) -> Option<(u64, u64)> {
     }
 }
 
-/// The form of a signed number that was read, and the number.
+/// Returns the form and the number of a signed value.
 fn signed_of(value: Result<Value<'_>, ValueFault>) -> Option<(u64, i64)> {
     match value.ok()? {
         Value {
@@ -35,20 +35,20 @@ fn signed_of(value: Result<Value<'_>, ValueFault>) -> Option<(u64, i64)> {
     }
 }
 
-/// Checks that the bytes in a form are at fault, and that none is passed.
+/// Checks that the bytes are invalid in a form, and that the cursor does not move.
 fn has_fault(rt: &impl Abort, form: u64, bytes: &[u8], fault: ValueFault) {
     let (value, place) = read(form, Format::Dwarf32, bytes);
     are_equal(rt, (form, value.err(), place), (form, Some(fault), 0));
 }
 
-/// Checks the fault of one byte less, if there are any.
+/// Checks the fault of the bytes without the last one, if there are any.
 fn cut_has_fault(rt: &impl Abort, form: u64, bytes: &[u8], fault: ReadFault) {
     if let Some((_, cut)) = bytes.split_last() {
         has_fault(rt, form, cut, ValueFault::Read(fault));
     }
 }
 
-/// Checks that all of the bytes are the number in a form, and that one byte less is short.
+/// Checks that all of the bytes encode the number in a form, and that one byte less is short.
 fn is_number(rt: &impl Abort, form: u64, bytes: &[u8], number: u64) {
     let (value, place) = read(form, Format::Dwarf32, bytes);
     are_equal(
@@ -59,7 +59,7 @@ fn is_number(rt: &impl Abort, form: u64, bytes: &[u8], number: u64) {
     cut_has_fault(rt, form, bytes, ReadFault::Short);
 }
 
-/// Checks that all of the bytes are the block in a form, and what is wrong with one byte less.
+/// Checks that all of the bytes encode the block in a form, and the fault of one byte less.
 fn is_block(rt: &impl Abort, form: u64, bytes: &[u8], block: &[u8], cut: ReadFault) {
     let (value, place) = read(form, Format::Dwarf32, bytes);
     are_equal(rt, (form, place), (form, bytes.len()));
@@ -131,7 +131,7 @@ fn signed_numbers(rt: HostRuntime) {
     cut_has_fault(&rt, 0x0d, &[0xff, 0], ReadFault::Short);
 }
 
-/// The value of DW_FORM_implicit_const stands in the declaration, and no byte is read.
+/// The value of DW_FORM_implicit_const is in the declaration, and no byte is read.
 #[test]
 fn constants_of_declarations(rt: HostRuntime) {
     let nothing: [u8; 0] = [];
@@ -148,8 +148,8 @@ fn constants_of_declarations(rt: HostRuntime) {
     }
 }
 
-/// Offsets have eight bytes in the 64-bit format, also behind DW_FORM_indirect; other forms keep
-/// their widths.
+/// Offsets have eight bytes in the 64-bit format, also after DW_FORM_indirect. The widths of other
+/// forms do not change.
 #[test]
 fn values_of_the_64_bit_format(rt: HostRuntime) {
     let bytes = [1, 2, 3, 4, 5, 6, 7, 8, 9];
@@ -180,7 +180,7 @@ fn cut_values_of_the_64_bit_format(rt: HostRuntime) {
     }
 }
 
-/// Values that are cut, as they stand.
+/// Truncated values.
 #[test]
 fn cut_values(rt: HostRuntime) {
     has_fault(&rt, 0x06, &[1, 2], ValueFault::Read(ReadFault::Short));
