@@ -1,4 +1,4 @@
--- An entry is read again at its place.
+-- An entry can be re-read at its offset.
 use Rattle.std.proofs.Common.{◌≡◌, ℕ, zero, suc, List, [], ◌∷◌, ◌++◌, Bool, refl, ap, sym, ◌∙◌}
 use Rattle.std.proofs.Common.{subst, length, take}
 use Rattle.std.specs.Prelude.{Some, Result, Ok, nat_lt, nat_le, ◌==◌, ◌&&◌, ok_or, slice_get}
@@ -20,7 +20,7 @@ use Rattle.dwarf_units.specs.Entries.{is_root, attributes_at, declaration_of, no
 use Rattle.dwarf_units.specs.Entries.{entry_at, die_of, entries_of}
 use Rattle.dwarf_units.proofs.EntryOrder.{listed_in}
 
--- the steps behind the code, and behind the declaration
+-- What follows after the code and after the declaration are read.
 abbrev with_attributes : Declaration → List Attribute × ℕ → Result ((ℕ × List Attribute) × ℕ) Cause
 with_attributes declaration attributes = Ok ((declaration.tag, attributes.0), attributes.1)
 
@@ -48,7 +48,7 @@ entry_by format table unit at code declaration attributes code_is declaration_is
     ∙ ap (λ (r : Result (List Attribute × ℕ) Cause). r >>= with_attributes declaration)
     attributes_are)
 
--- what is read again where this stands
+-- Reading the entry at an offset returns this tag and these attributes.
 abbrev IsReadAgain : Format → List Declaration → List ℕ → ℕ → ℕ → List Attribute → Type 0
 IsReadAgain format table unit at tag attributes =
     (after : ℕ) × (entry_at format table unit at ≡ Ok ((tag, attributes), after))
@@ -108,7 +108,7 @@ node_at-again format table unit before at x after h tag children attributes is =
     subst (λ (k : ℕ). IsReadAgain format table unit k tag attributes)
     (ap (λ (s : Standing). s.offset) same.0) here))
 
--- .. of those that are listed
+-- This holds for every entry of a listing.
 listed-again : (format : Format) (table : List Declaration) (unit : List ℕ) (before : List Standing)
     (at : ℕ) (all : List Standing) (after : ℕ)
     → Lists (node_at format table unit) before at all after

@@ -1,4 +1,4 @@
--- What stands in a unit ends behind its place, and in the unit.
+-- Each node of a unit ends after its offset and within the unit.
 use Rattle.std.proofs.Common.{◌≡◌, ℕ, ◌<◌, ◌≤◌, List, [], ◌∷◌, Bool, length, ap, arith}
 use Rattle.std.specs.Prelude.{Result, Ok, Err, ok_or, nat_lt, nat_le, not, ◌==◌, ◌&&◌}
 use Rattle.std.specs.List.{list_any}

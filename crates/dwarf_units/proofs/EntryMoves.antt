@@ -1,4 +1,4 @@
--- What stands at a place of a unit takes a byte or more, and does not reach past the end.
+-- A node of a unit takes at least one byte and does not extend beyond the end of the unit.
 use Rattle.std.specs.Option.{option_map_or}
 use Rattle.std.proofs.Common.{◌≡◌, ℕ, ◌+◌, ◌≤◌, ℤ, List, length, take, drop, refl, ap, subst, arith}
 use Rattle.std.proofs.Common.{length-take, length-drop}
@@ -23,7 +23,7 @@ use Rattle.dwarf_forms.specs.declared.values.ValueFault.{ValueFault}
 use Rattle.dwarf_forms.specs.declared.values.ValueFault.TheVariants as values
 use Rattle.dwarf_forms.specs.Values.{Value, reading_value as of_value, direct_at, value_at}
 
--- what a read of bytes or of none leaves: this place or one behind it, and not past the end
+-- A read of zero or more bytes does not move the offset back or beyond the end.
 abbrev pub StaysWithin : List ℕ → ℕ → ℕ → Type 0
 StaysWithin bytes at after = (at ≤ after) × (after ≤ length bytes)
 

@@ -1,4 +1,4 @@
--- The offsets of the entries of a unit rise, up to its end.
+-- The offsets of the entries of a unit are increasing, up to its end.
 use Rattle.std.proofs.Common.{◌≡◌, ℕ, zero, suc, ◌+◌, ◌<◌, ◌≤◌, List, [], ◌∷◌, ◌++◌, length, take}
 use Rattle.std.proofs.Common.{map, subst, arith, length-take, add-one}
 use Rattle.std.specs.Prelude.{Ok, nat_lt}
@@ -19,7 +19,7 @@ use Rattle.dwarf_units.proofs.NodeLaws.{node_at-facts}
 
 -- ---- the entries of a unit
 
--- what is read of a unit stands at depths by counting
+-- The depths of the nodes of a unit are the counted depths.
 pub nodes-AreDepths : (format : Format) (table : List Declaration) (unit : List ℕ) (end at : ℕ)
     (all : List Standing) (after : ℕ) → items_from end (node_at format table unit) [] at
     ≡ Ok (all, after) → AreDepths all
@@ -29,7 +29,7 @@ nodes-AreDepths format table unit end at all after h i d within =
     at all after
     (Lists-within _ (node_at format table unit) [] at all after h) i d within
 
--- the entries among what is listed rise, up to an end that is not before the unit's
+-- The offsets of the listed entries are increasing, up to any end at or after the end of the unit.
 pub listed-rise : (format : Format) (table : List Declaration) (unit : List ℕ) (end : ℕ)
     → length unit ≤ end → (before : List Standing) (at : ℕ) (all : List Standing) (after : ℕ)
     → Lists (node_at format table unit) before at all after
@@ -50,7 +50,7 @@ listed-rise format table unit end size before at (x ∷ all) after h from le wit
         (omega (arith, is, le), rest (suc offset) (omega (arith, is, lt)))
     by_node offset depth Null is lt rest = rest from (omega (arith, le, lt))
 
--- what stands at the bottom of a unit, from what is read of it
+-- Replaces the entries of a unit by the listing of nodes that they are filtered from.
 pub listed_in : (info : List ℕ) (header : UnitHeader) (table : List Declaration) (dies : List Die)
     (P : Type 0) → entries_of info header table ≡ Ok dies
     → ((all : List Standing) (after : ℕ)
@@ -65,7 +65,7 @@ listed_in info header table dies P h next =
     next all.0 all.1 (Lists-within _ (node_at header.format table (take header.end info)) []
     header.first all.0 all.1 all_is) (same_ok (filter_map die_of all.0) dies last)))
 
--- the entries of a unit stand behind its header, up to its end
+-- The offsets of the entries of a unit are increasing, from the start of the unit up to its end.
 pub entries-rise : (info : List ℕ) (header : UnitHeader) (table : List Declaration)
     (dies : List Die) → entries_of info header table ≡ Ok dies → header.start ≤ header.first
     → header.first ≤ header.end → RiseWithin header.start header.end dies
@@ -77,7 +77,7 @@ entries-rise info header table dies h front back =
     (listed-rise header.format table (take header.end info) header.end (omega (arith, size)) []
     header.first all after listed header.start front back))
 
--- what rises in a range rises strictly
+-- Offsets that are increasing within an interval are strictly increasing.
 pub increasing : (from end : ℕ) (dies : List Die) → RiseWithin from end dies
     → IsStrictlyIncreasing (map (λ (die : Die). die.offset) dies)
 increasing from end [] rise k lt = absurd (omega (arith, lt))

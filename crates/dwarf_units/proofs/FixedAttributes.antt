@@ -1,4 +1,4 @@
--- Attributes of known lengths are passed over by their lengths.
+-- Attributes of a fixed size are skipped by their size.
 use Rattle.std.proofs.Common.{◌≡◌, ℕ, ◌≤◌, ℤ, List, [], Bool, true, false, cond, length, refl, ap}
 use Rattle.std.proofs.Common.{sym, ◌∙◌, subst, arith}
 use Rattle.std.specs.Prelude.{Option, Some, None, Result, Ok, Err, not, ◌==◌}
@@ -120,7 +120,7 @@ fixed-attribute format s n bytes at h le =
         constant_again (Some c) h = h
     by_form true fine (Some Indirect) is h = cc
 
--- two reads of one length leave one place
+-- Two reads of the same size end at the same offset.
 pub same-place : {X Y : Type 0} (Good : X → Type 0) (Fine : Y → Type 0) (n : ℕ) (bytes : List ℕ)
     (at : ℕ) (r : Result (X × ℕ) Cause) (q : Result (Y × ℕ) Cause)
     → ReadsFixed Good causes.Short n bytes at r → ReadsFixed Fine causes.Short n bytes at q

@@ -1,4 +1,4 @@
--- Values of known lengths are read by their lengths.
+-- Values of a fixed size are read by their size.
 use Rattle.std.proofs.Common.{◌≡◌, ℕ, ◌+◌, ◌<◌, ◌≤◌, ℤ, List, Bool, true, false, cond, length, refl}
 use Rattle.std.proofs.Common.{ap, sym, subst, arith}
 use Rattle.std.specs.Prelude.{Option, Some, None, Result, Ok, Err, nat_lt, take, drop}
@@ -26,9 +26,10 @@ use Rattle.dwarf_units.specs.Entries.{reading_value}
 use Rattle.dwarf_units.specs.Private.Plans.{layout_len}
 use Rattle.dwarf_units.proofs.PlainLaws.{never_count}
 
--- ---- reads of a known length
+-- ---- reads of a fixed size
 
--- A read takes n bytes and gives what is good, or is refused because there are fewer.
+-- A read takes n bytes and returns a value with the property Good, or fails because fewer than n
+-- bytes remain.
 abbrev pub ReadsFixed : {X E : Type 0} → (X → Type 0) → E → ℕ → List ℕ → ℕ → Result (X × ℕ) E
     → Type 0
 ReadsFixed Good short n bytes at (Ok x) = Good x.0 × (x.1 ≡ at + n) × (at + n ≤ length bytes)
@@ -45,7 +46,7 @@ block-fixed n bytes at = by_test (nat_lt (length bytes) (at + n)) refl
     by_test true is = (refl, ltb-true (length bytes) (at + n) is)
     by_test false is = (tt, refl, ltb-false (length bytes) (at + n) is)
 
--- what is made of the value
+-- A function applied to the value preserves the size of the read.
 mapped-fixed : {X Y E : Type 0} (Good : X → Type 0) (Fine : Y → Type 0) (short : E) (n : ℕ)
     (bytes : List ℕ) (at : ℕ) (r : Result (X × ℕ) E) (make : X → Y)
     → ReadsFixed Good short n bytes at r → ((x : X) → Good x → Fine (make x))
@@ -114,7 +115,7 @@ reading_value-fixed Good n bytes at (Err (values.Read fault)) h =
     let same : fault ≡ faults.Short = cc in
     (ap cause_of same, h.1)
 
--- a value in a form of a known length
+-- A value whose form has a fixed size.
 direct-fixed : (name form : ℕ) (layout : ValueLayout) (format : Format) (n : ℕ) (bytes : List ℕ)
     (at : ℕ) → form_of form ≡ Some (Direct layout) → layout_len format layout ≡ Some n
     → at ≤ length bytes

@@ -1,4 +1,4 @@
--- The steps of a declaration, one after another, where two are joined.
+-- Running the steps of a declaration in order, when two of them may be merged.
 use Rattle.std.proofs.Common.{◌≡◌, ℕ, ◌+◌, ◌<◌, ◌≤◌, ◌⊎◌, inl, inr, List, [], ◌∷◌, ◌++◌, Bool, true}
 use Rattle.std.proofs.Common.{false, cond, length, refl, ap, sym, arith, append_assoc}
 use Rattle.std.specs.Prelude.{Option, Some, None, Result, Ok, Err, nat_le}
@@ -22,7 +22,7 @@ use Rattle.dwarf_units.proofs.FixedReads.{ReadsFixed}
 use Rattle.dwarf_units.proofs.FixedAttributes.{skip-fixed}
 use Rattle.dwarf_units.proofs.PlanSteps.{keep-within, keep-past}
 
--- ---- the steps of a declaration, one after another
+-- ---- running the steps of a declaration in order
 
 pub in_front-none : {X : Type 0} (r : Result (List X × ℕ) Cause) → in_front [] r ≡ r
 in_front-none (Ok rest) = refl
@@ -33,7 +33,7 @@ pub in_front-twice : {X : Type 0} (xs ys : List X) (r : Result (List X × ℕ) C
 in_front-twice xs ys (Ok rest) = ap (λ all. Ok (all, rest.1)) (sym (append_assoc xs ys rest.0))
 in_front-twice xs ys (Err e) = refl
 
--- a step over bytes, by whether they are there
+-- A step that skips bytes, if enough bytes remain.
 pub skip-within : (format : Format) (n : ℕ) (bytes : List ℕ) (at : ℕ) → at + n ≤ length bytes
     → step_at format (Skip n) bytes at ≡ Ok ([], at + n)
 skip-within format n bytes at le = by_read (reading (block_at n bytes at)) (skip-fixed n bytes at)
@@ -52,7 +52,7 @@ skip-past format n bytes at lt = by_read (reading (block_at n bytes at)) (skip-f
     by_read (Ok block) h = absurd (omega (arith, h.2, lt))
     by_read (Err e) h = ap (λ (c : Cause). Err c) h.0
 
--- one step over bytes is as two
+-- Skipping n + m bytes at once is the same as skipping n bytes and then m bytes.
 joined-is : (format : Format) (n m : ℕ) (steps : List AttributeStep) (bytes : List ℕ) (at : ℕ)
     → steps_at format (Skip (n + m) ∷ steps) bytes at
     ≡ (step_at format (Skip n) bytes at >>= λ first. in_front first.0
@@ -89,7 +89,7 @@ joined-is format n m steps bytes at = by_both (cases_lt (length bytes) (at + (n 
         )
         (sym (in_front-none (in_front [] (steps_at format steps bytes (at + n + m)))))
 
--- .. and so is one that keeps what is behind the bytes
+-- The same holds for a step that skips bytes and stores the attribute after them.
 joined-keep : (format : Format) (n m : ℕ) (name : UsedName) (s : AttributeSpecification)
     (layout : Option ValueLayout) (steps : List AttributeStep) (bytes : List ℕ) (at : ℕ)
     → steps_at format (Keep (n + m) name s layout ∷ steps) bytes at

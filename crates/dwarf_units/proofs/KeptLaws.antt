@@ -1,4 +1,4 @@
--- The tables that are kept, as one more is put behind those that stay.
+-- The cached tables after one more table is added to the permanent ones.
 use Rattle.std.proofs.Common.{◌≡◌, ℕ, suc, zero, ◌+◌, ◌-◌, ◌<◌, ◌≤◌, List, [], ◌∷◌, ◌++◌, length}
 use Rattle.std.proofs.Common.{length-append, take, length-take-le, true, false, refl, ap, sym, ◌∙◌}
 use Rattle.std.proofs.Common.{subst, arith}
@@ -15,7 +15,7 @@ use Rattle.dwarf_units.specs.Private.Plans.{Table, table_size}
 use Rattle.dwarf_units.specs.Private.Tables.{StandsIn, AreElsewhere, AreKept}
 use Rattle.dwarf_units.proofs.TableLaws.{stand_before, stand_behind, behind_at}
 
--- one number was set
+-- One index is set.
 abbrev pub Sets : Numbers → Numbers → Format → ℕ → ℕ → Type 0
 Sets numbers next format offset number = (f : Format) (at : ℕ)
     → number_at next f at ≡ with_number numbers format offset number f at
@@ -52,7 +52,7 @@ abbrev pub AreFound : Numbers → List Table → Type 0
 AreFound numbers tables = (i : ℕ) (table : Table) → slice_get tables i ≡ Some table
     → number_at numbers table.format table.offset ≡ Some i
 
--- a table that stands among the first ones stands among all
+-- A table among the first ones is a table of the list.
 taken : (tables : List Table) (kept i : ℕ) (table : Table) → kept ≤ length tables
     → slice_get (take kept tables) i ≡ Some table → slice_get tables i ≡ Some table
 taken tables kept i table within at =
@@ -97,7 +97,7 @@ pub take_front : (xs ys : List Table) → take (length xs) (xs ++ ys) ≡ xs
 take_front [] ys = refl
 take_front (x ∷ xs) ys = ap (λ (zs : List Table). x ∷ zs) (take_front xs ys)
 
--- those that stay alone, where the one behind them is gone
+-- The invariant holds after the temporary table is removed.
 pub kept_short : (section : List ℕ) (tables after : List Table) (kept room : ℕ)
     (numbers next : Numbers) (format : Format) (offset : ℕ) → AreElsewhere format offset tables
     → Sets numbers next format offset kept → after ≡ take kept tables
@@ -117,7 +117,7 @@ kept_short section tables after kept room numbers next format offset elsewhere s
       past = λ t at. absurd (omega (arith, slice_get_within (take kept tables) kept t at, len));
     })
 
--- .. with one behind them that does not stay
+-- The invariant holds after a temporary table is added.
 pub kept_more : (section : List ℕ) (tables after : List Table) (kept room size : ℕ)
     (numbers next : Numbers) (table : Table) → AreElsewhere table.format table.offset tables
     → Sets numbers next table.format table.offset kept → StandsIn section table

@@ -1,4 +1,4 @@
--- Links of known attributes, as more are made and more is known.
+-- Links of memoized attributes, as more links are made and more attributes are memoized.
 use Rattle.std.proofs.Common.{◌≡◌, ℕ, suc, zero, ◌+◌, ◌<◌, List, [], ◌∷◌, ◌++◌, Bool, length}
 use Rattle.std.proofs.Common.{get_or, refl, ap, sym, ◌∙◌, subst, arith, length-append}
 use Rattle.std.specs.Prelude.{Option, Some, None, IfSome, slice_get}
@@ -25,7 +25,7 @@ steps-front : (keep : Bool) (format : Format) (known : List KnownAttribute) (num
 unfolding steps_of
 steps-front keep format known number s next list = rw list refl
 
--- a link of the last attribute of its list
+-- A link of the last attribute of its list.
 pub link-last : (keep : Bool) (format : Format) (known : List KnownAttribute) (number : ℕ)
     (s : AttributeSpecification) (step : AttributeStep) → step ≡ step_of keep format s
     → attributes_from known number ≡ s ∷ rest_attributes known None
@@ -42,7 +42,7 @@ pub before-both : (a : ℕ) (next : Option ℕ) (b : ℕ) → IfSome next (λ n.
 before-both a None b lt le = tt
 before-both a (Some n) b lt le = omega (arith, lt, le)
 
--- .. of one in front of another, whose steps are joined
+-- A link whose step is merged with the step of its successor.
 pub link-joined : (keep : Bool) (format : Format) (known : List KnownAttribute) (number behind : ℕ)
     (s : AttributeSpecification) (step both : AttributeStep) (link : LinkedStep)
     → step ≡ step_of keep format s → attributes_from known number ≡ s
@@ -56,7 +56,7 @@ link-joined keep format known number behind s step both link is list lt behind_i
   before = before-both behind link.next number behind_is.before lt;
 }
 
--- .. and whose steps are not
+-- A link whose step is not merged with the step of its successor.
 pub link-apart : (keep : Bool) (format : Format) (known : List KnownAttribute) (number behind : ℕ)
     (s : AttributeSpecification) (step : AttributeStep) (link : LinkedStep)
     → step ≡ step_of keep format s → attributes_from known number ≡ s
@@ -102,13 +102,13 @@ linked-push format known links now l are lt is more =
           (λ k y. (keep : Bool) → IsLink keep format known k (link_by keep y)) are.each is;
     })
 
--- the links of a list end
+-- The links of a list terminate: the index decreases.
 pub next-smaller : (next : Option ℕ) (number : ℕ) → IfSome next (λ n. n < number)
     → option_map_or (λ n. n + 1) next 0 < number + 1
 next-smaller None number before = omega arith
 next-smaller (Some n) number before = omega (arith, before)
 
--- what is linked stays so, as more is known
+-- A link remains valid when more attributes are memoized.
 link-grows : (keep : Bool) (format : Format) (known more : List KnownAttribute) (number : ℕ)
     (link : LinkedStep) → number < length known → IsLink keep format known number link
     → IsLink keep format (known ++ more) number link

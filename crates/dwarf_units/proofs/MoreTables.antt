@@ -1,4 +1,4 @@
--- One more table among those that are kept.
+-- Adding one more table to the cache.
 use Rattle.std.proofs.Common.{◌≡◌, get_or, ℕ, ◌+◌, ◌-◌, ◌<◌, ◌≤◌, List, [], ◌∷◌, ◌++◌, length, take}
 use Rattle.std.proofs.Common.{length-take-le, true, false, refl, ap, sym, ◌∙◌, subst, arith}
 use Rattle.std.specs.Prelude.{Some, Result, Ok, slice_get, sum_by, nat_le}
@@ -23,7 +23,7 @@ use Rattle.dwarf_units.proofs.TableLaws.{stand_behind}
 use Rattle.dwarf_units.proofs.KeptLaws.{Sets, with_here, AreFound, found_short, found_push}
 use Rattle.dwarf_units.proofs.KeptLaws.{take_all}
 
--- .. and with one that stays
+-- The invariant holds after a permanent table is added.
 pub kept_all : (section : List ℕ) (tables after : List Table) (kept room now size : ℕ)
     (numbers next : Numbers) (table : Table) → AreElsewhere table.format table.offset tables
     → Sets numbers next table.format table.offset kept → StandsIn section table
@@ -54,7 +54,7 @@ kept_all section tables after kept room now size numbers next table elsewhere se
       past = λ t at. absurd (omega (arith, slice_get_within after now t at, now_is));
     }
 
--- what is kept then, as the tables with one more
+-- The contents of the cache after a permanent table is added.
 pub with_all : (before : KeptTables) (section : List ℕ) (tables after : List Table)
     (kept room now size : ℕ) (numbers : Numbers) (table : Table)
     → (let seen : KeptTables = record { section = section; tables = tables; kept = kept } in
@@ -94,7 +94,7 @@ with_more before section tables after kept room size numbers table view is size_
     le_false : (a b : ℕ) → b < a → nat_le a b ≡ false
     le_false a b h = grind (arith, common_steps)
 
--- a table that is known and has more declarations than are left is not read
+-- A cached table with more declarations than the remaining budget cannot be read.
 pub known_too_long : {X : Type 0} (section : List ℕ) (tables : List Table) (number len : ℕ)
     (known d : Table) (offset left : ℕ) (read : List Declaration) → All (StandsIn section) tables
     → slice_get tables number ≡ Some known
@@ -121,14 +121,15 @@ known_too_long section tables number len known d offset left read all at same is
         λ z. Ok z in f x ≡ f y) → x ≡ y
     same_ok h = cc
 
--- a table that was read for a unit is none of those that are not the unit's
+-- If no cached table is at an offset and format, none is at those of the table that was parsed
+-- there.
 pub elsewhere_as : (table : Table) (format : Format) (offset : ℕ) (tables : List Table)
     → table.offset ≡ offset → table.format ≡ format → AreElsewhere format offset tables
     → AreElsewhere table.format table.offset tables
 elsewhere_as table format offset tables place form elsewhere i t at is =
     elsewhere i t at (is.0 ∙ place, is.1 ∙ form)
 
--- each table has one number
+-- Each table has only one index.
 pub known_once : (numbers : Numbers) (tables : List Table) (view : KeptTables) (format : Format)
     (offset i j : ℕ) → tables ≡ view.tables → AreFound numbers tables
     → (t : Table) → slice_get view.tables i ≡ Some t → IsAt format offset t → (u : Table)

@@ -1,4 +1,4 @@
--- The names of the attributes that are used, and their numbers.
+-- The names of the used attributes, and their codes.
 use Rattle.std.proofs.Common.{◌≡◌, ℕ, List, [], ◌∷◌, Bool, true, false, refl, ap, sym, subst, ◌∙◌}
 use Rattle.std.specs.Prelude.{Some, None, ◌==◌, find, if◌then◌else◌}
 use Rattle.std.proofs.lemmas.Bool.{ne_eqb, eqb-true}

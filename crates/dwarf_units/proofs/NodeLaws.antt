@@ -1,4 +1,4 @@
--- What stands at a place of a unit: where, how deep, and up to where.
+-- The offset, depth and end of a node of a unit.
 use Rattle.std.proofs.Common.{◌≡◌, ℕ, List, length, ap, sym, subst}
 use Rattle.std.specs.Prelude.{Result, Ok, nat_le}
 use Rattle.std.specs.List.{list_any}
@@ -11,7 +11,8 @@ use Rattle.dwarf_bytes.proofs.Moves.{same_item}
 use Rattle.dwarf_units.specs.Entries.{Node, Standing, depth_after, is_root, node_behind, node_at}
 use Rattle.dwarf_units.proofs.EntryAdvances.{node_behind-moves}
 
--- what is read there: it stands there, at the depth behind what stands before it, and takes bytes
+-- A node that is read at an offset has this offset, the depth after the nodes before it, and at
+-- least one byte.
 pub record NodeFacts (unit : List ℕ) (before : List Standing) (at : ℕ) (x : Standing)
     (after : ℕ) : Type 0 where
   pub offset_is : x.offset ≡ at

@@ -1,5 +1,5 @@
--- Plain heads at hand, by the codes of declarations that share attributes and of those that have
--- all of them.
+-- Precomputed fixed-size heads, by the codes of declarations that share attributes and of
+-- declarations with all attributes.
 use Rattle.std.proofs.Common.{◌≡◌, ℕ, ◌+◌, ◌<◌, ◌≤◌, min, List, [], ◌∷◌, ◌++◌, Bool, true, false}
 use Rattle.std.proofs.Common.{◌&&◌, cond, length, length-append, take, drop, append-nil}
 use Rattle.std.proofs.Common.{append_assoc, take-append-drop, refl, ap, sym, ◌∙◌, subst, arith}
@@ -27,7 +27,7 @@ use Rattle.dwarf_units.specs.Private.Plans.{Table, steps_of}
 use Rattle.dwarf_units.specs.Private.SharedTables.{SharedTable, told_table}
 use Rattle.dwarf_units.proofs.SharedTableLaws.{all_found, found_told}
 
--- ---- a list that shares attributes has more than are kept with it
+-- ---- a list that shares attributes has more attributes than the unshared ones
 
 some-behind : (known : List KnownAttribute) (number : ℕ) → number < length known
     → 0 < length (attributes_from known number)
@@ -51,7 +51,7 @@ some-behind known number within = by_rest (drop number known) refl
 
 -- ---- the head of a declaration
 
--- by whether attributes are shared
+-- The head, by whether attributes are shared.
 head-by : Format → ℕ → Bool → Bool → List AttributeSpecification → Option PlainHead
 head-by format tag children shares declared =
     cond shares None (option_map (λ len. record { tag = tag; children = children; len = len })
@@ -97,7 +97,7 @@ same-head known format d is = by_rest d.list.rest refl
         ∙ sym (ap (λ (b : Bool). head-by format d.tag d.children b all)
         (lt-ltb UNSHARED (length all) more))
 
--- .. and of a code
+-- The head of a code.
 
 pub same-code : (known : List KnownAttribute) (shared : SharedTable) (table : Table) (code : ℕ)
     → told_table known shared ≡ table → AreTold known shared.declarations
@@ -129,7 +129,7 @@ same-code known shared table code view are =
             (all_found (λ (d : SharedDeclaration). IsShared known d.list) (λ d. d.code == code)
             shared.declarations d are is)
 
--- ---- what is at hand
+-- ---- precomputed heads
 
 pub at-hand : (table : SharedTable) (code : ℕ) (head : PlainHead)
     → plain_at_hand table code ≡ Some head
@@ -150,7 +150,7 @@ at-hand table code head is = by_test (nat_lt 0 code) refl
     by_test true some false few is = cc
     by_test false some c few is = cc
 
--- .. by the list of the heads
+-- The precomputed head of a code, from the list of heads.
 pub hand-of : (table : SharedTable) (heads : List (Option PlainHead)) (place : ℕ)
     (head : Option PlainHead) → ArePlain table.format table.declarations heads
     → slice_get heads place ≡ Some head → place < length heads
@@ -177,7 +177,7 @@ none-of table heads place are past =
     ∙ ap (λ (b : Bool). cond b (plain_head table.format table.declarations (place + 1)) None)
     few)
 
--- ---- the plain entry at a place
+-- ---- the fixed-size entry at an offset
 
 pub found-at : (table : Table) (depth : ℕ) (unit : List ℕ) (at : ℕ) (code : Option ℕ)
     (head : Option PlainHead) (found : Option (PlainHead × ℕ)) → 0 < depth → depth ≤ depth_limit

@@ -1,4 +1,4 @@
--- Plain heads, and the entries that have them.
+-- Fixed-size heads, and the entries that have them.
 use Rattle.std.proofs.Common.{◌≡◌, ℕ, ◌+◌, ◌<◌, ◌≤◌, ◌⊎◌, inl, inr, List, [], ◌∷◌, ◌++◌, Bool, true}
 use Rattle.std.proofs.Common.{false, cond, length, length-append, refl, ap, sym, ◌∙◌, subst, arith}
 use Rattle.std.proofs.Common.{append-nil}
@@ -34,9 +34,9 @@ use Rattle.dwarf_units.proofs.JoinedSteps.{skip-within}
 use Rattle.dwarf_units.proofs.PlanLaws.{kept-is}
 use Rattle.dwarf_units.proofs.SharedTableLaws.{found_told}
 
--- ---- heads, each for its code
+-- ---- the heads by code
 
--- those of so many codes
+-- The heads of the first codes.
 pub record PlainSoFar (format : Format) (declarations : List SharedDeclaration) (place : ℕ)
     (heads : List (Option PlainHead)) : Type 0 where
   pub len : length heads ≡ place
@@ -68,7 +68,7 @@ pub plain-all : (format : Format) (declarations : List SharedDeclaration) (place
 plain-all format declarations place heads so_far all =
     record { len = so_far.len ∙ all; each = so_far.each }
 
--- ---- a code of one byte
+-- ---- a one-byte code
 
 pub one-byte : (bytes : List ℕ) (at code : ℕ) → slice_get bytes at ≡ Some code → code ≤ code_limit
     → uleb_at bytes at ≡ Ok (code, at + 1)
@@ -86,7 +86,7 @@ one-byte bytes at code there small = uleb_again bytes at code (at + 1) (record {
   next_is = refl;
 })
 
--- ---- attributes that are passed over
+-- ---- attributes that are skipped
 
 passed-steps : (format : Format) (steps : List AttributeStep) (len : ℕ) (bytes : List ℕ) (at : ℕ)
     → passed_len steps ≡ Some len → at + len ≤ length bytes → steps_at format steps bytes at
@@ -124,9 +124,9 @@ passed-attributes format declared len bytes at is le =
         (all.0, here ∙ ap (λ (k : ℕ). Ok (all.0, k)) place)
     by_read (Err e) here h = cc
 
--- ---- an entry with a plain head
+-- ---- an entry with a fixed-size head
 
--- .. by its declaration
+-- The entry, given its declaration.
 of-declaration : (table : Table) (declaration : Declaration) (depth code : ℕ) (unit : List ℕ)
     (at after : ℕ) (attributes : List Attribute) → declaration_of table.declarations code
     ≡ Some declaration → 0 < code → 0 < depth → depth ≤ depth_limit

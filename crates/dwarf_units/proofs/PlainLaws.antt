@@ -1,5 +1,5 @@
--- An attribute whose form says a layout in which no value is refused is read, or passed, by the
--- layout alone.
+-- If the form of an attribute has a layout in which every value is valid, the attribute is read or
+-- skipped by the layout alone.
 use Rattle.std.proofs.Common.{◌≡◌, ℕ, ℤ, List, Bool, true, false, cond, refl, ap, sym, ◌∙◌, subst}
 use Rattle.std.specs.Prelude.{Option, Some, None, Result, Ok, Err, is_some, not, ◌==◌, ◌&&◌, ◌||◌}
 use Rattle.std.specs.Option.{option_map_or}
@@ -36,7 +36,7 @@ never_count name c h =
     false in
     subst (λ (b : Bool). (counts && b) ≡ false) (sym h) (and_false counts)
 
--- nor is a value of an attribute that is not used
+-- No value of an unused attribute is refused as a negative count.
 unused_count : (name : ℕ) (c : Content) → is_used name ≡ false → is_negative_count name c ≡ false
 unused_count name c unused = by_forms (forms_of name) unused
   where
@@ -60,14 +60,14 @@ not_indirect form found is apart = by_test (form == DW_FORM_INDIRECT) refl
         absurd (apart (same_form found Indirect (sym is ∙ here)))
     by_test false same = refl
 
--- the steps of reading an attribute before its value
+-- Reading an attribute up to its value, if the form is direct and accepted.
 pub direct_chain : {A : Type 0} (test : Bool) (inner : Result (ℕ × ℕ) Cause) (form at : ℕ)
     (accepted : ℕ → Bool) (read : ℕ × ℕ → Result A Cause) → test ≡ false → accepted form ≡ true
     → (cond test inner (Ok (form, at)) >>= λ f. refuse_if (not (accepted f.0)) causes.AttrForm
     >>= λ _. read f) ≡ read (form, at)
 direct_chain test inner form at accepted read plain fine = rw (plain, fine) refl
 
--- ---- what a plain layout reads is not negative
+-- ---- a value that is read in a plain layout is not negative
 
 abbrev IsNotNegative : Result (Content × ℕ) ReadFault → Type 0
 IsNotNegative (Ok c) = is_negative c.0 ≡ false
@@ -95,7 +95,7 @@ content-fine layouts.Sixteen format bytes at h = cc
 content-fine (layouts.Block width) format bytes at h = cc
 content-fine layouts.LongBlock format bytes at h = cc
 
--- ---- so none is refused of a layout that is known
+-- ---- so no value in a known layout is refused
 
 abbrev pub IsFine : ℕ → Result (Content × ℕ) ReadFault → Type 0
 IsFine name (Ok c) = is_negative_count name c.0 ≡ false
@@ -124,7 +124,7 @@ known-fine name layout format bytes at h = by_use (is_used name) refl h
         (content-fine layout format bytes at (or_false (is_plain layout) h))
     by_use false unused h = of_unused unused (content_at layout format bytes at)
 
--- ---- the value is the content
+-- ---- the value is the content that the layout reads
 
 pub value-direct : (form : ℕ) (layout : ValueLayout) (format : Format) (constant : Option ℤ)
     (bytes : List ℕ) (at : ℕ) → form_of form ≡ Some (Direct layout)

@@ -1,4 +1,4 @@
--- An attribute in a plain layout is read, or passed, without a test.
+-- An attribute in a plain layout is read or skipped without validation.
 use Rattle.std.proofs.Common.{◌≡◌, ℕ, List, [], Bool, true, false, cond, refl, ap, sym, ◌∙◌, subst}
 use Rattle.std.specs.Prelude.{Option, Some, None, Result, Ok, Err, not, ◌==◌, ◌||◌}
 use Rattle.dwarf_bytes.specs.declared.constants.TheConstants.{DW_FORM_INDIRECT}
@@ -24,9 +24,9 @@ use Rattle.dwarf_units.specs.Private.Plans.{is_plain, known_layout, taken_at}
 use Rattle.dwarf_units.proofs.PlainLaws.{not_indirect, direct_chain, IsFine, known-fine}
 use Rattle.dwarf_units.proofs.PlainLaws.{value-direct, direct-content}
 
--- ---- so it is not judged
+-- ---- so it is not validated
 
--- a content as a value, a value as the attribute, and the same with the test between
+-- The content as a value, the value as an attribute, and the attribute after the validation.
 abbrev as_value : AttributeSpecification → Content × ℕ → Result (Value × ℕ) ValueFault
 as_value s c = Ok (record { form = s.form; content = c.0 }, c.1)
 
@@ -110,7 +110,7 @@ taken-is format s layout bytes at h = by_form (accepts s.name s.form) refl (form
     by_form true fine (Some ImplicitConst) is h = cc
     by_form true fine (Some Indirect) is h = cc
 
--- what is behind a value, where it is not kept
+-- The offset after a value that is not stored.
 abbrev pub none_behind : {X : Type 0} → X × ℕ → Result (List Attribute × ℕ) Cause
 none_behind x = Ok ([], x.1)
 

@@ -1,4 +1,5 @@
--- Reading by the steps of a declaration keeps what reading its attributes one by one does.
+-- Running the steps of a declaration stores the same attributes as reading its attributes one by
+-- one.
 use Rattle.std.proofs.Common.{◌≡◌, ℕ, ◌+◌, ◌≤◌, List, [], ◌∷◌, ◌++◌, Bool, true, false, cond}
 use Rattle.std.proofs.Common.{length, refl, ap, sym, ◌∙◌}
 use Rattle.std.specs.Prelude.{Result, Ok, Err, not, ◌&&◌, filter}
@@ -19,7 +20,7 @@ use Rattle.dwarf_units.proofs.EntryAdvances.{attribute-stays}
 use Rattle.dwarf_units.proofs.PlanSteps.{step-is}
 use Rattle.dwarf_units.proofs.JoinedSteps.{in_front-none, in_front-twice, before-is}
 
--- ---- the attributes that are kept
+-- ---- the attributes that are stored
 
 attribute-name : (format : Format) (s : AttributeSpecification) (bytes : List ℕ) (at : ℕ)
     (x : Attribute × ℕ) → attribute_at format s bytes at ≡ Ok x → x.0.name ≡ s.name
@@ -57,7 +58,7 @@ kept-none : (keep : Bool) → kept_attributes keep [] ≡ []
 kept-none true = refl
 kept-none false = refl
 
--- what is made of one attribute, of those behind it, and of all
+-- The attributes that are stored of one attribute, of those after it, and of all.
 abbrev kept_one : Bool → Attribute × ℕ → Result (List Attribute × ℕ) Cause
 kept_one keeps a = Ok (cond keeps (a.0 ∷ []) [], a.1)
 
@@ -99,7 +100,7 @@ kept-is keep format (s ∷ ss) bytes at le =
         (by_rest a.0 (attribute-name format s bytes at a is) (attributes_at format ss bytes a.1))
     by_first rest (Err e) is = refl
 
--- the steps of attributes in front of others
+-- The steps of two concatenated lists of attributes.
 pub steps-both : (keep : Bool) (format : Format) (xs ys : List AttributeSpecification)
     (bytes : List ℕ) (at : ℕ) → steps_at format (steps_of keep format (xs ++ ys)) bytes at
     ≡ (steps_at format (steps_of keep format xs) bytes at >>= λ first. in_front first.0

@@ -1,4 +1,4 @@
--- What each step of a plan keeps.
+-- The attributes that each step of a plan stores.
 use Rattle.std.proofs.Common.{◌≡◌, ℕ, ◌+◌, ◌<◌, ◌≤◌, List, [], ◌∷◌, Bool, true, false, cond, length}
 use Rattle.std.proofs.Common.{refl, ap, sym, ◌∙◌, subst, arith}
 use Rattle.std.specs.Prelude.{Option, Some, None, Result, Ok, Err, not, ◌&&◌}
@@ -27,9 +27,9 @@ use Rattle.dwarf_units.proofs.PlainReads.{taken-is, passed-is}
 use Rattle.dwarf_units.proofs.FixedReads.{ReadsFixed}
 use Rattle.dwarf_units.proofs.FixedAttributes.{fixed-attribute, same-place, skip-fixed}
 
--- ---- what each step keeps
+-- ---- the attributes that each step stores
 
--- what is kept behind bytes that are passed over, by whether they are there
+-- A step that skips bytes and stores an attribute, if enough bytes remain.
 pub keep-within : (format : Format) (n : ℕ) (name : UsedName) (s : AttributeSpecification)
     (layout : Option ValueLayout) (bytes : List ℕ) (at : ℕ) → at + n ≤ length bytes
     → step_at format (Keep n name s layout) bytes at ≡ kept_at format name s layout bytes (at + n)
@@ -61,7 +61,7 @@ keep-here format name s layout bytes at le =
     keep-within format 0 name s layout bytes at (omega (arith, le))
     ∙ ap (λ (k : ℕ). kept_at format name s layout bytes k) here
 
--- an attribute is of its own name
+-- An attribute that is read has the name of its specification.
 own-name : (format : Format) (s : AttributeSpecification) (bytes : List ℕ) (at : ℕ)
     (a : Attribute × ℕ) → attribute_at format s bytes at ≡ Ok a → a.0.name ≡ s.name
 own-name format s bytes at a h =

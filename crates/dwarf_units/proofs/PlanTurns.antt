@@ -1,4 +1,4 @@
--- The turns of the loops over steps.
+-- The iterations of the loops over steps.
 use Rattle.std.proofs.Common.{◌≡◌, ℕ, ◌≤◌, List, [], ◌∷◌, ◌++◌, Bool, length, take, drop, refl, ap}
 use Rattle.std.proofs.Common.{sym, ◌∙◌, subst, append_assoc, arith, inl, inr}
 use Rattle.std.proofs.lemmas.List.{drop_all, take-append-drop}
@@ -20,7 +20,8 @@ use Rattle.dwarf_units.specs.Private.Used.{used_attributes_at}
 use Rattle.dwarf_units.proofs.PlanLaws.{kept-is, steps-both}
 use Rattle.dwarf_units.proofs.UsedLaws.{among-behind, with-none, with-twice}
 
--- what was used, in front of what the steps that are left keep, is the whole
+-- The attributes stored so far, completed by those that the remaining steps store, are the whole
+-- result.
 abbrev pub KeptSoFar : Format → List AttributeStep → List ℕ → Used → ℕ → Result (Used × ℕ) Cause
     → Type 0
 KeptSoFar format left bytes used place whole = used_behind used (steps_at format left bytes place)
@@ -31,7 +32,7 @@ used-twice : (used : Used) (xs : List Attribute) (r : Result (List Attribute × 
 used-twice used xs (Ok rest) = ap (λ all. Ok (all, rest.1)) (sym (with-twice used xs rest.0))
 used-twice used xs (Err e) = refl
 
--- a step that was taken
+-- The invariant after a step succeeds.
 pub kept-more : (format : Format) (step : AttributeStep) (left behind : List AttributeStep)
     (bytes : List ℕ) (used kept : Used) (old new : Position) (whole : Result (Used × ℕ) Cause)
     → left ≡ step ∷ behind → old.bytes ≡ bytes
@@ -58,7 +59,7 @@ kept-more format step left behind bytes used kept old new whole parts same so_fa
         rw (← all, ← place) (used-twice used step.0 (steps_at format behind bytes step.1))
     by_step (Err e) is = cc
 
--- a step that was refused, or for which memory ran out
+-- The whole read fails if a step fails or memory runs out.
 pub kept-fault : (format : Format) (step : AttributeStep) (left behind : List AttributeStep)
     (bytes : List ℕ) (used : Used) (old : Position) (cause : Cause)
     (whole : Result (Used × ℕ) Cause) → left ≡ step ∷ behind → old.bytes ≡ bytes
@@ -90,15 +91,15 @@ kept-end format left bytes used place whole none so_far =
     sym so_far ∙ (ap (λ (l : List AttributeStep). used_behind used (steps_at format l bytes place))
     none ∙ ap (λ (all : Used). Ok (all, place)) (with-none used))
 
--- ---- own attributes, and those behind them
+-- ---- unshared attributes and the attributes after them
 
--- what is used of a read, where nothing was before it
+-- Attributes that are added to an empty set are all of the result.
 used-first : (r : Result (List Attribute × ℕ) Cause) → used_behind (used_among []) r
     ≡ (r >>= λ kept. Ok (used_among kept.0, kept.1))
 used-first (Ok kept) = ap (λ all. Ok (all, kept.1)) (among-behind [] kept.0)
 used-first (Err e) = refl
 
--- those of own attributes, in front of what is kept of the rest
+-- The unshared attributes, completed by the shared ones.
 both-is : (keep : Bool) (format : Format) (own rest : List AttributeSpecification) (bytes : List ℕ)
     (first : ℕ) (here : Result (Used × ℕ) Cause) → first ≤ length bytes
     → used_behind (used_among []) (steps_at format (steps_of keep format own) bytes first) ≡ here
@@ -133,7 +134,8 @@ own-fault keep format own rest bytes first cause within (inl memory) = inl memor
 own-fault keep format own rest bytes first cause within (inr here) =
     inr (both-is keep format own rest bytes first (Err cause) within here)
 
--- what was kept of each is what is kept of all
+-- Reading the unshared and then the shared attributes stores the used attributes of the whole
+-- declaration.
 pub read-both : (keep : Bool) (format : Format) (own rest : List AttributeSpecification)
     (old mid new : Position) (kept used : Used) (result : Result (Unit {0}) Cause)
     → old.place ≤ length old.bytes → used_behind (used_among [])
@@ -155,7 +157,7 @@ read-both keep format own rest old mid new kept used (Err cause) within here sam
     ∙ subst (λ (b : List ℕ). used_behind kept
     (steps_at format (steps_of keep format rest) b mid.place) ≡ Err cause) same behind)
 
--- ---- the steps of a declaration, made from its last attribute on
+-- ---- the steps of a declaration, built from its last attribute
 
 pub made-none : (keep : Bool) (format : Format) (declared : List AttributeSpecification)
     → [] ≡ steps_of keep format (drop (length declared) declared)

@@ -1,4 +1,5 @@
--- Tables whose declarations share attributes, as tables that have all of them.
+-- Tables whose declarations share attributes, compared with tables whose declarations have all
+-- attributes.
 use Rattle.std.proofs.Common.{◌≡◌, ℕ, suc, ◌+◌, List, [], ◌∷◌, ◌++◌, length, take, refl, ap, sym}
 use Rattle.std.proofs.Common.{◌∙◌, subst, arith, append-nil, cond}
 use Rattle.std.specs.Prelude.{Bool, true, false, ◌==◌, Option, Some, None, IfSome, map, find}
@@ -25,7 +26,7 @@ use Rattle.dwarf_units.specs.Private.Plans.{table_size}
 use Rattle.dwarf_units.specs.Private.SharedTables.{IsReadable, SharedTable, own_size, told_table}
 use Rattle.dwarf_units.specs.Private.SharedTables.{told_tables}
 
--- the declaration of a code, and how its attributes are read, by its place
+-- The declaration of a code and its plan, by their common index.
 pub planned_at : {D : Type 0} (p : D → Bool) (plan_for : D → Planned) (table : List D)
     (plans : List Planned) (place : ℕ) (declaration : D) (plan : Planned)
     → position p table ≡ Some place → plans ≡ map plan_for table
@@ -41,7 +42,7 @@ planned_at p plan_for table plans place declaration plan at are here planned = (
         → x ≡ y
     same_some h = cc
 
--- .. among declarations with all attributes
+-- The same declaration, with all attributes.
 pub found_told : (known : List KnownAttribute) (code : ℕ) (ds : List SharedDeclaration)
     (found : Option SharedDeclaration) → find (λ d. d.code == code) ds ≡ found
     → find (λ d. d.code == code) (tell known ds) ≡ option_map (told known) found
@@ -74,7 +75,7 @@ head_found known shared table code found view is =
     (sym (found_told known code shared.declarations found is))
     ∙ ap (λ (t : Table). heads_by t (declaration_of t.declarations code)) view
 
--- what is true of all is true of one that is found
+-- A property of every element is a property of the element that is found.
 pub all_found : {D : Type 0} (P : D → Type 0) (p : D → Bool) (xs : List D) (x : D) → All P xs
     → find p xs ≡ Some x → P x
 all_found P p [] x all is = cc
@@ -90,7 +91,7 @@ all_found P p (y ∷ ys) x all is = by_test
 
 -- ---- the size of a table
 
--- by what its declarations and plans are
+-- The size is computed from the declarations and plans.
 pub size_sum : (inner table : SharedTable) (ds : List SharedDeclaration) (plans : List Planned)
     (len attributes steps : ℕ) → inner ≡ table → ds ≡ inner.declarations
     → plans ≡ map (λ d. plan_of inner.format d.list.own) inner.declarations
@@ -111,7 +112,7 @@ size_sum inner table ds plans len attributes steps view same planned len_is attr
     (plan_of t.format d.list.own)) t.declarations) view)) in
     omega (arith, len_is, a, s)
 
--- the attributes that a declaration has itself are the first ones of all
+-- The unshared attributes of a declaration are the first ones of all.
 own-first : (known : List KnownAttribute) (list : SharedAttributes) → IsShared known list
     → take UNSHARED (all_of known list) ≡ list.own
 own-first known list is = by_rest list.rest is.full
@@ -154,7 +155,7 @@ own_size-is known table are =
       own-sum known table.declarations (λ l. plan_len (plan_of table.format l)) are,
     )
 
--- ---- what is known grows
+-- ---- more attributes are memoized
 
 pub readable-grows : (old new : LinkedPlaces) (table : SharedTable) → LinksGrow old new
     → IsReadable old table → IsReadable new table

@@ -1,4 +1,4 @@
--- The used attributes of an entry in slots: what one more attribute makes of them.
+-- The used attributes of an entry in slots: the effect of adding one attribute.
 use Rattle.std.proofs.Common.{◌≡◌, ℕ, ◌<◌, ◌⊎◌, inl, inr, List, [], ◌∷◌, length, get_or, Bool, true}
 use Rattle.std.proofs.Common.{false, refl, ap, sym, ◌∙◌}
 use Rattle.std.specs.Prelude.{Option, Some}
@@ -22,7 +22,7 @@ use Rattle.dwarf_units.specs.Private.Used.{Used, with_used}
 use Rattle.dwarf_units.proofs.NameLaws.{named, found-number}
 use Rattle.dwarf_units.proofs.UsedLaws.{or-none, under-by, same-by}
 
--- ---- names, their numbers and their slots
+-- ---- names, their codes and their slots
 
 in-names : (name : UsedName) → get_or used_names (slot_of name) Name ≡ name
 in-names Name = refl
@@ -42,7 +42,7 @@ in-names RnglistsBase = refl
 same-name : (x y : UsedName) → slot_of x ≡ slot_of y → x ≡ y
 same-name x y same = sym (in-names x) ∙ (ap (λ slot. get_or used_names slot Name) same ∙ in-names y)
 
--- ---- one attribute behind a value
+-- ---- adding one attribute
 
 this : (a : Attribute) (name : ℕ) → a.name ≡ name → value_of (a ∷ []) name ≡ Some a.value
 this a name is = rw (eq-eqb a.name name is) refl
@@ -58,9 +58,9 @@ not-found a name x found not_there is =
     let same : x ≡ name = cc in
     not_there (ap slot_of same)
 
--- ---- one of a used name, in its slot
+-- ---- adding one used attribute in its slot
 
--- .. where there is none yet
+-- The slot is empty, so the attribute is stored.
 put-each : (has : List Bool) (values : List AttributeValue) (a : Attribute) (name : UsedName)
     → used_name a.name ≡ Some name → slot_of name < length has → slot_of name < length values
     → get_or has (slot_of name) false ≡ false → (x : UsedName)
@@ -101,7 +101,7 @@ put-is u has values a name slot is at found within place free = rw (← is, at)
     (rw (← at) free) x ∙ ap (λ v. option_or v (value_of (a ∷ []) (name_of x)))
     (sym (under-by (λ n. in_slot has values (slot_of n)) x))))
 
--- .. where there is one
+-- The slot is occupied, so the attribute is ignored.
 kept-each : (has : List Bool) (values : List AttributeValue) (a : Attribute) (name : UsedName)
     → used_name a.name ≡ Some name → get_or has (slot_of name) false ≡ true → (x : UsedName)
     → option_or (in_slot has values (slot_of x)) (value_of (a ∷ []) (name_of x))

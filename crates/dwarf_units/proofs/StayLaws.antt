@@ -1,4 +1,4 @@
--- Which tables stay, as one more is put behind those that do.
+-- The permanently cached tables, as one more table is added.
 use Rattle.std.proofs.Common.{◌≡◌, ◌⊎◌, inl, inr, Bool, get_or, ℕ, suc, zero, ◌+◌, ◌<◌, ◌≤◌, List}
 use Rattle.std.proofs.Common.{[], ◌∷◌, ◌++◌, length, take, length-take-le, true, false, refl, ap}
 use Rattle.std.proofs.Common.{sym, ◌∙◌, subst, arith}
@@ -16,7 +16,7 @@ use Rattle.dwarf_units.specs.Units.{declarations_limit}
 use Rattle.dwarf_units.proofs.KeptLaws.{take_all, take_front}
 use Rattle.dwarf_units.proofs.TableLaws.{stands_read, behind_at}
 
--- those that stay are followed by more
+-- Permanently cached tables are only appended to.
 abbrev pub Grows : KeptTables → KeptTables → Type 0
 Grows old new = (rest : List Table) × (take new.kept new.tables ≡ take old.kept old.tables ++ rest)
 
@@ -30,7 +30,7 @@ got_before [] ys i t at = cc
 got_before (x ∷ xs) ys zero t at = at
 got_before (x ∷ xs) ys (suc i) t at = got_before xs ys i t at
 
--- what is true of a unit stays so
+-- What holds for the table of a unit still holds after more tables are cached.
 pub stays_on : (old new : KeptTables) (unit : UnitHeader) → Grows old new
     → new.section ≡ old.section → StaysOrIsTooLarge old unit → StaysOrIsTooLarge new unit
 stays_on old new unit grows same (table, at, stands, is) =
@@ -55,7 +55,7 @@ stays_on old new unit grows same (table, at, stands, is) =
         ap (λ (s : List ℕ). size_limit s) same in
         inr (omega (arith, large, sum, limit))
 
--- the table of a unit that is put behind those that stay stays too, or has no room
+-- A table that is added for a unit is permanent, or exceeds the limit.
 pub stays_with : (old : KeptTables) (unit : UnitHeader) (table : Table)
     → old.kept ≤ length old.tables → IsAt unit.format unit.abbreviations table
     → StandsIn old.section table → StaysOrIsTooLarge (with_table old table) unit
@@ -105,7 +105,7 @@ stays_with old unit table within at stands =
           ([], front ∙ (is ∙ append_none (take old.kept old.tables))),
         )
 
--- .. where it was read for that unit
+-- The same for a table that was parsed for the unit.
 pub stays_behind : (old new : KeptTables) (unit : UnitHeader) (room left number : ℕ)
     → old.kept ≤ length old.tables → room ≤ declarations_limit
     → IsAdded unit.format unit.abbreviations room left old new number
@@ -117,7 +117,7 @@ stays_behind old new unit room left number within few added =
     subst (λ (k : KeptTables). StaysOrIsTooLarge k unit × Grows old k) (sym added.added)
     (stays_with old unit added.table within added.at stands)
 
--- .. so it is of each unit
+-- It holds for the units up to the next index.
 pub stays_next : (old new : KeptTables) (units : List UnitHeader) (index : ℕ) (d : UnitHeader)
     → Grows old new → new.section ≡ old.section → index < length units
     → StaysOrIsTooLarge new (get_or units index d) → All (StaysOrIsTooLarge old) (take index units)

@@ -1,4 +1,4 @@
--- The tables that are kept, as they are told by what is known.
+-- The cached tables as tables with all attributes, given the memoized attributes.
 use Rattle.std.proofs.Common.{◌≡◌, ℕ, ◌+◌, ◌≤◌, List, [], ◌∷◌, ◌++◌, length, take, refl, ap, sym}
 use Rattle.std.proofs.Common.{◌∙◌, subst, arith}
 use Rattle.std.specs.Prelude.{Some, Ok, slice_get}
@@ -23,7 +23,7 @@ use Rattle.dwarf_units.proofs.MoreTables.{elsewhere_as}
 use Rattle.dwarf_units.proofs.SharedTableLaws.{readable-grows, tables-stay}
 use Rattle.dwarf_units.proofs.TableLaws.{behind_at, stands_read}
 
--- ---- fewer tables, and one more behind them
+-- ---- a shorter list of tables, and one more table appended
 
 pub told-before : (known : List KnownAttribute) (tables after : List SharedTable) (kept : ℕ)
     → after ≡ take kept tables → told_tables known after ≡ take kept (told_tables known tables)
@@ -63,7 +63,7 @@ readable-behind lists tables after kept table all one is =
     (All-take (IsReadable lists) kept tables all)
     (All-cons (IsReadable lists) table [] one (All-nil (IsReadable lists))))
 
--- ---- what is known grows
+-- ---- more attributes are memoized
 
 pub seen-grows : (old new : LinkedPlaces) (store : TableStore) → LinksGrow old new
     → AreStored old store → seen new store ≡ seen old store
@@ -86,9 +86,9 @@ stored-grows old new store grows are =
       readable = λ k d lt. readable-grows old new _ grows (are.readable k d lt);
     }
 
--- ---- a table that is read
+-- ---- a table that is parsed
 
--- it may be kept
+-- The table may be cached.
 pub is_new : (old new : LinkedPlaces) (store : TableStore) (view : KeptTables) (table : SharedTable)
     (format : Format) (offset left : ℕ) → LinksGrow old new → AreStored old store
     → seen old store ≡ view → IsReadable new table
@@ -120,7 +120,7 @@ is_new old new store view table format offset left grows are same readable at re
     told_by : LinkedPlaces → SharedDeclaration → Declaration
     told_by lists d = told lists.places.known d
 
--- .. and was added
+-- The table was added.
 pub is_added : (old new : LinkedPlaces) (store now : TableStore) (view : KeptTables)
     (table : SharedTable) (format : Format) (offset room left number : ℕ) → LinksGrow old new
     → AreStored old store → seen old store ≡ view

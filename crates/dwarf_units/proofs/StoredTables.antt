@@ -1,4 +1,4 @@
--- A table that is known among those that are stored.
+-- Finding a table in the cache.
 use Rattle.std.proofs.Common.{◌≡◌, ◌⊎◌, inl, inr, ℕ, ◌+◌, ◌<◌, ◌≤◌, List, get_or, length}
 use Rattle.std.proofs.Common.{length-take-le, take, ap, sym, ◌∙◌, subst, arith}
 use Rattle.std.specs.Prelude.{Option, Some, Result, Ok, slice_get, option_map, sum_by}
@@ -25,7 +25,7 @@ use Rattle.dwarf_units.specs.Private.Tables.{StaysOrIsTooLarge, seen, size_limit
 use Rattle.dwarf_units.proofs.MoreTables.{known_once, known_too_long}
 use Rattle.dwarf_units.proofs.TableLaws.{known_again, known_stands}
 
--- ---- a table that is known
+-- ---- a cached table
 
 pub known-told : (known : List KnownAttribute) (tables : List SharedTable) (number : ℕ)
     (table : SharedTable) → slice_get tables number ≡ Some table
@@ -41,7 +41,7 @@ got_taken tables kept i table lt within at =
     ∙ ap (λ (t : Table). Some t) (get_or-take kept tables i table lt ∙ get_or_from_slice_get tables
     i table table at)
 
--- it stays, or has no room
+-- A cached table is permanent, or exceeds the limit.
 pub known-stays : (lists : LinkedPlaces) (store : TableStore) (number : ℕ) (table : Table)
     (unit : UnitHeader) → AreStored lists store → slice_get (seen lists store).tables number
     ≡ Some table → IsAt unit.format unit.abbreviations table
@@ -70,7 +70,7 @@ known-stays lists store number table unit are at is =
         are.kept.past table (subst (λ (k : ℕ). slice_get tables k ≡ Some table) last at) in
         inr (omega (arith, past, are.kept.counted))
 
--- the table of a number is readable, and seen there
+-- The table at an index is readable, and is the table of the view at this index.
 pub table-at : (lists : LinkedPlaces) (store : TableStore) (view : KeptTables) (number : ℕ)
     (table : SharedTable) → AreStored lists store → seen lists store ≡ view
     → number < length view.tables → table ≡ get_or store.tables.items number table
@@ -94,7 +94,7 @@ table-at lists store view number table are same lt is = (
     here = slice_get-get_or store.tables.items number table within
         ∙ ap (λ (t : SharedTable). Some t) (sym is)
 
--- how many declarations a known table has
+-- The number of declarations of a cached table.
 known-len : (known : List KnownAttribute) (tables : List SharedTable) (number len : ℕ)
     (table at_index : SharedTable) → slice_get tables number ≡ Some table
     → at_index ≡ get_or tables number at_index → len ≡ length at_index.declarations
@@ -153,7 +153,7 @@ known-fits lists store view number len table at_index offset left are same at pl
       fits,
     )
 
--- a known table is what is read for its unit
+-- A cached table is what is parsed for its unit.
 pub known-is : (lists : LinkedPlaces) (store : TableStore) (view : KeptTables) (number : ℕ)
     (shared : SharedTable) (format : Format) (offset : ℕ) → AreStored lists store
     → seen lists store ≡ view → slice_get store.tables.items number ≡ Some shared
@@ -178,7 +178,7 @@ known-is lists store view number shared format offset are same at place form =
       form,
     )
 
--- .. and has one number
+-- A cached table has only one index.
 pub known-number : (lists : LinkedPlaces) (store : TableStore) (view : KeptTables) (i j : ℕ)
     (table : SharedTable) (other : Table) (format : Format) (offset : ℕ) → AreStored lists store
     → seen lists store ≡ view → slice_get store.tables.items i ≡ Some table → table.offset ≡ offset

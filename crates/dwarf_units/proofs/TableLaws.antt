@@ -1,4 +1,4 @@
--- The turns of the loop over the tables of the units.
+-- The iterations of the loop over the tables of the units.
 use Rattle.std.proofs.Common.{◌≡◌, ℕ, ◌+◌, ◌-◌, ◌<◌, ◌≤◌, ◌⊎◌, inl, inr, List, [], ◌∷◌, ◌++◌}
 use Rattle.std.proofs.Common.{length, length-append, take, drop, get_or, refl, ap, sym, ◌∙◌, subst}
 use Rattle.std.proofs.Common.{arith, drop-cons, add-one}
@@ -29,7 +29,8 @@ abbrev pub table_for : List ℕ → List (List Declaration) → UnitHeader → R
 table_for section before header = declarations_of (declarations_limit - sum_by length before)
     section header.abbreviations
 
--- the tables of the units before the index, of which there are so many declarations left
+-- The tables of the units before the index are parsed, and `left` declarations remain in the
+-- budget.
 pub record Judged (section : List ℕ) (units : List UnitHeader) (index left : ℕ) : Type 0 where
   pub made : List (List Declaration)
   pub counted : left + sum_by length made ≡ declarations_limit
@@ -117,7 +118,7 @@ judged_fault section units index left d fault so_far within (inr bad) =
         (same_err {X = List Declaration}
         (record { section = sections.DebugAbbrev; cause = e.0; at = e.1 }) fault h)))
 
--- a table that was read is read again where there is room for it
+-- A table that was parsed is parsed to the same result with any budget that is large enough.
 pub table_again : (room other : ℕ) (section : List ℕ) (offset : ℕ) (table : List Declaration)
     → declarations_of room section offset ≡ Ok table → length table ≤ other
     → declarations_of other section offset ≡ Ok table
@@ -142,7 +143,7 @@ table_again room other section offset table read few =
         >>= λ found. (let f : List Declaration → Result (List Declaration) At = λ z. Ok z in
         f found.0)) again ∙ ap (λ (t : List Declaration). Ok t) same
 
--- .. and has no more declarations than there was room for
+-- A table has no more declarations than the budget.
 pub table_few : (room : ℕ) (section : List ℕ) (offset : ℕ) (table : List Declaration)
     → declarations_of room section offset ≡ Ok table → length table ≤ room
 table_few room section offset table read = by_read (table_at room section offset) refl read
@@ -157,7 +158,7 @@ table_few room section offset table read = by_read (table_at room section offset
     by_read (Ok found) is h = subst (λ (t : List Declaration). length t ≤ room) (same_table h)
         (table_spelled room section offset found.0 found.1 is).2
 
--- the table of a unit, where there is room for as many declarations as units may have in all
+-- The table of a unit is the result of parsing it with the whole budget.
 pub table_is : (section : List ℕ) (headers : List UnitHeader) (tables : List (List Declaration))
     (index : ℕ) (d : UnitHeader) → tables_of section headers ≡ Ok tables → index < length headers
     → declarations_of declarations_limit section (get_or headers index d).abbreviations
@@ -173,7 +174,7 @@ table_is section headers tables index d all within =
     table_again room declarations_limit section offset (get_or tables index []) read
     (omega (arith, few))
 
--- a table that was read stands at its offset
+-- A table that was parsed is the table at its offset.
 pub stands_read : (section : List ℕ) (room : ℕ) (table : Table) (offset : ℕ) → table.offset ≡ offset
     → in_section sections.DebugAbbrev (declarations_of room section offset) ≡ Ok table.declarations
     → length table.declarations ≤ declarations_limit → StandsIn section table
@@ -183,7 +184,7 @@ stands_read section room table offset same read few =
     table.declarations (subst (λ (k : ℕ). in_section sections.DebugAbbrev
     (declarations_of room section k) ≡ Ok table.declarations) (sym same) read)) few
 
--- a table that is known stands where a unit names it
+-- A cached table is the table at the offset that a unit names.
 pub known_stands : (section : List ℕ) (tables : List Table) (number : ℕ) (table : Table)
     (offset : ℕ) → All (StandsIn section) tables → slice_get tables number ≡ Some table
     → table.offset ≡ offset → declarations_of declarations_limit section offset
@@ -196,7 +197,7 @@ known_stands section tables number table offset all at same =
     subst (λ (k : ℕ). declarations_of declarations_limit section k ≡ Ok table.declarations) same
     (subst (λ (t : Table). StandsIn section t) here stands)
 
--- .. and is read again where there is room for it
+-- Parsing a cached table again succeeds if the budget is large enough.
 pub known_again : (section : List ℕ) (tables : List Table) (number : ℕ) (table : Table)
     (offset left : ℕ) → All (StandsIn section) tables → slice_get tables number ≡ Some table
     → table.offset ≡ offset → length table.declarations ≤ left
@@ -206,7 +207,7 @@ known_again section tables number table offset left all at same few =
     (table_again declarations_limit left section offset table.declarations
     (known_stands section tables number table offset all at same) few)
 
--- fewer tables stand, and one more behind them
+-- The invariant holds for a shorter list of tables, and for one more table appended.
 pub stand_before : (section : List ℕ) (tables after : List Table) (kept : ℕ)
     → All (StandsIn section) tables → after ≡ take kept tables → All (StandsIn section) after
 stand_before section tables after kept all is =

@@ -1,4 +1,4 @@
--- Each unit takes bytes, and none reaches past the end of the section.
+-- Each unit takes at least one byte, and none extends beyond the end of the section.
 use Rattle.std.proofs.Common.{◌≡◌, ℕ, ◌+◌, ◌<◌, ◌≤◌, ◌⊎◌, inl, inr, List, [], ◌∷◌, false, length}
 use Rattle.std.proofs.Common.{take, refl, ap, sym, ◌∙◌, arith, length-take, ◌++◌}
 use Rattle.std.specs.Prelude.{Result, Ok, Err, nat_lt, nat_le, ◌==◌, not, ok_or, filter}
@@ -20,7 +20,7 @@ use Rattle.dwarf_units.specs.declared.unit_headers.UnitHeader.{UnitHeader}
 use Rattle.dwarf_units.specs.Units.{unit_type_of, is_read_type, is_read, header_in, unit_at}
 use Rattle.dwarf_units.specs.Units.{header_at, headers_of, units_of}
 
--- a header tells where its unit starts, and that it ends where its bytes do
+-- A header contains the start of its unit, and the unit ends where the bytes end.
 pub header_in-places : (start : ℕ) (format : Format) (unit : List ℕ) (at : ℕ) (header : UnitHeader)
     → header_in start format unit at ≡ Ok header
     → (header.start ≡ start) × (header.end ≡ length unit)
@@ -147,7 +147,7 @@ units-fault info before at cause fault so_far within is told_is = by_cause (told
         cause so_far (header_at-fault info before at cause within (sym is)))
         (ap (λ (f : LoadFault). Err f) (sym (told_is ∙ itself))))
 
--- the units that are read, from all of them
+-- The headers of the units that are read are a filtered list of all headers.
 pub units-read : (info : List ℕ) (all kept : List UnitHeader)
     → in_section sections.DebugInfo (headers_of info) ≡ Ok all → kept ≡ filter is_read all
     → in_section sections.DebugInfo (units_of info) ≡ Ok kept

@@ -1,4 +1,4 @@
--- The used attributes of an entry, by its attributes one after another.
+-- The used attributes of an entry, built from its attributes one by one.
 use Rattle.std.proofs.Common.{◌≡◌, ℕ, List, [], ◌∷◌, ◌++◌, Bool, true, false, refl, ap, sym, ◌∙◌}
 use Rattle.std.specs.Prelude.{Option, Some, None, Result, Ok, ◌==◌, option_map, find, if◌then◌else◌}
 use Rattle.std.specs.Option.{option_or}
@@ -35,7 +35,7 @@ under-by value StrOffsetsBase = refl
 under-by value AddrBase = refl
 under-by value RnglistsBase = refl
 
--- the same value of each name is the same
+-- Two records with the same value for each name are equal.
 pub same-by : (v w : UsedName → Option AttributeValue) → ((name : UsedName) → v name ≡ w name)
     → used_by v ≡ used_by w
 same-by v w same = rw (
@@ -104,7 +104,7 @@ with-twice u xs ys = same-by _ _ (λ name. each name
         ∙ (or-twice (value_under name u) (value_of xs (name_of name)) (value_of ys (name_of name))
         ∙ ap (option_or (value_under name u)) (sym (value-behind xs ys (name_of name))))
 
--- a read that keeps nothing
+-- A read that stores nothing.
 pub nothing-used : (u : Used) (r : Result (List Attribute × ℕ) Cause) (place : ℕ)
     → r ≡ Ok ([], place) → used_behind u r ≡ Ok (u, place)
 nothing-used u r place is = ap (used_behind u) is ∙ ap (λ (v : Used). Ok (v, place)) (with-none u)

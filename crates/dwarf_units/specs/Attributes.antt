@@ -1,4 +1,4 @@
--- The attributes that are used, and the forms that each may have (DWARF 5, 2.2 and 7.5.4 to 7.5.6).
+-- The used attributes, and the forms that each may have (DWARF 5, 2.2 and 7.5.4 to 7.5.6).
 use Rattle.std.specs.Prelude.{ℕ, ◌-◌, pos, negsuc, List, [], ◌∷◌, ◌++◌, length, Bool, true, false}
 use Rattle.std.specs.Prelude.{Option, is_some, find, option_map, ◌==◌, ◌&&◌}
 use Rattle.std.specs.Option.{option_map_or}
@@ -28,41 +28,41 @@ use Rattle.dwarf_bytes.specs.declared.constants.TheConstants.{DW_FORM_STRX3, DW_
 use Rattle.dwarf_bytes.specs.declared.constants.TheConstants.{DW_FORM_UDATA}
 use Rattle.dwarf_bytes.specs.Contents.{Content, Number, Signed, Bytes}
 
--- class string
+-- Forms of class string.
 abbrev pub string_forms : List ℕ
 string_forms =
     DW_FORM_STRING ∷ DW_FORM_STRP ∷ DW_FORM_LINE_STRP ∷ DW_FORM_STRX ∷ DW_FORM_STRX1 ∷
     DW_FORM_STRX2 ∷ DW_FORM_STRX3 ∷ DW_FORM_STRX4 ∷ []
 
--- class address
+-- Forms of class address.
 abbrev pub address_forms : List ℕ
 address_forms =
     DW_FORM_ADDR ∷ DW_FORM_ADDRX ∷ DW_FORM_ADDRX1 ∷ DW_FORM_ADDRX2 ∷ DW_FORM_ADDRX3 ∷
     DW_FORM_ADDRX4 ∷ []
 
--- class constant, as a count; sdata and implicit_const where not negative
+-- Forms of class constant that are a count. sdata and implicit_const must not be negative.
 abbrev pub count_forms : List ℕ
 count_forms =
     DW_FORM_DATA2 ∷ DW_FORM_DATA4 ∷ DW_FORM_DATA8 ∷ DW_FORM_DATA1 ∷ DW_FORM_UDATA ∷
     DW_FORM_SDATA ∷ DW_FORM_IMPLICIT_CONST ∷ []
 
--- class reference
+-- Forms of class reference.
 abbrev pub reference_forms : List ℕ
 reference_forms =
     DW_FORM_REF_ADDR ∷ DW_FORM_REF1 ∷ DW_FORM_REF2 ∷ DW_FORM_REF4 ∷ DW_FORM_REF8 ∷
     DW_FORM_REF_UDATA ∷ DW_FORM_REF_SIG8 ∷ []
 
--- class rnglist
+-- Forms of class rnglist.
 abbrev pub range_list_forms : List ℕ
 range_list_forms =
     DW_FORM_SEC_OFFSET ∷ DW_FORM_RNGLISTX ∷ []
 
--- classes lineptr, stroffsetsptr, addrptr, rnglistsptr
+-- Forms of the classes lineptr, stroffsetsptr, addrptr and rnglistsptr.
 abbrev pub pointer_forms : List ℕ
 pointer_forms =
     DW_FORM_SEC_OFFSET ∷ []
 
--- the forms that each used attribute may have
+-- The used attributes with the forms that each may have.
 abbrev pub used_attributes : List (ℕ × List ℕ)
 used_attributes =
     (DW_AT_NAME, string_forms) ∷ (DW_AT_LINKAGE_NAME, string_forms) ∷
@@ -73,18 +73,18 @@ used_attributes =
     (DW_AT_STR_OFFSETS_BASE, pointer_forms) ∷ (DW_AT_ADDR_BASE, pointer_forms) ∷
     (DW_AT_RNGLISTS_BASE, pointer_forms) ∷ []
 
--- the forms of an attribute, if it is used
+-- The forms of an attribute, if it is used.
 abbrev pub forms_of : ℕ → Option (List ℕ)
 forms_of name = option_map (λ row. row.1) (find (λ row. name == row.0) used_attributes)
 
--- whether an attribute is used
+-- Whether an attribute is used.
 abbrev pub is_used : ℕ → Bool
 is_used name = is_some (forms_of name)
 
 abbrev pub is_among : List ℕ → ℕ → Bool
 is_among xs x = list_any (λ y. x == y) xs
 
--- whether an attribute may have a form; those that are not used may have any
+-- Whether an attribute may have a form. Unused attributes may have any form.
 abbrev pub accepts : ℕ → ℕ → Bool
 accepts name form = option_map_or (λ allowed. is_among allowed form) (forms_of name) true
 
@@ -92,15 +92,15 @@ abbrev pub is_negative : Content → Bool
 is_negative (Signed (negsuc n)) = true
 is_negative content = false
 
--- whether the value of a used attribute is a count below 0; of those, counts alone may have the
--- form sdata
+-- Whether the value of a used attribute is a negative count. Among used attributes, only counts
+-- may have the form sdata.
 abbrev pub is_negative_count : ℕ → Content → Bool
 is_negative_count name content =
     option_map_or (λ allowed. is_among allowed DW_FORM_SDATA) (forms_of name) false
     && is_negative content
 
--- the number that a content is, where its bytes end at a place; of a text that stands there with
--- its NUL, its place
+-- The value as a number, given the offset after its bytes. For a NUL-terminated string in the
+-- entry itself, it is the offset of the string.
 abbrev pub number_of : Content → ℕ → ℕ
 number_of (Number n) after = n
 number_of (Signed (pos n)) after = n

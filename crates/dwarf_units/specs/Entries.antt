@@ -1,5 +1,5 @@
--- Debugging information entries (DWARF 5, 2.1 to 2.3, 7.5.2 and 7.5.3): a flat list of entries
--- and nulls.
+-- Debugging information entries (DWARF 5, 2.1 to 2.3, 7.5.2 and 7.5.3), as a flat list of entries
+-- and null entries.
 use Rattle.std.specs.Prelude.{◌≡◌, ℕ, ◌-◌, ◌<◌, ◌≤◌, List, [], ◌∷◌, length, take, Bool, true, false}
 use Rattle.std.specs.Prelude.{Option, Some, None, Result, Ok, Err, nat_lt, nat_le, ◌==◌, not, ◌&&◌}
 use Rattle.std.specs.Prelude.{if◌then◌else◌, find, count_by, take_while, ok_or, option_map}
@@ -32,13 +32,14 @@ pub data Node : Type 0 where
   Entry : ℕ → Bool → List Attribute → Node
   Null : Node
 
--- what stands at a place, at a depth
+-- An entry or null entry with its offset and depth.
 pub record Standing : Type 0 where
   pub offset : ℕ
   pub depth : ℕ
   pub node : Node
 
--- an entry that begins a list of children, and a null that ends one
+-- Whether a node starts a list of children (an entry with children), and whether it ends one (a
+-- null entry).
 abbrev pub opens_node : Node → Bool
 opens_node (Entry tag children attributes) = children
 opens_node Null = false
@@ -53,44 +54,46 @@ opens s = opens_node s.node
 abbrev pub closes : Standing → Bool
 closes s = is_null_node s.node && nat_lt 0 s.depth
 
--- the depth behind a list: its entries with children, less its nulls that stand at a depth above 0
+-- The depth after a list of nodes: the number of entries with children, less the number of null
+-- entries at a depth above 0.
 abbrev pub depth_after : List Standing → ℕ
 depth_after before = count_by opens before - count_by closes before
 
--- The whole-list form: each stands at the depth behind those before it.
+-- Every node of the list is at the depth after the nodes before it.
 abbrev pub AreDepths : List Standing → Type 0
 AreDepths all = (i : ℕ) (d : Standing) → i < length all
     → (slice_index_or all i d).depth ≡ depth_after (take i all)
 
--- the entry at depth 0 is the root of its unit
+-- Whether a node is the root of its unit: an entry at depth 0.
 abbrev pub is_root : Standing → Bool
 is_root s = (s.depth == 0) && not (is_null_node s.node)
 
--- the greatest depth of an entry
+-- The maximum depth of an entry.
 abbrev pub depth_limit : ℕ
 depth_limit = 256
 
--- a value, its fault as a cause
+-- A value, with its fault converted to a cause.
 abbrev pub reading_value : {X : Type 0} → Result X ValueFault → Result X Cause
 reading_value (Ok x) = Ok x
 reading_value (Err values.Form) = Err causes.Form
 reading_value (Err (values.Read fault)) = Err (cause_of fault)
 
--- a form whose value stands behind it
+-- Whether a form is known and its value follows in the entry.
 abbrev pub is_direct : Option Form → Bool
 is_direct (Some (Direct layout)) = true
 is_direct (Some ImplicitConst) = false
 is_direct (Some Indirect) = false
 is_direct None = false
 
--- the form of a value, which for an indirect one stands before it, and the place after that
+-- The form of a value and the offset after it. DW_FORM_indirect takes the form from the entry,
+-- before the value.
 abbrev pub form_at : ℕ → List ℕ → ℕ → Result (ℕ × ℕ) Cause
 form_at form bytes at = if form == DW_FORM_INDIRECT then (do
   inner ← reading (uleb_at bytes at)
   _ ← refuse_if (not (is_direct (form_of inner.0))) causes.Form
   Ok inner) else Ok (form, at)
 
--- the attribute at a place, as its declaration names it
+-- The attribute at an offset, as its specification declares it, and the offset after it.
 abbrev pub attribute_at : Format → AttributeSpecification → List ℕ → ℕ
     → Result (Attribute × ℕ) Cause
 attribute_at format s bytes at = do
@@ -106,7 +109,7 @@ attribute_at format s bytes at = do
     value.1,
   )
 
--- the attributes of a declaration, one after another from a place on, and the place after them
+-- The consecutive attributes of a declaration from an offset on, and the offset after them.
 unfoldable pub attributes_at : Format → List AttributeSpecification → List ℕ → ℕ
     → Result (List Attribute × ℕ) Cause
 attributes_at format [] bytes at = Ok ([], at)
@@ -115,12 +118,12 @@ attributes_at format (s ∷ ss) bytes at = do
   rest ← attributes_at format ss bytes first.1
   Ok (first.0 ∷ rest.0, rest.1)
 
--- the declaration of a code
+-- The declaration of a code.
 abbrev pub declaration_of : List Declaration → ℕ → Option Declaration
 declaration_of table code = find (λ declaration. declaration.code == code) table
 
--- what stands at a place of a unit, at a depth, and the place after it; rooted is whether the
--- unit's root stands before it
+-- The node at an offset of a unit, at a given depth, and the offset after it. `rooted` is whether
+-- the root of the unit is before it.
 abbrev pub node_behind : Format → List Declaration → ℕ → Bool → List ℕ → ℕ
     → Result (Node × ℕ) Cause
 node_behind format table depth rooted unit at = do
@@ -132,15 +135,15 @@ node_behind format table depth rooted unit at = do
     attributes ← attributes_at format declaration.attributes unit code.1
     Ok (Entry declaration.tag declaration.children attributes.0, attributes.1)
 
--- the same, behind what stands before it; the bytes end with the unit
+-- The same node, given the list of nodes before it. The bytes end with the unit.
 abbrev pub node_at : Format → List Declaration → List ℕ → List Standing → ℕ
     → Result (Next Standing) Cause
 node_at format table unit before at = if nat_le (length unit) at then Ok (End at) else do
   node ← node_behind format table (depth_after before) (list_any is_root before) unit at
   Ok (Item (record { offset = at; depth = depth_after before; node = node.0 }) node.1)
 
--- the entry at a place of a unit, whatever stands before it: its tag and attributes, and the place
--- after it
+-- The entry at an offset of a unit, without regard to the entries before it: its tag and
+-- attributes, and the offset after it.
 unfoldable pub entry_at : Format → List Declaration → List ℕ → ℕ
     → Result ((ℕ × List Attribute) × ℕ) Cause
 entry_at format table unit at = do
@@ -149,7 +152,7 @@ entry_at format table unit at = do
   attributes ← attributes_at format declaration.attributes unit code.1
   Ok ((declaration.tag, attributes.0), attributes.1)
 
--- an entry, without the nulls
+-- An entry that is not null.
 pub record Die : Type 0 where
   pub offset : ℕ
   pub depth : ℕ
@@ -164,27 +167,27 @@ die_in offset depth Null = None
 abbrev pub die_of : Standing → Option Die
 die_of s = die_in s.offset s.depth s.node
 
--- the entries of a unit, where no list of children is left open
+-- The entries of a unit. The unit is refused if a list of children is not terminated.
 unfoldable pub entries_of : List ℕ → UnitHeader → List Declaration → Result (List Die) At
 entries_of info header table = do
   all ← items_from header.end (node_at header.format table (take header.end info)) [] header.first
   _ ← told_at header.start (refuse_if (nat_lt 0 (depth_after all.0)) causes.TreeOpen)
   Ok (filter_map die_of all.0)
 
--- the entries below the first one of a list: those after it that are deeper, up to the first that
--- is not
+-- The descendants of the first entry of a list: the deeper entries that follow it, up to the first
+-- that is not deeper.
 abbrev pub below : Die → List Die → List Die
 below die rest = take_while (λ d. nat_lt die.depth d.depth) rest
 
--- Entry j is below entry i when i stands before j and every entry after i up to j is deeper than i.
+-- Entry j is below entry i if i is before j and every entry after i up to j is deeper than i.
 abbrev pub IsBelow : List Die → ℕ → ℕ → Type 0
 IsBelow all j i = (i < j) × (j < length all) × ((k : ℕ) (d : Die) → i < k → k ≤ j
     → (slice_index_or all i d).depth < (slice_index_or all k d).depth)
 
--- the value of an attribute among these, if it is there
+-- The value of an attribute in a list, if it is present.
 abbrev pub value_of : List Attribute → ℕ → Option AttributeValue
 value_of attributes name = option_map (λ a. a.value) (find (λ a. a.name == name) attributes)
 
--- the value of an attribute of an entry
+-- The value of an attribute of an entry.
 abbrev pub attribute : Die → ℕ → Option AttributeValue
 attribute die name = value_of die.attributes name

@@ -16,14 +16,14 @@ use Rattle.dwarf_units.specs.declared.unit_headers.UnitType.{UnitType}
 use Rattle.dwarf_units.specs.declared.unit_headers.UnitType.TheVariants as types
 use Rattle.dwarf_units.specs.declared.unit_headers.UnitHeader.{UnitHeader}
 
--- the types of units (7.5.1, table 7.2); other units are refused
+-- The supported unit types (7.5.1, table 7.2). Other units are refused.
 abbrev pub unit_type_of : ℕ → Option UnitType
 unit_type_of number =
     if number == DW_UT_COMPILE then Some types.Compile
     else (if number == DW_UT_TYPE then Some types.Type
     else (if number == DW_UT_PARTIAL then Some types.Partial else None))
 
--- whether a unit is read
+-- Whether units of a type are read.
 abbrev pub is_read_type : UnitType → Bool
 is_read_type types.Compile = true
 is_read_type types.Type = false
@@ -32,7 +32,7 @@ is_read_type types.Partial = true
 abbrev pub is_read : UnitHeader → Bool
 is_read header = is_read_type header.unit_type
 
--- the header behind a unit's length, where the bytes end with the unit
+-- The header after the length of a unit. The bytes end with the unit.
 abbrev pub header_in : ℕ → Format → List ℕ → ℕ → Result UnitHeader Cause
 header_in start format unit at = do
   version ← reading (u16_at unit at)
@@ -59,7 +59,7 @@ header_in start format unit at = do
       end = length unit;
     })
 
--- the header of the unit at a place of .debug_info
+-- The header of the unit at an offset of .debug_info.
 unfoldable pub unit_at : List ℕ → ℕ → Result UnitHeader Cause
 unit_at info at = do
   len ← reading (initial_length_at info at)
@@ -67,7 +67,7 @@ unit_at info at = do
   _ ← refuse_if (nat_lt (length info) end) causes.Short
   header_in at len.0.0 (take end info) len.1
 
--- the units stand one after another up to the section's end
+-- The units are contiguous, up to the end of the section.
 abbrev pub header_at : List ℕ → List UnitHeader → ℕ → Result (Next UnitHeader) Cause
 header_at info before at =
     if nat_le (length info) at then Ok (End at)
@@ -77,15 +77,15 @@ header_at info before at =
 unfoldable pub headers_of : List ℕ → Result (List UnitHeader) At
 headers_of info = items_from (length info) (header_at info) [] 0 >>= λ all. Ok all.0
 
--- the units that are read
+-- The headers of the units that are read.
 unfoldable pub units_of : List ℕ → Result (List UnitHeader) At
 units_of info = headers_of info >>= λ all. Ok (filter is_read all)
 
--- the declarations that may be read for all units of an object
+-- The maximum number of declarations that are read for all units of an object.
 abbrev pub declarations_limit : ℕ
 declarations_limit = 4194304
 
--- the table of each unit, where the tables before it have taken their part of the limit
+-- The table of each unit. Each table uses up a part of the limit.
 unfoldable pub tables_of : List ℕ → List UnitHeader → Result (List (List Declaration)) At
 tables_of section headers = each
     (λ before header. declarations_of (declarations_limit - sum_by length before) section

@@ -1,4 +1,5 @@
-//! The attributes of entries (DWARF 5, 2.2 and 7.5.3 to 7.5.6).
+//! The attributes of entries: which ones the reader uses, and how their values are decoded (DWARF
+//! 5, 2.2 and 7.5.3 to 7.5.6).
 
 ghost use Rattle.std.specs.Prelude.{◌≡◌};
 ghost use Rattle.dwarf_bytes.specs.Contents.{content_of};
@@ -14,22 +15,23 @@ use dwarf_bytes::constants::*;
 use dwarf_bytes::{Cause, Content, Cursor, Form, Format};
 use dwarf_forms::{AttributeSpecification, Value, ValueFault, value};
 
-/// The value of an attribute: its form behind DW_FORM_indirect, and its number. The number of a
-/// text that stands in the entry is its offset in the section.
+/// The value of an attribute: its form, after DW_FORM_indirect is resolved, and its value as a
+/// number. For a string stored in the entry itself, the number is the string's offset in the
+/// section.
 #[derive(Clone, Copy)]
 pub struct AttributeValue {
     pub form: u64,
     pub number: u64,
 }
 
-/// An attribute of an entry.
+/// An attribute of an entry: its name (a DW_AT_ code) and its value.
 #[derive(Clone, Copy)]
 pub struct Attribute {
     pub name: u64,
     pub value: AttributeValue,
 }
 
-/// Whether an attribute is used.
+/// Returns whether the reader uses an attribute.
 pub(crate) fn is_used(name: u64) -> bool
     ensures { result ≡ is_used name }
 {
@@ -51,7 +53,7 @@ pub(crate) fn is_used(name: u64) -> bool
     )
 }
 
-/// Whether an attribute may have a form; those that are not used may have any.
+/// Returns whether an attribute may have a form. Unused attributes may have any form.
 pub(crate) fn accepts(name: u64, form: u64) -> bool
     ensures { result ≡ accepts name form }
 {
@@ -129,7 +131,7 @@ fn is_reference(form: u64) -> bool
     )
 }
 
-/// Whether the value of a used attribute is a count below 0.
+/// Returns whether the value of a used attribute is a negative count.
 pub(crate) fn is_negative_count(name: u64, content: Content<'_>) -> bool
     ensures { result ≡ is_negative_count name (content_of content.entry) }
 {
@@ -141,8 +143,8 @@ pub(crate) fn is_negative_count(name: u64, content: Content<'_>) -> bool
     }
 }
 
-/// The number that a content is, where its bytes end at a place; of a text that stands there, its
-/// place.
+/// Returns a value as a number. `after` is the offset after its bytes. For a string in the entry
+/// itself, returns the offset of the string.
 pub(crate) fn number_of(content: Content<'_>, after: usize) -> u64
     ensures { result ≡ number_of (content_of content.entry) after }
 {
@@ -153,7 +155,7 @@ pub(crate) fn number_of(content: Content<'_>, after: usize) -> u64
     }
 }
 
-/// The form of a value, which for an indirect one stands before it.
+/// Returns the form of a value. DW_FORM_indirect reads the form from the cursor, before the value.
 fn form(form: u64, cursor: &mut Cursor) -> Result<u64, Cause>
     ensures { ReadsField (λ form. form) result (form_at form) cursor.old cursor.new }
 {
@@ -173,7 +175,7 @@ fn is_direct(form: u64) -> bool
     matches!(Form::of(form), Some(Form::Direct(_)))
 }
 
-/// The attribute at the cursor, as its declaration names it.
+/// Reads the attribute at the cursor as its specification declares it.
 pub(crate) fn read_attribute(
     format: Format,
     specification: &AttributeSpecification,
@@ -197,7 +199,7 @@ pub(crate) fn read_attribute(
     })
 }
 
-/// The value at the cursor in a form.
+/// Reads the value at the cursor in a form.
 fn read_value<'a>(
     form: u64,
     format: Format,

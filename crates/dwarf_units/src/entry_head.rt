@@ -1,4 +1,4 @@
-//! What stands at a place of a unit (DWARF 5, 2.3, 7.5.2 and 7.5.3).
+//! Reading entries and null entries of a unit (DWARF 5, 2.3, 7.5.2 and 7.5.3).
 
 ghost use Rattle.std.specs.Prelude.{◌≡◌, ◌≤◌, IsSome, IfOk};
 ghost use Rattle.dwarf_bytes.specs.Refusals.{ReadsField};
@@ -17,15 +17,16 @@ use dwarf_bytes::{Cause, Cursor, Format};
 use dwarf_forms::AbbreviationDeclaration;
 use std::marker::Model;
 
-/// The greatest depth of an entry.
+/// The maximum depth of an entry. The root of a unit has depth 0.
 pub(crate) const DEPTH_LIMIT: u32 = 256;
 
-/// The declaration of an entry, in a unit of a format, and how its attributes are read.
+/// The declaration of an entry in a unit of a given format, and the decode plan for its
+/// attributes.
 #[derive(Drop)]
 pub struct EntryHead<'a> {
     format: Format,
     declaration: &'a AbbreviationDeclaration,
-    /// How the attributes are read that it does not share.
+    /// The decode plan of the attributes that the declaration does not share.
     plan: &'a Plan,
     lists: &'a LinkedLists<'a>,
 }
@@ -49,8 +50,9 @@ impl<'a> Model for EntryHead<'a> {
 }
 
 impl UnitTable<'_> {
-    /// The head of the entry at the cursor, at a depth, or none for a null. `rooted` is whether the
-    /// root of the unit stands before it.
+    /// Reads the code of the entry at the cursor and returns its head, or `None` for a null entry.
+    /// `rooted` is whether the root of the unit is before it. Fails if the code is not declared,
+    /// if the entry is a second root, or if `depth` exceeds the limit.
     pub fn head(
         &self,
         depth: u32,
@@ -75,9 +77,9 @@ impl UnitTable<'_> {
         Ok(Some(head))
     }
 
-    /// Reads the entry at the cursor again, whatever stands before it: its used attributes into
-    /// `found`, in place of what is there. Tells its tag. A null is no entry: it has no
-    /// declaration.
+    /// Re-reads the entry at the cursor without regard to the entries before it. Replaces the
+    /// contents of `found` by its used attributes and returns its tag. Fails on a null entry,
+    /// because a null entry has no declaration.
     #[tactic(auto, unfolding(crate::specs::Entries::entry_at))]
     pub fn read_entry(&self, cursor: &mut Cursor, found: &mut UsedAttributes) -> Result<u64, Cause>
         ensures { TellsAndFills result found.new (used_entry_at self.now)
@@ -118,15 +120,15 @@ impl<'a> EntryHead<'a> {
         self.declaration.tag()
     }
 
-    /// Whether its children follow it.
+    /// Returns whether the entry is followed by its children.
     pub fn children(&self) -> bool
         ensures { result ≡ self.now.declaration.children }
     {
         self.declaration.children()
     }
 
-    /// Reads its attributes, which stand behind it: the used ones into `found`, in place of what is
-    /// there, where they are kept, or none.
+    /// Reads the attributes of the entry, which start at the cursor. Replaces the contents of
+    /// `found` by the used attributes if `keep` is set, and otherwise by none.
     #[inline(always)]
     pub fn read_attributes(
         &self,

@@ -1,4 +1,4 @@
-//! An abbreviation table that is kept, and how its own attributes are read (DWARF 5, 7.5.3).
+//! A cached abbreviation table and the decode plans of its unshared attributes (DWARF 5, 7.5.3).
 
 ghost use Rattle.std.specs.Prelude.{◌≡◌, ◌<◌, ◌≤◌, ◌+◌, ◌-◌, ◌*◌, ◌^◌, ◌==◌, Some, None, length};
 ghost use Rattle.std.specs.Prelude.{find, sum_by, IsTrue, ◌↔◌, IfOk, IfNone, IfSome};
@@ -20,18 +20,18 @@ use dwarf_forms::{AbbreviationDeclaration, AbbreviationTable};
 use std::alloc::{AllocError, Global};
 use std::marker::Model;
 
-/// The greatest code of one byte.
+/// The greatest abbreviation code that is encoded in one byte.
 const CODE_LIMIT: usize = 127;
 
-/// A table of `.debug_abbrev`, where it stands, and how the attributes that its declarations do not
-/// share are read in units of a format.
+/// An abbreviation table, its offset in `.debug_abbrev`, and the decode plans of its unshared
+/// attributes in units of a format.
 #[derive(Drop)]
 pub(crate) struct KeptTable {
     offset: u64,
     format: Format,
     table: AbbreviationTable,
     plans: Vec<Plan>,
-    /// The plain heads of the first codes, from 1 on.
+    /// The heads of fixed-size entries by code. Index 0 is code 1.
     plain: Vec<Option<PlainHead>>,
 }
 
@@ -53,7 +53,7 @@ impl Model for KeptTable {
 }
 
 impl KeptTable {
-    /// Reads the table at an offset, as `AbbreviationTable::read` does.
+    /// Parses the table at an offset, as `AbbreviationTable::read` does.
     pub(crate) fn read(
         alloc: Global,
         lists: &mut LinkedLists<'_>,
@@ -81,7 +81,7 @@ impl KeptTable {
         })
     }
 
-    /// The format of the units whose entries are read by the table.
+    /// Returns the format of the units that the table decodes.
     pub(crate) fn format(&self) -> Format
         ensures { result ≡ self.now.format }
     {
@@ -94,7 +94,7 @@ impl KeptTable {
         self.offset
     }
 
-    /// The declaration of a code, and how its own attributes are read.
+    /// Returns the declaration of a code and the decode plan of its unshared attributes.
     pub(crate) fn find(&self, code: u64) -> Option<(&AbbreviationDeclaration, &Plan)>
         ensures some { IfSome result (λ found. (find
             (λ declaration. declaration.code == code) self.now.declarations ≡ Some found.0.now)
@@ -105,7 +105,7 @@ impl KeptTable {
         planned(&self.table, &self.plans, code)
     }
 
-    /// The plain head of a code of one byte, if it is known.
+    /// Returns the fixed-size head of a one-byte code, if there is one.
     #[inline(always)]
     pub(crate) fn plain(&self, code: u8) -> Option<PlainHead>
         ensures { result ≡ plain_at_hand self.now code }
@@ -114,14 +114,15 @@ impl KeptTable {
         *self.plain.get(place)?
     }
 
-    /// How many declarations it has.
+    /// Returns the number of declarations.
     pub(crate) fn len(&self) -> u64
         ensures { result ≡ length self.now.declarations }
     {
         self.table.declarations().len() as u64
     }
 
-    /// Its declarations, their own attributes, and the steps of their plans.
+    /// Returns the size of the table: the number of its declarations, unshared attributes and plan
+    /// steps.
     pub(crate) fn size(&self) -> u128
         ensures { result ≡ own_size self.now }
     {
@@ -129,7 +130,7 @@ impl KeptTable {
         u128::from(self.len()) + attributes + step_count(&self.plans)
     }
 
-    /// Whether a unit names the table.
+    /// Returns whether a unit uses this table: the offset and the format are equal.
     pub(crate) fn is_of(&self, header: &UnitHeader) -> bool
         ensures { IsTrue result ↔ ((self.now.offset ≡ header.now.abbreviations)
             × (self.now.format ≡ header.now.format)) }
@@ -138,7 +139,7 @@ impl KeptTable {
     }
 }
 
-/// The declaration of a code among those of a table, and its plan among theirs.
+/// Returns the declaration of a code and its plan. `plans` is parallel to the declarations.
 fn planned<'a>(
     table: &'a AbbreviationTable,
     plans: &'a [Plan],
@@ -156,7 +157,8 @@ fn planned<'a>(
     Some((declaration, plan))
 }
 
-/// The plain heads of the first codes, from 1 on: so many as there are declarations, of one byte.
+/// Computes the fixed-size heads of the codes from 1 up to the number of declarations, at most
+/// 127.
 fn plain_heads(
     alloc: Global,
     table: &AbbreviationTable,
@@ -172,7 +174,7 @@ fn plain_heads(
     Ok(heads)
 }
 
-/// The plain head of a code, if its entries are plain.
+/// Returns the fixed-size head of a code, if its entries have a fixed size.
 fn plain_head(table: &AbbreviationTable, plans: &[Plan], code: u64) -> Option<PlainHead>
     ensures { (format : Format) → plans.now ≡ plans_of format table.now
         → result ≡ plain_head format table.now code }
@@ -181,7 +183,7 @@ fn plain_head(table: &AbbreviationTable, plans: &[Plan], code: u64) -> Option<Pl
     PlainHead::of(declaration, plan)
 }
 
-/// How many attributes declarations have themselves.
+/// Counts the unshared attributes of declarations.
 fn attribute_count(declarations: &[AbbreviationDeclaration]) -> u128
     ensures small { result ≤ length declarations.now * (2 ^ 64 - 1) }
     ensures sum { result ≡ sum_by (λ declaration. length declaration.list.own) declarations.now }
@@ -193,7 +195,7 @@ fn attribute_count(declarations: &[AbbreviationDeclaration]) -> u128
     count
 }
 
-/// How many steps plans have.
+/// Counts the steps of plans.
 fn step_count(plans: &[Plan]) -> u128
     ensures small { result ≤ length plans.now * (2 ^ 64 - 2) }
     ensures sum { result ≡ sum_by plan_len plans.now }

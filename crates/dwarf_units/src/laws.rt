@@ -1,4 +1,4 @@
-//! What is true of the entries of all units.
+//! Theorems about the entries of every unit.
 
 ghost use Rattle.std.specs.Prelude.{◌≡◌, ℕ, List, [], Some, Ok, map, slice_get, take};
 ghost use Rattle.std.specs.List.Sorted.{IsStrictlyIncreasing};
@@ -9,22 +9,23 @@ ghost use Rattle.dwarf_units.specs.declared.unit_headers.UnitHeader.{UnitHeader}
 ghost use Rattle.dwarf_units.specs.Entries.{Standing, Die, AreDepths, node_at, entry_at};
 ghost use Rattle.dwarf_units.specs.Entries.{entries_of};
 
-/// Whatever is read of a unit stands at counted depths: behind the entries with children before it,
-/// less the nulls before it that stand at a depth above 0.
+/// The depth of each entry or null entry is the number of entries with children before it, less
+/// the number of null entries before it that are at a depth above 0.
 pub fn entries_stand_at_counted_depths()
     ensures { (format : Format) (table : List Declaration) (unit : List ℕ) (end first : ℕ)
         (all : List Standing) (after : ℕ)
         → items_from end (node_at format table unit) [] first ≡ Ok (all, after) → AreDepths all }
 {}
 
-/// Each entry of a unit stands past the one before it.
+/// The offsets of the entries of a unit are strictly increasing.
 pub fn offsets_of_entries_rise()
     ensures { (info : List ℕ) (header : UnitHeader) (table : List Declaration) (dies : List Die)
         → entries_of info header table ≡ Ok dies
         → IsStrictlyIncreasing (map (λ (die : Die). die.offset) dies) }
 {}
 
-/// Each entry of a unit is read again at its offset, whatever stands before it.
+/// Re-reading an entry at its offset, without regard to the entries before it, returns the same
+/// tag and attributes.
 pub fn entries_are_read_again()
     ensures { (info : List ℕ) (header : UnitHeader) (table : List Declaration) (dies : List Die)
         → entries_of info header table ≡ Ok dies

@@ -1,4 +1,4 @@
-//! The known attributes of a section, and how entries are read by them.
+//! The memoized attributes of `.debug_abbrev`, and the steps that decode entries by them.
 
 ghost use Rattle.std.specs.Prelude.{◌≡◌, ◌≤◌, ◌+◌, [], IfOk, OnOk, length};
 ghost use Rattle.dwarf_bytes.specs.declared.format.Format.{Format};
@@ -20,8 +20,8 @@ use dwarf_forms::{AbbreviationTable, KnownLists};
 use std::alloc::{AllocError, Global};
 use std::marker::Model;
 
-/// The attributes that are known of a section, each once, with the steps by which they are read in
-/// units of the formats that were asked for.
+/// The memoized attributes of a section, each stored once, with their decode steps for each format
+/// that has been requested.
 #[derive(Drop)]
 pub(crate) struct LinkedLists<'a> {
     lists: KnownLists<'a>,
@@ -61,7 +61,7 @@ impl<'a> LinkedLists<'a> {
         })
     }
 
-    /// Reads the table at an offset, as `AbbreviationTable::read` does, for units of a format.
+    /// Parses the table at an offset, as `AbbreviationTable::read` does, for units of a format.
     pub(crate) fn table(
         &mut self,
         alloc: Global,
@@ -82,7 +82,7 @@ impl<'a> LinkedLists<'a> {
         Ok(table)
     }
 
-    /// Makes the links of the known attributes that have none yet, for units of a format.
+    /// Links the memoized attributes that have no links yet for units of a format.
     fn link(&mut self, format: Format) -> Result<(), AllocError>
         ensures places { self.new.places ≡ self.old.places }
         ensures grows { (f : Format) → linked_in self.old f ≤ linked_in self.new f }
@@ -94,7 +94,8 @@ impl<'a> LinkedLists<'a> {
         }
     }
 
-    /// Takes the steps of the attributes from a known one on. What they keep is added to `found`.
+    /// Runs the steps of a list from its memoized attribute `first` on. Appends the stored
+    /// attributes to `found`.
     #[inline(always)]
     pub(crate) fn read(
         &self,
@@ -109,7 +110,7 @@ impl<'a> LinkedLists<'a> {
             (steps_at format (steps_of keep format
             (rest_attributes self.now.places.known first)) bytes at)) cursor.old cursor.new }
     {
-        // Most declarations share none of their attributes, and need no links.
+        // Most declarations share none of their attributes and need no links.
         if first.is_none() {
             return Ok(());
         }

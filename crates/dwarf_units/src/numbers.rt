@@ -1,4 +1,4 @@
-//! The numbers under which tables are kept.
+//! The index of each cached table, by offset and format.
 
 ghost use Rattle.std.specs.Prelude.{◌≡◌, ◌≢◌, None, Some, OnOk, OnErr};
 ghost use Rattle.dwarf_bytes.specs.declared.format.Format.{Format};
@@ -8,8 +8,8 @@ use dwarf_bytes::Format;
 use std::alloc::{AllocError, Global};
 use std::collections::BTreeMap;
 
-/// The numbers of tables by their offsets, for units of each format. A number may be that of
-/// another table in the meantime.
+/// Maps the offset of a table to its index, for units of each format. An entry may be stale: the
+/// index may have been reused for another table.
 #[derive(Drop)]
 pub(crate) struct Numbers {
     dwarf32: BTreeMap<u64, usize>,
@@ -26,7 +26,7 @@ impl Numbers {
         }
     }
 
-    /// The number of the table at an offset, for units of a format.
+    /// Returns the index of the table at an offset, for units of a format.
     pub(crate) fn get(&self, format: Format, offset: u64) -> Option<usize>
         ensures { result ≡ number_at self.now format offset }
     {
@@ -36,7 +36,7 @@ impl Numbers {
         }
     }
 
-    /// Sets the number of the table at an offset, for units of a format.
+    /// Sets the index of the table at an offset, for units of a format.
     pub(crate) fn insert(
         &mut self,
         format: Format,

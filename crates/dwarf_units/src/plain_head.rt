@@ -1,4 +1,5 @@
-//! Entries whose attributes, where none is kept, are passed over as so many bytes (DWARF 5, 7.5.3).
+//! Fixed-size entries: entries whose attributes can be skipped as a fixed number of bytes (DWARF
+//! 5, 7.5.3).
 
 ghost use Rattle.std.specs.Prelude.{◌≡◌};
 ghost use Rattle.dwarf_bytes.specs.declared.format.Format.{Format};
@@ -9,18 +10,19 @@ use crate::plans::Plan;
 use crate::steps::AttributeStep;
 use dwarf_forms::AbbreviationDeclaration;
 
-/// The head of entries whose attributes, where none is kept, are passed over as so many bytes.
+/// The head of a fixed-size entry. If no attribute is stored, all attributes are skipped at once.
 #[derive(Clone, Copy)]
 pub struct PlainHead {
     pub tag: u64,
-    /// Whether the children of such an entry follow it.
+    /// Whether the entry is followed by its children.
     pub children: bool,
-    /// How many bytes its attributes take.
+    /// The size of the attributes in bytes.
     pub(crate) len: u16,
 }
 
 impl PlainHead {
-    /// Of a declaration that shares none of its attributes, by its plan.
+    /// Returns the fixed-size head of a declaration, given its plan. Returns `None` if the
+    /// declaration shares attributes or if the plan does more than skip bytes.
     pub(crate) fn of(declaration: &AbbreviationDeclaration, plan: &Plan) -> Option<PlainHead>
         ensures { (format : Format) → plan.now ≡ plan_of format declaration.now.list.own
             → result ≡ plain_of format declaration.now }
@@ -37,7 +39,7 @@ impl PlainHead {
     }
 }
 
-/// The bytes that steps pass over, where they do nothing else.
+/// Returns the number of bytes that steps skip, or `None` if they do anything else.
 fn passed_len(steps: &[AttributeStep]) -> Option<u16>
     ensures { result ≡ passed_len steps.now }
 {

@@ -1,4 +1,5 @@
-//! Plans of reading the attributes of entries, which pass over runs of those that are not kept.
+//! Decode plans: precomputed steps that read the attributes of an entry and skip runs of
+//! attributes that are not stored.
 
 ghost use Rattle.std.specs.Prelude.{◌≡◌, ◌≤◌, ◌-◌, ◌^◌, List, IfOk, OnOk, map, reverse};
 ghost use Rattle.dwarf_forms.specs.declared.attribute.AttributeSpecification.{
@@ -16,7 +17,8 @@ use dwarf_forms::{AbbreviationTable, AttributeSpecification};
 use std::alloc::{AllocError, Global};
 use std::marker::Model;
 
-/// The steps of some attributes, where the used ones are kept, and where none are.
+/// The steps for a list of attributes: one list that stores the used attributes, and one that
+/// stores none.
 #[derive(Drop)]
 pub(crate) struct Plan {
     kept: Vec<AttributeStep>,
@@ -45,7 +47,7 @@ impl Plan {
         })
     }
 
-    /// How many steps it has.
+    /// Returns the number of steps in both lists.
     pub(crate) fn len(&self) -> u128
         ensures small { result ≤ 2 ^ 64 - 2 }
         ensures sum { result ≡ plan_len self.now }
@@ -53,7 +55,8 @@ impl Plan {
         self.kept.len() as u128 + self.passed.len() as u128
     }
 
-    /// The steps, by whether the used attributes are kept.
+    /// Returns the steps that store the used attributes if `keep` is set, and otherwise those that
+    /// store none.
     pub(crate) fn steps(&self, keep: bool) -> &[AttributeStep]
         ensures { (format : Format) (declared : List Specification)
             → self.now ≡ plan_of format declared → result.now ≡ steps_of keep format declared }
@@ -62,7 +65,8 @@ impl Plan {
     }
 }
 
-/// A plan for the own attributes of each declaration of a table, for units of a format.
+/// Builds a plan for the unshared attributes of each declaration of a table, for units of a
+/// format.
 pub(crate) fn plans(
     alloc: Global,
     format: Format,
@@ -78,7 +82,7 @@ pub(crate) fn plans(
     Ok(plans)
 }
 
-/// Takes steps, one after another. What they keep is added to `found`.
+/// Runs steps in order. Appends the stored attributes to `found`.
 #[inline(always)]
 pub(crate) fn read_steps(
     format: Format,
@@ -95,7 +99,7 @@ pub(crate) fn read_steps(
     Ok(())
 }
 
-/// Takes a step. What it keeps is added to `found`.
+/// Runs a step. Appends the attribute that it stores, if any, to `found`.
 #[inline(always)]
 pub(crate) fn read_step(
     format: Format,
@@ -121,7 +125,7 @@ pub(crate) fn read_step(
     Ok(())
 }
 
-/// The steps of some attributes. `keep` is whether the used ones are kept.
+/// Builds the steps of a list of attributes. `keep` is whether the used ones are stored.
 fn steps(
     alloc: Global,
     keep: bool,
@@ -140,7 +144,8 @@ fn steps(
     Ok(steps)
 }
 
-/// Adds the step before the last one of a list in reverse, or joins the two.
+/// Prepends a step to a list that is in reverse order, and merges it with its successor if
+/// possible.
 fn push_before(steps: &mut Vec<AttributeStep>, step: AttributeStep) -> Result<(), AllocError>
     ensures { OnOk result (reverse steps.new.items ≡ step_before step (reverse steps.old.items)) }
 {

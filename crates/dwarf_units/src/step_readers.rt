@@ -1,5 +1,5 @@
-//! Reading the attribute of a step. Readers that are not inlined are lent a cursor of their own, so
-//! that the cursor of the steps stays in registers.
+//! Readers of single attributes for the steps of a plan. Readers that are not inlined get a cursor
+//! of their own, so that the cursor of the step loop stays in registers.
 
 ghost use Rattle.std.specs.Prelude.{◌≡◌, ◌-◌, []};
 ghost use Rattle.dwarf_bytes.specs.Refusals.{ReadsField};
@@ -13,7 +13,7 @@ use crate::used_name::UsedName;
 use dwarf_bytes::{Cause, Content, Cursor, Format, ValueLayout, Width};
 use dwarf_forms::AttributeSpecification;
 
-/// Passes over the attribute at the cursor. It is judged where no layout is known.
+/// Skips the attribute at the cursor. Validates it if no layout is known.
 #[inline(always)]
 pub(crate) fn pass_attribute(
     format: Format,
@@ -37,7 +37,8 @@ pub(crate) fn pass_attribute(
     Ok(())
 }
 
-/// Adds the attribute of a name at the cursor to those found. It is judged if no layout is known.
+/// Reads the attribute at the cursor and adds it to `found` under its name. Validates it if no
+/// layout is known.
 #[inline(always)]
 pub(crate) fn keep_attribute(
     format: Format,
@@ -65,8 +66,8 @@ pub(crate) fn keep_attribute(
     Ok(())
 }
 
-/// The attribute at the cursor, whose value stands there in a layout. The layouts of most values
-/// have an arm of their own, since every attribute that is kept comes here.
+/// Reads the attribute at the cursor, whose value has a known layout. The most common layouts have
+/// an arm of their own, because every stored attribute is read here.
 #[inline(always)]
 #[tactic(auto, unfolding(dwarf_bytes::specs::Contents::content_at))]
 fn take_attribute(
@@ -100,7 +101,7 @@ fn take_attribute(
     })
 }
 
-/// The number of the value at the cursor in a layout, for layouts that few values have.
+/// Reads a value at the cursor as a number, for the less common layouts.
 #[inline(never)]
 fn read_number(format: Format, layout: ValueLayout, cursor: &mut Cursor) -> Result<u64, Cause>
     ensures { ReadsField (λ n. n) result (number_at format layout) cursor.old cursor.new }

@@ -1,4 +1,4 @@
-//! The steps by which the attributes of an entry are read.
+//! The steps of a decode plan.
 
 ghost use Rattle.std.specs.Prelude.{◌≡◌};
 ghost use Rattle.dwarf_bytes.specs.Forms.{byte_len};
@@ -10,20 +10,20 @@ use crate::used_name::UsedName;
 use dwarf_bytes::{Content, Form, Format, ValueLayout, Width};
 use dwarf_forms::AttributeSpecification;
 
-/// A step of reading the attributes of an entry.
+/// A step of a decode plan.
 #[derive(Clone, Copy)]
 pub(crate) enum AttributeStep {
-    /// So many bytes are passed over.
+    /// Skips a number of bytes.
     Skip(u16),
-    /// An attribute is read and not kept. It is judged, unless a layout is known in which none of
-    /// its values is refused.
+    /// Reads an attribute and discards it. The attribute is validated, unless its layout is known
+    /// and every value in that layout is valid.
     Pass(AttributeSpecification, Option<ValueLayout>),
-    /// So many bytes are passed over, and the attribute behind them is read and kept under its
-    /// name. It is judged, unless such a layout is known.
+    /// Skips a number of bytes, then reads the next attribute and stores it under its name. The
+    /// attribute is validated, unless such a layout is known.
     Keep(u16, UsedName, AttributeSpecification, Option<ValueLayout>),
 }
 
-/// One step in place of two, where the first passes over bytes and the other begins so.
+/// Merges two steps into one, if the first skips bytes and the second starts by skipping bytes.
 pub(crate) fn joined(step: AttributeStep, next: AttributeStep) -> Option<AttributeStep>
     ensures { result ≡ joined step next }
 {
@@ -40,7 +40,7 @@ pub(crate) fn joined(step: AttributeStep, next: AttributeStep) -> Option<Attribu
     }
 }
 
-/// The step of an attribute.
+/// Returns the step of an attribute.
 pub(crate) fn step_of(
     keep: bool,
     format: Format,
@@ -59,7 +59,7 @@ pub(crate) fn step_of(
     }
 }
 
-/// The layout of the values of an attribute, where none of them is refused.
+/// Returns the layout of the values of an attribute, if every value in it is valid.
 fn known_layout(specification: &AttributeSpecification) -> Option<ValueLayout>
     ensures { result ≡ known_layout specification.now }
 {
@@ -72,7 +72,7 @@ fn known_layout(specification: &AttributeSpecification) -> Option<ValueLayout>
     }
 }
 
-/// Whether the values of a layout are numbers from 0 up, or texts.
+/// Returns whether the values of a layout are nonnegative numbers or strings.
 fn is_plain(layout: ValueLayout) -> bool
     ensures { result ≡ is_plain layout }
 {
@@ -82,7 +82,8 @@ fn is_plain(layout: ValueLayout) -> bool
     )
 }
 
-/// The bytes that the value of an attribute always takes, where only a lack of bytes refuses it.
+/// Returns the size in bytes of every value of an attribute, if it is fixed and if such a value is
+/// invalid only when bytes are missing.
 #[tactic(auto, unfolding(crate::specs::Private::Plans::fixed_len))]
 fn fixed_len(format: Format, specification: &AttributeSpecification) -> Option<u16>
     ensures { result ≡ fixed_len format specification.now }
@@ -97,7 +98,8 @@ fn fixed_len(format: Format, specification: &AttributeSpecification) -> Option<u
     }
 }
 
-/// The same of a value that stands in the declaration.
+/// Returns the size of an attribute whose value is in its declaration: 0 if the value is valid,
+/// otherwise `None`.
 fn constant_len(specification: &AttributeSpecification) -> Option<u16>
     ensures { result ≡ constant_len specification.now }
 {
@@ -108,7 +110,7 @@ fn constant_len(specification: &AttributeSpecification) -> Option<u16>
     Some(0)
 }
 
-/// The same of a value in a layout.
+/// Returns the size of every value in a layout, if it is fixed and if any bytes are a valid value.
 fn layout_len(format: Format, layout: ValueLayout) -> Option<u16>
     ensures { result ≡ layout_len format layout }
 {

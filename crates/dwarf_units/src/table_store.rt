@@ -1,4 +1,4 @@
-//! The tables that are kept, under their numbers.
+//! The cache of abbreviation tables, indexed by number.
 
 ghost use Rattle.std.specs.Prelude.{◌≡◌, ◌++◌, ◌∷◌, [], None, Some, take, length, slice_get, IfOk};
 ghost use Rattle.std.specs.Prelude.{IfNone, IfSome, OnErr};
@@ -14,13 +14,15 @@ use crate::numbers::Numbers;
 use crate::unit_headers::UnitHeader;
 use std::alloc::{AllocError, Global};
 
-/// The tables that stay, as far as there is room, and the last one that was read and had none.
+/// The cached tables that fit the budget, followed by at most one temporary table: the last table
+/// that did not fit.
 #[derive(Drop)]
 pub(crate) struct TableStore {
     pub(crate) tables: Vec<KeptTable>,
-    /// How many of the tables stay: one behind them is the last one.
+    /// The number of tables that are cached permanently. A table after them is temporary.
     pub(crate) kept: usize,
-    /// How many more declarations, attributes and steps may stay.
+    /// The remaining budget: the number of declarations, attributes and steps that can still be
+    /// cached.
     pub(crate) room: u128,
     pub(crate) numbers: Numbers,
 }
@@ -39,7 +41,7 @@ impl TableStore {
         }
     }
 
-    /// The number of the table of a unit, where it is kept.
+    /// Returns the index of the table of a unit, if it is cached.
     pub(crate) fn known(&self, unit: &UnitHeader) -> Option<usize>
         ensures none { IfNone result ((lists : LinkedPlaces) → AreStored lists self.now
             → AreElsewhere unit.now.format unit.now.abbreviations (seen lists self.now).tables) }
@@ -54,8 +56,8 @@ impl TableStore {
         None
     }
 
-    /// Keeps a table, and gives its number. One for which there is no room is kept up to the next
-    /// one.
+    /// Caches a table and returns its index. A table that exceeds the budget is cached only until
+    /// the next table is added.
     pub(crate) fn keep(&mut self, table: KeptTable) -> Result<usize, AllocError>
         ensures stored { (lists : LinkedPlaces) → AreStored lists self.old
             → IsNew lists self.old table → AreStored lists self.new }
@@ -78,7 +80,7 @@ impl TableStore {
     }
 }
 
-/// Puts a table behind so many others, in place of those that stand there, and gives its number.
+/// Truncates the list to `kept` tables, appends a table, and returns its index.
 fn put_behind(
     tables: &mut Vec<KeptTable>,
     kept: usize,

@@ -1,4 +1,4 @@
-//! The abbreviation tables of all units (DWARF 5, 7.5.3), each read once.
+//! The abbreviation tables of all units (DWARF 5, 7.5.3). Each is parsed once on load.
 
 ghost use Rattle.std.specs.Prelude.{◌≡◌, ℕ, ◌+◌, ◌<◌, ◌≤◌, ◌++◌, [], take, List, Some, Ok};
 ghost use Rattle.std.specs.Prelude.{length, nat_lt, slice_get, IfOk, OnOk, IfSome, IfNone};
@@ -21,10 +21,10 @@ use dwarf_bytes::LoadFault;
 use std::alloc::{AllocError, Global};
 use std::marker::Model;
 
-/// The declarations that may be read for all units of an object.
+/// The maximum number of declarations that are read for all units of an object.
 const DECLARATIONS_LIMIT: u64 = 4_194_304;
 
-/// The tables that the units of an object name, and how attributes are read by them.
+/// The abbreviation tables that the units of an object use, with their decode plans.
 #[derive(Drop)]
 pub struct Tables<'a> {
     lists: LinkedLists<'a>,
@@ -42,10 +42,10 @@ impl<'a> Model for Tables<'a> {
 }
 
 impl<'a> Tables<'a> {
-    /// Reads the table of each unit, those of a place and a format once. A fault is told at its
-    /// declaration. What is kept is bounded: attributes behind the first ones of their list are
-    /// kept once for each place of the section, and the declarations, first attributes and steps of
-    /// the tables that stay are at most three times the bytes of the section, and 65,536.
+    /// Parses the table of each unit, once for each offset and format. A fault is reported at the
+    /// offset of its declaration. Memory is bounded. Attributes after the first ones of their list
+    /// are stored once for each offset of the section. The cache holds at most 3 × the section
+    /// size + 65,536 declarations, first attributes and plan steps.
     pub fn judge(
         alloc: Global,
         section: &'a [u8],
@@ -77,8 +77,8 @@ impl<'a> Tables<'a> {
         })
     }
 
-    /// Reads the table of a unit, unless it is known. Its declarations are taken from those that
-    /// are left in both cases.
+    /// Parses the table of a unit, unless it is cached. Subtracts its declarations from `left` in
+    /// both cases.
     fn judge_unit(
         &mut self,
         alloc: Global,
@@ -107,7 +107,8 @@ impl<'a> Tables<'a> {
         Ok(())
     }
 
-    /// How many declarations the table of a unit has, where it is kept and has so many at most.
+    /// Returns the number of declarations of the table of a unit, if the table is cached and has
+    /// at most `left` declarations.
     fn known_len(&self, unit: &UnitHeader, left: u64) -> Option<u64>
         requires { left ≤ declarations_limit }
         ensures none { IfNone result ((table : List Declaration)
@@ -126,8 +127,8 @@ impl<'a> Tables<'a> {
         Some(len)
     }
 
-    /// The number of the table of a unit, good up to the next call. A table that is not kept is
-    /// read again, in place of the last one that was not kept.
+    /// Returns the index of the table of a unit, which is valid until the next call. A table that
+    /// is not cached is re-parsed and replaces the previous temporary table.
     pub fn number_of(&mut self, alloc: Global, unit: &UnitHeader) -> Result<usize, LoadFault>
         ensures ok { IfOk result (IsNumberOf self.old.section unit.now self.new.tables) }
         ensures err { Refuses result
@@ -149,7 +150,8 @@ impl<'a> Tables<'a> {
         self.add(alloc, unit, &mut left)
     }
 
-    /// The same, where the table of a number may be that of the unit.
+    /// Returns the index of the table of a unit, like `number_of`, but tries the index `guess`
+    /// first.
     pub fn number_by(
         &mut self,
         alloc: Global,
@@ -175,7 +177,7 @@ impl<'a> Tables<'a> {
         }
     }
 
-    /// The table of a number.
+    /// Returns the table at an index.
     pub fn table(&self, number: usize) -> UnitTable<'_>
         requires { number < length self.now.tables }
         ensures { slice_get self.now.tables number ≡ Some result }
@@ -183,15 +185,16 @@ impl<'a> Tables<'a> {
         UnitTable::new(&self.store.tables[number], &self.lists)
     }
 
-    /// Whether the table of a number stays. One that does not gives way to the next such one.
+    /// Returns whether the table at an index is cached permanently. A temporary table is replaced
+    /// by the next one.
     pub fn stays(&self, number: usize) -> bool
         ensures { result ≡ nat_lt number self.now.kept }
     {
         number < self.store.kept
     }
 
-    /// Reads the table of a unit, which is none of those that are kept, and keeps it. Gives its
-    /// number. Its declarations are taken from those that are left.
+    /// Parses the table of a unit, which must not be cached, and caches it. Returns its index.
+    /// Subtracts its declarations from `left`.
     fn add(&mut self, alloc: Global, unit: &UnitHeader, left: &mut u64) -> Result<usize, LoadFault>
         requires few { left.old ≤ declarations_limit }
         requires fresh { (table : List Declaration)

@@ -1,4 +1,5 @@
-//! The steps by which known attributes are read, each in front of those behind it.
+//! Decode steps of memoized attributes. Each step links to the step of the next attribute of the
+//! list.
 
 ghost use Rattle.std.specs.Prelude.{◌≡◌, ◌<◌, ◌≤◌, ◌∷◌, List, ℕ, IfSome, OnOk, length};
 ghost use Rattle.dwarf_forms.specs.declared.known_lists.KnownAttribute.{KnownAttribute};
@@ -10,15 +11,16 @@ use dwarf_bytes::Format;
 use dwarf_forms::{AttributeSpecification, KnownLists};
 use std::alloc::AllocError;
 
-/// The step of a known attribute, or one in place of it and of some behind it.
+/// The step of a memoized attribute, which may be merged with the steps of attributes after it.
 #[derive(Clone, Copy)]
 pub(crate) struct LinkedStep {
     pub(crate) step: AttributeStep,
-    /// The number of the known attribute behind these.
+    /// The index of the memoized attribute after those that the step covers.
     pub(crate) next: Option<usize>,
 }
 
-/// The steps of a known attribute, where the used attributes are kept, and where none are.
+/// The steps of a memoized attribute: one that stores it if it is used, and one that stores
+/// nothing.
 #[derive(Clone, Copy)]
 pub(crate) struct Links {
     kept: LinkedStep,
@@ -26,14 +28,15 @@ pub(crate) struct Links {
 }
 
 impl Links {
-    /// The step, by whether the used attributes are kept.
+    /// Returns the step that stores used attributes if `keep` is set, and otherwise the one that
+    /// stores none.
     pub(crate) fn by(&self, keep: bool) -> &LinkedStep
         ensures { result.now ≡ link_by keep self.now }
     {
         if keep { &self.kept } else { &self.passed }
     }
 
-    /// The steps of an attribute, in front of those of the known one behind it.
+    /// Builds the steps of an attribute that precedes the memoized attribute `next`.
     fn of(
         format: Format,
         attribute: &AttributeSpecification,
@@ -53,7 +56,7 @@ impl Links {
     }
 }
 
-/// The same, where the used attributes are kept or none are.
+/// Builds one of these steps, by whether used attributes are stored.
 fn linked(
     keep: bool,
     format: Format,
@@ -80,7 +83,7 @@ fn linked(
     }
 }
 
-/// Makes the links of the known attributes that have none yet.
+/// Links the memoized attributes that have no links yet.
 pub(crate) fn link_all(
     format: Format,
     lists: &KnownLists<'_>,

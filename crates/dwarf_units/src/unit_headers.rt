@@ -10,7 +10,7 @@ use dwarf_bytes::constants::{DW_UT_COMPILE, DW_UT_PARTIAL, DW_UT_TYPE};
 use dwarf_bytes::{Cause, Cursor, Format, LoadFault, Section};
 use std::alloc::Global;
 
-/// The type of a unit.
+/// The type of a unit (DWARF 5, 7.5.1, table 7.2).
 #[derive(Clone, Copy)]
 pub enum UnitType {
     Compile,
@@ -19,7 +19,7 @@ pub enum UnitType {
 }
 
 impl UnitType {
-    /// The type of a number; none for a number that is not read.
+    /// Returns the unit type of a number, or `None` if it is not supported.
     fn of(number: u8) -> Option<UnitType>
         ensures { result ≡ unit_type_of number }
     {
@@ -31,7 +31,7 @@ impl UnitType {
         }
     }
 
-    /// Whether units of the type are read.
+    /// Returns whether units of this type are read. Type units are skipped.
     fn is_read(self) -> bool
         ensures { result ≡ is_read_type self }
     {
@@ -42,8 +42,9 @@ impl UnitType {
     }
 }
 
-/// A unit: its first header byte, its format and type, the offset of its abbreviations, its first
-/// entry, and its end. Of a type unit nothing behind its type is read.
+/// A unit header. `start`, `first` and `end` are offsets in `.debug_info`: the unit's first byte,
+/// its first entry, and its end (exclusive). `abbreviations` is an offset in `.debug_abbrev`. Of a
+/// type unit, nothing after the unit type is read.
 #[derive(Clone, Copy)]
 pub struct UnitHeader {
     pub start: usize,
@@ -54,7 +55,8 @@ pub struct UnitHeader {
     pub end: usize,
 }
 
-/// The units of `.debug_info` that are read, in file order. A fault is told at its unit.
+/// Parses the headers of the units of `.debug_info`, in file order, without type units. A fault is
+/// reported at the offset of its unit.
 #[tactic(auto, unfolding(crate::specs::Units::units_of))]
 pub fn units(alloc: Global, info: &[u8]) -> Result<Vec<UnitHeader>, LoadFault>
     ensures { Decodes (λ units. units.items) result (in_section sections.DebugInfo
@@ -65,7 +67,7 @@ pub fn units(alloc: Global, info: &[u8]) -> Result<Vec<UnitHeader>, LoadFault>
     Ok(all)
 }
 
-/// The headers of all units.
+/// Parses the headers of all units, type units included.
 fn headers(alloc: Global, info: &[u8]) -> Result<Vec<UnitHeader>, LoadFault>
     ensures { Decodes (λ headers. headers.items) result (in_section sections.DebugInfo
         (headers_of info.now)) }
@@ -84,7 +86,7 @@ fn headers(alloc: Global, info: &[u8]) -> Result<Vec<UnitHeader>, LoadFault>
     Ok(all)
 }
 
-/// The header of the unit at a place of `.debug_info`.
+/// Parses the header of the unit at an offset of `.debug_info`.
 #[tactic(auto, unfolding(crate::specs::Units::unit_at))]
 fn unit(info: &[u8], at: usize) -> Result<UnitHeader, Cause>
     requires { at ≤ length info.now }
@@ -100,7 +102,7 @@ fn unit(info: &[u8], at: usize) -> Result<UnitHeader, Cause>
     header(at, format, &info[..end], cursor.place())
 }
 
-/// Whether so many bytes from a place on pass the end.
+/// Returns whether `len` bytes from `place` on extend beyond `end`.
 fn is_past(end: usize, place: usize, len: u64) -> bool
     requires { place ≤ end }
     ensures { result ≡ nat_lt end (place + len) }
@@ -108,7 +110,7 @@ fn is_past(end: usize, place: usize, len: u64) -> bool
     len > (end - place) as u64
 }
 
-/// The header behind a unit's length. The bytes end with the unit.
+/// Parses the header that follows the length of a unit. `unit` ends where the unit ends.
 fn header(start: usize, format: Format, unit: &[u8], at: usize) -> Result<UnitHeader, Cause>
     requires { at ≤ length unit.now }
     ensures { result ≡ header_in start format unit.now at }

@@ -1,4 +1,4 @@
-//! The abbreviation table of a unit (DWARF 5, 7.5.3).
+//! The abbreviation table of one unit (DWARF 5, 7.5.3).
 
 ghost use Rattle.std.specs.Prelude.{◌≡◌, ◌≤◌, IfSome, option_map};
 ghost use Rattle.dwarf_units.specs.Entries.{declaration_of, depth_limit};
@@ -12,8 +12,7 @@ use crate::linked_lists::LinkedLists;
 use crate::plain_head::PlainHead;
 use std::marker::Model;
 
-/// A table of `.debug_abbrev`, where it stands, and how attributes are read by it in units of a
-/// format.
+/// A cached abbreviation table, together with the memoized attributes that its declarations share.
 #[derive(Drop)]
 pub struct UnitTable<'a> {
     table: &'a KeptTable,
@@ -39,7 +38,7 @@ impl<'a> UnitTable<'a> {
         UnitTable { table, lists }
     }
 
-    /// The declaration of a code, and how its attributes are read.
+    /// Returns the declaration of a code and the decode plan of its attributes.
     pub(crate) fn find(&self, code: u64) -> Option<EntryHead<'a>>
         ensures { result
             ≡ option_map (head_in self.now) (declaration_of self.now.declarations code) }
@@ -48,8 +47,8 @@ impl<'a> UnitTable<'a> {
         Some(EntryHead::new(self.table.format(), declaration, plan, self.lists))
     }
 
-    /// The entry at a place, at a depth below the root's, if it is plain and its bytes are there,
-    /// and the place after it.
+    /// Returns the head of the entry at an offset and the offset after it, if the entry has a
+    /// fixed size, is below the root, and is not truncated.
     #[inline(always)]
     pub fn plain_entry(&self, depth: u32, bytes: &[u8], place: usize) -> Option<(PlainHead, usize)>
         ensures found { result ≡ plain_entry_at self.now depth bytes.now place }

@@ -1,4 +1,4 @@
-//! The used attributes of an entry, each by its name (DWARF 5, 2.2).
+//! The used attributes of an entry, by name (DWARF 5, 2.2).
 
 ghost use Rattle.std.specs.Prelude.{◌≡◌, ◌∷◌, []};
 ghost use Rattle.dwarf_units.specs.Private.Names.{under_name};
@@ -8,12 +8,13 @@ use crate::attributes::AttributeValue;
 use crate::used_name::UsedName;
 use std::marker::Model;
 
-/// The values of the used attributes of an entry. Of two with one name it is the first.
+/// The values of the used attributes of an entry. If an attribute occurs twice, the first value
+/// counts.
 #[derive(Drop)]
 pub struct UsedAttributes {
-    /// Whether there is a value of each name.
+    /// Whether the entry has the attribute, by slot.
     has: [bool; 13],
-    /// The values, each of which counts if there is one.
+    /// The values by slot. A value is meaningful only if the flag of its slot is set.
     values: [AttributeValue; 13],
 }
 
@@ -27,7 +28,7 @@ impl Model for UsedAttributes {
 }
 
 impl UsedAttributes {
-    /// Of an entry without used attributes.
+    /// Creates an empty set of attributes.
     pub fn none() -> UsedAttributes
         ensures { result ≡ used_among [] }
     {
@@ -38,7 +39,7 @@ impl UsedAttributes {
         }
     }
 
-    /// Forgets all of them.
+    /// Removes all attributes.
     #[inline(always)]
     pub(crate) fn clear(&mut self)
         ensures { self.new ≡ used_among [] }
@@ -46,7 +47,7 @@ impl UsedAttributes {
         self.has = [false; 13];
     }
 
-    /// Takes the attribute of a name, which stands behind those so far.
+    /// Adds an attribute. Has no effect if the entry already has an attribute of this name.
     #[inline(always)]
     pub(crate) fn add(&mut self, name: UsedName, value: AttributeValue)
         ensures { self.new ≡ with_used self.old (under_name name value ∷ []) }
@@ -58,7 +59,7 @@ impl UsedAttributes {
         }
     }
 
-    /// The value of a name.
+    /// Returns the value of an attribute.
     #[inline(always)]
     fn under(&self, name: UsedName) -> Option<AttributeValue>
         ensures { result ≡ value_under name self.now }
@@ -67,7 +68,7 @@ impl UsedAttributes {
         self.has[slot].then_some(self.values[slot])
     }
 
-    /// The value of DW_AT_name.
+    /// Returns the value of DW_AT_name.
     #[inline(always)]
     pub fn name(&self) -> Option<AttributeValue>
         ensures { result ≡ self.now.name }
@@ -75,7 +76,7 @@ impl UsedAttributes {
         self.under(UsedName::Name)
     }
 
-    /// The value of DW_AT_linkage_name.
+    /// Returns the value of DW_AT_linkage_name.
     #[inline(always)]
     pub fn linkage_name(&self) -> Option<AttributeValue>
         ensures { result ≡ self.now.linkage_name }
@@ -83,7 +84,7 @@ impl UsedAttributes {
         self.under(UsedName::LinkageName)
     }
 
-    /// The value of DW_AT_abstract_origin.
+    /// Returns the value of DW_AT_abstract_origin.
     #[inline(always)]
     pub fn abstract_origin(&self) -> Option<AttributeValue>
         ensures { result ≡ self.now.abstract_origin }
@@ -91,7 +92,7 @@ impl UsedAttributes {
         self.under(UsedName::AbstractOrigin)
     }
 
-    /// The value of DW_AT_specification.
+    /// Returns the value of DW_AT_specification.
     #[inline(always)]
     pub fn specification(&self) -> Option<AttributeValue>
         ensures { result ≡ self.now.specification }
@@ -99,7 +100,7 @@ impl UsedAttributes {
         self.under(UsedName::Specification)
     }
 
-    /// The value of DW_AT_low_pc.
+    /// Returns the value of DW_AT_low_pc.
     #[inline(always)]
     pub fn low_pc(&self) -> Option<AttributeValue>
         ensures { result ≡ self.now.low_pc }
@@ -107,7 +108,7 @@ impl UsedAttributes {
         self.under(UsedName::LowPc)
     }
 
-    /// The value of DW_AT_high_pc.
+    /// Returns the value of DW_AT_high_pc.
     #[inline(always)]
     pub fn high_pc(&self) -> Option<AttributeValue>
         ensures { result ≡ self.now.high_pc }
@@ -115,7 +116,7 @@ impl UsedAttributes {
         self.under(UsedName::HighPc)
     }
 
-    /// The value of DW_AT_ranges.
+    /// Returns the value of DW_AT_ranges.
     #[inline(always)]
     pub fn ranges(&self) -> Option<AttributeValue>
         ensures { result ≡ self.now.ranges }
@@ -123,7 +124,7 @@ impl UsedAttributes {
         self.under(UsedName::Ranges)
     }
 
-    /// The value of DW_AT_call_file.
+    /// Returns the value of DW_AT_call_file.
     #[inline(always)]
     pub fn call_file(&self) -> Option<AttributeValue>
         ensures { result ≡ self.now.call_file }
@@ -131,7 +132,7 @@ impl UsedAttributes {
         self.under(UsedName::CallFile)
     }
 
-    /// The value of DW_AT_call_line.
+    /// Returns the value of DW_AT_call_line.
     #[inline(always)]
     pub fn call_line(&self) -> Option<AttributeValue>
         ensures { result ≡ self.now.call_line }
@@ -139,7 +140,7 @@ impl UsedAttributes {
         self.under(UsedName::CallLine)
     }
 
-    /// The value of DW_AT_stmt_list.
+    /// Returns the value of DW_AT_stmt_list.
     #[inline(always)]
     pub fn stmt_list(&self) -> Option<AttributeValue>
         ensures { result ≡ self.now.stmt_list }
@@ -147,7 +148,7 @@ impl UsedAttributes {
         self.under(UsedName::StmtList)
     }
 
-    /// The value of DW_AT_str_offsets_base.
+    /// Returns the value of DW_AT_str_offsets_base.
     #[inline(always)]
     pub fn str_offsets_base(&self) -> Option<AttributeValue>
         ensures { result ≡ self.now.str_offsets_base }
@@ -155,7 +156,7 @@ impl UsedAttributes {
         self.under(UsedName::StrOffsetsBase)
     }
 
-    /// The value of DW_AT_addr_base.
+    /// Returns the value of DW_AT_addr_base.
     #[inline(always)]
     pub fn addr_base(&self) -> Option<AttributeValue>
         ensures { result ≡ self.now.addr_base }
@@ -163,7 +164,7 @@ impl UsedAttributes {
         self.under(UsedName::AddrBase)
     }
 
-    /// The value of DW_AT_rnglists_base.
+    /// Returns the value of DW_AT_rnglists_base.
     #[inline(always)]
     pub fn rnglists_base(&self) -> Option<AttributeValue>
         ensures { result ≡ self.now.rnglists_base }

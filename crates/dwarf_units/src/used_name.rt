@@ -1,4 +1,4 @@
-//! The names of the attributes that are used (DWARF 5, 2.2 and 7.5.4).
+//! The names of the used attributes (DWARF 5, 2.2 and 7.5.4).
 
 ghost use Rattle.std.specs.Prelude.{◌≡◌, ◌<◌};
 ghost use Rattle.dwarf_units.specs.Private.Slots.{slot_of};
@@ -25,7 +25,7 @@ pub(crate) enum UsedName {
 }
 
 impl UsedName {
-    /// The name of a number, if it is used.
+    /// Returns the name of an attribute code, if the attribute is used.
     #[inline(always)]
     pub(crate) fn of(name: u64) -> Option<UsedName>
         ensures { result ≡ used_name name }
@@ -48,7 +48,7 @@ impl UsedName {
         }
     }
 
-    /// Its slot among those of all names.
+    /// Returns the slot of the name in `UsedAttributes`.
     #[inline(always)]
     pub(crate) fn slot(self) -> usize
         ensures slot { result ≡ slot_of self }

@@ -1,4 +1,4 @@
--- What stands at a place of a unit, without its attributes, or with those that are used.
+-- The entry at an offset of a unit, either without its attributes or with the used ones only.
 use Rattle.std.specs.Prelude.{◌≡◌, ℕ, List, Bool, true, Option, Some, None, Result, Ok, Err, nat_lt}
 use Rattle.std.specs.Prelude.{◌==◌, ◌&&◌, if◌then◌else◌, ok_or}
 use Rattle.dwarf_bytes.specs.declared.fault.Cause.{Cause}
@@ -14,7 +14,7 @@ use Rattle.dwarf_units.specs.Entries.{depth_limit, declaration_of, entry_at}
 use Rattle.dwarf_units.specs.Private.Plans.{Table, kept_attributes}
 use Rattle.dwarf_units.specs.Private.Used.{Used, used_among}
 
--- the declaration of an entry, in a unit of a format
+-- The declaration of an entry in a unit of a format.
 pub record Head : Type 0 where
   pub format : Format
   pub declaration : Declaration
@@ -22,7 +22,7 @@ pub record Head : Type 0 where
 abbrev pub head_in : Table → Declaration → Head
 head_in table declaration = record { format = table.format; declaration = declaration }
 
--- the head of what stands at a place, and the place after it; none of a null
+-- The head of the node at an offset and the offset after the code. It is None for a null entry.
 abbrev pub head_at : Table → ℕ → Bool → List ℕ → ℕ → Result (Option Head × ℕ) Cause
 head_at table depth rooted unit at = do
   code ← reading (uleb_at unit at)
@@ -32,13 +32,13 @@ head_at table depth rooted unit at = do
     _ ← refuse_if (nat_lt depth_limit depth) causes.TooDeep
     Ok (Some (head_in table declaration), code.1)
 
--- the tag of the entry at a place and its attributes that are used, and the place after it
+-- The tag and the used attributes of the entry at an offset, and the offset after it.
 abbrev pub used_entry_at : Table → List ℕ → ℕ → Result ((ℕ × Used) × ℕ) Cause
 used_entry_at table unit at = entry_at table.format table.declarations unit at
     >>= λ entry. Ok ((entry.0.0, used_among (kept_attributes true entry.0.1)), entry.1)
 
--- What was read is told in part, and in part stands in its place; the cursor stands after it,
--- unless memory ran out.
+-- The first part of what is read is the result, and the second part is in the output argument. The
+-- cursor is after it. The call may also fail because memory ran out.
 abbrev pub TellsAndFills : {X Y : Type 0} → Result X Cause → Y
     → (List ℕ → ℕ → Result ((X × Y) × ℕ) Cause) → Position → Position → Type 0
 TellsAndFills (Ok x) left read old new =

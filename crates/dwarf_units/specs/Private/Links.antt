@@ -1,4 +1,4 @@
--- The attributes that are known of a section, and the steps by which they are read.
+-- The memoized attributes of a section, and the links that decode them.
 use Rattle.std.specs.Prelude.{◌≡◌, ℕ, ◌<◌, ◌≤◌, List, ◌∷◌, length, Bool, true, false, Option, Some}
 use Rattle.std.specs.Prelude.{IfSome, slice_get}
 use Rattle.dwarf_bytes.specs.declared.format.Format.{Format}
@@ -9,28 +9,28 @@ use Rattle.dwarf_units.specs.declared.tails.LinkedStep.{LinkedStep}
 use Rattle.dwarf_units.specs.declared.tails.Links.{Links}
 use Rattle.dwarf_units.specs.Private.Plans.{steps_of}
 
--- The steps of a known attribute and those behind it: the step of the link, and those of the
--- attributes behind it.
+-- The steps of a list that starts at a memoized attribute are the step of its link, followed by
+-- the steps of the list at the link's successor.
 pub record IsLink (keep : Bool) (format : Format) (known : List KnownAttribute) (number : ℕ)
     (link : LinkedStep) : Type 0 where
   pub steps : steps_of keep format (attributes_from known number)
       ≡ link.step ∷ steps_of keep format (rest_attributes known link.next)
   pub before : IfSome link.next (λ next. next < number)
 
--- the link by whether the used attributes are kept
+-- The link that stores used attributes, or the one that stores none.
 abbrev pub link_by : Bool → Links → LinkedStep
 link_by true links = links.kept
 link_by false links = links.passed
 
--- the links of the known attributes, or of the first ones of them, for units of a format
+-- The links of the memoized attributes, or of the first n of them, for units of a format.
 pub record AreLinked (format : Format) (known : List KnownAttribute) (links : List Links)
     : Type 0 where
   pub within : length links ≤ length known
   pub each : (number : ℕ) (l : Links) → slice_get links number ≡ Some l → (keep : Bool)
       → IsLink keep format known number (link_by keep l)
 
--- the attributes that are known of a section, and how many of them have links for units of each
--- format
+-- The memoized attributes of a section, and the number of them that have links for units of each
+-- format.
 pub record LinkedPlaces : Type 0 where
   pub places : KnownPlaces
   pub dwarf32 : ℕ
@@ -40,11 +40,11 @@ abbrev pub linked_in : LinkedPlaces → Format → ℕ
 linked_in lists Dwarf32 = lists.dwarf32
 linked_in lists Dwarf64 = lists.dwarf64
 
--- The section stays, and so does what is known and linked, with more behind it at the most.
+-- The section is unchanged. Memoized attributes and links are only added.
 pub record LinksGrow (old new : LinkedPlaces) : Type 0 where
   pub places : Grows old.places new.places
   pub linked : (format : Format) → linked_in old format ≤ linked_in new format
 
--- the known attribute of a number, if it is one, has links
+-- The memoized attribute at an index, if there is one, has links.
 abbrev pub IsLinked : LinkedPlaces → Format → Option ℕ → Type 0
 IsLinked lists format next = IfSome next (λ number. number < linked_in lists format)

@@ -1,4 +1,4 @@
--- The names of the attributes that are used (DWARF 5, 2.2 and 7.5.4).
+-- The names of the used attributes (DWARF 5, 2.2 and 7.5.4).
 use Rattle.std.specs.Prelude.{ℕ, List, [], ◌∷◌, Option, ◌==◌, find}
 use Rattle.dwarf_bytes.specs.declared.constants.TheConstants.{
   DW_AT_ABSTRACT_ORIGIN,
@@ -25,7 +25,7 @@ use Rattle.dwarf_units.specs.declared.used_name.UsedName.TheVariants.{CallFile, 
 use Rattle.dwarf_units.specs.declared.used_name.UsedName.TheVariants.{StmtList, StrOffsetsBase}
 use Rattle.dwarf_units.specs.declared.used_name.UsedName.TheVariants.{AddrBase, RnglistsBase}
 
--- the number of a name
+-- The code of a name.
 abbrev pub name_of : UsedName → ℕ
 name_of Name = DW_AT_NAME
 name_of LinkageName = DW_AT_LINKAGE_NAME
@@ -45,10 +45,10 @@ abbrev pub used_names : List UsedName
 used_names = Name ∷ LinkageName ∷ AbstractOrigin ∷ Specification ∷ LowPc ∷ HighPc ∷ Ranges
     ∷ CallFile ∷ CallLine ∷ StmtList ∷ StrOffsetsBase ∷ AddrBase ∷ RnglistsBase ∷ []
 
--- the name of a number, if it is used
+-- The name of a code, if the attribute is used.
 abbrev pub used_name : ℕ → Option UsedName
 used_name number = find (λ name. name_of name == number) used_names
 
--- the attribute of a name
+-- The attribute with a name and a value.
 abbrev pub under_name : UsedName → AttributeValue → Attribute
 under_name name value = record { name = name_of name; value = value }

@@ -1,4 +1,4 @@
--- The numbers under which tables are kept, as a map from a format and an offset.
+-- The index of each cached table, as a map from a format and an offset.
 use Rattle.std.specs.Prelude.{ℕ, Bool, true, false, Option, Some, ◌==◌, ◌&&◌, if◌then◌else◌}
 use Rattle.std.specs.BTreeMap.{get}
 use Rattle.std.specs.Ordering.{nat_cmp}
@@ -6,7 +6,7 @@ use Rattle.dwarf_bytes.specs.declared.format.Format.{Format}
 use Rattle.dwarf_bytes.specs.declared.format.Format.TheVariants.{Dwarf32, Dwarf64}
 use Rattle.dwarf_units.specs.declared.numbers.Numbers.{Numbers}
 
--- the number of the table at an offset, for units of a format
+-- The index of the table at an offset, for units of a format.
 abbrev pub number_at : Numbers → Format → ℕ → Option ℕ
 number_at numbers Dwarf32 offset = get nat_cmp numbers.dwarf32 offset
 number_at numbers Dwarf64 offset = get nat_cmp numbers.dwarf64 offset
@@ -17,7 +17,7 @@ is_same Dwarf32 Dwarf64 = false
 is_same Dwarf64 Dwarf32 = false
 is_same Dwarf64 Dwarf64 = true
 
--- .. where one number was set
+-- The map after one index was set.
 abbrev pub with_number : Numbers → Format → ℕ → ℕ → Format → ℕ → Option ℕ
 with_number numbers format offset number f at =
     if is_same f format && (at == offset) then Some number else number_at numbers f at

@@ -1,4 +1,4 @@
--- Entries whose attributes, where none is kept, are passed over as so many bytes.
+-- Fixed-size entries: entries whose attributes can be skipped as a fixed number of bytes.
 use Rattle.std.specs.Prelude.{◌≡◌, ℕ, ◌+◌, min, List, [], ◌∷◌, length, Bool, true, false, ◌==◌}
 use Rattle.std.specs.Prelude.{◌&&◌, ◌||◌, nat_lt, nat_le, Option, Some, None, Ok, if◌then◌else◌}
 use Rattle.std.specs.Prelude.{is_some, find, option_and_then, option_map, slice_get}
@@ -15,7 +15,7 @@ use Rattle.dwarf_units.specs.Entries.{Entry, declaration_of, depth_limit, node_b
 use Rattle.dwarf_units.specs.Private.Plans.{Table, steps_of}
 use Rattle.dwarf_units.specs.Private.SharedTables.{SharedTable}
 
--- the bytes that steps pass over, where they do nothing else
+-- The number of bytes that steps skip, if they do nothing else.
 abbrev pub passed_len : List AttributeStep → Option ℕ
 passed_len [] = Some 0
 passed_len (Skip n ∷ []) = Some n
@@ -23,69 +23,69 @@ passed_len (Skip n ∷ next ∷ steps) = None
 passed_len (Pass s layout ∷ steps) = None
 passed_len (Keep n used s layout ∷ steps) = None
 
--- the head of the entries of a declaration that shares no attributes, in units of a format
+-- The fixed-size head of a declaration that shares no attributes, in units of a format.
 abbrev pub plain_of : Format → SharedDeclaration → Option PlainHead
 plain_of format d = if is_some d.list.rest then None else
     option_map (λ len. record { tag = d.tag; children = d.children; len = len })
     (passed_len (steps_of false format d.list.own))
 
--- .. of the declaration of a code
+-- The fixed-size head of the declaration of a code.
 abbrev pub plain_head : Format → List SharedDeclaration → ℕ → Option PlainHead
 plain_head format declarations code = option_map_or (plain_of format)
     (find (λ declaration. declaration.code == code) declarations) None
 
--- the greatest code of one byte
+-- The greatest code that is encoded in one byte.
 abbrev pub code_limit : ℕ
 code_limit = 127
 
--- how many codes, from 1 on, have their heads at hand: those of one byte, and no more than there
--- are declarations
+-- The number of codes, from 1 on, whose heads are precomputed: the codes of one byte, up to the
+-- number of declarations.
 abbrev pub codes_at_hand : {D : Type 0} → List D → ℕ
 codes_at_hand declarations = min (length declarations) code_limit
 
 abbrev pub is_at_hand : {D : Type 0} → List D → ℕ → Bool
 is_at_hand declarations code = nat_lt 0 code && nat_le code (codes_at_hand declarations)
 
--- The heads are those of the first codes, from 1 on.
+-- The list contains the heads of the first codes, from 1 on.
 pub record ArePlain (format : Format) (declarations : List SharedDeclaration)
     (heads : List (Option PlainHead)) : Type 0 where
   pub len : length heads ≡ codes_at_hand declarations
   pub each : (place : ℕ) (head : Option PlainHead) → slice_get heads place ≡ Some head
       → head ≡ plain_head format declarations (place + 1)
 
--- the plain head of a code, if it is at hand
+-- The fixed-size head of a code, if it is precomputed.
 abbrev pub plain_at_hand : SharedTable → ℕ → Option PlainHead
 plain_at_hand table code = if is_at_hand table.declarations code
     then plain_head table.format table.declarations code else None
 
--- ---- of declarations with all of their attributes
+-- ---- declarations with all of their attributes
 
--- the head of the entries of a declaration of so few attributes that it shares none
+-- The fixed-size head of a declaration that has too few attributes to share any.
 abbrev pub plain_of_all : Format → Declaration → Option PlainHead
 plain_of_all format d = if nat_lt UNSHARED (length d.attributes) then None else
     option_map (λ len. record { tag = d.tag; children = d.children; len = len })
     (passed_len (steps_of false format d.attributes))
 
--- .. of the declaration of a code, if it is at hand
+-- The fixed-size head of the declaration of a code, if it is precomputed.
 abbrev pub plain_by_code : Table → ℕ → Option PlainHead
 plain_by_code table code = if is_at_hand table.declarations code
     then option_map_or (plain_of_all table.format) (declaration_of table.declarations code) None
     else None
 
--- an entry with a head that stands at a place of a unit, if its bytes are there, and the place
--- after it
+-- The head of an entry at an offset of a unit, if the entry is not truncated, and the offset after
+-- it.
 abbrev pub if_within : List ℕ → ℕ → PlainHead → Option (PlainHead × ℕ)
 if_within unit at head = if nat_lt (length unit) (at + 1 + head.len) then None
     else Some (head, at + 1 + head.len)
 
--- the plain entry at a place of a unit, at a depth below the root's, and the place after it
+-- The fixed-size entry at an offset of a unit, at a depth below the root, and the offset after it.
 abbrev pub plain_entry_at : Table → ℕ → List ℕ → ℕ → Option (PlainHead × ℕ)
 plain_entry_at table depth unit at = if (depth == 0) || nat_lt depth_limit depth then None else
     option_and_then (if_within unit at)
     (option_and_then (plain_by_code table) (slice_get unit at))
 
--- An entry with this head stands at a place of a unit, at a depth and behind the root, and this is
--- the place after it.
+-- A node with this head is at the offset, at this depth and after the root, and ends at the
+-- returned offset.
 abbrev pub StandsPlain : Table → ℕ → List ℕ → ℕ → PlainHead × ℕ → Type 0
 StandsPlain table depth unit at found = (attributes : List Attribute)
     × (node_behind table.format table.declarations depth true unit at

@@ -1,5 +1,5 @@
--- How the attributes of a declaration are read where only some are kept: runs of values of a known
--- length are passed over.
+-- Decode plans: how the attributes of a declaration are read if only some are stored. Runs of
+-- values of a fixed size are skipped.
 use Rattle.std.specs.Prelude.{◌≡◌, ℕ, ◌+◌, List, [], ◌∷◌, ◌++◌, length, take, Bool, true, false}
 use Rattle.std.specs.Prelude.{Option, Some, None, Result, Ok, Err, nat_le, ◌||◌, not}
 use Rattle.std.specs.Prelude.{if◌then◌else◌, filter, sum_by}
@@ -29,18 +29,19 @@ use Rattle.dwarf_units.specs.declared.steps.AttributeStep.TheVariants.{Skip, Pas
 use Rattle.dwarf_units.specs.Attributes.{is_used, accepts, is_negative_count, number_of}
 use Rattle.dwarf_units.specs.Entries.{attribute_at, attributes_at}
 
--- the attributes that are kept: those that are used, or none
+-- The attributes that are stored: the used ones, or none.
 abbrev pub kept_attributes : Bool → List Attribute → List Attribute
 kept_attributes keep attributes = if keep then filter (λ a. is_used a.name) attributes else []
 
--- the attributes of a declaration from a place on, of which these are kept, and the place after
--- them all
+-- The stored attributes of a declaration from an offset on, and the offset after all of its
+-- attributes.
 abbrev pub kept_attributes_at : Bool → Format → List AttributeSpecification → List ℕ → ℕ
     → Result (List Attribute × ℕ) Cause
 kept_attributes_at keep format declared bytes at = attributes_at format declared bytes at
     >>= λ all. Ok (kept_attributes keep all.0, all.1)
 
--- the bytes of a value in a layout, where all values have as many and any bytes are a value
+-- The size of a value in a layout in bytes, if all values have this size and any bytes are a valid
+-- value.
 abbrev pub layout_len : Format → ValueLayout → Option ℕ
 layout_len format (Fixed width) = Some (byte_len width)
 layout_len format Offset = Some (offset_len format)
@@ -52,14 +53,14 @@ layout_len format Sixteen = Some 16
 layout_len format (Block width) = None
 layout_len format LongBlock = None
 
--- .. of one that stands in the declaration and is not refused
+-- The size of a valid value that is in the declaration.
 abbrev pub constant_len : AttributeSpecification → Option ℕ
 constant_len s = elim s.constant [
   | None ↦ None
   | Some c ↦ if is_negative_count s.name (SignedContent c) then None else Some 0
 ]
 
--- .. of an attribute that may have its form
+-- The size of an attribute that may have its form.
 unfoldable pub fixed_len : Format → AttributeSpecification → Option ℕ
 fixed_len format s = if accepts s.name s.form then (elim (form_of s.form) [
   | None ↦ None
@@ -68,7 +69,7 @@ fixed_len format s = if accepts s.name s.form then (elim (form_of s.form) [
   | Some Indirect ↦ None
 ]) else None
 
--- whether the values of a layout are numbers from 0 up, or texts
+-- Whether the values of a layout are nonnegative numbers or strings.
 abbrev pub is_plain : ValueLayout → Bool
 is_plain (Fixed width) = true
 is_plain Offset = true
@@ -80,8 +81,8 @@ is_plain Sixteen = false
 is_plain (Block width) = false
 is_plain LongBlock = false
 
--- the layout of the values of an attribute, where none of them is refused, as none is of one that
--- is not used
+-- The layout of the values of an attribute, if every value in it is valid. Every value of an
+-- unused attribute is.
 abbrev pub known_layout : AttributeSpecification → Option ValueLayout
 known_layout s = if accepts s.name s.form then (elim (form_of s.form) [
   | None ↦ None
@@ -90,7 +91,7 @@ known_layout s = if accepts s.name s.form then (elim (form_of s.form) [
   | Some Indirect ↦ None
 ]) else None
 
--- an attribute that is not kept
+-- The step of an attribute that is not stored.
 abbrev pub pass_of : Format → AttributeSpecification → AttributeStep
 pass_of format s = option_map_or (λ n. Skip n) (fixed_len format s) (Pass s (known_layout s))
 
@@ -99,11 +100,11 @@ step_of keep format s = if keep
     then option_map_or (λ name. Keep 0 name s (known_layout s)) (used_name s.name) (pass_of format s)
     else pass_of format s
 
--- the most bytes of one step
+-- The maximum number of bytes that one step skips.
 abbrev pub skip_limit : ℕ
 skip_limit = 65535
 
--- one step in place of two, where the first passes over bytes and the other begins so
+-- Merges two steps into one, if the first skips bytes and the second starts by skipping bytes.
 abbrev pub joined : AttributeStep → AttributeStep → Option AttributeStep
 joined (Skip n) (Skip m) = if nat_le (n + m) skip_limit then Some (Skip (n + m)) else None
 joined (Skip n) (Pass t layout) = None
@@ -112,23 +113,23 @@ joined (Skip n) (Keep m used t layout) =
 joined (Pass s layout) next = None
 joined (Keep n used s layout) next = None
 
--- a step in front of others
+-- A step prepended to others, merged with the first of them if possible.
 abbrev pub step_before : AttributeStep → List AttributeStep → List AttributeStep
 step_before step [] = step ∷ []
 step_before step (next ∷ rest) =
     option_map_or (λ both. both ∷ rest) (joined step next) (step ∷ next ∷ rest)
 
--- the steps of a declaration
+-- The steps of a list of attributes.
 unfoldable pub steps_of : Bool → Format → List AttributeSpecification → List AttributeStep
 steps_of keep format [] = []
 steps_of keep format (s ∷ ss) = step_before (step_of keep format s) (steps_of keep format ss)
 
--- the number of the value at a place in a layout, and the place after it
+-- The value at an offset in a layout, as a number, and the offset after it.
 abbrev pub number_at : Format → ValueLayout → List ℕ → ℕ → Result (ℕ × ℕ) Cause
 number_at format layout bytes at =
     reading (content_at layout format bytes at) >>= λ c. Ok (number_of c.0 c.1, c.1)
 
--- the attribute whose value stands at a place in a layout
+-- The attribute at an offset, whose value has a layout, and the offset after it.
 abbrev pub taken_at : Format → AttributeSpecification → ValueLayout → List ℕ → ℕ
     → Result (Attribute × ℕ) Cause
 taken_at format s layout bytes at = reading (content_at layout format bytes at)
@@ -140,7 +141,7 @@ taken_at format s layout bytes at = reading (content_at layout format bytes at)
       c.1,
     )
 
--- the attribute of a name at a place alone, and the place after it
+-- The single attribute at an offset, stored under a name, and the offset after it.
 abbrev pub kept_at : Format → UsedName → AttributeSpecification → Option ValueLayout → List ℕ → ℕ
     → Result (List Attribute × ℕ) Cause
 kept_at format name s (Some layout) bytes at =
@@ -148,7 +149,7 @@ kept_at format name s (Some layout) bytes at =
 kept_at format name s None bytes at =
     attribute_at format s bytes at >>= λ a. Ok (under_name name a.0.value ∷ [], a.1)
 
--- what a step keeps, and the place after it
+-- The attributes that a step stores, and the offset after it.
 abbrev pub step_at : Format → AttributeStep → List ℕ → ℕ → Result (List Attribute × ℕ) Cause
 step_at format (Skip n) bytes at = reading (block_at n bytes at) >>= λ block. Ok ([], block.1)
 step_at format (Pass s (Some layout)) bytes at =
@@ -157,27 +158,27 @@ step_at format (Pass s None) bytes at = attribute_at format s bytes at >>= λ a.
 step_at format (Keep n used s layout) bytes at =
     reading (block_at n bytes at) >>= λ block. kept_at format used s layout bytes block.1
 
--- what is kept already, and what a read keeps behind it
+-- Prepends stored attributes to those that a read stores.
 abbrev pub in_front : {X : Type 0} → List X → Result (List X × ℕ) Cause → Result (List X × ℕ) Cause
 in_front front (Ok rest) = Ok (front ++ rest.0, rest.1)
 in_front front (Err cause) = Err cause
 
--- what steps keep, one after another, and the place after them
+-- The attributes that consecutive steps store, and the offset after them.
 unfoldable pub steps_at : Format → List AttributeStep → List ℕ → ℕ
     → Result (List Attribute × ℕ) Cause
 steps_at format [] bytes at = Ok ([], at)
 steps_at format (step ∷ steps) bytes at = step_at format step bytes at
     >>= λ first. in_front first.0 (steps_at format steps bytes first.1)
 
--- What a step left in its place is what is read, and the cursor stands after it, unless memory ran
--- out.
+-- The output argument contains what is read, and the cursor is after it. The call may also fail
+-- because memory ran out.
 abbrev pub Fills : {Y : Type 0} → Result (Unit {0}) Cause → Y
     → (List ℕ → ℕ → Result (Y × ℕ) Cause) → Position → Position → Type 0
 Fills (Ok u) left read old new =
     (read old.bytes old.place ≡ Ok (left, new.place)) × (new.bytes ≡ old.bytes)
 Fills (Err cause) left read old new = Fails cause (read old.bytes old.place)
 
--- the steps of some attributes, where they are kept and where they are not
+-- The steps that store the used attributes, and the steps that store none.
 pub record Planned : Type 0 where
   pub kept : List AttributeStep
   pub passed : List AttributeStep
@@ -188,21 +189,22 @@ plan_of format declared = record {
   passed = steps_of false format declared;
 }
 
--- how many steps a plan has
+-- The number of steps of a plan.
 abbrev pub plan_len : Planned → ℕ
 plan_len plan = length plan.kept + length plan.passed
 
--- a table of declarations that stands at an offset, for units of a format
+-- The table of declarations at an offset, for units of a format.
 pub record Table : Type 0 where
   pub offset : ℕ
   pub format : Format
   pub declarations : List Declaration
 
--- the first attributes of a declaration, which are kept with it; those behind them are shared
+-- The first attributes of a declaration, which are stored with it. The attributes after them are
+-- shared.
 abbrev pub own_attributes : Declaration → List AttributeSpecification
 own_attributes d = take UNSHARED d.attributes
 
--- the declarations of a table, their own attributes, and the steps of the plans of these
+-- The size of a table: its declarations, their unshared attributes, and the steps of their plans.
 abbrev pub table_size : Table → ℕ
 table_size table = length table.declarations
     + sum_by (λ d. length (own_attributes d)) table.declarations

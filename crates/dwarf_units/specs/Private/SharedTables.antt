@@ -1,4 +1,4 @@
--- Tables whose declarations share what is behind their first attributes.
+-- Tables whose declarations share the attributes after the first ones.
 use Rattle.std.specs.Prelude.{ℕ, ◌+◌, List, length, map, sum_by}
 use Rattle.std.specs.List.{All}
 use Rattle.dwarf_bytes.specs.declared.format.Format.{Format}
@@ -7,13 +7,13 @@ use Rattle.dwarf_forms.specs.Private.SharedTables.{AreTold, SharedDeclaration, t
 use Rattle.dwarf_units.specs.Private.Links.{IsLinked, LinkedPlaces}
 use Rattle.dwarf_units.specs.Private.Plans.{Planned, Table, plan_len, plan_of}
 
--- a table of declarations that stands at an offset, for units of a format
+-- The table of declarations at an offset, for units of a format.
 pub record SharedTable : Type 0 where
   pub offset : ℕ
   pub format : Format
   pub declarations : List SharedDeclaration
 
--- the same with all attributes
+-- The same table, with all attributes of each declaration.
 abbrev pub told_table : List KnownAttribute → SharedTable → Table
 told_table known table = record {
   offset = table.offset;
@@ -24,16 +24,16 @@ told_table known table = record {
 abbrev pub told_tables : List KnownAttribute → List SharedTable → List Table
 told_tables known tables = map (told_table known) tables
 
--- the plans of the own attributes of declarations, in units of a format
+-- The plans of the unshared attributes of declarations, in units of a format.
 abbrev pub plans_of : Format → List SharedDeclaration → List Planned
 plans_of format declarations = map (λ declaration. plan_of format declaration.list.own) declarations
 
--- its declarations, their own attributes, and the steps of the plans of these
+-- The size of a table: its declarations, their unshared attributes, and the steps of their plans.
 abbrev pub own_size : SharedTable → ℕ
 own_size table = length table.declarations + sum_by (λ d. length d.list.own) table.declarations
     + sum_by (λ d. plan_len (plan_of table.format d.list.own)) table.declarations
 
--- What its declarations share is known, and has links for units of its format.
+-- The shared attributes of a table are memoized and have links for units of its format.
 pub record IsReadable (lists : LinkedPlaces) (table : SharedTable) : Type 0 where
   pub told : AreTold lists.places.known table.declarations
   pub linked : All (λ d. IsLinked lists table.format d.list.rest) table.declarations

@@ -11,7 +11,7 @@ use Rattle.dwarf_units.specs.declared.used_name.UsedName.TheVariants.{StmtList, 
 use Rattle.dwarf_units.specs.declared.used_name.UsedName.TheVariants.{AddrBase, RnglistsBase}
 use Rattle.dwarf_units.specs.Private.Used.{Used, used_by}
 
--- the slot of a name
+-- The slot of a name.
 abbrev pub slot_of : UsedName → ℕ
 slot_of Name = 0
 slot_of LinkageName = 1
@@ -27,7 +27,7 @@ slot_of StrOffsetsBase = 10
 slot_of AddrBase = 11
 slot_of RnglistsBase = 12
 
--- what stands in a slot whose value counts
+-- The value in a slot, if the flag of the slot is set.
 abbrev pub in_slot : List Bool → List AttributeValue → ℕ → Option AttributeValue
 in_slot has values slot = then_some (slice_index_or has slot false)
     (slice_index_or values slot (record { form = 0; number = 0 }))

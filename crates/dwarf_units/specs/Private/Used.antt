@@ -1,4 +1,5 @@
--- The used attributes of an entry by their names (DWARF 5, 2.2), of two with one name the first.
+-- The used attributes of an entry by name (DWARF 5, 2.2). If an attribute occurs twice, the first
+-- value counts.
 use Rattle.std.specs.Prelude.{ℕ, List, Bool, Option, Result, Ok, Err}
 use Rattle.std.specs.Option.{option_or}
 use Rattle.dwarf_bytes.specs.declared.fault.Cause.{Cause}
@@ -18,7 +19,7 @@ use Rattle.dwarf_units.specs.Entries.{value_of}
 use Rattle.dwarf_units.specs.Private.Names.{name_of}
 use Rattle.dwarf_units.specs.Private.Plans.{kept_attributes_at}
 
--- a value for each name that an entry has
+-- The value of each used attribute that an entry has.
 pub record Used : Type 0 where
   pub name : Option AttributeValue
   pub linkage_name : Option AttributeValue
@@ -49,7 +50,7 @@ value_under StrOffsetsBase used = used.str_offsets_base
 value_under AddrBase used = used.addr_base
 value_under RnglistsBase used = used.rnglists_base
 
--- .. as each name has it
+-- The same record, built from a function of the name.
 abbrev pub used_by : (UsedName → Option AttributeValue) → Used
 used_by value = record {
   name = value Name;
@@ -67,21 +68,22 @@ used_by value = record {
   rnglists_base = value RnglistsBase;
 }
 
--- those among some attributes
+-- The used attributes of a list.
 abbrev pub used_among : List Attribute → Used
 used_among attributes = used_by (λ name. value_of attributes (name_of name))
 
--- those that stand in front, and else those among some attributes
+-- The used attributes of `front`, completed by those of a list that are missing in it.
 unfoldable pub with_used : Used → List Attribute → Used
 with_used front attributes =
     used_by (λ name. option_or (value_under name front) (value_of attributes (name_of name)))
 
--- what is used already, and what a read keeps behind it
+-- The used attributes so far, completed by those that a read stores.
 abbrev pub used_behind : Used → Result (List Attribute × ℕ) Cause → Result (Used × ℕ) Cause
 used_behind front (Ok rest) = Ok (with_used front rest.0, rest.1)
 used_behind front (Err cause) = Err cause
 
--- those of a declaration from a place on, if they are kept, and the place after all attributes
+-- The used attributes of a declaration from an offset on, if they are stored, and the offset after
+-- all of its attributes.
 abbrev pub used_attributes_at : Bool → Format → List AttributeSpecification → List ℕ → ℕ
     → Result (Used × ℕ) Cause
 used_attributes_at keep format declared bytes at = kept_attributes_at keep format declared bytes at

@@ -8,7 +8,7 @@ use Rattle.dwarf_units.specs.Private.Links.{IsLink, linked_in}
 use Rattle.dwarf_units.specs.Private.Plans.{steps_of}
 use Rattle.dwarf_units.proofs.linked_lists.LinkedLists.read.Goals as goal
 
--- of no known attribute nothing is kept
+-- If there is no shared attribute, nothing is stored.
 pub returns-then-is_none : goal.returns-then-is_none
 unfolding steps_of
 returns-then-is_none c = (
