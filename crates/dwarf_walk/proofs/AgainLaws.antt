@@ -1,4 +1,4 @@
--- What is read of an entry at its place, and what is held of it.
+-- Entries that are read at their offsets, and cached entries.
 use Rattle.std.proofs.Common.{◌≡◌, ℕ, ◌≤◌, inl, inr, List, length, true, refl, ap, sym, ◌∙◌, Bool}
 use Rattle.std.proofs.Common.{◌==◌, if◌then◌else◌}
 use Rattle.std.specs.Prelude.{Option, Result, Ok, Err}
@@ -15,7 +15,7 @@ use Rattle.dwarf_units.specs.Private.Plans.{kept_attributes}
 use Rattle.dwarf_walk.specs.declared.long_entries.LongEntry.{LongEntry}
 use Rattle.dwarf_walk.specs.Private.Named.{used_at}
 
--- ---- by the used attributes
+-- ---- the used attributes
 
 abbrev pub without_place : Result ((ℕ × List Attribute) × ℕ) Cause
     → Result (ℕ × List Attribute) Cause
@@ -26,26 +26,26 @@ pub inside-is : (format : Format) (table : List Declaration) (unit : List ℕ) (
     ≡ without_place (entry_at format table unit offset)
 inside-is format table unit offset within = rw (le-ltb (length unit) offset within) refl
 
--- ---- what is held
+-- ---- the cached entries
 
 abbrev if_there : Option LongEntry → Option LongEntry → Bool → Option LongEntry
 if_there there elsewhere here = if here then there else elsewhere
 
--- .. where one more was put
+-- The inserted entry.
 pub put-there : (at offset : ℕ) (new there elsewhere : Option LongEntry)
     → new ≡ (if at == offset then there else elsewhere) → at ≡ offset → new ≡ there
 put-there at offset new there elsewhere put is =
     put ∙ ap (if_there there elsewhere) (eq-eqb at offset is)
 
--- .. and elsewhere
+-- All other entries are unchanged.
 pub put-elsewhere : (at offset : ℕ) (new there elsewhere : Option LongEntry)
     → new ≡ (if at == offset then there else elsewhere) → (at ≡ offset → ⊥) → new ≡ elsewhere
 put-elsewhere at offset new there elsewhere put other =
     put ∙ ap (if_there there elsewhere) (ne_eqb at offset other)
 
--- ---- what is wanting
+-- ---- allocation failures
 
--- what is there is read but for want of memory
+-- Reading an entry that can be read fails only because memory ran out.
 pub again-memory : {X : Type 0} (cause : Cause) (r : Result X Cause) (x : X) → r ≡ Ok x
     → Fails cause r → cause ≡ causes.Memory
 again-memory {X = X} cause r x is (inl memory) = memory

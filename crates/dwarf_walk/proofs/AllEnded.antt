@@ -1,4 +1,4 @@
--- The end of a unit's entries ends all scopes.
+-- The end of the entries of a unit closes all scopes.
 use Rattle.std.proofs.Common.{◌≡◌, ℕ, ◌+◌, ◌-◌, List, [], ◌∷◌, ◌++◌, Bool, true, false, cond}
 use Rattle.std.proofs.Common.{length, reverse, take, get_or, refl, ap, sym, ◌∙◌, subst, arith}
 use Rattle.std.proofs.Common.{append-nil}
@@ -19,7 +19,7 @@ use Rattle.dwarf_walk.specs.Private.Ends.{ended_at}
 use Rattle.dwarf_walk.proofs.OpenScopes.{any-push}
 use Rattle.dwarf_walk.proofs.EndLaws.{place_of, places-push}
 
--- ---- the end of the entries, as of one at depth 0 that is no scope
+-- ---- the end of the entries, as an entry at depth 0 that is not a scope
 
 abbrev outermost : Die
 outermost = record { offset = 0; depth = 0; tag = 0; attributes = [] }
@@ -71,12 +71,12 @@ pub all-ended : (dies : List Die) → ended_at 0 (open_scopes 0 dies) (known_pla
 all-ended dies = sym (append-nil (ended_at 0 (open_scopes 0 dies) (known_places dies)))
     ∙ (sym (places-push dies outermost) ∙ all-known dies)
 
--- ---- the last one of a vector
+-- ---- the last element of a vector
 
 pub reverse-push : {X : Type 0} (xs : List X) (x : X) → reverse (xs ++ x ∷ []) ≡ x ∷ reverse xs
 reverse-push xs x = reverse-append xs (x ∷ [])
 
--- a vector's last element, and what is left without it
+-- The last element of a vector, and the elements before it.
 pub last_split : (items seen front : List OpenScope) (len : ℕ) (o : OpenScope) → seen ≡ items
     → len ≡ length items → Some o ≡ slice_get seen (length seen - 1) → front ≡ take (len - 1) items
     → reverse items ≡ o ∷ reverse front

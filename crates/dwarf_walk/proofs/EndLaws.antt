@@ -1,4 +1,4 @@
--- The scopes among the entries of a unit, and where they end, by one more entry.
+-- The scopes of a unit and where they close, after one more entry.
 use Rattle.std.proofs.Common.{◌≡◌, ◌⊎◌, inl, inr, ℕ, zero, suc, ◌+◌, ◌-◌, ◌<◌, ◌≤◌, List, [], ◌∷◌}
 use Rattle.std.proofs.Common.{◌++◌, Bool, true, false, cond, length, refl, ap, sym, ◌∙◌, arith}
 use Rattle.std.proofs.Common.{append_assoc, append-nil}
@@ -17,11 +17,11 @@ use Rattle.dwarf_walk.proofs.EndedPlaces.{ended-all, left-none, ended-but-last, 
 
 -- ---- one more entry
 
--- the place of an entry that is a scope
+-- The list element of a scope.
 abbrev pub place_of : Die → ℕ → ScopePlace
 place_of die inside = record { offset = die.offset; inside = inside }
 
--- the end of a scope behind one more entry: it was ended, or is not, or now is
+-- One more entry either finds a scope closed, leaves it open, or closes it.
 module _ (number : ℕ) (die x : Die) (rest : List Die) where
   abbrev pub o : OpenScope
   o = record { depth = die.depth; number = number }

@@ -1,4 +1,4 @@
--- The places of scopes, where an entry ends open ones.
+-- The list of scopes after an entry closes open ones.
 use Rattle.std.proofs.Common.{◌≡◌, ℕ, suc, ◌+◌, ◌-◌, ◌<◌, ◌≤◌, List, [], ◌∷◌, ◌++◌, Bool, true}
 use Rattle.std.proofs.Common.{false, cond, length, refl, ap, ◌∙◌, arith}
 use Rattle.std.specs.Prelude.{nat_le}
@@ -8,7 +8,7 @@ use Rattle.dwarf_walk.specs.declared.kept.ScopePlace.{ScopePlace}
 use Rattle.dwarf_walk.specs.Private.Ends.{with_end, left_open, ended_at}
 use Rattle.dwarf_walk.proofs.OpenScopes.{with_end-length, AreFrom, AreDeeper}
 
--- ---- the places, where an entry ends open scopes whose numbers count from one
+-- ---- the list after an entry closes open scopes whose indexes start at a given one
 
 abbrev pub ended_from : ℕ → ℕ → List OpenScope → List ScopePlace → List ScopePlace
 ended_from number depth [] ps = ps
@@ -43,7 +43,7 @@ ended-length number depth (o ∷ os) ps = by_test
     by_test further true = further
     by_test further false = refl
 
--- the first place stays where all numbers are later ones
+-- The first element is unchanged if all indexes are greater.
 pub ended-shift : (number depth : ℕ) (os : List OpenScope) (p : ScopePlace) (ps : List ScopePlace)
     → AreFrom (suc number) os → ended_from number depth os (p ∷ ps) ≡ p
     ∷ ended_from (suc number) depth os ps
@@ -63,7 +63,7 @@ ended-shift number depth (o ∷ os) p ps h =
         ∙ further
     by_test further false = refl
 
--- where all of the first ones are ended, the next come on
+-- If all of the first scopes are closed, the scopes after them are closed next.
 pub ended-all : (number depth e : ℕ) (os qs : List OpenScope) (ps : List ScopePlace)
     → AreDeeper e os
     → depth ≤ e → ended_from number depth (os ++ qs) ps
@@ -80,7 +80,7 @@ left-none depth e (o ∷ os) qs h le = let test : nat_le depth o.depth ≡ true 
     le-leb depth o.depth (let lt = h.0 in omega (arith, le, lt)) in
     rw test (left-none depth e os qs h.1 le)
 
--- where the last one is not ended, it stays
+-- If the last scope is not closed, it has no effect.
 pub ended-but-last : (number depth : ℕ) (os : List OpenScope) (o : OpenScope) (ps : List ScopePlace)
     → o.depth < depth → ended_from number depth (os ++ o ∷ []) ps ≡ ended_from number depth os ps
 ended-but-last number depth [] o ps lt = let test : nat_le depth o.depth ≡ false =

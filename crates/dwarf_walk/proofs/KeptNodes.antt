@@ -1,4 +1,4 @@
--- An entry of which only some attributes are kept.
+-- An entry with only some of its attributes stored.
 use Rattle.std.proofs.Common.{◌≡◌, ℕ, List, [], ◌∷◌, Bool, true, false, cond, refl, ap, sym, ◌∙◌}
 use Rattle.std.proofs.Common.{subst}
 use Rattle.std.specs.Prelude.{Option, Some, None, is_some, option_map, Ok, find, filter, not, ◌==◌}
@@ -24,7 +24,7 @@ use Rattle.dwarf_walk.specs.Private.Readers.{after_die, walked_at}
 use Rattle.dwarf_units.specs.Private.Plans.{kept_attributes}
 use Rattle.dwarf_units.specs.Private.Used.{Used}
 
--- the value of a used attribute is kept where used attributes are
+-- The value of a used attribute is stored if used attributes are.
 pub value-kept : (xs : List Attribute) (name : ℕ) → is_used name ≡ true
     → value_of (filter (λ a. is_used a.name) xs) name ≡ value_of xs name
 value-kept [] name used = refl
@@ -52,7 +52,7 @@ value-kept (a ∷ xs) name used = by_used (is_used a.name) refl (value-kept xs n
     by_used true is behind = by_name (a.name == name) behind
     by_used false is behind = by_other (a.name == name) refl is behind
 
--- .. whether they are or not
+-- An entry with only its used attributes.
 abbrev pub die_of_kept : Die → Die
 die_of_kept die = record die { attributes = kept_attributes true die.attributes }
 
@@ -77,13 +77,13 @@ named-kept die =
       value-kept die.attributes DW_AT_LINKAGE_NAME refl,
     ) refl
 
--- where a root stands before, a later entry is none
+-- If there is already a root, a later entry does not replace it.
 root-stays : (root : Option RootEntry) (x y : RootEntry) → not (is_some root) ≡ false
     → or_else root (Some x) ≡ or_else root (Some y)
 root-stays (Some r) x y rooted = refl
 root-stays None x y rooted = absurd (false≢true (sym rooted))
 
--- what is kept of an entry is kept of those of its attributes that are
+-- The state after an entry depends only on its stored attributes.
 pub after-kept : (w : Walked) (offset depth tag : ℕ) (all found : List Attribute)
     → found ≡ kept_attributes (not (is_some w.root)) all
     → after_die w (record { offset = offset; depth = depth; tag = tag; attributes = found })
@@ -101,14 +101,14 @@ after-kept w offset depth tag all found are = by_flag (not (is_some w.root)) ref
     by_flag true is are = rw are (rw (root-kept die) refl)
     by_flag false is are = rw (root-stays w.root (root_entry other) (root_entry die) is) refl
 
--- what a step found is read, and it left what is used of the attributes that are kept
+-- A step returns the entry that is read, and stores its used attributes if there is no root yet.
 abbrev ReadsEntry : Format → List Declaration → Walked → Bool → List ℕ → ℕ → ℕ → Option NodeHead
     → Used → Type 0
 ReadsEntry format table w rooted unit at after found used =
     (all : List Attribute) × (node_behind format table w.depth rooted unit at
     ≡ Ok (node_of found all, after)) × HoldsKept (not rooted) found used all
 
--- what is kept of an entry that is read, and the depth stays
+-- The state after an entry that is read. The depth is not yet updated.
 entry-kept : (format : Format) (table : List Declaration) (w kept : Walked) (unit : List ℕ)
     (at after : ℕ) (head : NodeHead) (used : Used)
     → ReadsEntry format table w (is_some w.root) unit at after (Some head) used
@@ -124,7 +124,7 @@ entry-kept format table w kept unit at after head used read is =
     (kept_attributes keep read.0) refl in
     (rw (read.1, all) refl, ap (λ (x : Walked). x.depth) all)
 
--- .. by a step, which knows whether the root stands before and where the entry stands
+-- The same for a step that has the offset of the entry and knows whether there is a root.
 pub step-kept : (format : Format) (table : List Declaration) (w kept : Walked) (unit : List ℕ)
     (at after : ℕ) (found : Option NodeHead) (head : NodeHead) (used : Used) (rooted : Bool)
     (offset : ℕ)

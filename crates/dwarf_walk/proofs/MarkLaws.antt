@@ -1,4 +1,4 @@
--- The marks of entries: what a walk adds to them, and what is found by them.
+-- The bitmap of entry offsets: the bits that a walk sets, and how they are looked up.
 use Rattle.std.proofs.Common.{◌≡◌, ℕ, ◌*◌, ◌/◌, ◌%◌, ◌^◌, ◌<◌, List, [], ◌++◌, length, set, get_or}
 use Rattle.std.proofs.Common.{Bool, true, false, refl, sym, ap, ◌∙◌, subst, arith, inl, inr}
 use Rattle.std.specs.Prelude.{nat_eq, ◌==◌, ◌||◌, bit_or}
@@ -12,9 +12,9 @@ use Rattle.std.proofs.lemmas.Nat.Bits.{bit_at_set_same, bit_at_set_other}
 use Rattle.dwarf_walk.specs.declared.marks.Marks.{Marks}
 use Rattle.dwarf_walk.specs.Private.Marks.{is_marked, AddsMarks}
 
--- ---- the bits of words
+-- ---- bits in words
 
--- whether a bit of words is set
+-- Whether a bit is set.
 abbrev pub has : List ℕ → ℕ → Bool
 has words k = bit_at (get_or words (k / 64) 0) (k % 64) == 1
 
@@ -57,7 +57,7 @@ has-set words k v j lt is = elim (cases_eq (j / 64) (k / 64)) [
       set_other _ _ j k here (λ e. other (ap (λ n. n / 64) e))
 ]
 
--- ---- what is added
+-- ---- setting bits
 
 or-none : (b : Bool) → b ≡ (b || false)
 or-none true = refl

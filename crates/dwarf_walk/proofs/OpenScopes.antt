@@ -1,4 +1,4 @@
--- The open scopes: their numbers, how deep they are, and what is below them.
+-- The open scopes: their indexes, their depths, and the entries below them.
 use Rattle.std.proofs.Common.{◌≡◌, ℕ, zero, suc, ◌+◌, ◌-◌, ◌<◌, ◌≤◌, List, [], ◌∷◌, ◌++◌, Bool}
 use Rattle.std.proofs.Common.{true, false, cond, length, get_or, set, refl, ap, sym, ◌∙◌, arith}
 use Rattle.std.specs.Prelude.{nat_lt, nat_le, count_by, ◌||◌}
@@ -12,7 +12,7 @@ use Rattle.dwarf_walk.specs.ScopeEntries.{is_scope}
 use Rattle.dwarf_walk.specs.Private.Ends.{is_ended, known_inside, known_places, open_scope}
 use Rattle.dwarf_walk.specs.Private.Ends.{open_scopes, with_end, ended_at}
 
--- ---- the end of one scope
+-- ---- closing one scope
 
 pub with_end-is : (number len inside : ℕ) (ps : List ScopePlace) (q : ScopePlace)
     → q ≡ get_or ps number q → number < length ps → len ≡ length ps → inside ≡ len - number - 1
@@ -53,13 +53,13 @@ ended_at-length depth (o ∷ os) ps = by_test
     by_test further true = further
     by_test further false = refl
 
--- ---- what is below a scope, with one more entry
+-- ---- the entries below a scope, after one more entry
 
 pub any-push : (die x : Die) (rest : List Die) → is_ended die (rest ++ x ∷ [])
     ≡ (is_ended die rest || (nat_le x.depth die.depth || false))
 any-push die x rest = list_any-append (λ d. nat_le d.depth die.depth) rest (x ∷ [])
 
--- where one before it is not below the scope, it is as it was
+-- The entries below a closed scope do not change.
 pub below-stays : (die x : Die) (rest : List Die) → is_ended die rest ≡ true
     → below die (rest ++ x ∷ []) ≡ below die rest
 below-stays die x [] h = cc
@@ -90,7 +90,7 @@ below-stays die x (y ∷ ys) h = by_test (λ further. below-stays die x ys furth
         take_while-cons deeper y ys ∙ rw passes refl in
         more ∙ (ap (λ (ds : List Die). y ∷ ds) (further ended) ∙ sym fewer)
 
--- where all before it are below the scope, and it is not, it is these
+-- If a scope is open and the next entry is not below it, all entries between them are below it.
 pub below-all : (die x : Die) (rest : List Die) → is_ended die rest ≡ false → x.depth ≤ die.depth
     → below die (rest ++ x ∷ []) ≡ rest
 below-all die x [] h le = let stops : nat_lt die.depth x.depth ≡ false =
@@ -127,7 +127,7 @@ places-count (die ∷ rest) = sym (sum_by-cons (λ (d : Die). cond (is_scope d) 
     by_test further true = omega (arith, further)
     by_test further false = omega (arith, further)
 
--- ---- the open scopes: their numbers, and how deep they are
+-- ---- the indexes and depths of the open scopes
 
 abbrev pub AreFrom : ℕ → List OpenScope → Type 0
 AreFrom number [] = Unit {0}

@@ -1,4 +1,4 @@
--- What stands at a place of a unit, taken at once.
+-- The fast path for the node at an offset of a unit.
 use Rattle.std.proofs.Common.{◌≡◌, ℕ, ◌-◌, ◌+◌, List, Bool, true, [], ◌∷◌, refl, ap, sym, ◌∙◌}
 use Rattle.std.proofs.Common.{arith, subst}
 use Rattle.std.specs.Prelude.{Some, is_some, Result, Ok, slice_get}
@@ -17,7 +17,7 @@ use Rattle.dwarf_walk.specs.Private.Marks.{AddsMarks}
 use Rattle.dwarf_walk.specs.Private.Readers.{Walked, after_node, places_of, walked_at}
 use Rattle.dwarf_walk.proofs.MarkLaws.{adds-none}
 
--- ---- a null
+-- ---- a null entry
 
 pub null-stands : (format : Format) (table : List Declaration) (depth : ℕ) (rooted : Bool)
     (unit : List ℕ) (at : ℕ) → slice_get unit at ≡ Some 0
@@ -31,7 +31,7 @@ pub null-taken : (format : Format) (table : List Declaration) (w : Walked) (unit
 null-taken format table w unit at there =
     rw (null-stands format table w.depth (is_some w.root) unit at there) refl
 
--- what is marked of what stands there
+-- The bits that are set for the node that is read.
 marks-of : (marks marked : Marks) (at : ℕ) (read : Result (Node × ℕ) Cause) (found node : Node × ℕ)
     → read ≡ Ok found → AddsMarks marks marked (places_of at found.0) → read ≡ Ok node
     → AddsMarks marks marked (places_of at node.0)
@@ -47,7 +47,7 @@ null-marks format table depth rooted unit at marks there node is =
     marks-of marks marks at (node_behind format table depth rooted unit at) (Null, at + 1) node
     (null-stands format table depth rooted unit at there) (adds-none marks) is
 
--- ---- a plain entry
+-- ---- a fixed-size entry
 
 pub plain-taken : (table : Table) (w taken : Walked) (unit : List ℕ) (at : ℕ)
     (found : PlainHead × ℕ) → is_some w.root ≡ true → StandsPlain table w.depth unit at found

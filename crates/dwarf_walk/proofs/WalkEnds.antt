@@ -1,4 +1,4 @@
--- What is kept of a unit, and marked, by what its walk left.
+-- The data stored for a unit and its bitmap, from the final state of its walk.
 use Rattle.std.proofs.Common.{◌≡◌, ℕ, ◌-◌, ◌<◌, ◌⊎◌, inl, inr, List, [], true, false, take, refl}
 use Rattle.std.proofs.Common.{ap, sym, ◌∙◌, subst, arith}
 use Rattle.std.specs.Prelude.{Option, Result, Ok, Err, nat_lt}
@@ -24,7 +24,7 @@ use Rattle.dwarf_walk.specs.Private.Ends.{ended_at}
 use Rattle.dwarf_walk.specs.Private.Marks.{AddsMarks, offsets_of}
 use Rattle.dwarf_walk.proofs.AllEnded.{all-ended}
 
--- ---- what is kept of a unit, by what its walk left
+-- ---- the data stored for a unit, from the final state of its walk
 
 abbrev walk_in : Result (List Standing × ℕ) At → Result Walked At
 walk_in all = all >>= λ all. Ok (walked all.0)
@@ -110,7 +110,7 @@ entries_fault info header table fault (inr h) =
     inr (unit_fault header (items_from header.end
     (node_at header.format table (take header.end info)) [] header.first) fault h)
 
--- ---- the marks of a unit, by those of its walk
+-- ---- the bits of a unit, from the bits that its walk sets
 
 pub entries_marks : (info : List ℕ) (header : UnitHeader) (table : List Declaration)
     (marks marked : Marks)

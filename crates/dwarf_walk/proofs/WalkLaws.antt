@@ -1,4 +1,4 @@
--- The turns of the loop over the entries of a unit.
+-- The iterations of the loop over the entries of a unit.
 use Rattle.std.proofs.Common.{◌≡◌, ℕ, ◌+◌, ◌-◌, ◌≤◌, List, [], ◌∷◌, ◌++◌, Bool, true, false, refl}
 use Rattle.std.proofs.Common.{ap, sym, ◌∙◌, cond, zero-add, arith, append-nil}
 use Rattle.std.specs.Prelude.{Option, Some, None, is_some, nat_lt, ◌==◌, ◌&&◌, ◌||◌, count_by}
@@ -19,11 +19,11 @@ use Rattle.dwarf_walk.specs.Private.Readers.{Walked, walked_by, walked, after_di
 use Rattle.dwarf_walk.specs.Private.Readers.{after_node}
 use Rattle.dwarf_walk.proofs.EndLaws.{places-push, open-push}
 
--- what stands at a place, behind these
+-- The node at an offset, after a list of nodes.
 abbrev pub standing : List Standing → ℕ → Node → Standing
 standing before at node = record { offset = at; depth = depth_after before; node = node }
 
--- ---- one more entry or null
+-- ---- one more entry or null entry
 
 pub walked-same : (d e : ℕ) (r s : Option RootEntry) (k l : List ScopePlace) (o p : List OpenScope)
     → d ≡ e → r ≡ s → k ≡ l → o ≡ p
@@ -36,7 +36,7 @@ root_in-push : (dies : List Die) (die : Die)
 root_in-push [] die = refl
 root_in-push (root ∷ dies) die = refl
 
--- what is kept of one more entry, at whatever depth behind it
+-- The state after one more entry, at any depth after it.
 pub walked_by-push : (depth behind : ℕ) (dies : List Die) (die : Die)
     → walked_by behind (dies ++ die ∷ []) ≡ record (after_die (walked_by depth dies) die)
     { depth = behind }
@@ -49,8 +49,8 @@ count_push p xs x t is = sum_by-append (λ y. cond (p y) 1 0) xs (x ∷ [])
     ∙ ap (λ (k : ℕ). count_by p xs + k) (zero-add (cond (p x) 1 0) ∙ ap (λ (b : Bool). cond b 1 0)
     is)
 
--- what was read so far ends lists of children that it began, is rooted where it has an entry, and
--- is outside all lists where not
+-- The nodes read so far close at most as many lists of children as they open. They contain a root
+-- if they contain an entry. Without an entry, the depth is 0.
 pub record IsTree (before : List Standing) : Type 0 where
   pub closed : count_by closes before ≤ count_by opens before
   pub rooted : list_any is_root before ≡ is_some (root_in (filter_map die_of before))
@@ -76,7 +76,7 @@ depth_push : (before : List Standing) (x : Standing) (p q : Bool) → opens x �
 depth_push before x p q opened closed = rw
     (count_push opens before x p opened, count_push closes before x q closed) refl
 
--- an entry of these
+-- An entry after a list of nodes.
 abbrev pub die_at : List Standing → ℕ → ℕ → List Attribute → Die
 die_at before at tag attributes = record
     { offset = at; depth = depth_after before; tag = tag; attributes = attributes }
@@ -93,7 +93,7 @@ pub dies-entry : (before : List Standing) (at tag : ℕ) (children : Bool)
 dies-entry before at tag children attributes =
     filter_map-append die_of before (standing before at (Entry tag children attributes) ∷ [])
 
--- what is kept behind one more entry or null
+-- The state after one more entry or null entry.
 pub walked-push : (before : List Standing) (at : ℕ) (node : Node) → IsTree before
     → after_node (walked before) at node ≡ walked (before ++ standing before at node ∷ [])
 walked-push before at Null tree =
@@ -120,7 +120,7 @@ or_else-is : {X : Type 0} (o : Option X) (x : X) → is_some (or_else o (Some x)
 or_else-is (Some y) x = refl
 or_else-is None x = refl
 
--- an entry that stands before or at depth 0 is a root
+-- After an entry is added, there is a root: one before it, or the entry itself at depth 0.
 rooted_by : (root : Option RootEntry) (any : Bool) (d : ℕ) → any ≡ is_some root
     → (root ≡ None → d ≡ 0) → (any || (((d == 0) && true) || false)) ≡ true
 rooted_by (Some root) any d is outside = rw is refl

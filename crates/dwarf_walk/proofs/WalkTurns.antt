@@ -33,7 +33,7 @@ use Rattle.dwarf_walk.proofs.WalkLaws.{walked-push, tree_push}
 
 -- ---- the loop over a unit
 
--- what was read of a unit so far, in what the loop keeps
+-- The loop invariant: the state of the loop is that of the nodes read so far.
 pub record WalkedSoFar (info : List ℕ) (header : UnitHeader) (table : List Declaration)
     (marks marked : Marks) (place : ℕ) (w : Walked) : Type 0 where
   pub before : List Standing
@@ -55,14 +55,14 @@ walked_none info header table marks w is =
           so_far-none header.end (node_at header.format table (take header.end info)) header.first;
     }
 
--- none reaches past the end of the unit, wherever the section ends
+-- No node extends beyond the end of the unit, wherever the section ends.
 advances : (info : List ℕ) (header : UnitHeader) (table : List Declaration)
     → Advances header.end (node_at header.format table (take header.end info))
 advances info header table before at x after h =
     let moved = node_at-advances header.format table (take header.end info) before at x after h in
     (moved.0, omega (arith, moved.1, length-take header.end info))
 
--- what a step found, by what stands before it
+-- The node that a step reads, given the nodes before it.
 behind-is : (format : Format) (table : List Declaration) (unit : List ℕ) (before : List Standing)
     (at : ℕ) (x : Result (Node × ℕ) Cause) → at < length unit → IsTree before
     → node_behind format table (depth_after before) (is_some (root_in (filter_map die_of before)))
@@ -73,14 +73,14 @@ behind-is format table unit before at x within tree is =
     let test : nat_le (length unit) at ≡ false = lt-leb (length unit) at within in
     rw (test, tree.rooted, is) refl
 
--- what a turn leaves
+-- The result of an iteration.
 pub record WalkTurn (info : List ℕ) (header : UnitHeader) (table : List Declaration)
     (marks marked : Marks) (at next : ℕ) (is : Walked) : Type 0 where
   pub moves : at < next
   pub within : next ≤ length (take header.end info)
   pub walked_so : WalkedSoFar info header table marks marked next is
 
--- the places of the entries, with what stands behind them
+-- The offsets of the entries after one more node.
 offsets-push : (before : List Standing) (at : ℕ) (node : Node)
     → offsets_of (filter_map die_of before) ++ places_of at node
     ≡ offsets_of (filter_map die_of (before ++ standing before at node ∷ []))
@@ -91,7 +91,7 @@ offsets-push before at (Entry tag children attributes) =
     sym (map-append (λ (d : Die). d.offset) (filter_map die_of before) (die ∷ []))
     ∙ ap offsets_of (sym (dies-entry before at tag children attributes))
 
--- what a step marks, by what stands before it
+-- The bits that a step sets, given the nodes before it.
 abbrev MarksNode : UnitHeader → List Declaration → Marks → Marks → Walked → List ℕ → ℕ → Type 0
 MarksNode header table marks marked w unit at = (node : Node × ℕ)
     → node_behind header.format table w.depth (is_some w.root) unit at ≡ Ok node
@@ -159,7 +159,7 @@ walk_end info header table marks marked place w past so_far =
     header.first so_far.before place place so_far.read end)
     (ap (λ (x : Walked). Ok x) (sym so_far.kept))
 
--- all entries are marked
+-- The bits of all entries are set.
 pub walk_marks : (info : List ℕ) (header : UnitHeader) (table : List Declaration)
     (marks marked : Marks) (place : ℕ) (w : Walked) → length (take header.end info) ≤ place
     → WalkedSoFar info header table marks marked place w

@@ -1,4 +1,4 @@
--- The reference of an entry to the next one on its path (DWARF 5, 2.13 and 7.5.5).
+-- The reference of an entry to the next one of its origin chain (DWARF 5, 2.13 and 7.5.5).
 use Rattle.std.specs.Prelude.{Option, Some, None, ◌==◌, if◌then◌else◌}
 use Rattle.dwarf_bytes.specs.declared.constants.TheConstants.{
   DW_AT_ABSTRACT_ORIGIN,
@@ -8,17 +8,17 @@ use Rattle.dwarf_bytes.specs.declared.constants.TheConstants.{
 use Rattle.dwarf_units.specs.declared.attributes.AttributeValue.{AttributeValue}
 use Rattle.dwarf_units.specs.Entries.{Die, attribute}
 
--- the first of two that is there
+-- The first of two values if it is present, otherwise the second.
 abbrev pub or_else : {X : Type 0} → Option X → Option X → Option X
 or_else (Some x) other = Some x
 or_else None other = other
 
--- a reference, unless it is one by a signature
+-- A reference, unless it is a type signature.
 abbrev pub followed : Option AttributeValue → Option AttributeValue
 followed None = None
 followed (Some value) = if value.form == DW_FORM_REF_SIG8 then None else Some value
 
--- the reference to the next entry: abstract_origin, else specification
+-- The reference to the next entry: abstract_origin, otherwise specification.
 abbrev pub next_of : Die → Option AttributeValue
 next_of die =
     followed (or_else (attribute die DW_AT_ABSTRACT_ORIGIN) (attribute die DW_AT_SPECIFICATION))

@@ -14,7 +14,7 @@ pub record Sections : Type 0 where
   pub debug_addr : List ℕ
   pub debug_rnglists : List ℕ
 
--- those that the program was lent
+-- The sections as byte lists, from the slices that the program borrows.
 abbrev pub sections_of : Lent → Sections
 sections_of s = record {
   debug_info = s.debug_info.now;
@@ -27,11 +27,11 @@ sections_of s = record {
   debug_rnglists = s.debug_rnglists.now;
 }
 
--- the bytes of a stretch, as far as the bytes of its object go
+-- The bytes of a span, truncated at the end of the object.
 abbrev pub bytes_in : List ℕ → Span → List ℕ
 bytes_in bytes span = take span.len (drop span.place bytes)
 
--- the sections of an object, by its layout
+-- The sections of an object, by its layout.
 abbrev pub sections_in : List ℕ → Layout → Sections
 sections_in bytes layout = record {
   debug_info = bytes_in bytes layout.debug_info;

@@ -1,4 +1,4 @@
-//! The entries of units, read again at their places.
+//! Re-reading of entries at their offsets.
 
 ghost use Rattle.std.specs.Prelude.{◌≡◌, ◌<◌, ◌≤◌, ◌==◌, ◌⊎◌, ℕ, true, if◌then◌else◌};
 ghost use Rattle.std.specs.Prelude.{List, Some, Ok, OnOk, take};
@@ -26,29 +26,30 @@ use dwarf_bytes::{Cause, Cursor};
 use dwarf_units::{Tables, UnitHeader, UsedAttributes};
 use std::alloc::{AllocError, Global};
 
-/// The bytes of an entry past which it is not read again for each reference to it.
+/// The size in bytes above which an entry is cached, so that it is not re-read for each reference
+/// to it.
 const LONG: usize = 256;
 
-/// Reads entries of units again, by the tables of the units. Offsets count from the start of
+/// Re-reads entries of units with the cached tables. Offsets are relative to the start of
 /// `.debug_info`.
 #[derive(Drop)]
 pub struct EntryReader<'a> {
     alloc: Global,
     info: &'a [u8],
-    /// The tables of the units, by which it reads.
+    /// The abbreviation tables of the units.
     pub tables: Tables<'a>,
-    /// The number of the table that was used last.
+    /// The index of the table that was used last.
     number: usize,
     /// The used attributes of the entry that was read last.
     found: UsedAttributes,
-    /// How many bytes that entry has.
+    /// The size in bytes of that entry.
     len: usize,
-    /// What paths need of long entries that were read.
+    /// The cached results for long entries: their names and references.
     pub(crate) long: LongEntries,
 }
 
 impl<'a> EntryReader<'a> {
-    /// Of the entries in these sections, by the tables of their units.
+    /// Creates a reader of the entries in `sections`. `tables` must be the tables of its units.
     pub fn new(alloc: Global, sections: &Sections<'a>, tables: Tables<'a>) -> EntryReader<'a>
         requires { tables.section ≡ sections.now.debug_abbrev.now }
         ensures { IsReaderOf (sections_of sections.now) result }
@@ -64,7 +65,7 @@ impl<'a> EntryReader<'a> {
         }
     }
 
-    /// Reads the entry at an offset, in the unit of the header, and tells its tag.
+    /// Reads the entry at an offset in the unit of `header` into `found`, and returns its tag.
     fn entry(&mut self, header: &UnitHeader, offset: usize) -> Result<u64, Cause>
         ensures entry { (table : List Declaration) → declarations_of declarations_limit
             self.old.tables.section header.now.abbreviations ≡ Ok table
@@ -92,7 +93,8 @@ impl<'a> EntryReader<'a> {
         Ok(tag)
     }
 
-    /// The scope whose entry stands at an offset, in the unit of the header.
+    /// Re-reads the scope at an offset in the unit of `header`. Fails with `Cause::Reference` if
+    /// the entry is not a scope.
     pub fn scope(&mut self, header: &UnitHeader, offset: usize) -> Result<ScopeEntry, Cause>
         ensures scope { (s : SectionBytes) (table : List Declaration) → IsReaderOf s self.old
             → declarations_of declarations_limit s.debug_abbrev header.now.abbreviations ≡ Ok table
@@ -105,8 +107,9 @@ impl<'a> EntryReader<'a> {
         Ok(ScopeEntry::of(offset, kind, &self.found))
     }
 
-    /// What a path needs of the entry at an offset, in the unit of the header. A long entry is read
-    /// once, and so are the entries of a unit, which are marked, if its table does not stay.
+    /// Returns the names and the reference of the entry at an offset in the unit of `header`. Long
+    /// entries are read once and then cached. If the table of the unit is not cached permanently,
+    /// the first read caches all entries of the unit whose offsets are in `marks`.
     #[inline(always)]
     pub fn named(
         &mut self,
@@ -141,7 +144,8 @@ impl<'a> EntryReader<'a> {
         Ok(entry)
     }
 
-    /// Remembers what paths need of the entries of the unit of the header, as far as they are read.
+    /// Caches the entries of the unit of `header` whose offsets are in `marks`. Entries that
+    /// cannot be read are skipped.
     fn hold(&mut self, header: &UnitHeader, marks: &Marks) -> Result<(), AllocError>
         ensures reader { (s : SectionBytes) → IsReaderOf s self.old → IsReaderOf s self.new }
         ensures held { OnOk result ((s : SectionBytes) (at : ℕ) → IsReaderOf s self.old
@@ -156,7 +160,7 @@ impl<'a> EntryReader<'a> {
         Ok(())
     }
 
-    /// Remembers what paths need of the entry at an offset, if it is read.
+    /// Caches the entry at an offset. An entry that cannot be read is skipped.
     fn hold_at(&mut self, header: &UnitHeader, offset: usize) -> Result<(), AllocError>
         ensures reader { (s : SectionBytes) → IsReaderOf s self.old → IsReaderOf s self.new }
         ensures held { OnOk result ((s : SectionBytes) → IsReaderOf s self.old
@@ -176,7 +180,7 @@ impl<'a> EntryReader<'a> {
         }
     }
 
-    /// Remembers what was read of the entry at an offset, in the unit of the header.
+    /// Caches what was read of the entry at an offset, in the unit of `header`.
     fn remember(
         &mut self,
         header: &UnitHeader,
@@ -193,7 +197,7 @@ impl<'a> EntryReader<'a> {
         self.long.insert(header, offset, entry)
     }
 
-    /// The same, read at its place.
+    /// Re-reads the names and the reference of an entry without using the cache.
     #[inline(always)]
     fn named_again(&mut self, header: &UnitHeader, offset: usize) -> Result<NamedEntry, Cause>
         ensures named { (s : SectionBytes) (table : List Declaration) → IsReaderOf s self.old
@@ -214,7 +218,7 @@ impl<'a> EntryReader<'a> {
     }
 }
 
-/// Refuses a cause that is want of memory, and no other one.
+/// Returns an error if the cause is an allocation failure, and ignores all other causes.
 fn refuse_memory(cause: Cause) -> Result<(), AllocError>
     ensures { OnOk result (cause ≡ causes.Memory → ⊥) }
 {

@@ -1,4 +1,4 @@
-//! What is kept of the entries of a unit until all units are read.
+//! The data that is stored for the entries of a unit.
 
 ghost use Rattle.std.specs.Prelude.{◌≡◌, List, Some};
 ghost use Rattle.dwarf_units.specs.declared.attributes.Attribute.{Attribute};
@@ -11,8 +11,8 @@ use crate::scope_kind::ScopeKind;
 use dwarf_bytes::constants::DW_FORM_REF_SIG8;
 use dwarf_units::{AttributeValue, UnitHeader, UsedAttributes};
 
-/// An entry, as far as names go: its offset in `.debug_info`, the reference to its next entry,
-/// and its names.
+/// The names of an entry. `offset` is relative to the start of `.debug_info`, and `next` is the
+/// reference to the next entry of the origin chain.
 #[derive(Clone, Copy)]
 pub struct NamedEntry {
     pub offset: usize,
@@ -21,7 +21,7 @@ pub struct NamedEntry {
     pub linkage_name: Option<AttributeValue>,
 }
 
-/// An entry that is a scope: its kind, and the attributes that tell of it.
+/// An entry that is a scope: its kind and the attributes that describe it.
 #[derive(Clone, Copy)]
 pub struct ScopeEntry {
     pub entry: NamedEntry,
@@ -33,15 +33,15 @@ pub struct ScopeEntry {
     pub call_line: Option<u64>,
 }
 
-/// A scope until it is told: the offset of its entry in `.debug_info`, and how many scopes are
-/// below it.
+/// The compact form in which a scope is stored: the offset of its entry in `.debug_info`, and the
+/// number of scopes below it.
 #[derive(Clone, Copy)]
 pub struct ScopePlace {
     pub offset: u32,
     pub inside: u32,
 }
 
-/// The root of a unit: its offset in `.debug_info`, and the attributes that tell of the unit.
+/// The root of a unit: its offset in `.debug_info`, and the attributes that describe the unit.
 #[derive(Clone, Copy)]
 pub struct RootEntry {
     pub offset: usize,
@@ -52,8 +52,8 @@ pub struct RootEntry {
     pub low_pc: Option<AttributeValue>,
 }
 
-/// What is kept of a unit: its root, and the places of its scopes. Entries and scopes are read
-/// again when they are asked for.
+/// The data that is stored for a unit: its root and the offsets of its scopes. The entries are
+/// re-read on demand.
 #[derive(Drop)]
 pub struct UnitEntries {
     pub header: UnitHeader,
@@ -62,7 +62,7 @@ pub struct UnitEntries {
 }
 
 impl NamedEntry {
-    /// Of the entry at an offset, by its used attributes.
+    /// Extracts the names of the entry at an offset from its used attributes.
     pub(crate) fn of(offset: usize, found: &UsedAttributes) -> NamedEntry
         ensures { (attributes : List Attribute) → found.now ≡ used_among attributes
             → result ≡ named_entry (die_with offset attributes) }
@@ -80,7 +80,7 @@ impl NamedEntry {
 }
 
 impl ScopeEntry {
-    /// Of a scope of the kind, which stands at an offset, by its used attributes.
+    /// Extracts the scope at an offset from its used attributes.
     pub(crate) fn of(offset: usize, kind: ScopeKind, found: &UsedAttributes) -> ScopeEntry
         ensures { (attributes : List Attribute) → found.now ≡ used_among attributes
             → result ≡ scope_entry (die_with offset attributes) kind }
@@ -98,7 +98,7 @@ impl ScopeEntry {
 }
 
 impl RootEntry {
-    /// Of the root at an offset, by its used attributes.
+    /// Extracts the root at an offset from its used attributes.
     pub(crate) fn of(offset: usize, found: &UsedAttributes) -> RootEntry
         ensures { (attributes : List Attribute) → found.now ≡ used_among attributes
             → result ≡ root_entry (die_with offset attributes) }
@@ -114,7 +114,8 @@ impl RootEntry {
     }
 }
 
-/// A reference, unless it is one that is not followed.
+/// Returns a reference, or `None` if it is a type signature (DW_FORM_ref_sig8), which is not
+/// followed.
 fn followed(value: AttributeValue) -> Option<AttributeValue>
     ensures { result ≡ followed (Some value) }
 {

@@ -1,5 +1,5 @@
-//! The walk over the entries of a unit of `.debug_info`, what is kept of them, and the entries that
-//! are read again at their places: DWARF 5, chapters 2.3, 3.3 and 7.5.
+//! Walks the entries of a unit of `.debug_info`, stores their scopes, and re-reads entries at
+//! their offsets (DWARF 5, chapters 2.3, 3.3 and 7.5).
 #![tactic(auto)]
 
 mod again;

@@ -1,4 +1,4 @@
-//! What paths need of long entries, which are read once however many references lead to them.
+//! The cache of long entries. Each is read once, regardless of the number of references to it.
 
 ghost use Rattle.std.specs.Prelude.{◌≡◌, ◌==◌, ◌↔◌, None, Some, IfSome};
 ghost use Rattle.std.specs.Prelude.{IsTrue, OnOk, OnErr, if◌then◌else◌};
@@ -11,7 +11,7 @@ use dwarf_units::UnitHeader;
 use std::alloc::{AllocError, Global};
 use std::collections::BTreeMap;
 
-/// What a path needs of an entry, and what of its unit it was read by.
+/// The names and the reference of an entry, with the properties of the unit that they depend on.
 #[derive(Clone, Copy)]
 pub(crate) struct LongEntry {
     format: Format,
@@ -20,14 +20,15 @@ pub(crate) struct LongEntry {
     entry: NamedEntry,
 }
 
-/// What was read of long entries, by their offsets.
+/// The cached entries by offset.
 #[derive(Drop)]
 pub(crate) struct LongEntries {
     held: BTreeMap<usize, LongEntry>,
 }
 
 impl LongEntry {
-    /// Whether it was read in a unit with the header.
+    /// Returns whether the entry was read in a unit with the same format, table and end as
+    /// `header`.
     fn is_in(&self, header: &UnitHeader) -> bool
         ensures { IsTrue result ↔ ((self.now.format ≡ header.now.format)
             × (self.now.abbreviations ≡ header.now.abbreviations)
@@ -48,7 +49,7 @@ impl LongEntries {
         }
     }
 
-    /// What was read of the entry at an offset, in the unit of the header.
+    /// Returns the cached entry at an offset, if it was read in a unit like that of `header`.
     pub(crate) fn get(&self, header: &UnitHeader, offset: usize) -> Option<NamedEntry>
         ensures some { IfSome result (λ entry.
             held_at self.now offset ≡ Some (long_entry header.now entry)) }
@@ -62,7 +63,7 @@ impl LongEntries {
         None
     }
 
-    /// Holds what was read of the entry at an offset, in the unit of the header.
+    /// Caches the entry at an offset, in the unit of `header`.
     pub(crate) fn insert(
         &mut self,
         header: &UnitHeader,

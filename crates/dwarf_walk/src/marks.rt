@@ -1,21 +1,21 @@
-//! The places of a section at which entries stand: a bit for each byte.
+//! A bitmap of the offsets at which entries start, with one bit for each byte of the section.
 
 ghost use Rattle.std.specs.Prelude.{◌≡◌, ℕ, ◌<◌, [], ◌∷◌, length, false, OnOk};
 ghost use Rattle.dwarf_walk.specs.Private.Marks.{is_marked, AddsMarks};
 
 use std::alloc::{AllocError, Global};
 
-/// How many places a word has.
+/// The number of bits in a word.
 const WORD: usize = 64;
 
-/// Places of a section that are marked, each by its bit. The places past the words are not.
+/// A bitmap of entry offsets. Offsets beyond the last word are not set.
 #[derive(Drop)]
 pub struct Marks {
     words: Vec<u64>,
 }
 
 impl Marks {
-    /// No place is marked.
+    /// Creates an empty bitmap.
     pub fn new(alloc: Global) -> Marks
         ensures { (place : ℕ) → is_marked result place ≡ false }
     {
@@ -24,7 +24,7 @@ impl Marks {
         }
     }
 
-    /// Marks a place.
+    /// Sets the bit of an offset. Fails if out of memory.
     pub(crate) fn mark(&mut self, place: usize) -> Result<(), AllocError>
         ensures { OnOk result (AddsMarks self.old self.new (place ∷ [])) }
     {
@@ -33,7 +33,7 @@ impl Marks {
         Ok(())
     }
 
-    /// Whether a place is marked.
+    /// Returns whether the bit of an offset is set.
     pub fn is_marked(&self, place: usize) -> bool
         ensures { result ≡ is_marked self.now place }
     {
@@ -43,7 +43,7 @@ impl Marks {
         }
     }
 
-    /// Puts words without marks behind the others, until there is one of this number.
+    /// Appends zero words until the bitmap contains the word with this index.
     fn reach(&mut self, word: usize) -> Result<(), AllocError>
         ensures there { OnOk result (word < length self.new.words.items) }
         ensures same { (place : ℕ) → is_marked self.new place ≡ is_marked self.old place }

@@ -1,10 +1,10 @@
-//! Numbers in few bytes.
+//! Narrow integers for compact storage.
 
 ghost use Rattle.std.specs.Prelude.{◌<◌, ◌^◌, OkIff};
 
 use std::alloc::AllocError;
 
-/// A number below 2^32; another one is told as want of memory.
+/// Converts a number to 32 bits. A number of 2^32 or more is reported as an allocation failure.
 pub fn narrow(number: usize) -> Result<u32, AllocError>
     ensures { OkIff result (number < 2 ^ 32) number }
 {

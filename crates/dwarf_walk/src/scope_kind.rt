@@ -1,18 +1,18 @@
-//! Which entries are scopes (DWARF 5, 3.3).
+//! The entries that are scopes (DWARF 5, 3.3).
 
 ghost use Rattle.std.specs.Prelude.{◌≡◌};
 ghost use Rattle.dwarf_walk.specs.ScopeEntries.{kind_of};
 
 use dwarf_bytes::constants::*;
 
-/// The entries that are scopes.
+/// The kind of a scope.
 #[derive(Clone, Copy, Debug, PartialEq, Eq)]
 pub enum ScopeKind {
     Subprogram,
     Inlined,
 }
 
-/// The kind of the scopes of a tag; none for the other entries.
+/// Returns the kind of the scopes with a tag, or `None` if entries with this tag are not scopes.
 pub(crate) fn kind_of(tag: u64) -> Option<ScopeKind>
     ensures { result ≡ kind_of tag }
 {

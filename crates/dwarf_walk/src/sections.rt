@@ -1,11 +1,11 @@
-//! What the entries are read from.
+//! The sections that entries are read from.
 
 ghost use Rattle.std.specs.Prelude.{◌≡◌};
 ghost use Rattle.dwarf_walk.specs.Sections.{sections_of, sections_in};
 
 use dwarf_bytes::Layout;
 
-/// The sections of an object.
+/// The contents of the debug sections of an object.
 #[derive(Clone, Copy, Debug)]
 pub struct Sections<'a> {
     pub debug_info: &'a [u8],
@@ -19,7 +19,8 @@ pub struct Sections<'a> {
 }
 
 impl Sections<'_> {
-    /// Those of an object, as far as its bytes go.
+    /// Slices the sections out of the bytes of an object. A section that extends beyond the bytes
+    /// is truncated.
     pub fn of<'a>(bytes: &'a [u8], layout: &Layout) -> Sections<'a>
         ensures { sections_of result ≡ sections_in bytes.now layout.now }
     {

@@ -1,4 +1,5 @@
-//! Taking what stands at a place of a unit: nulls and plain entries at once, all else by a cursor.
+//! The fast path of the walk: null entries and fixed-size entries are read directly, and all
+//! others with a cursor.
 
 ghost use Rattle.std.specs.Prelude.{◌≡◌, ◌≤◌, ◌<◌, List, [], ◌∷◌, length, true, OnOk, is_some};
 ghost use Rattle.dwarf_units.specs.declared.attributes.Attribute.{Attribute as EntryAttribute};
@@ -17,8 +18,8 @@ use dwarf_units::{PlainHead, UnitTable, UsedAttributes};
 use std::alloc::AllocError;
 
 impl Walk {
-    /// Takes what stands at a place of a unit, and marks the place if it is an entry. Gives the
-    /// place after it. `found` is room for its used attributes.
+    /// Reads the entry or null entry at an offset of a unit and returns the offset after it. Sets
+    /// the bit of an entry in `marks`. `found` is a buffer for its used attributes.
     #[inline(always)]
     pub(crate) fn take(
         &mut self,
@@ -47,7 +48,7 @@ impl Walk {
         self.step_at(table, marks, unit, place, found)
     }
 
-    /// Takes the plain entry at a place, behind the root, and marks the place.
+    /// Adds the fixed-size entry at an offset, which is not the root, and sets its bit in `marks`.
     #[inline(always)]
     fn take_plain(
         &mut self,
@@ -69,7 +70,8 @@ impl Walk {
         Ok(())
     }
 
-    /// Takes what stands at a place of a unit, as `step` does. Gives the place after it.
+    /// Reads the entry or null entry at an offset of a unit as `step` does, and returns the offset
+    /// after it.
     #[inline(never)]
     fn step_at(
         &mut self,
@@ -91,7 +93,8 @@ impl Walk {
         Ok(cursor.place())
     }
 
-    /// Keeps the entry at an offset if it is a scope, and ends those that the entry is not below.
+    /// Closes every open scope that does not contain the entry at an offset, and opens a scope if
+    /// the entry is one.
     #[inline(always)]
     pub(crate) fn keep_scope(&mut self, offset: usize, tag: u64) -> Result<(), AllocError>
         ensures { OnOk result (walked_of self.new
@@ -104,7 +107,7 @@ impl Walk {
         Ok(())
     }
 
-    /// Takes a scope whose entry stands at an offset.
+    /// Opens a scope whose entry is at an offset.
     #[inline(always)]
     fn open(&mut self, offset: u32) -> Result<(), AllocError>
         ensures { OnOk result (walked_of self.new ≡ with_scope offset (walked_of self.old)) }

@@ -1,4 +1,4 @@
-//! The entries of a unit (DWARF 5, 2.3, 7.5.2 and 7.5.3).
+//! The walk over the entries of a unit (DWARF 5, 2.3, 7.5.2 and 7.5.3).
 
 ghost use Rattle.std.specs.Prelude.{◌≡◌, ◌≤◌, ℕ, List, [], None, Ok};
 ghost use Rattle.std.specs.Prelude.{IsSome, IfOk, OnOk, not, take, reverse};
@@ -21,21 +21,22 @@ use dwarf_bytes::{Cause, Cursor, LoadFault, Section, Span};
 use dwarf_units::{UnitHeader, UnitTable, UsedAttributes};
 use std::alloc::{AllocError, Global};
 
-/// What the declaration of an entry tells of it, but its attributes.
+/// The parts of a declaration that the walk needs: the tag, and whether children follow.
 #[derive(Clone, Copy)]
 pub(crate) struct NodeHead {
     pub(crate) tag: u64,
     pub(crate) children: bool,
 }
 
-/// A scope that the next entry may be below: how deep its entry stands, and its number in the unit.
+/// A scope that may contain the next entry: the depth of its entry, and the index of the scope in
+/// the unit.
 #[derive(Clone, Copy)]
 pub(crate) struct OpenScope {
     pub(crate) depth: u32,
     pub(crate) number: u32,
 }
 
-/// What is kept of the entries so far, and the depth behind them.
+/// The state of the walk: the data stored for the entries so far, and the depth of the next entry.
 #[derive(Drop)]
 pub(crate) struct Walk {
     pub(crate) depth: u32,
@@ -44,8 +45,9 @@ pub(crate) struct Walk {
     pub(crate) opened: Vec<OpenScope>,
 }
 
-/// What is kept of the entries of a unit, each of which is marked. A fault is told at its entry,
-/// and a list of children that is not ended at the unit, by offsets from the section's start.
+/// Parses the entries of a unit and sets the bit of each in `marks`. A fault is reported at the
+/// offset of its entry. A list of children that is not terminated is reported at the offset of the
+/// unit. Both are offsets in `.debug_info`.
 pub fn entries(
     alloc: Global,
     info: &[u8],
@@ -85,8 +87,8 @@ impl Walk {
         }
     }
 
-    /// Takes what stands at the cursor, and marks its place if it is an entry. `found` is room for
-    /// its used attributes.
+    /// Reads the entry or null entry at the cursor, and sets the bit of an entry in `marks`.
+    /// `found` is a buffer for its used attributes.
     pub(crate) fn step(
         &mut self,
         table: &UnitTable<'_>,
@@ -115,7 +117,7 @@ impl Walk {
         Ok(())
     }
 
-    /// Keeps what is wanted of the entry at an offset, by its used attributes.
+    /// Stores the data of the entry at an offset, given its used attributes.
     fn keep(&mut self, offset: usize, tag: u64, found: &UsedAttributes) -> Result<(), AllocError>
         ensures { OnOk result (IsAfterEntry (walked_of self.old) (walked_of self.new) offset tag
             found.now) }
@@ -127,7 +129,8 @@ impl Walk {
     }
 }
 
-/// The entries of a unit, each of which is marked. A fault is told at what stands there.
+/// Walks the entries of a unit and sets the bit of each in `marks`. A fault is reported at the
+/// offset of the entry or null entry that causes it.
 fn walk_unit(
     alloc: Global,
     info: &[u8],
@@ -155,7 +158,7 @@ fn walk_unit(
     Ok(walk)
 }
 
-/// The section up to the end of a unit.
+/// Returns the section up to the end of a unit.
 pub(crate) fn unit_bytes<'a>(info: &'a [u8], header: &UnitHeader) -> &'a [u8]
     ensures { result.now ≡ take header.now.«end» info.now }
 {
@@ -166,8 +169,8 @@ pub(crate) fn unit_bytes<'a>(info: &'a [u8], header: &UnitHeader) -> &'a [u8]
     .of(info)
 }
 
-/// The entry at the cursor, at a depth, or none for a null. `rooted` is whether the root of the
-/// unit stands before it. If not, its used attributes come into `found`.
+/// Reads the entry at the cursor, or returns `None` for a null entry. `rooted` is whether the root
+/// of the unit is before it. If it is not, the used attributes are stored in `found`.
 fn node(
     table: &UnitTable<'_>,
     depth: u32,
@@ -188,8 +191,8 @@ fn node(
     Ok(Some(NodeHead { tag, children }))
 }
 
-/// Ends the open scopes that an entry at a depth is not below:
-/// all scopes behind them are below them.
+/// Closes every open scope that does not contain an entry at `depth`, and records the number of
+/// scopes below it.
 pub(crate) fn end_scopes(
     scopes: &mut Vec<ScopePlace>,
     opened: &mut Vec<OpenScope>,
@@ -209,7 +212,7 @@ pub(crate) fn end_scopes(
     Ok(())
 }
 
-/// Ends the scope of a number: all scopes behind it are below it.
+/// Closes the scope at an index: all scopes after it are below it.
 fn end_scope(scopes: &mut Vec<ScopePlace>, number: usize) -> Result<(), AllocError>
     ensures { OnOk result (scopes.new.items ≡ with_end number scopes.old.items) }
 {

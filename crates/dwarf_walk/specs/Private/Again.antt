@@ -1,4 +1,4 @@
--- Entries that are read again, for the contracts of their reader.
+-- Re-reading entries, for the contracts of the entry reader.
 use Rattle.std.specs.Prelude.{◌≡◌, ℕ, ◌-◌, ◌<◌, ◌≤◌, List, take}
 use Rattle.std.specs.Prelude.{Option, Some, Result, Ok, Err, ok_or, slice_get}
 use Rattle.dwarf_bytes.specs.declared.fault.Cause.{Cause}
@@ -23,48 +23,50 @@ use Rattle.dwarf_walk.specs.Private.Kept.{scope_entry_of}
 use Rattle.dwarf_walk.specs.Private.Long.{held_at, long_entry, AreHeldOf}
 use Rattle.dwarf_walk.specs.Private.Named.{entry_with, used_at, named_entry_at}
 
--- What was read is told in part, and in part stands in its place, unless memory ran out.
+-- The first part of what is read is the result, and the second part is in the output argument. The
+-- call may also fail because memory ran out.
 abbrev pub TellsAndLeaves : {X Y : Type 0} → Result X Cause → Y → Result (X × Y) Cause → Type 0
 TellsAndLeaves (Ok x) left outcome = outcome ≡ Ok (x, left)
 TellsAndLeaves (Err cause) left outcome = Fails cause outcome
 
--- how many bytes the entry at an offset of a unit has
+-- The size in bytes of the entry at an offset of a unit.
 abbrev pub len_at : Format → List Declaration → List ℕ → ℕ → Result ℕ Cause
 len_at format table unit offset =
     entry_at format table unit offset >>= λ entry. Ok (entry.1 - offset)
 
--- The number that a reader has is that of the table of a unit.
+-- The table at the reader's index is the table of a unit.
 abbrev pub HasTableOf : UnitHeader → EntryReader → Type 0
 HasTableOf header reader =
     (table : Table) × (slice_get reader.tables.tables reader.number ≡ Some table)
     × IsAt header.format header.abbreviations table
 
--- The table of a unit stays, and a reader has its number.
+-- The table of a unit is cached permanently, and the reader has its index.
 abbrev pub Stays : UnitHeader → EntryReader → Type 0
 Stays header reader = HasTableOf header reader × (reader.number < reader.tables.kept)
 
--- The entry at an offset of a unit is not too long to be read for each reference to it.
+-- The entry at an offset of a unit is short enough to be re-read for each reference to it.
 abbrev pub IsShort : Format → List Declaration → List ℕ → ℕ → Type 0
 IsShort format table unit offset =
     (len : ℕ) → len_at format table unit offset ≡ Ok len → len ≤ LONG
 
--- the scope whose entry stands at an offset of a unit; another entry is none that was referred to
+-- The scope at an offset of a unit. An entry that is not a scope is refused as an invalid
+-- reference.
 abbrev pub scope_entry_at : Format → List Declaration → List ℕ → ℕ → Result ScopeEntry Cause
 scope_entry_at format table unit offset =
     used_at format table unit offset
     >>= λ entry. ok_or (scope_entry_of (entry_with offset entry)) causes.Reference
 
--- A reader reads the sections, and what it holds is of them.
+-- The reader reads these sections, and its cached entries are entries of them.
 pub record IsReaderOf (s : Sections) (reader : EntryReader) : Type 0 where
   pub section : reader.tables.section ≡ s.debug_abbrev
   pub info : reader.info.now ≡ s.debug_info
   pub long : AreHeldOf s.debug_abbrev s.debug_info reader.long
 
--- what a reader holds of the entry at an offset
+-- The cached entry at an offset.
 abbrev pub held_by : EntryReader → ℕ → Option LongEntry
 held_by reader offset = held_at reader.long offset
 
--- What is read of the entry at an offset of a unit is held.
+-- If the entry at an offset of a unit can be read, it is cached.
 abbrev pub HoldsAt : Sections → UnitHeader → EntryReader → ℕ → Type 0
 HoldsAt s header reader offset =
     (table : List Declaration) (entry : NamedEntry)

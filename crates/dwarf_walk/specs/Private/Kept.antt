@@ -1,4 +1,4 @@
--- What is kept of the entries of a unit, for the contracts of the walk.
+-- The data that is stored for the entries of a unit, for the contracts of the walk.
 use Rattle.std.specs.Prelude.{ℕ, List, [], ◌∷◌, Option, Some, None}
 use Rattle.std.specs.Prelude.{Result, Ok, option_map, count_by}
 use Rattle.dwarf_bytes.specs.declared.constants.TheConstants.{
@@ -47,7 +47,7 @@ scope_entry die kind = record {
   call_line = number_of DW_AT_CALL_LINE die;
 }
 
--- an entry that is a scope
+-- The scope of an entry, if it is one.
 abbrev pub scope_entry_of : Die → Option ScopeEntry
 scope_entry_of die = option_map (scope_entry die) (kind_of die.tag)
 
@@ -61,30 +61,29 @@ root_entry die = record {
   low_pc = attribute die DW_AT_LOW_PC;
 }
 
--- the root of a unit, which is its first entry
+-- The root of a unit, which is its first entry.
 abbrev pub root_in : List Die → Option RootEntry
 root_in [] = None
 root_in (root ∷ dies) = Some (root_entry root)
 
--- where an entry stands and how many scopes are below it, in front of the places behind it, if it
--- is a scope
+-- Prepends the offset of an entry and the number of scopes below it, if the entry is a scope.
 abbrev pub scope_place : Die → List Die → Option ScopeKind → List ScopePlace → List ScopePlace
 scope_place die rest None places = places
 scope_place die rest (Some kind) places =
     record { offset = die.offset; inside = count_by is_scope (below die rest) } ∷ places
 
--- .. of each scope
+-- The list of all scopes.
 abbrev pub scope_places : List Die → List ScopePlace
 scope_places [] = []
 scope_places (die ∷ rest) = scope_place die rest (kind_of die.tag) (scope_places rest)
 
--- what is kept of a unit
+-- The data that is stored for a unit.
 pub record KeptUnit : Type 0 where
   pub header : UnitHeader
   pub root : Option RootEntry
   pub scopes : List ScopePlace
 
--- .. of these entries
+-- The data for a list of entries.
 abbrev pub kept_unit : UnitHeader → List Die → KeptUnit
 kept_unit header dies = record {
   header = header;
@@ -92,10 +91,10 @@ kept_unit header dies = record {
   scopes = scope_places dies;
 }
 
--- .. of those that stand in it, by the declarations of its table
+-- The data for the entries of a unit, as its table declares them.
 abbrev pub kept_entries : List ℕ → UnitHeader → List Declaration → Result KeptUnit At
 kept_entries info header table = entries_of info header table >>= λ dies. Ok (kept_unit header dies)
 
--- .. by the program
+-- The data that the program stores.
 abbrev pub kept_of : UnitEntries → KeptUnit
 kept_of unit = record { header = unit.header; root = unit.root; scopes = unit.scopes.items }

@@ -1,4 +1,4 @@
--- What was read of long entries, for the contracts of reading entries again.
+-- The cache of long entries, for the contracts of the entry reader.
 use Rattle.std.specs.Prelude.{◌≡◌, ℕ, List, take, Option, Some, Ok}
 use Rattle.std.specs.BTreeMap.{get}
 use Rattle.std.specs.Ordering.{nat_cmp}
@@ -11,11 +11,11 @@ use Rattle.dwarf_walk.specs.declared.long_entries.LongEntry.{LongEntry}
 use Rattle.dwarf_walk.specs.declared.long_entries.LongEntries.{LongEntries}
 use Rattle.dwarf_walk.specs.Private.Named.{named_entry_at}
 
--- what is held of the entry at an offset
+-- The cached entry at an offset.
 abbrev pub held_at : LongEntries → ℕ → Option LongEntry
 held_at long offset = get nat_cmp long.held offset
 
--- what was read in a unit with the header
+-- An entry that was read in the unit of a header.
 abbrev pub long_entry : UnitHeader → NamedEntry → LongEntry
 long_entry header entry = record {
   format = header.format;
@@ -24,7 +24,7 @@ long_entry header entry = record {
   entry = entry;
 }
 
--- What is held is what is read of these sections.
+-- Every cached entry is equal to the entry that is read from these sections.
 abbrev pub AreHeldOf : List ℕ → List ℕ → LongEntries → Type 0
 AreHeldOf section info long =
     (offset : ℕ) (held : LongEntry) → held_at long offset ≡ Some held

@@ -1,19 +1,19 @@
--- The places of a section that are marked: a bit for each byte, in words of 64 bits.
+-- A bitmap of offsets in a section: one bit for each byte, in words of 64 bits.
 use Rattle.std.specs.Prelude.{◌≡◌, ℕ, ◌/◌, ◌%◌, List, map, Bool, ◌==◌, ◌||◌, slice_index}
 use Rattle.std.specs.List.{list_any}
 use Rattle.std.specs.Int.{bit_at}
 use Rattle.dwarf_walk.specs.declared.marks.Marks.{Marks}
 use Rattle.dwarf_units.specs.Entries.{Die}
 
--- whether a place is marked: its bit, where past the words there is none
+-- Whether the bit of an offset is set. Offsets beyond the last word have no bit.
 abbrev pub is_marked : Marks → ℕ → Bool
 is_marked marks place = bit_at (slice_index marks.words.items (place / 64)) (place % 64) == 1
 
--- What is marked is what was, and these places.
+-- The bitmap contains the old bits and the bits of these offsets.
 abbrev pub AddsMarks : Marks → Marks → List ℕ → Type 0
 AddsMarks old new places =
     (at : ℕ) → is_marked new at ≡ (is_marked old at || list_any (λ place. place == at) places)
 
--- the offsets of entries
+-- The offsets of entries.
 abbrev pub offsets_of : List Die → List ℕ
 offsets_of dies = map (λ die. die.offset) dies

@@ -1,4 +1,4 @@
--- What is read of an entry at its place, for the contracts of reading entries again.
+-- The result of reading an entry at its offset, for the contracts of the entry reader.
 use Rattle.std.specs.Prelude.{ℕ, List, length, true, Result, Ok, nat_lt}
 use Rattle.dwarf_bytes.specs.declared.fault.Cause.{Cause}
 use Rattle.dwarf_bytes.specs.declared.fault.Cause.TheVariants as causes
@@ -13,23 +13,23 @@ use Rattle.dwarf_units.specs.Private.Used.{Used, used_among}
 use Rattle.dwarf_walk.specs.declared.kept.NamedEntry.{NamedEntry}
 use Rattle.dwarf_walk.specs.Private.Kept.{named_entry}
 
--- an entry by its offset, its tag and its attributes, where its depth does not count
+-- An entry with an offset, a tag and attributes. Its depth is irrelevant.
 abbrev pub entry_with : ℕ → ℕ × List Attribute → Die
 entry_with offset entry = record { offset = offset; depth = 0; tag = entry.0; attributes = entry.1 }
 
--- the tag of the entry at an offset of a unit, and its attributes that are used
+-- The tag and the used attributes of the entry at an offset of a unit.
 abbrev pub used_at : Format → List Declaration → List ℕ → ℕ → Result (ℕ × List Attribute) Cause
 used_at format table unit offset = do
   _ ← refuse_if (nat_lt (length unit) offset) causes.Short
   entry ← entry_at format table unit offset
   Ok (entry.0.0, kept_attributes true entry.0.1)
 
--- .. by their names
+-- The same, with the used attributes by name.
 abbrev pub used_by_name_at : Format → List Declaration → List ℕ → ℕ → Result (ℕ × Used) Cause
 used_by_name_at format table unit offset =
     used_at format table unit offset >>= λ entry. Ok (entry.0, used_among entry.1)
 
--- what a path needs of the entry at an offset of a unit
+-- The names and the reference of the entry at an offset of a unit.
 abbrev pub named_entry_at : Format → List Declaration → List ℕ → ℕ → Result NamedEntry Cause
 named_entry_at format table unit offset =
     used_at format table unit offset >>= λ entry. Ok (named_entry (entry_with offset entry))
