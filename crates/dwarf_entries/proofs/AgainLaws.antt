@@ -1,4 +1,4 @@
--- The entries of a unit, read again at their places.
+-- Re-reading the entries of a unit at their offsets.
 use Rattle.std.proofs.Common.{◌≡◌, ℕ, ◌≤◌, List, length, take, true, refl, ap, sym, ◌∙◌, arith}
 use Rattle.std.specs.Prelude.{Some, Result, Ok, ok_or, slice_get}
 use Rattle.dwarf_bytes.specs.declared.constants.TheConstants.{DW_AT_CALL_FILE, DW_AT_CALL_LINE}
@@ -30,7 +30,7 @@ use Rattle.dwarf_walk.specs.Private.Named.{entry_with, used_at, named_entry_at}
 use Rattle.dwarf_walk.proofs.KeptNodes.{value-kept, die_of_kept, named-kept}
 use Rattle.dwarf_walk.proofs.AgainLaws.{without_place, inside-is}
 
--- ---- by the used attributes
+-- ---- the used attributes
 
 scope-kept : (die : Die) (kind : ScopeKind) → scope_entry (die_of_kept die) kind
     ≡ scope_entry die kind
@@ -47,7 +47,7 @@ scope-kept die kind =
 
 -- ---- the entries that were read before
 
--- an entry that is read stands in its unit
+-- An entry that can be read is within its unit.
 entry-within : (format : Format) (table : List Declaration) (unit : List ℕ) (at : ℕ)
     (x : (ℕ × List Attribute) × ℕ) → entry_at format table unit at ≡ Ok x → at ≤ length unit
 unfolding entry_at
@@ -56,7 +56,7 @@ entry-within format table unit at x h =
     (λ code code_is _. let moved = uleb_moves unit at code code_is in
     omega (arith, moved.0, moved.1))
 
--- the bytes of a unit, by its header
+-- The bytes up to the end of a unit, by its header.
 abbrev pub bytes_in : Sections → UnitHeader → List ℕ
 bytes_in s header = take header.end s.debug_info
 
@@ -70,7 +70,7 @@ used-there s u k die read there =
     ((die.tag, die.attributes), again.0) again.1)
     ∙ ap (λ (r : Result ((ℕ × List Attribute) × ℕ) Cause). without_place r) again.1
 
--- a scope of a unit
+-- A scope of a unit can be re-read.
 pub scope-there : (s : Sections) (u : CompilationUnit) (k : ℕ) (die : Die) (kind : ScopeKind)
     → (read : IsReadIn s u) → slice_get u.dies k ≡ Some die → kind_of die.tag ≡ Some kind
     → scope_entry_at u.header.format read.table (bytes_in s u.header) die.offset
@@ -81,7 +81,7 @@ scope-there s u k die kind read there is =
     (used-there s u k die read there)
     ∙ (rw is (ap (λ (e : ScopeEntry). Ok e) (scope-kept die kind)))
 
--- an entry of a unit, as far as names go
+-- The names and the reference of an entry of a unit can be re-read.
 pub named-there : (s : Sections) (u : CompilationUnit) (k : ℕ) (die : Die) → (read : IsReadIn s u)
     → slice_get u.dies k ≡ Some die
     → named_entry_at u.header.format read.table (bytes_in s u.header) die.offset
@@ -92,7 +92,7 @@ named-there s u k die read there =
     (used-there s u k die read there)
     ∙ ap (λ (e : NamedEntry). Ok e) (named-kept die)
 
--- .. by what is kept of its unit
+-- The same, given the stored header of its unit.
 pub named-at : (s : Sections) (u : CompilationUnit) (k : ℕ) (die : Die) (header : UnitHeader)
     (offset : ℕ) → (read : IsReadIn s u) → header ≡ u.header → die.offset ≡ offset
     → slice_get u.dies k ≡ Some die

@@ -1,4 +1,4 @@
--- The base in force is that of the last base entry.
+-- The current base is the one set by the last base entry.
 use Rattle.std.proofs.Common.{◌≡◌, ℕ, List, [], ◌∷◌, ◌++◌, map, refl}
 use Rattle.std.specs.Prelude.{Option, Some}
 use Rattle.dwarf_entries.specs.declared.scope.Range.{Range}

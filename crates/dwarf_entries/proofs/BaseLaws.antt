@@ -1,4 +1,4 @@
--- Items of tables that stand past the end of the section.
+-- Table items beyond the end of the section.
 use Rattle.std.proofs.Common.{◌≡◌, ℕ, ◌+◌, ◌*◌, ◌<◌, List, true, false, length, refl, arith}
 use Rattle.std.specs.Prelude.{Option, Some, Err, nat_lt, nat_le}
 use Rattle.std.proofs.lemmas.Bool.{lt-ltb}

@@ -1,4 +1,4 @@
--- The turns of the pass over the roots of all units.
+-- The iterations of the pass over the roots of all units.
 use Rattle.std.proofs.Common.{◌≡◌, ℕ, ◌+◌, ◌<◌, ◌≤◌, ◌⊎◌, inl, inr, List, [], ◌∷◌, ◌++◌, length}
 use Rattle.std.proofs.Common.{drop, get_or, map, refl, ap, sym, ◌∙◌, arith, drop-cons, add-one}
 use Rattle.std.specs.Prelude.{Result, Ok, Err, zip}
@@ -23,7 +23,7 @@ abbrev pub unit_for : Sections → List CompilationUnit → UnitHeader × List D
     → Result CompilationUnit At
 unit_for s before p = unit_of s p.0 p.1
 
--- a unit with what its root tells
+-- A unit with the bases that its root defines.
 abbrev pub with_bases : UnitHeader → List Die → Bases → CompilationUnit
 with_bases header dies bases = record { header = header; dies = dies; bases = bases }
 
@@ -34,7 +34,7 @@ unfolding unit_of
 unit_of-is s header [] = refl
 unit_of-is s header (root ∷ dies) = refl
 
--- the units before the index, and what their roots tell
+-- The units before the index, and the bases that their roots define.
 pub record BasesSoFar (s : Sections) (headers : List UnitHeader) (dies : List (List Die))
     (index : ℕ) (all : List Bases) : Type 0 where
   pub made : List CompilationUnit
@@ -55,7 +55,7 @@ bases_none s headers dies = record {
       no_front (all_units s headers dies);
 }
 
--- the unit of the program at an index, and the header and entries that it was kept of
+-- The unit of the program at an index, with the header and entries that its data was stored from.
 record Kept (units : List UnitEntries) (headers : List UnitHeader) (dies : List (List Die))
     (index : ℕ) (unit : UnitEntries) : Type 0 where
   pub header : UnitHeader
@@ -87,7 +87,7 @@ kept_at units headers dies index unit same within is =
       root_is = ap (λ (u : KeptUnit). u.root) here;
     }
 
--- what the root of that unit tells
+-- The bases that the root of that unit defines.
 read_at : (s : Sections) (units : List UnitEntries) (headers : List UnitHeader)
     (dies : List (List Die)) (index : ℕ) (unit : UnitEntries)
     (kept : Kept units headers dies index unit)

@@ -1,4 +1,4 @@
--- One scope is below another where its number stands between the other's number and end.
+-- One scope is below another if and only if its number is between the other's number and end.
 use Rattle.std.proofs.Common.{◌≡◌, ◌⊎◌, ◌↔◌, ℕ, suc, ◌+◌, ◌<◌, ◌≤◌, true, cond, List, length, take}
 use Rattle.std.proofs.Common.{drop, map, get_or, inl, inr, ap, sym, ◌∙◌, subst, arith, length-take}
 use Rattle.std.specs.Prelude.{Some, Ok, Contains, slice_get, is_some, count_by}
@@ -20,7 +20,7 @@ use Rattle.dwarf_entries.proofs.RootParts.{few-below}
 use Rattle.dwarf_entries.proofs.EntryScopes.{same-some, Tells, counted}
 use Rattle.dwarf_entries.proofs.EntriesOfScopes.{entry-told}
 
--- one scope stands at an offset
+-- Two scopes with the same offset are the same scope.
 same-scope : (scopes : List Scope) (a b : Scope)
     → IsStrictlyIncreasing (map (λ (scope : Scope). scope.offset) scopes) → Contains scopes a
     → Contains scopes b → a.offset ≡ b.offset → a ≡ b
@@ -52,7 +52,7 @@ same-scope scopes a b rise a_in b_in same =
         sym a_in.2 ∙ (get_or_default scopes a_in.0 a b a_in.1
         ∙ (ap (λ (k : ℕ). get_or scopes k b) place ∙ b_in.2))
 
--- an entry, with its number and its end
+-- An entry with its number and its end.
 record Placed (units : List CompilationUnit) (i p : ℕ) (scope : Scope)
     (at : IsEntry units i p scope) : Type 0 where
   pub number_is : scope.number ≡ counted (take i units) + count_by is_scope (take p at.of.dies)
@@ -78,7 +78,7 @@ placed s tree units i p scope h units_are inside at =
     (below at.die (drop k at.of.dies))) one tells.end_is in
     record { number_is = tells.number_is; end_is = omega (arith, end_is, tells.number_is) }
 
--- a scope ends before those of any unit behind its own
+-- A scope ends before the scopes of any later unit.
 before-later : (units : List CompilationUnit) (i p j : ℕ) (scope : Scope)
     (at : IsEntry units i p scope) → Placed units i p scope at → i < j
     → (scope.number < counted (take j units)) × (scope.«end» ≤ counted (take j units))

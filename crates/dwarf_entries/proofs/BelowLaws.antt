@@ -1,4 +1,4 @@
--- What is below an entry, by places and by how many scopes stand before them.
+-- The entries below an entry, by indexes and by the number of scopes before them.
 use Rattle.std.proofs.Common.{◌≡◌, ◌⊎◌, ◌↔◌, ℕ, ◌+◌, ◌-◌, ◌<◌, ◌≤◌, List, Bool, true, false, Some}
 use Rattle.std.proofs.Common.{None, length, take, drop, get_or, ap, sym, ◌∙◌, subst, arith, inl}
 use Rattle.std.proofs.Common.{inr, length-drop, take-add, ltb-false, ltb-true}
@@ -13,7 +13,7 @@ use Rattle.dwarf_units.specs.Entries.{Die, below, IsBelow}
 use Rattle.dwarf_walk.specs.ScopeEntries.{is_scope}
 
 module _ {X : Type 0} (p : X → Bool) (xs : List X) where
-  -- how many pass before a place
+  -- The number of elements before an index that pass the test.
   abbrev counted : ℕ → ℕ
   counted place = count_by p (take place xs)
 
@@ -28,7 +28,7 @@ module _ {X : Type 0} (p : X → Bool) (xs : List X) where
       ap counted (sym parts) ∙ counted-add a (b - a) in
       omega (arith, sum)
 
-  -- one that passes is counted from its place on
+  -- An element that passes is counted after its index, and not before.
   counted-before : (place : ℕ) (d : X) → place < length xs → p (get_or xs place d) ≡ true
       → (end : ℕ) → (counted place < counted end) ↔ (place < end)
   counted-before place d within passes end = (from_count, to_count)
@@ -44,7 +44,7 @@ module _ {X : Type 0} (p : X → Bool) (xs : List X) where
           let more = count_by_more_yes p xs place d within passes in
           let le = counted-rises (place + 1) end (omega (arith, lt)) in omega (arith, more, le)
 
--- the place behind those that are below an entry
+-- The index after the entries below an entry.
 abbrev past_below : List Die → ℕ → Die → ℕ
 past_below dies i outer = i + 1 + prefix_len (λ d. nat_lt outer.depth d.depth) (drop (i + 1) dies)
 
@@ -97,11 +97,11 @@ to_below dies i j outer is before within =
         let found = ltb-true outer.depth (get_or dies k d).depth at_q in
         omega (arith, found, here)
 
--- how many scopes stand before a place of a list
+-- The number of scopes before an index of a list.
 abbrev number : List Die → ℕ → ℕ
 number dies place = count_by is_scope (take place dies)
 
--- a place that holds an entry
+-- An index of an entry is within the list.
 placed : (dies : List Die) (i : ℕ) (die : Die) → slice_get dies i ≡ Some die
     → (i < length dies) × (get_or dies i die ≡ die)
 placed dies i die is = by_place (slice_get_cases dies i).1
@@ -112,7 +112,8 @@ placed dies i die is = by_place (slice_get_cases dies i).1
     by_place (inl found) = (found.1, get_or_from_slice_get dies i die die is)
     by_place (inr past) = let none = past.1 in cc
 
--- the scopes behind a scope that are below it stand before the end that is counted
+-- The end of a scope, computed by counting the scopes below it, is the number of scopes before the
+-- index after those entries.
 ends-are : (dies : List Die) (i : ℕ) (outer : Die) → slice_get dies i ≡ Some outer
     → is_scope outer ≡ true → number dies i + 1 + count_by is_scope
     (below outer (drop (i + 1) dies)) ≡ number dies (past_below dies i outer)

@@ -1,4 +1,4 @@
--- What scopes cover, for so many range items at most.
+-- The ranges of scopes, and the limit on range items.
 use Rattle.std.proofs.Common.{◌≡◌, ℕ, ◌+◌, ◌-◌, ◌≤◌, List, [], ◌∷◌, ◌++◌, length, map, ap, subst}
 use Rattle.std.proofs.Common.{arith, length-append}
 use Rattle.std.specs.Prelude.{Option, Some, None, Result, Ok, Err, All, ◌==◌, option_to_list}
@@ -29,7 +29,7 @@ use Rattle.dwarf_entries.proofs.TreeParts.{AreJudged, is-read}
 use Rattle.dwarf_entries.proofs.CoveringLaws.{AllHold, MayHold, none-holds, from-holds}
 use Rattle.dwarf_entries.proofs.CoveringLaws.{listed-holds}
 
--- ---- what is covered, for so many items at most
+-- ---- the ranges of an entry, within a budget of items
 
 record Fits (room : ℕ) (covering : Covering) : Type 0 where
   pub hold : AllHold covering.ranges
@@ -165,7 +165,7 @@ judged-hold s units before (p ∷ ps) (j ∷ js) h le =
       omega (arith, all, counted, more, rest.1),
     )
 
--- the laws
+-- The theorems.
 pub scopes-hold : (s : Sections) (tree : Tree) → tree_of s ≡ Ok tree
     → All (λ (scope : Scope). All HoldsAddresses scope.ranges) tree.scopes
 scopes-hold s tree h =

@@ -1,5 +1,5 @@
--- What an entry covers: ranges with addresses in them, each of an item, within the items that there
--- is room for.
+-- The ranges of an entry are nonempty. Each is read from one item, and the number of items is
+-- within the budget.
 use Rattle.std.proofs.Common.{◌≡◌, ℕ, ◌+◌, ◌-◌, ◌^◌, ◌<◌, ◌≤◌, Bool, true, false, cond, List, []}
 use Rattle.std.proofs.Common.{length, refl, ap, subst, arith}
 use Rattle.std.specs.Prelude.{Option, Some, None, Result, Ok, All, nat_lt, nat_le, ◌==◌, ◌||◌}
@@ -32,12 +32,12 @@ use Rattle.dwarf_entries.specs.Ranges.{offset_pair, sets_base, covers, entry_at,
 use Rattle.dwarf_entries.specs.Ranges.{listed_behind}
 use Rattle.dwarf_entries.specs.TreeLaws.{HoldsAddresses}
 
--- ---- the range of two bounds
+-- ---- the range between two bounds
 
 abbrev pub AllHold : List Range → Type 0
 AllHold ranges = All HoldsAddresses ranges
 
--- nothing, or a range with addresses in it
+-- No range, or a nonempty one.
 abbrev pub MayHold : Option Range → Type 0
 MayHold range = AllHold (option_to_list range)
 
@@ -78,7 +78,7 @@ unless-dropped : (b : Bool) (read : Result (Option Range) Cause) (range : Option
 unless-dropped true read range holds h = subst MayHold (same_ok None range h) none-holds
 unless-dropped false read range holds h = holds range h
 
--- a judgement of bounds that gives ranges with addresses in them alone
+-- A function of bounds that returns only nonempty ranges.
 abbrev Judges : {X : Type 0} → (X → Result (Option Range) Cause) → Type 0
 Judges {X} judge = (x : X) (range : Option Range) → judge x ≡ Ok range → MayHold range
 

@@ -1,4 +1,4 @@
--- The entry at an offset, of one unit.
+-- The entry at an offset, for one unit.
 use Rattle.std.proofs.Common.{◌≡◌, ℕ, zero, suc, ◌<◌, ◌≤◌, ◌⊎◌, inr, List, [], ◌∷◌, length, get_or}
 use Rattle.std.proofs.Common.{Bool, true, false, cond, ◌==◌, ◌||◌, refl, sym, ap, ◌∙◌, subst, arith}
 use Rattle.std.proofs.Common.{append-nil}
@@ -23,9 +23,9 @@ use Rattle.dwarf_entries.specs.Private.Members.{AreKept, IsWithin, LeadsTo, Find
 use Rattle.dwarf_entries.proofs.ReferenceLaws.{within-le, find-map, stands_at, member_of}
 use Rattle.dwarf_entries.proofs.ReferenceLaws.{none-outside, none-before, unit-at}
 
--- ---- the entry at an offset, of one unit
+-- ---- the entry at an offset, for one unit
 
--- a unit starts behind those before it
+-- A unit starts after the units before it.
 start-from : (from : ℕ) (units : List CompilationUnit) → AreInOrder from units
     → (n : ℕ) (u : CompilationUnit) → slice_get units n ≡ Some u → from ≤ u.header.start
 start-from from [] h n u is = cc
@@ -37,7 +37,7 @@ start-from from (v ∷ units) h (suc n) u is =
     let later = start-from v.header.end units h.2 n u is in
     omega (arith, first, inside, later)
 
--- what stands in a unit is an entry of its own
+-- An entry at an offset within a unit is an entry of that unit.
 in_own : (from : ℕ) (units : List CompilationUnit) (offset : ℕ) → AreInOrder from units
     → (n : ℕ) (u : CompilationUnit) → slice_get units n ≡ Some u → u.header.start ≤ offset
     → offset < u.header.end
@@ -69,7 +69,7 @@ any-find {X} p (x ∷ xs) = by_test (p x) (any-find p xs)
     by_test true h = refl
     by_test false h = h
 
--- what is found stands in the list, and passes
+-- The element that is found is in the list and passes the test.
 pub find-index : (p : Die → Bool) (dies : List Die) (die : Die) → find p dies ≡ Some die
     → (i : ℕ) × (slice_get dies i ≡ Some die) × (p die ≡ true)
 find-index p [] die h = cc
@@ -81,7 +81,7 @@ find-index p (d ∷ dies) die h = by_test (p d) refl h (λ later. find-index p d
     by_test true passes h later = (0, h, subst (λ (e : Die). p e ≡ true) (same_Some d die h) passes)
     by_test false passes h later = let behind = later h in (suc behind.0, behind.1, behind.2)
 
--- the entry at an offset, of the unit of a number
+-- The entry at an offset, in the unit at an index.
 member-is : (units : List CompilationUnit) (n offset : ℕ) (u : CompilationUnit)
     → slice_get units n ≡ Some u
     → member_in units n offset ≡ ok_or (option_map (member_of u)
@@ -93,7 +93,7 @@ member-is units n offset u is =
     ap (λ (o : Option CompilationUnit). member_at (members_of (option_to_list o)) offset) is
     ∙ ap (λ (o : Option Member). ok_or o causes.Reference) all
 
--- outside the unit there is none
+-- There is no entry of the unit outside its bounds.
 pub outside : (kept : List UnitEntries) (units : List CompilationUnit) → AreKept kept units
     → (n offset : ℕ) (k : UnitEntries) → n < length kept → ((d : UnitEntries) → k ≡ get_or kept n d)
     → (offset < k.header.start) ⊎ (k.header.end ≤ offset)
@@ -109,7 +109,7 @@ outside kept units are n offset k lt is out =
     (append-nil (map (member_of u) u.dies))
     ∙ ap (λ (o : Option Member). ok_or o causes.Reference) none)
 
--- inside there is a place
+-- An offset within the bounds is a place in the unit.
 pub within-kept : (kept : List UnitEntries) (units : List CompilationUnit) → AreKept kept units
     → (n offset : ℕ) (k : UnitEntries) → n < length kept → ((d : UnitEntries) → k ≡ get_or kept n d)
     → k.header.start ≤ offset → offset < k.header.end
@@ -123,7 +123,7 @@ within-kept kept units are n offset k lt is low high =
       high = subst (λ (h : UnitHeader). offset < h.end) at.header high;
     }
 
--- and an entry, if the place is marked
+-- An entry is there if the bit of the offset is set.
 abbrev pub marked_place : UnitPlace → Bool → Option UnitPlace
 marked_place place marked = cond marked (Some place) None
 
@@ -182,7 +182,7 @@ finds-marked kept units are marks all place within outcome leads marked marked_i
     subst (λ (r : Result Member Cause). Finds units (marked_place place marked) r) (sym leads)
     (finds-inside units are.order marks all place within marked marked_is)
 
--- .. where the place is told as one that there may be
+-- The same, for a place that is returned as an option.
 pub within-named : (units : List CompilationUnit) (named : Option UnitPlace) (place : UnitPlace)
     → named ≡ Some place → IfSome named (IsWithin units) → IsWithin units place
 within-named units named place is within =

@@ -1,4 +1,4 @@
--- The marks that the pass over the entries leaves, and its faults.
+-- The bitmap after the pass over the entries, and the faults of the pass.
 use Rattle.std.proofs.Common.{◌≡◌, ℕ, ◌+◌, ◌<◌, ◌≤◌, ◌⊎◌, inl, inr, List, [], ◌∷◌, length, drop}
 use Rattle.std.proofs.Common.{get_or, refl, ap, sym, ◌∙◌, subst, arith, drop-cons, add-one}
 use Rattle.std.specs.Prelude.{Result, Ok, Err, zip}
@@ -24,7 +24,7 @@ use Rattle.dwarf_bytes.proofs.EachPlaces.{each-length}
 use Rattle.dwarf_units.proofs.TableLaws.{table_for, table_is, in_section_ok}
 use Rattle.dwarf_entries.proofs.EntriesPass.{entries_for, EntriesSoFar, entries_made}
 
--- all entries are marked
+-- The bits of all entries are set.
 pub entries_marked : (info : List ℕ) (headers : List UnitHeader) (tables : List (List Declaration))
     (marks marked : Marks) (index : ℕ) (kept : List KeptUnit)
     → EntriesSoFar info headers tables marks marked index kept → length headers ≤ index
@@ -35,7 +35,7 @@ entries_marked info headers tables marks marked index kept so_far past dies is =
     (same_ok so_far.made dies (sym (entries_made info headers tables marks marked index kept
     so_far past) ∙ is)) so_far.marked_so
 
--- a table that was good is read again, unless memory ran out
+-- Re-reading a valid table fails only because memory ran out.
 pub entries_table_fault : (info section : List ℕ) (headers : List UnitHeader)
     (tables : List (List Declaration)) (marks marked : Marks) (index : ℕ) (kept : List KeptUnit)
     (d : UnitHeader) (fault : LoadFault)

@@ -1,4 +1,4 @@
--- Which entry a scope is, in the units that were read.
+-- The entry of each scope, in the units that were read.
 use Rattle.std.proofs.Common.{◌≡◌, ℕ, zero, suc, ◌+◌, true, List, [], ◌∷◌, ◌++◌, take, drop, refl}
 use Rattle.std.proofs.Common.{ap, sym, ◌∙◌, subst, arith}
 use Rattle.std.specs.Prelude.{Option, Some, None, Ok, All, Contains, slice_get, is_some, count_by}
@@ -17,7 +17,7 @@ use Rattle.dwarf_entries.proofs.TreeParts.{AreJudged, IsRead, is-read}
 use Rattle.dwarf_entries.proofs.RootParts.{scopes_in, split}
 use Rattle.dwarf_entries.proofs.EntryScopes.{Told, counted, told-of}
 
--- ---- which entry a scope is
+-- ---- the entry of a scope
 
 abbrev StandsIn : List Die → Scope → Type 0
 StandsIn dies scope = (place : ℕ) × (die : Die) × (slice_get dies place ≡ Some die)
@@ -113,7 +113,7 @@ scopes-enter s tree units scope h units_are inside =
     (same-units s tree read units units_are)
     (subst (λ (ss : List Scope). All (Enters read.units) ss) read.scopes_are all)) inside
 
--- an entry's scope, by its numbers
+-- The scope of an entry, by its number.
 pub entry-told : (s : Sections) (tree : Tree) (units : List CompilationUnit) → tree_of s ≡ Ok tree
     → units_read s ≡ Ok units → (i place : ℕ) (unit : CompilationUnit) (die : Die)
     (kind : ScopeKind) → slice_get units i ≡ Some unit → slice_get unit.dies place ≡ Some die

@@ -1,4 +1,4 @@
--- The turns of the pass over the entries of all units.
+-- The iterations of the pass over the entries of all units.
 use Rattle.std.proofs.Common.{◌≡◌, ℕ, ◌+◌, ◌<◌, ◌≤◌, List, [], ◌∷◌, ◌++◌, length, drop, get_or}
 use Rattle.std.proofs.Common.{refl, ap, sym, ◌∙◌, subst, arith, drop-cons, add-one, length-append}
 use Rattle.std.proofs.Common.{append-nil, append_assoc}
@@ -28,7 +28,7 @@ abbrev pub entries_for : List ℕ → List (List Die) → UnitHeader × List Dec
     → Result (List Die) At
 entries_for info before p = entries_of info p.0 p.1
 
--- the entries of the units before the index, and what is kept of them
+-- The entries of the units before the index, and the data that is stored for them.
 pub record EntriesSoFar (info : List ℕ) (headers : List UnitHeader)
     (tables : List (List Declaration)) (marks marked : Marks) (index : ℕ)
     (kept : List KeptUnit) : Type 0 where
@@ -58,7 +58,7 @@ entries_none info headers tables marks =
       read = no_front (all_entries info headers tables);
     }
 
--- one more unit behind those that are kept
+-- The data of one more unit is appended.
 kept_more : (headers : List UnitHeader) (made : List (List Die)) (d : UnitHeader) (dies : List Die)
     → length made < length headers
     → kept_units headers (made ++ dies ∷ []) ≡ kept_units headers made
@@ -70,7 +70,7 @@ kept_more (header ∷ headers) (first ∷ made) d dies within =
     ap (λ (us : List KeptUnit). kept_unit header first ∷ us)
     (kept_more headers made d dies (omega (arith, within)))
 
--- the places of the entries of one more unit
+-- The offsets of the entries of one more unit are appended.
 offsets_more : (made : List (List Die)) (dies : List Die) → all_offsets made ++ offsets_of dies
     ≡ all_offsets (made ++ dies ∷ [])
 offsets_more [] dies = sym (append-nil (offsets_of dies))

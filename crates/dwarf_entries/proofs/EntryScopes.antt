@@ -1,4 +1,4 @@
--- Each scope is an entry of a unit, and tells what the entry's place gives.
+-- Each scope is an entry of a unit and has the data of that entry.
 use Rattle.std.proofs.Common.{◌≡◌, ℕ, zero, suc, ◌+◌, List, [], ◌∷◌, ◌++◌, length, take, drop, refl}
 use Rattle.std.proofs.Common.{ap, sym, ◌∙◌, subst, arith, length-append}
 use Rattle.std.specs.Prelude.{Option, Some, None, Contains, slice_get, count_by, sum_by}
@@ -19,9 +19,9 @@ use Rattle.dwarf_entries.proofs.RootParts.{judged-length, split}
 pub same-some : {X : Type 0} (x y : X) → Some x ≡ Some y → x ≡ y
 same-some x y h = cc
 
--- ---- what is told of an entry
+-- ---- the data of an entry
 
--- a scope tells of an entry before others, of a number
+-- A scope has the data of an entry, given its number and the entries after it.
 pub record Tells (number : ℕ) (kind : ScopeKind) (die : Die) (rest : List Die)
     (scope : Scope) : Type 0 where
   pub kind_is : scope.kind ≡ kind
@@ -90,7 +90,7 @@ told-in s all unit (d ∷ dies) before js made place die kind is scope =
         (omega (arith, count, size))
         (later.0, Contains-append_right (j.scope ∷ []) (scopes_in js) later.0 later.1, later.2)
 
--- how many scopes the units have
+-- The number of scopes of the units.
 abbrev pub counted : List CompilationUnit → ℕ
 counted units = sum_by (λ unit. count_by is_scope unit.dies) units
 

@@ -1,4 +1,5 @@
--- The names to which references lead: what is known of them, and what a path has by them.
+-- The names of reference targets: the contents of the cache, and the names of an origin chain that
+-- uses it.
 use Rattle.std.proofs.Common.{◌≡◌, ℕ, suc, inl, inr, List, ◌∷◌, Bool, true, false, ◌==◌, ◌&&◌, refl}
 use Rattle.std.proofs.Common.{sym, ap, ◌∙◌, subst, arith}
 use Rattle.std.specs.Prelude.{Option, Some, None, Result, Ok, Err, option_map, if◌then◌else◌}
@@ -26,7 +27,7 @@ use Rattle.dwarf_entries.specs.Private.Narrow.{are_narrow}
 use Rattle.dwarf_entries.proofs.PathLaws.{in_front, stepped}
 use Rattle.dwarf_entries.proofs.PathTexts.{both_names}
 
--- ---- what is known
+-- ---- the cached names
 
 abbrev led_by : UnitPlace → EntryNames → Led
 led_by place names = record { place = place; names = names }
@@ -38,7 +39,7 @@ known-none s units known none slot led is = absurd (never (sym is ∙ none slot)
     never : (let f : Led → Option Led = λ z. Some z in f led) ≡ None → ⊥
     never h = cc
 
--- with the names of one place more, where an entry stands
+-- The cache remains valid after the names of one more entry are added.
 pub known-more : (s : Sections) (units : List CompilationUnit) (old new : KnownNames)
     (place : UnitPlace) (names : EntryNames) → AreKnownOf s units old
     → ((slot : ℕ) → slot_at new slot ≡ if (slot == slot_of place) && are_narrow place names then
@@ -58,7 +59,7 @@ known-more s units old new place names knew put m there led_is slot led is =
         × (led_names s units m ≡ Ok l.names)) same (m, there, led_is)
     by_test false h = knew slot led h
 
--- ---- the names of an entry without names of its own
+-- ---- the names of an entry that has no name of its own
 
 abbrev on_path : Sections → List Member → Result EntryNames Cause
 on_path s path = both_names (name_on DW_AT_NAME s path) (name_on DW_AT_LINKAGE_NAME s path)
@@ -98,7 +99,7 @@ names-led s units m reference next no_name no_linkage_name =
     by_target (Err e) = refl
     by_target (Ok n) = by_path (path_within 15 units n)
 
--- .. as the program has it
+-- The same, for the entry as the program stores it.
 pub names-by-reference : (s : Sections) (units : List CompilationUnit) (number : ℕ)
     (entry : NamedEntry) (m : Member) (reference : AttributeValue) → IsMember units number entry m
     → (entry.next ≡ Some reference) × (entry.name ≡ None) × (entry.linkage_name ≡ None)
@@ -108,7 +109,7 @@ names-by-reference s units number entry m reference at (next, no_name, no_linkag
     (sym (ap (λ (e : NamedEntry). e.name) at.entry_is) ∙ no_name)
     (sym (ap (λ (e : NamedEntry). e.linkage_name) at.entry_is) ∙ no_linkage_name)
 
--- ---- the names to which a reference leads
+-- ---- the names of the target of a reference
 
 abbrev led_from : Sections → List CompilationUnit → Result Member Cause → Result EntryNames Cause
 led_from s units target = target >>= λ m. led_names s units m

@@ -1,4 +1,4 @@
--- Units stand end to end in .debug_info, and what stands in a unit up to its end.
+-- The units of .debug_info are contiguous, and so are the nodes of a unit up to its end.
 use Rattle.std.proofs.Common.{◌≡◌, ℕ, ◌+◌, ◌≤◌, true, List, [], ◌∷◌, ◌++◌, length, take, ap, sym}
 use Rattle.std.proofs.Common.{◌∙◌, subst, arith, length-take}
 use Rattle.std.specs.Prelude.{Ok, All, Contains, nat_lt, nat_le}
@@ -71,9 +71,9 @@ units-listed info headers h =
     (listed info [] 0 all.0 all.1 (Lists-within _ (header_at info) [] 0 all.0 all.1 all_is)
     (omega arith)))
 
--- ---- what stands in a unit
+-- ---- the nodes of a unit
 
--- it ends where the unit does
+-- The last node ends where the unit ends.
 filled : (format : Format) (table : List Declaration) (unit : List ℕ) (before : List Standing)
     (at : ℕ) (all : List Standing) (after : ℕ)
     → Lists (node_at format table unit) before at all after → at ≤ length unit → after ≡ length unit
@@ -87,7 +87,7 @@ filled format table unit before at (x ∷ all) after h le =
     let here = node_at-facts format table unit before at x h.0 h.1 in
     filled format table unit (before ++ x ∷ []) h.0 all after h.2 (omega (arith, here.moves.1))
 
--- a header's places
+-- The bounds in a header are in order and within the section.
 abbrev Within : ℕ → UnitHeader → Type 0
 Within size header = (header.first ≤ header.end) × (header.end ≤ size)
 

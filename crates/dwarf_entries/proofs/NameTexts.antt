@@ -1,4 +1,4 @@
--- The names of scopes are texts that stand in their sections.
+-- The names of scopes are strings in their sections.
 use Rattle.std.proofs.Common.{◌≡◌, ℕ, ◌+◌, ◌<◌, List, [], ◌∷◌, ◌++◌, length, take, drop, map}
 use Rattle.std.proofs.Common.{get_or, refl, ap, sym, ◌∙◌, subst, arith, append_assoc, length-append}
 use Rattle.std.proofs.Common.{length-drop}
@@ -33,7 +33,7 @@ use Rattle.dwarf_entries.specs.TreeLaws.{section_bytes, IsTextAt, IsTextOf}
 use Rattle.dwarf_entries.proofs.ScopeOrder.{all_sites}
 use Rattle.dwarf_entries.proofs.TreeParts.{AreJudged, is-read}
 
--- ---- a text that is found in a section
+-- ---- a string that is found in a section
 
 found-stands : (bytes : List ℕ) (at : ℕ) (found : List ℕ) → text_at bytes at ≡ Ok found
     → cstr_at bytes at ≡ Ok (found, at + length found + 1)

@@ -1,4 +1,4 @@
--- The offsets of scopes and of roots rise strictly, within .debug_info.
+-- The offsets of scopes and of roots are strictly increasing, within .debug_info.
 use Rattle.std.proofs.Common.{◌≡◌, ℕ, zero, suc, ◌+◌, ◌<◌, ◌≤◌, List, [], ◌∷◌, ◌++◌, length, map}
 use Rattle.std.proofs.Common.{refl, ap, sym, ◌∙◌, subst, arith, add-one}
 use Rattle.std.specs.Prelude.{Option, Some, None, Ok, All, zip, count_by}
@@ -24,9 +24,9 @@ use Rattle.dwarf_entries.proofs.ScopeOrder.{all_sites}
 use Rattle.dwarf_entries.proofs.TreeParts.{each-cons, each-past, read_entries, read_unit, AreJudged}
 use Rattle.dwarf_entries.proofs.TreeParts.{IsRead, is-read}
 
--- ---- numbers that rise
+-- ---- increasing numbers
 
--- they rise strictly, from a place on and up to an end
+-- Numbers are strictly increasing, from a lower bound on and up to an end.
 abbrev Rise : ℕ → ℕ → List ℕ → Type 0
 Rise from end [] = from ≤ end
 Rise from end (x ∷ xs) = (from ≤ x) × Rise (suc x) end xs
@@ -60,7 +60,7 @@ rise-below from end (x ∷ xs) h = let fits = rise-fits (suc x) end xs h.1 in
 rises : (from end : ℕ) (xs : List ℕ) → Rise from end xs → RiseBelow end xs
 rises from end xs h = (rise-strictly from end xs h, rise-below from end xs h)
 
--- ---- units, one behind another, whose entries rise
+-- ---- consecutive units with increasing entries
 
 abbrev pub UnitsRise : ℕ → ℕ → List CompilationUnit → Type 0
 UnitsRise from size [] = from ≤ size

@@ -1,5 +1,5 @@
--- The units of .debug_info stand one behind another, and hold their entries, whatever the passes
--- make of them.
+-- The units of .debug_info are consecutive and contain their entries. This holds for the results
+-- of all passes.
 use Rattle.std.proofs.Common.{◌≡◌, ℕ, ◌+◌, ◌-◌, ◌≤◌, Bool, true, false, cond, List, [], ◌∷◌, ◌++◌}
 use Rattle.std.proofs.Common.{length, take, ap, sym, subst, arith, length-take}
 use Rattle.std.specs.Prelude.{Result, Ok, nat_lt, nat_le, ◌==◌, not, ok_or, filter}
@@ -23,13 +23,14 @@ pub use Rattle.dwarf_units.proofs.EntryOrder.{entries-rise}
 
 -- ---- the headers
 
--- The units stand one behind another, from a place on and up to an end, each behind its header.
+-- The units are consecutive, from an offset on and up to an end. In each, the first entry is not
+-- before the start of the unit and not after its end.
 abbrev pub HeadersInOrder : ℕ → ℕ → List UnitHeader → Type 0
 HeadersInOrder from size [] = Unit {0}
 HeadersInOrder from size (header ∷ headers) = (from ≤ header.start) × (header.start ≤ header.first)
     × (header.first ≤ header.end) × (header.end ≤ size) × HeadersInOrder header.end size headers
 
--- what a header says of its places
+-- The bounds of a unit that its header contains.
 record HeaderPlaces (start at end : ℕ) (header : UnitHeader) : Type 0 where
   pub start_is : header.start ≡ start
   pub behind : at ≤ header.first
@@ -91,13 +92,13 @@ header_in-places start format unit at header h =
           end_is = sym (ap (λ (u : UnitHeader). u.end) same);
         }
 
--- an initial length takes bytes
+-- Reading an initial length does not move back.
 length-moves : (info : List ℕ) (at : ℕ) (read : (Format × ℕ) × ℕ)
     → initial_length_at info at ≡ Ok read → at ≤ read.1
 length-moves info at read h = let moves = (initial_length_at-moves info at read h).0 in
     omega (arith, moves)
 
--- what stands before the headers from a place on
+-- The bounds in a header that starts at an offset.
 abbrev Places : ℕ → ℕ → UnitHeader → Type 0
 Places at size header = (header.start ≡ at) × (at ≤ header.first) × (header.first ≤ header.end)
     × (header.end ≤ size)
@@ -146,14 +147,14 @@ listed-in-order info before at (header ∷ headers) after h =
           (listed-in-order info (before ++ header ∷ []) h.0 headers after h.2),
     )
 
--- a place before
+-- The lower bound may be decreased.
 headers-from : (low from size : ℕ) (headers : List UnitHeader) → low ≤ from
     → HeadersInOrder from size headers → HeadersInOrder low size headers
 headers-from low from size [] le h = tt
 headers-from low from size (header ∷ headers) le h = let first : from ≤ header.start = h.0 in
     (omega (arith, le, first), h.1, h.2, h.3, h.4)
 
--- some of the headers
+-- The property holds for a filtered list of headers.
 picked-in-order : (from size : ℕ) (pick : UnitHeader → Bool) (headers : List UnitHeader)
     → HeadersInOrder from size headers → HeadersInOrder from size (filter pick headers)
 picked-in-order from size pick [] h = tt

@@ -1,4 +1,4 @@
--- The turns of the passes over all units.
+-- The iterations of the passes over all units.
 use Rattle.std.proofs.Common.{◌≡◌, ℕ, ◌⊎◌, inl, inr, refl, ap, sym, ◌∙◌}
 use Rattle.std.specs.Prelude.{Err, Option, Some}
 use Rattle.dwarf_bytes.specs.declared.fault.Cause.{Cause}
@@ -12,7 +12,7 @@ use Rattle.dwarf_walk.specs.Sections.{Sections}
 use Rattle.dwarf_entries.specs.Bases.{bases_by}
 use Rattle.dwarf_entries.specs.Private.Passes.{bases_in}
 
--- a cause that is told at an item is the item's, unless memory ran out
+-- A cause that is reported at an item is a fault at that item, unless memory ran out.
 pub told_cases : (cause : Cause) (at : ℕ) → (told names.DebugInfo cause at ≡ memory_fault)
     ⊎ (told names.DebugInfo cause at ≡ record { section = names.DebugInfo; cause = cause; at = at })
 told_cases causes.Memory at = inl refl

@@ -1,4 +1,5 @@
--- The turns of the loop along a path, and the texts of what it kept.
+-- The iterations of the loop that follows an origin chain, and the strings of the names that it
+-- finds.
 use Rattle.std.proofs.Common.{◌≡◌, ℕ, zero, suc, ◌+◌, List, [], ◌∷◌, ◌++◌, refl, sym, ap, ◌∙◌}
 use Rattle.std.proofs.Common.{subst, arith, append_assoc}
 use Rattle.std.specs.Prelude.{Option, Some, None, Result, Ok, Err, slice_get, option_map, ok_or}
@@ -19,7 +20,7 @@ use Rattle.dwarf_walk.specs.References.{or_else, next_of}
 use Rattle.dwarf_entries.specs.Private.Members.{IsMember, IsPlaceOf, Finds, IsFirst, AreFirst}
 use Rattle.dwarf_entries.specs.Private.Members.{FindsFirst}
 
--- ---- the first attribute of a name
+-- ---- the first attribute with a name
 
 or_else-assoc : {X : Type 0} (a b c : Option X) → or_else a (or_else b c) ≡ or_else (or_else a b) c
 or_else-assoc (Some x) b c = refl
@@ -49,7 +50,7 @@ is_first-more units unit number is None (Some f) value h = absurd h
 is_first-more units unit number is (Some k) None value h = absurd h
 is_first-more units unit number is (Some k) (Some f) value h = h
 
--- with the attributes of one more entry
+-- The first attribute, after one more entry is appended.
 pub first-more : (units : List CompilationUnit) (name number : ℕ) (path : List Member) (m : Member)
     (known : Option UnitAttribute) (value : Option AttributeValue)
     → slice_get units number ≡ Some m.unit → value ≡ attribute m.die name
@@ -68,11 +69,11 @@ first-more units name number path m known value is value_is h result result_is =
 
 -- ---- the loop
 
--- what a path holds behind these entries
+-- Prepends these entries to an origin chain.
 abbrev behind : List Member → Result (List Member) Cause → Result (List Member) Cause
 behind before r = r >>= λ rest. Ok (before ++ rest)
 
--- how far a path was followed: its entries up to the last one, and what is kept of their names
+-- The loop invariant: the entries of the chain up to the last one, and the first names among them.
 pub record Followed (units : List CompilationUnit) (hops : ℕ) (m : Member) (left : ℕ)
     (found : UnitEntry) (firsts : FirstNames) : Type 0 where
   pub before : List Member
@@ -96,7 +97,7 @@ next-is : (units : List CompilationUnit) (found : UnitEntry) (last : Member)
     → found.entry.next ≡ next → next_of last.die ≡ next
 next-is units found last next at is = sym (ap (λ (e : NamedEntry). e.next) at.entry_is) ∙ is
 
--- a path from an entry, behind it
+-- Prepends one entry to an origin chain.
 abbrev pub in_front : Member → Result (List Member) Cause → Result (List Member) Cause
 in_front m r = r >>= λ rest. Ok (m ∷ rest)
 
@@ -106,7 +107,7 @@ joined before last (Ok rest) = ap (λ (path : List Member). Ok path)
     (sym (append_assoc before (last ∷ []) rest))
 joined before last (Err e) = refl
 
--- a path within one hop more, from an entry with a next one
+-- The origin chain of an entry with a reference, if one more reference may be followed.
 pub stepped : (units : List CompilationUnit) (after : ℕ) (last : Member)
     (reference : AttributeValue) → next_of last.die ≡ Some reference
     → path_within (suc after) units last
@@ -115,7 +116,7 @@ pub stepped : (units : List CompilationUnit) (after : ℕ) (last : Member)
 unfolding path_within
 stepped units after last reference is = rw (is, path_within) refl
 
--- the same behind other entries, by what the target is
+-- The same after other entries, given the target.
 followed-on : (units : List CompilationUnit) (before : List Member) (left after : ℕ) (last : Member)
     (reference : AttributeValue) → after + 1 ≡ left → next_of last.die ≡ Some reference
     → (target : Result Member Cause) → target_of units last.unit reference ≡ target
@@ -206,7 +207,7 @@ followed-lost units hops m left after found firsts reference so_far left_is is N
         → (let f : Cause → Result X Cause = λ z. Err z in f x ≡ f y) → y ≡ x
     same_err x y h = cc
 
--- where the entry at the end of a hop is not read again, memory is wanting
+-- If the target of a reference cannot be re-read, memory ran out.
 pub followed-again : (units : List CompilationUnit) (hops : ℕ) (m : Member) (left : ℕ)
     (found : UnitEntry) (place : UnitPlace) (firsts : FirstNames) (reference : AttributeValue)
     (cause : Cause) → Followed units hops m left found firsts

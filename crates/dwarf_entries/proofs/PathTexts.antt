@@ -1,4 +1,4 @@
--- The texts of the first names on a path.
+-- The strings of the first names of an origin chain.
 use Rattle.std.proofs.Common.{◌≡◌, inl, inr, ℕ, List, refl, sym, ap, ◌∙◌}
 use Rattle.std.specs.Prelude.{Option, Some, None, Result, Ok, map, slice_get, option_map}
 use Rattle.std.specs.Option.{option_and_then}
@@ -20,7 +20,7 @@ use Rattle.dwarf_entries.specs.Names.{Member, path_within, first_on, text_of, na
 use Rattle.dwarf_entries.specs.Private.KnownNames.{names_within}
 use Rattle.dwarf_entries.specs.Private.Members.{IsFirst, FindsFirst, str_offsets_of}
 
--- ---- the texts
+-- ---- the strings
 
 abbrev pub text_kept : Sections → List Bases → Option UnitAttribute
     → Result (Option TextOffset) Cause
@@ -54,7 +54,7 @@ abbrev pub both_names : Result (Option TextOffset) Cause → Result (Option Text
 both_names name linkage_name = name >>= λ n. linkage_name
     >>= λ l. Ok (record { name = n; linkage_name = l })
 
--- the names of a member, by what was kept on its path
+-- The names of a member, given the first names of its origin chain.
 pub names-found : (s : Sections) (bases : List Bases) (units : List CompilationUnit) (hops : ℕ)
     (m : Member) (firsts : FirstNames) → bases ≡ map (λ (u : CompilationUnit). u.bases) units
     → FindsFirst units (Ok firsts) (path_within hops units m)
@@ -74,7 +74,7 @@ names-found s bases units hops m firsts are found name linkage_name name_is link
     ∙ ap (λ (p : Result (List Member) Cause). p >>= λ path. both_names (name_on DW_AT_NAME s path)
     (name_on DW_AT_LINKAGE_NAME s path)) (sym found.1))
 
--- a path that is not followed has no names
+-- If the origin chain cannot be followed, there are no names.
 pub path-fails : (s : Sections) (units : List CompilationUnit) (hops : ℕ) (m : Member)
     (cause : Cause) → Fails cause (path_within hops units m)
     → Fails cause (names_within hops s units m)

@@ -1,4 +1,4 @@
--- One more scope behind those that share lists.
+-- One more scope after those that share lists.
 use Rattle.std.proofs.Common.{◌≡◌, ℕ, ◌+◌, ◌-◌, ◌≤◌, List, [], ◌∷◌, ◌++◌, length, take, drop, refl}
 use Rattle.std.proofs.Common.{ap, sym, ◌∙◌, subst, arith, append-nil, length-append}
 use Rattle.std.specs.Prelude.{None}
@@ -24,7 +24,7 @@ held-within many first past [] held = omega (arith, held)
 held-within many first past (s ∷ ss) held =
     omega (arith, held.0, held-within many s.ranges_end past ss held.2)
 
--- a stretch of a list stays where the list grows behind it
+-- A slice of a list does not change when elements are appended.
 stretch-stays : (ranges new : List Range) (first end : ℕ) → first ≤ end → end ≤ length ranges
     → take (end - first) (drop first (ranges ++ new)) ≡ take (end - first) (drop first ranges)
 stretch-stays ranges new first end rises within =
@@ -33,7 +33,7 @@ stretch-stays ranges new first end rises within =
     (drop-append-le first ranges new (omega (arith, rises, within)))
     ∙ take-append-le (end - first) (drop first ranges) new (omega (arith, left, rises, within))
 
--- .. and the new part is behind it
+-- The appended elements are the slice after it.
 stretch-new : (ranges new : List Range) (first end : ℕ) → first ≡ length ranges
     → end ≡ length ranges + length new → take (end - first) (drop first (ranges ++ new)) ≡ new
 stretch-new ranges new first end first_is end_is =
@@ -44,7 +44,7 @@ stretch-new ranges new first end first_is end_is =
     ∙ (ap (λ (rs : List Range). take (length new) rs) (sym (append-nil new))
     ∙ take-append_seam new [])))
 
--- a call stays where the list of the wide ones grows
+-- A call site does not change when the list of wide ones grows.
 call-stays : (wide more : List CallSite) (c : Calls) (file line : ℕ) → IsHeldIn (length wide) c file
     → call_site (wide ++ more) c file line ≡ call_site wide c file line
 call-stays wide more calls.Missing file line held = refl
@@ -99,7 +99,7 @@ held-push many more first past new (t ∷ ts) s held ends inside = (
       new ts s held.2 ends inside,
 )
 
--- what is told of the lists behind one more scope
+-- The contents of the lists after one more scope.
 pub record Pushed (roots : List Root) (old new : ScopeLists) (scope : Scope) : Type 0 where
   pub told : scopes_of roots new ≡ scopes_of roots old ++ scope ∷ []
   pub held : AreHeld (length new.wide.items) 0 (length new.ranges.items) new.scopes.items

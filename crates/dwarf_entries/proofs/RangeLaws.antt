@@ -1,4 +1,4 @@
--- Each entry of a range list takes bytes, and the turns of the loop over a list.
+-- Each entry of a range list takes at least one byte. The iterations of the loop over a list.
 use Rattle.std.proofs.Common.{◌≡◌, ℕ, ◌+◌, ◌<◌, ◌≤◌, List, length, ap, subst, arith}
 use Rattle.std.specs.Prelude.{Option, Some, None, Result, Ok, nat_le, ok_or}
 use Rattle.dwarf_bytes.specs.declared.fault.Cause.{Cause}
@@ -27,7 +27,7 @@ use Rattle.dwarf_entries.specs.Ranges.{base_after, covered_from, covered_pair, i
 use Rattle.dwarf_entries.specs.Ranges.{number_at, start_and_end, start_and_length, offset_pair}
 use Rattle.dwarf_entries.specs.Ranges.{sets_base, covers, entry_at, kind_of, listed_at}
 
--- a read that moves on
+-- A read that advances the offset.
 abbrev Moving : (List ℕ → ℕ → Result (ℕ × ℕ) Cause) → Type 0
 Moving read = (lists : List ℕ) (at : ℕ) (x : ℕ × ℕ) → read lists at ≡ Ok x → MovesOn lists at x.1
 

@@ -27,8 +27,8 @@ use Rattle.dwarf_entries.proofs.RangeLaws.{listed_at-advances}
 
 -- ---- the loop over a list
 
--- what was read of a list so far, in the numbers that the loop keeps, with its ranges behind those
--- that were known
+-- The loop invariant: the count and the base of the loop match the entries read so far, and the
+-- ranges of these entries are appended to the earlier ones.
 pub record ListedSoFar (room : ℕ) (sections : Sections) (bases : Bases) (lists : List ℕ)
     (first place count : ℕ) (base : Option ℕ) (known ranges : List Range) : Type 0 where
   pub before : List RangeListEntry
@@ -49,7 +49,7 @@ listed_none room sections bases lists first known =
       read = so_far-none (length lists) (listed_at room sections bases lists) first;
     }
 
--- the base behind one more entry
+-- The base after one more entry.
 abbrev pub next_base : RangeListEntry → Option ℕ → Option ℕ
 next_base (Base new) base = Some new
 next_base (Covers range) base = base
@@ -61,7 +61,7 @@ base_after-push low_pc [] (Covers range) = refl
 base_after-push low_pc (Base new ∷ before) x = base_after-push (Some new) before x
 base_after-push low_pc (Covers range ∷ before) x = base_after-push low_pc before x
 
--- what the step found, by the list before it
+-- The entry that the iteration reads, given the list before it.
 behind-is : (room : ℕ) (sections : Sections) (bases : Bases) (lists : List ℕ)
     (first place count : ℕ) (base : Option ℕ) (known ranges : List Range)
     (so_far : ListedSoFar room sections bases lists first place count base known ranges) (at : ℕ)
@@ -72,7 +72,7 @@ behind-is room sections bases lists first place count base known ranges so_far a
     ∙ ap (λ (b : Option ℕ). listed_behind room sections bases (length so_far.before) b lists at)
     so_far.base_is
 
--- what a turn with an entry leaves
+-- The result of an iteration that reads an entry.
 pub record ListTurn (room : ℕ) (sections : Sections) (bases : Bases) (lists : List ℕ)
     (first count : ℕ) (base : Option ℕ) (known ranges : List Range) (old new : Position)
     (x : RangeListEntry) : Type 0 where

@@ -1,4 +1,4 @@
--- From pass to pass.
+-- The transitions between the passes.
 use Rattle.std.proofs.Common.{◌≡◌, ◌⊎◌, inl, inr, List, length, map, refl, ap, sym, ◌∙◌}
 use Rattle.std.specs.Prelude.{Result, Ok, Err}
 use Rattle.std.proofs.lemmas.List.{length-map}
@@ -25,7 +25,7 @@ use Rattle.dwarf_entries.specs.Private.Passes.{tree_of_dies, tree_with}
 use Rattle.dwarf_units.proofs.TableLaws.{in_section_ok}
 use Rattle.dwarf_entries.proofs.UnitOrder.{dies_of, units-in-order, read-in}
 
--- ---- the whole answer, from each pass on
+-- ---- the whole result, from each pass on
 
 abbrev from_headers : Sections → List UnitHeader → Result Tree LoadFault
 from_headers s headers = in_section names.DebugAbbrev (tables_of s.debug_abbrev headers)
@@ -36,7 +36,7 @@ tree_is : (s : Sections) → tree_of s ≡ (in_section names.DebugInfo (units_of
 unfolding tree_of
 tree_is s = refl
 
--- ---- what is known behind each pass
+-- ---- the facts that hold after each pass
 
 pub record EntriesRead (s : Sections) (headers : List UnitHeader) (before : TablesRead s headers)
     (units : List UnitEntries) : Type 0 where
@@ -53,7 +53,7 @@ pub record UnitsRead (s : Sections) (headers : List UnitHeader) (read : TablesRe
   pub are : AreUnits units bases us
   pub read_in : AreReadIn s us
 
--- what two steps gave, from what the first gave
+-- The results of two steps. The second step always succeeds.
 pub bound : {X Y : Type 0} (f : X → Y) (r : Result X At) (y : Y)
     → in_section names.DebugInfo (r >>= λ x. (let g : Y → Result Y At = λ z. Ok z in g (f x)))
     ≡ Ok y → (x : X) × (r ≡ Ok x) × (y ≡ f x)
@@ -100,7 +100,7 @@ units_read s headers tables units bases before read =
       read_in = read-in s parts.0 ordered.3;
     }
 
--- as many bases as units
+-- There are as many bases as units.
 pub as_many : (units : List UnitEntries) (bases : List Bases) (us : List CompilationUnit)
     → AreUnits units bases us → length bases ≡ length units
 as_many units bases us are =
@@ -143,7 +143,7 @@ after_tables s headers before =
     ∙ ap (λ (r : Result (List (List Declaration)) At). in_section names.DebugAbbrev r
     >>= tree_with s headers) before.tables_are
 
--- a fault of two steps of which the second never fails
+-- A fault of two steps is that of the first, if the second always succeeds.
 first_fault : {X Y : Type 0} (f : X → Y) (r : Result X At) (fault : LoadFault)
     → in_section names.DebugInfo (r >>= λ x. (let g : Y → Result Y At = λ z. Ok z in g (f x)))
     ≡ Err fault → in_section names.DebugInfo r ≡ Err fault

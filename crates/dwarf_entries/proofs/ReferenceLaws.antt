@@ -1,4 +1,4 @@
--- The entry at an offset of .debug_info: found by its mark, in the unit that holds the offset.
+-- The entry at an offset of .debug_info is found by its bit, in the unit that contains the offset.
 use Rattle.std.proofs.Common.{◌≡◌, ℕ, zero, suc, ◌<◌, ◌≤◌, ◌⊎◌, inl, inr, List, [], ◌∷◌, length}
 use Rattle.std.proofs.Common.{get_or, Bool, true, false, cond, ◌==◌, refl, sym, ap, ◌∙◌, subst}
 use Rattle.std.proofs.Common.{arith}
@@ -18,7 +18,7 @@ use Rattle.dwarf_entries.specs.Private.Walked.{AreInOrder}
 use Rattle.dwarf_units.specs.Private.Rising.{RiseWithin}
 use Rattle.dwarf_entries.specs.Private.Members.{header_of, kept_header, AreKept}
 
--- ---- lists of numbers that do not fall
+-- ---- nondecreasing lists of numbers
 
 abbrev RiseFrom : ℕ → List ℕ → Type 0
 RiseFrom low [] = Unit {0}
@@ -58,7 +58,7 @@ units-rise from (u ∷ units) h =
     let inside = within-le u.header.start u.header.end u.dies h.1 in
     (omega (arith, first, inside), units-rise u.header.end units h.2)
 
--- ---- the first of a key that does not fall
+-- ---- the first element with a key, in a list with nondecreasing keys
 
 is_not : (a b : ℕ) → a < b → (a == b) ≡ false
 is_not a b lt = grind (arith, nat_tests)
@@ -77,7 +77,7 @@ find-map {X} {Y} p f (x ∷ xs) = by_test (p (f x)) (find-map p f xs)
     by_test true h = refl
     by_test false h = h
 
--- ---- the unit that holds an offset
+-- ---- the unit that contains an offset
 
 abbrev pub stands_at : ℕ → Member → Bool
 stands_at offset m = m.die.offset == offset
@@ -112,7 +112,7 @@ none-before from (u ∷ units) offset h lt =
     find-append (stands_at offset) (map (member_of u) u.dies) (members_of units)
     ∙ (rw (here, there) refl)
 
--- an entry of any unit is sought in the first unit that ends past its offset
+-- An entry of any unit is looked up in the first unit that ends after its offset.
 pub in_unit : (from : ℕ) (units : List CompilationUnit) (offset n : ℕ) → AreInOrder from units
     → IsPartitionPoint (λ x. x ≤ offset) (λ x. offset < x)
     (map (λ (u : CompilationUnit). u.header.end) units) n
@@ -133,7 +133,7 @@ in_unit from (u ∷ units) offset (suc n) h parts =
       λ k d low high. parts.1 (suc k) d (omega (arith, low)) (omega (arith, high)),
     )))
 
--- ---- what is kept of the units
+-- ---- the stored data of the units
 
 pub map-twice : {X Y Z : Type 0} (f : Y → Z) (g : X → Y) (xs : List X)
     → map f (map g xs) ≡ map (λ x. f (g x)) xs
@@ -168,7 +168,7 @@ within-at from (v ∷ units) h zero u is =
     (same_Some v u is) h.1
 within-at from (v ∷ units) h (suc n) u is = within-at v.header.end units h.2 n u is
 
--- the unit of which these entries were kept
+-- The unit that the data was stored for.
 pub record UnitAt (units : List CompilationUnit) (n : ℕ) (k : UnitEntries) : Type 0 where
   pub unit : CompilationUnit
   pub is : slice_get units n ≡ Some unit

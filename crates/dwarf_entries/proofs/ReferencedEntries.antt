@@ -1,4 +1,4 @@
--- The entry that a reference names.
+-- The target of a reference.
 use Rattle.std.proofs.Common.{◌≡◌, ℕ, ◌+◌, ◌<◌, ◌≤◌, List, [], ◌∷◌, length, true, false, ◌==◌, refl}
 use Rattle.std.proofs.Common.{sym, ap, subst, arith, eq-eqb}
 use Rattle.std.specs.Prelude.{Option, Some, map, slice_get, ok_or}
@@ -14,7 +14,7 @@ use Rattle.dwarf_entries.specs.Names.{Member, members_of, member_at, target_of}
 use Rattle.dwarf_entries.specs.Private.Members.{AreKept, member_in}
 use Rattle.dwarf_entries.proofs.ReferenceLaws.{in_unit, ends-kept, ends-rise}
 
--- ---- the entry that a reference names
+-- ---- the target of a reference
 
 parts-of-keys : {X : Type 0} (key : X → ℕ) (xs : List X) (x n : ℕ) → n ≤ length xs
     → IsPartitionPoint (λ y. key y ≤ x) (λ y. x < key y) xs n

@@ -1,4 +1,4 @@
--- The number of the root of a unit.
+-- The index of the root of a unit.
 use Rattle.std.proofs.Common.{◌≡◌, ℕ, zero, suc, ◌+◌, ◌<◌, List, [], ◌∷◌, length, drop, get_or}
 use Rattle.std.proofs.Common.{refl, ap, sym, ◌∙◌, subst, arith, drop-cons, add-one, cond}
 use Rattle.std.specs.Prelude.{Option, Some, is_some, slice_get, option_and_then, count_by}
@@ -12,7 +12,7 @@ use Rattle.dwarf_entries.specs.Scopes.{stmt_list_of, root_of, roots_from}
 use Rattle.dwarf_walk.specs.Private.Kept.{root_in}
 use Rattle.dwarf_entries.specs.Private.Passes.{IsRootOf}
 
--- the units from an index on
+-- The units from an index on.
 pub units_from : (us : List CompilationUnit) (u : CompilationUnit) (index : ℕ)
     → slice_get us index ≡ Some u → drop index us ≡ u ∷ drop (index + 1) us
 units_from us u index found =
@@ -20,7 +20,7 @@ units_from us u index found =
     let here : get_or us index u ≡ u = get_or_from_slice_get us index u u found in
     rw (add-one, drop-cons us index u within, here) refl
 
--- the roots from a number on are those of the units from the index on
+-- The roots from an index on are the roots of the units from the other index on.
 pub record RootsFrom (us : List CompilationUnit) (index root : ℕ) : Type 0 where
   pub number : ℕ
   pub left : drop root (roots_from 0 us) ≡ roots_from number (drop index us)
@@ -46,7 +46,7 @@ drop-next rs n r later h = subst (λ (k : ℕ). drop k rs ≡ later) (sym (add-o
     by_list (q ∷ rs) zero h = cc
     by_list (q ∷ rs) (suc n) h = by_list rs n h
 
--- the root of the unit at the index has that number
+-- The root of the unit at the index has that index.
 pub rooted : (us : List CompilationUnit) (u : CompilationUnit) (index root : ℕ)
     → RootsFrom us index root → slice_get us index ≡ Some u → IsRootOf us root u
 rooted us u index root from found die rest dies_are =
@@ -66,7 +66,7 @@ rooted us u index root from found die rest dies_are =
     ap (λ (o : Option Root). option_and_then (λ (r : Root). r.stmt_list) o)
     (slice_get-dropped (roots_from 0 us) root r later all) ∙ sym (ap stmt_list_of dies_are)
 
--- .. and the next number is that of the next one
+-- The next root is that of the next unit.
 pub roots_behind : (us : List CompilationUnit) (u : CompilationUnit) (index root after : ℕ)
     → RootsFrom us index root → slice_get us index ≡ Some u
     → after ≡ root + cond (is_some (root_in u.dies)) 1 0 → RootsFrom us (index + 1) after

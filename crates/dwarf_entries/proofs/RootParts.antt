@@ -1,5 +1,5 @@
--- The roots part the numbers of the scopes, and each scope is of the unit of the root that has its
--- number.
+-- The roots partition the numbers of the scopes. Each scope belongs to the unit of the root that
+-- contains its number.
 use Rattle.std.proofs.Common.{◌≡◌, ℕ, suc, ◌+◌, ◌<◌, ◌≤◌, true, false, cond, List, [], ◌∷◌, ◌++◌}
 use Rattle.std.proofs.Common.{length, map, refl, ap, sym, ◌∙◌, subst, arith, append_assoc}
 use Rattle.std.proofs.Common.{append-nil, length-append}
@@ -21,7 +21,7 @@ use Rattle.dwarf_entries.proofs.TreeParts.{AreJudged}
 abbrev pub scopes_in : List Judged → List Scope
 scopes_in js = map (λ j. j.scope) js
 
--- ---- how many scopes there are
+-- ---- the number of scopes
 
 pub count-none : (die : Die) (dies : List Die) → kind_of die.tag ≡ None
     → count_by is_scope (die ∷ dies) ≡ count_by is_scope dies
@@ -55,7 +55,7 @@ judged-length s units before (p ∷ ps) [] h = absurd h
 judged-length s units before (p ∷ ps) (j ∷ js) h =
     ap suc (judged-length s units (before ++ j ∷ []) ps js h.1)
 
--- ---- scopes of one unit, and of those behind it
+-- ---- the scopes of one unit, and of the units after it
 
 pub record AreSplit (s : Sections) (units : List CompilationUnit) (before : List Judged)
     (ps qs : List ScopeSite) (js : List Judged) : Type 0 where
@@ -89,7 +89,7 @@ split s units before (p ∷ ps) qs (j ∷ js) h =
           (append_assoc before (j ∷ []) further.first) further.rest_are;
     }
 
--- the number of a scope is among some
+-- The number of a scope is in an interval.
 abbrev pub Between : ℕ → ℕ → Scope → Type 0
 Between low high scope = (low ≤ scope.number) × (scope.number < high)
 

@@ -1,4 +1,4 @@
--- The scopes of each root: the roots part them.
+-- The scopes of each root: the roots partition them.
 use Rattle.std.proofs.Common.{◌≡◌, ℕ, ◌+◌, ◌<◌, ◌≤◌, List, [], ◌∷◌, ◌++◌, length, refl, ap, sym}
 use Rattle.std.proofs.Common.{◌∙◌, subst, arith, get_or, length-append}
 use Rattle.std.specs.Prelude.{Ok, All, Contains, count_by}
@@ -22,7 +22,7 @@ use Rattle.dwarf_entries.proofs.RootParts.{numbers-between, of-unit}
 
 -- ---- the roots
 
--- what is said of a scope by the root that has its number
+-- A scope belongs to the unit of a root if the root contains its number.
 abbrev Has : Root → Scope → Type 0
 Has root scope = root.first ≤ scope.number → scope.number < root.past → IsOfUnit root scope
 
@@ -55,7 +55,7 @@ roots-behind number (unit ∷ units) = let past : ℕ = number + count_by is_sco
 abbrev AllHave : List Root → List Scope → Type 0
 AllHave roots scopes = All (λ root. All (Has root) scopes) roots
 
--- roots have none of the scopes before their numbers, and those behind as is said
+-- Later roots contain none of the earlier scopes, and the property holds for the later scopes.
 have-later : (past low : ℕ) (roots : List Root) (earlier later : List Scope)
     → All (Between low past) earlier → All (λ root. past ≤ root.first) roots → AllHave roots later
     → AllHave roots (earlier ++ later)
@@ -69,7 +69,7 @@ have-later past low roots earlier later here behind have k d lt =
     never : (number first : ℕ) → number < past → first ≤ number → past ≤ first → ⊥
     never number first a b c = absurd (omega (arith, a, b, c))
 
--- a root has the scopes of its unit, and none of those behind
+-- A root contains the scopes of its unit and none of the later ones.
 has-first : (root : Root) (past high : ℕ) (first later : List Scope) → root.past ≡ past
     → All (IsOfUnit root) first → All (Between past high) later → All (Has root) (first ++ later)
 has-first root past high first later is here behind =
@@ -81,7 +81,7 @@ has-first root past high first later is here behind =
     never : (number : ℕ) → past ≤ number → number < root.past → ⊥
     never number a b = absurd (omega (arith, a, b, is))
 
--- each root has the scopes of its numbers
+-- The property holds for each root.
 have : (s : Sections) (all : List CompilationUnit) (from size : ℕ) (units : List CompilationUnit)
     (before js : List Judged) → UnitsRise from size units
     → AreJudged s all before (all_sites units) js
@@ -136,7 +136,7 @@ have s all from size (unit ∷ units) before js rise made =
         (roots_from past units) (has-first root past high (scopes_in first) later refl all_of
         behind) rest
 
--- the numbers of the scopes are parted
+-- The roots partition the numbers of the scopes.
 parted : (number : ℕ) (units : List CompilationUnit)
     → ArePartsFrom number (number + length (all_sites units)) (roots_from number units)
 parted number [] = omega arith
@@ -158,7 +158,7 @@ parted number (unit ∷ units) =
         (roots_from past units)) none rest
     by_root past (root ∷ dies) is rest = (refl, omega (arith, is), rest)
 
--- the laws
+-- The theorems.
 pub roots-part : (s : Sections) (tree : Tree) → tree_of s ≡ Ok tree
     → ArePartsFrom 0 (length tree.scopes) tree.roots
 roots-part s tree h =

@@ -1,4 +1,4 @@
--- The turns of the loop that tells the roots.
+-- The iterations of the loop that returns the roots.
 use Rattle.std.proofs.Common.{◌≡◌, ℕ, ◌+◌, ◌<◌, ◌≤◌, List, [], ◌∷◌, ◌++◌, length, take, drop}
 use Rattle.std.proofs.Common.{get_or, map, refl, ap, sym, ◌∙◌, subst, arith, append_assoc}
 use Rattle.std.proofs.Common.{append-nil, drop-cons, add-one}
@@ -17,11 +17,12 @@ use Rattle.dwarf_entries.specs.Private.Walked.{scope_count}
 use Rattle.dwarf_entries.specs.Private.Passes.{kept_unit_of}
 use Rattle.dwarf_entries.proofs.SiteLaws.{places-counted}
 
--- the roots of the units before the index, in front of those of the rest, are all
+-- The roots of the units before the index, followed by the roots of the other units, are all
+-- roots.
 abbrev pub RootsSoFar : List CompilationUnit → ℕ → ℕ → List Root → Type 0
 RootsSoFar us index first roots = roots ++ roots_from first (drop index us) ≡ roots_from 0 us
 
--- the unit of the definitions at an index
+-- The specified unit at an index.
 record RootAt (us : List CompilationUnit) (index : ℕ) (unit : UnitEntries) : Type 0 where
   pub u : CompilationUnit
   pub rest : drop index us ≡ u ∷ drop (index + 1) us
@@ -53,7 +54,7 @@ root_at units us index unit same within is =
       count = ap (λ (k : KeptUnit). length k.scopes) here ∙ places-counted u.dies;
     }
 
--- the numbers stay in the machine's
+-- The sum of the numbers of scopes up to the next index.
 pub count_within : (units : List UnitEntries) (index : ℕ) (unit : UnitEntries) (first : ℕ)
     → first ≡ scope_count (take index units) → index < length units → unit ≡ get_or units index unit
     → first + length unit.scopes.items ≡ scope_count (take (index + 1) units)
@@ -76,7 +77,7 @@ count_fits units index =
     ap (λ (us : List UnitEntries). sum_by f us) (take-append-drop index units) in
     omega (arith, whole, same)
 
--- the root that is told of a unit
+-- The root of a unit, if there is one.
 abbrev pub root_list : ℕ → ℕ → Option RootEntry → List Root
 root_list first past None = []
 root_list first past (Some root) = record
@@ -114,7 +115,7 @@ roots_next units us index first unit roots same within is so_far =
     ∙ (ap (λ (vs : List CompilationUnit). roots ++ roots_from first vs) (sym here.rest)
     ∙ so_far))
 
--- the turn, by what the machine counts
+-- An iteration, with machine integers.
 pub roots_turn : (units : List UnitEntries) (us : List CompilationUnit) (index first past : ℕ)
     (unit : UnitEntries) (found : Option RootEntry) (roots : List Root)
     → map kept_of units ≡ map kept_unit_of us → index < length units

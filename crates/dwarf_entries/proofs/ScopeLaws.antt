@@ -1,4 +1,4 @@
--- The scope of an entry, from what is kept of its unit.
+-- The scope of an entry, from the data stored for its unit.
 use Rattle.std.proofs.Common.{◌≡◌, ℕ, ◌+◌, ◌-◌, ◌<◌, ◌≤◌, ◌⊎◌, inl, inr, List, length, get_or, refl}
 use Rattle.std.proofs.Common.{ap, sym, ◌∙◌, arith}
 use Rattle.std.specs.Prelude.{map, Result, Ok, Option, Some, None, slice_get, sum_by}
@@ -31,7 +31,7 @@ use Rattle.dwarf_entries.proofs.ReferenceLaws.{map-twice}
 abbrev pub kept_in : CompilationUnit → KeptUnit
 kept_in u = kept_unit u.header u.dies
 
--- the scope at a place, of its names and of what it covers
+-- The scope of a site, given its names and ranges.
 abbrev pub scope_of_place : List Judged → ScopeSite → EntryNames → Covering → Judged
 scope_of_place before p names covering =
     let die = p.member.die in
@@ -51,7 +51,7 @@ scope_of_place before p names covering =
       };
     }
 
--- the units, as paths see them
+-- The headers of the units, which are the part that origin chains use.
 abbrev header_in : KeptUnit → UnitHeader
 header_in unit = unit.header
 
@@ -64,14 +64,14 @@ are_kept units bases us are = record {
   order = are.order;
 }
 
--- the names first, then the ranges
+-- The names are resolved first, then the ranges.
 by_names : (s : Sections) (us : List CompilationUnit) (before : List Judged) (p : ScopeSite)
     → scope_at s us before p ≡ (names_of s us p.member
     >>= λ names. covers_of (items_limit - sum_by (λ s. s.items) before) s p.member.unit.bases
     p.member.die >>= λ covering. Ok (scope_of_place before p names covering))
 by_names s us before p = refl
 
--- a name that is not read, or a path that does not end
+-- The scope fails if its names cannot be resolved.
 pub names_fault : (s : Sections) (us : List CompilationUnit) (before : List Judged) (p : ScopeSite)
     (numbers : ScopeNumbers) (room : ℕ) (entry : ScopeEntry) (cause : Cause)
     → IsScopeSite us numbers entry room before p
@@ -92,7 +92,7 @@ names_fault s us before p numbers room entry cause place read =
         p.member.unit.bases p.member.die
         >>= λ covering. Ok (scope_of_place before p names covering)) bad)
 
--- the root and the bases of the place's unit
+-- The root and the bases of the unit of a site.
 pub record UnitAt (units : List UnitEntries) (bases : List Bases) (unit : ℕ)
     (u : CompilationUnit) : Type 0 where
   pub entries_are : (d : UnitEntries) → kept_of (get_or units unit d) ≡ kept_in u
@@ -128,7 +128,7 @@ unit_at units bases us unit u kept found =
         never : (let f : CompilationUnit → Option CompilationUnit = λ z. Some z in f u) ≡ None → ⊥
         never h = cc
 
--- what the entry of the place covers, by what is kept of it
+-- The ranges of the entry of a site, from the stored data.
 abbrev covers_there : Sections → List Judged → ScopeSite → Result Covering Cause
 covers_there s before p = covers_of (items_limit - sum_by (λ s. s.items) before) s
     p.member.unit.bases p.member.die
@@ -144,7 +144,7 @@ covers_is s units bases us before p numbers room entry d kept place =
     let here = (unit_at units bases us numbers.unit p.member.unit kept place.unit_is).bases_are d in
     rw (here, place.entry_is, place.room_is) refl
 
--- the scope behind its names
+-- The scope, given its names.
 after_names : (s : Sections) (us : List CompilationUnit) (before : List Judged) (p : ScopeSite)
     (names : EntryNames) → names_of s us p.member ≡ Ok names
     → scope_at s us before p ≡ (covers_there s before p
@@ -154,7 +154,7 @@ after_names s us before p names read =
     >>= λ names. covers_there s before p
     >>= λ covering. Ok (scope_of_place before p names covering)) read
 
--- ranges that are not read
+-- The scope fails if its ranges cannot be read.
 pub covers_fault : (s : Sections) (units : List UnitEntries) (bases : List Bases)
     (us : List CompilationUnit) (before : List Judged) (p : ScopeSite) (numbers : ScopeNumbers)
     (room : ℕ) (entry : ScopeEntry) (names : EntryNames) (cause : Cause) (d : Bases)
@@ -173,7 +173,7 @@ covers_fault s units bases us before p numbers room entry names cause d kept pla
     >>= λ covering. Ok (scope_of_place before p names covering))
     (covers_is s units bases us before p numbers room entry d kept place ∙ bad))
 
--- what is told of the scope
+-- The data of the scope.
 pub scope_is : (s : Sections) (units : List UnitEntries) (bases : List Bases)
     (us : List CompilationUnit) (before : List Judged) (p : ScopeSite) (numbers : ScopeNumbers)
     (room : ℕ) (entry : ScopeEntry) (names : EntryNames) (items : ℕ) (old new : List Range)

@@ -1,4 +1,4 @@
--- The scopes at their places, pass by pass.
+-- The scopes of the sites, pass by pass.
 use Rattle.std.proofs.Common.{◌≡◌, ℕ, zero, suc, ◌+◌, ◌-◌, ◌≤◌, List, [], ◌∷◌, ◌++◌, length, map}
 use Rattle.std.proofs.Common.{refl, ap, sym, ◌∙◌, subst, arith}
 use Rattle.std.specs.Prelude.{Result, Ok, sum_by, zip}
@@ -26,16 +26,16 @@ use Rattle.dwarf_entries.specs.Order.{AreNumbered, EndsWithin, AreNested, AreInO
 use Rattle.dwarf_entries.proofs.ScopeOrder.{bind-ok, section-ok, told-ok, ok-same, Inner, Fits}
 use Rattle.dwarf_entries.proofs.ScopeOrder.{inner-length, insides, all_sites, all-fit}
 
--- ---- the scopes at the places
+-- ---- the scopes of the sites
 
--- the number and the end of a scope behind so many
+-- The number and the end of each scope. The first scope has the number m.
 abbrev pub AreAt : ℕ → List ℕ → List Scope → Type 0
 AreAt m [] [] = Unit {0}
 AreAt m [] (s ∷ ss) = ⊥
 AreAt m (k ∷ ks) [] = ⊥
 AreAt m (k ∷ ks) (s ∷ ss) = (s.number ≡ m) × (s.«end» ≡ m + 1 + k) × AreAt (suc m) ks ss
 
--- what is told of the scope at a place
+-- The scope of a site.
 abbrev pub judged_by : List Judged → ScopeSite → EntryNames → Covering → Judged
 judged_by before p names covering = record {
   items = covering.items;
@@ -119,7 +119,7 @@ numbered m total (k ∷ ks) (s ∷ ss) f h is =
     same-length m (k ∷ ks) [] h = absurd h
     same-length m (k ∷ ks) (s ∷ ss) h = ap suc (same-length (suc m) ks ss h.2)
 
--- those of the next n end within
+-- The scopes of the next n numbers end within them.
 within : (m n end : ℕ) (ks : List ℕ) (ss : List Scope) → Inner n ks → AreAt m ks ss → end ≡ m + n
     → EndsWithin end ss
 within m n end [] [] i h is = tt
@@ -174,7 +174,7 @@ abbrev pub from_headers : Sections → List UnitHeader → Result Tree LoadFault
 from_headers s headers = in_section names.DebugAbbrev (tables_of s.debug_abbrev headers)
     >>= from_tables s headers
 
--- the law
+-- The theorem.
 pub scopes-in-order : (s : Sections) (tree : Tree) → tree_of s ≡ Ok tree → AreInOrder tree.scopes
 unfolding tree_of
 scopes-in-order s tree h =

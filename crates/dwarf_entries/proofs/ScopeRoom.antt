@@ -1,4 +1,4 @@
--- The range items that were read for a scope are no more than there was room for.
+-- The number of range items that are read for a scope is within the budget.
 use Rattle.std.proofs.Common.{◌≡◌, ℕ, zero, suc, ◌+◌, ◌-◌, ◌<◌, ◌≤◌, List, [], ◌∷◌, ◌++◌, length}
 use Rattle.std.proofs.Common.{refl, ap, arith, length-append, false}
 use Rattle.std.specs.Prelude.{Result, Ok, Err, Option, Some, None, nat_le, ◌==◌, flat_map}
@@ -21,7 +21,7 @@ use Rattle.dwarf_entries.specs.Ranges.{listed_at, list_place, list_at, pair_rang
 use Rattle.dwarf_entries.specs.declared.scope.Range.{Range}
 use Rattle.dwarf_entries.specs.Private.Shared.{AddsRanges}
 
--- ---- the items that were read for a scope are no more than there was room for
+-- ---- the number of items that are read for a scope is within the budget
 
 list-count : (room : ℕ) (s : Sections) (bases : Bases) (lists : List ℕ)
     (before : List RangeListEntry) (at : ℕ) (xs : List RangeListEntry) (after : ℕ)
@@ -122,7 +122,7 @@ covers-room room s bases None None None c h = none h
             f x ≡ f y) → x ≡ y
         same h = cc
 
--- .. as they are told
+-- The same, for the number that the call returns.
 pub room-left : (room items : ℕ) (s : Sections) (bases : Bases)
     (low high ranges : Option AttributeValue) (old new : List Range)
     → AddsRanges (Ok items) old new (covers_by room s bases low high ranges) → items ≤ room

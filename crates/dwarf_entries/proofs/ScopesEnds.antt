@@ -1,4 +1,4 @@
--- How the pass over the scopes of a unit ends, and what a turn asks.
+-- The end of the pass over the scopes of a unit, and the preconditions of an iteration.
 use Rattle.std.proofs.Common.{◌≡◌, ℕ, ◌+◌, ◌<◌, ◌≤◌, ◌⊎◌, inl, inr, List, [], length, drop, get_or}
 use Rattle.std.proofs.Common.{refl, ap, sym, ◌∙◌, subst, arith}
 use Rattle.std.specs.Prelude.{Result, Ok, Err, Some, slice_get}
@@ -83,7 +83,7 @@ judged_fault s us u before index lists final left last kept cause fault so_far p
           p.offset_is,
         ) refl)
 
--- want of memory where a scope is read again
+-- The fault of a scope that is re-read: memory ran out.
 pub again_fault : (s : Sections) (us : List CompilationUnit) (u : CompilationUnit)
     (before : List Judged) (index : ℕ) (final : ScopeLists) (last : ℕ) (kept : ScopePlace)
     (header : UnitHeader) (cause : Cause) (fault : LoadFault)
@@ -98,7 +98,7 @@ again_fault s us u before index final last kept header cause fault known bad tol
     (entry_there s u index kept header known) bad in
     inl (told_is ∙ ap (λ (c : Cause). told names.DebugInfo c kept.offset) memory)
 
--- ---- what a turn asks
+-- ---- the preconditions of an iteration
 
 pub place_known : (s : Sections) (units : List UnitEntries) (bases : List Bases)
     (us : List CompilationUnit) (u : CompilationUnit) (unit index : ℕ) (d : UnitEntries)
@@ -119,7 +119,7 @@ place_known s units bases us u unit index d list x are read found list_is within
           h.abbreviations) header ∙ one.table_is;
     }
 
--- all scopes of a unit were looked at
+-- All scopes of a unit have been visited.
 pub all_there : (units : List UnitEntries) (bases : List Bases) (us : List CompilationUnit)
     (u : CompilationUnit) (unit index : ℕ) (d : UnitEntries) (list : List ScopePlace)
     → AreUnits units bases us → slice_get us unit ≡ Some u

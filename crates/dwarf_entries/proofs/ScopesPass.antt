@@ -1,4 +1,4 @@
--- The turns of the pass over the scopes of all units.
+-- The iterations of the pass over the scopes of all units.
 use Rattle.std.proofs.Common.{◌≡◌, ℕ, ◌+◌, ◌<◌, ◌≤◌, ◌⊎◌, inl, inr, zero, suc, List, [], ◌∷◌, ◌++◌}
 use Rattle.std.proofs.Common.{length, drop, get_or, refl, ap, sym, ◌∙◌, arith}
 use Rattle.std.specs.Prelude.{Result, Ok, Err, Some, None, slice_get, sum_by}
@@ -38,7 +38,7 @@ use Rattle.dwarf_walk.specs.Private.Kept.{KeptUnit, scope_entry, scope_places, k
 use Rattle.dwarf_entries.proofs.ScopeLaws.{kept_in, unit_at}
 use Rattle.dwarf_entries.proofs.SiteLaws.{SiteAt}
 
--- a unit of the program is one of the definitions
+-- A unit of the program is one of the specified units.
 pub known_unit : (units : List UnitEntries) (bases : List Bases) (us : List CompilationUnit)
     (unit : ℕ) → AreUnits units bases us → unit < length units
     → (u : CompilationUnit) × (slice_get us unit ≡ Some u)
@@ -59,7 +59,7 @@ pub kept_there : (units : List UnitEntries) (bases : List Bases) (us : List Comp
 kept_there units bases us unit u d are found =
     ap (λ (k : KeptUnit). k.scopes) ((unit_at units bases us unit u are found).entries_are d)
 
--- the scopes of a unit before the index, behind those of the units before it
+-- The scopes of a unit before the index, after the scopes of the units before it.
 pub record JudgedSoFar (s : Sections) (us : List CompilationUnit) (u : CompilationUnit)
     (before : List Judged) (index : ℕ) (lists : ScopeLists) (left : ℕ) : Type 0 where
   pub judged : List Judged
@@ -72,7 +72,7 @@ pub judged_none : (s : Sections) (us : List CompilationUnit) (u : CompilationUni
     → AreJudged (roots_from 0 us) before lists left → JudgedSoFar s us u before 0 lists left
 judged_none s us u before lists left are = record { judged = before; are_judged = are; read = refl }
 
--- a unit with a scope has entries
+-- A unit with a scope has entries.
 has_entries : (u : CompilationUnit) (dies : List Die) (index : ℕ) (p : ScopeSite)
     (ps : List ScopeSite) → drop index (sites_in u dies) ≡ p ∷ ps → (die : Die) × (rest : List Die)
     × (dies ≡ die ∷ rest)
@@ -80,15 +80,15 @@ has_entries u [] zero p ps h = cc
 has_entries u [] (suc index) p ps h = cc
 has_entries u (die ∷ rest) index p ps h = (die, rest, refl)
 
--- as many scopes as were judged
+-- The list has as many scopes as were resolved.
 judged_count : (roots : List Root) (judged : List Judged) (lists : ScopeLists) (left : ℕ)
     → AreJudged roots judged lists left → length lists.scopes.items ≡ length judged
 judged_count roots judged lists left are =
     sym (scopes-length roots lists.wide.items lists.ranges.items 0 lists.scopes.items)
     ∙ (ap (λ (ss : List Scope). length ss) are.told ∙ length-map judged (λ j. j.scope))
 
--- what is known of the place at an index: the scope that stands there, the header of its unit, and
--- the declarations of its table
+-- The facts about the scope at an index: its site, the header of its unit, and the declarations of
+-- its table.
 pub record PlaceKnown (s : Sections) (u : CompilationUnit) (index : ℕ) (kept : ScopePlace)
     (header : UnitHeader) : Type 0 where
   pub site : SiteAt u index kept
@@ -97,7 +97,7 @@ pub record PlaceKnown (s : Sections) (u : CompilationUnit) (index : ℕ) (kept :
   pub table_is : declarations_of declarations_limit s.debug_abbrev header.abbreviations
       ≡ Ok read.table
 
--- the scope at a place, read again by what is kept of its unit
+-- The scope can be re-read from the stored data of its unit.
 pub entry_there : (s : Sections) (u : CompilationUnit) (index : ℕ) (kept : ScopePlace)
     (header : UnitHeader) (known : PlaceKnown s u index kept header)
     → scope_entry_at header.format known.read.table (bytes_in s header) kept.offset
@@ -110,7 +110,7 @@ entry_there s u index kept header known =
     ∙ scope-there s u p.stands.index p.place.member.die p.place.kind known.read p.stands.there
     p.stands.kind_is)
 
--- the place of a scope, behind those before it
+-- The site of a scope, after the scopes before it.
 pub is_place : (s : Sections) (us : List CompilationUnit) (u : CompilationUnit)
     (before : List Judged) (numbers : ScopeNumbers) (index : ℕ) (lists : ScopeLists) (left : ℕ)
     (kept : ScopePlace) (header : UnitHeader) (entry : ScopeEntry)
@@ -170,7 +170,7 @@ judged_next s us u before index lists mid new left after kept items facts so_far
           (sym p.rest) ∙ so_far.read);
     }
 
--- what was made in front is what was made behind
+-- If a list is prepended to a result, the result is the rest of the list.
 pub front-ok : (before judged : List Judged) (r : Result (List Judged) At)
     → made_front before r ≡ Ok judged → (after : List Judged) × (r ≡ Ok after)
     × (before ++ after ≡ judged)

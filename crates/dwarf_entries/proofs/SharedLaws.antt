@@ -1,4 +1,4 @@
--- What scopes tell by the lists that they share.
+-- The data of scopes in the lists that they share.
 use Rattle.std.proofs.Common.{◌≡◌, ℕ, zero, suc, ◌-◌, ◌<◌, ◌≤◌, List, [], ◌∷◌, length, get_or, take}
 use Rattle.std.proofs.Common.{drop, Bool, false, cond, refl, ap, sym, ◌∙◌, subst, arith}
 use Rattle.std.specs.Prelude.{Option, Some, None, slice_get, option_map, option_and_then, ◌==◌}
@@ -14,9 +14,9 @@ use Rattle.dwarf_entries.specs.Scopes.{Scope, call_site, root_stmt_list, scope_o
 use Rattle.dwarf_entries.specs.Scopes.{ranges_at, stmt_list_at}
 use Rattle.dwarf_entries.specs.Private.Shared.{ranges_start}
 
--- ---- the scope at a place
+-- ---- the scope at an index
 
--- what a look-up finds, or does not find
+-- The element that a lookup returns.
 pub found-at : {X : Type 0} (list items : List X) (n : ℕ) (x : X) → list ≡ items
     → (n < length list) × ((d : X) → x ≡ get_or list n d) → slice_get items n ≡ Some x
 found-at list items n x same found = subst (λ (xs : List _). slice_get xs n ≡ Some x) same
@@ -65,7 +65,7 @@ scopes-length roots wide ranges first [] = refl
 scopes-length roots wide ranges first (s ∷ ss) =
     ap suc (scopes-length roots wide ranges s.ranges_end ss)
 
--- what is told of the scope at a place, if there is one
+-- The data of the scope at an index, if there is one.
 pub ranges-there : (roots : List Root) (wide : List CallSite) (ranges : List Range) (ss : List Kept)
     (n start : ℕ) (s : Kept) → slice_get ss n ≡ Some s → start ≡ ranges_start 0 ss n
     → take (s.ranges_end - start) (drop start ranges)

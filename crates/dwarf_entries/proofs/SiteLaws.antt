@@ -1,4 +1,4 @@
--- The places of the scopes of a unit, by what is kept of it.
+-- The scope sites of a unit, from the data stored for it.
 use Rattle.std.proofs.Common.{◌≡◌, ℕ, zero, suc, ◌+◌, ◌<◌, List, [], ◌∷◌, length, drop, get_or, map}
 use Rattle.std.proofs.Common.{cond, refl, ap, ◌∙◌, arith, drop-cons, add-one}
 use Rattle.std.specs.Prelude.{Option, Some, None, is_some, count_by, sum_by, slice_get}
@@ -32,7 +32,7 @@ places_are u (die ∷ rest) = by_kind (kind_of die.tag) (places_are u rest)
               count_by is_scope (below die rest);
         } in p) ∷ ps) later
 
--- as many places as scopes
+-- There are as many stored elements as scopes.
 pub places-counted : (dies : List Die) → length (scope_places dies) ≡ count_by is_scope dies
 places-counted [] = refl
 places-counted (die ∷ rest) = by_kind (kind_of die.tag) refl (places-counted rest)
@@ -54,14 +54,14 @@ places-counted (die ∷ rest) = by_kind (kind_of die.tag) refl (places-counted r
         by_count None counted = omega (arith, counted, later)
         by_count (Some k) counted = omega (arith, counted, later)
 
--- a place of a unit is that of a scope among its entries
+-- A site of a unit is a scope among its entries.
 pub record IsPlaceIn (u : CompilationUnit) (dies : List Die) (p : ScopeSite) : Type 0 where
   pub unit_is : p.member.unit ≡ u
   pub kind_is : kind_of p.member.die.tag ≡ Some p.kind
   pub index : ℕ
   pub there : slice_get dies index ≡ Some p.member.die
 
--- .. and among more of them
+-- The same, with more entries before.
 place-behind : (u : CompilationUnit) (die : Die) (dies : List Die) (p : ScopeSite)
     → IsPlaceIn u dies p → IsPlaceIn u (die ∷ dies) p
 place-behind u die dies p is = record {
@@ -89,7 +89,7 @@ sites-each u (die ∷ rest) i d within = by_kind (kind_of die.tag) refl i within
         record { unit_is = refl; kind_is = is; index = 0; there = refl }
     by_kind (Some kind) is (suc i) within later = later i (omega (arith, within))
 
--- the place of the scope at an index of what is kept of a unit
+-- The site of the scope at an index of the stored data of a unit.
 pub record SiteAt (u : CompilationUnit) (i : ℕ) (kept : ScopePlace) : Type 0 where
   pub place : ScopeSite
   pub rest : drop i (sites_in u u.dies) ≡ place ∷ drop (i + 1) (sites_in u u.dies)

@@ -1,4 +1,4 @@
--- What scopes tell, by themselves and by way of the scopes that they are of.
+-- The data of scopes: in the scope itself, and through the list of scopes.
 use Rattle.std.proofs.Common.{◌≡◌, ℕ, zero, suc, ◌+◌, List, [], ◌∷◌, map, refl, ap, sym, ◌∙◌, arith}
 use Rattle.std.specs.Prelude.{Option, Some, None, length, slice_get, option_map}
 use Rattle.std.specs.Option.{option_map_or, option_and_then}
@@ -16,7 +16,7 @@ own-kept roots wide ranges first [] = refl
 own-kept roots wide ranges first (s ∷ ss) =
     ap (λ (os : List Own). own_of s ∷ os) (own-kept roots wide ranges s.ranges_end ss)
 
--- the number of the scope at a place
+-- The number of the scope at an index.
 number-at : (first total i : ℕ) (ss : List Scope) (s : Scope) → AreNumbered first total ss
     → slice_get ss i ≡ Some s → s.number ≡ first + i
 number-at first total i [] s are found = cc
@@ -29,7 +29,7 @@ number-at first total zero (t ∷ ss) s are found =
 number-at first total (suc i) (t ∷ ss) s are found = number-at (suc first) total i ss s are.3 found
     ∙ omega arith
 
--- the scope whose own facts are those of another one's
+-- The scope that has the same data in itself as the stored one.
 own-found : (o : Option Scope) (k : Kept) → option_map own o ≡ Some (own_of k)
     → (s : Scope) × (o ≡ Some s) × (own_of k ≡ own s)
 own-found None k h = cc

@@ -1,4 +1,4 @@
--- What a good answer was read from, and what each of its scopes was made of.
+-- The parts that a successful result was read from, and the parts of each scope.
 use Rattle.std.proofs.Common.{◌≡◌, List, [], ◌∷◌, ◌++◌, map, ap, subst}
 use Rattle.std.specs.Prelude.{Result, Ok, zip}
 use Rattle.dwarf_bytes.specs.declared.fault.Section.TheVariants as names
@@ -21,7 +21,7 @@ use Rattle.dwarf_entries.proofs.ScopeOrder.{section-ok, told-ok, all_sites}
 use Rattle.dwarf_entries.proofs.ScopePlaces.{judged_by, covering_at, make, from_judged, from_units}
 use Rattle.dwarf_entries.proofs.ScopePlaces.{from_dies, from_tables, from_headers}
 
--- ---- what is made of each of a list
+-- ---- the results for each element of a list
 
 pub each-cons : {X Y : Type 0} (make : List Y → X → Result Y At) (before : List Y) (x : X)
     (xs : List X) (y : Y) (ys : List Y) → each_from make before (x ∷ xs) ≡ Ok (y ∷ ys)
@@ -57,7 +57,7 @@ pub each-past : {X Y : Type 0} (make : List Y → X → Result Y At) (before : L
 unfolding each_from
 each-past make before y ys h = cc
 
--- ---- what a scope was made of, behind those before it
+-- ---- the parts of a scope, after the scopes before it
 
 pub record IsJudged (sections : Sections) (units : List CompilationUnit) (before : List Judged)
     (p : ScopeSite) (j : Judged) : Type 0 where
@@ -110,7 +110,7 @@ are-judged sections units before (p ∷ ps) (j ∷ js) h =
           parts.1,
     )
 
--- ---- what the answer was read from
+-- ---- the parts that the result was read from
 
 abbrev pub read_entries : Sections → List (List Die) → UnitHeader × List Declaration
     → Result (List Die) At

@@ -27,7 +27,7 @@ use Rattle.dwarf_entries.proofs.OrderLaws.{HeadersInOrder, headers-in-order}
 
 -- ---- the units with their entries
 
--- a unit keeps its header and its entries
+-- A unit contains its header and its entries.
 pub unit_of-parts : (s : Sections) (header : UnitHeader) (dies : List Die) (unit : CompilationUnit)
     → unit_of s header dies ≡ Ok unit → (unit.header ≡ header) × (unit.dies ≡ dies)
 unfolding unit_of
@@ -44,7 +44,7 @@ unit_of-parts s header (root ∷ dies) unit h =
       sym (ap (λ (u : CompilationUnit). u.dies) same),
     ))
 
--- the table of each header
+-- Each header has its table.
 abbrev TablesStand : List ℕ → List UnitHeader → List (List Declaration) → Type 0
 TablesStand section [] tables = Unit {0}
 TablesStand section (header ∷ headers) [] = Unit {0}
@@ -71,7 +71,7 @@ tables-stand section before (header ∷ headers) tables h =
       tables-stand section (before ++ table ∷ []) headers rest rest_is,
     )))
 
--- each unit has the entries that are read of it
+-- The entries of each unit can be re-read.
 abbrev pub AllReadIn : Sections → List CompilationUnit → Type 0
 AllReadIn s [] = Unit {0}
 AllReadIn s (u ∷ us) = IsReadIn s u × AllReadIn s us
@@ -89,7 +89,7 @@ read-in s (first ∷ us) all (suc i) u found = read-in s us all.1 i u found
 abbrev pub dies_of : CompilationUnit → List Die
 dies_of unit = unit.dies
 
--- what the passes read of units whose headers stand in order
+-- The results of the passes for units whose headers are in order.
 abbrev Ordered : Sections → ℕ → List UnitHeader → List (List Die) → List CompilationUnit → Type 0
 Ordered s from headers dies units = AreInOrder from units
     × (kept_units headers dies ≡ map kept_unit_of units) × (dies ≡ map dies_of units)
@@ -171,9 +171,8 @@ in-order s size from (header ∷ headers) (table ∷ tables) before dies front u
               ),
             )
 
--- the units of .debug_info with their entries stand in order, what is kept of them is what is kept
--- of their headers and entries, and
--- their entries are those that stand in them
+-- The units of .debug_info with their entries are in order. The data stored for them is the data
+-- of their headers and entries, and their entries can be re-read.
 pub units-in-order : (s : Sections) (headers : List UnitHeader) (tables : List (List Declaration))
     (dies : List (List Die)) (units : List CompilationUnit) → units_of s.debug_info ≡ Ok headers
     → tables_of s.debug_abbrev headers ≡ Ok tables

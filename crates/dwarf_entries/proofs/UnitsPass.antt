@@ -30,7 +30,7 @@ use Rattle.dwarf_entries.proofs.ScopesPass.{known_unit}
 
 -- ---- the loop over the units
 
--- the scopes of the units before the index
+-- The scopes of the units before the index.
 pub record ScopesSoFar (s : Sections) (us : List CompilationUnit) (index root : ℕ)
     (lists : ScopeLists) (left : ℕ) : Type 0 where
   pub judged : List Judged
@@ -64,14 +64,14 @@ scopes_none s us lists scopes_are ranges_are =
     no_front (Ok x) = refl
     no_front (Err e) = refl
 
--- the places from a unit on are its own, and those of the units behind it
+-- The sites from a unit on are its own sites and the sites of the units after it.
 places_from : (us : List CompilationUnit) (u : CompilationUnit) (index : ℕ)
     → slice_get us index ≡ Some u → all_sites (drop index us) ≡ sites_in u u.dies
     ++ all_sites (drop (index + 1) us)
 places_from us u index found = ap (λ (vs : List CompilationUnit). all_sites vs)
     (units_from us u index found)
 
--- what is made of two lists, from what is made of the first
+-- The results for two concatenated lists, given the results for the first.
 stretch : (s : Sections) (us : List CompilationUnit) (judged after : List Judged)
     (places more : List ScopeSite) → each_from (judge s us) judged places ≡ Ok after
     → made_front judged (each_from (judge s us) judged (places ++ more))

@@ -1,4 +1,4 @@
--- The whole answer of a reading, and the marks of its entries.
+-- The whole result of a read, and the bitmap of its entries.
 use Rattle.std.proofs.Common.{◌≡◌, ℕ, Bool, false, ◌==◌, ◌||◌, ◌+◌, List, [], ◌∷◌, length, map}
 use Rattle.std.proofs.Common.{refl, ap, sym, ◌∙◌, arith, length-append}
 use Rattle.std.specs.Prelude.{Result, Ok}
@@ -35,7 +35,7 @@ use Rattle.std.specs.List.{list_any}
 use Rattle.std.proofs.lemmas.List.Folds.{list_any-append}
 use Rattle.dwarf_entries.proofs.ReadLaws.{UnitsRead, bound, told, after_units}
 
--- ---- the whole answer
+-- ---- the whole result
 
 pub tree_read : (s : Sections) (headers : List UnitHeader) (read : TablesRead s headers)
     (units : List UnitEntries) (bases : List Bases) (lists : ScopeLists) (roots : List Root)
@@ -60,7 +60,7 @@ tree_read s headers read units bases lists roots before judged_are roots_are =
         ≡ (let t : Tree = record { roots = r; scopes = a } in t)
     tree e f = cc
 
--- ---- the marks
+-- ---- the bitmap
 
 any-dies : (u : CompilationUnit) (at : ℕ) (dies : List Die)
     → list_any (λ place. place == at) (offsets_of dies) ≡ list_any (λ m. m.die.offset == at)
@@ -82,7 +82,7 @@ any-members at (u ∷ us) =
     ∙ (ap (λ (b : Bool). list_any q own || b) (any-members at us)
     ∙ sym (list_any-append q own (members_of us))))
 
--- where none was marked before, the entries of the units are
+-- If the bitmap was empty, it contains exactly the entries of the units.
 pub all-marked : (s : Sections) (headers : List UnitHeader) (read : TablesRead s headers)
     (units : List UnitEntries) (bases : List Bases) (before : UnitsRead s headers read units bases)
     (none marks : Marks) → ((place : ℕ) → is_marked none place ≡ false)
@@ -96,7 +96,7 @@ all-marked s headers read units bases before none marks empty adds at =
     ∙ (ap (λ (ds : List (List Die)). list_any p (all_offsets ds)) before.dies_of_us
     ∙ any-members at before.us))
 
--- as many scopes are kept of the units as are told
+-- The stored data of the units has as many scopes as there are sites.
 sites-counted : (units : List UnitEntries) (us : List CompilationUnit)
     → map kept_of units ≡ map kept_unit_of us → scope_count units ≡ length (all_sites us)
 sites-counted [] [] same = refl

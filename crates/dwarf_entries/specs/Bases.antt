@@ -1,5 +1,5 @@
--- What a unit's root tells of the whole unit: its tables and its low_pc
--- (DWARF 5, 3.1.1, 7.26 to 7.28).
+-- The bases that the root of a unit defines for the whole unit: its tables and its low_pc (DWARF
+-- 5, 3.1.1, 7.26 to 7.28).
 use Rattle.std.specs.Prelude.{ℕ, ◌+◌, ◌*◌, List, [], ◌∷◌, Option, Some, None}
 use Rattle.std.specs.Prelude.{Result, Ok, Err, nat_le, ◌==◌, if◌then◌else◌}
 use Rattle.dwarf_bytes.specs.declared.constants.TheConstants.{DW_AT_ADDR_BASE, DW_AT_LOW_PC}
@@ -22,22 +22,22 @@ use Rattle.dwarf_walk.specs.Sections.{Sections}
 use Rattle.dwarf_units.specs.declared.attributes.AttributeValue.{AttributeValue}
 use Rattle.dwarf_units.specs.Entries.{Die, attribute}
 
--- a unit without a root
+-- The bases of a unit without a root.
 abbrev pub no_bases : Bases
 no_bases = record { str_offsets = None; addr = None; rnglists = None; low_pc = None }
 
--- what is made of an option's value, if there is one
+-- Applies a function to an optional value.
 abbrev pub optional : {X Y : Type 0} → (X → Result Y Cause) → Option X → Result (Option Y) Cause
 optional f None = Ok None
 optional f (Some x) = f x >>= λ y. Ok (Some y)
 
--- the table at the base that an attribute of the root names
+-- The table at the base that an attribute of the root contains.
 abbrev pub table_of : TableKind → Format → List ℕ → AttributeValue → Result Table Cause
 table_of kind format section value =
     table_before kind format section value.number
     >>= λ head. Ok (record { base = value.number; head = head; format = format })
 
--- the bytes of an item of a table: an offset, or an address
+-- The size in bytes of an item of a table: an offset or an address.
 abbrev pub item_len : TableKind → Format → ℕ
 item_len StrOffsets format = offset_len format
 item_len Addr format = 8
@@ -48,7 +48,7 @@ item_in StrOffsets format = offset_at format
 item_in Addr format = u64_at
 item_in RngLists format = offset_at format
 
--- the item at an index of a table, counted from its base
+-- The item at an index of a table. The index counts from the base of the table.
 abbrev pub item_at : TableKind → List ℕ → Option Table → ℕ → Result ℕ Cause
 item_at kind section None index = Err causes.Base
 item_at kind section (Some table) index = do
@@ -57,13 +57,13 @@ item_at kind section (Some table) index = do
       (item_in kind table.format section (table.base + item_len kind table.format * index))
   Ok item.0
 
--- the address that a value of class address is; its forms but addr are indexes of .debug_addr
+-- The address of a value of class address. All forms except addr are indexes of .debug_addr.
 abbrev pub address_of : Sections → Option Table → AttributeValue → Result ℕ Cause
 address_of sections addr value =
     if value.form == DW_FORM_ADDR then Ok value.number
     else item_at Addr sections.debug_addr addr value.number
 
--- what a root tells by its attributes, in the order in which they are judged
+-- The bases that the attributes of a root define, in the order in which they are validated.
 abbrev pub bases_by : Sections → Format → Option AttributeValue → Option AttributeValue
     → Option AttributeValue → Option AttributeValue → Result Bases Cause
 bases_by sections format str_offsets addr rnglists low_pc = do
@@ -78,8 +78,8 @@ bases_at sections format root = bases_by sections format
     (attribute root DW_AT_STR_OFFSETS_BASE) (attribute root DW_AT_ADDR_BASE)
     (attribute root DW_AT_RNGLISTS_BASE) (attribute root DW_AT_LOW_PC)
 
--- a unit with its entries, of which the first, if there is one, is the root,
--- and with what the root tells
+-- A unit with its entries and with the bases that its root defines. The root is the first entry,
+-- if there is one.
 pub record CompilationUnit : Type 0 where
   pub header : UnitHeader
   pub dies : List Die

@@ -26,31 +26,32 @@ use Rattle.dwarf_walk.specs.Sections.{Sections}
 use Rattle.dwarf_walk.specs.References.{or_else, next_of}
 use Rattle.dwarf_entries.specs.Bases.{CompilationUnit, item_at, optional}
 
--- an entry with its unit
+-- An entry with its unit.
 pub record Member : Type 0 where
   pub unit : CompilationUnit
   pub die : Die
 
--- the entries of some units, in file order
+-- The entries of some units, in file order.
 abbrev pub members_of : List CompilationUnit → List Member
 members_of units = flat_map (λ unit. map (λ die. record { unit = unit; die = die }) unit.dies) units
 
--- the entry at an offset of .debug_info, among these
+-- The entry at an offset of .debug_info, among these.
 abbrev pub member_at : List Member → ℕ → Result Member Cause
 member_at members offset = ok_or (find (λ m. m.die.offset == offset) members) causes.Reference
 
--- the entry that a reference in a unit names: of form ref_addr one of any unit, counted from the
--- start of the section, else one of the unit, counted from its first byte
+-- The target of a reference in a unit. A ref_addr may refer to any unit and is relative to the
+-- start of the section. All other forms refer to the same unit and are relative to its first byte.
 abbrev pub target_of : List CompilationUnit → CompilationUnit → AttributeValue → Result Member Cause
 target_of units unit reference =
     if reference.form == DW_FORM_REF_ADDR then member_at (members_of units) reference.number
     else member_at (members_of (unit ∷ [])) (unit.header.start + reference.number)
 
--- the hops that a path may have
+-- The maximum number of references followed in an origin chain.
 abbrev pub hops_limit : ℕ
 hops_limit = 16
 
--- an entry, its next entry, and so on to one without, in at most so many hops
+-- The origin chain of an entry: the entry, its next entry, and so on, up to an entry without a
+-- reference. At most `hops` references are followed.
 unfoldable pub path_within : ℕ → List CompilationUnit → Member → Result (List Member) Cause
 path_within zero units m =
     elim (next_of (m.die)) [ None ↦ Ok (m ∷ []) | Some reference ↦ Err causes.OriginDepth ]
@@ -63,14 +64,14 @@ path_within (suc hops) units m = elim (next_of (m.die)) [
 abbrev pub path_of : List CompilationUnit → Member → Result (List Member) Cause
 path_of = path_within hops_limit
 
--- where the text at an offset of a section begins, if one stands there
+-- The location of the string at an offset of a section, if it is terminated there.
 abbrev pub text_in : Section → List ℕ → ℕ → Result TextOffset Cause
 text_in name section offset =
     reading (text_at section offset) >>= λ _. Ok (record { section = name; offset = offset })
 
--- where the text that a value is begins, by the table of the unit in which it stands; one of form
--- string stands in the entry, and the forms that are not named here are indexes of
--- .debug_str_offsets
+-- The location of the string of a value, given the string offsets table of its unit. A string of
+-- form string is in the entry itself. The forms that are not named here are indexes of
+-- .debug_str_offsets.
 abbrev pub text_of : Sections → Option Table → AttributeValue → Result TextOffset Cause
 text_of s str_offsets value =
     if value.form == DW_FORM_STRING then text_in sections.DebugInfo s.debug_info value.number
@@ -80,21 +81,21 @@ text_of s str_offsets value =
     else item_at StrOffsets s.debug_str_offsets str_offsets value.number >>= λ offset.
     text_in sections.DebugStr s.debug_str offset
 
--- the value of an attribute of an entry, with the entry's unit
+-- The value of an attribute of an entry, with the unit of the entry.
 abbrev pub of_member : ℕ → Member → Option (CompilationUnit × AttributeValue)
 of_member name m = option_map (λ value. (m.unit, value)) (attribute m.die name)
 
--- the first attribute of this name on a path
+-- The first attribute with this name on an origin chain.
 abbrev pub first_on : ℕ → List Member → Option (CompilationUnit × AttributeValue)
 first_on name [] = None
 first_on name (m ∷ path) = or_else (of_member name m) (first_on name path)
 
--- its text
+-- The string of that attribute.
 abbrev pub name_on : ℕ → Sections → List Member → Result (Option TextOffset) Cause
 name_on name s path =
     optional (λ found. text_of s found.0.bases.str_offsets found.1) (first_on name path)
 
--- the names of an entry: of each of the two attributes the first on its path
+-- The names of an entry: for each of the two attributes, the first one on its origin chain.
 abbrev pub names_of : Sections → List CompilationUnit → Member → Result EntryNames Cause
 names_of s units m = do
   path ← path_of units m

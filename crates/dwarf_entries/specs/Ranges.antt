@@ -1,4 +1,4 @@
--- The addresses of an entry (DWARF 5, 2.17 and 7.25).
+-- The address ranges of an entry (DWARF 5, 2.17 and 7.25).
 use Rattle.std.specs.Prelude.{ℕ, ◌+◌, ◌-◌, ◌^◌, List, [], ◌∷◌, length, Option, Some}
 use Rattle.std.specs.Prelude.{None, Result, Ok, Err, nat_lt, nat_le, ◌==◌, ◌||◌}
 use Rattle.std.specs.Prelude.{if◌then◌else◌, ok_or, option_to_list, flat_map, slice_get}
@@ -30,29 +30,29 @@ use Rattle.dwarf_units.specs.declared.attributes.AttributeValue.{AttributeValue}
 use Rattle.dwarf_units.specs.Entries.{Die, attribute}
 use Rattle.dwarf_entries.specs.Bases.{item_at, address_of}
 
--- the range from a start up to an end; one with equal ends covers nothing
+-- The range from a start up to an end. It is None if they are equal.
 abbrev pub covered : ℕ × ℕ → Result (Option Range) Cause
 covered bounds = do
   _ ← refuse_if (nat_le (2 ^ 64) bounds.0 || nat_le (2 ^ 64) bounds.1) causes.Overflow
   _ ← refuse_if (nat_lt bounds.1 bounds.0) causes.RangeBackwards
   Ok (if bounds.0 == bounds.1 then None else Some (record { from = bounds.0; to = bounds.1 }))
 
--- the start of dropped code, which no code has (this project's own rule:
--- DWARF 5 names no such address)
+-- The tombstone: the start address of discarded code. No code has this address. DWARF 5 does not
+-- define it; it is this project's own rule.
 abbrev pub dropped : ℕ
 dropped = 2 ^ 64 - 1
 
--- the range of two bounds, which cover nothing where the first is that of dropped code
+-- The range between two bounds. It is None if the first is the tombstone.
 abbrev pub covered_from : ℕ × ℕ → Result (Option Range) Cause
 covered_from bounds = if bounds.0 == dropped then Ok None else covered bounds
 
--- two offsets from the base in force, which cover nothing where it is that of dropped code
+-- The range between two offsets from the current base. It is None if the base is the tombstone.
 abbrev pub covered_pair : ℕ → ℕ × ℕ → Result (Option Range) Cause
 covered_pair base offsets =
     if base == dropped then Ok None else covered (base + offsets.0, base + offsets.1)
 
--- the kinds by their numbers, DW_RLE_end_of_list to DW_RLE_start_length (7.25, table 7.30); the end
--- of a list is none
+-- The kinds by their codes, from DW_RLE_end_of_list to DW_RLE_start_length (7.25, table 7.30). The
+-- end of a list is None.
 abbrev pub kinds : List (Option RangeListKind)
 kinds = None ∷ Some BaseAddressx ∷ Some StartxEndx ∷ Some StartxLength ∷ Some OffsetPair
     ∷ Some BaseAddress ∷ Some StartEnd ∷ Some StartLength ∷ []
@@ -60,19 +60,19 @@ kinds = None ∷ Some BaseAddressx ∷ Some StartxEndx ∷ Some StartxLength ∷
 abbrev pub kind_of : ℕ → Result (Option RangeListKind) Cause
 kind_of number = ok_or (slice_get kinds number) causes.RangeKind
 
--- the base in force behind these entries of a list: that of the last base entry,
--- else the unit's low_pc
+-- The current base after these entries of a list: the one set by the last base entry, otherwise
+-- the low_pc of the unit.
 abbrev pub base_after : Option ℕ → List RangeListEntry → Option ℕ
 base_after low_pc [] = low_pc
 base_after low_pc (Base base ∷ rest) = base_after (Some base) rest
 base_after low_pc (Covers range ∷ rest) = base_after low_pc rest
 
--- what an entry of a list covers
+-- The range of an entry of a list, if any.
 abbrev pub ranges_in : RangeListEntry → List Range
 ranges_in (Base base) = []
 ranges_in (Covers range) = option_to_list range
 
--- an operand in the bytes of .debug_rnglists: an index of .debug_addr, an address, or a number
+-- An operand in .debug_rnglists: an index of .debug_addr, an address, or a number.
 abbrev pub index_at : Sections → Bases → List ℕ → ℕ → Result (ℕ × ℕ) Cause
 index_at sections bases lists at = do
   index ← reading (uleb_at lists at)
@@ -85,7 +85,7 @@ address_at lists at = reading (u64_at lists at)
 abbrev pub number_at : List ℕ → ℕ → Result (ℕ × ℕ) Cause
 number_at lists at = reading (uleb_at lists at)
 
--- a start and an end, and a start and a length
+-- A start and an end, or a start and a length.
 abbrev pub start_and_end : (List ℕ → ℕ → Result (ℕ × ℕ) Cause) → List ℕ → ℕ
     → Result ((ℕ × ℕ) × ℕ) Cause
 start_and_end read lists at =
@@ -100,7 +100,7 @@ start_and_length read lists at =
     >>= λ start. number_at lists start.1
     >>= λ len. Ok ((start.0, start.0 + len.0), len.1)
 
--- the base in force, and two offsets from it
+-- The current base and two offsets from it.
 abbrev pub offset_pair : Option ℕ → List ℕ → ℕ → Result ((ℕ × (ℕ × ℕ)) × ℕ) Cause
 offset_pair base lists at = do
   start ← number_at lists at
@@ -108,7 +108,7 @@ offset_pair base lists at = do
   from ← ok_or base causes.Base
   Ok ((from, (start.0, end.0)), end.1)
 
--- an entry that sets the base, and one that covers what its operands are judged to be
+-- An entry that sets the base, or one that covers the range that its operands define.
 abbrev pub sets_base : Result (ℕ × ℕ) Cause → Result (RangeListEntry × ℕ) Cause
 sets_base read = read >>= λ new. Ok (Base new.0, new.1)
 
@@ -116,7 +116,7 @@ abbrev pub covers : {X : Type 0} → (X → Result (Option Range) Cause) → Res
     → Result (RangeListEntry × ℕ) Cause
 covers judge read = read >>= λ operands. judge operands.0 >>= λ range. Ok (Covers range, operands.1)
 
--- the entry of a kind, by the operands at a place; base is the base in force
+-- The entry of a kind, with its operands at an offset. `base` is the current base.
 unfoldable pub entry_at : Sections → Bases → Option ℕ → RangeListKind → List ℕ → ℕ
     → Result (RangeListEntry × ℕ) Cause
 entry_at sections bases base BaseAddressx lists at = sets_base (index_at sections bases lists at)
@@ -132,8 +132,8 @@ entry_at sections bases base StartEnd lists at =
 entry_at sections bases base StartLength lists at =
     covers covered_from (start_and_length address_at lists at)
 
--- the entry at a place, behind so many in its list,
--- of which there may be as many as there is room for
+-- The entry at an offset. `count` is the number of entries before it in the list, and `room` is
+-- the maximum number of entries.
 abbrev pub listed_behind : ℕ → Sections → Bases → ℕ → Option ℕ → List ℕ → ℕ
     → Result (Next RangeListEntry) Cause
 listed_behind room sections bases count base lists at = do
@@ -147,42 +147,42 @@ listed_behind room sections bases count base lists at = do
       Ok (Item entry.0 entry.1))
   ]
 
--- the same, behind the entries before it
+-- The same entry, given the entries before it.
 abbrev pub listed_at : ℕ → Sections → Bases → List ℕ → List RangeListEntry → ℕ
     → Result (Next RangeListEntry) Cause
 listed_at room sections bases lists before at =
     listed_behind room sections bases (length before) (base_after bases.low_pc before) lists at
 
--- the ranges of a scope, and how many items they were read from
+-- The ranges of a scope, and the number of items that they were read from.
 pub record Covering : Type 0 where
   pub ranges : List Range
   pub items : ℕ
 
--- where the list of an attribute stands: at the item of an index, or at its offset
+-- The offset of the list that an attribute refers to: an item of the table, or the value itself.
 abbrev pub list_place : Sections → Bases → AttributeValue → Result ℕ Cause
 list_place sections bases value = if value.form == DW_FORM_RNGLISTX then (do
   offset ← item_at RngLists sections.debug_rnglists bases.rnglists value.number
   table ← ok_or bases.rnglists causes.Base
   Ok (table.base + offset)) else Ok value.number
 
--- what the range list at a place covers
+-- The ranges of the range list at an offset.
 unfoldable pub list_at : ℕ → Sections → Bases → ℕ → Result Covering Cause
 list_at room sections bases place = do
   all ← untold (items_from (length sections.debug_rnglists)
       (listed_at room sections bases sections.debug_rnglists) [] place)
   Ok (record { ranges = flat_map ranges_in all.0; items = length all.0 })
 
--- what the range list of an attribute covers
+-- The ranges of the range list that an attribute refers to.
 abbrev pub list_of : ℕ → Sections → Bases → AttributeValue → Result Covering Cause
 list_of room sections bases value = list_place sections bases value >>= list_at room sections bases
 
--- the end of a pair: an address, or a count from the start
+-- The end of a high_pc: an address, or a length added to the start.
 abbrev pub high_of : Sections → Bases → ℕ → AttributeValue → Result ℕ Cause
 high_of sections bases low high =
     if is_among address_forms high.form then address_of sections bases.addr high
     else Ok (low + high.number)
 
--- the range of a pair of low_pc and high_pc
+-- The range of a low_pc and a high_pc.
 abbrev pub pair_range : Sections → Bases → AttributeValue → AttributeValue
     → Result (Option Range) Cause
 pair_range sections bases low high = do
@@ -190,14 +190,14 @@ pair_range sections bases low high = do
   end ← high_of sections bases start high
   covered_from (start, end)
 
--- what it covers, where there is room for one more item
+-- The same range, if the budget has at least one item.
 abbrev pub pair_at : ℕ → Sections → Bases → AttributeValue → AttributeValue → Result Covering Cause
 pair_at room sections bases low high = do
   _ ← refuse_if (room == 0) causes.TooMany
   range ← pair_range sections bases low high
   Ok (record { ranges = option_to_list range; items = 1 })
 
--- what an entry covers, by its low_pc, high_pc and ranges
+-- The ranges of an entry, given its low_pc, high_pc and ranges.
 abbrev pub covers_by : ℕ → Sections → Bases → Option AttributeValue → Option AttributeValue
     → Option AttributeValue → Result Covering Cause
 covers_by room sections bases None None (Some ranges) = list_of room sections bases ranges

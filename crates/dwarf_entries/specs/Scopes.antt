@@ -1,5 +1,5 @@
--- The subprograms and inlined subroutines of all units (DWARF 5, 3.3),
--- and the faults of .debug_info.
+-- The subprograms and inlined subroutines of all units (DWARF 5, 3.3), and the faults of
+-- .debug_info.
 use Rattle.std.specs.Prelude.{ℕ, ◌+◌, ◌-◌, List, [], ◌∷◌, length, Option, Some, None, Result}
 use Rattle.std.specs.Prelude.{Ok, option_map, option_and_then, map}
 use Rattle.std.specs.Prelude.{flat_map, count_by, sum_by, slice_get, zip, take, drop}
@@ -31,7 +31,7 @@ use Rattle.dwarf_entries.specs.Bases.{CompilationUnit, unit_of}
 use Rattle.dwarf_entries.specs.Names.{Member, names_of}
 use Rattle.dwarf_entries.specs.Ranges.{covers_of}
 
--- what is told of a scope; end is the number of the first later scope that is not below it
+-- The data of a scope. `end` is the number of the first later scope that is not below it.
 pub record Scope : Type 0 where
   pub kind : ScopeKind
   pub offset : ℕ
@@ -44,12 +44,12 @@ pub record Scope : Type 0 where
   pub call_file : Option ℕ
   pub call_line : Option ℕ
 
--- a text by its section and its offset there
+-- A string, given its section and its offset there.
 abbrev pub text_by : Option Section → ℕ → Option TextOffset
 text_by section offset = option_map (λ name. record { section = name; offset = offset }) section
 
--- the file and the line of a call, by which of them there are; where one has more than 32 bits,
--- both stand at a place of a list
+-- The file and line of a call site, given the numbers that it has. If one of them has more than 32
+-- bits, both are at an index of a list.
 abbrev pub call_site : List CallSite → Calls → ℕ → ℕ → CallSite
 call_site wide calls.Missing file line = record { file = None; line = None }
 call_site wide calls.File file line = record { file = Some file; line = None }
@@ -58,11 +58,11 @@ call_site wide calls.Both file line = record { file = Some file; line = Some lin
 call_site wide calls.Wide file line =
     unwrap_or (slice_get wide file) (record { file = None; line = None })
 
--- the stmt_list of the root of a number
+-- The stmt_list of the root at an index.
 abbrev pub root_stmt_list : List Root → ℕ → Option ℕ
 root_stmt_list roots number = option_and_then (λ r. r.stmt_list) (slice_get roots number)
 
--- a scope of the program, by what it covers and by where it was called
+-- A scope of the program, given its ranges and its call site.
 abbrev pub scope_by_parts : List Root → CallSite → List Range → Kept → Scope
 scope_by_parts roots site ranges s = record {
   kind = s.kind;
@@ -77,12 +77,12 @@ scope_by_parts roots site ranges s = record {
   call_line = site.line;
 }
 
--- .. by the lists that scopes share
+-- The same scope, given the lists that scopes share.
 abbrev pub scope_of : List Root → List CallSite → List Range → Kept → Scope
 scope_of roots wide ranges s =
     scope_by_parts roots (call_site wide s.calls s.call_file s.call_line) ranges s
 
--- the scopes of the program, whose ranges stand one behind another in a list, from a place on
+-- The scopes of the program. Their ranges are consecutive in a list, from an index on.
 abbrev pub scopes_from : List Root → List CallSite → List Range → ℕ → List Kept → List Scope
 scopes_from roots wide ranges first [] = []
 scopes_from roots wide ranges first (s ∷ ss) =
@@ -92,7 +92,7 @@ scopes_from roots wide ranges first (s ∷ ss) =
 abbrev pub scopes_of : List Root → ScopeLists → List Scope
 scopes_of roots lists = scopes_from roots lists.wide.items lists.ranges.items 0 lists.scopes.items
 
--- what a scope tells by itself
+-- The data that a scope contains itself.
 pub record Own : Type 0 where
   pub kind : ScopeKind
   pub offset : ℕ
@@ -114,7 +114,7 @@ own s = record {
 abbrev pub own_of : Kept → Own
 own_of s = own (scope_of [] [] [] s)
 
--- what is told of the scope of a number by way of the scopes that it is of
+-- The data of the scope at an index that is accessed through the list of scopes.
 abbrev pub ranges_at : List Scope → ℕ → List Range
 ranges_at scopes number = option_map_or (λ s. s.ranges) (slice_get scopes number) []
 
@@ -131,13 +131,13 @@ pub record Tree : Type 0 where
   pub roots : List Root
   pub scopes : List Scope
 
--- a scope before its names and ranges: its entry, its kind, and how many scopes are below it
+-- A scope without its names and ranges: its entry, its kind, and the number of scopes below it.
 pub record ScopeSite : Type 0 where
   pub member : Member
   pub kind : ScopeKind
   pub inside : ℕ
 
--- an entry in front of the places behind it, if it is a scope
+-- Prepends an entry if it is a scope.
 abbrev pub site_of : CompilationUnit → Die → List Die → Option ScopeKind → List ScopeSite
     → List ScopeSite
 site_of unit die rest None places = places
@@ -148,26 +148,26 @@ site_of unit die rest (Some kind) places =
       inside = count_by is_scope (below die rest);
     } ∷ places
 
--- the scopes among the entries of a unit
+-- The scopes among the entries of a unit.
 abbrev pub sites_in : CompilationUnit → List Die → List ScopeSite
 sites_in unit [] = []
 sites_in unit (die ∷ rest) = site_of unit die rest (kind_of die.tag) (sites_in unit rest)
 
--- the stmt_list of a unit, which is its root's
+-- The stmt_list of a unit, which is that of its root.
 abbrev pub stmt_list_of : List Die → Option ℕ
 stmt_list_of [] = None
 stmt_list_of (root ∷ dies) = number_of DW_AT_STMT_LIST root
 
--- the range items that may be read for a module
+-- The maximum number of range items that are read for a module.
 abbrev pub items_limit : ℕ
 items_limit = 4194304
 
--- a scope, and how many range items it was read from
+-- A scope, and the number of range items that it was read from.
 pub record Judged : Type 0 where
   pub scope : Scope
   pub items : ℕ
 
--- the scope at a place, behind the scopes before it: its names, then its ranges
+-- The scope of a site, given the scopes before it: its names, then its ranges.
 abbrev pub scope_by : Result EntryNames Cause → Sections → List Judged → ScopeSite
     → Result Judged Cause
 scope_by found sections before p = do
@@ -194,7 +194,7 @@ abbrev pub scope_at : Sections → List CompilationUnit → List Judged → Scop
     → Result Judged Cause
 scope_at sections units before p = scope_by (names_of sections units p.member) sections before p
 
--- the root of a unit in front of the roots behind it, if the unit has one
+-- Prepends the root of a unit, if the unit has one.
 abbrev pub root_of : ℕ → ℕ → List Die → List Root → List Root
 root_of first past [] roots = roots
 root_of first past (root ∷ dies) roots =
@@ -205,14 +205,14 @@ root_of first past (root ∷ dies) roots =
       past = past;
     } ∷ roots
 
--- the roots of the units, where so many scopes stand before them
+-- The roots of the units. The first scope of the first unit has this number.
 abbrev pub roots_from : ℕ → List CompilationUnit → List Root
 roots_from number [] = []
 roots_from number (unit ∷ units) =
     let past = number + count_by is_scope unit.dies in
     root_of number past unit.dies (roots_from past units)
 
--- Pass by pass over all units: headers, tables, entries, roots, scopes.
+-- The passes over all units: headers, tables, entries, roots, scopes.
 unfoldable pub tree_of : Sections → Result Tree LoadFault
 tree_of s = do
   headers ← in_section names.DebugInfo (units_of s.debug_info)

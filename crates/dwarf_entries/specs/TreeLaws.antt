@@ -1,4 +1,4 @@
--- What is true of the answer to a whole object.
+-- Theorems about the result for a whole object.
 use Rattle.std.specs.Prelude.{◌≡◌, ◌≢◌, ℕ, ◌+◌, ◌<◌, ◌≤◌, ◌^◌, List, [], ◌∷◌, length}
 use Rattle.std.specs.Prelude.{take, drop, Some, Result, Ok, All, slice_get, zip}
 use Rattle.std.specs.List.Sorted.{IsStrictlyIncreasing}
@@ -20,29 +20,29 @@ use Rattle.dwarf_entries.specs.Bases.{CompilationUnit, unit_of}
 use Rattle.dwarf_entries.specs.Scopes.{Scope}
 use Rattle.dwarf_walk.specs.ScopeEntries.{kind_of}
 
--- Offsets rise strictly, and stand before an end.
+-- Offsets are strictly increasing and less than an end.
 abbrev pub RiseBelow : ℕ → List ℕ → Type 0
 RiseBelow end offsets = IsStrictlyIncreasing offsets × All (λ offset. offset < end) offsets
 
--- A range has addresses in it, which have 64 bits.
+-- A range is nonempty, and its addresses have 64 bits.
 abbrev pub HoldsAddresses : Range → Type 0
 HoldsAddresses range = (range.from < range.to) × (range.to < 2 ^ 64)
 
--- The numbers from one up to an end are parted among roots, in order: those of each begin where
--- those of the one before it end.
+-- The roots partition the numbers up to an end, in order. The numbers of each root start where the
+-- numbers of the previous root end.
 abbrev pub ArePartsFrom : ℕ → ℕ → List Root → Type 0
 ArePartsFrom number end [] = number ≡ end
 ArePartsFrom number end (root ∷ roots) =
     (root.first ≡ number) × (number ≤ root.past) × ArePartsFrom root.past end roots
 
--- A scope is of the unit of a root: its line program is the root's, it ends within the root's
--- scopes, and stands at the root or behind it.
+-- A scope belongs to the unit of a root: it has the root's line program, it ends within the root's
+-- scopes, and its offset is not less than the root's.
 pub record IsOfUnit (root : Root) (scope : Scope) : Type 0 where
   pub stmt_list_is : scope.stmt_list ≡ root.stmt_list
   pub ends : scope.«end» ≤ root.past
   pub stands : root.offset ≤ scope.offset
 
--- The units with their entries and tables, of which the scopes are told.
+-- The units with their entries and tables, which the scopes are read from.
 unfoldable pub units_read : Sections → Result (List CompilationUnit) LoadFault
 units_read s = do
   headers ← in_section names.DebugInfo (units_of s.debug_info)
@@ -51,7 +51,7 @@ units_read s = do
       (each (λ _ p. entries_of s.debug_info p.0 p.1) (zip headers tables))
   in_section names.DebugInfo (each (λ _ p. unit_of s p.0 p.1) (zip headers dies))
 
--- A scope is the entry at a place among those of the unit of a number.
+-- A scope is the entry at an index of the unit at an index.
 pub record IsEntry (units : List CompilationUnit) (unit place : ℕ) (scope : Scope) : Type 0 where
   pub of : CompilationUnit
   pub of_is : slice_get units unit ≡ Some of
@@ -60,7 +60,7 @@ pub record IsEntry (units : List CompilationUnit) (unit place : ℕ) (scope : Sc
   pub offset_is : scope.offset ≡ die.offset
   pub kind_is : kind_of die.tag ≡ Some scope.kind
 
--- the bytes of a section; the file's own tables are none of these
+-- The bytes of a section. The headers and tables of the ELF file are not a section here.
 abbrev pub section_bytes : Sections → Section → List ℕ
 section_bytes s names.Elf = []
 section_bytes s names.DebugInfo = s.debug_info
@@ -72,7 +72,7 @@ section_bytes s names.DebugStrOffsets = s.debug_str_offsets
 section_bytes s names.DebugAddr = s.debug_addr
 section_bytes s names.DebugRnglists = s.debug_rnglists
 
--- A text stands at an offset, up to the first NUL from there on.
+-- A NUL-terminated string is at an offset. It ends before the first NUL from there on.
 abbrev pub IsTextAt : List ℕ → ℕ → Type 0
 IsTextAt bytes offset =
     (len : ℕ) × (slice_get bytes (offset + len) ≡ Some 0)
@@ -81,15 +81,14 @@ IsTextAt bytes offset =
 abbrev pub IsTextOf : Sections → TextOffset → Type 0
 IsTextOf s text = IsTextAt (section_bytes s text.section) text.offset
 
--- Units stand end to end in .debug_info, from a place up to its end, each as its header tells.
+-- Units are contiguous in .debug_info, from an offset up to its end, as their headers describe.
 abbrev pub StandEndToEnd : List ℕ → ℕ → List UnitHeader → Type 0
 StandEndToEnd info at [] = at ≡ length info
 StandEndToEnd info at (header ∷ headers) =
     (unit_at info at ≡ Ok header) × (header.start ≡ at) × (at < header.end)
     × StandEndToEnd info header.end headers
 
--- What stands in a unit, its entries and nulls,
--- stands end to end from its first entry up to its end.
+-- The entries and null entries of a unit are contiguous, from its first entry up to its end.
 abbrev pub FillsUnit : List ℕ → UnitHeader → List Declaration → List Standing → Type 0
 FillsUnit info header table all =
     Lists (node_at header.format table (take header.end info)) [] header.first all header.end

@@ -1,5 +1,5 @@
-//! What a unit's root tells of the whole unit (DWARF 5, 3.1.1), and the items of its tables (7.26
-//! to 7.28).
+//! The bases that the root of a unit defines for the whole unit (DWARF 5, 3.1.1), and lookups in
+//! its tables (7.26 to 7.28).
 
 ghost use Rattle.std.specs.Prelude.{◌≡◌, ◌+◌, ◌*◌};
 ghost use Rattle.dwarf_bytes.specs.Position.{Reads};
@@ -11,7 +11,7 @@ use dwarf_bytes::{Cause, Cursor, Format, ReadFault, TableHead, TableKind};
 use dwarf_units::AttributeValue;
 use dwarf_walk::Sections;
 
-/// A table of a unit: its base, what its header says, and the unit's format.
+/// A table of a unit: its base, its header, and the format of the unit.
 #[derive(Clone, Copy)]
 pub(crate) struct Table {
     pub(crate) base: u64,
@@ -19,7 +19,7 @@ pub(crate) struct Table {
     pub(crate) format: Format,
 }
 
-/// The tables of a unit and its low_pc, each where its root has it.
+/// The tables and the low_pc of a unit. Each is `None` if the root lacks the attribute.
 #[derive(Clone, Copy)]
 pub(crate) struct Bases {
     pub(crate) str_offsets: Option<Table>,
@@ -28,7 +28,7 @@ pub(crate) struct Bases {
     pub(crate) low_pc: Option<u64>,
 }
 
-/// The bytes of an item of a table.
+/// Returns the size in bytes of an item of a table.
 fn item_len(kind: TableKind, format: Format) -> u64
     ensures { result ≡ item_len kind format }
 {
@@ -38,7 +38,7 @@ fn item_len(kind: TableKind, format: Format) -> u64
     }
 }
 
-/// The item of a table at the cursor.
+/// Reads the item of a table at the cursor.
 fn item(kind: TableKind, format: Format, cursor: &mut Cursor) -> Result<u64, ReadFault>
     ensures { Reads (λ x. x) result (item_in kind format) cursor.old cursor.new }
 {
@@ -48,7 +48,8 @@ fn item(kind: TableKind, format: Format, cursor: &mut Cursor) -> Result<u64, Rea
     }
 }
 
-/// The item at an index of a table, counted from its base.
+/// Returns the item at an index of a table. The index counts from the base of the table. Fails if
+/// the unit has no such table, if the index is out of range, or if the item is truncated.
 pub(crate) fn item_at(
     kind: TableKind,
     section: &[u8],
@@ -71,7 +72,8 @@ pub(crate) fn item_at(
     Ok(item(kind, table.format, &mut cursor)?)
 }
 
-/// The address that a value of class address is.
+/// Resolves a value of class address. A value of form addr is the address. All other forms are
+/// indexes into `.debug_addr`.
 pub(crate) fn address_of(
     sections: &Sections<'_>,
     addr: Option<Table>,

@@ -1,4 +1,4 @@
-//! The file and the line of a call, in few bytes (DWARF 5, 3.3.8.1).
+//! Compact storage of the file and line of a call (DWARF 5, 3.3.8.1).
 
 ghost use Rattle.std.specs.Prelude.{◌≡◌, ◌<◌, ◌++◌, ◌^◌, ℕ, List, length, IfOk, IfSome};
 ghost use Rattle.std.specs.Prelude.{IsSome, SomeIff};
@@ -9,15 +9,15 @@ ghost use Rattle.dwarf_entries.specs.Private.Shared.{IsHeldIn, IsNarrow};
 use dwarf_walk::narrow;
 use std::alloc::AllocError;
 
-/// The file and the line that a subroutine was called from, by the numbers that its entry gives.
+/// The file and line numbers of a call site, as the entry encodes them.
 #[derive(Clone, Copy, Debug)]
 pub(crate) struct CallSite {
     pub(crate) file: Option<u64>,
     pub(crate) line: Option<u64>,
 }
 
-/// Which numbers of a call there are. Where one of them has more than 32 bits,
-/// both stand in a list.
+/// The numbers that a call site has. A call site with a number of more than 32 bits is `Wide` and
+/// is stored in a separate list.
 #[derive(Clone, Copy, Debug)]
 pub(crate) enum Calls {
     Missing,
@@ -28,7 +28,7 @@ pub(crate) enum Calls {
 }
 
 impl CallSite {
-    /// The call that was packed as a file and a line, by the list of the wide ones.
+    /// Decodes a packed call site. `wide` is the list of the call sites that need 64 bits.
     pub(crate) fn unpack(calls: Calls, file: u32, line: u32, wide: &[CallSite]) -> CallSite
         ensures { result ≡ call_site wide.now calls file line }
     {
@@ -46,8 +46,9 @@ impl CallSite {
         CallSite { file, line }
     }
 
-    /// Which numbers there are, the file and the line. A call with a number of more than 32 bits
-    /// goes to the end of the list of the wide ones, and its place there is told as the file.
+    /// Packs a call site as the numbers that it has, the file and the line. A call site with a
+    /// number of more than 32 bits is appended to `wide`, and its index there is returned as the
+    /// file.
     pub(crate) fn pack(self, wide: &mut Vec<CallSite>) -> Result<(Calls, u32, u32), AllocError>
         ensures told { IfOk result (λ parts. call_site wide.new.items parts.0 parts.1 parts.2
             ≡ self) }
@@ -65,7 +66,7 @@ impl CallSite {
         Ok((Calls::Wide, place, 0))
     }
 
-    /// .. of a call without a number of more than 32 bits.
+    /// Packs a call site, or returns `None` if one of its numbers has more than 32 bits.
     fn narrow_parts(self) -> Option<(Calls, u32, u32)>
         ensures told { IfSome result (λ parts. (wide : List Site)
             → call_site wide parts.0 parts.1 parts.2 ≡ self) }
@@ -83,7 +84,7 @@ impl CallSite {
     }
 }
 
-/// A number of no more than 32 bits.
+/// Converts a number to 32 bits, or returns `None` if it has more.
 pub(crate) fn narrow_number(number: u64) -> Option<u32>
     ensures { SomeIff result (number < 2 ^ 32) number }
 {

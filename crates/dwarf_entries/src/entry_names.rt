@@ -1,4 +1,4 @@
-//! The names of an entry, of which those to which references led before are known.
+//! The names of entries, with a cache for the targets of references.
 
 ghost use Rattle.std.specs.Prelude.{◌≡◌, List, None, Some, IfSome, map, slice_get};
 ghost use Rattle.dwarf_bytes.specs.Refusals.{Gives};
@@ -21,9 +21,9 @@ use dwarf_units::AttributeValue;
 use dwarf_walk::{EntryReader, NamedEntry};
 
 impl<'a> Units<'a> {
-    /// The names of an entry of a unit: of each attribute the first on the path from the entry to
-    /// its next one, and so on. The path of an entry without names of its own is followed once for
-    /// all entries that have the same next one, as far as it is known.
+    /// Returns the names of an entry of a unit. Each name is the first one on the origin chain of
+    /// the entry. If the entry has no name of its own, the names of its target are cached, so that
+    /// the chain is followed once for many references to the same target.
     pub(crate) fn names(
         self,
         reader: &mut EntryReader<'_>,
@@ -54,8 +54,8 @@ impl<'a> Units<'a> {
         path_names(self, reader, start, HOPS_LIMIT)
     }
 
-    /// The names to which a reference in a unit leads. What is known is told before a mark is
-    /// looked at: an entry stands where names are known.
+    /// Returns the names of the target of a reference in a unit. A cached result is returned
+    /// without a look at the bitmap, because only offsets of entries are cached.
     fn names_behind(
         self,
         reader: &mut EntryReader<'_>,
@@ -95,7 +95,7 @@ impl<'a> Units<'a> {
     }
 }
 
-/// The reference to the next entry, if all names of an entry are those to which it leads.
+/// Returns the reference to the next entry if an entry has no name of its own.
 fn reference_to_names(entry: &NamedEntry) -> Option<AttributeValue>
     ensures some { IfSome result (λ reference. (entry.now.next ≡ Some reference)
         × (entry.now.name ≡ None) × (entry.now.linkage_name ≡ None)) }

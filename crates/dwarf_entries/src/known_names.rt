@@ -1,5 +1,5 @@
-//! The names to which references led, so that the path behind an entry is followed once for many
-//! references to it.
+//! A cache of the names of reference targets. The origin chain after an entry is followed once for
+//! many references to the entry.
 
 ghost use Rattle.std.specs.Prelude.{◌≡◌, ◌==◌, ◌&&◌, ℕ, ◌<◌, length, None, Some, true, false};
 ghost use Rattle.std.specs.Prelude.{IfSome, OnOk, OnErr, MatchOption, if◌then◌else◌};
@@ -14,10 +14,10 @@ use crate::text_offset::{text_by, text_parts};
 use dwarf_bytes::Section;
 use std::alloc::{AllocError, Global};
 
-/// How many places the names are known of, at most.
+/// The maximum number of cached targets.
 const SLOTS: usize = 4096;
 
-/// Where an entry stands, and the names to which a reference to it leads, in few bytes.
+/// The offset and unit of a target and its names, stored in 32-bit numbers.
 #[derive(Clone, Copy)]
 pub(crate) struct LedNames {
     unit: u32,
@@ -29,7 +29,7 @@ pub(crate) struct LedNames {
 }
 
 impl LedNames {
-    /// If no number has more than 32 bits.
+    /// Packs a target and its names, or returns `None` if a number has more than 32 bits.
     fn of(place: UnitPlace, names: EntryNames) -> Option<LedNames>
         ensures { MatchOption result (are_narrow place names ≡ false)
             (λ led. (are_narrow place names ≡ true)
@@ -59,8 +59,8 @@ impl LedNames {
     }
 }
 
-/// The names to which references led, each at a slot by the place of its entry. What is put at a
-/// slot replaces what was there.
+/// The cached names of reference targets. The slot of a target is its offset modulo the number of
+/// slots. A new entry replaces the old entry of its slot.
 #[derive(Drop)]
 pub(crate) struct KnownNames {
     slots: Vec<Option<LedNames>>,
@@ -75,7 +75,7 @@ impl KnownNames {
         }
     }
 
-    /// The names to which a reference to the entry at a place leads, if they are known.
+    /// Returns the names of the target at a place, if they are cached.
     pub(crate) fn get(&self, place: UnitPlace) -> Option<EntryNames>
         ensures some { IfSome result (λ names. slot_at self.now (slot_of place)
             ≡ Some (record { place = place; names = names })) }
@@ -89,8 +89,7 @@ impl KnownNames {
         None
     }
 
-    /// Holds the names to which a reference to the entry at a place leads, if no number has more
-    /// than 32 bits.
+    /// Caches the names of the target at a place. Has no effect if a number has more than 32 bits.
     pub(crate) fn put(&mut self, place: UnitPlace, names: EntryNames) -> Result<(), AllocError>
         ensures ok { OnOk result ((slot : ℕ) → slot_at self.new slot
             ≡ if (slot == slot_of place) && are_narrow place names
@@ -106,7 +105,7 @@ impl KnownNames {
         Ok(())
     }
 
-    /// Puts empty slots behind the others, until there is one of this number.
+    /// Appends empty slots until the slot with this index exists.
     fn reach(&mut self, slot: usize) -> Result<(), AllocError>
         ensures there { OnOk result (slot < length self.new.slots.items) }
         ensures same { (at : ℕ) → slot_at self.new at ≡ slot_at self.old at }

@@ -1,4 +1,4 @@
-//! What is true of all units and their entries.
+//! Theorems about all units and their entries.
 
 ghost use Rattle.std.specs.Prelude.{◌≡◌, ◌<◌, ◌+◌, ◌↔◌, ℕ, List, [], ◌∷◌, ◌++◌, Option};
 ghost use Rattle.std.specs.Prelude.{Some, Ok, true, map, take, drop, count_by, slice_get};
@@ -20,9 +20,9 @@ pub use crate::tree_laws::{
 };
 pub use dwarf_units::laws::{entries_stand_at_counted_depths, offsets_of_entries_rise};
 
-/// Of two scopes among the entries of a unit, one is below the other exactly where its number
-/// stands between the other's number and end. A scope's number is how many scopes stand before it,
-/// and its end is the number behind the scopes that are below it.
+/// One scope of a unit is below another if and only if its number is greater than the other's
+/// number and less than the other's end. The number of a scope is the number of scopes before it.
+/// Its end is the number after the last scope below it.
 pub fn scopes_below_are_between()
     ensures { (dies : List Die) (i j : ℕ) (outer inner : Die)
         → slice_get dies i ≡ Some outer → slice_get dies j ≡ Some inner
@@ -32,8 +32,8 @@ pub fn scopes_below_are_between()
         IsBelow dies j i ↔ ((number i < number j) × (number j < end)) }
 {}
 
-/// The base in force behind entries of a range list is that of the last one that sets a base, or
-/// else the one before the list, which is the unit's low_pc.
+/// The current base after some entries of a range list is the one set by the last base entry. If
+/// no entry sets a base, it is the initial base, which is the low_pc of the unit.
 pub fn base_is_of_last_base_entry()
     ensures last { (low_pc : Option ℕ) (before : List RangeListEntry) (base : ℕ)
         (ranges : List (Option Range))
@@ -42,14 +42,14 @@ pub fn base_is_of_last_base_entry()
         → base_after low_pc (map (λ range. Covers range) ranges) ≡ low_pc }
 {}
 
-/// The scopes of an object have their places as numbers, end within their list, and none ends
-/// inside another one that began before it.
+/// The number of each scope of an object is its index, and its end is within the list. A scope
+/// that starts inside another one also ends inside it.
 pub fn scopes_stand_in_order()
     ensures { (s : Sections) (tree : Tree) → tree_of s ≡ Ok tree → AreInOrder tree.scopes }
 {}
 
-/// Of scopes that stand in order, the one that the program has at a place tells all of the one that
-/// stands there.
+/// If scopes are in order, the scope that the program stores at an index returns all data of the
+/// scope at that index.
 pub fn scopes_tell_of_their_places()
     ensures { (scopes : List Scope) (kept : List Kept) (place : ℕ) (k : Kept)
         → AreInOrder scopes → map own_of kept ≡ map own scopes → slice_get kept place ≡ Some k

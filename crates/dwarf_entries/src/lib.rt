@@ -1,4 +1,4 @@
-//! Roots, scopes, ranges and names of `.debug_info`: DWARF 5, chapters 2, 3 and 7.5.
+//! Roots, scopes, ranges and names of `.debug_info` (DWARF 5, chapters 2, 3 and 7.5).
 #![tactic(auto)]
 
 mod bases;

@@ -1,4 +1,4 @@
-//! The texts of names (DWARF 5, 2.15 and 7.5.5).
+//! The strings of names (DWARF 5, 2.15 and 7.5.5).
 
 ghost use Rattle.std.specs.Prelude.{◌≡◌};
 ghost use Rattle.dwarf_entries.specs.Names.{text_in, text_of};
@@ -13,7 +13,8 @@ use dwarf_bytes::{Cause, Section, TableKind};
 use dwarf_units::AttributeValue;
 use dwarf_walk::Sections;
 
-/// The text that a value is, by the table of string offsets of the unit in which it stands.
+/// Returns the string that a value refers to. `str_offsets` is the string offsets table of the
+/// unit that contains the value.
 #[inline(always)]
 pub(crate) fn text_of(
     sections: &Sections<'_>,
@@ -41,7 +42,7 @@ pub(crate) fn text_of(
     }
 }
 
-/// The text at an offset of a section.
+/// Returns the string at an offset of a section. Fails if no NUL follows.
 #[inline(always)]
 fn text_in(name: Section, section: &TextSection<'_>, offset: u64) -> Result<TextOffset, Cause>
     ensures { result ≡ text_in name section.now offset }

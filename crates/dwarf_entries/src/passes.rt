@@ -1,4 +1,4 @@
-//! The passes over all units: their entries, and what their roots tell.
+//! The passes over all units: their entries, and the bases that their roots define.
 
 ghost use Rattle.std.specs.Prelude.{◌≡◌, List, Ok, OnOk, map};
 ghost use Rattle.dwarf_bytes.specs.declared.fault.Section.TheVariants as names;
@@ -21,7 +21,7 @@ use dwarf_units::{Tables, UnitHeader};
 use dwarf_walk::{Marks, Sections, UnitEntries, entries};
 use std::alloc::Global;
 
-/// The entries of all units, whose tables are good. Each entry is marked.
+/// Parses the entries of all units, whose tables are valid. Sets the bit of each entry in `marks`.
 pub(crate) fn all_entries(
     alloc: Global,
     sections: &Sections<'_>,
@@ -50,7 +50,7 @@ pub(crate) fn all_entries(
     Ok(units)
 }
 
-/// What the roots of all units tell.
+/// Returns the bases that the roots of all units define.
 pub(crate) fn all_bases(
     alloc: Global,
     sections: &Sections<'_>,
@@ -68,7 +68,7 @@ pub(crate) fn all_bases(
     Ok(all)
 }
 
-/// What the root of a unit tells; a unit without entries has no bases.
+/// Returns the bases that the root of a unit defines. A unit without entries has no bases.
 fn unit_bases(sections: &Sections<'_>, unit: &UnitEntries) -> Result<Bases, LoadFault>
     ensures { Decodes (λ bases. bases) result (in_section names.DebugInfo (bases_in
         (sections_of sections.now) unit.now.header.format unit.now.root)) }

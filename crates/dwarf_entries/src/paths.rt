@@ -1,4 +1,4 @@
-//! The names of an entry by way of its references (DWARF 5, 2.13, 2.15 and 3.3.8).
+//! The names of an entry, found through its references (DWARF 5, 2.13, 2.15 and 3.3.8).
 
 ghost use Rattle.std.specs.Prelude.{◌≡◌, ◌++◌, ◌∷◌, [], List, map, option_map};
 ghost use Rattle.std.specs.Option.{option_or};
@@ -24,24 +24,24 @@ use dwarf_bytes::Cause;
 use dwarf_units::AttributeValue;
 use dwarf_walk::{EntryReader, Marks, NamedEntry, Sections, UnitEntries};
 
-/// The hops that a path may have.
+/// The maximum number of references followed in an origin chain.
 pub(crate) const HOPS_LIMIT: u32 = 16;
 
-/// An entry, with the number of its unit.
+/// An entry, with the index of its unit.
 #[derive(Clone, Copy)]
 pub(crate) struct UnitEntry {
     pub(crate) unit: usize,
     pub(crate) entry: NamedEntry,
 }
 
-/// The value of an attribute, with the number of the unit in which it stands.
+/// The value of an attribute, with the index of the unit that contains it.
 #[derive(Clone, Copy)]
 pub(crate) struct UnitAttribute {
     pub(crate) unit: usize,
     pub(crate) value: AttributeValue,
 }
 
-/// The first name and the first linkage_name on a path.
+/// The first name and the first linkage_name of an origin chain.
 #[derive(Clone, Copy)]
 pub(crate) struct FirstNames {
     pub(crate) name: Option<UnitAttribute>,
@@ -49,7 +49,7 @@ pub(crate) struct FirstNames {
 }
 
 impl FirstNames {
-    /// Those on the path with one more entry behind it.
+    /// Returns the first names of the chain after one more entry is appended to it.
     fn or(self, last: UnitEntry) -> FirstNames
         ensures { (us : List CompilationUnit) (path : List Member) (m : Member)
             → AreFirst us self path → IsMember us last.unit last.entry m
@@ -69,9 +69,9 @@ pub(crate) struct EntryNames {
     pub(crate) linkage_name: Option<TextOffset>,
 }
 
-/// The names of an entry of a unit: of each attribute the first on the path from the entry to its
-/// next one, and so on, in at most so many hops. The path is followed to its end before a name is
-/// judged.
+/// Returns the names of an entry of a unit. Each name is the first one on the origin chain of the
+/// entry, which may follow at most `hops` references. The chain is followed to its end before the
+/// names are validated.
 #[inline(always)]
 pub(crate) fn path_names(
     of: Units<'_>,
@@ -94,7 +94,7 @@ pub(crate) fn path_names(
     Ok(EntryNames { name, linkage_name })
 }
 
-/// The text of an attribute, if there is one.
+/// Returns the string of an attribute, if there is one.
 #[inline(always)]
 fn text(
     sections: &Sections<'_>,
@@ -113,7 +113,8 @@ fn text(
     Ok(Some(text_of(sections, texts, str_offsets, found.value)?))
 }
 
-/// The first names on the path of an entry, in at most so many hops.
+/// Returns the first names of the origin chain of an entry, which may follow at most `hops`
+/// references.
 #[inline(always)]
 fn first_names(
     units: &[UnitEntries],
@@ -147,7 +148,7 @@ fn first_names(
     Ok(firsts)
 }
 
-/// The entry at a place, read again.
+/// Re-reads the entry at a place.
 #[inline(always)]
 pub(crate) fn entry_again(
     units: &[UnitEntries],
@@ -170,7 +171,7 @@ pub(crate) fn entry_again(
     })
 }
 
-/// The attribute that is known, or else its value in a unit.
+/// Returns the attribute that was found before, or else its value in this unit.
 fn first(
     known: Option<UnitAttribute>,
     unit: usize,

@@ -1,4 +1,4 @@
-//! The entries of range lists (DWARF 5, 2.17.3 and 7.25).
+//! Entries of range lists (DWARF 5, 2.17.3 and 7.25).
 
 ghost use Rattle.std.specs.Prelude.{◌≡◌, ◌<◌, IsSome, IfOk};
 ghost use Rattle.dwarf_bytes.specs.Refusals.{ReadsField, ReadsNext};
@@ -12,10 +12,10 @@ use dwarf_bytes::constants::*;
 use dwarf_bytes::{Cause, Cursor, TableKind};
 use dwarf_walk::Sections;
 
-/// The start of dropped code, which no code has.
+/// The tombstone: the start address of discarded code (2^64-1). No code has this address.
 const DROPPED: u64 = u64::MAX;
 
-/// The kinds of range list entries, but the end of a list.
+/// The kinds of range list entries, except the end of a list.
 #[derive(Clone, Copy)]
 pub(crate) enum RangeListKind {
     BaseAddressx,
@@ -28,7 +28,7 @@ pub(crate) enum RangeListKind {
 }
 
 impl RangeListKind {
-    /// The kind of a number; none for the end of a list.
+    /// Returns the kind of a code, or `None` for the end of a list. Fails if the code is unknown.
     fn of(number: u8) -> Result<Option<RangeListKind>, Cause>
         ensures { result ≡ kind_of number }
     {
@@ -46,14 +46,15 @@ impl RangeListKind {
     }
 }
 
-/// An entry of a range list: the base that it sets, or the addresses that it covers, if any.
+/// An entry of a range list: the base that it sets, or the range that it covers, if any.
 #[derive(Clone, Copy)]
 pub(crate) enum RangeListEntry {
     Base(u64),
     Covers(Option<Range>),
 }
 
-/// The range from a start up to an end; one with equal ends covers nothing.
+/// Returns the range from `start` up to `end` (exclusive), or `None` if they are equal. Fails if
+/// the range is backwards or does not fit into 64 bits.
 fn covered(start: u128, end: u128) -> Result<Option<Range>, Cause>
     ensures { result ≡ covered (start, end) }
 {
@@ -69,7 +70,7 @@ fn covered(start: u128, end: u128) -> Result<Option<Range>, Cause>
     Ok(Some(Range { from, to }))
 }
 
-/// The range from a start, which covers nothing where it is that of dropped code.
+/// Returns the range from `start` up to `end`, or `None` if `start` is the tombstone.
 pub(crate) fn covered_from(start: u128, end: u128) -> Result<Option<Range>, Cause>
     ensures { result ≡ covered_from (start, end) }
 {
@@ -79,7 +80,7 @@ pub(crate) fn covered_from(start: u128, end: u128) -> Result<Option<Range>, Caus
     covered(start, end)
 }
 
-/// The range of two offsets from a base, which cover nothing where it is that of dropped code.
+/// Returns the range between two offsets from a base, or `None` if the base is the tombstone.
 fn covered_pair(base: u64, start: u64, end: u64) -> Result<Option<Range>, Cause>
     ensures { result ≡ covered_pair base (start, end) }
 {
@@ -90,7 +91,7 @@ fn covered_pair(base: u64, start: u64, end: u64) -> Result<Option<Range>, Cause>
     covered(base + u128::from(start), base + u128::from(end))
 }
 
-/// The address of an index of `.debug_addr` at the cursor.
+/// Reads an index of `.debug_addr` at the cursor and returns its address.
 fn indexed(sections: &Sections<'_>, bases: &Bases, cursor: &mut Cursor) -> Result<u64, Cause>
     ensures { ReadsField (λ address. address) result (index_at
         (sections_of sections.now) bases.now) cursor.old cursor.new }
@@ -99,7 +100,7 @@ fn indexed(sections: &Sections<'_>, bases: &Bases, cursor: &mut Cursor) -> Resul
     item_at(TableKind::Addr, sections.debug_addr, bases.addr, index)
 }
 
-/// The entry of a kind, by the operands at the cursor. `base` is the base in force.
+/// Reads the operands of an entry at the cursor. `base` is the current base.
 #[tactic(auto, unfolding(crate::specs::Ranges::entry_at))]
 fn entry(
     kind: RangeListKind,
@@ -143,8 +144,8 @@ fn entry(
     Ok(RangeListEntry::Covers(covered_from(start, end)?))
 }
 
-/// The next entry of a list behind `count` of them, or none at the list's end. `room` is how many
-/// entries may be counted, and `base` the base in force.
+/// Reads the entry at the cursor, or returns `None` at the end of the list. `count` is the number
+/// of entries before it, `room` the maximum number of entries, and `base` the current base.
 pub(crate) fn next_entry(
     room: u64,
     count: u64,

@@ -1,4 +1,4 @@
-//! The addresses of a scope (DWARF 5, 2.17 and 7.25).
+//! The address ranges of a scope (DWARF 5, 2.17 and 7.25).
 
 ghost use Rattle.std.specs.Prelude.{◌≡◌};
 ghost use Rattle.dwarf_entries.specs.Ranges.{list_place, list_at, list_of, high_of};
@@ -14,8 +14,9 @@ use dwarf_bytes::{Cause, Cursor, TableKind};
 use dwarf_units::{AttributeValue, is_address};
 use dwarf_walk::{ScopeEntry, Sections};
 
-/// Adds what a scope covers, by its low_pc, high_pc and ranges, to the ranges of all, and tells how
-/// many items it was read from. `room` is how many these may be.
+/// Appends the ranges of a scope, given by its low_pc, high_pc and ranges, to `all`. Returns the
+/// number of range items that were read, which is at most `room`. Fails if the attributes
+/// contradict each other.
 pub(crate) fn covers(
     room: u64,
     sections: &Sections<'_>,
@@ -36,7 +37,7 @@ pub(crate) fn covers(
     }
 }
 
-/// What the range list of an attribute covers.
+/// Appends the ranges of the range list that an attribute refers to.
 #[tactic(auto, using(crate::proofs::RangeTurns::list_outside))]
 fn listed(
     room: u64,
@@ -55,7 +56,7 @@ fn listed(
     list(room, sections, bases, place as u64, all)
 }
 
-/// Where the range list of an attribute stands.
+/// Returns the offset in `.debug_rnglists` of the range list that an attribute refers to.
 fn list_place(sections: &Sections<'_>, bases: &Bases, value: AttributeValue) -> Result<u128, Cause>
     ensures { result ≡ list_place (sections_of sections.now) bases.now value }
 {
@@ -69,8 +70,8 @@ fn list_place(sections: &Sections<'_>, bases: &Bases, value: AttributeValue) -> 
     Ok(u128::from(table.base) + u128::from(offset))
 }
 
-/// What the range list at a place of `.debug_rnglists` covers. `room` is how many of its entries
-/// may be counted.
+/// Appends the ranges of the range list at an offset of `.debug_rnglists`. Reads at most `room`
+/// entries.
 pub(crate) fn list(
     room: u64,
     sections: &Sections<'_>,
@@ -99,7 +100,7 @@ pub(crate) fn list(
     Ok(items)
 }
 
-/// The end of a pair: an address, or a count from the start.
+/// Returns the end address of a high_pc: an address, or a length added to the start.
 fn high(
     sections: &Sections<'_>,
     bases: &Bases,
@@ -114,7 +115,7 @@ fn high(
     Ok(u128::from(low) + u128::from(high_pc.number))
 }
 
-/// The range of a pair of low_pc and high_pc, if it covers anything.
+/// Returns the range of a low_pc and high_pc, or `None` if it is empty.
 pub(crate) fn pair(
     sections: &Sections<'_>,
     bases: &Bases,
@@ -128,7 +129,7 @@ pub(crate) fn pair(
     covered_from(u128::from(start), end)
 }
 
-/// What a pair covers, where there is room for one more item.
+/// Appends the range of a low_pc and high_pc, if the budget has at least one item.
 fn paired(
     room: u64,
     sections: &Sections<'_>,

@@ -1,4 +1,4 @@
-//! Where references lead (DWARF 5, 2.13 and 7.5.5).
+//! Resolution of references to entries (DWARF 5, 2.13 and 7.5.5).
 
 ghost use Rattle.std.specs.Prelude.{◌≡◌, ◌<◌, ◌≤◌, ◌⊎◌, List, Some, IfSome};
 ghost use Rattle.std.specs.Prelude.{MatchOption, length, slice_get};
@@ -12,14 +12,14 @@ use dwarf_bytes::constants::DW_FORM_REF_ADDR;
 use dwarf_units::{AttributeValue, UnitHeader};
 use dwarf_walk::{Marks, UnitEntries};
 
-/// Where an entry stands, with the number of its unit.
+/// The offset of an entry in `.debug_info`, with the index of its unit.
 #[derive(Clone, Copy)]
 pub(crate) struct UnitPlace {
     pub(crate) unit: usize,
     pub(crate) offset: usize,
 }
 
-/// Where the entry stands that a reference in a unit names, if it names one.
+/// Resolves a reference in a unit, or returns `None` if no entry is at its target.
 pub(crate) fn target(
     units: &[UnitEntries],
     marks: &Marks,
@@ -37,9 +37,9 @@ pub(crate) fn target(
     None
 }
 
-/// Where the entry stands that a reference in a unit names, if one stands there: an offset into
-/// `.debug_info`, or one that counts from the first byte of the unit. It is within its unit; no
-/// mark is looked at.
+/// Resolves a reference in a unit without a look at the bitmap of entries. A DW_FORM_ref_addr is
+/// relative to the start of `.debug_info`, and all other forms are relative to the first byte of
+/// the unit. Returns `None` if the target is not within its unit.
 pub(crate) fn place_named(
     units: &[UnitEntries],
     unit: usize,
@@ -59,7 +59,7 @@ pub(crate) fn place_named(
     place_in(units, unit, start as u128 + number)
 }
 
-/// An offset of the section as a place, if it is in the unit of the number.
+/// Returns an offset of the section as a place, if it is in the unit at an index.
 fn place_in(units: &[UnitEntries], unit: usize, offset: u128) -> Option<UnitPlace>
     ensures leads { (us : List CompilationUnit) → AreKept units.now us
         → LeadsTo us result (member_in us unit offset) }
@@ -71,7 +71,7 @@ fn place_in(units: &[UnitEntries], unit: usize, offset: u128) -> Option<UnitPlac
     Some(UnitPlace { unit, offset })
 }
 
-/// An offset as a place, if it is in the unit of the header.
+/// Returns an offset of the section, if it is within the unit of a header.
 fn place_within(header: &UnitHeader, offset: u128) -> Option<usize>
     ensures { MatchOption result ((offset < header.now.start) ⊎ (header.now.«end» ≤ offset))
         (λ place. (place ≡ offset) × (header.now.start ≤ place) × (place < header.now.«end»)) }
@@ -82,7 +82,7 @@ fn place_within(header: &UnitHeader, offset: u128) -> Option<usize>
     Some(offset as usize)
 }
 
-/// How many of the units end before an offset or at it.
+/// Returns the number of units that end at or before an offset.
 fn ends_by(units: &[UnitEntries], offset: u128) -> usize
     ensures within { result ≤ length units.now }
     ensures parts { IsNonDecreasingBy (λ unit. unit.header.end) units.now

@@ -1,4 +1,4 @@
-//! What a unit's root tells of the whole unit (DWARF 5, 3.1.1).
+//! The bases that the root of a unit defines for the whole unit (DWARF 5, 3.1.1).
 
 ghost use Rattle.std.specs.Prelude.{◌≡◌};
 ghost use Rattle.dwarf_entries.specs.Bases.{optional, table_of, address_of, bases_by};
@@ -9,7 +9,8 @@ use dwarf_bytes::{Cause, Format, TableHead, TableKind};
 use dwarf_units::AttributeValue;
 use dwarf_walk::{RootEntry, Sections};
 
-/// What the root of a unit of the format tells, judged in this order.
+/// Reads the bases that the root of a unit defines. The attributes are validated in the order of
+/// the fields of `Bases`.
 pub(crate) fn bases(
     sections: &Sections<'_>,
     format: Format,
@@ -40,7 +41,7 @@ pub(crate) fn bases(
     })
 }
 
-/// The table at the base that an attribute names.
+/// Reads the header of the table at the base that an attribute contains.
 fn table(
     kind: TableKind,
     format: Format,
@@ -59,7 +60,7 @@ fn table(
     }
 }
 
-/// The address of a low_pc.
+/// Returns the address of a low_pc.
 fn low_pc(
     sections: &Sections<'_>,
     addr: Option<Table>,

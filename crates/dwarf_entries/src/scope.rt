@@ -1,4 +1,4 @@
-//! What is told of subprograms and inlined subroutines (DWARF 5, 3.3).
+//! The data of subprograms and inlined subroutines (DWARF 5, 3.3).
 
 ghost use Rattle.std.specs.Prelude.{◌≡◌, IfOk};
 ghost use Rattle.dwarf_entries.specs.Scopes.{own_of, ranges_at, stmt_list_at};
@@ -12,25 +12,26 @@ use dwarf_bytes::Section;
 use dwarf_walk::{ScopeKind, narrow};
 use std::alloc::AllocError;
 
-/// The addresses from one up to another, which is not of them.
+/// An address range from `from` up to `to` (exclusive).
 #[derive(Clone, Copy, Debug, Default, PartialEq, Eq)]
 pub struct Range {
     pub from: u64,
     pub to: u64,
 }
 
-/// A subprogram or an inlined subroutine. Its number is its place among all scopes of the object in
-/// file order; those from the next number up to `end`, which is not of them, are below it. Offsets
-/// count from the start of their section, addresses are link addresses. What stands in lists that
-/// scopes share is told by way of the `Scopes` that it is of.
+/// A subprogram or an inlined subroutine. Its number is its index among all scopes of the object,
+/// in file order. The scopes from the next number up to `end` (exclusive) are below it. Offsets
+/// are relative to the start of their section, and addresses are link-time addresses. Data in
+/// lists that scopes share is accessed through the `Scopes` that contains the scope.
 #[derive(Debug, Drop)]
 pub struct Scope {
     offset: u32,
     number: u32,
     end: u32,
-    /// Where its ranges end in the list of all; they begin where those of the scope before it end.
+    /// The end of its ranges in the list of all ranges. They start where the ranges of the scope
+    /// before it end.
     pub(crate) ranges_end: u32,
-    /// The number of the root of its unit.
+    /// The index of the root of its unit.
     pub(crate) root: u32,
     name_offset: u32,
     linkage_name_offset: u32,
@@ -42,7 +43,8 @@ pub struct Scope {
     kind: ScopeKind,
 }
 
-/// What is told of a scope but its ranges. Its stmt_list is that of a root, by the root's number.
+/// The data of a scope, except its ranges. Its stmt_list is given by the index of the root of its
+/// unit.
 #[derive(Clone, Copy)]
 pub(crate) struct ScopeFacts {
     pub(crate) kind: ScopeKind,
@@ -55,8 +57,8 @@ pub(crate) struct ScopeFacts {
     pub(crate) site: CallSite,
 }
 
-/// The root of a unit, by its offset in `.debug_info`. The scopes of the unit are those from the
-/// number `first` up to `past`, which is not of them.
+/// The root of a unit. `offset` is an offset in `.debug_info`, and `stmt_list` is an offset in
+/// `.debug_line`. The scopes of the unit have the numbers from `first` up to `past` (exclusive).
 #[derive(Clone, Copy, Debug, PartialEq, Eq)]
 pub struct Root {
     pub offset: usize,
@@ -66,9 +68,9 @@ pub struct Root {
 }
 
 impl Scope {
-    /// By what is told of it, and by where its ranges end in the list of all; `wide` are the calls
-    /// with numbers of more than 32 bits.
-    /// Other numbers and places from 2^32 on are told as want of memory.
+    /// Packs a scope. `ranges_end` is the end of its ranges in the list of all ranges, and `wide`
+    /// is the list of call sites that need 64 bits. Any other number of 2^32 or more is reported
+    /// as an allocation failure.
     pub(crate) fn of(
         told: ScopeFacts,
         ranges_end: usize,
@@ -104,7 +106,7 @@ impl Scope {
         self.kind
     }
 
-    /// Where its entry stands in `.debug_info`.
+    /// Returns the offset of the entry in `.debug_info`.
     pub fn offset(&self) -> usize
         ensures { result ≡ (own_of self.now).offset }
     {
@@ -135,14 +137,16 @@ impl Scope {
         text_by(self.linkage_name_section, self.linkage_name_offset)
     }
 
-    /// What it covers, in the scopes that it is of, without the ranges that cover nothing.
+    /// Returns the address ranges that the scope covers, without empty ranges. `of` must be the
+    /// `Scopes` that contains the scope.
     pub fn ranges<'a>(&self, of: &'a Scopes) -> &'a [Range]
         ensures { result.now ≡ ranges_at of.now.scopes (own_of self.now).number }
     {
         of.ranges_of(self.number())
     }
 
-    /// Where the line program of its unit starts in `.debug_line`.
+    /// Returns the offset of the unit's line program in `.debug_line`. `of` must be the `Scopes`
+    /// that contains the scope.
     pub fn stmt_list(&self, of: &Scopes) -> Option<u64>
         ensures { result ≡ stmt_list_at of.now.scopes (own_of self.now).number }
     {

@@ -10,17 +10,18 @@ use crate::calls::CallSite;
 use crate::scope::{Range, Scope, ScopeFacts};
 use std::alloc::{AllocError, Global};
 
-/// The ranges of a scope end where it tells, and begin where those of the scope before it end.
+/// The scopes and their shared lists. A scope stores the end of its ranges. They start where the
+/// ranges of the scope before it end.
 #[derive(Debug, Drop)]
 pub(crate) struct ScopeLists {
     pub(crate) scopes: Vec<Scope>,
     pub(crate) ranges: Vec<Range>,
-    /// The calls with numbers of more than 32 bits.
+    /// The call sites that need 64 bits.
     pub(crate) wide: Vec<CallSite>,
 }
 
 impl ScopeLists {
-    /// With room for so many scopes.
+    /// Creates lists with capacity for a number of scopes.
     pub(crate) fn new(alloc: Global, count: usize) -> Result<ScopeLists, AllocError>
         ensures scopes { IfOk result (λ lists. lists.scopes.items ≡ []) }
         ensures ranges { IfOk result (λ lists. lists.ranges.items ≡ []) }
@@ -34,7 +35,7 @@ impl ScopeLists {
         })
     }
 
-    /// Puts a scope behind the others. Its ranges are those behind theirs.
+    /// Appends a scope. Its ranges are those that were appended since the previous scope.
     pub(crate) fn push(&mut self, facts: ScopeFacts) -> Result<(), AllocError>
         ensures { IfOk result (λ _. IsPushed facts self.old self.new) }
     {
@@ -43,7 +44,7 @@ impl ScopeLists {
         Ok(())
     }
 
-    /// What the scope of a number covers.
+    /// Returns the ranges of the scope at an index.
     pub(crate) fn ranges_of(&self, number: usize) -> &[Range]
         ensures { (roots : List Root)
             → result.now ≡ ranges_at (scopes_of roots self.now) number }
@@ -58,7 +59,7 @@ impl ScopeLists {
     }
 }
 
-/// Where the ranges of the scope of a number begin.
+/// Returns the index of the first range of the scope at an index.
 fn ranges_start(scopes: &[Scope], number: usize) -> usize
     ensures { result ≡ ranges_start 0 scopes.now number }
 {
@@ -71,7 +72,7 @@ fn ranges_start(scopes: &[Scope], number: usize) -> usize
     }
 }
 
-/// Those from one place up to another, as far as they go.
+/// Returns the ranges between two indexes, truncated at the end of the list.
 fn stretch(ranges: &[Range], start: usize, end: usize) -> &[Range]
     ensures { result.now ≡ take (end - start) (drop start ranges.now) }
 {

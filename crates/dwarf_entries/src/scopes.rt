@@ -24,7 +24,7 @@ use dwarf_walk::{EntryReader, Marks, Sections, UnitEntries};
 use std::alloc::{AllocError, Global};
 use std::marker::Model;
 
-/// The roots of the units of an object, and the scopes among its entries, in file order.
+/// The roots of the units of an object and its scopes, in file order.
 #[derive(Debug, Drop)]
 pub struct Scopes {
     roots: Vec<Root>,
@@ -41,8 +41,9 @@ impl Model for Scopes {
 }
 
 impl Scopes {
-    /// Reads units, tables, entries, roots and scopes, each pass over all units before the next.
-    /// A fault is told at its unit, declaration or entry, by an offset from its section's start.
+    /// Parses all units: their headers, abbreviation tables, entries, roots and scopes. Each pass
+    /// covers all units before the next one starts. A fault is reported at its unit, declaration
+    /// or entry, as an offset relative to the start of its section.
     pub fn read(alloc: Global, sections: &Sections<'_>) -> Result<Scopes, LoadFault>
         ensures { Decodes (λ scopes. scopes) result (tree_of (sections_of sections.now)) }
     {
@@ -54,7 +55,7 @@ impl Scopes {
         Scopes::read_with(alloc, sections, &texts, headers.as_slice(), &mut reader)
     }
 
-    /// Reads entries, roots and scopes, where the tables are good.
+    /// Parses entries, roots and scopes. The abbreviation tables must be valid.
     fn read_with(
         alloc: Global,
         sections: &Sections<'_>,
@@ -84,28 +85,28 @@ impl Scopes {
         Ok(Scopes { roots, lists })
     }
 
-    /// The roots of all units that are read and have entries.
+    /// Returns the roots of all units that are read and have entries.
     pub fn roots(&self) -> &[Root]
         ensures { result.now ≡ self.now.roots }
     {
         self.roots.as_slice()
     }
 
-    /// The subprograms and inlined subroutines of all units that are read.
+    /// Returns the subprograms and inlined subroutines of all units that are read.
     pub fn scopes(&self) -> &[Scope]
         ensures { map own_of result.now ≡ map own self.now.scopes }
     {
         self.lists.scopes.as_slice()
     }
 
-    /// What the scope of a number covers.
+    /// Returns the ranges of the scope at an index.
     pub(crate) fn ranges_of(&self, number: usize) -> &[Range]
         ensures { result.now ≡ ranges_at self.now.scopes number }
     {
         self.lists.ranges_of(number)
     }
 
-    /// Where the line program of the unit of the scope of a number starts.
+    /// Returns the offset of the line program of the scope at an index.
     pub(crate) fn stmt_list_of(&self, number: usize) -> Option<u64>
         ensures { result ≡ stmt_list_at self.now.scopes number }
     {
@@ -113,7 +114,7 @@ impl Scopes {
         self.roots.get(scope.root as usize)?.stmt_list
     }
 
-    /// Where the scope of a number was called.
+    /// Returns the call site of the scope at an index.
     pub(crate) fn call_of(&self, number: usize) -> CallSite
         ensures file { result.file ≡ call_file_at self.now.scopes number }
         ensures line { result.line ≡ call_line_at self.now.scopes number }
@@ -129,8 +130,8 @@ impl Scopes {
     }
 }
 
-/// Asks for more memory than there can be where a section has places past 32 bits, since scopes are
-/// kept by places of 32 bits.
+/// Fails with an allocation failure if a section has 2^32 bytes or more, because scopes are stored
+/// with 32-bit offsets. The failure is caused by an allocation that is too large for any machine.
 fn bound_places(alloc: Global, sections: &Sections<'_>) -> Result<(), AllocError> {
     let texts = [
         sections.debug_info,
@@ -144,7 +145,7 @@ fn bound_places(alloc: Global, sections: &Sections<'_>) -> Result<(), AllocError
     Ok(())
 }
 
-/// The roots of the units, each with the numbers of its unit's scopes.
+/// Returns the roots of the units, each with the numbers of its scopes.
 fn roots(alloc: Global, units: &[UnitEntries]) -> Result<Vec<Root>, LoadFault>
     requires { scope_count units.now < 2 ^ 63 }
     ensures { (us : List CompilationUnit)

@@ -1,4 +1,4 @@
-//! Where texts begin (DWARF 5, 7.5.5, class string).
+//! Locations of strings (DWARF 5, 7.5.5, class string).
 
 ghost use Rattle.std.specs.Prelude.{◌≡◌, true, false, MatchOption};
 ghost use Rattle.dwarf_entries.specs.Scopes.{text_by};
@@ -7,15 +7,15 @@ ghost use Rattle.dwarf_entries.specs.Private.Narrow.{has_narrow_offset};
 use crate::calls::narrow_number;
 use dwarf_bytes::Section;
 
-/// Where a text begins: an offset of one of the sections that have texts. The text ends before the
-/// first NUL from there on.
+/// The location of a NUL-terminated string: the section that contains it, and its offset there.
+/// The string ends before the first NUL from this offset on.
 #[derive(Clone, Copy, Debug, PartialEq, Eq)]
 pub struct TextOffset {
     pub section: Section,
     pub offset: usize,
 }
 
-/// A text by the section that it stands in, and its offset there.
+/// Returns the string at an offset of a section, if there is a section.
 pub(crate) fn text_by(section: Option<Section>, offset: u32) -> Option<TextOffset>
     ensures { result ≡ text_by section offset }
 {
@@ -26,8 +26,8 @@ pub(crate) fn text_by(section: Option<Section>, offset: u32) -> Option<TextOffse
     })
 }
 
-/// The section of a text and its offset there, if there is one. An offset of more than 32 bits has
-/// no parts.
+/// Splits the location of a string into a section and a 32-bit offset. Returns `None` if the
+/// offset has more than 32 bits.
 pub(crate) fn text_parts(text: Option<TextOffset>) -> Option<(Option<Section>, u32)>
     ensures { MatchOption result (has_narrow_offset text ≡ false)
         (λ parts. (has_narrow_offset text ≡ true) × (text_by parts.0 parts.1 ≡ text)) }

@@ -1,5 +1,5 @@
-//! The sections that texts stand in (DWARF 5, 7.5.5). Whether a text stands at an offset is told by
-//! the last NUL of its section, so that no byte of the text is read.
+//! The sections that contain strings (DWARF 5, 7.5.5). An offset at or before the last NUL of a
+//! section is the offset of a valid string, so the bytes of the string are not read.
 
 ghost use Rattle.std.specs.Prelude.{◌≡◌};
 ghost use Rattle.dwarf_bytes.specs.Private.SectionNames.{EndsTexts};
@@ -11,11 +11,11 @@ use dwarf_bytes::ReadFault;
 use dwarf_walk::Sections;
 use std::marker::Model;
 
-/// A section that texts stand in.
+/// A section that contains strings.
 #[derive(Drop)]
 pub(crate) struct TextSection<'a> {
     bytes: &'a [u8],
-    /// How many bytes stand up to the last NUL, with it.
+    /// The number of bytes up to and including the last NUL.
     end: usize,
 }
 
@@ -40,7 +40,7 @@ impl<'a> TextSection<'a> {
         }
     }
 
-    /// An offset as a place, if a text stands there.
+    /// Returns an offset if it is the offset of a valid string.
     #[inline(always)]
     pub(crate) fn text_at(&self, offset: u64) -> Result<usize, ReadFault>
         ensures { result ≡ text_place self.now offset }
@@ -52,7 +52,7 @@ impl<'a> TextSection<'a> {
     }
 }
 
-/// How many bytes stand up to the last NUL, with it.
+/// Returns the number of bytes up to and including the last NUL.
 fn texts_end(bytes: &[u8]) -> usize
     ensures { EndsTexts bytes.now result }
 {
@@ -62,7 +62,7 @@ fn texts_end(bytes: &[u8]) -> usize
     }
 }
 
-/// The sections that texts stand in.
+/// The sections that contain strings.
 #[derive(Drop)]
 pub(crate) struct Texts<'a> {
     pub(crate) info: TextSection<'a>,
@@ -71,7 +71,7 @@ pub(crate) struct Texts<'a> {
 }
 
 impl<'a> Texts<'a> {
-    /// Of the sections of an object.
+    /// Finds the last NUL of each string section of an object.
     pub(crate) fn of(sections: &Sections<'a>) -> Texts<'a>
         ensures { AreTexts (sections_of sections.now) result }
     {

@@ -1,4 +1,4 @@
-//! What is true of the answer to a whole object.
+//! Theorems about the result for a whole object.
 
 ghost use Rattle.std.specs.Prelude.{◌≡◌, ◌<◌, ◌≤◌, ◌↔◌, ℕ, List, Some, Ok, true, IfSome};
 ghost use Rattle.std.specs.Prelude.{All, Contains, map, length, slice_get, sum_by};
@@ -16,7 +16,8 @@ ghost use Rattle.dwarf_entries.specs.TreeLaws.{RiseBelow, HoldsAddresses, ArePar
 ghost use Rattle.dwarf_entries.specs.TreeLaws.{units_read, IsEntry, IsTextOf};
 ghost use Rattle.dwarf_entries.specs.TreeLaws.{StandEndToEnd, FillsUnit};
 
-/// The offsets of the scopes rise strictly, and those of the roots, and all stand in `.debug_info`.
+/// The offsets of the scopes are strictly increasing, and so are the offsets of the roots. All are
+/// within `.debug_info`.
 pub fn offsets_rise()
     ensures scopes { (s : Sections) (tree : Tree) → tree_of s ≡ Ok tree
         → RiseBelow (length s.debug_info) (map (λ (scope : Scope). scope.offset) tree.scopes) }
@@ -24,8 +25,8 @@ pub fn offsets_rise()
         → RiseBelow (length s.debug_info) (map (λ (root : Root). root.offset) tree.roots) }
 {}
 
-/// Each range of a scope has addresses in it, and all scopes together have no more ranges than
-/// range items may be read.
+/// Each range of a scope is nonempty. All scopes together have at most as many ranges as the limit
+/// on range items.
 pub fn ranges_are_nonempty()
     ensures ranges { (s : Sections) (tree : Tree) → tree_of s ≡ Ok tree
         → All (λ (scope : Scope). All HoldsAddresses scope.ranges) tree.scopes }
@@ -33,8 +34,8 @@ pub fn ranges_are_nonempty()
         → sum_by (λ (scope : Scope). length scope.ranges) tree.scopes ≤ items_limit }
 {}
 
-/// The roots part the numbers of the scopes, in order and without a gap, and a scope is of the unit
-/// of the root that has its number.
+/// The roots partition the numbers of the scopes, in order and without gaps. A scope belongs to
+/// the unit of the root that contains its number.
 pub fn roots_part_scopes()
     ensures parts { (s : Sections) (tree : Tree) → tree_of s ≡ Ok tree
         → ArePartsFrom 0 (length tree.scopes) tree.roots }
@@ -43,8 +44,8 @@ pub fn roots_part_scopes()
         → root.first ≤ scope.number → scope.number < root.past → IsOfUnit root scope }
 {}
 
-/// The roots and scopes are those of the units that were read: each scope is an entry of a unit,
-/// and each entry of a unit that is a subprogram or an inlined subroutine is a scope.
+/// The roots and scopes belong to the units that were read. Each scope is an entry of a unit, and
+/// each entry of a unit that is a subprogram or an inlined subroutine is a scope.
 pub fn scopes_are_entries()
     ensures units { (s : Sections) (tree : Tree) → tree_of s ≡ Ok tree
         → (units : List CompilationUnit) × (units_read s ≡ Ok units)
@@ -58,8 +59,8 @@ pub fn scopes_are_entries()
         → (scope : Scope) × Contains tree.scopes scope × IsEntry units unit place scope }
 {}
 
-/// One scope is below another, in the same unit, exactly where its number stands between the
-/// other's number and end.
+/// One scope is below another in the same unit if and only if its number is greater than the
+/// other's number and less than the other's end.
 pub fn ends_are_of_what_is_below()
     ensures { (s : Sections) (tree : Tree) (units : List CompilationUnit) (outer inner : Scope)
         (i j p q : ℕ) → tree_of s ≡ Ok tree → units_read s ≡ Ok units
@@ -69,7 +70,7 @@ pub fn ends_are_of_what_is_below()
         ↔ ((outer.number < inner.number) × (inner.number < outer.«end»)) }
 {}
 
-/// The names of a scope are texts of their sections: from where each begins, a NUL follows.
+/// The names of a scope are NUL-terminated strings in their sections.
 pub fn names_are_texts()
     ensures names { (s : Sections) (tree : Tree) → tree_of s ≡ Ok tree
         → All (λ (scope : Scope). IfSome scope.name (IsTextOf s)) tree.scopes }
@@ -77,14 +78,14 @@ pub fn names_are_texts()
         → All (λ (scope : Scope). IfSome scope.linkage_name (IsTextOf s)) tree.scopes }
 {}
 
-/// The units stand end to end in `.debug_info`, each as its header tells.
+/// The units are contiguous in `.debug_info`, as their headers describe.
 pub fn units_are_listed()
     ensures { (info : List ℕ) (headers : List UnitHeader) → headers_of info ≡ Ok headers
         → StandEndToEnd info 0 headers }
 {}
 
-/// What stands in a unit stands end to end from its first entry up to the unit's end, and the
-/// unit's entries are those of it that are no nulls.
+/// The entries and null entries of a unit are contiguous, from its first entry up to the end of
+/// the unit. The entries of the unit are those that are not null.
 pub fn entries_are_listed()
     ensures { (info : List ℕ) (headers : List UnitHeader) (header : UnitHeader)
         (table : List Declaration) (dies : List Die)

@@ -1,4 +1,5 @@
-//! The pass over the scopes of all units (DWARF 5, 3.3): their names, then their ranges.
+//! The pass over the scopes of all units (DWARF 5, 3.3), which resolves their names and then their
+//! ranges.
 
 ghost use Rattle.std.specs.Prelude.{◌≡◌, ◌≤◌, ◌<◌, ◌+◌, ◌^◌, List, Some};
 ghost use Rattle.std.specs.Prelude.{◌-◌, length, min, slice_get, IfOk, OnOk};
@@ -28,10 +29,10 @@ use dwarf_bytes::{Cause, LoadFault, Section};
 use dwarf_walk::{EntryReader, Marks, ScopeEntry, Sections, UnitEntries};
 use std::alloc::Global;
 
-/// The range items that may be read for an object.
+/// The maximum number of range items that are read for an object.
 const ITEMS_LIMIT: u64 = 4_194_304;
 
-/// The units of an object, each with what its root tells, and the marks of their entries.
+/// The units of an object, the bases that their roots define, and the bitmap of their entries.
 #[derive(Clone, Copy)]
 pub(crate) struct Units<'a> {
     pub(crate) sections: &'a Sections<'a>,
@@ -41,8 +42,8 @@ pub(crate) struct Units<'a> {
     pub(crate) bases: &'a [Bases],
 }
 
-/// The numbers of a scope: of its unit, of that unit's root, its own, and how many scopes are below
-/// it.
+/// The indexes of a scope: its unit, the root of that unit, and the scope itself, with the number
+/// of scopes below it.
 #[derive(Clone, Copy)]
 pub(crate) struct ScopeNumbers {
     pub(crate) unit: usize,
@@ -52,8 +53,8 @@ pub(crate) struct ScopeNumbers {
 }
 
 impl<'a> Units<'a> {
-    /// What is told of the scope of an entry, and how many range items it was read from; `room` is
-    /// how many these may be. What it covers is added to the ranges of all.
+    /// Resolves the names and ranges of a scope. Returns its data and the number of range items
+    /// that were read, which is at most `room`. Appends its ranges to `ranges`.
     fn scope(
         self,
         reader: &mut EntryReader<'_>,
@@ -96,8 +97,8 @@ impl<'a> Units<'a> {
         Ok((facts(numbers, entry, names), items))
     }
 
-    /// Puts the scopes of a unit, whose root has the number `root`, behind those before it. Each is
-    /// read again. `left` is how many range items may still be read.
+    /// Appends the scopes of a unit, whose root has the index `root`. Each scope is re-read.
+    /// `left` is the number of range items that may still be read.
     fn unit_scopes(
         self,
         reader: &mut EntryReader<'_>,
@@ -153,7 +154,7 @@ impl<'a> Units<'a> {
         Ok(())
     }
 
-    /// The scopes of all units.
+    /// Resolves the scopes of all units.
     pub(crate) fn scopes(
         self,
         alloc: Global,
@@ -184,7 +185,7 @@ impl<'a> Units<'a> {
     }
 }
 
-/// What is told of the scope of an entry, by its names.
+/// Combines the entry of a scope and its names.
 fn facts(numbers: ScopeNumbers, entry: &ScopeEntry, names: EntryNames) -> ScopeFacts
     requires { numbers.number + numbers.inside + 1 < 2 ^ 64 }
     ensures { result ≡ scope_facts numbers entry.now names }
@@ -204,7 +205,7 @@ fn facts(numbers: ScopeNumbers, entry: &ScopeEntry, names: EntryNames) -> ScopeF
     }
 }
 
-/// How many scopes the units have, as far as the machine counts.
+/// Returns the number of scopes of all units, or `usize::MAX` if it is larger.
 fn scope_count(units: &[UnitEntries]) -> usize
     ensures { result ≡ min (scope_count units.now) (2 ^ 64 - 1) }
 {

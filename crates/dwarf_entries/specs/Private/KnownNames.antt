@@ -1,4 +1,4 @@
--- The names to which references led, for the contracts of the pass over scopes.
+-- The cache of the names of reference targets, for the contracts of the pass over scopes.
 use Rattle.std.specs.Prelude.{◌≡◌, ℕ, ◌%◌, List, Option, Some, None, option_map}
 use Rattle.std.specs.Prelude.{Result, Ok, get_or}
 use Rattle.dwarf_bytes.specs.declared.constants.TheConstants.{DW_AT_LINKAGE_NAME, DW_AT_NAME}
@@ -15,16 +15,16 @@ use Rattle.dwarf_entries.specs.Names.{Member, target_of, path_within, name_on}
 use Rattle.dwarf_entries.specs.Scopes.{text_by}
 use Rattle.dwarf_entries.specs.Private.Members.{member_in}
 
--- the slot of a place
+-- The slot of a place.
 abbrev pub slot_of : UnitPlace → ℕ
 slot_of place = place.offset % 4096
 
--- where an entry stands, and the names to which a reference to it leads
+-- The place of a target, and its names.
 pub record Led : Type 0 where
   pub place : UnitPlace
   pub names : EntryNames
 
--- .. of those in few bytes
+-- The same, from its packed form.
 abbrev pub led_of : LedNames → Led
 led_of led = record {
   place = record { unit = led.unit; offset = led.offset };
@@ -34,11 +34,11 @@ led_of led = record {
   };
 }
 
--- what stands at a slot
+-- The contents of a slot.
 abbrev pub slot_at : KnownNames → ℕ → Option Led
 slot_at known slot = option_map led_of (get_or known.slots.items slot None)
 
--- the names of an entry whose path has at most so many hops
+-- The names of an entry whose origin chain may follow at most `hops` references.
 abbrev pub names_within : ℕ → Sections → List CompilationUnit → Member → Result EntryNames Cause
 names_within hops s units m = do
   path ← path_within hops units m
@@ -46,16 +46,16 @@ names_within hops s units m = do
   linkage_name ← name_on DW_AT_LINKAGE_NAME s path
   Ok (record { name = name; linkage_name = linkage_name })
 
--- the names to which an entry leads that is the second on a path
+-- The names of an entry that is the second one of an origin chain.
 abbrev pub led_names : Sections → List CompilationUnit → Member → Result EntryNames Cause
 led_names = names_within 15
 
--- .. to which a reference in a unit leads
+-- The names of the target of a reference in a unit.
 abbrev pub names_behind : Sections → List CompilationUnit → CompilationUnit → AttributeValue
     → Result EntryNames Cause
 names_behind s units unit reference = target_of units unit reference >>= λ m. led_names s units m
 
--- Where names are known of a place, an entry stands there, and they are those to which it leads.
+-- If names are cached for a place, an entry is at that place, and they are its names.
 abbrev pub AreKnownOf : Sections → List CompilationUnit → KnownNames → Type 0
 AreKnownOf s units known =
     (slot : ℕ) (led : Led) → slot_at known slot ≡ Some led

@@ -1,4 +1,4 @@
--- Entries with their units, as the program keeps them, for the contracts of paths.
+-- Entries with their units, as the program stores them, for the contracts of origin chains.
 use Rattle.std.specs.Prelude.{◌≡◌, ℕ, ◌<◌, ◌≤◌, List, Option, Some, None, Result}
 use Rattle.std.specs.Prelude.{Ok, Err, map, slice_get, option_to_list}
 use Rattle.std.specs.Option.{option_and_then}
@@ -24,27 +24,27 @@ use Rattle.dwarf_entries.specs.Private.Walked.{AreInOrder}
 abbrev pub header_of : CompilationUnit → UnitHeader
 header_of unit = unit.header
 
--- .. by the program
+-- The header of a unit of the program.
 abbrev pub kept_header : UnitEntries → UnitHeader
 kept_header unit = unit.header
 
--- what is kept are these units, which stand in order
+-- The stored units are these units, which are in order.
 pub record AreKept (kept : List UnitEntries) (units : List CompilationUnit) : Type 0 where
   pub same : map kept_header kept ≡ map header_of units
   pub order : AreInOrder 0 units
 
--- the entry, in the unit of the number, is what is kept of the member
+-- The entry, in the unit at an index, is the stored form of the member.
 pub record IsMember (units : List CompilationUnit) (number : ℕ) (entry : NamedEntry) (m : Member)
     : Type 0 where
   pub unit_is : slice_get units number ≡ Some m.unit
   pub entry_is : entry ≡ named_entry m.die
 
--- the entry at an offset of .debug_info, among those of the unit of the number, if there is one
+-- The entry at an offset of .debug_info, if it is in the unit at an index.
 abbrev pub member_in : List CompilationUnit → ℕ → ℕ → Result Member Cause
 member_in units number offset =
     member_at (members_of (option_to_list (slice_get units number))) offset
 
--- the member stands at the place
+-- The member is at the place.
 pub record IsPlaceOf (units : List CompilationUnit) (place : UnitPlace) (m : Member) : Type 0 where
   pub unit_is : slice_get units place.unit ≡ Some m.unit
   pub offset_is : m.die.offset ≡ place.offset
@@ -52,29 +52,31 @@ pub record IsPlaceOf (units : List CompilationUnit) (place : UnitPlace) (m : Mem
   pub there : slice_get m.unit.dies index ≡ Some m.die
   pub found : member_in units place.unit place.offset ≡ Ok m
 
--- the place is within the bounds of its unit
+-- The place is within the bounds of its unit.
 pub record IsWithin (units : List CompilationUnit) (place : UnitPlace) : Type 0 where
   pub of : CompilationUnit
   pub of_is : slice_get units place.unit ≡ Some of
   pub low : of.header.start ≤ place.offset
   pub high : place.offset < of.header.«end»
 
--- the outcome is the entry at the place, if one stands there
+-- The outcome is the entry at the place, if there is one.
 abbrev pub LeadsTo : List CompilationUnit → Option UnitPlace → Result Member Cause → Type 0
 LeadsTo units (Some place) outcome = outcome ≡ member_in units place.unit place.offset
 LeadsTo units None outcome = outcome ≡ Err causes.Reference
 
--- what is read again is what is kept of the member, unless memory ran out
+-- The entry that is re-read is the stored form of the member. The call may also fail because
+-- memory ran out.
 abbrev pub TellsMember : List CompilationUnit → Result UnitEntry Cause → Member → Type 0
 TellsMember units (Ok found) m = IsMember units found.unit found.entry m
 TellsMember units (Err cause) m = cause ≡ causes.Memory
 
--- what is found is the place of the member of the outcome
+-- The result is the place of the member of the outcome.
 abbrev pub Finds : List CompilationUnit → Option UnitPlace → Result Member Cause → Type 0
 Finds units (Some place) outcome = (m : Member) × (outcome ≡ Ok m) × IsPlaceOf units place m
 Finds units None outcome = outcome ≡ Err causes.Reference
 
--- what is kept of the first attribute of a name on a path: its value, in the unit of the number
+-- The stored form of the first attribute with a name on an origin chain: its value, and the index
+-- of its unit.
 abbrev pub IsFirst : List CompilationUnit → Option UnitAttribute
     → Option (CompilationUnit × AttributeValue) → Type 0
 IsFirst units None None = Unit {0}
@@ -88,13 +90,14 @@ pub record AreFirst (units : List CompilationUnit) (kept : FirstNames) (path : L
   pub name : IsFirst units kept.name (first_on DW_AT_NAME path)
   pub linkage_name : IsFirst units kept.linkage_name (first_on DW_AT_LINKAGE_NAME path)
 
--- what is found is of the path of the outcome, unless memory ran out
+-- The result is that of the origin chain of the outcome. The call may also fail because memory ran
+-- out.
 abbrev pub FindsFirst : List CompilationUnit → Result FirstNames Cause
     → Result (List Member) Cause → Type 0
 FindsFirst units (Ok kept) outcome =
     (path : List Member) × (outcome ≡ Ok path) × AreFirst units kept path
 FindsFirst units (Err cause) outcome = Fails cause outcome
 
--- the table of string offsets of the unit of the number
+-- The string offsets table of the unit at an index.
 abbrev pub str_offsets_of : List Bases → ℕ → Option Table
 str_offsets_of bases number = option_and_then (λ b. b.str_offsets) (slice_get bases number)

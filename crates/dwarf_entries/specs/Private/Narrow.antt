@@ -1,4 +1,4 @@
--- Numbers of no more than 32 bits, for the contracts of what is kept in few bytes.
+-- Numbers of at most 32 bits, for the contracts of compact storage.
 use Rattle.std.specs.Prelude.{ℕ, ◌^◌, ◌&&◌, Bool, true, Option, nat_lt}
 use Rattle.std.specs.Option.{option_map_or}
 use Rattle.dwarf_entries.specs.declared.paths.EntryNames.{EntryNames}
@@ -8,11 +8,11 @@ use Rattle.dwarf_entries.specs.declared.text_offset.TextOffset.{TextOffset}
 abbrev pub is_narrow : ℕ → Bool
 is_narrow number = nat_lt number (2 ^ 32)
 
--- .. the offset of a text, if there is one
+-- Whether the offset of a string, if there is one, has at most 32 bits.
 abbrev pub has_narrow_offset : Option TextOffset → Bool
 has_narrow_offset text = option_map_or (λ t. is_narrow t.offset) text true
 
--- .. all numbers of a place and of names
+-- Whether all numbers of a place and of names have at most 32 bits.
 abbrev pub are_narrow : UnitPlace → EntryNames → Bool
 are_narrow place names =
     is_narrow place.unit

@@ -1,4 +1,4 @@
--- What the passes over all units leave, for their contracts.
+-- The results of the passes over all units, for their contracts.
 use Rattle.std.specs.Prelude.{◌≡◌, ◌⊎◌, ◌++◌, ◌+◌, ◌-◌, ℕ, List, ◌∷◌, length, Option, Some}
 use Rattle.std.specs.Prelude.{None, Result, Ok, Err, map, flat_map, slice_get, sum_by, zip}
 use Rattle.dwarf_bytes.specs.declared.fault.Section.TheVariants as names
@@ -29,27 +29,27 @@ use Rattle.dwarf_walk.specs.Private.Kept.{KeptUnit, scope_entry, kept_unit, kept
 use Rattle.dwarf_entries.specs.Private.Walked.{AreInOrder}
 use Rattle.dwarf_entries.specs.Private.Shared.{AreHeld}
 
--- the entries of each unit
+-- The entries of each unit.
 abbrev pub all_entries : List ℕ → List UnitHeader → List (List Declaration)
     → Result (List (List Die)) At
 all_entries info headers tables = each (λ _ p. entries_of info p.0 p.1) (zip headers tables)
 
--- what is kept of each unit
+-- The data that is stored for each unit.
 abbrev pub kept_units : List UnitHeader → List (List Die) → List KeptUnit
 kept_units headers dies = map (λ p. kept_unit p.0 p.1) (zip headers dies)
 
--- .. of all units
+-- The data that is stored for all units.
 abbrev pub all_kept : List ℕ → List UnitHeader → List (List Declaration) → Result (List KeptUnit) At
 all_kept info headers tables =
     all_entries info headers tables >>= λ dies. Ok (kept_units headers dies)
 
--- what a root tells, its fault at its offset
+-- The bases that a root defines. A fault is reported at the offset of the root.
 abbrev pub bases_in : Sections → Format → Option RootEntry → Result Bases At
 bases_in s format None = Ok no_bases
 bases_in s format (Some root) = told_at root.offset
     (bases_by s format root.str_offsets_base root.addr_base root.rnglists_base root.low_pc)
 
--- the units with what their roots tell
+-- The units with the bases that their roots define.
 abbrev pub all_units : Sections → List UnitHeader → List (List Die)
     → Result (List CompilationUnit) At
 all_units s headers dies = each (λ _ p. unit_of s p.0 p.1) (zip headers dies)
@@ -57,29 +57,29 @@ all_units s headers dies = each (λ _ p. unit_of s p.0 p.1) (zip headers dies)
 abbrev pub bases_of : CompilationUnit → Bases
 bases_of unit = unit.bases
 
--- what all roots tell
+-- The bases that all roots define.
 abbrev pub all_bases : Sections → List UnitHeader → List (List Die) → Result (List Bases) At
 all_bases s headers dies = all_units s headers dies >>= λ units. Ok (map bases_of units)
 
--- what is kept of a unit
+-- The data that is stored for a unit.
 abbrev pub kept_unit_of : CompilationUnit → KeptUnit
 kept_unit_of unit = kept_unit unit.header unit.dies
 
--- the units of the program, and what their roots tell, are these, which stand in order
+-- The units of the program and their bases correspond to these units, which are in order.
 pub record AreUnits (units : List UnitEntries) (bases : List Bases) (us : List CompilationUnit)
     : Type 0 where
   pub same : map kept_of units ≡ map kept_unit_of us
   pub order : AreInOrder 0 us
   pub bases_are : bases ≡ map bases_of us
 
--- the number of the root of a unit, which has entries
+-- The index is that of the root of a unit, if the unit has entries.
 abbrev pub IsRootOf : List CompilationUnit → ℕ → CompilationUnit → Type 0
 IsRootOf us root u =
     (die : Die) (rest : List Die) → u.dies ≡ die ∷ rest
     → root_stmt_list (roots_from 0 us) root ≡ stmt_list_of u.dies
 
--- a place is that of a scope of a unit of the program, behind so many scopes with so many range
--- items to come
+-- The site is a scope of a unit of the program, after the scopes in `before`. `room` is the rest
+-- of the budget of range items.
 pub record IsScopeSite (us : List CompilationUnit) (numbers : ScopeNumbers) (entry : ScopeEntry)
     (room : ℕ) (before : List Judged) (p : ScopeSite) : Type 0 where
   pub unit_is : slice_get us numbers.unit ≡ Some p.member.unit
@@ -89,7 +89,7 @@ pub record IsScopeSite (us : List CompilationUnit) (numbers : ScopeNumbers) (ent
   pub number_is : numbers.number ≡ length before
   pub room_is : room ≡ items_limit - sum_by (λ s. s.items) before
 
--- what is told of the scope of an entry, by its names
+-- The data of a scope, given its entry and its names.
 abbrev pub scope_facts : ScopeNumbers → ScopeEntry → EntryNames → ScopeFacts
 scope_facts numbers entry names = record {
   kind = entry.kind;
@@ -102,24 +102,23 @@ scope_facts numbers entry names = record {
   site = record { file = entry.call_file; line = entry.call_line };
 }
 
--- the places of the scopes of all units
+-- The scope sites of all units.
 abbrev pub all_sites : List CompilationUnit → List ScopeSite
 all_sites us = flat_map (λ u. sites_in u u.dies) us
 
--- a scope behind those before it, its fault at its entry
+-- The scope after those before it. A fault is reported at the offset of its entry.
 abbrev pub judge : Sections → List CompilationUnit → List Judged → ScopeSite → Result Judged At
 judge s units before p = told_at p.member.die.offset (scope_at s units before p)
 
--- the scopes of the program, by the roots, and how many range items may still be read,
--- behind the scopes before
+-- The scopes of the program, given the roots, and the remaining budget of range items.
 pub record AreJudged (roots : List Root) (before : List Judged) (lists : ScopeLists) (left : ℕ)
     : Type 0 where
   pub told : scopes_of roots lists ≡ map (λ j. j.scope) before
   pub held : AreHeld (length lists.wide.items) 0 (length lists.ranges.items) lists.scopes.items
   pub counted : left + sum_by (λ s. s.items) before ≡ items_limit
 
--- The scopes at some places were put behind those before; or the fault is theirs,
--- unless memory ran out.
+-- The scopes of some sites are appended to those before, or their fault is reported. The call may
+-- also fail because memory ran out.
 abbrev pub AddsScopes : Result (Unit {0}) LoadFault → Sections → List CompilationUnit
     → List ScopeSite → List Judged → ScopeLists → ℕ → Type 0
 AddsScopes (Ok _) s us places before lists left =
@@ -129,17 +128,17 @@ AddsScopes (Err fault) s us places before lists left =
     (fault ≡ memory_fault)
     ⊎ (in_section names.DebugInfo (each_from (judge s us) before places) ≡ Err fault)
 
--- the scopes of all units
+-- The scopes of all units.
 abbrev pub all_scopes : Sections → List CompilationUnit → Result (List Scope) At
 all_scopes s us = each (judge s us) (all_sites us) >>= λ judged. Ok (map (λ j. j.scope) judged)
 
--- the tables of the units are good
+-- The tables of the units are valid.
 pub record TablesRead (s : Sections) (headers : List UnitHeader) : Type 0 where
   pub tables : List (List Declaration)
   pub units_are : units_of s.debug_info ≡ Ok headers
   pub tables_are : tables_of s.debug_abbrev headers ≡ Ok tables
 
--- the roots and the scopes of the units, from the pass over their entries on
+-- The roots and scopes of the units, given their entries.
 abbrev pub tree_of_units : Sections → List CompilationUnit → Result Tree LoadFault
 tree_of_units s us =
     in_section names.DebugInfo (each (judge s us) (all_sites us))

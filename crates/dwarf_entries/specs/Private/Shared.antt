@@ -1,4 +1,4 @@
--- What scopes share, for the contracts of the pass over scopes.
+-- The lists that scopes share, for the contracts of the pass over scopes.
 use Rattle.std.specs.Prelude.{◌≡◌, ℕ, ◌-◌, ◌≤◌, ◌<◌, List, [], ◌∷◌, ◌++◌, length}
 use Rattle.std.specs.Prelude.{Result, Ok, Err, ◌==◌, if◌then◌else◌, slice_get}
 use Rattle.std.specs.Prelude.{◌^◌, Option, IfSome}
@@ -16,8 +16,8 @@ use Rattle.dwarf_entries.specs.declared.scope_lists.ScopeLists.{ScopeLists}
 use Rattle.dwarf_entries.specs.Ranges.{Covering}
 use Rattle.dwarf_entries.specs.Scopes.{Scope, scope_of, root_stmt_list, Judged}
 
--- What an entry covers was put behind the ranges before,
--- and is told by how many items it was read from.
+-- The ranges of an entry are appended to those before. The result is the number of items that they
+-- were read from.
 abbrev pub AddsRanges : Result ℕ Cause → List Range → List Range → Result Covering Cause
     → Type 0
 AddsRanges (Ok items) old new outcome =
@@ -25,7 +25,7 @@ AddsRanges (Ok items) old new outcome =
     × (new ≡ old ++ found)
 AddsRanges (Err cause) old new outcome = Fails cause outcome
 
--- what is told of a scope before it is packed, by the roots and by what it covers
+-- The data of a scope before it is packed, given the roots and its ranges.
 abbrev pub facts_of : List Root → List Range → ScopeFacts → Scope
 facts_of roots ranges s = record {
   kind = s.kind;
@@ -40,7 +40,7 @@ facts_of roots ranges s = record {
   call_line = s.site.line;
 }
 
--- .. whose ranges were put behind those before
+-- The same, with its ranges appended to those before.
 abbrev pub AddsFacts : List Root → Result (ScopeFacts × ℕ) Cause → List Range → List Range
     → Result Judged Cause → Type 0
 AddsFacts roots (Ok told) old new outcome =
@@ -49,11 +49,11 @@ AddsFacts roots (Ok told) old new outcome =
     × (new ≡ old ++ found)
 AddsFacts roots (Err cause) old new outcome = Fails cause outcome
 
--- A number of a call has no more than 32 bits, if there is one.
+-- A number of a call site has at most 32 bits, if there is one.
 abbrev pub IsNarrow : Option ℕ → Type 0
 IsNarrow number = IfSome number (λ n. n < 2 ^ 32)
 
--- A call that stands in a list of so many has a place in it.
+-- A call site that is stored in a list of a given length has an index within it.
 abbrev pub IsHeldIn : ℕ → Calls → ℕ → Type 0
 IsHeldIn many calls.Missing place = Unit {0}
 IsHeldIn many calls.File place = Unit {0}
@@ -61,22 +61,22 @@ IsHeldIn many calls.Line place = Unit {0}
 IsHeldIn many calls.Both place = Unit {0}
 IsHeldIn many calls.Wide place = place < many
 
--- The ranges of the scopes stand one behind another, from a place to another, and their calls in a
--- list of so many.
+-- The ranges of the scopes are consecutive, from one index to another. The indexes of their call
+-- sites are within a list of a given length.
 abbrev pub AreHeld : ℕ → ℕ → ℕ → List Kept → Type 0
 AreHeld many first past [] = first ≡ past
 AreHeld many first past (s ∷ ss) =
     (first ≤ s.ranges_end) × IsHeldIn many s.calls s.call_file
     × AreHeld many s.ranges_end past ss
 
--- where the ranges of the scope of a number begin
+-- The index of the first range of the scope at an index.
 abbrev pub ranges_start : ℕ → List Kept → ℕ → ℕ
 ranges_start first scopes number =
     if number == 0 then first
     else option_map_or (λ s. s.ranges_end) (slice_get scopes (number - 1)) 0
 
--- A scope that ends the ranges at a place tells the facts, by the roots, by its ranges and by the
--- wide calls, to which its own is added where it is wide.
+-- A packed scope has the data of the facts, given the roots, its ranges and the wide call sites.
+-- Its own call site is appended to them if it is wide.
 pub record Packs (facts : ScopeFacts) (ranges_end : ℕ) (old new : List CallSite) (s : Kept)
     : Type 0 where
   pub more : List CallSite
@@ -88,7 +88,7 @@ pub record Packs (facts : ScopeFacts) (ranges_end : ℕ) (old new : List CallSit
       (roots : List Root) (ranges : List Range)
       → scope_of roots new ranges s ≡ facts_of roots ranges facts
 
--- It was put behind the scopes before.
+-- A scope is appended to the scopes before.
 pub record IsPushed (facts : ScopeFacts) (old new : ScopeLists) : Type 0 where
   pub s : Kept
   pub packs : Packs facts (length old.ranges.items) old.wide.items new.wide.items s

@@ -1,4 +1,4 @@
--- The sections that texts stand in (DWARF 5, 7.5.5), for the contracts of names.
+-- The sections that contain strings (DWARF 5, 7.5.5), for the contracts of names.
 use Rattle.std.specs.Prelude.{◌≡◌, ℕ, List, Result, Ok}
 use Rattle.dwarf_bytes.specs.declared.fault.ReadFault.{ReadFault}
 use Rattle.dwarf_bytes.specs.Bind.{◌>>=◌}
@@ -6,11 +6,11 @@ use Rattle.dwarf_bytes.specs.Numbers.{text_at}
 use Rattle.dwarf_entries.specs.declared.texts.Texts.{Texts}
 use Rattle.dwarf_walk.specs.Sections.{Sections}
 
--- an offset of a section, if a text stands there
+-- An offset of a section, if a string is there.
 abbrev pub text_place : List ℕ → ℕ → Result ℕ ReadFault
 text_place section offset = text_at section offset >>= λ _. Ok offset
 
--- the sections of an object
+-- The string sections of an object.
 pub record AreTexts (s : Sections) (texts : Texts) : Type 0 where
   pub info : texts.info ≡ s.debug_info
   pub str : texts.str ≡ s.debug_str

@@ -8,7 +8,7 @@ use Rattle.dwarf_entries.proofs.ScopesEnds.{place_known, all_there, judged_end, 
 use Rattle.dwarf_entries.proofs.ScopesEnds.{again_fault}
 use Rattle.dwarf_entries.proofs.unit_scopes.Units.unit_scopes.Goals as goal
 
--- the default of a place
+-- A default value for lookups.
 abbrev d : ScopePlace
 d = record { offset = 0; inside = 0 }
 
