@@ -1,4 +1,4 @@
--- The counts of the active set, as ranges begin and end.
+-- The counts of the active set when ranges start and end.
 use Rattle.std.proofs.Common.{◌≡◌, ℕ, ◌+◌, ◌-◌, ◌^◌, ◌<◌, ◌≤◌, List, [], ◌∷◌, length, take, drop}
 use Rattle.std.proofs.Common.{set, get_or, Bool, true, false, ◌&&◌, ◌||◌, refl, ap, sym, ◌∙◌, subst}
 use Rattle.std.proofs.Common.{inl, inr, arith}
@@ -20,7 +20,7 @@ use Rattle.addr_table.proofs.CountLaws.{one_held, held, ends-balance}
 
 -- ---- the active set
 
--- behind all ends up to an address, as many are active as hold it
+-- after all endpoints up to an address, each count is the number of ranges that contain the address
 pub active-held : (reaches : List Reach) (opens closes : List End) (p q a : ℕ) (active : ActiveSet)
     → AreEnds reaches opens closes
     → IsBalanced opens closes p q active
@@ -38,7 +38,7 @@ active-held reaches opens closes p q a active h b ol oh cl ch k =
     ends-balance reaches opens closes k a h in
     omega arith
 
--- what ends has begun
+-- a range that ends has started, so the count of its key is not 0
 pub close-active : (reaches : List Reach) (opens closes : List End) (p q a : ℕ) (active : ActiveSet)
     → AreEnds reaches opens closes
     → IsBalanced opens closes p q active
@@ -65,7 +65,7 @@ one_same a k is = let t : (a == k) ≡ true = grind (arith, nat_tests) in rw t r
 one_other : (a k : ℕ) → (k ≡ a → ⊥) → one_if (a == k) ≡ 0
 one_other a k not_is = let t : (a == k) ≡ false = grind (arith, nat_tests) in rw t refl
 
--- a range begins
+-- the balance after a range starts
 pub balance-open : (opens closes : List End) (p q : ℕ) (old new : ActiveSet) (e : End)
     → IsBalanced opens closes p q old
     → p < length opens → e ≡ get_or opens p e → e.key < length old.counts
@@ -160,7 +160,7 @@ balance-close opens closes p q old new e b lt is within some counts calls = reco
               omega arith
         ]
 
--- a count is no more than the ends that were taken
+-- a count is at most the number of starts that were processed
 pub count-few : (opens closes : List End) (p q : ℕ) (active : ActiveSet) (k : ℕ)
     → IsBalanced opens closes p q active
     → get_or active.counts k 0 ≤ length (take p opens)
@@ -170,7 +170,7 @@ count-few opens closes p q active k b =
     let most : keyed k (take p opens) ≤ length (take p opens) =
     count_by-le-length (λ (e : End). e.key == k) (take p opens) in omega arith
 
--- a key of which a range holds an address
+-- whether a range with a key contains an address
 pub held-any : (k a : ℕ) (reaches : List Reach) → nat_lt 0 (held k a reaches)
     ≡ list_any (λ r. (r.key == k) && holds a r.range) reaches
 held-any k a [] = refl
@@ -194,7 +194,7 @@ active-any reaches opens closes p q a active h b ol oh cl ch k =
     ap (nat_lt 0) (active-held reaches opens closes p q a active h b ol oh cl ch k)
     ∙ held-any k a reaches
 
--- what rises stands above, from the first that does on
+-- in an ascending list, all endpoints are above an address from the first such endpoint on
 pub rest-above : (ends : List End) (p a : ℕ) (d : End) → IsNonDecreasingBy (λ (e : End). e.at) ends
     → (p < length ends → a < (get_or ends p d).at) → Above a (drop p ends)
 rest-above ends p a d rise first k e lt =

@@ -1,4 +1,4 @@
--- How the walk over a chain begins, and whether something of it is left.
+-- The start of a walk over a chain, and whether scopes remain.
 use Rattle.std.proofs.Common.{◌≡◌, ◌∙◌, ℕ, suc, ◌-◌, ◌<◌, ◌≤◌, List, [], ◌∷◌, ◌++◌, length, reverse}
 use Rattle.std.proofs.Common.{get_or, Bool, true, false, ◌&&◌, refl, sym, ap, subst, inl, inr}
 use Rattle.std.proofs.Common.{arith}
@@ -15,7 +15,7 @@ use Rattle.addr_table.specs.Private.Parents.{around, IsParent}
 use Rattle.addr_table.specs.Private.Walks.{HaveParents, chain_around, top_around, begin_of, IsWalk}
 use Rattle.addr_table.proofs.OutwardLaws.{held-none, held-some, number_in}
 
--- ---- whether something is left
+-- ---- whether scopes remain
 
 filled : (s : Scope) (xs : List Scope) → reverse (s ∷ xs) ≡ [] → ⊥
 filled s xs h = full (reverse xs) (sym (reverse-append (s ∷ []) xs) ∙ h)
@@ -39,7 +39,7 @@ left-none scopes nears a near top h none = elim h.ends [
         let held = held-some a (around scopes near) s f in
         absurd (filled s held.0 (ap (reverse {A = Scope}) (sym held.1) ∙ none))
 
--- ---- the beginning
+-- ---- the start
 
 past-end : (m total number : ℕ) (xs : List Scope) → AreNumbered m total xs → total ≤ number
     → enclosing number xs ≡ []
@@ -73,7 +73,7 @@ begin-within count (Some number) = elim (cases_lt number count) [
       rw outside (omega arith))
 ]
 
--- without an outermost scope there is no chain
+-- without an outermost scope the chain is empty
 pub no-chain : (a : ℕ) (scopes : List Scope) (near : ℕ) → top_around a scopes near ≡ None
     → chain_around a scopes near ≡ []
 no-chain a scopes near h = held-none a (around scopes near)
@@ -98,7 +98,7 @@ parent-within scopes nears near e have le some =
     let low : get_or nears (near - 1) 0 ≤ near - 1 = parent.near_is in
     subst (λ (p : ℕ). p ≤ length scopes) (get_or_default nears (near - 1) 0 e within) (omega arith)
 
--- with one there is a chain
+-- with an outermost scope the chain is not empty
 pub some-chain : (a : ℕ) (scopes : List Scope) (near top : ℕ) → top_around a scopes near ≡ Some top
     → (s : Scope) × (inner : List Scope) × (chain_around a scopes near ≡ s ∷ inner)
 some-chain a scopes near top h = by (find (is_at Subprogram a) (around scopes near)) refl h

@@ -1,4 +1,4 @@
--- A walk down the chain, by what is active.
+-- A walk down the chain, using the active set.
 use Rattle.std.proofs.Common.{◌≡◌, ℕ, suc, ◌+◌, ◌<◌, ◌≤◌, List, [], ◌∷◌, length, get_or}
 use Rattle.std.proofs.Common.{ap, sym, ◌∙◌, subst, arith}
 use Rattle.std.specs.Prelude.{Some, None, option_map}
@@ -14,7 +14,7 @@ use Rattle.addr_table.proofs.ChainLaws.{number-at}
 
 -- ---- walking down the chain
 
--- a scope that is nowhere
+-- a placeholder for a scope that does not exist
 abbrev pub no_scope : Scope
 no_scope =
     record {
@@ -30,8 +30,8 @@ no_scope =
       call_line = None;
     }
 
--- The scope of a number is in the chain, and so many calls were made as scopes of the chain were
--- found, but for those to come.
+-- Scope n is in the chain. Each scope of the chain found so far took at most one call. The scopes
+-- below scope n are not counted yet.
 pub record IsWalked (a : ℕ) (scopes : List Scope) (n before now : ℕ) : Type 0 where
   pub last_is : last (chain_of a scopes)
       ≡ last (get_or scopes n no_scope ∷ inside a scopes n no_scope)
@@ -98,7 +98,7 @@ walked-none rows a before now scopes counts numbered h none le =
     let is = chain-none rows a scopes counts no_scope numbered h none in
     (sym (ap (λ (ss : List Scope). option_map (λ s. s.number) (last ss)) is), omega arith)
 
--- ---- the same, as the program has the numbers
+-- ---- the same for the numbers of the program
 
 pub numbered-all : (total : ℕ) (scopes : List Scope) → total ≡ length scopes
     → AreNumbered 0 total scopes
@@ -167,7 +167,7 @@ end-walk rows total a n past before now after scopes counts counts' is numbered 
     (omega arith)
     (subst T is (subst P past_is (subst C same none))) w le
 
--- it is in the list
+-- the end of a scope is within the list
 pub end-within : (total n : ℕ) (scopes : List Scope) → AreNumbered 0 total scopes
     → n < length scopes
     → (n < (get_or scopes n no_scope).«end») × ((get_or scopes n no_scope).«end» ≤ total)

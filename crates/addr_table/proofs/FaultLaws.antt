@@ -1,4 +1,4 @@
--- Well-formed bytes hold no fault.
+-- Well-formed bytes have no fault.
 use Rattle.std.proofs.Common.{◌≡◌, ℕ, List, refl, sym}
 use Rattle.std.specs.Prelude.{None, Result, Ok, Err, IsOk}
 use Rattle.std.proofs.lemmas.Bool.{true≢false}

@@ -1,4 +1,4 @@
--- The first bit that is set, of a word and of words, from a bit on.
+-- The first set bit of a word, or of a list of words, at or after a bit.
 use Rattle.std.proofs.Common.{◌≡◌, ℕ, ◌+◌, ◌-◌, ◌*◌, ◌/◌, ◌%◌, ◌^◌, ◌<◌, ◌≤◌, List, length, get_or}
 use Rattle.std.proofs.Common.{false, refl, ap, sym, ◌∙◌, subst, inl, inr, arith}
 use Rattle.std.specs.Prelude.{nat_eq, Option, Some, None}
@@ -11,9 +11,9 @@ use Rattle.std.proofs.lemmas.Nat.Bits.{bit_at-zero, bit_at-trailing_zeros, same_
 use Rattle.std.proofs.lemmas.Nat.Bits.{bit_at_above}
 use Rattle.addr_table.specs.Private.Bits.{has, is_filled, IsFirstFrom, IsFirstInWord}
 
--- ---- the first bit of a word from a bit on
+-- ---- the first set bit of a word at or after a bit
 
--- what stands of a word from a bit on, by the word moved down
+-- the bits of a word at or after a bit, from the shifted word
 pub none_from : (word from i : ℕ) → word / 2 ^ from ≡ 0 → from ≤ i → bit_at word i ≡ 0
 none_from word from i h le =
     let moved : word / 2 ^ from / 2 ^ (i - from) ≡ word / 2 ^ (from + (i - from)) =
@@ -28,9 +28,9 @@ none_from word from i h le =
 pub moved_bit : (word from i : ℕ) → bit_at (word / 2 ^ from) i ≡ bit_at word (from + i)
 moved_bit word from i = ap (λ n. n % 2) (shr-shr word from i)
 
--- ---- the first bit from a number on
+-- ---- the first set bit at or after an index
 
--- a word that has no bit is 0
+-- a word without set bits is 0
 pub empty_word : (word : ℕ) → word < 2 ^ 64 → ((i : ℕ) → i < 64 → bit_at word i ≡ 0) → word ≡ 0
 empty_word word fits none = same_from_bits_below 64 word 0 fits (omega arith)
     (λ i lt. none i lt ∙ sym (bit_at-zero i))
@@ -38,7 +38,7 @@ empty_word word fits none = same_from_bits_below 64 word 0 fits (omega arith)
 has_none : (x : ℕ) → x ≡ 0 → nat_eq x 1 ≡ false
 has_none x h = grind (arith, nat_tests)
 
--- a word that is 0 has no bit
+-- a word that is 0 has no set bit
 pub not_filled : (words : List ℕ) (k : ℕ) → is_filled words (k / 64) ≡ false → has words k ≡ false
 not_filled words k h =
     let empty : get_or words (k / 64) 0 ≡ 0 = grind (arith, nat_tests) in
@@ -48,7 +48,7 @@ pub past_words : (words : List ℕ) (k : ℕ) → length words ≤ k / 64 → ha
 past_words words k h = has_none _ (ap (λ n. bit_at n (k % 64)) (get_or_past words (k / 64) 0 h)
     ∙ bit_at-zero (k % 64))
 
--- nothing in the word itself, and no later word has a bit
+-- neither the word itself nor a later word has a set bit
 pub climbed_none : (words : List ℕ) (from : ℕ) → IsFirstInWord words from None
     → IsFirstFrom (is_filled words) (from / 64 + 1) None
     → IsFirstFrom (has words) from None
@@ -57,7 +57,7 @@ climbed_none words from here above k le = elim (cases_eq (k / 64) (from / 64)) [
   | inr other ↦ not_filled words k (above (k / 64) (omega arith))
 ]
 
--- .. or the first bit of the first later word that has one
+-- .. or the first set bit is in the first later word that has one
 pub climbed_some : (words : List ℕ) (from w : ℕ) (first : Option ℕ) → IsFirstInWord words from None
     → IsFirstFrom (is_filled words) (from / 64 + 1) (Some w)
     → IsFirstInWord words (w * 64) first
@@ -82,7 +82,7 @@ climbed_some words from w (Some r) here above found empty =
       ],
     )
 
--- ---- the first bit of a word from a bit on
+-- ---- the first set bit of a word at or after a bit
 
 pub first_bit : (word from : ℕ) → word < 2 ^ 64 → from < 64 → (word / 2 ^ from ≡ 0 → ⊥)
     → (from ≤ from + trailing_zeros w64 (word / 2 ^ from))
@@ -111,9 +111,9 @@ first_bit word from fits lt some =
           absurd (omega arith)
     ]
 
--- ---- the first bit from a number on, word by word
+-- ---- the first set bit at or after an index, word by word
 
--- no bit from a number on, up to a word
+-- no bit at or after an index is set, up to a word
 abbrev pub NoneUpTo : List ℕ → ℕ → ℕ → Type 0
 NoneUpTo words from w = (k : ℕ) → from ≤ k → k / 64 < w → has words k ≡ false
 

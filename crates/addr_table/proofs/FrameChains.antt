@@ -1,4 +1,4 @@
--- The frames of an address, by the chain of the scopes that hold it.
+-- The frames of an address, by the chain of the scopes that contain it.
 use Rattle.std.proofs.Common.{◌≡◌, ℕ, ◌<◌, ◌≤◌, List, [], ◌∷◌, length, Bool, true, false, ◌++◌}
 use Rattle.std.proofs.Common.{cond, ◌&&◌, ◌||◌, refl, ap, sym, ◌∙◌, subst, arith}
 use Rattle.std.specs.Prelude.{Some, nat_lt, nat_le, filter}
@@ -13,7 +13,7 @@ use Rattle.addr_table.specs.Places.{last}
 use Rattle.addr_table.proofs.FrameLaws.{AllKept, of-kept, AllEnclose, of-all, Enclosed, empty}
 use Rattle.addr_table.proofs.FrameLaws.{whole, of-encloses}
 
--- ---- the law
+-- ---- the theorem
 
 enclosed-kept : (j : ℕ) (xs : List Scope) → AllEnclose j xs → AllKept (encloses j) xs
 enclosed-kept j [] h = tt
@@ -41,9 +41,8 @@ filtered-enclose j (s ∷ xs) = cases (nat_le s.number j) (nat_lt j s.«end») r
     cases true false l h rest = rest
     cases false high l h rest = rest
 
--- The chain is made of the scopes that enclose its last one: the first subprogram among them that
--- holds the address, and the inlined
--- subroutines inside it that do.
+-- The chain consists of scopes that enclose its last one: the first subprogram among them that
+-- contains the address, and the inlined subroutines inside it that contain the address.
 pub chain-enclosing : (a : ℕ) (scopes : List Scope) (t : Scope) → AreInOrder scopes
     → last (chain_of a scopes) ≡ Some t
     → chain_of a scopes ≡ held_among a (enclosing t.number scopes)
@@ -70,11 +69,11 @@ chain-enclosing a scopes t order is = by
         the_same : {X : Type 0} {x y : X} → Some x ≡ Some y → x ≡ y
         the_same e = cc
 
--- ---- outwards
+-- ---- from the last scope to its parents
 
--- one scope more inside: it is taken where a subprogram before it holds the address and it is an
--- inlined one that does, or where
--- it is the first subprogram that does
+-- One more nested scope is in the chain if it is an inlined subroutine that contains the address
+-- and a subprogram before it contains the address, or if it is the first subprogram that contains
+-- the address.
 pub held-more : (a : ℕ) (xs : List Scope) (s : Scope)
     → held_among a (xs ++ s ∷ []) ≡ cond (list_any (is_at Subprogram a) xs)
     (held_among a xs ++ filter (is_at Inlined a) (s ∷ []))

@@ -1,4 +1,4 @@
--- The frames that are left of a walk over a chain.
+-- The remaining frames of a walk over a chain.
 use Rattle.std.proofs.Common.{◌≡◌, ◌≢◌, ◌∙◌, ℕ, ◌+◌, ◌-◌, ◌<◌, ◌≤◌, List, [], ◌∷◌, length, map}
 use Rattle.std.proofs.Common.{take, drop, reverse, get_or, Bool, false, refl, sym, ap, arith}
 use Rattle.std.specs.Prelude.{Option, Some, None, option_map, is_some, slice_get}
@@ -37,7 +37,7 @@ path-step f parts next p lt is =
     ∙ ap (λ (x : List ℕ). x ∷ drop (next + 1) (map f parts))
     (get_or-map f parts next p (f p) lt ∙ ap f (sym is))
 
--- ---- a text's section, and a file's path
+-- ---- the section of a string, and the path of a file
 
 pub str-section : (bytes : List ℕ) (found : Layout) → found ≡ layout bytes
     → take found.debug_str.len (drop found.debug_str.place bytes) ≡ section bytes names.DebugStr
@@ -85,7 +85,7 @@ path-read bytes lines program file parts texts s is told found =
     (told ∙ ap (λ (z : LineSections). map (part_bytes z) parts) is)
     ∙ sym (ap (option_map (path_bytes (line_sections bytes))) found)
 
--- ---- the beginning
+-- ---- the start
 
 from-chain : (bytes : List ℕ) (lines : Lines) (chain : List Scope) (row : Option ℕ) (s : Scope)
     (inner : List Scope) → chain ≡ s ∷ inner

@@ -1,4 +1,4 @@
--- One step from a scope outwards, and the outermost scope of a chain.
+-- One step from a scope to its parent, and the outermost scope of a chain.
 use Rattle.std.proofs.Common.{◌≡◌, ◌≢◌, ◌∙◌, ℕ, zero, suc, ◌<◌, ◌≤◌, List, [], ◌∷◌, ◌++◌, length}
 use Rattle.std.proofs.Common.{get_or, Bool, true, false, cond, ◌||◌, refl, sym, ap, subst, arith}
 use Rattle.std.proofs.Common.{zero-add}
@@ -14,7 +14,7 @@ use Rattle.addr_table.specs.Private.Walks.{HaveParents, chain_around, top_around
 use Rattle.addr_table.proofs.FrameChains.{held-more, filtered-enclose}
 use Rattle.addr_table.proofs.ParentSearch.{number-there}
 
--- ---- what is found among scopes
+-- ---- searches among scopes
 
 find-none : {X : Type 0} (p : X → Bool) (xs : List X) → find p xs ≡ None → list_any p xs ≡ false
 find-none p [] h = refl
@@ -75,9 +75,9 @@ held-some a (s ∷ xs) t h = cases (is_at Subprogram a s) h (held-some a xs t)
     )
     cases false h rest = rest h
 
--- ---- one step outwards
+-- ---- one step to the parent
 
--- what is around a scope is below its number
+-- the scopes around a number are below it
 around-below : (a p : ℕ) (scopes : List Scope) (t : Scope)
     → find (is_at Subprogram a) (around scopes p) ≡ Some t → t.number < p
 around-below a zero scopes t h = cc
@@ -95,7 +95,7 @@ found_more a xs s = find-append (is_at Subprogram a) xs (s ∷ [])
 abbrev pub number_in : Option Scope → Option ℕ
 number_in = option_map (λ s. s.number)
 
--- the scope of a number is the outermost one
+-- scope k is the outermost scope of the chain
 pub step-top : (a : ℕ) (scopes : List Scope) (nears : List ℕ) (k near : ℕ) (d : Scope)
     → HaveParents scopes nears → k < length scopes
     → near ≡ suc k → top_around a scopes near ≡ Some k
@@ -142,7 +142,7 @@ step-top a scopes nears k near d have lt is top =
         ∙ by (find (is_at Subprogram a) (around scopes (get_or nears k 0))) refl
         (is_at Subprogram a (get_or scopes k d)) refl top_here
 
--- what is known behind a step over a scope that is not the outermost one
+-- the chain after a step from a scope that is not the outermost one
 pub record Outer (a : ℕ) (scopes : List Scope) (k p near top : ℕ) : Type 0 where
   pub top_is : top_around a scopes p ≡ Some top
   pub low : p ≤ k

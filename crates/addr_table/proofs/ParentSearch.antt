@@ -1,4 +1,4 @@
--- The search outwards for the scope around a scope.
+-- The search for the parent of a scope.
 use Rattle.std.proofs.Common.{◌≡◌, ◌∙◌, ℕ, zero, suc, ◌+◌, ◌-◌, ◌<◌, ◌≤◌, List, [], ◌∷◌, ◌++◌}
 use Rattle.std.proofs.Common.{length, get_or, Bool, true, false, cond, ◌&&◌, ◌⊎◌, refl, sym, ap}
 use Rattle.std.proofs.Common.{subst, inl, inr, arith, append-nil, zero-add}
@@ -15,8 +15,8 @@ use Rattle.addr_table.specs.Private.Parents.{around, IsParent, AreParents}
 use Rattle.addr_table.proofs.ParentLaws.{ends_past, later-enclose, is_before, itself-last}
 use Rattle.addr_table.proofs.ParentLaws.{before-around}
 
--- ---- the search outwards: what encloses the scope are those around a number that end behind it,
--- and itself
+-- ---- the state of the search: the scopes that enclose scope i are scope i itself and the scopes
+-- around near that end after it
 
 pub record IsNear (scopes : List Scope) (i near : ℕ) : Type 0 where
   pub within : near ≤ i
@@ -72,7 +72,7 @@ number-there m total (suc k) (s ∷ xs) d h lt =
     let r : (get_or xs k d).number ≡ suc m + k =
     number-there (suc m) total k xs d h.3 (omega arith) in omega arith
 
--- what encloses a scope ends no earlier than it
+-- the scopes that enclose a scope end no earlier than it
 all-past : (m total k i : ℕ) (xs : List Scope) (d : Scope) → AreNumbered m total xs → AreNested xs
     → k < length xs
     → i < (get_or xs k d).«end» → filter (ends_past i) (enclosing (m + k) xs) ≡ enclosing (m + k) xs
@@ -171,9 +171,9 @@ parents-more scopes nears near h one i lt = cases nears i h one lt
           subst Q (sym e) (subst P (sym (at_end near nears)) one))
     ]
 
--- ---- as the program has the ends
+-- ---- the same for the ends of the program
 
--- a candidate before which the search stands
+-- the candidate before near does not enclose scope i, so the search continues with its parent
 pub step-outwards : (scopes : List Scope) (nears : List ℕ) (i near past e : ℕ)
     → AreParents scopes nears → length nears ≡ i
     → i < length scopes → 0 < near → IsNear scopes i near

@@ -1,4 +1,4 @@
--- The ends of ranges as a rising list, and the ranges under keys.
+-- The endpoints of ranges as an ascending list, and the ranges with their keys.
 use Rattle.std.proofs.Common.{◌≡◌, ◌⊎◌, ℕ, ◌<◌, ◌≤◌, List, [], ◌∷◌, ◌++◌, length, map, Bool, true}
 use Rattle.std.proofs.Common.{false}
 use Rattle.std.proofs.Common.{cond, refl, ap, sym, ◌∙◌, inl, inr, arith}
@@ -16,7 +16,7 @@ use Rattle.addr_table.specs.Private.Sweep.{reaches_of}
 use Rattle.addr_table.proofs.Lists.{each_weaker}
 use Rattle.addr_table.proofs.CutLaws.{Rise, RiseFrom, IsAmong, among_above}
 
--- ---- rising numbers above one of them
+-- ---- ascending numbers above one of them
 
 all-above : (c x : ℕ) (xs : List ℕ) → RiseFrom x xs → c ≤ x → filter (λ y. nat_lt c y) xs ≡ xs
 all-above c x [] h le = refl
@@ -25,7 +25,7 @@ all-above c x (y ∷ ys) h le =
     let t : nat_lt c y ≡ true = grind (arith, nat_tests) in
     rw t (ap (λ (zs : List ℕ). y ∷ zs) (all-above c y ys h.1 (omega arith)))
 
--- the numbers above e are f and those above f, where none lies between
+-- if no number is between e and f, the numbers above e are f and the numbers above f
 abbrev pub Gap : ℕ → ℕ → List ℕ → Type 0
 Gap e f ends = AllByRecursion (λ x. (x ≤ e) ⊎ (f ≤ x)) ends
 
@@ -60,7 +60,7 @@ above-next e f (x ∷ xs) h is lt gap = elim gap.0 [
       | inr rest ↦ let far : x < f = among_above x f xs h rest in absurd (omega arith)
     ]
 
--- the first of them
+-- the first number
 pub first-next : (f : ℕ) (ends : List ℕ) → Rise ends → IsAmong f ends
     → AllByRecursion (λ x. f ≤ x) ends
     → ends ≡ f ∷ filter (λ x. nat_lt f x) ends
@@ -80,7 +80,7 @@ none-next e [] h = refl
 none-next e (x ∷ xs) h = let low : x ≤ e = h.0 in let a : nat_lt e x ≡ false =
     grind (arith, nat_tests) in rw a (none-next e xs h.1)
 
--- ---- the ends of ranges
+-- ---- the endpoints of ranges
 
 pub among-put : (x : ℕ) (ys : List ℕ) → IsAmong x (with_end x ys)
 among-put x [] = inl refl
@@ -143,7 +143,7 @@ ends-all P [] h = tt
 ends-all P (r ∷ rs) h = put-each P r.from (with_end r.to (ends_of rs)) h.0.0
     (put-each P r.to (ends_of rs) h.0.1 (ends-all P rs h.1))
 
--- ---- the ranges under keys are the ranges
+-- ---- the ranges with keys are the ranges
 
 pub filtered-ranges : (rs : List Reach)
     → map (λ r. r.range) (filter (λ r. is_nonempty r.range) rs)

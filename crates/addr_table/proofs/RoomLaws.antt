@@ -1,4 +1,4 @@
--- How many ranges there are.
+-- The number of ranges.
 use Rattle.std.proofs.Common.{◌≡◌, ℕ, suc, ◌+◌, ◌<◌, ◌≤◌, List, [], ◌∷◌, length, map, get_or, Bool}
 use Rattle.std.proofs.Common.{true, false, not, ◌&&◌, cond, min, refl, ap, sym, ◌∙◌, arith}
 use Rattle.std.specs.Prelude.{nat_lt}
@@ -31,11 +31,11 @@ cover-counted n row next = by_end row.«end»
     by_end true = refl
     by_end false = by_order (nat_lt row.address next.address)
 
--- how many covers are left from the n-th row on
+-- the number of remaining covers from row n on
 abbrev pub left_from : ℕ → List Row → ℕ
 left_from n rows = length (nonempty (rows_left n rows))
 
--- a row that covers addresses is one of them
+-- a row that covers addresses is one of the remaining covers
 pub covers-left : (n next : ℕ) (rows : List Row) (d e : Row) (b : Bool) → next ≡ suc n
     → next < length rows
     → b ≡ (not (get_or rows n d).«end» && nat_lt (get_or rows n d).address
@@ -54,7 +54,7 @@ covers-left n next rows d e b is lt test =
 pub covers-end : (n : ℕ) (rows : List Row) → length rows ≤ suc n → left_from n rows ≡ 0
 covers-end n rows le = ap (λ (l : List Reach). length (nonempty l)) (rows-end n rows le)
 
--- one more row was looked at
+-- the count after one more row
 pub covers-more : (n next count count' whole : ℕ) (rows : List Row) (d e : Row) (b : Bool)
     → next ≡ suc n → next < length rows
     → b ≡ (not (get_or rows n d).«end» && nat_lt (get_or rows n d).address
@@ -65,7 +65,7 @@ covers-more n next count count' whole rows d e b is lt test more h = let left =
 
 -- ---- ranges of scopes
 
--- a sum that stops at the greatest number, with one more term
+-- one more term of a saturating sum
 pub stopped-more : (sum next got top whole : ℕ) → got ≡ min sum top → whole ≡ sum + next
     → min (got + next) top ≡ min whole top
 stopped-more sum next got top whole is more = omega arith

@@ -26,7 +26,7 @@ never_key : (x y : ℕ) (b : Bool) → (x ≡ y → ⊥) → (x == y) ≡ (b && 
 never_key x y true h = grind (arith, nat_tests)
 never_key x y false h = grind (arith, nat_tests)
 
--- the key of a scope is that of a kind and a number
+-- two scopes have the same key if they have the same kind and number
 scope-key : (rows total n : ℕ) (kind : ScopeKind) (s : Scope) → s.number < total → n < total
     → (key_of rows total s.kind s.number == key_of rows total kind n)
     ≡ ((s.number == n) && is_kind kind s.kind)
@@ -94,7 +94,7 @@ key-above : (rows total n : ℕ) (kind : ScopeKind) → rows ≤ key_of rows tot
 key-above rows total n Subprogram = omega arith
 key-above rows total n Inlined = omega arith
 
--- the scopes that are active
+-- the active scopes
 pub kind-active : (rows : List Row) (scopes : List Scope) (a : ℕ) (counts : List ℕ)
     (kind : ScopeKind)
     → NumbersBelow (length scopes) scopes

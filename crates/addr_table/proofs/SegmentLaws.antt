@@ -1,4 +1,4 @@
--- The segments of bytes: disjoint, few, and equal to the scan.
+-- The segments of bytes: they are disjoint and few, and agree with a linear scan.
 use Rattle.std.proofs.Common.{◌≡◌, ℕ, ◌+◌, ◌*◌, ◌≤◌, List, [], length, refl, arith}
 use Rattle.std.specs.Prelude.{Option, None, Result, Ok, Err, sum_by}
 use Rattle.dwarf_bytes.specs.declared.fault.LoadFault.{LoadFault}

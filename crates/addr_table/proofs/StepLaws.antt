@@ -1,4 +1,4 @@
--- Compares that follow one another, and a number below the power of two of its binary digits.
+-- Sums of comparisons, and the bound of a number by its binary digits.
 use Rattle.std.proofs.Common.{◌≡◌, ◌∙◌, ℕ, zero, suc, ◌+◌, ◌/◌, ◌^◌, ◌<◌, ◌≤◌, Bool, true, false}
 use Rattle.std.proofs.Common.{eqb, refl, ap, add-one, add-zero}
 use Rattle.std.proofs.Common.{add-suc, arith}
@@ -25,7 +25,7 @@ pub below_bits : (n : ℕ) → n < 2 ^ bits n
 unfolding bits
 below_bits n = digits_fit n n (omega arith)
 
--- ---- compares that follow one another
+-- ---- sums of comparisons
 
 pub counted_one : (n : ℕ) (s t u : Steps) → t ≡ counted n s → u ≡ one_more t → u ≡ counted (n + 1) s
 counted_one n s t u p q = rw add-one (q ∙ ap one_more p)

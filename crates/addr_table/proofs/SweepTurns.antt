@@ -1,4 +1,4 @@
--- One turn of the sweep.
+-- One iteration of the sweep.
 use Rattle.std.proofs.Common.{◌≡◌, ℕ, ◌+◌, ◌-◌, ◌^◌, ◌<◌, ◌≤◌, List, ◌++◌, length, take, drop, ap}
 use Rattle.std.proofs.Common.{arith}
 use Rattle.std.specs.Prelude.{Option}
@@ -18,9 +18,9 @@ use Rattle.addr_table.proofs.KeyLaws.{row-first}
 use Rattle.addr_table.proofs.EndLaws.{moves-on}
 use Rattle.addr_table.proofs.SweepLaws.{rows-at, scopes-at, same-balance, sweep-next, sweep-end}
 
--- ---- one turn
+-- ---- one iteration
 
--- Behind an end: what was taken, and the row and the scope that are found there.
+-- After an endpoint: the starts and ends processed, and the row and the scope found there.
 pub record IsPast (rows : List Row) (scopes : List Scope) (opens closes : List End)
     (p q p' q' e : ℕ) (active active' : ActiveSet)
     (row scope : Option ℕ) : Type 0 where
@@ -77,7 +77,7 @@ turn-smaller rows scopes opens closes p q p' q' e active active' out row scope s
     let lo = t.opened_more in
     let lc = t.closed_more in omega arith
 
--- the parts of a turn
+-- the parts of an iteration
 pub turn : (rows : List Row) (scopes : List Scope) (opens closes : List End) (p q p' q' e : ℕ)
     (active0 active1 active2 active3 active4 : ActiveSet) (row scope : Option ℕ) (out : List Cut)
     → AreNumbered 0 (length scopes) scopes → AreEnds (reaches_of rows scopes) opens closes

@@ -1,4 +1,4 @@
--- How many ends of a key lie up to an address.
+-- The number of endpoints with a key up to an address.
 use Rattle.std.proofs.Common.{◌≡◌, ℕ, ◌+◌, ◌<◌, ◌≤◌, List, [], ◌∷◌, map, take, drop, Bool, true}
 use Rattle.std.proofs.Common.{false}
 use Rattle.std.proofs.Common.{cond, ◌&&◌, refl, arith}
@@ -10,7 +10,7 @@ use Rattle.std.proofs.lemmas.List.Sums.{sum_by-cons, sum_by-take-drop}
 use Rattle.addr_table.specs.declared.ends.End.{End}
 use Rattle.addr_table.specs.Private.Sweep.{UpTo, Above, keyed}
 
--- 1 for a test that holds
+-- 1 if a test holds
 abbrev pub one_if : Bool → ℕ
 one_if b = cond b 1 0
 
@@ -52,9 +52,9 @@ sum-mapped f m (x ∷ xs) =
     sum_by-cons (λ x. f (m x)) x xs in
     let c : sum_by f (map m xs) ≡ sum_by (λ x. f (m x)) xs = sum-mapped f m xs in omega arith
 
--- ---- ends up to an address
+-- ---- endpoints up to an address
 
--- 1 for an end of a key, at an address or below it
+-- 1 if an endpoint has a key and is at or below an address
 abbrev pub one_upto : ℕ → ℕ → End → ℕ
 one_upto k a e = one_if ((e.key == k) && nat_le e.at a)
 
@@ -77,7 +77,7 @@ upto_high k a e lt = let not_le : nat_le e.at a ≡ false = grind (arith, nat_te
     both true = refl
     both false = refl
 
--- the ends that were taken are those up to the address
+-- the processed endpoints are among the endpoints up to the address
 pub taken-low : (k a p : ℕ) (ends : List End) → UpTo a (take p ends)
     → keyed k (take p ends) ≤ sum_by (one_upto k a) ends
 taken-low k a p ends h =

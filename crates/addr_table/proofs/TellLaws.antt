@@ -1,4 +1,4 @@
--- What the program's scopes tell, by their numbers.
+-- The data of the program's scopes, by their numbers.
 use Rattle.std.proofs.Common.{◌≡◌, ◌∙◌, ℕ, zero, suc, ◌<◌, List, [], ◌∷◌, length, map, get_or, refl}
 use Rattle.std.proofs.Common.{sym, ap, subst, arith}
 use Rattle.std.specs.Prelude.{Some, slice_get}

@@ -1,4 +1,4 @@
--- The outermost scope of a chain, found by going outwards.
+-- The outermost scope of a chain, found by following parents.
 use Rattle.std.proofs.Common.{◌≡◌, ◌∙◌, ℕ, zero, suc, ◌-◌, ◌<◌, ◌≤◌, List, [], length, get_or, Bool}
 use Rattle.std.proofs.Common.{true, false, cond, refl, sym, ap, subst, arith, zero-add}
 use Rattle.std.specs.Prelude.{Option, Some, None, find}
@@ -12,7 +12,7 @@ use Rattle.addr_table.specs.Private.Walks.{HaveParents, top_around}
 use Rattle.addr_table.proofs.ParentSearch.{number-there}
 use Rattle.addr_table.proofs.OutwardLaws.{found_more, number_in}
 
--- ---- the outermost scope, found by going outwards
+-- ---- the outermost scope, found by following parents
 
 or-none : {X : Type 0} (o : Option X) → option_or o None ≡ o
 or-none None = refl
@@ -27,7 +27,7 @@ number_or : (o p : Option Scope) → number_in (option_or o p) ≡ option_or (nu
 number_or None p = refl
 number_or (Some s) p = refl
 
--- what is known of the outermost scope behind one step outwards
+-- the outermost scope after one step to the parent
 top-split : (a : ℕ) (scopes : List Scope) (nears : List ℕ) (k : ℕ) (d : Scope)
     → HaveParents scopes nears → k < length scopes
     → top_around a scopes (suc k) ≡ option_or (top_around a scopes (get_or nears k 0))
@@ -50,7 +50,7 @@ top-split a scopes nears k d have lt =
     inside true = ap Some there
     inside false = refl
 
--- behind so many steps from a number
+-- after some steps from a number
 abbrev pub IsTop : ℕ → List Scope → ℕ → ℕ → Option ℕ → Type 0
 IsTop a scopes start near found = top_around a scopes start ≡ option_or (top_around a scopes near)
     found

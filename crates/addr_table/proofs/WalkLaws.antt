@@ -1,4 +1,4 @@
--- A walk over the scopes of a chain, from the innermost outwards.
+-- A walk over the scopes of a chain, from the innermost to the outermost.
 use Rattle.std.proofs.Common.{◌≡◌, ◌≢◌, ◌∙◌, ℕ, suc, ◌-◌, ◌<◌, ◌≤◌, List, [], ◌∷◌, ◌++◌, length}
 use Rattle.std.proofs.Common.{reverse, get_or, true, false, nat_eq, refl, sym, ap, subst, inl, inr}
 use Rattle.std.proofs.Common.{arith, append-nil}
@@ -18,7 +18,7 @@ outer-low : (a : ℕ) (scopes : List Scope) (k p near top : ℕ) → Outer a sco
     → k < length scopes → p ≤ length scopes
 outer-low a scopes k p near top h lt = let le : p ≤ k = h.low in omega arith
 
--- a scope that is not of the chain may be passed over
+-- a scope that is not in the chain may be skipped
 pub record Passed (a : ℕ) (scopes : List Scope) (near p top : ℕ) : Type 0 where
   pub within : p ≤ length scopes
   pub chain : chain_around a scopes p ≡ chain_around a scopes near
@@ -71,7 +71,7 @@ pass a scopes nears near top e have le some ends other out = elim ends [
       ends = inr o.top_is;
     }
 
--- one scope is told, and what is around it is left
+-- the next frame is of scope near - 1, and its enclosing scopes remain
 pub record Told (a : ℕ) (scopes : List Scope) (nears : List ℕ) (start near top : ℕ) : Type 0 where
   pub walk : IsWalk scopes nears a (outer_of nears top (near - 1)) top
   pub told : (d : Scope)
@@ -145,7 +145,7 @@ tell a scopes nears start near top have le some chain ends told = by told
     by (outermost is) = last_one top is refl
     by (inlined k is other held) = inner k is other held
 
--- where nothing is told, nothing is left
+-- if no frame is returned, none remains
 pub tell-none : (a : ℕ) (scopes : List Scope) (start near : ℕ) → near ≡ 0
     → chain_around a scopes near ≡ chain_around a scopes start
     → reverse (chain_around a scopes start) ≡ []

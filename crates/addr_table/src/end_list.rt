@@ -1,4 +1,4 @@
-//! Lists of ends, in half the bytes where addresses have 32 bits.
+//! Lists of range endpoints, at half the size for addresses below 2^32.
 
 ghost use Rattle.std.specs.Prelude.{◌≡◌, ◌<◌, ◌^◌, ◌∷◌, [], ◌++◌, length, get_or, IfOk, OnOk};
 ghost use Rattle.std.specs.List.Sorted.{IsPermutation, IsNonDecreasingBy};
@@ -11,7 +11,7 @@ use crate::packed::narrow;
 use std::alloc::{AllocError, Global};
 use std::marker::Model;
 
-/// Ends: first those at addresses below 2^32, as hardly an object has others.
+/// Range endpoints. Addresses below 2^32 come first; few objects have others.
 #[derive(Drop)]
 pub(crate) struct EndList {
     low: Vec<LowEnd>,
@@ -33,7 +33,7 @@ impl Model for EndList {
         × All (λ (h : End). 2 ^ 32 ≤ h.at) e.high.items };
 }
 
-/// The end that is kept in half the bytes.
+/// Expands an endpoint that is stored at half the size.
 fn end_of(low: LowEnd) -> End
     ensures { result ≡ end_of low }
 {
@@ -44,7 +44,7 @@ fn end_of(low: LowEnd) -> End
 }
 
 impl EndList {
-    /// None yet, with room for so many at low addresses.
+    /// Creates an empty list with capacity for `room` endpoints at addresses below 2^32.
     pub(crate) fn new(alloc: Global, room: usize) -> Result<EndList, AllocError>
         ensures { IfOk result (λ list. list ≡ []) }
     {
@@ -54,14 +54,14 @@ impl EndList {
         })
     }
 
-    /// How many there are.
+    /// Returns the number of endpoints.
     pub(crate) fn len(&self) -> usize
         ensures { result ≡ length self.now }
     {
         self.low.len() + self.high.len()
     }
 
-    /// Adds one.
+    /// Appends an endpoint to the list for its address size.
     pub(crate) fn push(&mut self, end: End) -> Result<(), AllocError>
         requires key { end.key < 2 ^ 32 }
         ensures { OnOk result (IsPermutation (self.old ++ end ∷ []) self.new) }
@@ -76,7 +76,7 @@ impl EndList {
         Ok(())
     }
 
-    /// The end at an index.
+    /// Returns the endpoint at an index.
     pub(crate) fn get(&self, index: usize) -> End
         requires within { index < length self.now }
         ensures { (d : Ended) → result ≡ get_or self.now index d }
@@ -87,7 +87,7 @@ impl EndList {
         self.high[index - self.low.len()]
     }
 
-    /// Puts them in the order of addresses.
+    /// Sorts the endpoints by address.
     pub(crate) fn sort(&mut self, alloc: Global) -> Result<(), AllocError>
         ensures permutation { IsPermutation self.old self.new }
         ensures rise { OnOk result (IsNonDecreasingBy (λ (e : Ended). e.at) self.new) }

@@ -1,4 +1,4 @@
-//! Frames: functions, and the places in their code that are told of.
+//! Frames: functions, with a source position in each.
 
 ghost use Rattle.std.specs.Prelude.{◌≡◌, [], ◌∷◌, option_map, MatchOption};
 ghost use Rattle.std.specs.List.{join_with_byte};
@@ -12,11 +12,11 @@ use crate::scopes::count;
 use crate::texts::{FrameSite, Texts};
 use std::marker::Model;
 
-/// A function, and a place in its code. Its texts are bytes of the object.
+/// A function and a position in its source. Its strings are bytes of the object.
 #[derive(Drop)]
 pub struct Frame<'a> {
     texts: Texts<'a>,
-    /// The number of its scope; none where a row alone is known.
+    /// The index of its scope; `None` if the address has only a row.
     scope: Option<usize>,
     site: FrameSite,
 }
@@ -35,28 +35,28 @@ impl<'a> Model for Frame<'a> {
 }
 
 impl<'a> Frame<'a> {
-    /// The name of the function, where it has one.
+    /// Returns the name of the function, if it has one.
     pub fn name(&self) -> Option<&'a [u8]>
         ensures { option_map (λ text. text.now) result ≡ self.now.name }
     {
         self.texts.name(self.scope?)
     }
 
-    /// Its linkage name, where it has one.
+    /// Returns the linkage name of the function, if it has one.
     pub fn linkage(&self) -> Option<&'a [u8]>
         ensures { option_map (λ text. text.now) result ≡ self.now.linkage }
     {
         self.texts.linkage(self.scope?)
     }
 
-    /// The path of the source file, where it is known.
+    /// Returns the path of the source file, if it is known.
     pub fn path(&self) -> Option<Path<'a>>
         ensures { option_map (join_with_byte 47) result ≡ self.now.path }
     {
         self.texts.path(self.site)
     }
 
-    /// The line; 0 where it is unknown.
+    /// Returns the source line; 0 if it is unknown.
     pub fn line(&self) -> u64
         ensures { result ≡ self.now.line }
     {
@@ -64,19 +64,20 @@ impl<'a> Frame<'a> {
     }
 }
 
-/// A walk over the scopes of a chain, from the innermost outwards.
+/// A walk over the scopes of a chain, from the innermost to the outermost.
 #[derive(Drop)]
 pub struct Walk<'a> {
     texts: Texts<'a>,
     parents: &'a [u32],
     link: u64,
-    /// 1 + the number of the scope to go outwards from; 0 where none is left.
+    /// 1 + the index of the scope where the search for the next frame starts; 0 if no scope is
+    /// left.
     near: usize,
-    /// The number of the outermost scope of the chain.
+    /// The index of the outermost scope of the chain.
     top: usize,
-    /// Where the next frame stands.
+    /// The site of the next frame.
     site: FrameSite,
-    /// Whether a row alone is known, and not told yet.
+    /// Whether the address has only a row, whose frame was not returned yet.
     alone: bool,
 }
 
@@ -95,7 +96,7 @@ impl<'a> Model for Walk<'a> {
 }
 
 impl<'a> Walk<'a> {
-    /// From the scope of a place on.
+    /// Starts a walk at the scope of a place.
     fn of(texts: Texts<'a>, parents: &'a [u32], place: Place) -> Walk<'a>
         requires { HaveParents texts.scopes.now.scopes parents.now }
         ensures { result ≡ frames_of texts.entry.bytes.now texts.entry.lines.now
@@ -126,7 +127,7 @@ impl<'a> Walk<'a> {
         }
     }
 
-    /// The next frame outwards.
+    /// Returns the next frame, toward the outermost scope.
     fn next(&mut self) -> Option<Frame<'a>>
         ensures { MatchOption result ((self.old ≡ []) × (self.new ≡ []))
             (λ frame. self.old ≡ frame ∷ self.new) }
@@ -157,7 +158,7 @@ impl<'a> Walk<'a> {
     }
 }
 
-/// What is left of the frames of an address, the innermost first.
+/// The remaining frames of an address, innermost first.
 #[derive(Drop)]
 pub struct Frames<'a> {
     walk: Option<Walk<'a>>,
@@ -174,14 +175,14 @@ impl<'a> Model for Frames<'a> {
 }
 
 impl<'a> Frames<'a> {
-    /// No frame.
+    /// Returns an iterator without frames.
     pub fn none() -> Frames<'a>
         ensures { result ≡ [] }
     {
         Frames { walk: None }
     }
 
-    /// The frames of a place.
+    /// Returns the frames of a place.
     pub(crate) fn of(texts: Texts<'a>, parents: &'a [u32], place: Place) -> Frames<'a>
         requires { HaveParents texts.scopes.now.scopes parents.now }
         ensures { result ≡ frames_of texts.entry.bytes.now texts.entry.lines.now

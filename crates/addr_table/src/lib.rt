@@ -1,4 +1,4 @@
-//! The addresses of one object: the row, the scopes and the frames of each.
+//! Maps the addresses of one object to rows, scopes and frames.
 #![tactic(auto)]
 
 mod active;

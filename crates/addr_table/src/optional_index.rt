@@ -1,11 +1,11 @@
-//! An index that may be missing, in four bytes.
+//! An optional index in four bytes.
 
 ghost use Rattle.std.specs.Prelude.{◌≡◌, ◌<◌, ◌-◌, ◌^◌, IfSome};
 
 use crate::packed::narrow;
 use std::marker::Model;
 
-/// The number that stands for no index.
+/// The number that represents no index.
 const NONE: u32 = u32::MAX;
 
 /// An index below 2^32-1, or none.

@@ -1,4 +1,4 @@
-//! The scopes of a chain, the innermost first.
+//! Walks the scopes of a chain from the innermost to the outermost.
 
 ghost use Rattle.std.specs.Prelude.{◌≡◌, ◌≤◌, ◌<◌, ◌^◌, length, get_or};
 ghost use Rattle.dwarf_entries.specs.Scopes.{Scope as ScopeSeen};
@@ -12,7 +12,7 @@ use crate::scopes::scope_at;
 use crate::steps::Steps;
 use dwarf_entries::{ScopeKind, Scopes};
 
-/// Whether a scope is of a kind and holds a link address.
+/// Returns whether a scope is of a kind and contains a link address.
 fn is_held(kind: ScopeKind, scopes: &Scopes, number: usize, link: u64) -> bool
     requires order { AreInOrder scopes.now.scopes }
     requires within { number < length scopes.now.scopes }
@@ -22,7 +22,7 @@ fn is_held(kind: ScopeKind, scopes: &Scopes, number: usize, link: u64) -> bool
     is_at(kind, scopes, scope, link, &mut Steps::default())
 }
 
-/// The outermost scope of the chain among those that enclose the one before a number.
+/// Returns the outermost scope of the chain among scope `near - 1` and the scopes that enclose it.
 pub(crate) fn top(scopes: &Scopes, parents: &[u32], link: u64, near: usize) -> Option<usize>
     requires have { HaveParents scopes.now.scopes parents.now }
     requires within { near ≤ length scopes.now.scopes }
@@ -40,8 +40,8 @@ pub(crate) fn top(scopes: &Scopes, parents: &[u32], link: u64, near: usize) -> O
     found
 }
 
-/// 1 + the number of the first scope of the chain, from the one before `near` outwards; 0 where
-/// none is left.
+/// Returns 1 + the index of the innermost scope of the chain among scope `near - 1` and the scopes
+/// that enclose it; 0 if there is none.
 pub(crate) fn next_told(
     scopes: &Scopes,
     parents: &[u32],
@@ -72,7 +72,8 @@ pub(crate) fn next_told(
     0
 }
 
-/// 1 + the number of the scope around one that was told; 0 where there is none.
+/// Returns 1 + the index of the parent of scope `number`; 0 if it has none or is the outermost
+/// scope of the chain.
 pub(crate) fn outer(parents: &[u32], top: usize, number: usize) -> usize
     requires { number < length parents.now }
     ensures { result ≡ outer_of parents.now top number }
@@ -84,7 +85,7 @@ pub(crate) fn outer(parents: &[u32], top: usize, number: usize) -> usize
     }
 }
 
-/// 1 + the number of a scope, if it is one of so many; 0 otherwise.
+/// Returns 1 + the index of a scope if it is below `count`; 0 otherwise.
 pub(crate) fn begin(count: usize, scope: Option<usize>) -> usize
     requires { count < 2 ^ 63 }
     ensures { result ≡ begin_of count scope }

@@ -1,11 +1,11 @@
-//! Numbers in 32 bits.
+//! Counts and indexes in 32 bits.
 
 ghost use Rattle.std.specs.Prelude.{◌≡◌, ◌<◌, ◌+◌, ◌^◌, IfOk, OnOk};
 
 use std::alloc::{AllocError, Global};
 
-/// Asks for more memory than there can be where a count has more than 32 bits, since rows, scopes
-/// and ends are numbered and counted in so many.
+/// Returns an allocation failure if `count` does not fit in 32 bits, by requesting more memory than
+/// can exist. Rows, scopes and range endpoints are indexed and counted in 32 bits.
 pub(crate) fn bound_count(alloc: Global, count: usize) -> Result<(), AllocError>
     ensures { OnOk result (count < 2 ^ 32) }
 {
@@ -16,7 +16,7 @@ pub(crate) fn bound_count(alloc: Global, count: usize) -> Result<(), AllocError>
     Err(AllocError)
 }
 
-/// How many keys the ranges of so many rows and scopes have: each row one, each scope two.
+/// Returns the number of keys of the ranges of rows and scopes: one per row and two per scope.
 pub(crate) fn count_keys(alloc: Global, rows: usize, scopes: usize) -> Result<usize, AllocError>
     ensures sum { IfOk result (λ keys. keys ≡ rows + scopes + scopes) }
     ensures few { IfOk result (λ keys. keys < 2 ^ 32) }
@@ -28,7 +28,7 @@ pub(crate) fn count_keys(alloc: Global, rows: usize, scopes: usize) -> Result<us
     Ok(keys)
 }
 
-/// A number in 32 bits.
+/// Converts a number below 2^32 to 32 bits.
 pub(crate) fn narrow(number: usize) -> u32
     requires { number < 2 ^ 32 }
     ensures { result ≡ number }

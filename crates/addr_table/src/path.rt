@@ -8,7 +8,7 @@ use dwarf_bytes::{Section, Text};
 use dwarf_lines::PathParts;
 use std::marker::Model;
 
-/// What is left of the parts of a path, between which slashes stand. Each is bytes of the object.
+/// The remaining parts of a path, which are joined by slashes. Each part is bytes of the object.
 #[derive(Drop)]
 pub struct Path<'a> {
     line: &'a [u8],
@@ -29,7 +29,7 @@ impl<'a> Model for Path<'a> {
 }
 
 impl<'a> Path<'a> {
-    /// The path whose parts stand in `.debug_line`, `.debug_line_str` and `.debug_str`.
+    /// Creates a path with parts in `.debug_line`, `.debug_line_str` and `.debug_str`.
     pub(crate) fn new(
         line: &'a [u8],
         line_str: &'a [u8],
@@ -50,7 +50,7 @@ impl<'a> Path<'a> {
     }
 }
 
-/// The bytes of a part, which stands in one of these sections.
+/// Returns the bytes of a part, which is in one of these sections.
 fn part_in<'a>(line: &'a [u8], line_str: &'a [u8], str: &'a [u8], part: Text) -> &'a [u8]
     ensures { result.now ≡ part_bytes
         (record { line = line.entry.now; line_str = line_str.entry.now; str = str.entry.now })

@@ -1,4 +1,4 @@
-//! How many ranges there are, so that lists of their ends are made with room for all.
+//! Counts ranges, so that lists of their endpoints can be allocated with the full capacity.
 
 ghost use Rattle.std.specs.Prelude.{◌≡◌, ◌+◌, ◌-◌, ◌^◌, length, min, sum_by, not, ◌&&◌, nat_lt};
 ghost use Rattle.dwarf_entries.specs.Order.{AreInOrder};
@@ -8,14 +8,14 @@ use crate::scopes::{count, scope_at};
 use dwarf_entries::Scopes;
 use dwarf_lines::Row;
 
-/// Whether a row covers addresses, given the row that follows it.
+/// Returns whether a row covers addresses, given the row after it.
 fn is_cover(row: &Row, next: &Row) -> bool
     ensures { result ≡ (not row.now.«end» && nat_lt row.now.address next.now.address) }
 {
     !row.end && row.address < next.address
 }
 
-/// How many rows cover addresses.
+/// Returns the number of rows that cover addresses.
 fn count_covers(rows: &[Row]) -> usize
     ensures { result ≡ length (nonempty (row_reaches rows.now)) }
 {
@@ -28,7 +28,7 @@ fn count_covers(rows: &[Row]) -> usize
     covers
 }
 
-/// How many ranges scopes have; the greatest number where there are more.
+/// Returns the number of ranges of all scopes, saturating at `usize::MAX`.
 fn count_ranges(scopes: &Scopes) -> usize
     requires { AreInOrder scopes.now.scopes }
     ensures { result ≡ min (sum_by (λ s. length s.ranges) scopes.now.scopes) (2 ^ 64 - 1) }
@@ -41,7 +41,7 @@ fn count_ranges(scopes: &Scopes) -> usize
     ranges
 }
 
-/// How many ranges rows and scopes have, at the most; the greatest number where there are more.
+/// Returns an upper bound on the number of ranges of rows and scopes, saturating at `usize::MAX`.
 pub(crate) fn room_for_ranges(rows: &[Row], scopes: &Scopes) -> usize
     requires { AreInOrder scopes.now.scopes }
     ensures { result ≡ min (length (nonempty (row_reaches rows.now))

@@ -1,4 +1,4 @@
-//! The scopes of an object by their numbers.
+//! Access to the scopes of an object by index.
 
 ghost use Rattle.std.specs.Prelude.{◌≡◌, ◌<◌, ◌^◌, length, get_or};
 ghost use Rattle.dwarf_entries.specs.Scopes.{Scope as ScopeSeen};
@@ -6,7 +6,7 @@ ghost use Rattle.dwarf_entries.specs.Order.{AreInOrder, TellsOf};
 
 use dwarf_entries::{Scope, Scopes};
 
-/// How many there are.
+/// Returns the number of scopes.
 pub(crate) fn count(scopes: &Scopes) -> usize
     ensures count { result ≡ length scopes.now.scopes }
     ensures few { result < 2 ^ 60 }
@@ -14,7 +14,7 @@ pub(crate) fn count(scopes: &Scopes) -> usize
     scopes.scopes().len()
 }
 
-/// The scope of a number.
+/// Returns the scope at an index.
 pub(crate) fn scope_at(scopes: &Scopes, number: usize) -> &Scope
     requires order { AreInOrder scopes.now.scopes }
     requires within { number < length scopes.now.scopes }
@@ -24,7 +24,7 @@ pub(crate) fn scope_at(scopes: &Scopes, number: usize) -> &Scope
     &scopes.scopes()[number]
 }
 
-/// The number of the first later scope that is not below the one of a number.
+/// Returns the index of the first later scope that is not below the scope at `number`.
 pub(crate) fn end_at(scopes: &Scopes, number: usize) -> usize
     requires { number < length scopes.now.scopes }
     ensures { (d : ScopeSeen) → result ≡ (get_or scopes.now.scopes number d).«end» }

@@ -1,4 +1,4 @@
-//! The texts of frames.
+//! The strings, paths and lines of frames.
 
 ghost use Rattle.std.specs.Prelude.{◌≡◌, option_map, slice_get};
 ghost use Rattle.std.specs.Option.{option_and_then};
@@ -15,7 +15,7 @@ use dwarf_bytes::{Layout, Section, text_at};
 use dwarf_entries::{Scopes, TextOffset};
 use dwarf_lines::{LineTables, ProgramNo};
 
-/// An object, and what its texts and its files are found by.
+/// An object, with the tables in which its strings and files are looked up.
 #[derive(Clone, Copy)]
 pub struct Texts<'a> {
     pub bytes: &'a [u8],
@@ -25,7 +25,7 @@ pub struct Texts<'a> {
     pub ghost placed: { sections.now ≡ layout bytes.now },
 }
 
-/// Where a frame stands: at the row of an address, or where the scope of a number was called.
+/// The site of a frame: the row of an address, or the call site of the scope with this index.
 #[derive(Clone, Copy)]
 pub enum FrameSite {
     Row(Option<usize>),
@@ -33,7 +33,7 @@ pub enum FrameSite {
 }
 
 impl<'a> Texts<'a> {
-    /// The section that a text stands in.
+    /// Returns the section that contains a string.
     fn section(self, section: Section) -> &'a [u8]
         ensures { result.now ≡ text_section self.entry.bytes.now section }
     {
@@ -44,14 +44,14 @@ impl<'a> Texts<'a> {
         }
     }
 
-    /// The bytes of a text, from where it begins up to its NUL.
+    /// Returns the bytes of a string, up to its NUL.
     fn text(self, text: TextOffset) -> &'a [u8]
         ensures { result.now ≡ text_bytes self.entry.bytes.now text }
     {
         text_at(self.section(text.section), text.offset as u64).unwrap_or(&[])
     }
 
-    /// The name of the scope of a number.
+    /// Returns the name of the scope with an index.
     pub fn name(self, number: usize) -> Option<&'a [u8]>
         requires { AreInOrder self.scopes.now.scopes }
         ensures { option_map (λ text. text.now) result
@@ -65,7 +65,7 @@ impl<'a> Texts<'a> {
         Some(self.text(text))
     }
 
-    /// Its linkage name.
+    /// Returns the linkage name of the scope with an index.
     pub fn linkage(self, number: usize) -> Option<&'a [u8]>
         requires { AreInOrder self.scopes.now.scopes }
         ensures { option_map (λ text. text.now) result
@@ -80,7 +80,7 @@ impl<'a> Texts<'a> {
         Some(self.text(text))
     }
 
-    /// The path of a program's file.
+    /// Returns the path of a file of a line program.
     fn file(self, program: ProgramNo, file: u64) -> Option<Path<'a>>
         ensures { option_map (join_with_byte 47) result ≡ file_path self.entry.bytes.now
             self.entry.lines.now program file }
@@ -141,7 +141,7 @@ impl<'a> Texts<'a> {
             .unwrap_or(0)
     }
 
-    /// The path of the file in which a frame stands.
+    /// Returns the path of the source file of a frame.
     pub fn path(self, site: FrameSite) -> Option<Path<'a>>
         requires { AreInOrder self.scopes.now.scopes }
         ensures { option_map (join_with_byte 47) result
@@ -154,7 +154,7 @@ impl<'a> Texts<'a> {
         }
     }
 
-    /// The line at which a frame stands; 0 where it is unknown.
+    /// Returns the source line of a frame; 0 if it is unknown.
     pub fn line(self, site: FrameSite) -> u64
         requires { AreInOrder self.scopes.now.scopes }
         ensures { result ≡ (site_told self.entry.bytes.now self.entry.lines.now

@@ -1,4 +1,4 @@
--- What the program's frames and paths tell.
+-- The values of frames and paths.
 use Rattle.std.specs.Prelude.{ℕ, List, [], ◌∷◌, ◌++◌, map, drop, reverse, Bool, true, false, Option}
 use Rattle.std.specs.Prelude.{None, option_map, unwrap_or, slice_get}
 use Rattle.std.specs.Option.{option_and_then}
@@ -13,35 +13,35 @@ use Rattle.addr_table.specs.Frames.{Frame, Site, nowhere, frame_at, row_site, ca
 use Rattle.addr_table.specs.Frames.{frames_from}
 use Rattle.addr_table.specs.Private.Walks.{chain_around}
 
--- the parts of a path that are left
+-- the remaining parts of a path
 abbrev pub parts_left : LineSections → List Text → ℕ → List (List ℕ)
 parts_left s parts next = drop next (map (part_bytes s) parts)
 
--- where a frame stands: at a row, or where the scope of a number was called
+-- the site of a frame: a row, or the call site of the scope with this number
 abbrev pub site_told : List ℕ → Lines → List Scope → FrameSite → Site
 site_told bytes lines scopes (Row number) = row_site bytes lines number
 site_told bytes lines scopes (Call number) =
     unwrap_or (option_map (call_site bytes lines) (slice_get scopes number)) nowhere
 
--- a frame, of the scope of a number or of a row alone
+-- the frame of the scope with this number, or of a row without a scope
 abbrev pub frame_told : List ℕ → Lines → List Scope → Option ℕ → FrameSite → Frame
 frame_told bytes lines scopes number site =
     let scope = option_and_then (slice_get scopes) number in
     frame_at bytes (option_and_then (λ s. s.name) scope)
     (option_and_then (λ s. s.linkage_name) scope) (site_told bytes lines scopes site)
 
--- the frame of a row alone
+-- the frame of a row without a scope
 abbrev pub row_frame : Bool → List ℕ → Site → List Frame
 row_frame true bytes site = frame_at bytes None None site ∷ []
 row_frame false bytes site = []
 
--- the frames that are left of a walk over a chain, of which the scopes around a number are left
+-- the remaining frames of a walk over a chain: the remaining scopes are the ones around near
 abbrev pub walk_left : List ℕ → Lines → List Scope → ℕ → ℕ → FrameSite → Bool → List Frame
 walk_left bytes lines scopes link near site alone =
     let here = site_told bytes lines scopes site in
     row_frame alone bytes here
     ++ frames_from bytes lines (reverse (chain_around link scopes near)) here
 
--- what is left of a walk, if there is one
+-- the remaining frames of a walk, if there is one
 abbrev pub frames_left : Option (List Frame) → List Frame
 frames_left walk = unwrap_or walk []

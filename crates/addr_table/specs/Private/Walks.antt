@@ -1,4 +1,4 @@
--- A walk over the scopes of a chain, from the innermost outwards.
+-- A walk over the scopes of a chain, from the innermost to the outermost.
 use Rattle.std.specs.Prelude.{◌≡◌, ◌≢◌, ℕ, suc, ◌≤◌, ◌⊎◌, true, List, length, get_or, ◌==◌}
 use Rattle.std.specs.Prelude.{nat_lt, find, Option, Some, None, option_map, if◌then◌else◌}
 use Rattle.dwarf_walk.specs.declared.scope_kind.ScopeKind.TheVariants.{Subprogram, Inlined}
@@ -7,37 +7,37 @@ use Rattle.dwarf_entries.specs.Order.{AreInOrder}
 use Rattle.addr_table.specs.Chains.{is_at, held_among}
 use Rattle.addr_table.specs.Private.Parents.{around, AreParents}
 
--- scopes, and for each the number behind that of the nearest scope around it
+-- scopes, and for each scope 1 + the number of its parent; 0 if it has none
 pub record HaveParents (scopes : List Scope) (nears : List ℕ) : Type 0 where
   pub order : AreInOrder scopes
   pub parents : AreParents scopes nears
   pub all : length nears ≡ length scopes
 
--- the chain among the scopes that enclose the one before this number
+-- the chain among the scope before this number and the scopes that enclose it
 abbrev pub chain_around : ℕ → List Scope → ℕ → List Scope
 chain_around a scopes near = held_among a (around scopes near)
 
--- the number of its outermost scope
+-- the number of the outermost scope of that chain
 abbrev pub top_around : ℕ → List Scope → ℕ → Option ℕ
 top_around a scopes near =
     option_map (λ s. s.number) (find (is_at Subprogram a) (around scopes near))
 
--- nothing is left of the chain, or it ends with this one
+-- no scope is left, or top is the outermost scope of the chain
 abbrev pub EndsAt : ℕ → List Scope → ℕ → ℕ → Type 0
 EndsAt a scopes near top = (near ≡ 0) ⊎ (top_around a scopes near ≡ Some top)
 
--- nothing is left, or the scope before this number is of the chain
+-- no scope is left, or the scope before near is in the chain
 pub data IsTold (a : ℕ) (scopes : List Scope) (near top : ℕ) : Type 0 where
   nothing : near ≡ 0 → IsTold a scopes near top
   outermost : near ≡ suc top → IsTold a scopes near top
   inlined : (k : ℕ) → near ≡ suc k → k ≢ top
       → ((d : Scope) → is_at Inlined a (get_or scopes k d) ≡ true) → IsTold a scopes near top
 
--- the number behind that of the scope around one that was told
+-- 1 + the number of the parent of a scope in the chain; 0 for the outermost scope
 abbrev pub outer_of : List ℕ → ℕ → ℕ → ℕ
 outer_of nears top number = if number == top then 0 else get_or nears number 0
 
--- the number behind that of a scope, if it is one of so many
+-- 1 + the number of a scope if it is below count; 0 otherwise
 abbrev pub begin_of : ℕ → Option ℕ → ℕ
 begin_of count None = 0
 begin_of count (Some number) = if nat_lt number count then suc number else 0

@@ -4,7 +4,7 @@ use Rattle.addr_table.proofs.sweep.next_end.Goals as goal
 use Rattle.addr_table.proofs.sweep.next_end.Goals.{else-closed-len-via-then-closed-len+else-get}
 use Rattle.addr_table.proofs.sweep.next_end.Goals.{else-closed-len-via-else-closed-len}
 
--- what ends next comes before what begins next
+-- the next end comes before the next start
 pub returns-then-get : goal.returns-then-get
 returns-then-get c =
     let closed : c.args.closed < length c.args.closes.now =
