@@ -18,8 +18,8 @@ const MAX_BYTES: usize = 1 << 30;
 
 const MAGIC: [u8; 4] = [0x7f, b'E', b'L', b'F'];
 
-/// Parses the file header. Returns the first cause if the header is invalid, or if one of its
-/// tables is invalid or outside the file.
+/// Parses the file header. Returns the first cause if the file is too large, or if the header or
+/// one of its tables is invalid or outside the file.
 pub(crate) fn checked_header(bytes: &[u8]) -> Result<FileHeader, Cause>
     ensures header { MatchResult result
         (λ header. (first_failure (header_tests bytes.now) ≡ None)

@@ -19,7 +19,7 @@ const NAMES_LEN: u32 = NAME_LEN + 15;
 
 const SECTIONS: usize = NAMES + NAMES_LEN as usize;
 
-/// Returns the header of a file with `HEADERS` sections, the last of which has the names.
+/// Returns the file header of an object with `HEADERS` sections. The last section has the names.
 fn file_header() -> [u8; 64] {
     let mut header = [0; 64];
     header[..7].copy_from_slice(b"\x7fELF\x02\x01\x01");

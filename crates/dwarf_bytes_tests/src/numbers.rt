@@ -34,7 +34,7 @@ fn seeks_to_the_end_and_no_further(rt: HostRuntime) {
     are_equal(&rt, cursor.place(), 2);
 }
 
-/// A part ends `len` bytes after the cursor, and its offsets are those of the whole.
+/// A part ends `len` bytes after the cursor. Its offsets are relative to the start of the whole.
 #[test]
 fn parts_end_behind_the_cursor(rt: HostRuntime) -> Result<(), Fail> {
     let mut cursor = Cursor::new(&[1, 2, 3, 4]);
