@@ -1,5 +1,5 @@
 //! Line programs for the tests, and assertions on them. The functions that read have no contract,
-//! so the proof that a test is safe does not depend on what is read.
+//! so the proof that a test is safe does not depend on their results.
 
 ghost use Rattle.std.specs.Prelude.{◌≡◌, ◌+◌, length};
 
