@@ -1,4 +1,4 @@
-//! Entries that are read again at their places.
+//! Re-reading of entries at their offsets.
 
 use crate::fixtures::*;
 use dwarf_bytes::{Cause, Cursor};
@@ -6,9 +6,9 @@ use dwarf_units::{AttributeValue, Tables, UsedAttributes, units};
 use std::process::Abort;
 use std::test::*;
 
-/// Reads the subprogram of a unit, which stands at 13, by attributes of these names and forms.
-/// Checks the numbers of its name and its high_pc, that it has no low_pc, where the entry ends, and
-/// that the null behind it is no entry.
+/// Reads the subprogram of a unit, which is at offset 13, with attributes of these names and
+/// forms. Checks the values of its name and its high_pc, the absence of low_pc, and the end of the
+/// entry. Checks that the null entry after it is refused.
 fn is_read(
     rt: &(impl Abort + AllocGlobal),
     forms: &[u8],
@@ -48,13 +48,13 @@ fn entries_at_their_places(rt: HostRuntime) -> Result<(), Fail> {
     is_read(&rt, &forms, &[7, 0x66, 0, 9], 15, 9, 18)
 }
 
-/// An entry whose used attributes stand behind 70 others in its declaration, most of which have no
-/// bytes.
+/// Reads an entry whose used attributes are after 70 others in its declaration. Most of the others
+/// take no bytes.
 #[test]
 fn entry_of_a_long_list(rt: HostRuntime) -> Result<(), Fail> {
     let mut forms = Vec::new(rt.alloc());
     for name in 0u8..70 {
-        // the first and the last as data1, those between them as flag_present
+        // the first and the last as data1, the others as flag_present
         let form = if name == 0 || name == 69 { 0x0b } else { 0x19 };
         forms.extend_from_slice(&[0x80 | name, 0x40, form])?;
     }

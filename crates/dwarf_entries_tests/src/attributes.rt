@@ -1,10 +1,11 @@
-//! Attributes by their forms.
+//! Attributes in various forms.
 
 use crate::fixtures::*;
 use dwarf_bytes::Cause;
 use std::test::*;
 
-/// Attributes of the subprogram at 13, each by its name and form, and its value.
+/// Attributes of the subprogram at offset 13 that are refused: the name and form of each, and its
+/// value.
 #[test]
 fn forms_of_attributes(rt: HostRuntime) -> Result<(), Fail> {
     let refused: [(&[u8], &[u8], Cause); 19] = [
@@ -27,14 +28,14 @@ fn forms_of_attributes(rt: HostRuntime) -> Result<(), Fail> {
         (&[0x72, 0x06], &[0; 4], Cause::AttrForm),
         (&[0x73, 0x06], &[0; 4], Cause::AttrForm),
         (&[0x74, 0x06], &[0; 4], Cause::AttrForm),
-        // counts below 0, as sdata and as implicit_const
+        // negative counts, as sdata and as implicit_const
         (&[0x58, 0x0d], &[0x7f], Cause::AttrForm),
         (&[0x12, 0x21, 0x7f], &[], Cause::AttrForm),
-        // name as indirect, of form data1, of form indirect, of no form
+        // name as indirect: with form data1, with form indirect, with an unknown form
         (&[0x03, 0x16], &[0x0b, 0], Cause::AttrForm),
         (&[0x03, 0x16], &[0x16, 0x08, 0], Cause::Form),
         (&[0x03, 0x16], &[0x02, 0], Cause::Form),
-        // an attribute that is not used, cut
+        // an unused attribute that is truncated
         (&[0x3a, 0x0a], &[9, 0], Cause::Short),
     ];
     for (declared, values, cause) in refused {
@@ -45,7 +46,7 @@ fn forms_of_attributes(rt: HostRuntime) -> Result<(), Fail> {
     Ok(())
 }
 
-/// Call files and lines in each form of a count.
+/// Reads call_file in each form of a count.
 #[test]
 fn forms_of_counts(rt: HostRuntime) -> Result<(), Fail> {
     let counts: [(&[u8], &[u8]); 8] = [

@@ -1,4 +1,4 @@
-//! The tables that a root names by its bases, and indexes into them.
+//! Tables that the bases of a root refer to, and indexes into them.
 
 use crate::fixtures::*;
 use crate::ranges::ADDRESSES;
@@ -8,7 +8,7 @@ use std::alloc::AllocError;
 use std::process::Abort;
 use std::test::*;
 
-/// A list by its index, of entries whose addresses are indexes.
+/// A table of one range list, whose entries contain address indexes.
 const INDEXED: [u8; 55] = [
     51, 0, 0, 0, 5, 0, 8, 0, 1, 0, 0, 0, // a table of one offset, whose base is 12
     4, 0, 0, 0, // its offset, so that the list stands at 16
@@ -34,7 +34,7 @@ fn lists_and_addresses_by_index(rt: HostRuntime) -> Result<(), Fail> {
     Ok(())
 }
 
-/// Checks what a subprogram at 21 covers by the list of an index.
+/// Checks the ranges of a subprogram at offset 21 that refers to a list by index.
 fn is_list(
     rt: &(impl Abort + AllocGlobal),
     index: u8,
@@ -63,7 +63,7 @@ fn an_index_without_a_base(rt: HostRuntime) -> Result<(), Fail> {
     Ok(())
 }
 
-/// An index past the table, before the operand that is missing.
+/// An index is out of range, and the operand after it is missing. The index is reported.
 #[test]
 fn an_index_past_the_table(rt: HostRuntime) -> Result<(), Fail> {
     let root: Attributes<'_> = (&[0x73, 0x17], &[8, 0, 0, 0]);
@@ -77,12 +77,12 @@ fn an_index_past_the_table(rt: HostRuntime) -> Result<(), Fail> {
     Ok(())
 }
 
-/// Headers of a table of addresses, each with one byte changed,
-/// and what is wrong at the root at 12.
+/// Headers of an address table with one byte changed, and the cause that is reported at the root
+/// at offset 12.
 #[test]
 fn headers_of_addresses(rt: HostRuntime) -> Result<(), Fail> {
     let changes = [
-        // unit_length up to the base, to one byte before it, past the section, reserved
+        // unit_length up to the base, up to one byte before it, beyond the section, reserved
         (0, 12, None),
         (0, 3, Some(Cause::Short)),
         (0, 21, Some(Cause::Short)),
@@ -107,7 +107,7 @@ fn headers_of_addresses(rt: HostRuntime) -> Result<(), Fail> {
     Ok(())
 }
 
-/// The low_pc of a root at 12 as addrx1, of an index past the table, and without a table.
+/// The low_pc of a root at offset 12 as addrx1: with an index out of range, and without a table.
 #[test]
 fn low_pc_of_no_address(rt: HostRuntime) -> Result<(), Fail> {
     let indexed: [(&[u8], &[u8], Cause); 2] = [
@@ -126,7 +126,8 @@ fn low_pc_of_no_address(rt: HostRuntime) -> Result<(), Fail> {
     Ok(())
 }
 
-/// The rnglists_base of a root at 12: the most offsets that the table holds, and one more.
+/// The rnglists_base of a root at offset 12: the maximum number of offsets that fit into the
+/// table, and one more.
 #[test]
 fn offsets_of_lists(rt: HostRuntime) -> Result<(), Fail> {
     let root: Attributes<'_> = (&[0x74, 0x17], &[12, 0, 0, 0]);

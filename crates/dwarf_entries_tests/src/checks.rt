@@ -1,5 +1,5 @@
-//! What the tests say of what is read. The functions here have no contracts, so that the proof that
-//! a test is safe knows nothing of what is read, which it does not need.
+//! Assertions about the results of the reader. These functions have no contracts, because the
+//! proof that a test is safe does not depend on the results.
 
 use crate::fixtures::*;
 use dwarf_bytes::{Cause, LoadFault};
@@ -9,17 +9,17 @@ use std::fmt::Debug;
 use std::process::Abort;
 use std::test::*;
 
-/// Checks that both are the same.
+/// Checks that two values are equal.
 pub fn are_equal<T: Copy + Debug + PartialEq>(rt: &impl Abort, told: T, wanted: T) {
     assert_eq!(rt; told, wanted);
 }
 
-/// The scopes of these sections.
+/// Reads the scopes of these sections.
 pub fn scopes_of(alloc: Global, sections: &Sections<'_>) -> Result<Scopes, LoadFault> {
     Scopes::read(alloc, sections)
 }
 
-/// Checks the fault for which the sections are refused, if any.
+/// Checks the fault of the sections, if any.
 pub fn has_fault(
     rt: &(impl Abort + AllocGlobal),
     sections: &Sections<'_>,
@@ -28,12 +28,12 @@ pub fn has_fault(
     are_equal(rt, scopes_of(rt.alloc(), sections).err(), fault);
 }
 
-/// Checks that the sections are refused for a fault of `.debug_info`.
+/// Checks that the sections are refused with a fault of `.debug_info`.
 pub fn is_refused(rt: &(impl Abort + AllocGlobal), sections: &Sections<'_>, cause: Cause, at: u64) {
     has_fault(rt, sections, Some(fault(cause, at)));
 }
 
-/// Checks the fault for which these units are refused, if any.
+/// Checks the fault of these units, if any.
 pub fn have_fault(
     rt: &(impl Abort + AllocGlobal),
     units: &[Unit<'_>],
@@ -45,7 +45,7 @@ pub fn have_fault(
     Ok(())
 }
 
-/// Checks that a unit of these entries is refused for a fault of `.debug_info`.
+/// Checks that a unit with these entries is refused with a fault of `.debug_info`.
 pub fn is_bad_unit(
     rt: &(impl Abort + AllocGlobal),
     entries: &[u8],
@@ -56,7 +56,8 @@ pub fn is_bad_unit(
     have_fault(rt, &[(1, 0, entries)], table, Some(fault(cause, at)))
 }
 
-/// Checks that the sections are read or refused as wanted, and that the only scope covers these.
+/// Checks that the sections are read or refused as expected, and that the only scope has these
+/// ranges.
 pub fn covers_or_is_refused(
     rt: &(impl Abort + AllocGlobal),
     sections: &Sections<'_>,
@@ -68,7 +69,7 @@ pub fn covers_or_is_refused(
     }
 }
 
-/// The ranges of the only scope.
+/// Returns the ranges of the only scope.
 fn only_ranges(read: &Scopes) -> Option<&[Range]> {
     match read.scopes() {
         [scope] => Some(scope.ranges(read)),
@@ -76,7 +77,8 @@ fn only_ranges(read: &Scopes) -> Option<&[Range]> {
     }
 }
 
-/// Checks that the sections are read or refused as wanted, and that the only scope has this name.
+/// Checks that the sections are read or refused as expected, and that the only scope has this
+/// name.
 pub fn is_named_or_refused(
     rt: &(impl Abort + AllocGlobal),
     sections: &Sections<'_>,
@@ -88,7 +90,7 @@ pub fn is_named_or_refused(
     }
 }
 
-/// The name of the only scope.
+/// Returns the name of the only scope.
 fn only_name(read: &Scopes) -> Option<Option<TextOffset>> {
     match read.scopes() {
         [scope] => Some(scope.name()),
@@ -96,7 +98,7 @@ fn only_name(read: &Scopes) -> Option<Option<TextOffset>> {
     }
 }
 
-/// What is expected of a scope; its number is its place.
+/// The expected data of a scope. Its number is its index in the list of rows.
 #[derive(Clone, Copy, Debug, PartialEq, Eq)]
 pub struct Row {
     pub kind: ScopeKind,
@@ -107,25 +109,25 @@ pub struct Row {
     pub call: Option<(u64, u64)>,
 }
 
-/// Checks the number, the kind, the place and the end of a scope.
+/// Checks the number, the kind, the offset and the end of a scope.
 fn stands_at(rt: &impl Abort, scope: &Scope, number: usize, row: &Row) {
     let told = (scope.number(), scope.kind(), scope.offset(), scope.end());
     are_equal(rt, told, (number, row.kind, row.offset, row.end));
 }
 
-/// Checks that a scope is of at most one range, and has a name without a linkage name.
+/// Checks that a scope has at most one range, and a name without a linkage name.
 fn is_named(rt: &impl Abort, read: &Scopes, scope: &Scope, row: &Row) {
     are_equal(rt, scope.ranges(read), row.range.as_slice());
     let names = (scope.name(), scope.linkage_name());
     are_equal(rt, names, (row.name, None));
 }
 
-/// The file and the line of the call of a scope.
+/// Returns the file and the line of the call of a scope.
 pub fn call_of(read: &Scopes, scope: &Scope) -> (Option<u64>, Option<u64>) {
     (scope.call_file(read), scope.call_line(read))
 }
 
-/// Checks that a scope is called so.
+/// Checks the call site of a scope.
 fn is_called(rt: &impl Abort, read: &Scopes, scope: &Scope, call: Option<(u64, u64)>) {
     let wanted = match call {
         Some((file, line)) => (Some(file), Some(line)),
@@ -134,7 +136,7 @@ fn is_called(rt: &impl Abort, read: &Scopes, scope: &Scope, call: Option<(u64, u
     are_equal(rt, call_of(read, scope), wanted);
 }
 
-/// Checks that the scopes are these, each of at most one range, without linkage names.
+/// Checks that the scopes are these, each with at most one range, without linkage names.
 pub fn are_scopes(rt: &impl Abort, read: &Scopes, stmt_list: Option<u64>, rows: &[Row]) {
     are_equal(rt, read.scopes().len(), rows.len());
     for (number, (scope, row)) in read.scopes().iter().zip(rows).enumerate() {
@@ -145,7 +147,7 @@ pub fn are_scopes(rt: &impl Abort, read: &Scopes, stmt_list: Option<u64>, rows: 
     }
 }
 
-/// The name of a scope, with its number.
+/// Returns the name of a scope, with its number.
 fn numbered_name(scope: &Scope) -> (usize, Option<TextOffset>) {
     (scope.number(), scope.name())
 }

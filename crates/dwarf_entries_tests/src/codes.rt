@@ -1,4 +1,4 @@
-//! Codes of declarations, in any order.
+//! Abbreviation codes in any order.
 
 use crate::fixtures::*;
 use crate::limits::three_bytes;
@@ -8,7 +8,7 @@ use std::alloc::{AllocError, Global};
 use std::process::Abort;
 use std::test::*;
 
-/// A table whose codes do not count up from 1.
+/// A table whose codes are not consecutive from 1.
 const CODES: [u8; 22] = [
     5, 0x11, 1, 0, 0, // unit
     2, 0x2e, 0, 0, 0, // subprogram, in its own place
@@ -19,7 +19,7 @@ const CODES: [u8; 22] = [
 
 #[test]
 fn codes_out_of_order(rt: HostRuntime) -> Result<(), Fail> {
-    // 12: unit, then entries at 13, 14, 15 and 17
+    // 12: unit, then entries at offsets 13, 14, 15 and 17
     let info = unit(rt.alloc(), &[5, 2, 1, 0x80, 0x02, 2, 0])?;
     let read = scopes_of(rt.alloc(), &sections(&info, &CODES))?;
     are_equal(&rt, read.roots(), [root(12, 0, 4)].as_slice());
@@ -33,8 +33,8 @@ fn codes_out_of_order(rt: HostRuntime) -> Result<(), Fail> {
     Ok(())
 }
 
-/// The declarations of a unit with children, whose code is 1, and of subprograms and inlined
-/// subroutines in turn, whose codes count up from 2.
+/// Builds the declarations of a unit with children, whose code is 1, and of alternating
+/// subprograms and inlined subroutines, whose codes count up from 2.
 fn kinds_in_turn(alloc: Global, last: u32) -> Result<Vec<u8>, AllocError> {
     let mut table = Vec::new(alloc);
     table.extend_from_slice(&[1, 0x11, 1, 0, 0])?;
@@ -50,7 +50,7 @@ fn kinds_in_turn(alloc: Global, last: u32) -> Result<Vec<u8>, AllocError> {
 #[test]
 fn codes_of_one_byte_and_of_two(rt: HostRuntime) -> Result<(), Fail> {
     let table = kinds_in_turn(rt.alloc(), 129)?;
-    // 12: unit, then entries at 13, 14, 15 and 17
+    // 12: unit, then entries at offsets 13, 14, 15 and 17
     let info = unit(rt.alloc(), &[1, 126, 127, 0x80, 1, 0x81, 1, 0])?;
     let read = scopes_of(rt.alloc(), &sections(&info, &table))?;
     are_equal(&rt, read.roots(), [root(12, 0, 4)].as_slice());
@@ -64,7 +64,7 @@ fn codes_of_one_byte_and_of_two(rt: HostRuntime) -> Result<(), Fail> {
     Ok(())
 }
 
-/// Checks the places and the kinds of four scopes, and that there are no more.
+/// Checks the offsets and kinds of four scopes, and that there are no more.
 fn are_four(rt: &impl Abort, read: &Scopes, wanted: [(usize, ScopeKind); 4]) {
     are_equal(rt, read.scopes().len(), 4);
     for (scope, wanted) in read.scopes().iter().zip(wanted) {
@@ -72,7 +72,7 @@ fn are_four(rt: &impl Abort, read: &Scopes, wanted: [(usize, ScopeKind); 4]) {
     }
 }
 
-/// Checks the place and the kind of a scope.
+/// Checks the offset and the kind of a scope.
 fn is_scope(rt: &impl Abort, scope: &Scope, wanted: (usize, ScopeKind)) {
     are_equal(rt, (scope.offset(), scope.kind()), wanted);
 }

@@ -1,4 +1,4 @@
-//! The first sample object, cut.
+//! Truncated versions of the first sample object.
 
 use crate::fixtures::*;
 use dwarf_bytes::{Cause, LoadFault, Section};
@@ -7,7 +7,7 @@ use dwarf_samples::inlined;
 use std::process::Abort;
 use std::test::*;
 
-/// A fault of `.debug_abbrev`, where a declaration is cut.
+/// The fault of a truncated declaration in `.debug_abbrev`.
 pub fn cut_at(at: u64) -> LoadFault {
     LoadFault {
         section: Section::DebugAbbrev,
@@ -16,12 +16,12 @@ pub fn cut_at(at: u64) -> LoadFault {
     }
 }
 
-/// So many bytes from the start, all of which are there.
+/// Returns the first `size` bytes.
 fn start(bytes: &[u8], size: usize) -> &[u8] {
     bytes.get(..size).unwrap_or(&[])
 }
 
-/// Checks the fault of sections of which one has this size.
+/// Checks the fault of sections, one of which is truncated to this size.
 fn is_cut(
     rt: &(impl Abort + AllocGlobal),
     size: usize,
@@ -32,7 +32,8 @@ fn is_cut(
     are_equal(rt, (size, told), (size, fault));
 }
 
-/// `.debug_info` of each size: one of no bytes has no unit, and any other cuts the unit.
+/// `.debug_info` truncated to each size. An empty section has no unit, and any other size
+/// truncates the unit.
 #[test]
 fn a_unit_past_the_end(rt: HostRuntime) -> Result<(), Fail> {
     let whole = sections_of(inlined())?;
@@ -54,7 +55,7 @@ fn no_unit(rt: HostRuntime) -> Result<(), Fail> {
     Ok(())
 }
 
-/// The fault of the first object where its unit ends so many bytes from its start.
+/// Returns the fault of the first object if the length of its unit is reduced to `size` bytes.
 fn fault_of_a_unit_of(size: usize) -> Option<LoadFault> {
     Some(match size {
         // in the header
@@ -63,7 +64,7 @@ fn fault_of_a_unit_of(size: usize) -> Option<LoadFault> {
         12 => return None,
         // in the stmt_list or the low_pc of the root
         13..=24 => fault(Cause::Short, 12),
-        // in the names of mid, leaf and main, which have no NUL
+        // in the names of mid, leaf and main, whose NUL is missing
         26..=29 => fault(Cause::Text, 25),
         31..=35 => fault(Cause::Text, 30),
         37..=41 => fault(Cause::Text, 36),
@@ -72,7 +73,7 @@ fn fault_of_a_unit_of(size: usize) -> Option<LoadFault> {
         // in the inlined subroutines
         55..=72 => fault(Cause::Short, 54),
         74..=91 => fault(Cause::Short, 73),
-        // behind an entry or a null, where a list of children is open
+        // after an entry or a null entry, when a list of children is not terminated
         25 | 30 | 36 | 54 | 73 | 92..=95 => fault(Cause::TreeOpen, 0),
         _ => return None,
     })
@@ -92,7 +93,7 @@ fn a_unit_of_each_length(rt: HostRuntime) -> Result<(), Fail> {
     Ok(())
 }
 
-/// Where the declaration stands that is cut in a table of this size.
+/// Returns the offset of the declaration that is truncated in a table of this size.
 fn cut_declaration(size: usize) -> u64 {
     match size {
         0..=8 => 0,
@@ -114,13 +115,13 @@ fn cut_abbreviation_tables(rt: HostRuntime) -> Result<(), Fail> {
     Ok(())
 }
 
-/// The declarations of a unit and of a block, both with children; the block has an attribute of a
-/// byte and one of two, which are not used.
+/// The declarations of a unit and of a block, both with children. The block has two unused
+/// attributes, of one byte and of two.
 const BLOCKS: [u8; 15] = [
     1, 0x11, 1, 0, 0, 2, 0x0b, 1, 0x0b, 0x0b, 0x38, 0x05, 0, 0, 0,
 ];
 
-/// A block at 13 of each length, and one behind it of one byte fewer than it takes.
+/// Truncated blocks: a block at offset 13 of each size, and a block after it that lacks one byte.
 #[test]
 fn cut_blocks(rt: HostRuntime) -> Result<(), Fail> {
     is_bad_unit(&rt, &[1, 2], &BLOCKS, Cause::Short, 13)?;

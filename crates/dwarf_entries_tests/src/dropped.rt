@@ -1,4 +1,4 @@
-//! Dropped code: scopes and range list entries whose start or base is 2^64-1.
+//! Tombstones: scopes and range list entries whose start or base is 2^64-1.
 
 use crate::fixtures::*;
 use dwarf_bytes::Cause;
@@ -12,13 +12,14 @@ const ADDRESSES: [u8; 24] = [
     0xff,
 ];
 
-/// The low_pc of a unit, as an address, and its addr_base.
+/// A low_pc of a unit as an address (0x1000), and its addr_base.
 const BELOW: [u8; 12] = [0, 0x10, 0, 0, 0, 0, 0, 0, 8, 0, 0, 0];
 
-/// The same with the low_pc 2^64-1.
+/// The same with the tombstone as low_pc.
 const DROPPED: [u8; 12] = [0xff, 0xff, 0xff, 0xff, 0xff, 0xff, 0xff, 0xff, 8, 0, 0, 0];
 
-/// Checks what a subprogram at 25 of these attributes covers, in a unit of these.
+/// Checks the ranges of a subprogram at offset 25 with these attributes, in a unit with these
+/// attributes.
 fn covers(
     rt: &(impl Abort + AllocGlobal),
     root: &[u8],
@@ -38,7 +39,7 @@ fn covers(
     Ok(())
 }
 
-/// Checks what a list of these entries covers.
+/// Checks the ranges of a list with these entries.
 fn lists(
     rt: &(impl Abort + AllocGlobal),
     root: &[u8],
@@ -48,8 +49,8 @@ fn lists(
     covers(rt, root, (&[0x55, 0x17], &[0, 0, 0, 0]), list, wanted)
 }
 
-/// Each list has an entry of dropped code, which would pass the highest address or go back, and
-/// then start_length 0x3000, 5.
+/// Each list has an entry with a tombstone, whose range would otherwise overflow or be backwards,
+/// followed by start_length 0x3000, 5.
 #[test]
 fn entries_of_each_kind(rt: HostRuntime) -> Result<(), Fail> {
     let good = [range(0x3000, 0x3005)];
@@ -57,12 +58,12 @@ fn entries_of_each_kind(rt: HostRuntime) -> Result<(), Fail> {
         // startx_endx 1 and 0, startx_length 1, 0x10
         &[2, 1, 0],
         &[3, 1, 0x10],
-        // start_end up to 1, start_length 1
+        // start_end with end 1, start_length with length 1
         &[
             6, 0xff, 0xff, 0xff, 0xff, 0xff, 0xff, 0xff, 0xff, 1, 0, 0, 0, 0, 0, 0, 0,
         ],
         &[7, 0xff, 0xff, 0xff, 0xff, 0xff, 0xff, 0xff, 0xff, 1],
-        // base_address and base_addressx, and offset_pair 2 to 1
+        // base_address and base_addressx, each followed by offset_pair 2 to 1
         &[5, 0xff, 0xff, 0xff, 0xff, 0xff, 0xff, 0xff, 0xff, 4, 2, 1],
         &[1, 1, 4, 2, 1],
     ];
@@ -75,7 +76,8 @@ fn entries_of_each_kind(rt: HostRuntime) -> Result<(), Fail> {
     Ok(())
 }
 
-/// offset_pair 0 to 8 from the unit's low_pc, and from a base that the list sets behind it.
+/// offset_pair 0 to 8 relative to the low_pc of the unit, and offset_pair 1 to 3 relative to a
+/// base that the list sets after it.
 #[test]
 fn offsets_from_a_low_pc(rt: HostRuntime) -> Result<(), Fail> {
     let list = [4, 0, 8, 5, 0, 0x20, 0, 0, 0, 0, 0, 0, 4, 1, 3, 0];
@@ -84,7 +86,7 @@ fn offsets_from_a_low_pc(rt: HostRuntime) -> Result<(), Fail> {
     lists(&rt, &DROPPED, &list, Ok(&[second]))
 }
 
-/// The operands behind the start of dropped code are read and looked up.
+/// The operands after a tombstone are read and resolved.
 #[test]
 fn operands_are_judged(rt: HostRuntime) -> Result<(), Fail> {
     let entries: [(&[u8], Cause); 7] = [
@@ -120,14 +122,14 @@ fn pairs(rt: HostRuntime) -> Result<(), Fail> {
     let main = [range(0x1000, 0x1010)];
     let none: [Range; 0] = [];
     let pairs: [(&[u8], &[u8], Result<&[Range], Cause>); 8] = [
-        // low_pc by index 0, beside one that is dropped: high_pc as a count
+        // low_pc by index: index 0, and index 1 which is a tombstone. high_pc is a count.
         (&[0x11, 0x29, 0x12, 0x0b], &[0, 0x10], Ok(&main)),
         (&[0x11, 0x29, 0x12, 0x0b], &[1, 0x10], Ok(&none)),
         (&[0x11, 1, 0x12, 0x21, 0x10], &top, Ok(&none)),
         // high_pc as an address
         (&[0x11, 1, 0x12, 1], &both, Ok(&none)),
         (&[0x11, 0x29, 0x12, 0x29], &[1, 0], Ok(&none)),
-        // what is judged before the start is looked at, or behind it
+        // checks that are made before the start is looked at, and after it
         (&[0x11, 0x29, 0x12, 0x29], &[1, 2], Err(Cause::Index)),
         (&[0x11, 0x29, 0x12, 0x29], &[2, 1], Err(Cause::Index)),
         (&[0x11, 1, 0x55, 0x17], &with_list, Err(Cause::PcAndRanges)),
@@ -138,7 +140,7 @@ fn pairs(rt: HostRuntime) -> Result<(), Fail> {
     Ok(())
 }
 
-/// Sums that are 2^64-1, and an end that is, are no mark of dropped code.
+/// A sum of 2^64-1 is not a tombstone, and neither is an end of 2^64-1.
 #[test]
 fn sums_and_ends_at_the_top(rt: HostRuntime) -> Result<(), Fail> {
     let last = [range(u64::MAX - 1, u64::MAX)];

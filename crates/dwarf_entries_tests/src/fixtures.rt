@@ -1,4 +1,4 @@
-//! Units for the tests, and what is expected of them.
+//! Builders of units for the tests, and of the results expected for them.
 
 pub use crate::checks::{
     Row, are_equal, are_scopes, call_of, covers_or_is_refused, has_fault, have_fault, have_names,
@@ -8,7 +8,7 @@ use dwarf_bytes::{Cause, LoadFault, Object, Section};
 use dwarf_entries::{Range, Root, Sections, TextOffset};
 use std::alloc::{AllocError, Global};
 
-/// These entries and abbreviations; the other sections are empty.
+/// Returns sections with these entries and abbreviations. All other sections are empty.
 pub fn sections<'a>(debug_info: &'a [u8], debug_abbrev: &'a [u8]) -> Sections<'a> {
     Sections {
         debug_info,
@@ -22,12 +22,12 @@ pub fn sections<'a>(debug_info: &'a [u8], debug_abbrev: &'a [u8]) -> Sections<'a
     }
 }
 
-/// The sections of a sample object.
+/// Returns the sections of a sample object.
 pub fn sections_of(object: &[u8]) -> Result<Sections<'_>, LoadFault> {
     Ok(Sections::of(object, &Object::find(object)?))
 }
 
-/// Puts a unit of a type behind others: the offset of its abbreviations, and its entries.
+/// Appends a unit of a type, with the offset of its abbreviations and its entries.
 pub fn add_unit(
     info: &mut Vec<u8>,
     unit_type: u8,
@@ -42,7 +42,8 @@ pub fn add_unit(
     Ok(())
 }
 
-/// A compilation unit of these entries, whose abbreviations stand at 0. The first one stands at 12.
+/// Builds a compilation unit with these entries, whose abbreviations are at offset 0. Its first
+/// entry is at offset 12.
 pub fn unit(alloc: Global, entries: &[u8]) -> Result<Vec<u8>, AllocError> {
     let mut info = Vec::new(alloc);
     add_unit(&mut info, 1, 0, entries)?;
@@ -52,7 +53,7 @@ pub fn unit(alloc: Global, entries: &[u8]) -> Result<Vec<u8>, AllocError> {
 /// A unit: its type, the offset of its abbreviations, and its entries.
 pub type Unit<'a> = (u8, u8, &'a [u8]);
 
-/// These units, one behind the other.
+/// Builds contiguous units.
 pub fn units_of(alloc: Global, units: &[Unit<'_>]) -> Result<Vec<u8>, AllocError> {
     let mut info = Vec::new(alloc);
     for (unit_type, abbreviations, entries) in units {
@@ -64,7 +65,8 @@ pub fn units_of(alloc: Global, units: &[Unit<'_>]) -> Result<Vec<u8>, AllocError
 /// The attributes of an entry: pairs of a name and a form, and their values.
 pub type Attributes<'a> = (&'a [u8], &'a [u8]);
 
-/// The declarations of a compilation unit with children and of a subprogram without.
+/// Builds the declarations of a compilation unit with children and of a subprogram without
+/// children.
 pub fn declarations(
     alloc: Global,
     root: Attributes<'_>,
@@ -79,7 +81,7 @@ pub fn declarations(
     Ok(table)
 }
 
-/// A unit with one subprogram. Its root stands at 12, and the subprogram right behind it.
+/// Builds a unit with one subprogram. Its root is at offset 12, and the subprogram follows it.
 pub fn one_scope(
     alloc: Global,
     root: Attributes<'_>,
@@ -112,13 +114,13 @@ impl OneScope {
         Ok(OneScope { info, table })
     }
 
-    /// Its entries and abbreviations; the other sections are empty.
+    /// Returns sections with its entries and abbreviations. All other sections are empty.
     pub fn sections(&self) -> Sections<'_> {
         sections(&self.info, &self.table)
     }
 }
 
-/// A fault of `.debug_info`.
+/// Returns a fault of `.debug_info`.
 pub fn fault(cause: Cause, at: u64) -> LoadFault {
     LoadFault {
         section: Section::DebugInfo,
@@ -127,7 +129,7 @@ pub fn fault(cause: Cause, at: u64) -> LoadFault {
     }
 }
 
-/// Where a text begins, by its section and its offset there.
+/// Returns the location of a string: its section and its offset there.
 pub fn text(section: Section, offset: usize) -> Option<TextOffset> {
     Some(TextOffset { section, offset })
 }
@@ -136,7 +138,7 @@ pub fn range(from: u64, to: u64) -> Range {
     Range { from, to }
 }
 
-/// A root without a line program.
+/// Returns a root without a line program.
 pub fn root(offset: usize, first: usize, past: usize) -> Root {
     Root {
         offset,

@@ -1,4 +1,4 @@
-//! Units of the 64-bit format, alone and beside those of the 32-bit one.
+//! Units of the 64-bit format, alone and mixed with units of the 32-bit format.
 
 use crate::fixtures::*;
 use dwarf_bytes::{Cause, LoadFault, Section};
@@ -8,9 +8,9 @@ use std::alloc::{AllocError, Global};
 use std::process::Abort;
 use std::test::*;
 
-/// The scopes of the first object, where their unit starts at a place, so many scopes stand before
-/// it, its first subprogram stands so many bytes behind its start,
-/// and its second inlined one so many.
+/// Returns the scopes of the first object. Its unit starts at offset `start`, after `before`
+/// scopes. `first` and `last` are relative to the unit: the first subprogram and the second
+/// inlined one.
 fn rows(start: usize, before: usize, first: usize, last: usize) -> [Row; 5] {
     let at = |offset: usize| start.saturating_add(offset);
     let end = |number: usize| before.saturating_add(number);
@@ -38,7 +38,7 @@ fn subprogram(offset: usize, end: usize, range: Option<Range>, name: Option<Text
     }
 }
 
-/// A subroutine that is inlined from 0x1004 on, called in file 1.
+/// Returns a subroutine that is inlined at 0x1004 and called in file 1.
 fn inlined_row(offset: usize, end: usize, to: u64, name: Option<TextOffset>, line: u64) -> Row {
     Row {
         kind: ScopeKind::Inlined,
@@ -66,7 +66,7 @@ fn a_unit_of_64_bits(rt: HostRuntime) -> Result<(), Fail> {
     Ok(())
 }
 
-/// Both units name one table, and references count from the first byte of their own unit.
+/// Both units use the same table, and references are relative to the first byte of their own unit.
 #[test]
 fn units_of_both_formats(rt: HostRuntime) -> Result<(), Fail> {
     let object = sections_of(inlined())?;
@@ -89,7 +89,7 @@ fn units_of_both_formats(rt: HostRuntime) -> Result<(), Fail> {
 fn refused_lengths(rt: HostRuntime) -> Result<(), Fail> {
     let table = sections_of(inlined())?.debug_abbrev;
     for (place, byte, cause) in [
-        // reserved, a byte too long, and past all sections
+        // reserved, one byte too long, and beyond all sections
         (0, 0xf0, Cause::Length),
         (4, 0x65, Cause::Short),
         (11, 0x80, Cause::Short),
@@ -104,16 +104,16 @@ fn refused_lengths(rt: HostRuntime) -> Result<(), Fail> {
     Ok(())
 }
 
-/// Units of the 64-bit format that are cut.
+/// Truncated units of the 64-bit format.
 #[test]
 fn cut_units(rt: HostRuntime) -> Result<(), Fail> {
     let table = sections_of(inlined())?.debug_abbrev;
-    // without the last null
+    // without the last null entry
     let mut info = *unit_of_64_bits();
     info[4] = 0x63;
     let cut = info.get(..111).unwrap_or(&[]);
     is_refused(&rt, &sections(cut, table), Cause::TreeOpen, 0);
-    // the mark of the format with fewer than eight bytes behind it, and a unit that is cut
+    // the escape of the 64-bit format followed by fewer than eight bytes, and a truncated unit
     for size in 1..24 {
         let cut = sections(&unit_of_64_bits()[..size], table);
         is_refused(&rt, &cut, Cause::Short, 0);
@@ -121,7 +121,7 @@ fn cut_units(rt: HostRuntime) -> Result<(), Fail> {
     Ok(())
 }
 
-/// A unit of the 64-bit format of these entries, the first of which stands at 24.
+/// Builds a unit of the 64-bit format with these entries. Its first entry is at offset 24.
 fn wide_unit(alloc: Global, entries: &[u8]) -> Result<Vec<u8>, AllocError> {
     let unit_length = u64::try_from(entries.len()).unwrap_or(0).saturating_add(12);
     let mut info = Vec::new(alloc);
@@ -132,21 +132,21 @@ fn wide_unit(alloc: Global, entries: &[u8]) -> Result<Vec<u8>, AllocError> {
     Ok(info)
 }
 
-/// `ab` at 0, `c` at 3.
+/// The strings `ab` at offset 0 and `c` at offset 3.
 const TEXTS: [u8; 5] = [0x61, 0x62, 0, 0x63, 0];
 
-/// A table of the string offsets 3 and 0 in the 64-bit format, whose base is 16.
+/// A string offsets table with the offsets 3 and 0 in the 64-bit format, whose base is 16.
 const WIDE_OFFSETS: [u8; 32] = [
     0xff, 0xff, 0xff, 0xff, 0x14, 0, 0, 0, 0, 0, 0, 0, 5, 0, 0, 0, 3, 0, 0, 0, 0, 0, 0, 0, 0, 0, 0,
     0, 0, 0, 0, 0,
 ];
 
-/// A table of the same in the 32-bit format, whose base is 16, behind eight bytes.
+/// A table with the same offsets in the 32-bit format, after eight other bytes. Its base is 16.
 const SHORT_OFFSETS: [u8; 24] = [
     0, 0, 0, 0, 0, 0, 0, 0, 12, 0, 0, 0, 5, 0, 0, 0, 3, 0, 0, 0, 0, 0, 0, 0,
 ];
 
-/// Checks the name of a subprogram, an index, in a unit of the 64-bit format with this base.
+/// Checks the name of a subprogram, which is an index, in a 64-bit unit with this base.
 fn is_indexed(
     rt: &(impl Abort + AllocGlobal),
     base: u8,
@@ -175,12 +175,12 @@ fn names_by_index(rt: HostRuntime) -> Result<(), Fail> {
     is_indexed(&rt, 16, 2, &WIDE_OFFSETS, Err(fault(Cause::Index, 33)))?;
     is_indexed(&rt, 8, 0, &WIDE_OFFSETS, Err(fault(Cause::Base, 24)))?;
     is_indexed(&rt, 33, 0, &WIDE_OFFSETS, Err(fault(Cause::Base, 24)))?;
-    // of the other format
+    // a table of the other format
     is_indexed(&rt, 24, 0, &SHORT_OFFSETS, Err(fault(Cause::Length, 24)))?;
     Ok(())
 }
 
-/// A table of the 64-bit format that a unit of the 32-bit one names.
+/// A unit of the 32-bit format that refers to a table of the 64-bit format.
 #[test]
 fn tables_of_the_other_format(rt: HostRuntime) -> Result<(), Fail> {
     let table = declarations(rt.alloc(), (&[0x72, 0x17], &[]), (&[], &[]))?;
@@ -201,13 +201,13 @@ const ADDRESSES: [u8; 32] = [
     0x20, 0, 0, 0, 0, 0, 0,
 ];
 
-/// A table of one list, whose base is 20, and the list behind its offset: startx_endx 0 and 1.
+/// A table of one list, whose base is 20, and the list after its offset: startx_endx 0 and 1.
 const LISTS: [u8; 32] = [
     0xff, 0xff, 0xff, 0xff, 20, 0, 0, 0, 0, 0, 0, 0, 5, 0, 8, 0, 1, 0, 0, 0, 8, 0, 0, 0, 0, 0, 0,
     0, 2, 0, 1, 0,
 ];
 
-/// A root with addr_base and rnglists_base, and a scope of the list of an index.
+/// Returns a root with addr_base and rnglists_base, and a scope that refers to a list by index.
 fn entries_by_index(addr_base: u8, rnglists_base: u8, index: u8) -> [u8; 20] {
     let mut entries = [0; 20];
     entries[0] = 1;
@@ -218,8 +218,7 @@ fn entries_by_index(addr_base: u8, rnglists_base: u8, index: u8) -> [u8; 20] {
     entries
 }
 
-/// Checks what a scope covers by tables in the 64-bit format,
-/// of these bases and an index of a list.
+/// Checks the ranges of a scope, given the bases of tables in the 64-bit format and a list index.
 fn is_list(
     rt: &(impl Abort + AllocGlobal),
     bases: (u8, u8),

@@ -1,4 +1,4 @@
-//! Headers of units, and the places that they name.
+//! Unit headers, and the offsets that they contain.
 
 use crate::fixtures::*;
 use crate::units::{TREES, bare};
@@ -7,12 +7,12 @@ use std::test::*;
 
 #[test]
 fn types_of_units(rt: HostRuntime) -> Result<(), Fail> {
-    // a type unit that ends behind its type
+    // a type unit that ends after its type
     let mut info = Vec::new(rt.alloc());
     info.extend_from_slice(&[3, 0, 0, 0, 5, 0, 2])?;
-    // one with bytes that are not read
+    // a type unit with bytes that are not read
     add_unit(&mut info, 2, 0xff, &[0xff, 0xff])?;
-    // a partial unit at 21
+    // a partial unit at offset 21
     add_unit(&mut info, 3, 0, &[2])?;
     let read = scopes_of(rt.alloc(), &sections(&info, &TREES))?;
     are_equal(&rt, read.roots(), [root(33, 0, 1)].as_slice());
@@ -49,7 +49,7 @@ fn refused_headers(rt: HostRuntime) -> Result<(), Fail> {
     Ok(())
 }
 
-/// A byte behind the unit is a unit that is cut.
+/// A byte after the unit is a truncated unit.
 #[test]
 fn a_byte_behind_a_unit(rt: HostRuntime) -> Result<(), Fail> {
     let mut info = unit(rt.alloc(), &[2])?;

@@ -1,4 +1,4 @@
-//! Tests of `dwarf_entries` on small objects, with answers worked out by hand.
+//! Tests of `dwarf_entries` on small objects, with results computed by hand.
 #![tactic(auto)]
 
 #[cfg(test)]

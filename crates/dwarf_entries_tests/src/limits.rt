@@ -1,4 +1,4 @@
-//! The limits of what is read for an object, and large objects.
+//! The limits on what is read for an object, and large objects.
 
 use crate::fixtures::*;
 use dwarf_bytes::{Cause, LoadFault, Section};
@@ -6,7 +6,7 @@ use std::alloc::{AllocError, Global};
 use std::process::Abort;
 use std::test::*;
 
-/// The ULEB128 of a number below 2^21, spelled in three bytes.
+/// Returns the ULEB128 of a number below 2^21, encoded in three bytes.
 pub fn three_bytes(number: u32) -> [u8; 3] {
     [
         (number % 128) as u8 | 0x80,
@@ -15,8 +15,8 @@ pub fn three_bytes(number: u32) -> [u8; 3] {
     ]
 }
 
-/// The end of an empty table at 0, and at 1 a table of so many subprograms without attributes and
-/// without children, whose codes count up from 1.
+/// Builds two tables: an empty table at offset 0, and at offset 1 a table of `count` subprograms
+/// without attributes and children, whose codes count up from 1.
 fn subprograms(alloc: Global, count: u32) -> Result<Vec<u8>, AllocError> {
     let mut table = Vec::new(alloc);
     table.push(0)?;
@@ -28,7 +28,7 @@ fn subprograms(alloc: Global, count: u32) -> Result<Vec<u8>, AllocError> {
     Ok(table)
 }
 
-/// So many units of 13 bytes with these abbreviations, each of one entry of this code.
+/// Builds `count` units of 13 bytes with these abbreviations, each with one entry of this code.
 fn units(alloc: Global, count: usize, abbreviations: u8, code: u8) -> Result<Vec<u8>, AllocError> {
     let mut info = Vec::new(alloc);
     for _ in 0..count {
@@ -37,7 +37,7 @@ fn units(alloc: Global, count: usize, abbreviations: u8, code: u8) -> Result<Vec
     Ok(info)
 }
 
-/// A table of 65,536 declarations, which is 2^16, is read for each unit: 64 units take all 2^22.
+/// Counts a table of 65,536 (2^16) declarations for each unit: 64 units use up the limit of 2^22.
 #[test]
 fn declarations_of_an_object(rt: HostRuntime) -> Result<(), Fail> {
     let table = subprograms(rt.alloc(), 65_536)?;
@@ -54,8 +54,8 @@ fn declarations_of_an_object(rt: HostRuntime) -> Result<(), Fail> {
     Ok(())
 }
 
-/// The declarations of a unit without attributes, and of a subprogram with so many attributes that
-/// are not used, 0x2000 and on, as flag_present.
+/// Builds the declarations of a unit without attributes, and of a subprogram with `count` unused
+/// attributes as flag_present. Their codes count up from 0x2000.
 fn flags(alloc: Global, count: u32) -> Result<Vec<u8>, AllocError> {
     let mut declared = Vec::new(alloc);
     for number in 0..count {
@@ -65,8 +65,8 @@ fn flags(alloc: Global, count: u32) -> Result<Vec<u8>, AllocError> {
     declarations(alloc, (&[], &[]), (&declared, &[]))
 }
 
-/// A hundred thousand subprograms of a hundred thousand attributes each take one byte each. A step
-/// for each attribute of each entry would never end.
+/// Reads 100,000 subprograms of one byte each, with 100,000 attributes each. A reader that takes a
+/// step for each attribute of each entry would not finish.
 #[test]
 fn entries_of_many_flags(rt: HostRuntime) -> Result<(), Fail> {
     let table = flags(rt.alloc(), 100_000)?;
@@ -86,8 +86,8 @@ fn entries_of_many_flags(rt: HostRuntime) -> Result<(), Fail> {
     Ok(())
 }
 
-/// Checks that so many units of 12 bytes and an entry each are read,
-/// whose roots are their only scopes.
+/// Checks that `count` units are read, each with a header of 12 bytes and one entry. The roots are
+/// the only scopes.
 fn are_units(
     rt: &(impl Abort + AllocGlobal),
     info: &[u8],
@@ -113,7 +113,7 @@ fn units_of_one_table(rt: HostRuntime) -> Result<(), Fail> {
     are_units(&rt, &info, &table, 4_000, 1)
 }
 
-/// The table is read once, not once a unit.
+/// The table is parsed once, not once for each unit.
 #[test]
 fn units_of_one_long_declaration(rt: HostRuntime) -> Result<(), Fail> {
     let table = flags(rt.alloc(), 100_000)?;
@@ -121,8 +121,8 @@ fn units_of_one_long_declaration(rt: HostRuntime) -> Result<(), Fail> {
     are_units(&rt, &info, &table, 20_000, 1)
 }
 
-/// Puts a unit of these entries, of at most 247 bytes, behind others,
-/// whose abbreviations stand anywhere.
+/// Appends a unit with these entries, which have at most 247 bytes. Its abbreviations may be at
+/// any offset.
 pub fn add_unit_at(
     info: &mut Vec<u8>,
     abbreviations: usize,
@@ -137,7 +137,8 @@ pub fn add_unit_at(
     Ok(())
 }
 
-/// So many units of one entry of this code, whose abbreviations stand at one of two places in turn.
+/// Builds `count` units with one entry of this code, whose abbreviations alternate between two
+/// offsets.
 fn units_in_turn(
     alloc: Global,
     count: usize,
@@ -152,7 +153,7 @@ fn units_in_turn(
     Ok(info)
 }
 
-/// Each of the two tables is read once, not once a unit.
+/// Each of the two tables is parsed once, not once for each unit.
 #[test]
 fn units_of_two_long_tables(rt: HostRuntime) -> Result<(), Fail> {
     let mut tables = flags(rt.alloc(), 100_000)?;
@@ -162,7 +163,8 @@ fn units_of_two_long_tables(rt: HostRuntime) -> Result<(), Fail> {
     are_units(&rt, &info, &tables, 2_000, 1)
 }
 
-/// The declarations of both tables count for each unit: 64 units of 65,536 take all 2^22.
+/// The declarations of both tables count for each unit: 64 units of 65,536 declarations use up the
+/// limit of 2^22.
 #[test]
 fn declarations_of_two_tables(rt: HostRuntime) -> Result<(), Fail> {
     let mut tables = subprograms(rt.alloc(), 65_536)?;
@@ -178,7 +180,8 @@ fn declarations_of_two_tables(rt: HostRuntime) -> Result<(), Fail> {
     Ok(())
 }
 
-/// The table of each unit begins with another declaration of a thousand. Not all of them are kept.
+/// The table of each unit starts at a different one of 1,000 declarations. Not all of the tables
+/// fit into the cache.
 #[test]
 fn units_of_overlapping_tables(rt: HostRuntime) -> Result<(), Fail> {
     let table = subprograms(rt.alloc(), 1_000)?;

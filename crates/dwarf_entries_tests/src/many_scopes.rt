@@ -1,20 +1,20 @@
-//! More scopes, ranges and calls than sixteen bits count.
+//! More scopes, ranges and calls than fit into 16 bits.
 
 use crate::fixtures::*;
 use dwarf_bytes::Section;
 use std::alloc::{AllocError, Global};
 use std::test::*;
 
-/// A unit without attributes; a subprogram with a name; and one with low_pc as addr, high_pc as
-/// data1, call_file as data8 and abstract_origin as ref4.
+/// A unit without attributes, a subprogram with a name, and a subprogram with low_pc as addr,
+/// high_pc as data1, call_file as data8 and abstract_origin as ref4.
 const TABLE: [u8; 29] = [
     1, 0x11, 1, 0, 0, 2, 0x2e, 0, 0x03, 0x08, 0, 0, 3, 0x2e, 0, 0x11, 0x01, 0x12, 0x0b, 0x58, 0x07,
     0x31, 0x13, 0, 0, 0, 0, 0, 0,
 ];
 
-/// The subprogram `f` at 13, and from 16 on, each of 22 bytes, so many whose origin it is. Each
-/// covers the 16 bytes after those of the one before, from 0x1000 on, and is called in the next
-/// file, from 2^32 on.
+/// Builds the subprogram `f` at offset 13, and from offset 16 on `count` subprograms of 22 bytes,
+/// whose origin it is. Each covers the 16 bytes after the previous one, from 0x1000 on. Each is
+/// called in the next file, from 2^32 on.
 fn unit_of_many(alloc: Global, count: u64) -> Result<Vec<u8>, AllocError> {
     let mut entries = Vec::new(alloc);
     entries.extend_from_slice(&[1, 2, b'f', 0])?;

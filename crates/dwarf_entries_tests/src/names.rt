@@ -1,4 +1,4 @@
-//! Names, and the paths along which they are looked for.
+//! Names, and the origin chains on which they are found.
 
 use crate::fixtures::*;
 use dwarf_bytes::{Cause, LoadFault, Section};
@@ -7,13 +7,13 @@ use std::alloc::AllocError;
 use std::process::Abort;
 use std::test::*;
 
-/// `ab` at 0, `c` at 3.
+/// The strings `ab` at offset 0 and `c` at offset 3.
 const TEXTS: [u8; 5] = [0x61, 0x62, 0, 0x63, 0];
 
 /// A table of two string offsets, 3 and 0, whose base is 8.
 const OFFSETS: [u8; 16] = [12, 0, 0, 0, 5, 0, 0, 0, 3, 0, 0, 0, 0, 0, 0, 0];
 
-/// The texts and their offsets, beside these entries.
+/// Adds the strings and their offsets to these sections.
 fn with_texts(sections: Sections<'_>) -> Sections<'_> {
     Sections {
         debug_str: &TEXTS,
@@ -23,7 +23,7 @@ fn with_texts(sections: Sections<'_>) -> Sections<'_> {
     }
 }
 
-/// Checks the name of a subprogram at 17, which is an index, in a unit with this base.
+/// Checks the name of a subprogram at offset 17, which is an index, in a unit with this base.
 fn is_indexed(
     rt: &(impl Abort + AllocGlobal),
     base: u8,
@@ -56,19 +56,19 @@ fn a_name_by_index_without_a_base(rt: HostRuntime) -> Result<(), Fail> {
     Ok(())
 }
 
-/// A subprogram at 17 with a name in each form, or with one that is no text.
+/// Reads a subprogram at offset 17 with a name in each form, or with an invalid name.
 #[test]
 fn forms_of_names(rt: HostRuntime) -> Result<(), Fail> {
     let ab = text(Section::DebugStr, 0);
     let names: [(u8, &[u8], Option<TextOffset>); 13] = [
-        // string, in the entry
+        // string, in the entry itself
         (0x08, &[0x7a, 0], text(Section::DebugInfo, 18)),
         (0x08, &[0], text(Section::DebugInfo, 18)),
         // strp
         (0x0e, &[3, 0, 0, 0], text(Section::DebugStr, 3)),
         (0x0e, &[4, 0, 0, 0], text(Section::DebugStr, 4)),
         (0x0e, &[5, 0, 0, 0], None),
-        // line_strp, at the last text without a NUL
+        // line_strp: the last terminated string, and the unterminated bytes after it
         (0x1f, &[2, 0, 0, 0], text(Section::DebugLineStr, 2)),
         (0x1f, &[5, 0, 0, 0], None),
         // strx to strx4
@@ -93,7 +93,7 @@ fn forms_of_names(rt: HostRuntime) -> Result<(), Fail> {
     Ok(())
 }
 
-/// An indexed name counts from the base of the unit in which it stands.
+/// The index of a name is relative to the base of the unit that contains the name.
 #[test]
 fn names_of_another_unit(rt: HostRuntime) -> Result<(), Fail> {
     let table = [
@@ -104,15 +104,15 @@ fn names_of_another_unit(rt: HostRuntime) -> Result<(), Fail> {
         0,
     ];
     let units: [Unit<'_>; 3] = [
-        // the name of index 0 at 17, and the origin 42 at 19
+        // the name of index 0 at offset 17, and the origin 42 at offset 19
         (1, 0, &[1, 8, 0, 0, 0, 2, 0, 3, 42, 0, 0, 0, 0]),
-        // the name of index 0 at 42, and the origin 17 at 44
+        // the name of index 0 at offset 42, and the origin 17 at offset 44
         (1, 0, &[1, 24, 0, 0, 0, 2, 0, 3, 17, 0, 0, 0, 0]),
-        // the origin 17 at 63, in a unit without a base
+        // the origin 17 at offset 63, in a unit without a base
         (1, 0, &[4, 3, 17, 0, 0, 0, 0]),
     ];
     let info = units_of(rt.alloc(), &units)?;
-    // a table of the offsets 3 and 0 at base 8, and one of the offset 0 at base 24
+    // a table with the offsets 3 and 0 at base 8, and a table with the offset 0 at base 24
     let offsets = [
         12, 0, 0, 0, 5, 0, 0, 0, 3, 0, 0, 0, 0, 0, 0, 0, 8, 0, 0, 0, 5, 0, 0, 0, 0, 0, 0, 0,
     ];
@@ -150,7 +150,7 @@ const NAMED: [u8; 58] = [
     7, 0x2e, 0, 0x47, 0x11, 0x31, 0x20, 0, 0, 0,
 ];
 
-/// A unit of them, by the place of each in the section.
+/// A unit with these entries, by their offsets in the section.
 const NAMED_ENTRIES: [u8; 35] = [
     1, // 12
     2, 17, 0x4c, 0, // 13: origin 17, linkage_name L
@@ -163,7 +163,7 @@ const NAMED_ENTRIES: [u8; 35] = [
     0,
 ];
 
-/// A text of `.debug_info`.
+/// Returns the location of a string of `.debug_info`.
 fn at(offset: usize) -> Option<TextOffset> {
     text(Section::DebugInfo, offset)
 }
@@ -197,7 +197,7 @@ fn first_names_on_a_path(rt: HostRuntime) -> Result<(), Fail> {
     Ok(())
 }
 
-/// A path may lead out of the scopes, and into them again.
+/// An origin chain may contain entries that are not scopes.
 #[test]
 fn paths_out_of_the_scopes(rt: HostRuntime) -> Result<(), Fail> {
     let info = unit(rt.alloc(), &PATHS)?;
@@ -207,7 +207,7 @@ fn paths_out_of_the_scopes(rt: HostRuntime) -> Result<(), Fail> {
     Ok(())
 }
 
-/// The variable at 19 names 14, where no entry stands.
+/// The variable at offset 19 refers to offset 14, where there is no entry.
 #[test]
 fn a_path_to_no_entry(rt: HostRuntime) -> Result<(), Fail> {
     let mut entries = PATHS;
@@ -226,7 +226,7 @@ const OUTSIDE: [u8; 36] = [
     0,
 ];
 
-/// A unit of them, by the place of each in the section.
+/// A unit with these entries, by their offsets in the section.
 const PATHS: [u8; 13] = [
     1, // 12
     2, 21, 0x4c, 0, // 13: specification 21, linkage_name L

@@ -1,4 +1,4 @@
-//! References between units whose tables overlap, so that not all of these stay.
+//! References between units whose tables overlap, so that not all tables fit into the cache.
 
 use crate::fixtures::*;
 use crate::limits::{add_unit_at, three_bytes};
@@ -7,9 +7,9 @@ use dwarf_entries::Scopes;
 use std::alloc::{AllocError, Global};
 use std::test::*;
 
-/// At 1 the declarations of a thousand subprograms, in seven bytes each, whose codes count up from
-/// 1. Behind them those of a unit with children, of a subprogram with a specification as ref_addr,
-/// and of one with a name as string.
+/// Builds a table at offset 1 with the declarations of 1,000 subprograms, of seven bytes each,
+/// whose codes count up from 1. They are followed by the declarations of a unit with children, of
+/// a subprogram with a specification as ref_addr, and of a subprogram with a name as string.
 fn declared(alloc: Global) -> Result<Vec<u8>, AllocError> {
     let mut table = Vec::new(alloc);
     table.push(0)?;
@@ -26,17 +26,17 @@ fn declared(alloc: Global) -> Result<Vec<u8>, AllocError> {
     Ok(table)
 }
 
-/// The entry of a subprogram that refers to a place of the section below 2^16.
+/// Appends a subprogram that refers to an offset of the section below 2^16.
 fn add_reference(entries: &mut Vec<u8>, place: usize) -> Result<(), AllocError> {
     entries.extend_from_slice(&three_bytes(1_002))?;
     entries.extend_from_slice(&[(place % 256) as u8, (place / 256 % 256) as u8, 0, 0])?;
     Ok(())
 }
 
-/// So many times two units, of 30 and of 26 bytes. The first has a subprogram at 15, which refers
-/// to 50 of these bytes, and one at 22, which refers to 45. There two stand in the second, with
-/// their names `y` and `z` at 48 and 53. The table of each unit begins one declaration after that
-/// of the unit before.
+/// Builds `count` pairs of units, of 30 and 26 bytes. In the first unit, the subprogram at offset
+/// 15 of the pair refers to offset 50, and the subprogram at 22 refers to 45. The subprograms at
+/// 45 and 50 are in the second unit, with their names `y` and `z` at 48 and 53. The table of each
+/// unit starts one declaration after the table of the unit before it.
 fn pairs(alloc: Global, count: usize) -> Result<Vec<u8>, AllocError> {
     let mut info = Vec::new(alloc);
     for number in 0..count {
@@ -59,7 +59,7 @@ fn pairs(alloc: Global, count: usize) -> Result<Vec<u8>, AllocError> {
     Ok(info)
 }
 
-/// From some 90 tables of a thousand declarations on, the next ones do not stay.
+/// After about 90 tables of 1,000 declarations the cache is full.
 #[test]
 fn references_between_overlapping_tables(rt: HostRuntime) -> Result<(), Fail> {
     let table = declared(rt.alloc())?;

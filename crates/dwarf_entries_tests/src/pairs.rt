@@ -1,4 +1,4 @@
-//! Pairs of addresses.
+//! Ranges from low_pc and high_pc.
 
 use crate::fixtures::*;
 use crate::ranges::ADDRESSES;
@@ -13,11 +13,11 @@ const LOW: [u8; 8] = [0, 0x10, 0, 0, 0, 0, 0, 0];
 /// The address 0x1010.
 const HIGH: [u8; 8] = [0x10, 0x10, 0, 0, 0, 0, 0, 0];
 
-/// The highest address but one.
+/// The second-highest address.
 const BELOW_TOP: [u8; 8] = [0xfe, 0xff, 0xff, 0xff, 0xff, 0xff, 0xff, 0xff];
 
-/// Checks what a subprogram at 17 with these attributes covers,
-/// in a unit with a table of addresses.
+/// Checks the range of a subprogram at offset 17 with these attributes, in a unit with an address
+/// table.
 fn pair(
     rt: &(impl Abort + AllocGlobal),
     declared: &[u8],
@@ -48,7 +48,7 @@ fn pairs(rt: HostRuntime) -> Result<(), Fail> {
     let second = range(0x2000, 0x2090);
     let top = range(u64::MAX - 1, u64::MAX);
     let pairs: [(&[u8], [&[u8]; 2], Range); 9] = [
-        // high_pc as a constant, which counts from low_pc
+        // high_pc as a constant, which is relative to low_pc
         (&[0x11, 1, 0x12, 0x0b], [&LOW, &[0x10]], main),
         (&[0x11, 1, 0x12, 0x0d], [&LOW, &[0x10]], main),
         (&[0x11, 1, 0x12, 0x21, 0x10], [&LOW, &[]], main),
@@ -75,7 +75,7 @@ fn pairs_that_cover_nothing(rt: HostRuntime) -> Result<(), Fail> {
         (&[0x11, 1, 0x12, 0x0b], [&LOW, &[0]]),
         (&[0x11, 1, 0x12, 1], [&LOW, &LOW]),
         (&[0x11, 1, 0x12, 1], [&BELOW_TOP, &BELOW_TOP]),
-        // no high_pc: an index is not looked up
+        // no high_pc: an index is not resolved
         (&[], [&[], &[]]),
         (&[0x11, 1], [&LOW, &[]]),
         (&[0x11, 0x1b], [&[9], &[]]),
@@ -98,12 +98,12 @@ fn faults_of_pairs(rt: HostRuntime) -> Result<(), Fail> {
         ),
         (&[0x11, 0x29, 0x12, 0x0b], [&[2], &[1]], Cause::Index),
         (&[0x11, 0x29, 0x12, 0x29], [&[0], &[2]], Cause::Index),
-        // high_pc without low_pc, and ranges beside either
+        // high_pc without low_pc, and ranges together with either
         (&[0x12, 0x0b], [&[1], &[]], Cause::PcAndRanges),
         (&[0x11, 1, 0x55, 0x17], [&LOW, &list], Cause::PcAndRanges),
         (&[0x12, 0x0b, 0x55, 0x17], [&[1], &list], Cause::PcAndRanges),
         (&[0x11, 0x29, 0x55, 0x17], [&[2], &list], Cause::PcAndRanges),
-        // a name that is no text, before the ranges
+        // an invalid name, which is reported before the ranges
         (&[0x03, 0x0e, 0x12, 0x0b], [&list, &[1]], Cause::Text),
     ];
     for (declared, values, cause) in pairs {

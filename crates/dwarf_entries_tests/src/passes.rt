@@ -1,10 +1,10 @@
-//! The order in which the faults of several units are told.
+//! The order in which the faults of several units are reported.
 
 use crate::fixtures::*;
 use dwarf_bytes::{Cause, LoadFault, Section};
 use std::test::*;
 
-/// The declarations of the units below, and at 38 a table whose declaration is bad.
+/// The declarations of the units below, and at offset 38 a table with an invalid declaration.
 const TABLES: [u8; 44] = [
     1, 0x11, 0, 0, 0, // compilation unit
     2, 0x11, 0, 0x73, 0x17, 0, 0, // compilation unit: addr_base as sec_offset
@@ -17,7 +17,7 @@ const TABLES: [u8; 44] = [
 ];
 
 /// A unit with one fault: its type, the offset of its abbreviations, its entries, and the fault
-/// with its place in the unit.
+/// with its offset in the unit.
 #[derive(Clone, Copy)]
 struct Bad<'a> {
     unit_type: u8,
@@ -32,12 +32,12 @@ impl<'a> Bad<'a> {
         (self.unit_type, self.abbreviations, self.entries)
     }
 
-    /// The bytes of the unit.
+    /// Returns the size of the unit in bytes.
     fn len(self) -> u64 {
         (self.entries.len() as u64).saturating_add(12)
     }
 
-    /// The fault of the unit, where it starts at this offset.
+    /// Returns the fault of the unit if it starts at this offset.
     fn fault(self, start: u64) -> LoadFault {
         if self.cause == Cause::Children {
             return LoadFault {
@@ -50,8 +50,8 @@ impl<'a> Bad<'a> {
     }
 }
 
-/// A unit with a fault of each pass: of its header, its abbreviations, its entries, its root's
-/// tables and its scopes.
+/// Units with a fault of each pass: of the header, the abbreviations, the entries, the tables of
+/// the root, and the scopes.
 const FAULTS: [Bad<'static>; 5] = [
     Bad {
         unit_type: 4,
@@ -90,7 +90,8 @@ const FAULTS: [Bad<'static>; 5] = [
     },
 ];
 
-/// Of two units the fault of the earlier pass is told, and in one pass that of the first unit.
+/// If two units have faults, the fault of the earlier pass is reported. If both are of the same
+/// pass, the fault of the first unit is reported.
 #[test]
 fn faults_of_two_units(rt: HostRuntime) -> Result<(), Fail> {
     for (pass, first) in FAULTS.iter().enumerate() {
@@ -107,7 +108,7 @@ fn faults_of_two_units(rt: HostRuntime) -> Result<(), Fail> {
     Ok(())
 }
 
-/// A good unit before a bad one or behind it does not help.
+/// A valid unit before or after an invalid one does not hide the fault.
 #[test]
 fn one_bad_unit_refuses_all(rt: HostRuntime) -> Result<(), Fail> {
     let good: Unit<'_> = (1, 0, &[5, 6, 0]);
@@ -118,8 +119,8 @@ fn one_bad_unit_refuses_all(rt: HostRuntime) -> Result<(), Fail> {
     Ok(())
 }
 
-/// In the pass over scopes the names of the first come before its ranges, and its ranges before the
-/// names of the next.
+/// In the pass over scopes, the names of the first scope are resolved before its ranges, and its
+/// ranges before the names of the next scope.
 #[test]
 fn faults_of_two_scopes(rt: HostRuntime) -> Result<(), Fail> {
     let first = [5, 4, 1, 3, 0, 0, 0, 0, 0];
@@ -129,7 +130,7 @@ fn faults_of_two_scopes(rt: HostRuntime) -> Result<(), Fail> {
     Ok(())
 }
 
-/// A unit without entries has its abbreviations judged, and no code of an empty table is found.
+/// The abbreviations of a unit without entries are validated. An empty table contains no code.
 #[test]
 fn tables_of_each_unit(rt: HostRuntime) -> Result<(), Fail> {
     have_fault(&rt, &[(1, 37, &[])], &TABLES, None)?;

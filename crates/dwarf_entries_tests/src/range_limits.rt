@@ -1,4 +1,4 @@
-//! The limit of range items of an object.
+//! The limit on the range items of an object.
 
 use crate::fixtures::*;
 use dwarf_bytes::Cause;
@@ -7,23 +7,23 @@ use std::alloc::{AllocError, Global};
 use std::process::Abort;
 use std::test::*;
 
-/// The unit has low_pc as addr; the subprograms have ranges as sec_offset, or low_pc as addr and
+/// The unit has low_pc as addr. The subprograms have ranges as sec_offset, or low_pc as addr and
 /// high_pc as data1.
 const TABLE: [u8; 24] = [
     1, 0x11, 1, 0x11, 0x01, 0, 0, 2, 0x2e, 0, 0x55, 0x17, 0, 0, 3, 0x2e, 0, 0x11, 0x01, 0x12, 0x0b,
     0, 0, 0,
 ];
 
-/// A low_pc of 0, and the one of dropped code.
+/// A low_pc of 0. `DROPPED` is the tombstone.
 const LIVE: [u8; 8] = [0; 8];
 
 const DROPPED: [u8; 8] = [0xff; 8];
 
-/// A subprogram with a pair of addresses.
+/// A subprogram with low_pc and high_pc.
 const PAIR: [u8; 10] = [3, 0xff, 0xff, 0xff, 0xff, 0xff, 0xff, 0xff, 0xff, 1];
 
-/// A unit of this low_pc with so many subprograms, the first at 21 and each of five bytes, whose
-/// ranges are the list at 0, and with what stands behind them.
+/// Builds a unit with this low_pc and `count` subprograms, followed by the entries `behind`. The
+/// first subprogram is at offset 21. Each has five bytes and refers to the list at offset 0.
 fn listed_scopes(
     alloc: Global,
     low_pc: &[u8; 8],
@@ -41,7 +41,7 @@ fn listed_scopes(
     unit(alloc, &entries)
 }
 
-/// A list of so many times offset_pair 0 to 0.
+/// Builds a list with `count` entries offset_pair 0 to 0.
 fn empty_pairs(alloc: Global, count: usize) -> Result<Vec<u8>, AllocError> {
     let mut list = Vec::new(alloc);
     for _ in 0..count {
@@ -51,8 +51,8 @@ fn empty_pairs(alloc: Global, count: usize) -> Result<Vec<u8>, AllocError> {
     Ok(list)
 }
 
-/// Checks whether a unit of this low_pc is refused for its range items, at 341. The list at 0 has
-/// 65,536 entries, which is 2^16, and each subprogram reads all of them.
+/// Checks whether a unit with this low_pc is refused at offset 341 for its range items. The list
+/// at offset 0 has 65,536 (2^16) entries, and each subprogram reads all of them.
 fn has_too_many(
     rt: &(impl Abort + AllocGlobal),
     low_pc: &[u8; 8],
@@ -70,7 +70,8 @@ fn has_too_many(
     Ok(())
 }
 
-/// 64 scopes take all 2^22 items. Entries of dropped code count too, and so does a pair.
+/// 64 scopes use up the limit of 2^22 items. Entries with a tombstone count too, and so does a
+/// low_pc with a high_pc.
 #[test]
 fn range_items_of_an_object(rt: HostRuntime) -> Result<(), Fail> {
     has_too_many(&rt, &LIVE, 65, &[], Some(Cause::TooMany))?;

@@ -6,7 +6,8 @@ use dwarf_entries::{Range, Scope, Scopes, Sections};
 use std::process::Abort;
 use std::test::*;
 
-/// Three ranges: from the base in force, from a base of the list, and with a length.
+/// A list of three ranges: relative to the initial base, relative to a base that the list sets,
+/// and with a length.
 const LIST: [u8; 29] = [
     4, 0, 8, // offset_pair 0 to 8
     4, 8, 8, // offset_pair 8 to 8, which is empty
@@ -66,8 +67,8 @@ fn a_list_without_a_base(rt: HostRuntime) -> Result<(), Fail> {
     Ok(())
 }
 
-/// Checks lists at 0 that a subprogram at 13 names, in a unit without bases: each covers nothing,
-/// or has this fault.
+/// Checks lists at offset 0 that a subprogram at offset 13 refers to, in a unit without bases.
+/// Each list has no range, or has this fault.
 fn are_lists(
     rt: &(impl Abort + AllocGlobal),
     lists: &[(&[u8], Option<Cause>)],
@@ -90,13 +91,13 @@ fn are_lists(
 #[test]
 fn ends_and_kinds_of_lists(rt: HostRuntime) -> Result<(), Fail> {
     let lists: [(&[u8], Option<Cause>); 5] = [
-        // no list, and one that is not ended
+        // no list, and a list that is not terminated
         (&[], Some(Cause::Short)),
         (&[5, 0, 0, 0, 0, 0, 0, 0, 0], Some(Cause::Short)),
-        // no such kind
+        // an unknown kind
         (&[8], Some(Cause::RangeKind)),
         (&[0xff, 0], Some(Cause::RangeKind)),
-        // nothing behind the end of the list is read
+        // nothing after the end of the list is read
         (&[0, 8], None),
     ];
     are_lists(&rt, &lists)
@@ -109,14 +110,15 @@ fn list_entries_without_a_base(rt: HostRuntime) -> Result<(), Fail> {
         (&[1, 0, 0], Some(Cause::Base)),
         (&[2, 0, 0, 0], Some(Cause::Base)),
         (&[3, 0, 0, 0], Some(Cause::Base)),
-        // operands before the base that is missing
+        // the operands are read before the missing base is reported
         (&[4, 0], Some(Cause::Short)),
         (&[4, 0, 0, 0], Some(Cause::Base)),
     ];
     are_lists(&rt, &lists)
 }
 
-/// Offsets that pass the highest address, before their order; and that do not.
+/// Offsets beyond the highest address, which are reported before their order, and offsets up to
+/// it.
 #[test]
 fn offsets_from_a_base(rt: HostRuntime) -> Result<(), Fail> {
     let lists: [(&[u8], Option<Cause>); 5] = [
@@ -132,7 +134,7 @@ fn offsets_from_a_base(rt: HostRuntime) -> Result<(), Fail> {
             ],
             Some(Cause::Overflow),
         ),
-        // a sum that is the highest address is no mark of dropped code
+        // a sum that is the highest address is not a tombstone
         (
             &[
                 5, 0xfe, 0xff, 0xff, 0xff, 0xff, 0xff, 0xff, 0xff, 4, 1, 0, 0,
@@ -156,7 +158,7 @@ fn offsets_from_a_base(rt: HostRuntime) -> Result<(), Fail> {
 #[test]
 fn ends_and_lengths_from_a_start(rt: HostRuntime) -> Result<(), Fail> {
     let lists: [(&[u8], Option<Cause>); 6] = [
-        // start_end that goes back, and whose ends are equal
+        // start_end that is backwards, and one that is empty
         (
             &[6, 2, 0, 0, 0, 0, 0, 0, 0, 1, 0, 0, 0, 0, 0, 0, 0, 0],
             Some(Cause::RangeBackwards),
@@ -169,7 +171,7 @@ fn ends_and_lengths_from_a_start(rt: HostRuntime) -> Result<(), Fail> {
             &[6, 2, 0, 0, 0, 0, 0, 0, 0, 1, 0, 0, 0, 0, 0, 0],
             Some(Cause::Short),
         ),
-        // start_length past the highest address
+        // start_length beyond the highest address
         (
             &[7, 0xfe, 0xff, 0xff, 0xff, 0xff, 0xff, 0xff, 0xff, 2, 0],
             Some(Cause::Overflow),

@@ -1,4 +1,4 @@
-//! The references between entries.
+//! References between entries.
 
 use crate::fixtures::*;
 use dwarf_bytes::{Cause, Section};
@@ -8,8 +8,8 @@ use std::alloc::{AllocError, Global};
 use std::process::Abort;
 use std::test::*;
 
-/// Subprograms from 13 on, of which each but the last names the next, by so many hops, and the last
-/// is named `z`.
+/// Builds a chain of subprograms from offset 13 on. Each except the last refers to the next one,
+/// with `hops` references in all. The last is named `z`.
 fn linked(alloc: Global, hops: u8) -> Result<Vec<u8>, AllocError> {
     let mut entries = Vec::new(alloc);
     entries.push(1)?;
@@ -22,7 +22,7 @@ fn linked(alloc: Global, hops: u8) -> Result<Vec<u8>, AllocError> {
     unit(alloc, &entries)
 }
 
-/// A unit, a subprogram whose abstract_origin is ref4, and one with a name.
+/// A unit, a subprogram whose abstract_origin is ref4, and a subprogram with a name.
 const LINKED: [u8; 20] = [
     1, 0x11, 1, 0, 0, // unit
     2, 0x2e, 0, 0x31, 0x13, 0, 0, // subprogram: abstract_origin as ref4
@@ -45,7 +45,7 @@ fn one_hop_too_many(rt: HostRuntime) -> Result<(), Fail> {
     Ok(())
 }
 
-/// Of a bad reference behind the last hop nothing is told.
+/// A reference that exceeds the limit is not resolved, so it may be invalid.
 #[test]
 fn a_bad_reference_behind_the_last_hop(rt: HostRuntime) -> Result<(), Fail> {
     let mut info = linked(rt.alloc(), 17)?;
@@ -57,8 +57,8 @@ fn a_bad_reference_behind_the_last_hop(rt: HostRuntime) -> Result<(), Fail> {
     Ok(())
 }
 
-/// Two units whose roots are named `q`, at 12, and `r`, at 28. The abstract origin of the
-/// subprogram at 31 is this value.
+/// Builds two units whose roots are named `q`, at offset 12, and `r`, at offset 28. The abstract
+/// origin of the subprogram at 31 has this value.
 fn referring(alloc: Global, value: &[u8]) -> Result<Vec<u8>, AllocError> {
     let mut entries = Vec::new(alloc);
     entries.extend_from_slice(&[1, 0x72, 0, 2])?;
@@ -72,7 +72,7 @@ fn forms_of_references(rt: HostRuntime) -> Result<(), Fail> {
     let q = text(Section::DebugInfo, 13);
     let r = text(Section::DebugInfo, 29);
     let references: [(u8, &[u8], Option<TextOffset>); 9] = [
-        // ref1, ref2, ref4, ref8 and ref_udata count from the unit, ref_addr from the section
+        // ref1, ref2, ref4, ref8 and ref_udata are relative to the unit, ref_addr to the section
         (0x11, &[12], r),
         (0x12, &[12, 0], r),
         (0x13, &[12, 0, 0, 0], r),
@@ -91,7 +91,7 @@ fn forms_of_references(rt: HostRuntime) -> Result<(), Fail> {
     Ok(())
 }
 
-/// Checks the name of the subprogram, whose abstract origin has this form.
+/// Checks the name of the subprogram if its abstract origin has this form.
 fn has_origin(
     rt: &(impl Abort + AllocGlobal),
     form: u8,
@@ -108,19 +108,19 @@ fn has_origin(
 #[test]
 fn references_to_no_entry(rt: HostRuntime) -> Result<(), Fail> {
     let references: [(u8, &[u8]); 11] = [
-        // ref_addr: a header, inside a root, the nulls of both units, past the section
+        // ref_addr: a header, within a root, the null entries of both units, beyond the section
         (0x10, &[0, 0, 0, 0]),
         (0x10, &[16, 0, 0, 0]),
         (0x10, &[13, 0, 0, 0]),
         (0x10, &[15, 0, 0, 0]),
         (0x10, &[36, 0, 0, 0]),
         (0x10, &[37, 0, 0, 0]),
-        // ref1: the unit's header, inside its root, its null, past it
+        // ref1: the header of the unit, within its root, its null entry, beyond its end
         (0x11, &[0]),
         (0x11, &[13]),
         (0x11, &[17]),
         (0x11, &[18]),
-        // ref8: past all numbers of 64 bits
+        // ref8: a sum beyond 64 bits
         (0x14, &[0xff; 8]),
     ];
     for (form, value) in references {
@@ -132,7 +132,7 @@ fn references_to_no_entry(rt: HostRuntime) -> Result<(), Fail> {
     Ok(())
 }
 
-/// Nulls, headers and the inside of entries of the first object.
+/// References to null entries, to headers, and into the middle of entries of the first object.
 #[test]
 fn an_origin_that_is_no_entry(rt: HostRuntime) -> Result<(), Fail> {
     let whole = sections_of(inlined())?;
@@ -150,7 +150,7 @@ fn an_origin_that_is_no_entry(rt: HostRuntime) -> Result<(), Fail> {
     Ok(())
 }
 
-/// References that count from a unit stay in it: ref4 to the root of the next unit.
+/// A reference that is relative to a unit cannot leave it: ref4 to the root of the next unit.
 #[test]
 fn references_out_of_the_unit(rt: HostRuntime) -> Result<(), Fail> {
     let table = declarations(rt.alloc(), (&[], &[]), (&[0x31, 0x13], &[]))?;
@@ -160,7 +160,7 @@ fn references_out_of_the_unit(rt: HostRuntime) -> Result<(), Fail> {
     Ok(())
 }
 
-/// No entry of a type unit is read: ref_addr to what would be the root of the one before.
+/// Entries of type units are not read: ref_addr to what would be the root of the unit before.
 #[test]
 fn references_into_a_type_unit(rt: HostRuntime) -> Result<(), Fail> {
     let table = declarations(rt.alloc(), (&[], &[]), (&[0x31, 0x10], &[]))?;

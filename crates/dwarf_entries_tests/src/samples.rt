@@ -11,7 +11,7 @@ use dwarf_samples::{
 use std::process::Abort;
 use std::test::*;
 
-/// A subprogram of this name without code.
+/// Returns a subprogram with this name that has no code.
 fn subprogram(offset: usize, end: usize, name: Option<TextOffset>) -> Row {
     Row {
         kind: ScopeKind::Subprogram,
@@ -23,8 +23,8 @@ fn subprogram(offset: usize, end: usize, name: Option<TextOffset>) -> Row {
     }
 }
 
-/// The scopes of the first object: `mid` and `leaf`, which have no code of their own, `main`, `mid`
-/// inlined into it, and `leaf` inlined into that.
+/// Returns the scopes of the first object: `mid` and `leaf`, which have no code of their own,
+/// `main`, `mid` inlined into `main`, and `leaf` inlined into that.
 fn rows() -> [Row; 5] {
     let mid = text(Section::DebugInfo, 26);
     let leaf = text(Section::DebugInfo, 31);
@@ -73,7 +73,7 @@ fn scopes_of_a_sample(rt: HostRuntime) -> Result<(), Fail> {
     has(&rt, inlined(), &rows())
 }
 
-/// What scopes share is told of the number that a scope has, by whatever scopes are asked.
+/// Shared data is looked up by the number of the scope, in whatever `Scopes` is passed.
 #[test]
 fn scopes_of_another_object(rt: HostRuntime) -> Result<(), Fail> {
     let bare = leaf_without_code();
@@ -88,7 +88,7 @@ fn scopes_of_another_object(rt: HostRuntime) -> Result<(), Fail> {
     Ok(())
 }
 
-/// Checks what scopes tell of the number of a scope: its range, its line program and its call.
+/// Checks the shared data of a scope: its range, its line program and its call.
 fn tells(
     rt: &impl Abort,
     scope: &Scope,
@@ -114,7 +114,7 @@ fn a_scope_without_code(rt: HostRuntime) -> Result<(), Fail> {
     has(&rt, &leaf_without_code(), &rows)
 }
 
-/// The start 2^64-1 of `main`, and of `mid` inlined into it, is that of dropped code.
+/// The start of `main`, or of `mid` inlined into it, is the tombstone 2^64-1.
 #[test]
 fn scopes_of_dropped_code(rt: HostRuntime) -> Result<(), Fail> {
     for (start, dropped) in [(205, 2), (222, 3)] {

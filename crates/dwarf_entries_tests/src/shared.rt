@@ -1,4 +1,5 @@
-//! What scopes share: a list of ranges, a list of large calls, and the roots of their units.
+//! Data that scopes share: a list of ranges, a list of wide call sites, and the roots of their
+//! units.
 
 use crate::fixtures::*;
 use dwarf_entries::{Range, Scopes, Sections};
@@ -6,7 +7,7 @@ use std::alloc::{AllocError, Global};
 use std::process::Abort;
 use std::test::*;
 
-/// Three ranges, each with a length.
+/// A list of three ranges, each with a length.
 const LIST: [u8; 31] = [
     7, 0, 0x30, 0, 0, 0, 0, 0, 0, 5, // start_length 0x3000, 5
     7, 0, 0x40, 0, 0, 0, 0, 0, 0, 6, // start_length 0x4000, 6
@@ -14,7 +15,7 @@ const LIST: [u8; 31] = [
     0, // end_of_list
 ];
 
-/// A unit, and subprograms without a range, with a pair of addresses and with a range list.
+/// A unit, and subprograms without a range, with low_pc and high_pc, and with a range list.
 const COVERING: [u8; 26] = [
     1, 0x11, 1, 0, 0, // unit
     2, 0x2e, 0, 0, 0, // subprogram
@@ -22,7 +23,8 @@ const COVERING: [u8; 26] = [
     4, 0x2e, 0, 0x55, 0x17, 0, 0, // .. of ranges as sec_offset
 ];
 
-/// A unit, and subprograms with a file and a line, without, with a file, and with a line of a call.
+/// A unit, and subprograms with a call file and a call line, with neither, with a file only, and
+/// with a line only.
 const CALLED: [u8; 33] = [
     1, 0x11, 1, 0, 0, // unit
     2, 0x2e, 0, 0x58, 0x07, 0x59, 0x07, 0, 0, // call_file and call_line as data8
@@ -38,7 +40,7 @@ const UNITS: [u8; 17] = [
     3, 0x2e, 0, 0, 0, // subprogram
 ];
 
-/// These declarations, and the end of their table.
+/// Builds a table of these declarations.
 fn table(alloc: Global, declarations: &[u8]) -> Result<Vec<u8>, AllocError> {
     let mut bytes = Vec::new(alloc);
     bytes.extend_from_slice(declarations)?;

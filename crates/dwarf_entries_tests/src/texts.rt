@@ -1,4 +1,4 @@
-//! Long texts, and places in them.
+//! Long strings, and offsets within them.
 
 use crate::fixtures::*;
 use dwarf_bytes::{Cause, Section, text_at};
@@ -7,8 +7,8 @@ use std::alloc::AllocError;
 use std::process::Abort;
 use std::test::*;
 
-/// A text of 10,000 bytes at 0, one of 2 at 10,001, and one without a NUL at 10,004: each is named
-/// by strp, from its start or from a place in it.
+/// A string of 10,000 bytes at offset 0, a string of 2 bytes at 10,001, and an unterminated one at
+/// 10,004. Names refer to the start or the middle of each with strp.
 #[test]
 fn long_texts(rt: HostRuntime) -> Result<(), Fail> {
     let mut texts = Vec::new(rt.alloc());
@@ -35,8 +35,8 @@ fn long_texts(rt: HostRuntime) -> Result<(), Fail> {
     Ok(())
 }
 
-/// Checks that a text of this length stands at this place in `.debug_str`, by the name of a
-/// subprogram at 13.
+/// Checks that a string of this length is at this offset of `.debug_str`, using the name of a
+/// subprogram at offset 13.
 fn is_text(
     rt: &(impl Abort + AllocGlobal),
     texts: &[u8],

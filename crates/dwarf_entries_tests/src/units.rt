@@ -18,7 +18,7 @@ pub const TREES: [u8; 31] = [
     0,
 ];
 
-/// A unit of eight entries, by the place of each in the section.
+/// A unit with eight entries, by their offsets in the section.
 const TREE: [u8; 13] = [
     4, // 12: root
     1, // 13: a subprogram
@@ -35,7 +35,7 @@ const TREE: [u8; 13] = [
     0, // 24: padding
 ];
 
-/// A scope without attributes.
+/// Returns a scope without attributes.
 pub fn bare(offset: usize, end: usize) -> Row {
     Row {
         kind: ScopeKind::Subprogram,
@@ -47,7 +47,7 @@ pub fn bare(offset: usize, end: usize) -> Row {
     }
 }
 
-/// Checks that a unit of these entries is refused.
+/// Checks that a unit with these entries is refused.
 fn is_bad_tree(
     rt: &(impl Abort + AllocGlobal),
     entries: &[u8],
@@ -61,13 +61,13 @@ fn is_bad_tree(
 fn scopes_of_three_trees(rt: HostRuntime) -> Result<(), Fail> {
     let units: [Unit<'_>; 5] = [
         (1, 0, &TREE),
-        // padding at 37, a root at 38, a subprogram at 39
+        // padding at offset 37, a root at 38, a subprogram at 39
         (1, 0, &[0, 4, 2, 0]),
-        // padding alone
+        // only padding
         (1, 0, &[0]),
-        // nothing
+        // no bytes
         (1, 0, &[]),
-        // a root at 78 that is a subprogram
+        // a root at offset 78 that is a subprogram
         (3, 0, &[2]),
     ];
     let info = units_of(rt.alloc(), &units)?;
@@ -93,7 +93,7 @@ fn scopes_of_three_trees(rt: HostRuntime) -> Result<(), Fail> {
     Ok(())
 }
 
-/// Subprograms each below the one before, so many below the root, which is one itself.
+/// Builds nested subprograms, `below` of them below the root, which is a subprogram too.
 fn nested(alloc: Global, below: usize) -> Result<Vec<u8>, AllocError> {
     let mut entries = Vec::new(alloc);
     for _ in 0..=below {
@@ -117,7 +117,7 @@ fn entries_at_the_greatest_depth(rt: HostRuntime) -> Result<(), Fail> {
     Ok(())
 }
 
-/// Checks the number of a scope, that it ends behind the last of 257, and its place.
+/// Checks the number and the offset of a scope, and that it ends after the last of 257 scopes.
 fn stands_at(rt: &impl Abort, scope: &Scope, number: usize) {
     are_equal(rt, (scope.number(), scope.end()), (number, 257));
     are_equal(rt, Some(scope.offset()), number.checked_add(12));
@@ -136,19 +136,20 @@ fn padding(rt: HostRuntime) -> Result<(), Fail> {
         (&[3, 0, 0], 12),
         (&[0, 0, 3], 14),
         (&[0, 4, 0, 0, 0], 13),
-        // codes that are spelled longer than needed
+        // codes with redundant ULEB128 bytes
         (&[4, 0x80, 0, 0x80, 0x80, 0], 12),
         (&[0x83, 0], 12),
     ];
     for (entries, offset) in trees {
         is_only_root(&rt, entries, offset)?;
     }
-    // a null before the root ends no list, and one behind it begins none
+    // a null entry before the root does not end a list, and a null entry after it does not start
+    // one
     is_bad_tree(&rt, &[0, 4], Cause::TreeOpen, 0)?;
     is_bad_tree(&rt, &[3, 0, 3], Cause::TwoRoots, 14)
 }
 
-/// Checks the place of the only root of a unit without scopes.
+/// Checks the offset of the only root of a unit without scopes.
 fn is_only_root(
     rt: &(impl Abort + AllocGlobal),
     entries: &[u8],
@@ -171,7 +172,7 @@ fn refused_trees(rt: HostRuntime) -> Result<(), Fail> {
 
 #[test]
 fn refused_codes(rt: HostRuntime) -> Result<(), Fail> {
-    // a code that has no declaration, before a second root or an open list is seen
+    // an undeclared code is reported before a second root or an unterminated list
     is_bad_tree(&rt, &[3, 7], Cause::AbbrevCode, 13)?;
     is_bad_tree(&rt, &[4, 7], Cause::AbbrevCode, 13)?;
     is_bad_tree(&rt, &[4, 0x80], Cause::Short, 13)?;
@@ -181,7 +182,7 @@ fn refused_codes(rt: HostRuntime) -> Result<(), Fail> {
     is_bad_tree(&rt, &long, Cause::Leb, 13)
 }
 
-/// An open list is told at the start of its unit.
+/// An unterminated list of children is reported at the start of its unit.
 #[test]
 fn an_open_list_of_a_second_unit(rt: HostRuntime) -> Result<(), Fail> {
     let units: [Unit<'_>; 2] = [(1, 0, &[4, 0]), (1, 0, &[4, 1, 0])];

@@ -73,7 +73,7 @@ header_at info before at =
     if nat_le (length info) at then Ok (End at)
     else (unit_at info at >>= λ header. Ok (Item header header.end))
 
--- the headers of all units
+-- The headers of all units.
 unfoldable pub headers_of : List ℕ → Result (List UnitHeader) At
 headers_of info = items_from (length info) (header_at info) [] 0 >>= λ all. Ok all.0
 
