@@ -20,7 +20,7 @@ use Rattle.dwarf_units.specs.Entries.{is_root, attributes_at, declaration_of, no
 use Rattle.dwarf_units.specs.Entries.{entry_at, die_of, entries_of}
 use Rattle.dwarf_units.proofs.EntryOrder.{listed_in}
 
--- What follows after the code and after the declaration are read.
+-- The rest of the read after the code, and after the declaration.
 abbrev with_attributes : Declaration → List Attribute × ℕ → Result ((ℕ × List Attribute) × ℕ) Cause
 with_attributes declaration attributes = Ok ((declaration.tag, attributes.0), attributes.1)
 

@@ -50,7 +50,7 @@ listed-rise format table unit end size before at (x ∷ all) after h from le wit
         (omega (arith, is, le), rest (suc offset) (omega (arith, is, lt)))
     by_node offset depth Null is lt rest = rest from (omega (arith, le, lt))
 
--- Replaces the entries of a unit by the listing of nodes that they are filtered from.
+-- The entries of a unit are the nodes of its listing that are not null.
 pub listed_in : (info : List ℕ) (header : UnitHeader) (table : List Declaration) (dies : List Die)
     (P : Type 0) → entries_of info header table ≡ Ok dies
     → ((all : List Standing) (after : ℕ)

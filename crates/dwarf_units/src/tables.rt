@@ -1,4 +1,4 @@
-//! The abbreviation tables of all units (DWARF 5, 7.5.3). Each is parsed once on load.
+//! A cache of the abbreviation tables of all units (DWARF 5, 7.5.3).
 
 ghost use Rattle.std.specs.Prelude.{◌≡◌, ℕ, ◌+◌, ◌<◌, ◌≤◌, ◌++◌, [], take, List, Some, Ok};
 ghost use Rattle.std.specs.Prelude.{length, nat_lt, slice_get, IfOk, OnOk, IfSome, IfNone};
@@ -42,10 +42,11 @@ impl<'a> Model for Tables<'a> {
 }
 
 impl<'a> Tables<'a> {
-    /// Parses the table of each unit, once for each offset and format. A fault is reported at the
-    /// offset of its declaration. Memory is bounded. Attributes after the first ones of their list
-    /// are stored once for each offset of the section. The cache holds at most 3 × the section
-    /// size + 65,536 declarations, first attributes and plan steps.
+    /// Parses the table of each unit, unless a table with its offset and format is cached. A fault
+    /// is reported at the offset of its declaration. Memory is bounded. Attributes after the first
+    /// ones of their list are stored once for each offset of the section. All tables that are
+    /// cached permanently have at most 3 × the section size + 65,536 declarations, first
+    /// attributes and plan steps.
     pub fn judge(
         alloc: Global,
         section: &'a [u8],

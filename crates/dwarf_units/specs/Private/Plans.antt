@@ -60,7 +60,7 @@ constant_len s = elim s.constant [
   | Some c ↦ if is_negative_count s.name (SignedContent c) then None else Some 0
 ]
 
--- The size of an attribute that may have its form.
+-- The fixed size of an attribute, if it may have its form.
 unfoldable pub fixed_len : Format → AttributeSpecification → Option ℕ
 fixed_len format s = if accepts s.name s.form then (elim (form_of s.form) [
   | None ↦ None

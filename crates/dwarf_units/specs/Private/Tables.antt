@@ -30,7 +30,7 @@ abbrev pub table_read : ℕ → List ℕ → UnitHeader → Result (List Declara
 table_read room section unit =
     in_section sections.DebugAbbrev (declarations_of room section unit.abbreviations)
 
--- A call fails as the read does, or because memory ran out.
+-- If a call fails, the read fails with the same fault, or memory ran out.
 abbrev pub Refuses : {X Y : Type 0} → Result X LoadFault → Result Y LoadFault → Type 0
 Refuses result outcome = IfErr result (λ fault. (fault ≡ memory_fault) ⊎ (outcome ≡ Err fault))
 
