@@ -119,7 +119,7 @@ numbered m total (k ∷ ks) (s ∷ ss) f h is =
     same-length m (k ∷ ks) [] h = absurd h
     same-length m (k ∷ ks) (s ∷ ss) h = ap suc (same-length (suc m) ks ss h.2)
 
--- The scopes of the next n numbers end within them.
+-- The next n scopes end within these n scopes.
 within : (m n end : ℕ) (ks : List ℕ) (ss : List Scope) → Inner n ks → AreAt m ks ss → end ≡ m + n
     → EndsWithin end ss
 within m n end [] [] i h is = tt

@@ -170,7 +170,7 @@ judged_next s us u before index lists mid new left after kept items facts so_far
           (sym p.rest) ∙ so_far.read);
     }
 
--- If a list is prepended to a result, the result is the rest of the list.
+-- If a list is prepended to a successful result, the result is the rest of the whole list.
 pub front-ok : (before judged : List Judged) (r : Result (List Judged) At)
     → made_front before r ≡ Ok judged → (after : List Judged) × (r ≡ Ok after)
     × (before ++ after ≡ judged)
