@@ -1,4 +1,4 @@
--- What an ask found is what the world answers.
+-- The result of an ask is the answer of the world.
 use Rattle.std.proofs.Common.{◌≡◌, ◌⊎◌, inl, inr, ℕ, ◌-◌, ◌<◌, ◌≤◌, List, [], length, get_or, refl}
 use Rattle.std.proofs.Common.{sym, ap, ◌∙◌, arith}
 use Rattle.std.specs.Prelude.{Option, None, Some, position}
@@ -15,7 +15,7 @@ use Rattle.module_map.proofs.Worlds.{found_none, found_some}
 use Rattle.module_map.proofs.Changing.{world_of}
 use Rattle.module_map.proofs.Asking.{asked_none, asked_some, in_list}
 
--- what is found at an address, and the frames there
+-- the result of a lookup at an address, and the frames there
 record Finds (hs : List NumberedModule) (loads address : ℕ) (at : ℕ) : Type 0 where
   within : at < length hs
   found : (d : NumberedModule)
@@ -78,7 +78,7 @@ module _ (hs : List NumberedModule) (loads address : ℕ) (x : Asked)
           cc
 
   module _ (f : Found) (e : x.found ≡ Some f) where
-    -- what was found, among the modules
+    -- the result of the lookup, among the modules
     record There (at : ℕ) : Type 0 where
       within : at < length hs
       place : (d : NumberedModule) → f.place ≡ place_in (get_or hs at d).loaded.bytes

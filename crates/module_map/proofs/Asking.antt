@@ -1,4 +1,4 @@
--- What an ask finds, and how many compares it takes.
+-- The result of an ask, and its number of comparisons.
 use Rattle.std.proofs.Common.{◌≡◌, ℕ, zero, suc, ◌+◌, ◌-◌, ◌<◌, ◌≤◌, min, ◌^◌, Bool, true, false}
 use Rattle.std.proofs.Common.{List, [], ◌∷◌, length, map, get_or, refl, sym, ap, ◌∙◌, subst, arith}
 use Rattle.std.specs.Prelude.{Option, None, Some, position, option_map, nat_lt, ◌&&◌}

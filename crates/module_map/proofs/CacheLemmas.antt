@@ -1,4 +1,4 @@
--- What a look-up and a put leave of how many entries a cache holds.
+-- The number of cache entries after a lookup and after a put.
 use Rattle.std.proofs.Common.{◌≡◌, ◌⊎◌, inl, inr, ℕ, suc, ◌+◌, ◌-◌, ◌<◌, ◌≤◌, Bool, true, false}
 use Rattle.std.proofs.Common.{◌&&◌, eqb, List, [], ◌∷◌, length, take}
 use Rattle.std.proofs.Common.{Option, Some, None, IfSome, Contains, refl, sym, ap, ap₂, subst}
@@ -31,7 +31,7 @@ module _ {K V : Type 0} (test : K → Bool) where
   length-promoted es = front es (lookup_entry test es) refl
 
 module _ {K V : Type 0} (eq : K → K → Bool) (c : LruCache K V) (k : K) (v : V) where
-  -- a put leaves the count of entries, or raises it by one
+  -- a put leaves the number of entries unchanged or adds one
   abbrev pub Grows : List (K × V) → Type 0
   Grows new = (length c.entries ≤ length new) × (length new ≤ length c.entries + 1)
       × (length new ≤ c.cap)
@@ -61,7 +61,7 @@ same_key x y h = let p = both (eqb x.0 y.0) (eqb x.1 y.1) h in
     sym (ap₂ (λ (a b : ℕ). (a, b)) p0 p1)
 
 module _ {V : Type 0} (key : ℕ × ℕ) where
-  -- what a look-up finds is cached under the very key
+  -- the entry that a lookup finds is cached under exactly this key
   pub found_key : (es : List ((ℕ × ℕ) × V)) (o : Option V) → o ≡ lookup (is_key key) es
       → IfSome o (λ v. Contains es (key, v))
   found_key es None h = tt
@@ -76,7 +76,7 @@ module _ {V : Type 0} (key : ℕ × ℕ) where
     | inr was ↦ ap₂ (λ (k : ℕ × ℕ) (w : V). (k, w)) (same_key key e.0 was.2) h.0
   ]
 
-  -- each entry after a put was there, or is the one that was put
+  -- each entry after a put was there before, or is the new one
   pub put_or_was : (c : LruCache (ℕ × ℕ) V) (v : V) (e : (ℕ × ℕ) × V)
       → Contains (put_entries is_key c key v) e
       → Contains c.entries e ⊎ (e ≡ (key, v))

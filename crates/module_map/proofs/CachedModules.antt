@@ -1,4 +1,4 @@
--- What changes of the modules leave of the cache.
+-- The cache after changes of the modules.
 use Rattle.std.proofs.Common.{◌≡◌, ℕ, ◌-◌, ◌^◌, ◌<◌, ◌≤◌, Bool, true, false, List, length, map}
 use Rattle.std.proofs.Common.{get_or, refl, sym, ap, ◌∙◌, subst, arith}
 use Rattle.std.specs.Prelude.{Option, None, Some, Ok, Err, is_some, position, insert, nat_le, ◌||◌}
@@ -17,7 +17,7 @@ use Rattle.module_map.proofs.Worlds.{any_is, placed_in, met_is, nothing_met, ove
 use Rattle.module_map.proofs.Worlds.{no_place_fault}
 use Rattle.module_map.proofs.Changing.{world_of, named, moved_past, moved_over, moved_into}
 
--- ---- a module that is cached
+-- ---- adding a module
 
 module _ (hs : List NumberedModule) (loads : ℕ) (m : Loaded)
     (new : position (named m.name) hs ≡ None) where
@@ -39,7 +39,7 @@ module _ (hs : List NumberedModule) (loads : ℕ) (m : Loaded)
       (nothing_met hs (length hs) m none_itself
       (λ k d k_lt o. all_fail (named m.name) hs new k d k_lt) at clear)
 
--- a name that is not taken is on no place
+-- no module has a name that is not taken
 pub free_name : (name : List ℕ) (hs : List NumberedModule) (loads : ℕ)
     → is_taken name (world_of hs loads) ≡ false
     → position (named name) hs ≡ None
@@ -49,7 +49,7 @@ free_name name hs loads e = by (position (named name) hs) refl
     by None q = refl
     by (Some i) q = absurd (true≢false (sym (ap is_some q) ∙ any_is (is_named name) hs ∙ e))
 
--- ---- the same of an entry that was read at its place
+-- ---- the same for an entry that was read at its index
 
 abbrev LiesAt : Extent → Loaded → Type 0
 LiesAt extent m = IsExtentOf extent m × (start_of m < end_of m) × (end_of m < 2 ^ 64)
@@ -94,7 +94,7 @@ module _ (hs : List NumberedModule) (loads : ℕ) (name : List ℕ) (base own : 
       moved_into hs loads name base own x at_own only hs' at extent l.2 l.1
       (clear_by extent at h clear) l.0 turn
 
-  -- what a turn requires
+  -- the precondition of a rotation
   pub gap_by : (extent : Extent) (at : ℕ) → LiesAt extent (moved_to base x.loaded)
       → IsClear hs own extent.low extent.high at
       → (d : NumberedModule)
@@ -111,7 +111,7 @@ module _ (hs : List NumberedModule) (loads : ℕ) (name : List ℕ) (base own : 
       subst (λ (y : NumberedModule). end_of (moved_to base y.loaded) < 2 ^ 64)
       (is ∙ get_or_default hs own x d only.within) h.2
 
--- ---- what a load finds out
+-- ---- the outcome of a load
 
 module _ (hs : List NumberedModule) (loads : ℕ) (m : Loaded) (len low high : ℕ)
     (free : is_taken m.name (world_of hs loads) ≡ false) (all : len ≡ length hs)
@@ -144,7 +144,7 @@ module _ (hs : List NumberedModule) (loads : ℕ) (m : Loaded) (len low high : �
       ap (map loaded_of) (new ∙ ap (insert hs at) is)
       ∙ sym (placed_in hs at (record { serial = serial; loaded = m }) (clear_all at clear) order)
 
--- the same but for the modules
+-- the same state with an equal list of modules
 pub same_but_modules : (l l' : List Loaded) (loads cached capacity compares decoded : ℕ) → l ≡ l'
     → ◌≡◌ {A = ModuleMap} (record {
       world = record { modules = l; loads = loads };
@@ -171,7 +171,7 @@ same_but_modules l l' loads cached capacity compares decoded e =
       decoded = decoded;
     } in m) e
 
--- where not as many modules are loaded as may be
+-- the number of modules is below the limit
 pub room_left : (hs : List NumberedModule) (loads : ℕ) → is_full (world_of hs loads) ≡ false
     → length hs < most_modules
 room_left hs loads e = let count : length (map loaded_of hs) ≡ length hs = simp length-map in

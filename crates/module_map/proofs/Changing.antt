@@ -1,4 +1,4 @@
--- What a change of the sorted is of the world.
+-- The effect of a change of the sorted modules on the world.
 use Rattle.std.proofs.Common.{◌≡◌, ℕ, ◌-◌, ◌^◌, ◌<◌, ◌≤◌, Bool, true, false, List, length, map}
 use Rattle.std.proofs.Common.{get_or, refl, sym, ap, ◌∙◌, subst}
 use Rattle.std.specs.Prelude.{None, Some, Ok, Err, is_some, position, find, remove, nat_le}

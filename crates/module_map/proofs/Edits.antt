@@ -1,4 +1,4 @@
--- Rising order after one is put among modules, taken out, or moved.
+-- The ascending order after a module is inserted, removed or moved.
 use Rattle.std.proofs.Common.{◌≡◌, ◌≢◌, ◌⊎◌, inl, inr, ℕ, ◌+◌, ◌-◌, ◌<◌, ◌≤◌, List, length, get_or}
 use Rattle.std.proofs.Common.{refl, sym, ap, ◌∙◌, arith}
 use Rattle.std.specs.Prelude.{insert}
@@ -9,9 +9,9 @@ use Rattle.module_map.specs.World.{start_of, end_of}
 use Rattle.module_map.specs.Private.Serials.{NumberedModule}
 use Rattle.module_map.specs.Private.Rising.{AreRising, IsClear}
 
--- ---- one more
+-- ---- insertion
 
--- an element of a list with one more that was there
+-- an element of the list after an insertion that was there before
 record Old (xs ys : List NumberedModule) (at j : ℕ) (d : NumberedModule) : Type 0 where
   place : ℕ
   within : place < length xs

@@ -1,4 +1,4 @@
--- A gap among modules by rising address, and what becomes of one that is taken.
+-- A gap among modules in ascending order of address, and the order after it is filled.
 use Rattle.std.proofs.Common.{◌≡◌, ◌≢◌, ◌⊎◌, inl, inr, ℕ, ◌+◌, ◌<◌, ◌≤◌, List, length, get_or}
 use Rattle.std.proofs.Common.{arith}
 use Rattle.std.proofs.lemmas.Bool.{cases_lt}
@@ -40,7 +40,7 @@ next_past own len from is = record {
 
 module _ (held : List NumberedModule) (own low high n : ℕ) (rising : AreRising held)
     (begun : HasBegun held low n) (order : low < high) where
-  -- the last one that begins at the low end or before it ends past it
+  -- the last module that starts at or before the low end ends after it, so it overlaps
   pub met_last : (at : ℕ) → at + 1 ≡ n → at ≢ own
       → ((d : NumberedModule) → low < end_of (get_or held at d).loaded)
       → IsMet held own low high at
@@ -52,7 +52,7 @@ module _ (held : List NumberedModule) (own low high n : ℕ) (rising : AreRising
     before = λ k d lt o. passed held low n rising begun k d (omega arith);
   }
 
-  -- where a place begins at the high end or later, so do those after it
+  -- if a module starts at or after the high end, so do all later ones
   later : (at k : ℕ) (d : NumberedModule) → at ≤ k → k < length held
       → ((d : NumberedModule) → high ≤ start_of (get_or held at d).loaded)
       → high ≤ start_of (get_or held k d).loaded
@@ -63,7 +63,7 @@ module _ (held : List NumberedModule) (own low high n : ℕ) (rising : AreRising
           rising.sound at d (omega arith) in omega arith
       by (inr to) = let same : k ≡ at = omega arith in rw same (begins d)
 
-  -- the last one, if it is another, ends at the low end or before it
+  -- the last module, if it is another one, ends at or before the low end
   module _ (done : (at : ℕ) (d : NumberedModule) → at + 1 ≡ n → IsOther own at
       → end_of (get_or held at d).loaded ≤ low) (next : ℕ) (is : IsNext own (length held) n next)
     where

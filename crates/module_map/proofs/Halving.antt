@@ -1,10 +1,10 @@
--- A stretch that is halved until nothing is left of it.
+-- The number of steps of a binary search.
 use Rattle.std.proofs.Common.{◌≡◌, ℕ, zero, suc, ◌+◌, ◌^◌, ◌<◌, ◌≤◌, arith}
 use Rattle.std.proofs.Math.Nat.{two-pow-succ}
 use Rattle.addr_table.specs.Steps.{bits}
 use Rattle.addr_table.proofs.StepLaws.{below_bits}
 
--- after so many halvings of a stretch so much is left
+-- after some steps in an interval of length whole, length left remains
 pub record Halved (whole left used : ℕ) : Type 0 where
   pub powers : (a : ℕ) → whole < 2 ^ a → (r : ℕ) × (used + r ≡ a) × (left < 2 ^ r)
 
@@ -26,7 +26,7 @@ halved_more whole left left' used h some half =
           halved_again left left' used a p.0 some half p.1 p.2;
     }
 
--- it took at most as many as the length has binary digits
+-- the number of steps is at most the number of binary digits of the length
 pub halved_all : (whole left used : ℕ) → Halved whole left used → used ≤ bits whole
 halved_all whole left used h = let p = h.powers (bits whole) (below_bits whole) in
     omega (arith, p.1)

@@ -1,4 +1,4 @@
--- The module at a place of the listing, for a caller that asks `list().nth(place)`.
+-- The module at an index of the listing, for a caller of `list().nth(place)`.
 use Rattle.std.proofs.Common.{◌≡◌, ℕ, zero, suc, List, [], ◌∷◌, map, refl, ap}
 use Rattle.std.specs.Prelude.{Option, None, Some, option_map, slice_get}
 use Rattle.std.specs.Borrow.{Bor}

@@ -1,4 +1,4 @@
--- What a load comes to: the tests in order.
+-- The outcome of a load: the tests in order.
 use Rattle.std.proofs.Common.{◌≡◌, ◌⊎◌, inl, inr, ℕ, Bool, true, false, List, refl, sym, ap, ◌∙◌}
 use Rattle.std.proofs.Common.{subst}
 use Rattle.std.specs.Prelude.{Option, None, Some, Result, Ok, Err, MatchResult}
@@ -16,7 +16,7 @@ use Rattle.module_map.specs.declared.faults.Extent.{Extent}
 use Rattle.module_map.specs.declared.faults.MapFault.{MapFault}
 use Rattle.module_map.specs.declared.faults.MapFault.TheVariants.{NameTaken, Full, Object, Memory}
 
--- a load, of which memory may have been refused
+-- a load, for which memory may have run out
 abbrev pub SomeLoad : World → Loaded → Result Extent MapFault → World → Type 0
 SomeLoad old m result new = (short : Bool) × Loads old m short result new
 
@@ -50,7 +50,7 @@ module _ (w : World) (m : Loaded) where
       unfolding load_fault
       placed_of fault good e = rw (free, capacity, good) e
 
-      -- an object that is not decoded
+      -- an object that cannot be decoded
       pub not_decoded : (fault : LoadFault) (result : MapFault)
           → (fault ≡ memory_fault) ⊎ (fault_of m.bytes ≡ Some fault)
           → result ≡ refusal_of fault → SomeLoad w m (Err result) w
@@ -63,7 +63,7 @@ module _ (w : World) (m : Loaded) where
           by (inl memory) = (true, (short_of ∙ ap Some (sym (is ∙ memory)), refl))
           by (inr object) = (false, (object_of fault found ∙ ap Some (sym (is ∙ object)), refl))
 
-      -- an object that was decoded has a place, or not
+      -- a decoded object that is not added
       pub not_added : (fault : MapFault) → fault_of m.bytes ≡ None
           → (fault ≡ Memory) ⊎ (place_fault m w.modules ≡ Some fault)
           → SomeLoad w m (Err fault) w
@@ -75,7 +75,7 @@ module _ (w : World) (m : Loaded) where
           → SomeLoad w m (Ok extent) (with_module w m)
       added extent good none lies = (false, (placed_of None good none, lies, refl))
 
--- what came of adding a decoded object, among modules of which only these are seen
+-- the outcome of adding a decoded object, as contracts see the modules
 abbrev pub Adds : ModuleMap → ModuleMap → Loaded → Result Extent MapFault → Type 0
 Adds old new m result = MatchResult result
     (λ extent. (place_fault m old.world.modules ≡ None) × IsExtentOf extent m
@@ -95,7 +95,7 @@ added_by old new m (Err fault) free capacity good k =
     (sym (ap (λ (x : ModuleMap). x.world) k.1))
     (not_added old.world m free capacity fault good k.0)
 
--- the same of an object that is its bytes
+-- the same for an object that is given by its bytes
 pub added_bytes : (old new : ModuleMap) (name : List ℕ) (base : ℕ) (object bytes : List ℕ)
     (result : Result Extent MapFault)
     → is_taken name old.world ≡ false → is_full old.world ≡ false

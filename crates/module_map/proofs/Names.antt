@@ -1,4 +1,4 @@
--- Names of modules, and a list in which one was written over.
+-- Names of modules, and a list with one element overwritten.
 use Rattle.std.proofs.Common.{◌≡◌, ◌≢◌, inl, inr, ℕ, zero, suc, ◌-◌, ◌<◌, ◌≤◌, Bool, true, false}
 use Rattle.std.proofs.Common.{List, [], ◌∷◌, ◌++◌, length, get_or}
 use Rattle.std.proofs.Common.{take, set, refl, sym, ap, ap₂, ◌∙◌, subst, arith}
@@ -47,7 +47,7 @@ whole [] ys n e = rw (← e) refl
 whole (x ∷ xs) ys zero e = absurd (omega arith)
 whole (x ∷ xs) ys (suc n) e = ap (λ l. x ∷ l) (whole xs ys n (omega arith))
 
--- the same list, where the one that is moved was written in its place first
+-- the same list, if the moved module is overwritten at its old index first
 pub turned_set : (held items xs : List NumberedModule) (own at base : ℕ) (h was d : NumberedModule)
     → items ≡ held → own < length held
     → xs ≡ set items own h → h ≡ rebased base was → was ≡ get_or items own was
@@ -63,7 +63,7 @@ turned_set held items xs own at base h was d same lt written is old =
     ∙ ap (rebased base) (old ∙ get_or_default items own was d there))
     ∙ ap (λ (l : List NumberedModule). relocated l own at (rebased base (get_or l own d))) same
 
--- the first of a name is the only one
+-- the first module with a name is the only one
 pub only_named : (name : List ℕ) (held : List NumberedModule) → AreRising held → (o : Option ℕ)
     → o ≡ position (λ (h : NumberedModule). is_named name h.loaded) held
     → IfSome o (IsOnly held name)

@@ -1,4 +1,4 @@
--- One module less, and one that is moved.
+-- Removing a module, and moving one.
 use Rattle.std.proofs.Common.{◌≡◌, ◌≢◌, ◌⊎◌, inl, inr, ℕ, ◌+◌, ◌-◌, ◌<◌, ◌≤◌, Bool, true, false}
 use Rattle.std.proofs.Common.{List, length, get_or, refl, sym, subst, arith}
 use Rattle.std.specs.Prelude.{remove, nat_le, if◌then◌else◌}
@@ -10,9 +10,9 @@ use Rattle.module_map.specs.Private.Serials.{NumberedModule}
 use Rattle.module_map.specs.Private.Rising.{AreRising, IsClear, IsOther, relocated, rebased}
 use Rattle.module_map.proofs.Edits.{rising_insert}
 
--- ---- one less
+-- ---- removal
 
--- an element of a list with one less was there
+-- an element of the list after a removal was there before
 record Left (xs ys : List NumberedModule) (at j : ℕ) (d : NumberedModule) : Type 0 where
   place : ℕ
   within : place < length xs
@@ -68,7 +68,7 @@ rising_remove held at rising lt = record {
       (still_rises held (remove held at) at i j d a b below) b.within);
 }
 
--- ---- one moved
+-- ---- moving
 
 module _ (held : List NumberedModule) (own low high at : ℕ) (clear : IsClear held own low high at)
     (lt : own < length held) where

@@ -1,4 +1,4 @@
--- That the modules rise, without their serial numbers.
+-- The ascending order of the modules, without their serial numbers.
 use Rattle.std.proofs.Common.{◌≡◌, ◌≢◌, ℕ, ◌<◌, ◌≤◌, List, length, map, get_or, refl, sym, subst, arith}
 use Rattle.std.proofs.Common.{true, inl, inr, [], ◌∷◌, suc, ap}
 use Rattle.std.specs.Prelude.{◌⊎◌}
@@ -10,7 +10,7 @@ use Rattle.module_map.specs.World as world
 use Rattle.module_map.specs.Private.Serials.{NumberedModule, loaded_of}
 use Rattle.module_map.specs.Private.Rising.{AreRising}
 
--- a module with a serial number of its own
+-- a module with a placeholder for its serial number
 abbrev numbered : Loaded → NumberedModule
 numbered m = record { serial = 0; loaded = m }
 

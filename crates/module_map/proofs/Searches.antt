@@ -1,4 +1,4 @@
--- A search by halving among modules by rising address.
+-- Binary search among modules in ascending order of address.
 use Rattle.std.proofs.Common.{◌≡◌, ◌⊎◌, inl, inr, ℕ, ◌+◌, ◌-◌, ◌/◌, ◌<◌, ◌≤◌, Bool, true, false}
 use Rattle.std.proofs.Common.{List, length, get_or, refl, subst, arith}
 use Rattle.std.specs.Prelude.{None, Some, position, nat_lt, nat_le, ◌&&◌}
@@ -12,7 +12,7 @@ use Rattle.module_map.specs.Private.Rising.{AreRising, HasBegun}
 use Rattle.module_map.proofs.Halving.{Halved, halved_none, halved_more, halved_all}
 use Rattle.module_map.proofs.Positions.{is_at, is_nowhere}
 
--- the number is `low` at least and `high` at most
+-- the number is at least `low` and at most `high`
 pub record Narrowed (held : List NumberedModule) (address low high : ℕ) (before now : Steps) : Type
     0 where
   pub order : low ≤ high
@@ -102,7 +102,7 @@ pub narrowed_count : (held : List NumberedModule) (address low high : ℕ) (befo
 narrowed_count held address low high before now n =
     (n.used, halved_all (length held) (high - low) n.used n.halved, n.first, n.taken)
 
--- ---- the module that holds an address
+-- ---- the module that contains an address
 
 test_holds : (s e a : ℕ) → s ≤ a → a < e → (nat_le s a && nat_lt a e) ≡ true
 test_holds s e a p q = rw (le-leb s a p, lt-ltb a e q) refl
@@ -124,14 +124,14 @@ test_past s e a p = by (nat_le s a) (nat_lt a e) refl
 
 module _ (held : List NumberedModule) (address n : ℕ) (rising : AreRising held)
     (begun : HasBegun held address n) where
-  -- those before the last that begins there or before end where it begins, or before
+  -- modules before the last one that starts at or before the address end at or before the address
   pub passed : (k : ℕ) (d : NumberedModule) → k + 1 < n → end_of (get_or held k d).loaded ≤ address
   passed k d lt =
       let a = rising.apart k (n - 1) d (omega arith) (let w = begun.within in omega arith) in
       let b = begun.before (n - 1) d (omega arith) in
       omega arith
 
-  -- one of another place does not hold the address
+  -- a module at another index does not contain the address
   others : (k : ℕ) (d : NumberedModule) → k < length held → (k + 1 < n) ⊎ (n ≤ k)
       → holds address (get_or held k d).loaded ≡ false
   others k d lt (inl before) = test_past _ _ address (passed k d before)

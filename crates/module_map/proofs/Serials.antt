@@ -1,4 +1,4 @@
--- Serial numbers name the bytes of loads for good.
+-- Serial numbers identify the bytes of loads permanently.
 use Rattle.std.proofs.Common.{◌≡◌, ◌⊎◌, inl, inr, ℕ, zero, suc, ◌+◌, ◌-◌, ◌<◌, ◌≤◌, List, [], ◌∷◌}
 use Rattle.std.proofs.Common.{length, take, drop, get_or, Contains}
 use Rattle.std.proofs.Common.{refl, sym, ap, ◌∙◌, subst, arith}
@@ -48,7 +48,7 @@ module _ {X : Type 0} where
   fewer xs own at y lt = let n = length-insert_any (remove xs own) at y in let m =
       length-remove xs own lt in omega (arith, n, m)
 
--- one that was there, with this serial and these bytes
+-- a module that was there before, with the same serial number and the same bytes
 pub record Known (hs : List NumberedModule) (h : NumberedModule) : Type 0 where
   pub was : NumberedModule
   pub there : Contains hs was
@@ -107,7 +107,7 @@ sound_turned hs loads es own at base d lt sound =
           sym (ap (λ (g : NumberedModule). g.loaded.bytes) new);
     }
 
--- a module that is loaded takes the next serial, under which nothing is remembered
+-- a loaded module takes the next serial number, under which nothing is cached
 pub sound_insert : (hs : List NumberedModule) (loads : ℕ) (es : List ((ℕ × ℕ) × Option Place))
     (at : ℕ) (h : NumberedModule)
     → h.serial ≡ loads → length hs < most_modules → AreSound hs loads es
@@ -144,7 +144,7 @@ sound_insert hs loads es at h new capacity sound = record {
     right e g c (inr same) s = let p = sound.past e c in let q = serial_of g same in
         absurd (omega arith)
 
--- an answer of a module that is loaded is remembered
+-- an answer of a loaded module is cached
 pub sound_kept : (hs : List NumberedModule) (loads : ℕ) (es es' : List ((ℕ × ℕ) × Option Place))
     (at : ℕ) (d : NumberedModule)
     → at < length hs → AreSound hs loads es

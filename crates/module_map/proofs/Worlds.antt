@@ -1,4 +1,4 @@
--- Sorted modules as a world: what a name, an address, a gap and a change mean there.
+-- Sorted modules as a world: the meaning of a name, an address, a gap and a change.
 use Rattle.std.proofs.Common.{◌≡◌, ◌≢◌, ◌⊎◌, inl, inr, ℕ, zero, suc, ◌-◌, ◌^◌, ◌<◌, ◌≤◌, Bool, true}
 use Rattle.std.proofs.Common.{false, List, [], ◌∷◌, length, map}
 use Rattle.std.proofs.Common.{get_or, refl, sym, ap, ◌∙◌, arith}
@@ -113,7 +113,7 @@ placed_at (x ∷ xs) (suc at) h le before after =
     (placed_at xs at h (omega arith) (λ k d lt. before (suc k) d (omega arith))
     (λ d lt. after d (omega arith))))
 
--- a gap is the place by rising address
+-- a gap is the index in ascending order of address
 pub placed_in : (hs : List NumberedModule) (at : ℕ) (h : NumberedModule)
     → IsClear hs (length hs) (start_of h.loaded) (end_of h.loaded) at
     → start_of h.loaded < end_of h.loaded
@@ -122,7 +122,7 @@ placed_in hs at h clear order = let within = clear.within in placed_at hs at h w
     (λ k d lt. clear.under k d lt (inl (omega arith)))
     (λ d lt. let a = clear.after at d (omega arith) lt (inl lt) in omega arith)
 
--- all are of other names
+-- all modules have other names
 keep_all : (name : List ℕ) (hs : List NumberedModule)
     → ((k : ℕ) (d : NumberedModule) → k < length hs → is_named name (get_or hs k d).loaded ≡ false)
     → without name (map loaded_of hs) ≡ map loaded_of hs
@@ -166,7 +166,7 @@ without_is name hs own only =
     drop_one name hs own only.within (λ d. is_its_name name (get_or hs own d) (only.here d))
     (λ k d lt o. not_named name (get_or hs k d) (only.others k d lt o))
 
--- ---- a place for a module
+-- ---- free addresses for a module
 
 meets_is : (low high s e : ℕ) → low < e → s < high → (nat_lt low e && nat_lt s high) ≡ true
 meets_is low high s e p q = rw (lt-ltb low e p, lt-ltb s high q) refl

@@ -1,5 +1,5 @@
--- What a load, an unload and a move make of the modules: each is refused by the first test that it
--- fails, and then changes nothing, or else it is done.
+-- The effects of a load, an unload and a move on the modules. Each is refused by the first test
+-- that it fails, and then changes nothing. Otherwise it is done.
 use Rattle.std.specs.Prelude.{◌≡◌, ℕ, ◌+◌, ◌-◌, ◌^◌, Bool, ◌||◌, List, length, nat_lt, nat_le, find}
 use Rattle.std.specs.Prelude.{Option, None, Some, Result, Ok, Err, if◌then◌else◌, option_map}
 use Rattle.std.specs.List.{list_any}
@@ -18,7 +18,7 @@ is_full world = nat_le most_modules (length world.modules) || nat_le (2 ^ 64 - 1
 abbrev pub is_taken : List ℕ → World → Bool
 is_taken name world = list_any (is_named name) world.modules
 
--- a module that ends past the greatest address, or meets another one, has no place
+-- the fault of a module that ends after the highest address or overlaps another module
 abbrev pub place_fault : Loaded → List Loaded → Option MapFault
 place_fault m others =
     if nat_lt (2 ^ 64 - 1) (end_of m) then Some Range else option_map Overlap (met_at m others)
@@ -29,7 +29,7 @@ object_fault None place = place
 
 -- ---- a load
 
--- why a load is refused, of which memory may have been refused
+-- the reason for refusing a load; short means that memory ran out
 unfoldable pub load_fault : World → Loaded → Bool → Option MapFault
 load_fault world m short =
     if is_taken m.name world then Some NameTaken
@@ -60,7 +60,7 @@ Unloads old name (Err fault) new =
 
 -- ---- a move
 
--- why a module is not moved; it is not compared with itself
+-- the reason for not moving a module, which is not compared with itself
 abbrev pub move_fault : Option Loaded → World → ℕ → Option MapFault
 move_fault None world base = Some NoModule
 move_fault (Some m) world base = place_fault (moved_to base m) world.modules
@@ -69,7 +69,7 @@ abbrev pub with_moved : World → Loaded → ℕ → World
 with_moved world m base =
     record world { modules = placed (moved_to base m) (without m.name world.modules) }
 
--- the module of a name is moved
+-- the module with a name is moved
 abbrev pub IsMoved : World → Option Loaded → ℕ → Extent → World → Type 0
 IsMoved old None base extent new = ⊥
 IsMoved old (Some m) base extent new =

@@ -1,4 +1,4 @@
--- What is counted, and how many answers the cache has.
+-- Counters of work, and the number of cached answers.
 use Rattle.std.specs.Prelude.{◌≡◌, ℕ, ◌+◌, ◌-◌, ◌^◌, ◌≤◌, min, length}
 use Rattle.std.specs.Prelude.{Option, None, Some, Result, Err}
 use Rattle.addr_table.specs.Steps.{bits}
@@ -9,13 +9,13 @@ use Rattle.module_map.specs.declared.faults.Extent.{Extent}
 use Rattle.module_map.specs.declared.faults.MapFault.{MapFault}
 use Rattle.module_map.specs.declared.faults.MapFault.TheVariants.{NameTaken, Full}
 
--- what a contract sees of the modules
+-- the state of the modules, as contracts see it
 pub record ModuleMap : Type 0 where
   pub world : World
-  -- how many answers the cache has, and how many it may have
+  -- the number of cached answers, and the capacity of the cache
   pub cached : ℕ
   pub capacity : ℕ
-  -- the compares of the last ask, and the bytes decoded since the start
+  -- the comparisons of the last ask, and the bytes decoded since the start
   pub compares : ℕ
   pub decoded : ℕ
 
@@ -27,18 +27,19 @@ abbrev pub least_of : Option Loaded → ℕ
 least_of None = 0
 least_of (Some m) = 2
 
--- the compares of an ask: two searches by halving, each with the end of the one that was found
+-- the comparisons of an ask: two binary searches, and after each a comparison with the end of its
+-- result
 abbrev pub TakesCompares : World → ℕ → ℕ → Type 0
 TakesCompares world address compares =
     (least_of (holder world address) ≤ compares)
     × (compares ≤ bits (length world.modules) + bits (segments_of (holder world address)) + 2)
 
--- an ask leaves the count of answers in the cache, or raises it by one
+-- an ask leaves the number of cached answers unchanged or adds one
 abbrev pub CachesAnswer : ModuleMap → ModuleMap → Type 0
 CachesAnswer old new =
     (new.capacity ≡ old.capacity) × (old.cached ≤ new.cached) × (new.cached ≤ old.cached + 1)
 
--- the decoded bytes after a load: those of an object that came to be decoded
+-- the decoded bytes after a load; only an object that was decoded adds its bytes
 abbrev pub decoded_after : ℕ → ℕ → Result Extent MapFault → ℕ
 decoded_after decoded count (Err NameTaken) = decoded
 decoded_after decoded count (Err Full) = decoded

@@ -1,10 +1,10 @@
--- The modules as they are listed.
+-- The list of modules.
 use Rattle.std.specs.Prelude.{ℕ, List, map}
 use Rattle.std.specs.Borrow.{Bor}
 use Rattle.module_map.specs.World.{World, Loaded, start_of, end_of}
 use Rattle.module_map.specs.declared.faults.Extent.{Extent}
 
--- a name, where the module lies, and its base
+-- the name, the extent and the base of a module
 pub record Listed : Type 0 where
   pub name : List ℕ
   pub low : ℕ
@@ -14,11 +14,11 @@ pub record Listed : Type 0 where
 abbrev pub listed : Loaded → Listed
 listed m = record { name = m.name; low = start_of m; high = end_of m; base = m.base }
 
--- the modules by rising address
+-- the modules in ascending order of address
 abbrev pub listing : World → List Listed
 listing world = map listed world.modules
 
--- what an item tells
+-- the data of a list item
 abbrev pub item_listed : Bor (List ℕ) × Extent × ℕ → Listed
 item_listed item =
     record { name = item.0.now; low = item.1.low; high = item.1.high; base = item.2 }

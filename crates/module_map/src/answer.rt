@@ -1,4 +1,4 @@
-//! What is known of an address.
+//! The answer for an address.
 
 ghost use Rattle.std.specs.Prelude.{◌≡◌, [], None, Some};
 ghost use Rattle.addr_table.specs.Module.{frames_in};
@@ -6,7 +6,7 @@ ghost use Rattle.addr_table.specs.Module.{frames_in};
 use addr_table::{Frames, Module, Place};
 use std::marker::Model;
 
-/// An address, and the place of it in the module that holds it.
+/// An address, with the module that contains it and its place there, if any.
 #[derive(Drop)]
 pub struct Answer<'a> {
     address: u64,
@@ -28,7 +28,7 @@ impl<'a> Model for Answer<'a> {
 }
 
 impl<'a> Answer<'a> {
-    /// Nothing is known.
+    /// Returns an answer without frames.
     pub(crate) fn none(address: u64) -> Answer<'a>
         ensures { result ≡ record { address = address; frames = [] } }
     {
@@ -50,14 +50,15 @@ impl<'a> Answer<'a> {
         }
     }
 
-    /// The address that was asked.
+    /// Returns the address that was asked.
     pub fn address(&self) -> u64
         ensures { result ≡ self.now.address }
     {
         self.address
     }
 
-    /// The frames there, the innermost first; none where nothing is known.
+    /// Returns the frames of the address, innermost first. There are none if the address is
+    /// unknown.
     pub fn frames(&self) -> Frames<'a>
         ensures { result ≡ self.now.frames }
     {

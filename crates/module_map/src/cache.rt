@@ -1,4 +1,4 @@
-//! Answers for the next time that they are asked.
+//! A cache of answers for repeated asks.
 
 ghost use Rattle.std.specs.Prelude.{◌≡◌, ◌≤◌, ◌⊎◌, ◌+◌, [], length, IfOk, IfSome, Contains};
 ghost use Rattle.module_map.specs.Private.Cached.{kept_under, asked_for, with_answer};
@@ -10,7 +10,8 @@ use std::alloc::{AllocError, Global};
 use std::marker::Model;
 use std::num::NonZeroUsize;
 
-/// At most so many answers, by the serial number of a load and the link address.
+/// An LRU cache of at most `capacity` answers. The key is the serial number of a load and the link
+/// address.
 #[derive(Drop)]
 pub struct Cache {
     answers: Option<LruCache<(u64, u64), Option<Place>>>,
@@ -33,7 +34,7 @@ impl Model for Cache {
         (answers.cap ≡ c.capacity) × (length answers.entries ≤ answers.cap)) };
 }
 
-/// The answer that is remembered, which becomes the last one to be dropped.
+/// Returns the cached answer for a key and makes it the most recently used one.
 fn recall(
     answers: &mut LruCache<(u64, u64), Option<Place>>,
     key: (u64, u64),
@@ -49,8 +50,7 @@ fn recall(
     answers.get(&key).copied()
 }
 
-/// Remembers an answer, if there is memory for it; if need be in place of the one asked longest
-/// ago.
+/// Caches an answer if memory allows. If the cache is full, evicts the least recently used answer.
 fn remember(
     answers: &mut LruCache<(u64, u64), Option<Place>>,
     key: (u64, u64),
@@ -70,7 +70,7 @@ fn remember(
 }
 
 impl Cache {
-    /// A cache of so many answers; none where that is 0.
+    /// Creates a cache of at most `capacity` answers; 0 disables the cache.
     pub fn new(alloc: Global, capacity: usize) -> Result<Cache, AllocError>
         ensures { IfOk result (λ cache. cache ≡ record { entries = []; capacity = capacity }) }
     {
@@ -81,7 +81,7 @@ impl Cache {
         Ok(Cache { answers, capacity })
     }
 
-    /// How many answers there are.
+    /// Returns the number of cached answers.
     pub fn len(&self) -> usize
         ensures count { result ≡ length self.now.entries }
         ensures within { result ≤ self.now.capacity }
@@ -98,7 +98,7 @@ impl Cache {
         self.capacity
     }
 
-    /// The answer that is remembered, which becomes the last one to be dropped.
+    /// Returns the cached answer for a key and makes it the most recently used one.
     pub fn get(&mut self, key: (u64, u64)) -> Option<Option<Place>>
         ensures value { result ≡ kept_under key self.old.entries }
         ensures order { self.new.entries ≡ asked_for key self.old.entries }
@@ -115,8 +115,8 @@ impl Cache {
         recall(answers, key)
     }
 
-    /// Remembers an answer, if there is memory for it; if need be in place of the one asked longest
-    /// ago.
+    /// Caches an answer if memory allows. If the cache is full, evicts the least recently used
+    /// answer.
     pub fn put(&mut self, key: (u64, u64), place: Option<Place>)
         ensures kept { (self.new.entries ≡ self.old.entries)
             ⊎ (self.new.entries ≡ with_answer key place self.old) }

@@ -1,4 +1,4 @@
-//! Why a module is not loaded, moved or unloaded, and where one lies.
+//! The reasons for refusing to load, move or unload a module, and the extent of a module.
 
 ghost use Rattle.std.specs.Prelude.{◌≡◌};
 ghost use Rattle.module_map.specs.Private.Refusals.{refusal_of};
@@ -6,40 +6,41 @@ ghost use Rattle.module_map.specs.Private.Refusals.{refusal_of};
 use dwarf_bytes::{Cause, LoadFault};
 use thiserror::Error;
 
-/// Where a module lies: its first address, and the first address past it.
+/// The addresses of a module: its first address and its end (exclusive).
 #[derive(Clone, Copy, Debug, PartialEq, Eq)]
 pub struct Extent {
     pub low: u64,
     pub high: u64,
 }
 
-/// Why a module is not loaded, moved or unloaded.
+/// The reason why a module is not loaded, moved or unloaded.
 #[derive(Clone, Copy, Debug, PartialEq, Eq, Error)]
 pub enum MapFault {
-    /// A module of that name is loaded.
+    /// A module with that name is already loaded.
     #[error("name-taken")]
     NameTaken,
-    /// No module of that name is loaded.
+    /// No module with that name is loaded.
     #[error("no-module")]
     NoModule,
-    /// As many modules are loaded as may be.
+    /// No more modules can be loaded.
     #[error("full")]
     Full,
-    /// The object is refused, with its first fault.
+    /// The object is invalid; this is its first fault.
     #[error("{0}")]
     Object(LoadFault),
-    /// The base and the highest link address are past 2^64-1.
+    /// The end (exclusive) of the module would exceed 2^64-1.
     #[error("range")]
     Range,
-    /// It would share an address with another module: the lowest one, by its place in the list.
+    /// The module would share an address with another one. The number is the index of the lowest
+    /// such module in the list.
     #[error("overlap")]
     Overlap(usize),
-    /// There is not enough memory.
+    /// Memory ran out.
     #[error("memory")]
     Memory,
 }
 
-/// Why an object that cannot be decoded is not loaded.
+/// Returns the reason for refusing an object that cannot be decoded.
 pub(crate) fn refusal(fault: LoadFault) -> MapFault
     ensures { result ≡ refusal_of fault }
 {

@@ -1,4 +1,4 @@
-//! What a module knows of an address: what is remembered of it, or else what is looked up.
+//! Looks up an address in a module, through the cache.
 
 ghost use Rattle.std.specs.Prelude.{◌≡◌, ◌<◌, ◌≤◌, ◌⊎◌, ◌+◌, ◌-◌, ℕ, length, Contains};
 ghost use Rattle.std.specs.Prelude.{slice_index_or};
@@ -11,8 +11,8 @@ use crate::cache::Cache;
 use crate::sorted::SortedModules;
 use addr_table::{Place, Steps};
 
-/// The place of an address in the module that holds it: what the cache has, or else what the module
-/// finds, which the cache then has if there is memory for it.
+/// Returns the place of an address in the module that contains it. If the cache has no answer,
+/// searches the module and caches the result if memory allows.
 pub fn look_up(
     sorted: &SortedModules,
     cache: &mut Cache,

@@ -1,5 +1,6 @@
-//! Objects that are loaded, each under a name at a base: which one holds an address, and what it
-//! answers there. A bounded cache has answers by the serial number of a load and the link address.
+//! Loaded objects, each with a name and a base. Finds the module that contains an address and the
+//! answer of the module. A bounded cache stores answers by the serial number of a load and the link
+//! address.
 #![tactic(auto)]
 
 mod answer;

@@ -1,4 +1,4 @@
-//! The modules one after the other.
+//! Iteration over the modules.
 
 ghost use Rattle.std.specs.Prelude.{◌≡◌, map};
 ghost use Rattle.module_map.specs.Listing.{listed};
@@ -7,7 +7,8 @@ use crate::faults::Extent;
 use crate::loaded_module::LoadedModule;
 use std::marker::Model;
 
-/// The name, the extent and the base of each module, by rising address.
+/// An iterator over the name, the extent and the base of each module, in ascending order of
+/// address.
 #[derive(Drop)]
 pub struct Listing<'a> {
     rest: &'a [LoadedModule],

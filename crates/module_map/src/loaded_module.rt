@@ -12,7 +12,7 @@ use addr_table::{Module, Place, Steps};
 use std::alloc::{AllocError, Global};
 use std::marker::Model;
 
-/// A module at its base, with the number of its load.
+/// A module at its base, with the serial number of its load.
 #[derive(Drop)]
 pub struct LoadedModule {
     serial: u64,
@@ -39,7 +39,7 @@ impl Model for LoadedModule {
         × (low_of m.object.value < high_of m.object.value) };
 }
 
-/// Where an object lies at a base.
+/// Returns the extent of an object at a base.
 pub fn extent_of(object: &Module, base: u64) -> Extent
     requires { base + high_of object.now < 2 ^ 64 }
     ensures low { result.low ≡ base + low_of object.now }
@@ -53,7 +53,7 @@ pub fn extent_of(object: &Module, base: u64) -> Extent
 }
 
 impl LoadedModule {
-    /// A module of these parts, if there is memory for it.
+    /// Creates a module from its parts. Returns an error if memory runs out.
     pub fn new(
         alloc: Global,
         serial: u64,
@@ -93,7 +93,7 @@ impl LoadedModule {
         self.base
     }
 
-    /// Where it lies. It has an address.
+    /// Returns the extent of the module, which is nonempty.
     pub fn extent(&self) -> Extent
         ensures value { IsExtentOf result self.now.loaded }
         ensures order { start_of self.now.loaded < end_of self.now.loaded }
@@ -107,7 +107,7 @@ impl LoadedModule {
         self.name.as_str() == name
     }
 
-    /// The key of an address in the cache: the serial number of the load, and the link address.
+    /// Returns the cache key of an address: the serial number of the load and the link address.
     pub fn key(&self, address: u64) -> (u64, u64)
         requires { start_of self.now.loaded ≤ address }
         ensures serial { result.0 ≡ self.now.serial }
@@ -116,7 +116,7 @@ impl LoadedModule {
         (self.serial, address - self.base)
     }
 
-    /// The extent at another base, or None past the greatest address.
+    /// Returns the extent at another base, or `None` if its end would exceed 2^64-1.
     pub fn extent_at(&self, base: u64) -> Option<Extent>
         ensures { let m = moved_to base self.now.loaded in
             MatchOption result (2 ^ 64 ≤ end_of m)
@@ -128,7 +128,7 @@ impl LoadedModule {
         Some(extent_of(&self.object, base))
     }
 
-    /// Moves it to another base.
+    /// Moves the module to another base.
     pub fn move_to(&mut self, base: u64)
         requires { base + high_of self.old.loaded.bytes < 2 ^ 64 }
         ensures { self.new ≡ record self.old { loaded = moved_to base self.old.loaded } }
@@ -137,7 +137,7 @@ impl LoadedModule {
         self.base = base;
     }
 
-    /// The place of a link address, if anything is known there.
+    /// Returns the place of a link address, if any.
     pub fn find(&self, link: u64, steps: &mut Steps) -> Option<Place>
         ensures place { result ≡ place_in self.now.loaded.bytes link }
         ensures counted { (n : ℕ) × (n ≤ bits (length (cuts_in self.now.loaded.bytes)) + 1)

@@ -1,4 +1,4 @@
-//! The modules that are loaded.
+//! The loaded modules.
 
 ghost use Rattle.std.specs.Prelude.{◌≡◌, ◌≤◌, ◌⊎◌, Bool, true, false, Some, None};
 ghost use Rattle.std.specs.Prelude.{length, IfOk, IfErr, MatchResult};
@@ -21,10 +21,10 @@ use addr_table::{Module, Steps};
 use std::alloc::Global;
 use std::marker::Model;
 
-/// The most modules that are loaded at a time.
+/// The maximum number of loaded modules.
 const MOST_MODULES: usize = 4096;
 
-/// The modules that are loaded, and a cache of answers.
+/// The loaded modules and a cache of answers.
 #[derive(Drop)]
 pub struct Modules {
     alloc: Global,
@@ -53,8 +53,8 @@ impl Model for Modules {
 }
 
 impl Modules {
-    /// No modules, and a cache of so many answers; 0 is no cache. It may want more memory than
-    /// there is.
+    /// Creates an empty list of modules with a cache of at most `cache_entries` answers; 0 disables
+    /// the cache. Returns an error if memory runs out.
     pub fn new(alloc: Global, cache_entries: usize) -> Result<Modules, MapFault>
         ensures modules { IfOk result (λ m. m ≡ record {
           world = no_modules;
@@ -77,15 +77,15 @@ impl Modules {
         })
     }
 
-    /// What was counted: the compares of the last ask, 0 before the first, and the bytes that were
-    /// decoded, also of loads that were refused after it.
+    /// Returns the counters: the comparisons of the last ask (0 before the first ask), and the
+    /// bytes decoded by all loads. Loads that were refused after decoding are included.
     pub fn steps(&self) -> Steps
         ensures { (result.compares ≡ self.now.compares) × (result.decoded ≡ self.now.decoded) }
     {
         self.steps // compares of the last ask, bytes of all loads
     }
 
-    /// How many answers the cache has, and how many it may have.
+    /// Returns the number of cached answers and the capacity of the cache.
     pub fn cached(&self) -> (usize, usize)
         ensures counts { (result.0 ≡ self.now.cached) × (result.1 ≡ self.now.capacity) }
         ensures within { result.0 ≤ result.1 }
@@ -105,8 +105,8 @@ impl Modules {
         self.sorted.len() >= MOST_MODULES || self.loads == u64::MAX
     }
 
-    /// Loads an object under a name, its link addresses moved up by a base, or says why not, in the
-    /// order of the faults; but want of memory may come in place of all after `Full`.
+    /// Loads an object under a name, with its link addresses moved up by `base`. Returns the first
+    /// fault in the order of `MapFault`, but `Memory` may replace any outcome after `Full`.
     pub fn load(&mut self, name: &str, base: u64, bytes: Vec<u8>) -> Result<Extent, MapFault>
         ensures step { (short : Bool) × Loads self.old.world
             (record { name = name.now; base = base; bytes = bytes.items }) short result
@@ -130,7 +130,7 @@ impl Modules {
         }
     }
 
-    /// Adds an object under a new name, if it has a place and there is memory for it.
+    /// Adds an object under a new name, if its addresses are free and memory allows.
     fn add(&mut self, name: &str, base: u64, object: Module) -> Result<Extent, MapFault>
         requires new { is_taken name.now self.old.world ≡ false }
         requires loads { is_full self.old.world ≡ false }
@@ -159,7 +159,7 @@ impl Modules {
         Ok(extent)
     }
 
-    /// Takes the module of a name out. What the cache has of it is never asked again.
+    /// Unloads the module with a name. Its cached answers are never asked for again.
     pub fn unload(&mut self, name: &str) -> Result<(), MapFault>
         ensures step { Unloads self.old.world name.now result self.new.world }
         ensures counts { self.new ≡ record self.old { world = self.new.world } }
@@ -171,7 +171,7 @@ impl Modules {
         Ok(())
     }
 
-    /// Moves the module of a name to another base, or says why not. It takes no memory.
+    /// Moves the module with a name, or returns the reason for refusing. Allocates no memory.
     pub fn move_to(&mut self, name: &str, base: u64) -> Result<Extent, MapFault>
         ensures step { Moves self.old.world name.now base result self.new.world }
         ensures counts { self.new ≡ record self.old { world = self.new.world } }
@@ -191,7 +191,7 @@ impl Modules {
         }
     }
 
-    /// What is known of an address. It takes memory for the cache alone, and needs none.
+    /// Looks up an address. Only the cache allocates memory, and the lookup works without it.
     pub fn ask(&mut self, address: u64) -> Asked
         ensures world { self.new.world ≡ self.old.world }
         ensures found { result ≡ asked_of self.old.world address }
@@ -213,8 +213,8 @@ impl Modules {
         }
     }
 
-    /// What an ask answered, where no module was loaded, unloaded or moved since. Of any other
-    /// `Asked` it tells some frames, or none.
+    /// Returns the answer for an ask, if no module was loaded, unloaded or moved since. For any
+    /// other `Asked`, the answer has some frames or none.
     pub fn answer(&self, asked: Asked) -> Answer<'_>
         ensures address { result.address ≡ asked.address }
         ensures frames { asked ≡ asked_of self.now.world asked.address →
@@ -237,8 +237,8 @@ impl Modules {
         )
     }
 
-    /// The name, the extent and the base of each module, by rising address. No two of them have
-    /// one name or share an address.
+    /// Returns the name, the extent and the base of each module, in ascending order of address. No
+    /// two modules have the same name or share an address.
     pub fn list(&self) -> Listing<'_>
         ensures modules { result ≡ listing self.now.world }
         ensures rising { AreRising self.now.world.modules }

@@ -1,4 +1,4 @@
-//! Modules by rising address.
+//! Modules in ascending order of address.
 
 ghost use Rattle.std.specs.Prelude.{◌≡◌, ◌<◌, ◌≤◌, ◌⊎◌, ◌+◌, ◌^◌, ℕ, [], length, None, OnSome};
 ghost use Rattle.std.specs.Prelude.{IfSome, MatchResult, position, insert, remove, map};
@@ -18,7 +18,7 @@ use addr_table::Steps;
 use std::alloc::{AllocError, Global};
 use std::marker::Model;
 
-/// Modules by rising address, with different names.
+/// Modules in ascending order of address, with distinct names.
 #[derive(Drop)]
 pub struct SortedModules {
     list: Vec<LoadedModule>,
@@ -36,7 +36,7 @@ impl Model for SortedModules {
     ghost invariant = { λ s. AreRising s.list.items };
 }
 
-/// Moves a module to a place among the others: what stands between is turned.
+/// Moves a module to another index by rotating the modules between the two indexes.
 fn rotate(list: &mut [LoadedModule], own: usize, at: usize)
     requires own { own < length list.old }
     requires at { at ≤ length list.old }
@@ -50,7 +50,7 @@ fn rotate(list: &mut [LoadedModule], own: usize, at: usize)
     }
 }
 
-/// The first place from one on, but for a place of its own.
+/// Returns the first index at or after `from` that is not `own`.
 fn next_place(from: usize, own: usize, len: usize) -> usize
     requires { from ≤ len }
     ensures { IsNext own len from result }
@@ -76,7 +76,7 @@ impl SortedModules {
         self.list.len()
     }
 
-    /// The module at a place.
+    /// Returns the module at an index.
     pub fn loaded_at(&self, at: usize) -> &LoadedModule
         requires { at < length self.now }
         ensures { result.now ≡ slice_index_or self.now at result.now }
@@ -84,14 +84,14 @@ impl SortedModules {
         &self.list[at]
     }
 
-    /// The place of the first module of a name.
+    /// Returns the index of the first module with a name.
     fn first_of(&self, name: &str) -> Option<usize>
         ensures { result ≡ position (λ h. is_named name.now h.loaded) self.now }
     {
         self.list.iter().position(|loaded| loaded.is_named(name))
     }
 
-    /// The place of the module of a name.
+    /// Returns the index of the module with a name.
     pub fn position(&self, name: &str) -> Option<usize>
         ensures place { result ≡ position (λ h. is_named name.now h.loaded) self.now }
         ensures only { IfSome result (IsOnly self.now name.now) }
@@ -100,7 +100,7 @@ impl SortedModules {
         self.first_of(name)
     }
 
-    /// The modules one after the other.
+    /// Returns an iterator over the modules.
     pub fn list(&self) -> Listing<'_>
         ensures modules { result ≡ map (λ h. listed h.loaded) self.now }
         ensures rising { AreRising (map loaded_of self.now) }
@@ -108,7 +108,7 @@ impl SortedModules {
         Listing::new(self.list.as_slice())
     }
 
-    /// The first address of the module at a place.
+    /// Returns the first address of the module at an index.
     fn start(&self, at: usize) -> u64
         requires { at < length self.now }
         ensures { (d : NumberedModule) → result ≡ start_of (slice_index_or self.now at d).loaded }
@@ -116,7 +116,7 @@ impl SortedModules {
         self.list[at].extent().low
     }
 
-    /// The first address past the module at a place.
+    /// Returns the end (exclusive) of the module at an index.
     fn end(&self, at: usize) -> u64
         requires { at < length self.now }
         ensures { (d : NumberedModule) → result ≡ end_of (slice_index_or self.now at d).loaded }
@@ -124,7 +124,7 @@ impl SortedModules {
         self.list[at].extent().high
     }
 
-    /// How many modules begin at an address or before it, found by halving.
+    /// Returns the number of modules that start at or before an address, by binary search.
     fn begun(&self, address: u64, steps: &mut Steps) -> usize
         ensures begun { HasBegun self.now address result }
         ensures counted { (n : ℕ) × (n ≤ bits (length self.now)) × ((result ≡ 0) ⊎ (1 ≤ n))
@@ -143,8 +143,8 @@ impl SortedModules {
         low
     }
 
-    /// The place of the module that holds an address: of the last one that begins there or before,
-    /// where the address has not reached its end.
+    /// Returns the index of the module that contains an address: the last one that starts at or
+    /// before the address, if the address is before its end.
     pub fn locate(&self, address: u64, steps: &mut Steps) -> Option<usize>
         ensures place { result ≡ position (λ h. holds address h.loaded) self.now }
         ensures counted { (n : ℕ) × (n ≤ bits (length self.now) + 1) × OnSome result (2 ≤ n)
@@ -162,8 +162,8 @@ impl SortedModules {
         Some(at)
     }
 
-    /// The gap for an extent between the modules, but for one at a place of its own; or else the
-    /// lowest of them that the extent meets. Where that place is past the end, all count.
+    /// Returns the index of the gap for an extent between the modules, or the index of the lowest
+    /// module that the extent overlaps. Ignores the module at index `own`, if there is one.
     pub fn gap(&self, extent: Extent, own: usize) -> Result<usize, usize>
         requires { extent.low < extent.high }
         ensures { MatchResult result (IsClear self.now own extent.low extent.high)
@@ -183,7 +183,7 @@ impl SortedModules {
         Ok(begun)
     }
 
-    /// Puts a module into a gap, if there is memory for it.
+    /// Inserts a module into a gap. Returns an error if memory runs out.
     pub fn insert(&mut self, at: usize, loaded: LoadedModule) -> Result<(), AllocError>
         requires clear { IsClear self.old (length self.old) (start_of loaded.loaded)
             (end_of loaded.loaded) at }
@@ -196,7 +196,7 @@ impl SortedModules {
         Ok(())
     }
 
-    /// Takes the module at a place out.
+    /// Removes the module at an index.
     pub fn remove(&mut self, at: usize)
         requires { at < length self.old }
         ensures { self.new ≡ remove self.old at }
@@ -204,8 +204,8 @@ impl SortedModules {
         let _loaded = self.list.remove(at);
     }
 
-    /// Moves the module at a place to another base, and into the gap for it: what stands between
-    /// its old and its new place is turned.
+    /// Moves the module at index `own` to another base and into the gap at index `at`, by rotating
+    /// the modules between the two indexes.
     pub fn relocate(&mut self, own: usize, at: usize, base: u64)
         requires within { own < length self.old }
         requires fits { (d : NumberedModule) →

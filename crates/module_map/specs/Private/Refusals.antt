@@ -1,4 +1,4 @@
--- Why an object that is not decoded is not loaded.
+-- The reason for refusing an object that cannot be decoded.
 use Rattle.dwarf_bytes.specs.declared.fault.LoadFault.{LoadFault}
 use Rattle.dwarf_bytes.specs.declared.fault.Cause.{Cause}
 use Rattle.dwarf_bytes.specs.declared.fault.Cause.TheVariants as causes

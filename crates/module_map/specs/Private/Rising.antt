@@ -1,10 +1,10 @@
--- Modules by rising address.
+-- Modules in ascending order of address.
 use Rattle.std.specs.Prelude.{◌≡◌, ◌≢◌, ℕ, ◌+◌, ◌-◌, ◌<◌, ◌≤◌, ◌⊎◌, List, length, nat_le}
 use Rattle.std.specs.Prelude.{slice_index_or, insert, remove, if◌then◌else◌}
 use Rattle.module_map.specs.World.{start_of, end_of, moved_to}
 use Rattle.module_map.specs.Private.Serials.{NumberedModule}
 
--- each has an address, and ends before the next one begins; no two have one name
+-- each module is nonempty and ends before the next one starts; no two have the same name
 pub record AreRising (held : List NumberedModule) : Type 0 where
   pub apart : (i j : ℕ) (d : NumberedModule) → i < j → j < length held →
       end_of (slice_index_or held i d).loaded ≤ start_of (slice_index_or held j d).loaded
@@ -13,18 +13,18 @@ pub record AreRising (held : List NumberedModule) : Type 0 where
   pub names : (i j : ℕ) (d : NumberedModule) → i < j → j < length held →
       (slice_index_or held i d).loaded.name ≢ (slice_index_or held j d).loaded.name
 
--- another place
+-- another index
 abbrev pub IsOther : ℕ → ℕ → Type 0
 IsOther own k = (k < own) ⊎ (own < k)
 
--- the one of a name, at a place of its own
+-- the module at index own is the only one with a name
 pub record IsOnly (held : List NumberedModule) (name : List ℕ) (own : ℕ) : Type 0 where
   pub within : own < length held
   pub here : (d : NumberedModule) → (slice_index_or held own d).loaded.name ≡ name
   pub others : (k : ℕ) (d : NumberedModule) → k < length held → IsOther own k →
       (slice_index_or held k d).loaded.name ≢ name
 
--- the last one before the n-th begins at an address or before it, those from there on past it
+-- module n - 1 starts at or before the address, and all modules from index n on start after it
 pub record HasBegun (held : List NumberedModule) (address n : ℕ) : Type 0 where
   pub within : n ≤ length held
   pub before : (k : ℕ) (d : NumberedModule) → k + 1 ≡ n →
@@ -32,8 +32,8 @@ pub record HasBegun (held : List NumberedModule) (address n : ℕ) : Type 0 wher
   pub after : (k : ℕ) (d : NumberedModule) → n ≤ k → k < length held →
       address < start_of (slice_index_or held k d).loaded
 
--- But for the one at a place of its own, those before a place begin before a low end, and end there
--- or before, and the others begin at a high end or later.
+-- Except for the module at index own, the modules before index at start before the low end and end
+-- at or before it. The others start at or after the high end.
 pub record IsClear (held : List NumberedModule) (own low high at : ℕ) : Type 0 where
   pub within : at ≤ length held
   pub under : (k : ℕ) (d : NumberedModule) → k < at → IsOther own k →
@@ -43,8 +43,8 @@ pub record IsClear (held : List NumberedModule) (own low high at : ℕ) : Type 0
   pub after : (k : ℕ) (d : NumberedModule) → at ≤ k → k < length held → IsOther own k →
       high ≤ start_of (slice_index_or held k d).loaded
 
--- But for the one at a place of its own, the one at this place is the lowest that has an address
--- between two ends.
+-- Except for the module at index own, the module at this index is the lowest one with an address
+-- between the two ends.
 pub record IsMet (held : List NumberedModule) (own low high at : ℕ) : Type 0 where
   pub within : at < length held
   pub other : IsOther own at
@@ -57,11 +57,11 @@ pub record IsMet (held : List NumberedModule) (own low high at : ℕ) : Type 0 w
 abbrev pub rebased : ℕ → NumberedModule → NumberedModule
 rebased base h = record h { loaded = moved_to base h.loaded }
 
--- the one at a place of its own taken out, and one put where a gap was
+-- the module at index own is removed, and a module is inserted at the gap
 abbrev pub relocated : List NumberedModule → ℕ → ℕ → NumberedModule → List NumberedModule
 relocated held own at h = insert (remove held own) (if nat_le at own then at else at - 1) h
 
--- the first place from one on, but for a place of its own
+-- the first index at or after from that is not own
 pub record IsNext (own len from next : ℕ) : Type 0 where
   pub above : from ≤ next
   pub least : (k : ℕ) → from ≤ k → k < next → k ≡ own

@@ -1,10 +1,10 @@
--- What the loaded modules, and the entries of the cache, stand for.
+-- The meaning of the loaded modules and of the cache entries.
 use Rattle.std.specs.Prelude.{◌≡◌, ℕ, ◌<◌, ◌≤◌, List, length, Contains, Option}
 use Rattle.addr_table.specs.Module.{place_in}
 use Rattle.addr_table.specs.declared.place.Place.{Place}
 use Rattle.module_map.specs.World.{Loaded, most_modules}
 
--- a module and the serial number of its load, which is never used again
+-- a module and the serial number of its load, which is never reused
 pub record NumberedModule : Type 0 where
   pub serial : ℕ
   pub loaded : Loaded
@@ -12,21 +12,21 @@ pub record NumberedModule : Type 0 where
 abbrev pub loaded_of : NumberedModule → Loaded
 loaded_of h = h.loaded
 
--- a serial number and a link address, and what was found there
+-- a serial number and a link address, and the place that was found there
 abbrev pub CacheEntry : Type 0
 CacheEntry = (ℕ × ℕ) × Option Place
 
--- the entries of a cache, and how many there may be
+-- the entries of a cache, and its capacity
 pub record CacheEntries : Type 0 where
   pub entries : List CacheEntry
   pub capacity : ℕ
 
--- an answer of a module
+-- the entry is an answer of the module
 abbrev pub IsAnswerOf : NumberedModule → CacheEntry → Type 0
 IsAnswerOf h e = (h.serial ≡ e.0.0) × (e.1 ≡ place_in h.loaded.bytes e.0.1)
 
--- There are no more modules than may be. A serial number is below the count of loads, and names the
--- bytes of one module. What the cache has under it is what that module answers.
+-- The number of modules is within the limit. A serial number is below the count of loads and
+-- identifies the bytes of one module. A value cached under it is an answer of that module.
 pub record AreSound (held : List NumberedModule) (loads : ℕ) (entries : List CacheEntry) :
     Type 0 where
   pub few : length held ≤ most_modules

@@ -6,7 +6,7 @@ use Rattle.module_map.specs.Private.Cached.{is_key}
 use Rattle.module_map.proofs.CacheLemmas.{put_or_was, Grows, Grows-put_entries}
 use Rattle.module_map.proofs.cache.remember.Goals as goal
 
--- after a put that went well, or that memory refused
+-- after a put that succeeded, or that ran out of memory
 module _ {V T E : Type 0} (c : LruCache (ℕ × ℕ) V) (key : ℕ × ℕ) (v : V) (new : LruCache (ℕ × ℕ) V)
   where
     kept : (r : Result T E) → OnOk r (new ≡ lru_cache (put_entries is_key c key v) c.cap)

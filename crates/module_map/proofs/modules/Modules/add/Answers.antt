@@ -15,7 +15,7 @@ use Rattle.module_map.proofs.CachedModules.{free_all, kept_there}
 use Rattle.module_map.proofs.Changing.{world_of}
 use Rattle.module_map.proofs.modules.Modules.add.Goals as goal
 
--- what is seen after an insert
+-- the state after an insertion, as contracts see it
 abbrev map_with : List NumberedModule → ℕ → List ((ℕ × ℕ) × Option Place) → ℕ → Steps → ModuleMap
 map_with hs loads entries capacity steps =
     record {

@@ -8,7 +8,7 @@ use Rattle.module_map.proofs.Asking.{takes_some}
 use Rattle.addr_table.proofs.StepLaws.{counted_decoded}
 use Rattle.module_map.proofs.modules.Modules.ask.Goals as goal
 
--- any entry, where a clause asks for one past the end
+-- a placeholder entry for a clause about an index past the end
 any_module : NumberedModule
 any_module = record { serial = 0; loaded = record { name = []; base = 0; bytes = [] } }
 

@@ -11,7 +11,7 @@ use Rattle.module_map.proofs.sorted.SortedModules.gap.Goals.{else-begun-gt0-via-
 use Rattle.module_map.proofs.sorted.SortedModules.gap.Goals.{else-next-len-via-then-next-len+else-start-extent}
 use Rattle.module_map.proofs.sorted.SortedModules.gap.Goals.{else-next-len-via-else-next-len}
 
--- the last one that begins at the low end or before it ends there or before, or is the one left out
+-- the last module that starts at or before the low end ends there or before, unless it is ignored
 last_ends : (c : After-next_place-next) (at : ℕ) (d : NumberedModule)
     → at + 1 ≡ c.begun-begun.result → IsOther c.args.own at
     → end_of (get_or c.args.self.now at d).loaded ≤ c.args.extent.low
