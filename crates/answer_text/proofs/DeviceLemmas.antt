@@ -1,4 +1,4 @@
--- What is known of bytes over several calls.
+-- The bytes of a device over several calls.
 use Rattle.std.proofs.Common.{◌≡◌, ◌≢◌, false, nat_eq, ℕ, ◌+◌, ◌-◌, List, [], ◌++◌, length, take}
 use Rattle.std.proofs.Common.{drop, refl, sym, ◌∙◌, ap, subst}
 use Rattle.std.proofs.Common.{append_assoc, append-nil, take-add}
@@ -37,7 +37,7 @@ pub grows_nothing : {X : Type 0} (a : Option (List X)) → Grows a a []
 grows_nothing None = tt
 grows_nothing (Some a) = sym (append-nil a)
 
--- a beginning was written, and then no more
+-- a prefix was written, and then no more
 pub stops_at : (a b c : Option (List ℕ)) (text : List ℕ) (n : ℕ) → Appends a b (take n text)
     → Keeps b c
     → (part : List ℕ) × IsBeginning part text × Appends a c part
@@ -47,11 +47,11 @@ stops_at a b c text n h k = (
   appends_kept a b c (take n text) h k,
 )
 
--- the bytes from n on, as the code lends them
+-- the bytes from n on, as the code borrows them
 pub rest_of : (text : List ℕ) (n : ℕ) → take (length text - n) (drop n text) ≡ drop n text
 rest_of text n = take_rest text n
 
--- one more piece of a text
+-- one more piece of a string
 pub goes_on : (a b c : Option (List ℕ)) (text : List ℕ) (n m : ℕ)
     → Appends a b (take n text) → Appends b c (take m (take (length text - n) (drop n text)))
     → Appends a c (take (n + m) text)
@@ -62,7 +62,7 @@ goes_on a b c text n m h k =
     subst P joined (appends_then a b c (take n text) (take m (take (length text - n) (drop n text)))
     h k)
 
--- a piece of no bytes
+-- a piece without bytes
 pub goes_nowhere : (a b c : Option (List ℕ)) (text bytes : List ℕ) (n m : ℕ) → m ≡ 0
     → Appends a b (take n text)
     → Appends b c (take m bytes) → (part : List ℕ) × IsBeginning part text × Appends a c part
@@ -76,7 +76,7 @@ goes_nowhere a b c text bytes n m zero_is h k =
       subst P joined (appends_then a b c (take n text) (take m bytes) h k),
     )
 
--- a write that took some byte did not fail
+-- a write that accepted a byte did not fail
 pub took_some : (E : Type 0) (failures : ℕ) (bytes : List ℕ) (n : ℕ) → n ≢ 0
     → write_failures {E = E} failures bytes (Ok n) ≡ failures
 took_some E failures bytes n ne = let is_no : nat_eq n 0 ≡ false = ne_eqb n 0 ne in rw is_no refl

@@ -14,7 +14,7 @@ use Rattle.answer_text.specs.Printable.{printable, known_text}
 use Rattle.answer_text.specs.Text.{base_name}
 use Rattle.answer_text.specs.Private.Paths.{last_behind, slashed}
 
--- ---- what follows the last slash
+-- ---- the part after the last slash
 
 abbrev is_other : ℕ → Bool
 is_other byte = not (byte == 47)
@@ -57,7 +57,7 @@ other_byte false never = refl
 slash_byte : (b : Bool) → b ≡ true → not b ≡ false
 slash_byte b e = rw e refl
 
--- all of a path without a slash
+-- the base name of a path without a slash is the whole path
 pub no_slash : (path : List ℕ) → IsLastByte (is_byte 47) path None → path ≡ base_name path
 no_slash path nowhere =
     let all : suffix_len is_other path ≡ length path - 0 =
@@ -67,7 +67,7 @@ no_slash path nowhere =
     let start : 0 ≡ length path - suffix_len is_other path = omega (arith, all) in
     ap (λ (n : ℕ). drop n path) start
 
--- what follows the last slash
+-- the part after the last slash
 pub last_slash : (path : List ℕ) (at : ℕ) → IsLastByte (is_byte 47) path (Some at)
     → take (length path - (at + 1)) (drop (at + 1) path) ≡ base_name path
 last_slash path at found =
@@ -79,7 +79,7 @@ last_slash path at found =
     (slash_byte (get_or path at 0 == 47) found.1)) in
     take_rest path (at + 1) ∙ ap (λ (n : ℕ). drop n path) (omega (arith, rest, found.0.high))
 
--- it stands in the last part
+-- it is in the last part
 base_of_behind : (parts : List (List ℕ)) (part : List ℕ)
     → base_name (last_behind part parts) ≡ base_name (join_with_byte 47 (part ∷ parts))
 base_of_behind [] part = refl
@@ -91,7 +91,7 @@ pub base_of_last : (parts : List (List ℕ)) → base_name (last_behind [] parts
 base_of_last [] = refl
 base_of_last (part ∷ parts) = base_of_behind parts part
 
--- ---- parts with slashes between them
+-- ---- parts joined by slashes
 
 pub printed_join : (part : List ℕ) (parts : List (List ℕ))
     → map printable part ++ flat_map slashed parts
@@ -101,7 +101,7 @@ printed_join part (next ∷ parts) =
     ap (λ (z : List ℕ). map printable part ++ 47 ∷ z) (printed_join next parts)
     ∙ sym (map-append printable part (47 ∷ join_with_byte 47 (next ∷ parts)))
 
--- a path whose first part has a byte
+-- a path whose first part is nonempty
 pub known_join : (part : List ℕ) (parts : List (List ℕ)) → part ≢ []
     → map printable part ++ flat_map slashed parts
     ≡ known_text (Some (join_with_byte 47 (part ∷ parts)))
@@ -109,13 +109,13 @@ known_join [] parts ne = absurd (ne refl)
 known_join (byte ∷ bytes) [] ne = printed_join (byte ∷ bytes) []
 known_join (byte ∷ bytes) (next ∷ parts) ne = printed_join (byte ∷ bytes) (next ∷ parts)
 
--- a path whose first part has none
+-- a path whose first part is empty
 pub known_behind : (part : List ℕ) (parts : List (List ℕ))
     → slashed part ++ flat_map slashed parts
     ≡ known_text (Some (join_with_byte 47 ([] ∷ part ∷ parts)))
 known_behind part parts = ap (λ (z : List ℕ). 47 ∷ z) (printed_join part parts)
 
--- ---- of what is left of a path
+-- ---- the remaining parts of a path
 
 abbrev pub path_text : List (List ℕ) → List ℕ
 path_text parts = known_text (Some (join_with_byte 47 parts))

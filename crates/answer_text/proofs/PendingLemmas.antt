@@ -1,4 +1,4 @@
--- Texts put one after the other.
+-- Strings appended one after the other.
 use Rattle.std.proofs.Common.{◌≡◌, Bool, true, false, ℕ, zero, suc, ◌+◌, ◌-◌, ◌<◌, ◌≤◌, ◌⊎◌, inl}
 use Rattle.std.proofs.Common.{inr, List, [], ◌∷◌, ◌++◌, length, map}
 use Rattle.std.proofs.Common.{take, drop, get_or, refl, sym, ◌∙◌, ap, subst, append_assoc}
@@ -13,7 +13,7 @@ use Rattle.answer_text.proofs.DeviceLemmas.{appends_then}
 use Rattle.answer_text.specs.Devices.{Writes}
 use Rattle.answer_text.specs.Pending.{Put, Cut, Puts}
 
--- what is put behind what was put
+-- an append after an append
 pub put_then : (a b c : Option (List ℕ)) (h h' h'' x y : List ℕ) → Put a b h h' x → Put b c h' h'' y
     → Put a c h h'' (x ++ y)
 put_then a b c h h' h'' x y p q = record {
@@ -36,7 +36,7 @@ put_cut a b c h h' x y p q = record {
   appended = appends_then a b c p.sent q.sent p.appended q.appended;
 }
 
--- what follows a text of which no more than a beginning was written
+-- if only a prefix of a string was written, it is also a prefix of a longer string
 pub cut_more : (a b : Option (List ℕ)) (h x y : List ℕ) → Cut a b h x → Cut a b h (x ++ y)
 cut_more a b h x y p = record {
   sent = p.sent;
@@ -48,7 +48,7 @@ cut_more a b h x y p = record {
   appended = p.appended;
 }
 
--- a text was written, where nothing was held
+-- a string was written while the buffer was empty
 pub puts_through : {E : Type 0} (a b : Option (List ℕ)) (h x : List ℕ) (r : Result (Unit {0}) E)
     → h ≡ [] → Writes a b r x
     → Puts a b h h r x
@@ -56,20 +56,20 @@ puts_through a b [] x (Ok done) e w = record { sent = x; kept = sym (append-nil 
 puts_through a b [] x (Err fault) e w = record { sent = w.0; begins = w.1; appended = w.2 }
 puts_through a b (y ∷ h) x r e w = cc
 
--- after nothing was put, a text is put
+-- after an append of nothing, a string is appended
 pub puts_after : {E : Type 0} (a b c : Option (List ℕ)) (h h' h'' y : List ℕ)
     (r : Result (Unit {0}) E) → Put a b h h' []
     → Puts b c h' h'' r y → Puts a c h h'' r y
 puts_after a b c h h' h'' y (Ok done) p q = put_then a b c h h' h'' [] y p q
 puts_after a b c h h' h'' y (Err fault) p q = put_cut a b c h h' [] y p q
 
--- what did not fit was put where nothing was held
+-- if a string does not fit, the buffer is empty
 pub none_held : (len room : ℕ) (h : List ℕ) → (len ≤ 2048 - length h) ⊎ (h ≡ [])
     → room ≡ 2048 - length h → room < len → h ≡ []
 none_held len room h (inl fits) is over = absurd (omega arith)
 none_held len room h (inr none) is over = none
 
--- texts, cut behind one of them
+-- a list of strings, split after one of them
 flat_map_cut : {X : Type 0} (f : X → List ℕ) (xs : List X) (i : ℕ) (d : X) → i < length xs
     → flat_map f xs ≡ (flat_map f (take i xs) ++ f (get_or xs i d)) ++ flat_map f (drop (suc i) xs)
 flat_map_cut f [] i d lt = absurd (omega arith)
@@ -89,7 +89,7 @@ flat_map_on f (x ∷ xs) (suc i) d lt =
     ap (λ (z : List ℕ). f x ++ z) (flat_map_on f xs i d (omega arith)) ∙ sym
     (append_assoc (f x) (flat_map f (take i xs)) (f (get_or xs i d)))
 
--- one more of several texts
+-- one more of several strings
 pub put_next : {X : Type 0} (a b c : Option (List ℕ)) (h h' h'' : List ℕ) (f : X → List ℕ)
     (xs : List X) (i : ℕ) (d : X) → i < length xs
     → Put a b h h' (flat_map f (take i xs)) → Put b c h' h'' (f (get_or xs i d))
@@ -99,7 +99,7 @@ put_next a b c h h' h'' f xs i d lt p q =
     subst P (sym (ap (λ (n : ℕ). flat_map f (take n xs)) (add-one i) ∙ flat_map_on f xs i d lt))
     (put_then a b c h h' h'' (flat_map f (take i xs)) (f (get_or xs i d)) p q)
 
--- the one of several texts at which it stopped
+-- the string at which the output stopped
 pub cut_at : {X : Type 0} (a b c : Option (List ℕ)) (h h' : List ℕ) (f : X → List ℕ) (xs : List X)
     (i : ℕ) (d : X) → i < length xs
     → Put a b h h' (flat_map f (take i xs)) → Cut b c h' (f (get_or xs i d))
@@ -110,7 +110,7 @@ cut_at a b c h h' f xs i d lt p q =
     (cut_more a c h (flat_map f (take i xs) ++ f (get_or xs i d)) (flat_map f (drop (suc i) xs))
     (put_cut a b c h h' (flat_map f (take i xs)) (f (get_or xs i d)) p q))
 
--- the same, a number at a time
+-- the same, one byte at a time
 pub put_number : (a b c : Option (List ℕ)) (h h' h'' : List ℕ) (f : ℕ → ℕ) (xs : List ℕ) (i : ℕ)
     → i < length xs
     → Put a b h h' (map f (take i xs)) → Put b c h' h'' (f (get_or xs i 0) ∷ [])
@@ -138,7 +138,7 @@ pub puts_then : {E : Type 0} (a b c : Option (List ℕ)) (h h' h'' x y : List �
 puts_then a b c h h' h'' x y (Ok done) p q = put_then a b c h h' h'' x y p q
 puts_then a b c h h' h'' x y (Err fault) p q = put_cut a b c h h' x y p q
 
--- a text was put where nothing was held, and what was held of it was written
+-- a string was appended to an empty buffer, and then the buffer was written
 pub writes_all : {E : Type 0} (a b c : Option (List ℕ)) (h text : List ℕ) (r : Result (Unit {0}) E)
     → Put a b [] h text → Writes b c r h
     → Writes a c r text
@@ -152,7 +152,7 @@ writes_all a b c h text (Err fault) p w = (
       p.sent w.0 p.appended w.2,
 )
 
--- all of several texts were put
+-- all of several strings were appended
 pub put_whole : {X : Type 0} (a b : Option (List ℕ)) (h h' : List ℕ) (f : X → List ℕ) (xs : List X)
     (i : ℕ) → length xs ≤ i
     → Put a b h h' (flat_map f (take i xs)) → Put a b h h' (flat_map f xs)
@@ -165,7 +165,7 @@ put_whole a b h h' f xs i le p = let P : List ℕ → Type 0 = λ z. Put a b h h
     take_whole (x ∷ xs) zero le = absurd (omega arith)
     take_whole (x ∷ xs) (suc i) le = ap (λ z. x ∷ z) (take_whole xs i (omega arith))
 
--- a text without control characters
+-- a string without control characters
 pub all_printable : (text : List ℕ) → list_all (λ byte. not (is_control byte)) text ≡ true
     → text ≡ map printable text
 all_printable [] h = refl
@@ -178,7 +178,7 @@ all_printable (byte ∷ text) h = at (is_control byte) refl h (all_printable tex
     at true e k rest = absurd (false≢true k)
     at false e k rest = rw e (ap (λ (z : List ℕ). byte ∷ z) (rest k))
 
--- a text by another name
+-- a string replaced by an equal one
 pub cut_as : (a b : Option (List ℕ)) (h x y : List ℕ) → x ≡ y → Cut a b h x → Cut a b h y
 cut_as a b h x y e p = subst (λ (z : List ℕ). Cut a b h z) e p
 

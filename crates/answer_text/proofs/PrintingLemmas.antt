@@ -1,4 +1,4 @@
--- Texts of which a part is known by an equation.
+-- Output with a part that is known by an equation.
 use Rattle.std.proofs.Common.{◌≡◌, ℕ, true, false, List, [], ◌∷◌, ◌++◌, refl, sym, ap, ◌∙◌, subst}
 use Rattle.std.proofs.Common.{append_assoc, append-nil}
 use Rattle.std.specs.Prelude.{Option, Result, Ok, Err, flat_map, if◌then◌else◌}
@@ -27,7 +27,7 @@ puts_known {E} a b c h h' h'' t t' y y' r e f p q =
     (subst (λ (z : List ℕ). Puts a c h h'' r (known_text t ++ z)) f
     (puts_then a b c h h' h'' (known_text t) y r p q))
 
--- the name text, where names are asked for
+-- the name, if names are requested
 pub named_text : (options : Options) (frame : Frame) → options.functions ≡ true
     → known_text (name_of options frame) ++ after_name options ≡ name_text options frame
 named_text options frame e = rw e refl
@@ -36,14 +36,14 @@ pub head_text : (options : Options) (address : ℕ) → options.addresses ≡ tr
     → address_text address ++ after_address options ≡ heading_text options address
 head_text options address e = rw e refl
 
--- the frames, from the innermost on
+-- the frames, from the innermost one on
 pub frames_begin : (options : Options) (frame : Frame) (frames : List Frame)
     → frame_text options frame ++ (if options.inlines then flat_map (later_text options) frames else
     [])
     ≡ frames_text options (frame ∷ frames)
 frames_begin options frame frames = refl
 
--- a first text by another name, and what follows it
+-- the first string replaced by an equal one, and the output after it
 pub cut_first : (a b : Option (List ℕ)) (h x y rest : List ℕ) → x ≡ y → Cut a b h x
     → Cut a b h (y ++ rest)
 cut_first a b h x y rest e p = cut_more a b h y rest (cut_as a b h x y e p)
@@ -71,7 +71,7 @@ puts_named a b c h h' h'' options frame t y r on e f p q =
     puts_as a c h h'' _ _ r (named_text options frame on)
     (puts_known a b c h h' h'' t (name_of options frame) y (after_name options) r e f p q)
 
--- the innermost frame alone, or with the others
+-- only the innermost frame, or also the others
 pub cut_frames : (a b : Option (List ℕ)) (h : List ℕ) (options : Options) (fs : List Frame)
     (f : Frame) (rest : List Frame)
     → fs ≡ f ∷ rest → Cut a b h (frame_text options f)
@@ -102,13 +102,13 @@ puts_all a b c h h' h'' options fs f rest r e on p q =
     puts_as a c h h'' _ _ r (head ∙ ap (frames_text options) (sym e))
     (puts_then a b c h h' h'' (frame_text options f) (flat_map (later_text options) rest) r p q)
 
--- there is no frame
+-- there are no frames
 pub puts_none : {E : Type 0} (a b : Option (List ℕ)) (h h' : List ℕ) (options : Options)
     (fs : List Frame) (r : Result (Unit {0}) E)
     → fs ≡ [] → Puts a b h h' r (nothing_text options) → Puts a b h h' r (frames_text options fs)
 puts_none a b h h' options fs r e p = puts_as a b h h' _ _ r (ap (frames_text options) (sym e)) p
 
--- the items that were put, and those that are left
+-- the items that were appended, and the remaining ones
 pub put_item : {X : Type 0} (a b c : Option (List ℕ)) (h h' h'' : List ℕ) (t : X → List ℕ)
     (all done left rest : List X) (x : X)
     → all ≡ done ++ left → left ≡ x ∷ rest

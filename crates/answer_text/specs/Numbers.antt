@@ -1,4 +1,4 @@
--- Numbers as they are written in commands and in words of a command line.
+-- Numbers in commands and in arguments of the command line.
 use Rattle.std.specs.Prelude.{ℕ, ◌+◌, ◌*◌, Bool, ◌&&◌, List, length, drop, fold, nat_lt, nat_le}
 use Rattle.std.specs.Prelude.{nat_eq, Option, None, Some, if◌then◌else◌, codes}
 use Rattle.std.specs.List.{list_all, starts_with}
@@ -8,7 +8,7 @@ use Rattle.std.specs.Char.{digit_value, is_ascii_hexdigit}
 abbrev pub hex_value : List ℕ → ℕ
 hex_value digits = fold (λ value digit. 16 * value + digit_value digit) 0 digits
 
--- the digits of a number, without a 0x before them
+-- the digits of a number, without a leading 0x
 abbrev pub digits_of : List ℕ → List ℕ
 digits_of text = if starts_with nat_eq text (codes "0x") then drop 2 text else text
 

@@ -1,16 +1,17 @@
--- What is held for writing.
+-- Buffered output.
 use Rattle.std.specs.Prelude.{◌≡◌, ℕ, List, ◌++◌, Option, Result, Ok, Err}
 use Rattle.std.specs.Io.KnownBytes.{Appends}
 use Rattle.answer_text.specs.Devices.{IsBeginning}
 
--- A text was put behind what is held: all of it was written but for what is held afterwards.
+-- A string was appended to the buffer: everything is written except for the bytes in the new
+-- buffer.
 pub record Put (written written' : Option (List ℕ)) (held held' : List ℕ)
     (text : List ℕ) : Type 0 where
   pub sent : List ℕ
   pub kept : held ++ text ≡ sent ++ held'
   pub appended : Appends written written' sent
 
--- A write failed while a text was put behind what is held: a beginning of it was written.
+-- A write failed while a string was appended to the buffer: a prefix of the bytes is written.
 pub record Cut (written written' : Option (List ℕ)) (held : List ℕ) (text : List ℕ) : Type 0 where
   pub sent : List ℕ
   pub begins : IsBeginning sent (held ++ text)

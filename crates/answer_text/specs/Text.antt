@@ -11,11 +11,11 @@ use Rattle.answer_text.specs.declared.options.Options.{Options}
 
 -- ---- a frame
 
--- the name, the linkage name first where that is asked for
+-- the name, or the linkage name if it is requested and present
 abbrev pub name_of : Options → Frame → Option (List ℕ)
 name_of options frame = if options.linkage then option_or frame.linkage frame.name else frame.name
 
--- the path, or what follows its last slash
+-- the path, or its base name
 abbrev pub base_name : List ℕ → List ℕ
 base_name path = after_last (λ byte. byte == 47) path
 
@@ -49,7 +49,7 @@ nothing_text options =
     if options.functions then (if options.pretty then codes "?? ??:0\n" else codes "??\n??:0\n")
     else codes "??:0\n"
 
--- the innermost frame, and where all are asked for the others
+-- the innermost frame, followed by the others if all are requested
 abbrev pub frames_text : Options → List Frame → List ℕ
 frames_text options [] = nothing_text options
 frames_text options (frame ∷ frames) =
@@ -63,7 +63,7 @@ abbrev pub heading_text : Options → ℕ → List ℕ
 heading_text options address =
     if options.addresses then address_text address ++ after_address options else []
 
--- the answer to an address
+-- the answer for an address
 unfoldable pub answer_text : Options → Answered → List ℕ
 answer_text options answer =
     heading_text options answer.address ++ frames_text options answer.frames

@@ -1,4 +1,4 @@
-//! What the command loop reads from, writes to and asks for objects.
+//! The I/O streams of the command loop, and the source of its objects.
 
 ghost use Rattle.std.specs.Prelude.{◌≡◌, ◌≢◌, ℕ, ◌+◌, ◌-◌, ◌*◌, ◌<◌, ◌≤◌, ◌^◌, List, [], ◌∷◌};
 ghost use Rattle.std.specs.Prelude.{◌++◌, length, take, drop, Option, None, Some, Result, IfOk};
@@ -13,18 +13,18 @@ use crate::faults::FetchFault;
 use std::io::{Read, Write};
 use thiserror::Error;
 
-/// A read, a write or a flush that failed.
+/// The failure of a read, a write or a flush.
 #[derive(Clone, Copy, Debug, PartialEq, Eq, Error)]
 #[error("the device failed")]
 pub struct DeviceFault;
 
 /// A reader of bytes that counts its failures and has a bounded number of reads.
 pub trait Feed {
-    // The bytes that are left, where they are told.
+    // The remaining bytes, if a contract can name them.
     ghost left: { Self → Option (List ℕ) };
-    // How many reads have failed, up to the greatest u64.
+    // The number of failed reads, up to the greatest u64.
     ghost failures: { Self → ℕ };
-    // A number that each read of some bytes lowers.
+    // A number that decreases with each read of at least one byte.
     ghost reads_left: { Self → ℕ };
 
     fn read(&mut self, buf: &mut [u8]) -> Result<usize, DeviceFault>
@@ -36,9 +36,9 @@ pub trait Feed {
 
 /// A writer of bytes that counts its failures.
 pub trait Sink {
-    // The bytes that it holds, where they are told.
+    // The bytes written so far, if a contract can name them.
     ghost written: { Self → Option (List ℕ) };
-    // How many writes and flushes have failed, up to the greatest u64.
+    // The number of failed writes and flushes, up to the greatest u64.
     ghost failures: { Self → ℕ };
 
     fn write(&mut self, bytes: &[u8]) -> Result<usize, DeviceFault>
@@ -52,9 +52,9 @@ pub trait Sink {
         ensures failures { failures self.new ≡ failures_after (failures self.old) result };
 }
 
-/// A source of objects by their path.
+/// A source of objects, which are fetched by path.
 pub trait Objects {
-    // What it was asked and has answered, in order, where that is told.
+    // The paths that were asked for and the results, in order, if a contract can name them.
     ghost asked: { Self → Option (List (List ℕ × Result (List ℕ) FetchFault)) };
 
     fn fetch(&mut self, path: &str) -> Result<Vec<u8>, FetchFault>
@@ -62,7 +62,8 @@ pub trait Objects {
             ((path.now, fetched_of result) ∷ []) };
 }
 
-/// A `Feed` of a std reader, a `Sink` of a std writer. It counts failures and tells no bytes.
+/// A `Feed` for a std reader, or a `Sink` for a std writer. It counts failures; contracts cannot
+/// name its bytes.
 #[derive(Drop)]
 pub struct Device<T: Drop> {
     inner: T,
@@ -71,7 +72,7 @@ pub struct Device<T: Drop> {
 }
 
 impl<T: Drop> Device<T> {
-    /// A device that has not failed, and has 2^64-1 reads of some bytes left.
+    /// Creates a device without failures. It can make 2^64-1 reads of at least one byte.
     pub fn new(inner: T) -> Self
         ensures failures { result.failures ≡ 0 }
         ensures reads { result.reads_left ≡ 2 ^ 64 - 1 }

@@ -1,4 +1,4 @@
-//! Why a source gives no bytes, and why a run ends early.
+//! The reasons why a source returns no bytes, and why a run ends early.
 
 ghost use Rattle.std.specs.Prelude.{◌≡◌};
 ghost use Rattle.answer_text.specs.Words.{fetch_word};
@@ -6,20 +6,20 @@ ghost use Rattle.answer_text.specs.Words.{fetch_word};
 use module_map::MapFault;
 use thiserror::Error;
 
-/// Why a source gives no bytes.
+/// The reason why a source returns no bytes.
 #[derive(Clone, Copy, Debug, PartialEq, Eq, Error)]
 #[error("{}", self.word())]
 pub enum FetchFault {
     /// The file cannot be opened or read.
     File = 1,
-    /// The file is over the limit of an object's bytes.
+    /// The file is larger than the limit for an object.
     TooLarge = 2,
     /// The file does not fit into memory.
     Memory = 3,
 }
 
 impl FetchFault {
-    /// The word after `refused`.
+    /// Returns the word that follows `refused` in a reply.
     pub fn word(self) -> &'static str
         ensures { result.now ≡ fetch_word self }
     {
@@ -31,29 +31,29 @@ impl FetchFault {
     }
 }
 
-/// Why the object that is to be loaded first is not loaded.
+/// The reason why the object of the command line is not loaded.
 #[derive(Clone, Copy, Debug, PartialEq, Eq, Error)]
 pub enum ExeFault {
-    /// The source gives no bytes.
+    /// The source returns no bytes.
     #[error("{0}")]
     NotFetched(FetchFault),
-    /// The bytes are refused.
+    /// The bytes were refused.
     #[error("{0}")]
     NotLoaded(MapFault),
 }
 
-/// Why a run ends early.
+/// The reason why a run ends early.
 #[derive(Clone, Copy, Debug, PartialEq, Eq, Error)]
 pub enum RunFault {
     #[error("reading failed")]
     Reading,
-    /// A write or a flush failed, or a write took no byte.
+    /// A write or a flush failed, or a write accepted no byte.
     #[error("writing failed")]
     Writing,
-    /// There was no memory to begin with.
+    /// Memory ran out at the start.
     #[error("no memory")]
     Memory,
-    /// The object that is to be loaded first is refused.
+    /// The object of the command line was refused.
     #[error("refused {0}")]
     Exe(ExeFault),
 }

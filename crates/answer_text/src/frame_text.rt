@@ -1,4 +1,4 @@
-//! The texts of frames.
+//! Formats frames.
 
 ghost use Rattle.std.specs.Prelude.{◌≡◌, ◌++◌, ◌∷◌, [], List};
 ghost use Rattle.answer_text.specs.Devices.{failures_after};
@@ -15,7 +15,7 @@ use crate::pending::Pending;
 use addr_table::Frame;
 use itoa::Buffer;
 
-/// The name that is printed.
+/// Returns the name to print: the linkage name if it is requested and present, else the name.
 fn printed_name<'a>(options: &Options, frame: &Frame<'a>) -> Option<&'a [u8]>
     ensures { text_told result ≡ name_of options.now frame.now }
 {
@@ -44,7 +44,7 @@ fn before_later(options: &Options) -> &'static [u8]
     }
 }
 
-/// Puts the name of a frame, where names are asked for.
+/// Appends the name of a frame if names are requested.
 fn put_name<W: Sink>(
     options: &Options,
     frame: &Frame<'_>,
@@ -62,7 +62,7 @@ fn put_name<W: Sink>(
     pending.put(after_name(options), writer)
 }
 
-/// Puts the path of a frame, or what follows its last slash; `??` where that is nothing.
+/// Appends the path of a frame, or its base name if requested; `??` if it is missing or empty.
 fn put_file<W: Sink>(
     options: &Options,
     frame: &Frame<'_>,
@@ -83,7 +83,7 @@ fn put_file<W: Sink>(
     }
 }
 
-/// Puts the file and the line of a frame.
+/// Appends the file and the line of a frame.
 fn put_place<W: Sink>(
     options: &Options,
     frame: &Frame<'_>,
@@ -101,7 +101,7 @@ fn put_place<W: Sink>(
     pending.put_all(&texts, writer)
 }
 
-/// Puts a frame.
+/// Appends a frame.
 pub fn put_frame<W: Sink>(
     options: &Options,
     frame: &Frame<'_>,
@@ -116,7 +116,7 @@ pub fn put_frame<W: Sink>(
     put_place(options, frame, pending, writer)
 }
 
-/// Puts a frame that is not the innermost.
+/// Appends a frame that is not the innermost one.
 pub fn put_later<W: Sink>(
     options: &Options,
     frame: &Frame<'_>,

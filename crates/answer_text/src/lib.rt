@@ -1,5 +1,5 @@
-//! The texts of answers, and what they are written to: devices, text on its way to a sink, numbers
-//! as they are read and printed, and the options of an answer.
+//! Formats answers: I/O streams, buffered output, numbers as they are parsed and printed, and the
+//! options of an answer.
 #![tactic(auto)]
 
 mod devices;

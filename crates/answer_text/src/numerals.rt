@@ -1,11 +1,11 @@
-//! Addresses as they are printed, and numbers as they are read.
+//! Formats addresses and parses numbers.
 
 ghost use Rattle.std.specs.Prelude.{◌≡◌, ◌<◌, MatchOption, if◌then◌else◌, Some, None, true, false};
 ghost use Rattle.std.specs.Char.{digit_char, is_ascii_hexdigit, digit_value};
 ghost use Rattle.answer_text.specs.Numbers.{number, are_digits, hex_value};
 ghost use Rattle.answer_text.specs.Numerals.{address_text};
 
-/// The hexadecimal digit of a number below 16.
+/// Returns the hexadecimal digit of a number below 16.
 fn hex_digit(value: u8) -> u8
     requires { value < 16 }
     ensures { result ≡ digit_char value }
@@ -17,7 +17,7 @@ fn hex_digit(value: u8) -> u8
     }
 }
 
-/// An address as `0x` and sixteen hexadecimal digits.
+/// Formats an address as `0x` and sixteen hexadecimal digits.
 pub fn address_text(address: u64) -> [u8; 18]
     ensures { result ≡ address_text address }
 {
@@ -32,7 +32,7 @@ pub fn address_text(address: u64) -> [u8; 18]
     text
 }
 
-/// The value of a hexadecimal digit.
+/// Returns the value of a hexadecimal digit, or `None` if the byte is not one.
 fn digit(byte: u8) -> Option<u8>
     ensures { MatchOption result (is_ascii_hexdigit byte ≡ false)
         (λ value. (is_ascii_hexdigit byte ≡ true) × (value ≡ digit_value byte) × (value < 16)) }
@@ -45,7 +45,7 @@ fn digit(byte: u8) -> Option<u8>
     }
 }
 
-/// The value of 1 to 16 hexadecimal digits.
+/// Parses 1 to 16 hexadecimal digits.
 fn parse_digits(digits: &[u8]) -> Option<u64>
     ensures { result ≡ (if are_digits digits.now then Some (hex_value digits.now) else None) }
 {
@@ -59,8 +59,8 @@ fn parse_digits(digits: &[u8]) -> Option<u64>
     Some(value)
 }
 
-/// The number that a text spells: 1 to 16 hexadecimal digits of either case, with or without `0x`
-/// before them. It takes no memory.
+/// Parses a number: 1 to 16 hexadecimal digits of either case, with or without a leading `0x`.
+/// Allocates no memory.
 #[tactic(auto, unfolding(crate::specs::Numbers::number))]
 pub fn parse_number(text: &[u8]) -> Option<u64>
     ensures { result ≡ number text.now }

@@ -1,34 +1,34 @@
-//! What is printed of an answer, and what a run begins with.
+//! The options of answers and of a run.
 
 ghost use Rattle.std.specs.Prelude.{◌≡◌, [], false, None};
 
 use std::alloc::Global;
 
-/// What the command line says.
+/// The options of the command line.
 #[derive(Debug, Drop)]
 pub struct Options {
     /// Print the address before each answer.
     pub addresses: bool,
     /// Print the names of functions.
     pub functions: bool,
-    /// Print all frames, not the innermost alone.
+    /// Print all frames, not only the innermost one.
     pub inlines: bool,
     /// Print each frame on one line.
     pub pretty: bool,
-    /// Print what follows the last slash of a path.
+    /// Print only the base name of a path: the part after its last slash.
     pub basenames: bool,
-    /// Print linkage names, where there are any, in place of names.
+    /// Print linkage names instead of names, if they are present.
     pub linkage: bool,
-    /// The path of the object that is loaded first, at base 0.
+    /// The path of the object to load first, at base 0.
     pub exe: Option<String>,
-    /// How many answers may be kept in the cache.
+    /// The maximum number of cached answers.
     pub cache: usize,
-    /// The addresses to answer; where there are none, commands are read.
+    /// The addresses to answer. If there are none, commands are read.
     pub words: Vec<u64>,
 }
 
 impl Options {
-    /// No option, no word, and no cache. It takes no memory.
+    /// Returns options without flags, addresses or a cache. Allocates no memory.
     pub fn plain(alloc: Global) -> Options
         ensures flags { (result.addresses ≡ false) × (result.functions ≡ false)
             × (result.inlines ≡ false)

@@ -1,4 +1,4 @@
-//! The texts of paths.
+//! Formats paths.
 
 ghost use Rattle.std.specs.Prelude.{◌≡◌, List, ◌++◌, ◌∷◌, [], Some, flat_map, map};
 ghost use Rattle.std.specs.List.{after_last, join_with_byte};
@@ -13,7 +13,7 @@ use crate::pending::Pending;
 use addr_table::Path;
 use bstr::ByteSlice;
 
-/// What follows the last slash of a path: all of it where there is none.
+/// Returns the part of a path after its last slash, or all of it if it has no slash.
 fn base_name(path: &[u8]) -> &[u8]
     ensures { result.now ≡ base_name path.now }
 {
@@ -23,7 +23,7 @@ fn base_name(path: &[u8]) -> &[u8]
     }
 }
 
-/// The last part of a path; nothing where it has none.
+/// Returns the last part of a path; empty if the path has no parts.
 fn last_part<'a>(path: Path<'a>) -> &'a [u8]
     ensures { result.now ≡ last_behind [] path.entry }
 {
@@ -34,7 +34,7 @@ fn last_part<'a>(path: Path<'a>) -> &'a [u8]
     last
 }
 
-/// Puts what follows the last slash of a path, or `??` where that is nothing.
+/// Appends the part of a path after its last slash, or `??` if that is empty.
 pub fn put_base_name<W: Sink>(
     path: Path<'_>,
     pending: &mut Pending,
@@ -48,7 +48,7 @@ pub fn put_base_name<W: Sink>(
     pending.put_known(Some(base_name(last_part(path))), writer)
 }
 
-/// Puts a part, and a slash before it.
+/// Appends a slash and a part.
 fn put_slashed<W: Sink>(
     part: &[u8],
     pending: &mut Pending,
@@ -62,7 +62,7 @@ fn put_slashed<W: Sink>(
     pending.put_printable(part, writer)
 }
 
-/// Puts what is left of a path, with a slash before each part.
+/// Appends the remaining parts of a path, each after a slash.
 fn put_rest<W: Sink>(
     path: Path<'_>,
     pending: &mut Pending,
@@ -78,7 +78,7 @@ fn put_rest<W: Sink>(
     Ok(())
 }
 
-/// Puts what is left of a path behind a first part of no byte, or `??` where that is nothing.
+/// Appends the rest of a path whose first part is empty, or `??` if there is no rest.
 fn put_behind_nothing<W: Sink>(
     mut path: Path<'_>,
     pending: &mut Pending,
@@ -96,7 +96,7 @@ fn put_behind_nothing<W: Sink>(
     put_rest(path, pending, writer)
 }
 
-/// Puts a path: its parts with slashes between them, or `??` where that is nothing.
+/// Appends a path: its parts joined by slashes, or `??` if that is empty.
 pub fn put_path<W: Sink>(
     mut path: Path<'_>,
     pending: &mut Pending,

@@ -1,4 +1,4 @@
-//! Text on its way to a sink: held until there is enough of it for a write.
+//! Buffered output to a sink.
 
 ghost use Rattle.std.specs.Prelude.{◌≡◌, ℕ, ◌≤◌, ◌-◌, List, [], ◌∷◌, ◌++◌, length, map, flat_map};
 ghost use Rattle.std.specs.Prelude.{not, OnOk, ◌⊎◌};
@@ -11,7 +11,7 @@ ghost use Rattle.answer_text.specs.Private.Paths.{text_told};
 use crate::devices::{DeviceFault, Sink};
 use std::marker::Model;
 
-/// The most bytes that are held.
+/// The capacity of the buffer in bytes.
 const ROOM: usize = 2048;
 
 fn is_control(byte: u8) -> bool
@@ -20,21 +20,21 @@ fn is_control(byte: u8) -> bool
     byte < 32 || byte == 127
 }
 
-/// The byte, or `?` for a control character.
+/// Returns the byte, or `?` for a control character.
 fn printable(byte: u8) -> u8
     ensures { result ≡ printable byte }
 {
     if is_control(byte) { b'?' } else { byte }
 }
 
-/// Whether a text has no control character.
+/// Returns whether a string has no control characters.
 fn are_printable(text: &[u8]) -> bool
     ensures { result ≡ list_all (λ byte. not (is_control byte)) text.now }
 {
     text.iter().all(|byte| !is_control(*byte))
 }
 
-/// Text that is not written yet.
+/// A buffer of bytes that are not written yet.
 #[derive(Drop)]
 pub struct Pending {
     bytes: [u8; 2048],
@@ -51,7 +51,7 @@ impl Model for Pending {
     ghost invariant = { λ p. p.len ≤ 2048 };
 }
 
-/// Writes all of a text. A write that takes no byte is a failure.
+/// Writes all of a string. A write that accepts no byte is a failure.
 fn write_all<W: Sink>(writer: &mut W, text: &[u8]) -> Result<(), DeviceFault>
     ensures bytes { Writes (W.written writer.old) (W.written writer.new) result text.now }
     ensures failures { W.failures writer.new ≡ failures_after (W.failures writer.old) result }
@@ -104,7 +104,7 @@ impl Pending {
         self.len = end;
     }
 
-    /// Writes what is held.
+    /// Writes the buffered bytes.
     pub fn send<W: Sink>(&mut self, writer: &mut W) -> Result<(), DeviceFault>
         ensures bytes { Writes (W.written writer.old) (W.written writer.new) result self.old }
         ensures empty { OnOk result (self.new ≡ []) }
@@ -115,7 +115,7 @@ impl Pending {
         Ok(())
     }
 
-    /// Writes what is held, where that many bytes would not fit behind it.
+    /// Writes the buffered bytes if `len` more bytes would not fit.
     fn make_room<W: Sink>(&mut self, len: usize, writer: &mut W) -> Result<(), DeviceFault>
         ensures bytes { Puts (W.written writer.old) (W.written writer.new) self.old self.new result
             [] }
@@ -128,7 +128,7 @@ impl Pending {
         Ok(())
     }
 
-    /// Puts a text behind what is held.
+    /// Appends a string to the buffer.
     pub fn put<W: Sink>(&mut self, text: &[u8], writer: &mut W) -> Result<(), DeviceFault>
         ensures bytes { Puts (W.written writer.old) (W.written writer.new) self.old self.new result
             text.now }
@@ -142,7 +142,7 @@ impl Pending {
         Ok(())
     }
 
-    /// Puts texts, one after the other.
+    /// Appends several strings.
     pub fn put_all<W: Sink>(&mut self, texts: &[&[u8]], writer: &mut W) -> Result<(), DeviceFault>
         ensures bytes { Puts (W.written writer.old) (W.written writer.new) self.old self.new result
             (flat_map (λ text. text.now) texts.now) }
@@ -154,7 +154,7 @@ impl Pending {
         Ok(())
     }
 
-    /// Puts a text byte by byte.
+    /// Appends a string byte by byte, with `?` for each control character.
     fn put_bytes<W: Sink>(&mut self, text: &[u8], writer: &mut W) -> Result<(), DeviceFault>
         ensures bytes { Puts (W.written writer.old) (W.written writer.new) self.old self.new result
             (map printable text.now) }
@@ -166,7 +166,8 @@ impl Pending {
         Ok(())
     }
 
-    /// Puts a text whose control characters are `?`: one without any in one piece.
+    /// Appends a string with `?` for each control character. A string without any is appended
+    /// whole.
     pub fn put_printable<W: Sink>(&mut self, text: &[u8], writer: &mut W) -> Result<(), DeviceFault>
         ensures bytes { Puts (W.written writer.old) (W.written writer.new) self.old self.new result
             (map printable text.now) }
@@ -178,7 +179,7 @@ impl Pending {
         self.put_bytes(text, writer)
     }
 
-    /// Puts a text, or `??` where it is missing or empty.
+    /// Appends a string, or `??` if it is missing or empty.
     pub fn put_known<W: Sink>(
         &mut self,
         text: Option<&[u8]>,
@@ -198,7 +199,7 @@ impl Pending {
     }
 }
 
-/// Writes texts, one after the other, in as few pieces as may be.
+/// Writes several strings, buffered into as few writes as possible.
 pub fn write_texts<W: Sink>(texts: &[&[u8]], writer: &mut W) -> Result<(), DeviceFault>
     ensures bytes { Writes (W.written writer.old) (W.written writer.new) result
         (flat_map (λ text. text.now) texts.now) }

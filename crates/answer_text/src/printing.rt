@@ -1,4 +1,4 @@
-//! The texts of answers.
+//! Formats and writes answers.
 
 ghost use Rattle.std.specs.Prelude.{◌≡◌, ◌++◌, ◌∷◌, [], List, IfErr, flat_map};
 ghost use Rattle.answer_text.specs.Devices.{Writes, failures_after};
@@ -21,7 +21,7 @@ fn after_address(options: &Options) -> &'static [u8]
     if options.pretty { b": " } else { b"\n" }
 }
 
-/// The text where nothing is known.
+/// Returns the output for an address without frames.
 fn nothing_text(options: &Options) -> &'static [u8]
     ensures { result.now ≡ nothing_text options.now }
 {
@@ -35,7 +35,7 @@ fn nothing_text(options: &Options) -> &'static [u8]
     }
 }
 
-/// Puts the frames after the innermost one.
+/// Appends the frames after the innermost one.
 fn put_rest<W: Sink>(
     options: &Options,
     frames: Frames<'_>,
@@ -52,7 +52,7 @@ fn put_rest<W: Sink>(
     Ok(())
 }
 
-/// Puts frames: the innermost one alone, or all of them.
+/// Appends frames: only the innermost one, or all of them.
 fn put_frames<W: Sink>(
     options: &Options,
     mut frames: Frames<'_>,
@@ -73,7 +73,7 @@ fn put_frames<W: Sink>(
     put_rest(options, frames, pending, writer)
 }
 
-/// Puts the address, where addresses are asked for.
+/// Appends the address if addresses are requested.
 fn put_heading<W: Sink>(
     options: &Options,
     address: u64,
@@ -92,7 +92,7 @@ fn put_heading<W: Sink>(
     pending.put_all(&texts, writer)
 }
 
-/// Puts an answer.
+/// Appends an answer.
 #[tactic(auto, unfolding(crate::specs::Text::answer_text))]
 fn put_answer<W: Sink>(
     options: &Options,
@@ -108,8 +108,8 @@ fn put_answer<W: Sink>(
     put_frames(options, answer.frames(), pending, writer)
 }
 
-/// Writes an answer, ended by a line feed, and does not flush. It takes no memory. After
-/// `RunFault::Writing`, which is the only fault, a beginning of the text is written.
+/// Writes an answer, which ends with a line feed, without flushing. Allocates no memory. The only
+/// fault is `RunFault::Writing`; a prefix of the answer is written then.
 pub fn print<W: Sink>(
     options: &Options,
     answer: &Answer<'_>,

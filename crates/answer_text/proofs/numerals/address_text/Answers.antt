@@ -7,7 +7,7 @@ use Rattle.std.proofs.lemmas.List.{drop-set, take-set-le, length-set, take-appen
 use Rattle.answer_text.specs.Numerals.{hex_digits, address_text}
 use Rattle.answer_text.proofs.numerals.address_text.Goals as goal
 
--- one more digit in front of those that stand
+-- one more digit before the digits that are already there
 digit_before : (n at : ℕ) (text all : List ℕ) (digit : ℕ) → 2 < at → at ≤ length text
     → digit ≡ digit_char (n % 16)
     → hex_digits (at - 2) n ++ drop at text ≡ all
