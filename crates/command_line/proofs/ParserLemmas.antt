@@ -19,12 +19,12 @@ pub our_app_is_free : is_simple_and_free our_app ≡ true
 unfolding clap_on_literals our_app
 our_app_is_free = refl
 
--- the command is what its description says
+-- the command is the one that its description defines
 pub our_app_is : our_app ≡ all_rules
 unfolding our_app
 our_app_is = refl
 
--- a parse by a command that is described by another gives what that says
+-- parsing with a command gives the result of any equal description
 pub parsed_as : (a b : App) (words : List (List ℕ)) (r : Result ArgMatches Error) → a ≡ b
     → is_simple b ≡ true → is_simple_and_free b ≡ true
     → IfOk r (HasMatchesOf a words) → (is_simple_and_free a ≡ true → FailsBy (fault_of a words) r)

@@ -1,4 +1,4 @@
--- The settings that the parser's rows give, or why they are refused.
+-- The settings that the parser's rows specify, or the reason for refusing them.
 use Rattle.std.proofs.Common.{◌≡◌, ◌∙◌, sym, ap, inl, inr, List, ℕ, Result}
 use Rattle.std.specs.Prelude.{Option, Some, None}
 use Rattle.clap.specs.Walk.{Row}
@@ -17,14 +17,14 @@ use Rattle.clap.specs.declared.error.Error.{Error}
 use Rattle.clap.specs.Kinds.{HasKind}
 use Rattle.clap.specs.Faults.{fault_of}
 
--- the rows are those of matches that were read
+-- the rows are the parsed matches
 module _ (words : List (List ℕ)) (rows : List Row) (are : rows ≡ matches_of our_app words) where
   pub with_numbers : (outcome : Result (List ℕ) (List ℕ)) → numbers_of (words_of rows) ≡ outcome
       → settings_of (matches_of our_app words) ≡ settings_with rows outcome
   unfolding settings_of
   with_numbers outcome gives = ap settings_of (sym are) ∙ ap (settings_with rows) gives
 
--- a word is bad
+-- an address is invalid
 pub word_refused : (words : List (List ℕ)) (rows : List Row) (outcome : Result (List ℕ) (List ℕ))
     (fault : CliFault) → IsBadWord outcome fault → IsTaken words
     → settings_of (matches_of our_app words) ≡ settings_with rows outcome → IsRefused words fault
@@ -33,7 +33,7 @@ word_refused words rows outcome (Address w) bad taken is =
     record { 0 = taken; 1 = is ∙ ap (settings_with rows) bad }
 word_refused words rows outcome Memory bad taken is = tt
 
--- the parser refuses
+-- the parser refuses the arguments
 pub parser_refused : (words : List (List ℕ)) (error : Error) (fault : CliFault)
     → HasKind (fault_of our_app words) error → TellsOf error fault → IsRefused words fault
 parser_refused words error (Usage same) (inl memory) told = absurd (told.1 (memory))
@@ -41,7 +41,7 @@ parser_refused words error (Usage same) (inr kind) told = rw (told.0) kind
 parser_refused words error (Address w) kinds told = absurd told
 parser_refused words error Memory kinds told = tt
 
--- what is behind references that may be there is what the rows have
+-- the strings of optional references are the strings of the rows
 pub texts_are : (words : Option (Bor (List (Bor (List ℕ))))) (o : Option (List (List ℕ)))
     → option_map (λ ws. map (λ (w : Bor (List ℕ)). w.now) ws.now) words ≡ o
     → texts_of words ≡ option_map_or (λ texts. texts) o []

@@ -1,4 +1,4 @@
--- The size of the cache, as it is read from the text that is given.
+-- The capacity of the cache, parsed from the given string.
 use Rattle.std.proofs.Common.{◌≡◌, ℕ, List, refl}
 use Rattle.std.specs.Prelude.{Option, None, Some, Ok, Err}
 use Rattle.std.specs.Str.Parse.{ParsesUnsigned}

@@ -1,4 +1,4 @@
--- Words that were read as numbers so far.
+-- The arguments that were parsed as numbers so far.
 use Rattle.std.proofs.Common.{◌≡◌, ℕ, zero, suc, ◌+◌, ◌<◌, ◌≤◌, List, [], ◌∷◌, ◌++◌, length, map}
 use Rattle.std.proofs.Common.{get_or, drop, refl, sym, ap, ◌∙◌, arith, append_assoc, append-nil}
 use Rattle.std.specs.Prelude.{Option, None, Some, Result, Ok, Err}
@@ -9,7 +9,7 @@ use Rattle.answer_text.specs.Numbers.{number}
 abbrev all_of : List ℕ → Result (List ℕ) (List ℕ)
 all_of l = Ok l
 
--- numbers in front of what the words that are left give
+-- numbers, followed by the result for the remaining arguments
 abbrev pub with_front : List ℕ → Result (List ℕ) (List ℕ) → Result (List ℕ) (List ℕ)
 with_front front (Ok ns) = Ok (front ++ ns)
 with_front front (Err bad) = Err bad

@@ -1,11 +1,11 @@
--- The command line, as the parser's own description of it.
+-- The command line, as the parser's description of it.
 use Rattle.std.specs.Prelude.{ℕ, List, Some, codes, pos}
 use Rattle.clap.specs.Walk.{Rule}
 use Rattle.clap.specs.Simple.{App, new_app, new_rule, with_rule}
 use Rattle.clap.specs.declared.builder.value_parser.ValueParser.TheVariants.{Signed}
 use Rattle.clap.specs.declared.builder.action.ArgAction.TheVariants.{SetTrue, Set, Append}
 
--- a flag of one letter and a long name, which is its id
+-- a flag with one letter and a long name, which is its id
 abbrev pub flag_rule : ℕ → List ℕ → Rule
 flag_rule letter name =
     record (new_rule name) { short = Some letter; long = Some name; action = Some SetTrue }
@@ -22,7 +22,7 @@ exe_rule = record (new_rule (codes "exe")) {
   action = Some Set;
 }
 
--- the cache has from 0 to 65,536 entries
+-- the capacity of the cache is from 0 to 65,536 entries
 abbrev pub cache_rule : Rule
 cache_rule = record (new_rule (codes "cache")) {
   long = Some (codes "cache");
@@ -31,7 +31,7 @@ cache_rule = record (new_rule (codes "cache")) {
   parser = Some (Signed (pos 0) (pos 65536));
 }
 
--- all other words
+-- the positional arguments
 abbrev pub words_rule : Rule
 words_rule = record (new_rule (codes "words")) { value_names = 1; action = Some Append }
 

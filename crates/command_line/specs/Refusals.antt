@@ -1,4 +1,4 @@
--- When the words of a command line are refused, and how.
+-- When the arguments of a command line are refused, and for which reason.
 use Rattle.std.specs.Prelude.{◌≡◌, ℕ, List, [], Ok, Err, ⊤, codes}
 use Rattle.clap.specs.Walk.{one_of}
 use Rattle.clap.specs.Simple.{matches_of}
@@ -11,18 +11,18 @@ use Rattle.command_line.specs.Settings.{settings_of, told, IsCacheSize}
 use Rattle.command_line.specs.declared.faults.CliFault.{CliFault}
 use Rattle.command_line.specs.declared.faults.CliFault.TheVariants.{Usage, Address, Memory}
 
--- the parser takes the words
+-- the parser accepts the arguments
 abbrev pub IsTaken : List (List ℕ) → Type 0
 IsTaken words = fault_of our_app words ≡ []
 
--- the options are what the words say
+-- the options are the ones that the arguments specify
 abbrev pub AreOptions : List (List ℕ) → Options → Type 0
 AreOptions words options =
     IsTaken words × IsCacheSize (one_of (codes "cache") (matches_of our_app words)) options.cache
     × (settings_of (matches_of our_app words) ≡ Ok (told options))
 
--- The parser's error is of a kind that it returns for these words; a word is the first bad one; out
--- of memory may come in place of any outcome.
+-- A parser error is of a kind that the parser returns for these arguments. A refused address is the
+-- first invalid one. Out of memory may replace any outcome.
 abbrev pub IsRefused : List (List ℕ) → CliFault → Type 0
 IsRefused words (Usage error) = IsAmong (kind_of error) (fault_of our_app words)
 IsRefused words (Address word) =

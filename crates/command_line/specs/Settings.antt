@@ -1,4 +1,4 @@
--- What the words of a command line say, by the rows of the parser's matches.
+-- The settings that the arguments of a command line specify, by the rows of the parser's matches.
 use Rattle.std.specs.Prelude.{◌≡◌, ℕ, ◌<◌, ◌^◌, Bool, List, [], ◌∷◌, Option, None, Some, Result, Ok}
 use Rattle.std.specs.Prelude.{Err, option_map, codes, string_bytes}
 use Rattle.std.specs.Option.{option_map_or}
@@ -18,19 +18,19 @@ pub record Settings : Type 0 where
   pub exe : Option (List ℕ)
   pub words : List ℕ
 
--- a flag has the text true exactly where it was given
+-- a flag has the value true exactly if it is present
 abbrev pub is_flag : List ℕ → List Row → Bool
 is_flag id rows = option_map_or (λ text. bytes_eq text (codes "true")) (first_of id rows) Bool.false
 
--- how many entries the cache has: the number that is given, of which the parser takes none but
--- decimal ones up to 65,536, or 1,024 if none is given
+-- The capacity of the cache: the given number, or 1,024 if none is given. The parser accepts only
+-- decimal numbers up to 65,536.
 abbrev pub IsCacheSize : Option (List ℕ) → ℕ → Type 0
 IsCacheSize None size = size ≡ 1024
 IsCacheSize (Some text) size = IsNumeral 10 (without_leading_plus text)
     → digits_value 10 (without_leading_plus text) < 2 ^ 32
     → size ≡ digits_value 10 (without_leading_plus text)
 
--- the words that are no options
+-- the positional arguments
 abbrev pub words_of : List Row → List (List ℕ)
 words_of rows = option_map_or (λ texts. texts) (all_of (codes "words") rows) []
 
@@ -39,7 +39,7 @@ number_then word None rest = Err word
 number_then word (Some n) (Ok ns) = Ok (n ∷ ns)
 number_then word (Some n) (Err bad) = Err bad
 
--- the numbers of all words, or the first word that is none
+-- the numbers of all arguments, or the first argument that is not a number
 abbrev pub numbers_of : List (List ℕ) → Result (List ℕ) (List ℕ)
 numbers_of [] = Ok []
 numbers_of (word ∷ words) = number_then word (number word) (numbers_of words)
@@ -57,11 +57,11 @@ settings_with rows (Ok words) = Ok (record {
   words = words;
 })
 
--- the settings but for the size of the cache, or the first word that is no address
+-- the settings without the capacity of the cache, or the first argument that is not an address
 unfoldable pub settings_of : List Row → Result Settings (List ℕ)
 settings_of rows = settings_with rows (numbers_of (words_of rows))
 
--- the settings that options tell
+-- the settings that options describe
 abbrev pub told : Options → Settings
 told o = record {
   addresses = o.addresses;

@@ -1,4 +1,4 @@
-//! The command line as the parser is told of it.
+//! The command line, as it is described to the parser.
 
 ghost use Rattle.std.specs.Prelude.{◌≡◌, IfOk, MatchResult, map, false, string_bytes};
 ghost use Rattle.clap.specs.Walk.{rows_of, rule_of};
@@ -14,7 +14,7 @@ use crate::help::{ABOUT, COMMANDS};
 use clap::{Arg, ArgAction, ArgMatches, Command, Error};
 use std::alloc::{AllocError, Global};
 
-/// A flag with a letter and a long name, which is its id.
+/// Returns a flag with a letter and a long name, which is also its id.
 fn flag(alloc: Global, letter: char, name: &'static str, help: &'static str) -> Arg<'static>
     ensures rule { rule_of result ≡ flag_rule letter name.entry.now }
     ensures local { result.global ≡ false }
@@ -26,7 +26,7 @@ fn flag(alloc: Global, letter: char, name: &'static str, help: &'static str) -> 
         .action(ArgAction::SetTrue)
 }
 
-/// The flag for linkage names.
+/// Returns the flag for linkage names.
 fn linkage(alloc: Global) -> Arg<'static>
     ensures rule { rule_of result ≡ linkage_rule }
     ensures local { result.global ≡ false }
@@ -37,7 +37,7 @@ fn linkage(alloc: Global) -> Arg<'static>
         .action(ArgAction::SetTrue)
 }
 
-/// The object that is loaded first.
+/// Returns the option for the object to load first.
 fn exe(alloc: Global) -> Arg<'static>
     ensures rule { rule_of result ≡ exe_rule }
     ensures local { result.global ≡ false }
@@ -50,7 +50,7 @@ fn exe(alloc: Global) -> Arg<'static>
         .action(ArgAction::Set)
 }
 
-/// How many answers may be kept.
+/// Returns the option for the capacity of the cache.
 fn cache<'a>(alloc: Global) -> Arg<'a>
     ensures rule { rule_of result ≡ cache_rule }
     ensures local { result.global ≡ false }
@@ -63,7 +63,7 @@ fn cache<'a>(alloc: Global) -> Arg<'a>
         .value_parser(clap::value_parser!(u32).range(0..=65536))
 }
 
-/// The addresses.
+/// Returns the positional arguments, which are addresses.
 fn addresses(alloc: Global) -> Arg<'static>
     ensures rule { rule_of result ≡ words_rule }
     ensures local { result.global ≡ false }
@@ -74,7 +74,7 @@ fn addresses(alloc: Global) -> Arg<'static>
         .action(ArgAction::Append)
 }
 
-/// The command, but for its help.
+/// Returns the command without its help.
 fn command<'a>(alloc: Global) -> Result<Command<'a>, AllocError>
     ensures { IfOk result (λ c. app_of c ≡ all_rules) }
 {
@@ -100,7 +100,7 @@ fn command<'a>(alloc: Global) -> Result<Command<'a>, AllocError>
         .arg(addresses(alloc))
 }
 
-/// What the parser makes of the words.
+/// Parses the arguments of a command line.
 pub fn parse<'a>(alloc: Global, words: &'a [String]) -> Result<ArgMatches<'a>, Error>
     ensures { MatchResult result
         (λ m. IsTaken (map string_bytes words.entry.now)

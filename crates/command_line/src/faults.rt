@@ -1,4 +1,4 @@
-//! Why the arguments of a command line are refused.
+//! The reasons for refusing the arguments of a command line.
 
 ghost use Rattle.std.specs.Prelude.{◌≡◌};
 ghost use Rattle.command_line.specs.Private.Parsing.{TellsOf};
@@ -8,16 +8,16 @@ use clap::error::ErrorKind;
 use std::alloc::{AllocError, AllocFailed};
 use thiserror::Error;
 
-/// Why the arguments of a command line are refused.
+/// The reason for refusing the arguments of a command line.
 #[derive(Debug, Drop, Error)]
 pub enum CliFault<'a> {
-    /// The parser refuses the arguments, or help was requested: the error has the text.
+    /// The parser refuses the arguments, or help was requested. The error contains the message.
     #[error("{0}")]
     Usage(clap::Error),
-    /// The first word that is no address.
+    /// The first positional argument that is not an address.
     #[error("bad address {0}")]
     Address(&'a str),
-    /// There is not enough memory.
+    /// Memory ran out.
     #[error("no memory")]
     Memory,
 }

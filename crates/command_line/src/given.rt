@@ -1,4 +1,4 @@
-//! Reads what was given on a command line from the parser's matches.
+//! Reads arguments from the parser's matches.
 
 ghost use Rattle.std.specs.Prelude.{◌≡◌, map, option_map, codes};
 ghost use Rattle.clap.specs.Walk.{rows_of, first_of, all_of, one_of};
@@ -7,10 +7,10 @@ ghost use Rattle.command_line.specs.Settings.{is_flag, IsCacheSize};
 
 use clap::ArgMatches;
 
-/// How many answers the cache may hold if nothing else is given.
+/// The default capacity of the cache.
 const DEFAULT_CACHE: usize = 1024;
 
-/// Whether a flag was given.
+/// Returns whether a flag is present.
 pub fn is_set(matches: &ArgMatches<'_>, id: &str) -> bool
     ensures { result ≡ is_flag id.now (rows_of (found_of matches.now)) }
 {
@@ -20,14 +20,14 @@ pub fn is_set(matches: &ArgMatches<'_>, id: &str) -> bool
     }
 }
 
-/// The text that was given to an option.
+/// Returns the value of an option, if it is present.
 pub fn text<'a>(matches: &ArgMatches<'a>, id: &str) -> Option<&'a str>
     ensures { option_map (λ s. s.now) result ≡ first_of id.now (rows_of (found_of matches.now)) }
 {
     matches.get_str(id)
 }
 
-/// The words that are no options, if there are any.
+/// Returns the positional arguments, if there are any.
 pub fn words<'b, 'a>(matches: &'b ArgMatches<'a>) -> Option<&'b [&'a str]>
     ensures { option_map (λ s. map (λ v. v.now) s.now) result
         ≡ all_of (codes "words") (rows_of (found_of matches.entry.now)) }
@@ -35,7 +35,7 @@ pub fn words<'b, 'a>(matches: &'b ArgMatches<'a>) -> Option<&'b [&'a str]>
     matches.get_strs("words")
 }
 
-/// Returns how many answers the cache may hold.
+/// Returns the maximum number of cached answers.
 pub fn cache_size(matches: &ArgMatches<'_>) -> usize
     ensures { IsCacheSize (one_of (codes "cache") (rows_of (found_of matches.now))) result }
 {

@@ -1,10 +1,10 @@
-//! What help says beside the options.
+//! The parts of the help that do not describe options.
 
-/// What the program is.
+/// A description of the program.
 pub const ABOUT: &str =
     "Tells the function, file and line of addresses of a running program, for as long as it runs.";
 
-/// The commands that are read, with an example.
+/// The commands of the input, with an example.
 pub const COMMANDS: &str = "\
 Without ADDR, commands are read, one a line, and each is answered at once:
   load NAME BASE PATH   load the object of PATH, so that its address 0 stands at BASE

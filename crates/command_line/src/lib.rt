@@ -1,4 +1,4 @@
-//! The command line: its options, and the addresses among its words.
+//! Parses the command line: its options and its addresses.
 #![tactic(auto)]
 
 mod command;

@@ -10,7 +10,7 @@ use crate::words::addresses;
 use answer_text::Options;
 use std::alloc::{AllocError, Global};
 
-/// A copy of a text that may be given.
+/// Copies an optional string.
 fn owned(alloc: Global, text: Option<&str>) -> Result<Option<String>, AllocError>
     ensures { IfOk result (λ copy.
         option_map string_bytes copy ≡ option_map (λ t. t.now) text.entry) }
@@ -21,8 +21,8 @@ fn owned(alloc: Global, text: Option<&str>) -> Result<Option<String>, AllocError
     }
 }
 
-/// Reads the options from the arguments of a command line, of which the first is the program's
-/// name. A request for help is returned as a refusal, whose error has the text.
+/// Parses the options from the arguments of a command line, the first of which is the program's
+/// name. A request for help is returned as a refusal; its error contains the help.
 pub fn options<'a>(alloc: Global, arguments: &'a [String]) -> Result<Options, CliFault<'a>>
     ensures { MatchResult result (AreOptions (map string_bytes arguments.entry.now))
         (IsRefused (map string_bytes arguments.entry.now)) }

@@ -1,4 +1,4 @@
-//! The addresses of a command line.
+//! Parses the addresses of a command line.
 
 ghost use Rattle.std.specs.Prelude.{◌≡◌, map, Ok, MatchResult};
 ghost use Rattle.command_line.specs.Settings.{numbers_of};
@@ -8,7 +8,7 @@ use crate::faults::CliFault;
 use answer_text::parse_number;
 use std::alloc::Global;
 
-/// The numbers of the words, or the first word that is none.
+/// Parses arguments as numbers. Returns the first argument that is not a number as the fault.
 fn numbers<'a>(alloc: Global, words: &[&'a str]) -> Result<Vec<u64>, CliFault<'a>>
     ensures { MatchResult result
         (λ numbers. numbers_of (map (λ w. w.now) words.now) ≡ Ok numbers.items)
@@ -24,7 +24,7 @@ fn numbers<'a>(alloc: Global, words: &[&'a str]) -> Result<Vec<u64>, CliFault<'a
     Ok(numbers)
 }
 
-/// The same, where words may be given.
+/// Parses the positional arguments as addresses, if there are any.
 pub fn addresses<'a>(alloc: Global, words: Option<&[&'a str]>) -> Result<Vec<u64>, CliFault<'a>>
     ensures { MatchResult result (λ numbers. numbers_of (texts_of words.entry) ≡ Ok numbers.items)
         (IsBadWord (numbers_of (texts_of words.entry))) }

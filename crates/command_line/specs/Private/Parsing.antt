@@ -1,4 +1,4 @@
--- What the parts of a command line are read as.
+-- The results of parsing the parts of a command line.
 use Rattle.std.specs.Prelude.{◌≡◌, ◌≢◌, ℕ, List, [], Option, Result, Err, map, ⊤}
 use Rattle.std.specs.Option.{option_map_or}
 use Rattle.std.specs.Borrow.{Bor}
@@ -8,18 +8,18 @@ use Rattle.clap.specs.declared.error.kind.ErrorKind.TheVariants.{OutOfMemory}
 use Rattle.command_line.specs.declared.faults.CliFault.{CliFault}
 use Rattle.command_line.specs.declared.faults.CliFault.TheVariants.{Usage, Address, Memory}
 
--- the first word that is no number, or want of memory
+-- the first argument that is not a number, or out of memory
 abbrev pub IsBadWord : Result (List ℕ) (List ℕ) → CliFault → Type 0
 IsBadWord outcome (Address word) = outcome ≡ Err word.now
 IsBadWord outcome (Usage error) = ⊥
 IsBadWord outcome Memory = ⊤
 
--- an error of the parser, which may be want of memory
+-- an error of the parser, which may be out of memory
 abbrev pub TellsOf : Error → CliFault → Type 0
 TellsOf error (Usage same) = (same ≡ error) × (kind_of error ≢ OutOfMemory)
 TellsOf error (Address word) = ⊥
 TellsOf error Memory = kind_of error ≡ OutOfMemory
 
--- the texts behind references that may be there
+-- the strings of optional references
 abbrev pub texts_of : Option (Bor (List (Bor (List ℕ)))) → List (List ℕ)
 texts_of words = option_map_or (λ ws. map (λ w. w.now) ws.now) words []
