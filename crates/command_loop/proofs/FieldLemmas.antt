@@ -1,4 +1,4 @@
--- A line cut at its first space.
+-- A line split at its first space.
 use Rattle.std.proofs.Common.{◌≡◌, ℕ, ◌+◌, ◌-◌, ◌<◌, ◌≤◌, Bool, true, false, nat_lt, List, []}
 use Rattle.std.proofs.Common.{◌∷◌, length, take, drop, get_or}
 use Rattle.std.proofs.Common.{refl, sym, ◌∙◌, ap, subst, arith}
@@ -54,7 +54,7 @@ one_space text at found =
     subst P there cut ∙ ap (λ (z : List ℕ). take at text ∷ fields z)
     (sym (take_rest text (at + 1)))
 
--- a path has no NUL where a search finds none
+-- a path has no NUL if a search finds none
 abbrev is_no_nul : ℕ → Bool
 is_no_nul byte = not (byte == 0)
 
@@ -89,7 +89,7 @@ load_cut operands rest path name base e f =
     (f ∙ ap (λ (z : List (List ℕ)). base ∷ z) first.is))
     ∙ ap (checked_load name (number base)) joined
 
--- a name is text
+-- a name is UTF-8
 name_byte_small : (b : ℕ) → is_name_byte b ≡ true → b < 128
 name_byte_small b h = grind (arith, nat_tests)
 
@@ -103,13 +103,13 @@ name_is_text text h = IsUtf8-from_ascii text (λ i. at i (nat_lt i (length text)
     at i false e = let past : get_or text i 0 ≡ 0 =
         get_or_past text i 0 (not_less i (length text) e) in omega (arith, past)
 
--- an address has no operand
+-- an address has no operands
 pub address_alone : (address : ℕ) (rest : List ℕ) → address_of (Some address) (fields rest)
     ≡ Err Command
 address_alone address rest = let first = has_first is_space rest in
     ap (address_of (Some address)) first.is
 
--- no text
+-- bytes that are not UTF-8
 pub not_utf8 : (bytes : List ℕ) → (IsUtf8 bytes → ⊥) → is_utf8 bytes ≡ false
 not_utf8 bytes h = at (is_utf8 bytes) refl
   where
@@ -117,7 +117,7 @@ not_utf8 bytes h = at (is_utf8 bytes) refl
     at true e = absurd (h (IsUtf8-from_is_utf8 bytes e))
     at false e = refl
 
--- operands past the last one
+-- operands after the last one
 pub list_more : (rest : List ℕ) → list_of (fields rest) ≡ Err Fields
 list_more rest = let first = has_first is_space rest in ap list_of first.is
 

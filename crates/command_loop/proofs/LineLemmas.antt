@@ -1,4 +1,4 @@
--- Lines of input, a stretch at a time.
+-- Lines of input, part by part.
 use Rattle.std.proofs.Common.{◌≡◌, ◌≢◌, ℕ, suc, ◌<◌, Bool, true, false, cond, List, [], ◌∷◌, ◌++◌}
 use Rattle.std.proofs.Common.{length, get_or, refl, sym, ◌∙◌, ap, subst}
 use Rattle.std.proofs.Common.{append_assoc, append-nil, arith}
@@ -9,7 +9,7 @@ use Rattle.std.proofs.lemmas.Bool.{ne_eqb}
 use Rattle.command_loop.specs.Lines.{stretches, all_but_last, the_last, has_bytes, lines}
 use Rattle.command_loop.specs.Lines.{ended_lines, open_line, is_line_feed}
 
--- a list is cut into one part at least
+-- splitting a list gives at least one part
 pub record HasFirst (parts : List (List ℕ)) : Type 0 where
   pub first : List ℕ
   pub others : List (List ℕ)
@@ -42,7 +42,7 @@ close_step v x parts h =
     ≡ cond v ([] ∷ z) (onto_first x z) ++ [] ∷ [] in
     subst P (sym h.is) (close_at v x h.first h.others)
 
--- a byte at which the list is cut begins an empty part
+-- a separator starts a new, empty part
 pub split_closes : (p : ℕ → Bool) (xs : List ℕ) (b : ℕ) → p b ≡ true → slice_split p (xs ++ b ∷ [])
     ≡ slice_split p xs ++ [] ∷ []
 split_closes p [] b yes_cut = rw yes_cut refl
@@ -50,7 +50,7 @@ split_closes p (x ∷ xs) b yes_cut =
     ap (λ (z : List (List ℕ)). cond (p x) ([] ∷ z) (onto_first x z)) (split_closes p xs b yes_cut)
     ∙ close_step (p x) x (slice_split p xs) (has_first p xs)
 
--- the last part is longer by a byte
+-- the last part with one more byte
 abbrev pub grown : List (List ℕ) → ℕ → List (List ℕ)
 grown parts b = all_but_last parts ++ (the_last parts ++ b ∷ []) ∷ []
 
@@ -70,7 +70,7 @@ grow_step v x parts b h =
     ≡ grown (cond v ([] ∷ z) (onto_first x z)) b in
     subst P (sym h.is) (grow_at v x h.first h.others b)
 
--- any other byte goes onto the last part
+-- any other byte is appended to the last part
 pub split_grows : (p : ℕ → Bool) (xs : List ℕ) (b : ℕ) → p b ≡ false → slice_split p (xs ++ b ∷ [])
     ≡ grown (slice_split p xs) b
 split_grows p [] b no_cut = rw no_cut refl
@@ -113,7 +113,7 @@ filter_append p (x ∷ xs) ys = filter_append_at (p x) x (filter p xs) (filter p
     filter_append_at true x a b c e = ap (λ (z : List (List ℕ)). x ∷ z) e
     filter_append_at false x a b c e = e
 
--- all lines: those that are ended, and the open one if it has a byte
+-- all lines: the ended ones, and the open one if it is nonempty
 pub lines_are : (xs : List ℕ) → lines xs ≡ ended_lines xs ++ filter has_bytes (open_line xs ∷ [])
 unfolding lines ended_lines open_line
 lines_are xs =
@@ -136,7 +136,7 @@ unfolding open_line
 open_at_feed xs = ap the_last (split_closes is_line_feed xs 10 refl)
     ∙ last_of_push (stretches xs) []
 
--- any other byte goes onto the open line
+-- any other byte is appended to the open line
 pub ended_at_byte : (xs : List ℕ) (b : ℕ) → b ≢ 10 → ended_lines (xs ++ b ∷ []) ≡ ended_lines xs
 unfolding ended_lines
 ended_at_byte xs b ne =
@@ -174,7 +174,7 @@ open_at_bytes xs (b ∷ bytes) none =
     ∙ ap (λ (z : List ℕ). z ++ bytes) (open_at_byte xs b (none 0 (omega arith)))
     ∙ append_assoc (open_line xs) (b ∷ []) bytes
 
--- what was read ends with the open line
+-- the input so far ends with the open line
 pub ends_open : (xs : List ℕ) → (front : List ℕ) × (xs ≡ front ++ open_line xs)
 unfolding open_line
 ends_open xs =

@@ -1,4 +1,4 @@
--- Lines that were read, and served.
+-- Lines that were read and served.
 use Rattle.std.proofs.Common.{◌≡◌, ◌≢◌, ℕ, ◌<◌, Bool, true, false, nat_lt, cond, List, []}
 use Rattle.std.proofs.Common.{◌∷◌, ◌++◌, length, refl, sym, ◌∙◌, ap, subst, append_assoc}
 use Rattle.std.proofs.Common.{append-nil, length-append, arith}
@@ -35,7 +35,7 @@ further options start now new read more held held' extra r ends holds k =
       holds = holds;
     }
 
--- a line of no byte is open
+-- the open line is empty
 empty_open : (line : List ℕ) → Some [] ≡ within_limit line → line ≡ []
 empty_open [] h = refl
 empty_open (byte ∷ line) h = empty_open_at (nat_lt 4096 (length (byte ∷ line))) byte line h
@@ -79,7 +79,7 @@ continues_bytes options now held bytes none start read r =
     (sym (open_at_bytes read bytes none)))
     (handled_none options now now refl refl refl)
 
--- the end of a line of no byte
+-- the end of an empty line
 pub continues_empty : (options : Options) (now : RunState) (held : Option (List ℕ)) → held ≡ Some []
     → ReadsOn options (10 ∷ []) now held now held
 continues_empty options now held is_empty start read r =
@@ -114,7 +114,7 @@ continues_line options now new held ne s start read r =
     (ap within_limit (sym (open_at_feed read)))
     (handled_one options (parse line) now new (subst P request s))
 
--- a line that is ended, whose reply was not written whole
+-- a line that ended, whose reply was not completely written
 pub breaks_line : (options : Options) (now new : RunState) (held : Option (List ℕ))
     → (held ≡ Some [] → ⊥)
     → FailsToReply options (parse_kept held) now new
@@ -138,7 +138,7 @@ breaks_line options now new held ne f start read r =
     } in
     ([], 10 ∷ [], refl, ([], refl), subst Q (sym (append-nil read)) stopped)
 
--- a break after some more input, or before it
+-- a stop within some input, after or before other input
 pub breaks_then : (options : Options) (a b : RunState) (ha hb : Option (List ℕ)) (asked : Exchanges)
     (written : Option (List ℕ))
     (xs ys : List ℕ) → ReadsOn options xs a ha b hb → StopsWithin options ys b hb asked written
@@ -166,7 +166,7 @@ breaks_before options a ha asked written xs ys k start read r =
       w.4,
     )
 
--- more input, behind some
+-- more input after some input
 pub continues_then : (options : Options) (a b c : RunState) (ha hb hc : Option (List ℕ))
     (xs ys : List ℕ)
     → ReadsOn options xs a ha b hb → ReadsOn options ys b hb c hc

@@ -42,7 +42,7 @@ list_writes {E} a b c d h h' h'' items all r e f p q w =
 
 -- ---- one module of the list
 
--- what is listed at a place has the name of the module there
+-- the item at an index of the list has the name of the module there
 pub listed_name : (item : Option (Bor (List ℕ) × Extent × ℕ)) (modules : List Loaded) (place : ℕ)
     → option_map item_listed item ≡ slice_get (map listed modules) place
     → option_map_or (λ i. i.0.now) item [] ≡ name_at modules place

@@ -35,7 +35,7 @@ pub consumes_nothing : (a : Option (List ℕ)) → Consumes a a []
 consumes_nothing None = tt
 consumes_nothing (Some a) = refl
 
--- what was read so far, and where it led
+-- the input so far, and the state after it
 abbrev pub HasRead : Options → RunState → Option (List ℕ) → Option (List ℕ) → RunState
     → Option (List ℕ) → Type 0
 HasRead options start a b now held = (read : List ℕ) × Consumes a b read
@@ -56,7 +56,7 @@ pub reads_on : (options : Options) (start now new : RunState) (a b c held held' 
 reads_on options start now new a b c held held' more h k on =
     (h.0 ++ more, consumes_then a b c h.0 more h.1 k, on start h.0 h.2)
 
--- the last read gives nothing
+-- the last read returns no bytes
 pub reads_no_more : (options : Options) (start now : RunState) (a b c held : Option (List ℕ))
     (piece : List ℕ) (n : ℕ) → n ≡ 0
     → HasRead options start a b now held → Consumes b c (take n piece)
@@ -70,7 +70,7 @@ reads_no_more options start now a b c held piece n none h k =
       h.2,
     )
 
--- a break in a piece
+-- a stop within a piece
 pub reads_and_breaks : (options : Options) (start now : RunState) (asked : Exchanges)
     (written : Option (List ℕ))
     (a b c held : Option (List ℕ)) (piece : List ℕ) → HasRead options start a b now held
@@ -90,7 +90,7 @@ reads_and_breaks options start now asked written a b c held piece h k fits on =
       w.4,
     )
 
--- a line feed after the end changes no line
+-- a line feed at the end of input adds no line
 feed_at_end : (read : List ℕ) → lines (read ++ 10 ∷ []) ≡ lines read
 feed_at_end read =
     lines_are (read ++ 10 ∷ []) ∙ ap (λ (z : List ℕ). ended_lines (read ++ 10 ∷ [])
@@ -113,7 +113,7 @@ nil_of_length : (xs : List ℕ) → length xs ≡ 0 → xs ≡ []
 nil_of_length [] e = refl
 nil_of_length (x ∷ xs) e = absurd (omega (arith, e))
 
--- a break at the end of input
+-- a stop at the end of input
 pub ends_badly : (options : Options) (start now : RunState) (asked : Exchanges)
     (written : Option (List ℕ)) (a b held : Option (List ℕ))
     → HasRead options start a b now held → IsAtEnd b

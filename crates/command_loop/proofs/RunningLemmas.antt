@@ -1,4 +1,4 @@
--- A run from its start: the object of the command line, and then words or lines.
+-- A run from its start: the object of the command line, and then addresses or lines.
 use Rattle.std.proofs.Common.{◌≡◌, ℕ, Bool, true, false, List, [], ◌∷◌, ◌++◌, length, map, sym, ◌∙◌}
 use Rattle.std.proofs.Common.{ap, subst, refl, arith}
 use Rattle.std.proofs.lemmas.Bool.{true≢false, ne_eqb}
@@ -123,7 +123,7 @@ lines_writing options exe asked asked' written left left' start words r e b h is
           (requests s.before) _ b s.halts,
     )
 
--- ---- words
+-- ---- addresses of the command line
 
 no_word : (xs : List ℕ) → (length xs == 0) ≡ true → xs ≡ []
 no_word [] e = refl

@@ -1,4 +1,4 @@
--- Requests that were served, one after the other.
+-- Requests that were served in order.
 use Rattle.std.proofs.Common.{◌≡◌, ℕ, ◌+◌, suc, List, [], ◌∷◌, ◌++◌, length, map, drop, refl, sym}
 use Rattle.std.proofs.Common.{◌∙◌, ap, subst, append_assoc, append-nil, length-append, arith}
 use Rattle.std.specs.Prelude.{zip, Option, Result, Ok, Err}
@@ -46,7 +46,7 @@ map_length f (x ∷ xs) = ap (λ n. suc n) (map_length f xs)
 abbrev pub fetches : List Outcome → List (Result (List ℕ) FetchFault)
 fetches outcomes = map (λ (outcome : Outcome). outcome.fetched) outcomes
 
--- questions and answers, and then more of them
+-- questions and results, followed by more of them
 pub asked_then : (a b c : Exchanges) (qs qs' : List (List ℕ)) (os os' : List Outcome)
     → Asked a b qs os → Asked b c qs' os' → Asked a c (qs ++ qs') (os ++ os')
 asked_then a b c qs qs' os os' h k = record {
@@ -62,7 +62,7 @@ asked_then a b c qs qs' os os' h k = record {
       k.asked);
 }
 
--- the world after some requests and then others
+-- the world after some requests, followed by others
 pub world_then : (rs ss : Requests) (world : World) (os os' : List Outcome)
     → length os ≡ length (questions rs)
     → world_after world (rs ++ ss) (os ++ os') ≡ world_after (world_after world rs os) ss os'
@@ -79,7 +79,7 @@ world_then (Ok (Load n b p) ∷ rs) ss world (o ∷ os) os' e = world_then rs ss
 push_text : (t a b c : List ℕ) → c ≡ a ++ b → t ++ c ≡ (t ++ a) ++ b
 push_text t a b c h = ap (λ (z : List ℕ). t ++ z) h ∙ sym (append_assoc t a b)
 
--- the replies to some requests and then others
+-- the replies to some requests, followed by others
 pub replies_then : (options : Options) (rs ss : Requests) (world : World) (os os' : List Outcome)
     → length os ≡ length (questions rs)
     → replies options world (rs ++ ss) (os ++ os') ≡ replies options world rs os
@@ -196,7 +196,7 @@ spare_replies options rs world os os' e =
 drop_seam : (os os' : List Outcome) (n : ℕ) → length os ≡ n → drop n (os ++ os') ≡ os'
 drop_seam os os' n e = ap (λ (z : ℕ). drop z (os ++ os')) (sym e) ∙ drop-append_seam os os'
 
--- a request whose reply was not written whole
+-- a request whose reply was not completely written
 pub halts : (options : Options) (start now new : RunState) (rs : Requests)
     (request : Result Request BadLine)
     → ServedInOrder options start rs now → FailsToReply options request now new

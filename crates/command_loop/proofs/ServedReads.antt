@@ -14,7 +14,7 @@ use Rattle.command_loop.specs.Private.Progress.{RunState, ReadSoFar, ReadsOn, St
 use Rattle.command_loop.proofs.ReadLemmas.{continues_bytes, breaks_then, breaks_before}
 use Rattle.command_loop.proofs.ReadLemmas.{continues_then}
 
--- a piece as far as its lines were served, and what is left of it
+-- a piece that was processed up to some byte, and the rest of it
 pub record ServedTo (options : Options) (piece rest : List ℕ) (a : RunState) (ha : Option (List ℕ))
     (b : RunState)
     (hb : Option (List ℕ)) : Type 0 where
@@ -31,13 +31,13 @@ served_none options piece a ha = record {
       subst P (sym (append-nil read)) r;
 }
 
--- the first line feed, as a search tells it
+-- the first line feed, as a search returns it
 pub no_feed : (bytes : List ℕ) (found : Option ℕ) → found ≡ None
     → IsFirstByte (is_byte 10) bytes found → HasNoFeed bytes
 no_feed bytes None is nowhere k lt e = nowhere k (omega arith) lt (rw e refl)
 no_feed bytes (Some end) is first k lt e = cc
 
--- what stands before a line feed, and behind it
+-- the bytes before a line feed, and the bytes after it
 pub record CutAtFeed (bytes : List ℕ) (end : ℕ) : Type 0 where
   pub none : HasNoFeed (take end bytes)
   pub cut : bytes ≡ take end bytes ++ 10 ∷ drop (end + 1) bytes
@@ -89,7 +89,7 @@ serves_line options piece rest end a b c ha hb hc f s k =
           (continues_bytes options b hb line f.none) k);
     }
 
--- a break at the next line feed
+-- a stop at the next line feed
 pub breaks_at_line : (options : Options) (piece rest : List ℕ) (end : ℕ) (a b : RunState)
     (ha hb : Option (List ℕ))
     (asked : Exchanges) (written : Option (List ℕ)) → CutAtFeed rest end

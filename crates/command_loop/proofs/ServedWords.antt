@@ -1,4 +1,4 @@
--- Requests of words, one after another.
+-- Requests of addresses of the command line, in order.
 use Rattle.std.proofs.Common.{◌≡◌, ℕ, ◌+◌, ◌<◌, ◌≤◌, zero, suc, List, [], ◌∷◌, ◌++◌, length, map}
 use Rattle.std.proofs.Common.{take, drop, get_or, take-append-drop, take-add, drop-cons, refl, sym}
 use Rattle.std.proofs.Common.{◌∙◌, ap, arith}
@@ -9,7 +9,7 @@ use Rattle.command_loop.specs.Private.Progress.{ServedInOrder, StopsAmong}
 use Rattle.command_loop.proofs.ServedLemmas.{map_append, handled_one, handled_then, handled_as}
 use Rattle.command_loop.proofs.ServedLemmas.{halts}
 
--- a piece, a byte at a time
+-- a prefix that grows by one element
 pub take_next : {X : Type 0} (xs : List X) (i : ℕ) (d : X) → i < length xs
     → take i xs ++ get_or xs i d ∷ [] ≡ take (i + 1) xs
 take_next xs i d lt = ap (λ z. take i xs ++ z) (sym (ap (take 1) (drop-cons xs i d lt)))
@@ -21,7 +21,7 @@ take_past (suc n) [] h = refl
 take_past zero (x ∷ xs) h = absurd (omega arith)
 take_past (suc n) (x ∷ xs) h = ap (λ z. x ∷ z) (take_past n xs (omega arith))
 
--- ---- words
+-- ---- addresses of the command line
 
 pub word_next : (options : Options) (start now new : RunState) (words : List ℕ) (i : ℕ)
     → i < length words

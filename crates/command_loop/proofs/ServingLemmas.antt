@@ -1,4 +1,4 @@
--- What a request comes to.
+-- The outcome of a request.
 use Rattle.std.proofs.Common.{◌≡◌, ℕ, Bool, List, sym, ◌∙◌, ap}
 use Rattle.std.specs.Prelude.{Option, None, Some, Result, Ok, Err}
 use Rattle.module_map.specs.declared.asked.Asked as found
@@ -60,7 +60,7 @@ moved_reply old new name (Some m) base extent e is =
     ∙ ap (λ (z : ℕ). MovedTo name (start_of (moved_to base m)) z) is.0.1
     ∙ sym (ap (λ (z : Option MapFault). (moved_step old name z (Some m) base).reply) e)
 
--- what an ask finds
+-- the result of an ask
 pub asked_address : (world : World) (address : ℕ) (result : found.Asked)
     → result ≡ asked world address → result.address ≡ address
 unfolding asked

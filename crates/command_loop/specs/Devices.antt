@@ -1,10 +1,10 @@
--- What a run leaves of the failures that its devices tell.
+-- How a run changes the failure counts of its devices.
 use Rattle.std.specs.Prelude.{ℕ, Result, Ok, Err}
 use Rattle.answer_text.specs.Devices.{one_more}
 use Rattle.answer_text.specs.declared.faults.RunFault.{RunFault}
 use Rattle.answer_text.specs.declared.faults.RunFault.TheVariants.{Reading, Writing, Memory, Exe}
 
--- a run fails to read, or to write, once at most, and ends there
+-- a run ends at its first failed read or write
 abbrev pub read_failures_after : ℕ → Result (Unit {0}) RunFault → ℕ
 read_failures_after n (Err Reading) = one_more n
 read_failures_after n (Err Writing) = n

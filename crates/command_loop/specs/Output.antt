@@ -1,4 +1,4 @@
--- What is written and asked for a whole run.
+-- The output of a whole run, and the questions to its source.
 use Rattle.std.specs.Prelude.{◌≡◌, ℕ, ◌≤◌, List, [], ◌∷◌, ◌++◌, map, drop, length, flat_map, zip}
 use Rattle.std.specs.Prelude.{Option, None, Some, Result, Ok, Err, Bool, string_bytes, codes}
 use Rattle.std.specs.Prelude.{option_map, ⊤}
@@ -36,7 +36,7 @@ exe_of options = option_map string_bytes options.exe
 abbrev pub ask_of : ℕ → Result Request BadLine
 ask_of address = Ok (Ask address)
 
--- the words as requests
+-- the addresses of the command line as requests
 abbrev pub asks : Options → Requests
 asks options = map ask_of options.words.items
 
@@ -52,26 +52,26 @@ fetched_exe (Err why) short = Err (NotFetched why)
 fetched_exe (Ok bytes) short =
     placed_exe (exe_module bytes) (load_fault no_modules (exe_module bytes) short)
 
--- the world in which a run starts: with no modules, or with one whose outcome comes first
+-- the world in which a run starts: without modules, or with the module of the first outcome
 abbrev pub started : Option (List ℕ) → List Outcome → Result World ExeFault
 started None outcomes = Ok no_modules
 started (Some path) [] = Ok no_modules
 started (Some path) (outcome ∷ outcomes) = fetched_exe outcome.fetched outcome.short
 
--- ---- requests, one after the other
+-- ---- requests in order
 
--- the outcomes that are left after a request
+-- the remaining outcomes after a request
 abbrev pub later : Result Request BadLine → List Outcome → List Outcome
 later request outcomes = drop (length (question request)) outcomes
 
--- the texts of the replies, each request taken in the world that the ones before it leave
+-- the replies, each to a request in the world that the requests before it leave
 abbrev pub replies : Options → World → Requests → List Outcome → List ℕ
 replies options world [] outcomes = []
 replies options world (request ∷ requests) outcomes =
     text options (step world request outcomes).reply
     ++ replies options (step world request outcomes).world requests (later request outcomes)
 
--- the world that these requests leave
+-- the world after these requests
 abbrev pub world_after : World → Requests → List Outcome → World
 world_after world [] outcomes = world
 world_after world (request ∷ requests) outcomes =
@@ -81,16 +81,16 @@ world_after world (request ∷ requests) outcomes =
 abbrev pub questions : Requests → List (List ℕ)
 questions requests = flat_map question requests
 
--- each question has one outcome, and the source has been asked these questions, and has answered
--- so
+-- each question has one outcome, and the source was asked these questions and returned these
+-- results
 pub record Asked (old new : Exchanges) (paths : List (List ℕ))
     (outcomes : List Outcome) : Type 0 where
   pub each : length outcomes ≡ length paths
   pub asked : Grows old new (zip paths (map (λ (outcome : Outcome). outcome.fetched) outcomes))
 
--- ---- what a run leaves
+-- ---- the effects of a run
 
--- a run that started so has served these requests, and nothing else
+-- a run that started this way has served exactly these requests
 pub record Answers (options : Options) (exe : Option (List ℕ)) (requests : Requests)
     (asked asked' : Exchanges) (written written' : Option (List ℕ)) : Type 0 where
   pub first : List Outcome
@@ -101,8 +101,8 @@ pub record Answers (options : Options) (exe : Option (List ℕ)) (requests : Req
   pub answered : Asked asked asked' (option_to_list exe ++ questions requests) (first ++ others)
   pub replied : Appends written written' (replies options world requests others)
 
--- the requests of a run that ends well: the words, or the lines of all input; with words no input
--- is read
+-- the requests of a successful run: the addresses of the command line, or the lines of all input;
+-- no input is read if there are addresses
 abbrev pub ServedBy : Requests → Option (List ℕ) → Option (List ℕ) → (Requests → Type 0) → Type 0
 ServedBy [] left left' P = (input : List ℕ) × Consumes left left' input × IsAtEnd left'
     × P (requests (lines input))
@@ -111,8 +111,7 @@ ServedBy (word ∷ words) left left' P = P (word ∷ words) × (left' ≡ left)
 abbrev pub Served : Options → Option (List ℕ) → Option (List ℕ) → (Requests → Type 0) → Type 0
 Served options = ServedBy (asks options)
 
--- All requests before the one at hand are served, and of its reply no more than a beginning is
--- written.
+-- All requests before the current one were served, and at most a prefix of its reply is written.
 pub record StoppedAt (options : Options) (exe : Option (List ℕ)) (before : Requests)
     (request : Result Request BadLine) (asked asked' : Exchanges)
     (written written' : Option (List ℕ)) : Type 0 where
@@ -129,19 +128,19 @@ pub record StoppedAt (options : Options) (exe : Option (List ℕ)) (before : Req
       (drop (length (questions before)) others)).reply)
   pub replied : Appends written written' (replies options world before others ++ part)
 
--- the line at hand is ended by a line feed, or by the end of input
+-- the current line ends at a line feed, or at the end of input
 abbrev pub EndsLine : List ℕ → Option (List ℕ) → Type 0
 EndsLine [] left = IsAtEnd left
 EndsLine (byte ∷ bytes) left = byte ≡ 10
 
--- what was read ends with a line, the last of its lines
+-- the input so far ends with a line, the last of its lines
 pub record EndsWith (read : List ℕ) (before : List (List ℕ)) (line : List ℕ) : Type 0 where
   pub front : List ℕ
   pub ends : read ≡ front ++ line
   pub all : lines read ≡ before ++ line ∷ []
 
--- a run stopped at one of its words, or at the line that ends what was read but for a piece at
--- most
+-- a run stopped at an address of the command line, or at a line that is followed by at most one
+-- piece of input
 abbrev pub StoppedBy : Requests → Option (List ℕ) → Option (List ℕ)
     → (Requests → Result Request BadLine → Type 0) → Type 0
 StoppedBy [] left left' P = (read past : List ℕ) × (before : List (List ℕ)) × (line : List ℕ)
@@ -158,7 +157,8 @@ Stopped options left left' asked asked' written written' =
     (λ before request. StoppedAt options (exe_of options) before request asked asked' written
     written')
 
--- the object of the command line was refused so: nothing but its path was asked
+-- the object of the command line was refused for this reason, and the source was asked only for its
+-- path
 abbrev pub IsRefused : Option (List ℕ) → Exchanges → Exchanges → ExeFault → Type 0
 IsRefused exe asked asked' why = (outcome : Outcome) × (started exe (outcome ∷ []) ≡ Err why)
     × Asked asked asked' (option_to_list exe) (outcome ∷ [])

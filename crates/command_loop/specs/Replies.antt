@@ -1,4 +1,4 @@
--- The reply to each request, and the world that it leaves.
+-- The reply to each request, and the world after it.
 use Rattle.std.specs.Prelude.{ℕ, Bool, List, [], ◌∷◌, map, find, Option, None, Some, Result, Ok}
 use Rattle.std.specs.Prelude.{Err, if◌then◌else◌}
 use Rattle.module_map.specs.World.{World, Loaded, start_of, end_of, is_named, moved_to, name_at}
@@ -24,16 +24,16 @@ pub data Reply : Type 0 where
   AllListed : List Listed → Reply
   Answered : answers.Answered → Reply
 
--- what is known of an address
+-- the answer for an address
 abbrev pub answer_at : World → ℕ → answers.Answered
 answer_at world address = record { address = address; frames = frames_at world address }
 
--- the name of the module that one meets, where it is refused for that
+-- the name of the module that a refused one would overlap
 abbrev pub met_name : World → MapFault → List ℕ
 met_name world (Overlap place) = name_at world.modules place
 met_name world fault = []
 
--- what came of a load: what the source answered, and whether memory was refused after it
+-- the outcome of a load: the result of the source, and whether memory ran out after it
 pub record Outcome : Type 0 where
   pub fetched : Result (List ℕ) FetchFault
   pub short : Bool
@@ -76,7 +76,7 @@ moved_step world name None (Some m) base =
 abbrev pub move_step : World → List ℕ → Option Loaded → ℕ → Stepped
 move_step world name m base = moved_step world name (move_fault m world base) m base
 
--- a load takes the first outcome that is left
+-- a load takes the first remaining outcome
 abbrev pub step : World → Result Request BadLine → List Outcome → Stepped
 step world (Err bad) outcomes = record { reply = Unreadable bad; world = world }
 step world (Ok (Ask address)) outcomes =
@@ -90,7 +90,7 @@ step world (Ok (Load name base path)) [] = refused world Memory
 step world (Ok (Load name base path)) (outcome ∷ outcomes) =
     fetched_step world name base outcome.fetched outcome.short
 
--- what the source is asked for it
+-- the path that the source is asked for, if any
 abbrev pub question : Result Request BadLine → List (List ℕ)
 question (Ok (Load name base path)) = path ∷ []
 question other = []

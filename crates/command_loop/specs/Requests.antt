@@ -1,4 +1,4 @@
--- What a line asks for.
+-- The requests that lines encode.
 use Rattle.std.specs.Prelude.{ℕ, Bool, not, ◌&&◌, ◌||◌, List, [], ◌∷◌, length, map, nat_lt, nat_le}
 use Rattle.std.specs.Prelude.{◌==◌, Option, None, Some, Result, Ok, Err, if◌then◌else◌, codes}
 use Rattle.std.specs.List.{slice_split, list_all, join_with_byte}
@@ -29,11 +29,11 @@ is_name text = nat_lt 0 (length text) && nat_le (length text) 64 && list_all is_
 unfoldable pub is_path : List ℕ → Bool
 is_path text = nat_lt 0 (length text) && is_utf8 text && list_all (λ byte. not (byte == 0)) text
 
--- the fields of a line: it is cut at single spaces
+-- the fields of a line, which single spaces separate
 abbrev pub fields : List ℕ → List (List ℕ)
 fields line = slice_split (λ byte. byte == 32) line
 
--- operands are tested in order: a name, a number, a path
+-- operands are checked in order: a name, a number, a path
 abbrev pub checked_load : List ℕ → Option ℕ → List ℕ → Result Request BadLine
 checked_load name None path = if is_name name then Err Number else Err Name
 checked_load name (Some base) path =
@@ -44,7 +44,7 @@ abbrev pub checked_move : List ℕ → Option ℕ → Result Request BadLine
 checked_move name None = if is_name name then Err Number else Err Name
 checked_move name (Some base) = if is_name name then Ok (Move name base) else Err Name
 
--- a load: a name, a base, and all that follows the third space
+-- a load: a name, a base, and a path, which is everything after the third space
 abbrev pub load_of : List (List ℕ) → Result Request BadLine
 load_of [] = Err Fields
 load_of (name ∷ []) = Err Fields
@@ -64,7 +64,7 @@ move_of (name ∷ []) = Err Fields
 move_of (name ∷ base ∷ []) = checked_move name (number base)
 move_of (name ∷ base ∷ more ∷ rest) = Err Fields
 
--- a list has no operand
+-- a list has no operands
 abbrev pub list_of : List (List ℕ) → Result Request BadLine
 list_of [] = Ok ListAll
 list_of (more ∷ rest) = Err Fields
@@ -85,14 +85,14 @@ request_of_fields (word ∷ operands) =
     else (if bytes_eq word (codes "list") then list_of operands
     else address_of (number word) operands)))
 
--- what a line asks for, or the first rule that it breaks
+-- the request of a line, or the first rule that it breaks
 unfoldable pub parse : List ℕ → Result Request BadLine
 parse line = if nat_lt 4096 (length line) then Err LongLine else request_of_fields (fields line)
 
 abbrev pub requests : List (List ℕ) → List (Result Request BadLine)
 requests lines = map parse lines
 
--- the same of a line of which no more is kept than the limit allows
+-- the same for a line that is buffered only up to the limit
 abbrev pub parse_kept : Option (List ℕ) → Result Request BadLine
 parse_kept None = Err LongLine
 parse_kept (Some line) = parse line

@@ -1,4 +1,4 @@
--- The text of replies.
+-- Replies as they are printed.
 use Rattle.std.specs.Prelude.{ℕ, List, [], ◌∷◌, ◌++◌, flat_map, codes, decimal}
 use Rattle.dwarf_bytes.specs.Words.{section_name, cause_word}
 use Rattle.dwarf_bytes.specs.declared.fault.LoadFault.{LoadFault}
@@ -28,7 +28,7 @@ object_text fault =
     codes "object " ++ section_name fault.section ++ codes " " ++ cause_word fault.cause
     ++ codes " at " ++ decimal fault.at
 
--- why modules are not changed, and the name of the module that one would meet
+-- why the modules are not changed, and the name of the module that one would overlap
 abbrev pub map_words : MapFault → List ℕ → List ℕ
 map_words modules.NameTaken met = codes "name-taken"
 map_words modules.NoModule met = codes "no-module"
@@ -57,7 +57,7 @@ module_text m =
 abbrev pub list_text : List Listed → List ℕ
 list_text modules = flat_map module_text modules ++ codes "end\n"
 
--- the text of a reply; each line of it is ended by a line feed
+-- the bytes of a reply; each of its lines ends with a line feed
 unfoldable pub text : Options → Reply → List ℕ
 text options (Unreadable bad) = refused (line_word bad)
 text options (NotFetched fault) = refused (fetch_word fault)

@@ -1,4 +1,4 @@
-//! What a line asks for.
+//! Parses lines into commands.
 
 ghost use Rattle.std.specs.Prelude.{◌≡◌, ◌∷◌, [], List, option_map, MatchOption, IsTrue, ◌↔◌};
 ghost use Rattle.std.specs.Prelude.{IfSome, option_copied, position, ◌==◌, if◌then◌else◌, Some};
@@ -14,30 +14,30 @@ use answer_text::parse_number;
 use bstr::ByteSlice;
 use thiserror::Error;
 
-/// Why a line is no request.
+/// The reason why a line is not a command.
 #[derive(Clone, Copy, Debug, PartialEq, Eq, Error)]
 pub enum BadLine {
-    /// It has more than 4,096 bytes.
+    /// The line has more than 4,096 bytes.
     #[error("long-line")]
     LongLine = 1,
-    /// Its first field names no command, or it is no number.
+    /// The first field names no command, and the line is not a single number.
     #[error("command")]
     Command = 2,
-    /// It has too few fields, or too many.
+    /// The line has too few or too many fields.
     #[error("fields")]
     Fields = 3,
-    /// A name is not of 1 to 64 letters, digits, `_`, `-` and `.`.
+    /// A name does not consist of 1 to 64 letters, digits, `_`, `-` and `.`.
     #[error("name")]
     Name = 4,
-    /// A number is not of 1 to 16 hexadecimal digits.
+    /// A number does not consist of 1 to 16 hexadecimal digits.
     #[error("number")]
     Number = 5,
-    /// A path is empty, has a NUL, or is no UTF-8.
+    /// A path is empty, contains a NUL, or is not UTF-8.
     #[error("path")]
     Path = 6,
 }
 
-/// What a line asks for.
+/// The command of a line.
 #[derive(Debug, Clone, Copy)]
 pub enum Command<'a> {
     Load(&'a str, u64, &'a str),
@@ -47,7 +47,8 @@ pub enum Command<'a> {
     Ask(u64),
 }
 
-/// What stands before the first space, and what follows it, if there is one.
+/// Splits a line at its first space. Returns the bytes before it, and the bytes after it if there
+/// is a space.
 fn cut(text: &[u8]) -> (&[u8], Option<&[u8]>)
     ensures { fields text.now ≡ result.0.now ∷ cut_parts (option_copied result.1) }
 {
@@ -63,21 +64,21 @@ fn is_name_part(byte: u8) -> bool
     byte.is_ascii_alphanumeric() || byte == b'_' || byte == b'-' || byte == b'.'
 }
 
-/// Whether each byte may stand in a name.
+/// Returns whether every byte is allowed in a name.
 fn are_name_parts(text: &[u8]) -> bool
     ensures { result ≡ list_all is_name_byte text.now }
 {
     text.iter().all(|byte| is_name_part(*byte))
 }
 
-/// Whether no byte is NUL.
+/// Returns whether no byte is NUL.
 fn has_no_nul(text: &[u8]) -> bool
     ensures { result ≡ list_all (λ byte. not (byte == 0)) text.now }
 {
     text.find_byte(0).is_none()
 }
 
-/// The text of a name.
+/// Parses a name.
 #[tactic(auto, unfolding(crate::specs::Requests::is_name))]
 fn parse_name(text: &[u8]) -> Option<&str>
     ensures { MatchOption result (is_name text.now ≡ false)
@@ -92,7 +93,7 @@ fn parse_name(text: &[u8]) -> Option<&str>
     }
 }
 
-/// The text of a path.
+/// Parses a path.
 #[tactic(auto, unfolding(crate::specs::Requests::is_path))]
 fn parse_path(text: &[u8]) -> Option<&str>
     ensures { MatchOption result (is_path text.now ≡ false)
@@ -107,7 +108,7 @@ fn parse_path(text: &[u8]) -> Option<&str>
     }
 }
 
-/// A load, whose operands are tested in order.
+/// Checks the operands of a load in order: the name, the base, the path.
 fn check_load<'a>(name: &'a [u8], base: &[u8], path: &'a [u8]) -> Result<Command<'a>, BadLine>
     ensures { parsed result ≡ checked_load name.entry.now (number base.now) path.entry.now }
 {
@@ -123,7 +124,8 @@ fn check_load<'a>(name: &'a [u8], base: &[u8], path: &'a [u8]) -> Result<Command
     Ok(Command::Load(name, base, path))
 }
 
-/// The operands of a load: a name, a base, and all that follows the third space.
+/// Parses the operands of a load: a name, a base, and a path, which is everything after the third
+/// space.
 fn parse_load<'a>(operands: Option<&'a [u8]>) -> Result<Command<'a>, BadLine>
     ensures { parsed result ≡ load_of (cut_parts (option_copied operands.entry)) }
 {
@@ -141,7 +143,7 @@ fn parse_load<'a>(operands: Option<&'a [u8]>) -> Result<Command<'a>, BadLine>
     check_load(name, base, path)
 }
 
-/// The operand of an unload: a name.
+/// Parses the operand of an unload: a name.
 fn parse_unload<'a>(operands: Option<&'a [u8]>) -> Result<Command<'a>, BadLine>
     ensures { parsed result ≡ unload_of (cut_parts (option_copied operands.entry)) }
 {
@@ -158,7 +160,7 @@ fn parse_unload<'a>(operands: Option<&'a [u8]>) -> Result<Command<'a>, BadLine>
     }
 }
 
-/// A move, whose operands are tested in order.
+/// Checks the operands of a move in order: the name, the base.
 fn check_move<'a>(name: &'a [u8], base: &[u8]) -> Result<Command<'a>, BadLine>
     ensures { parsed result ≡ checked_move name.entry.now (number base.now) }
 {
@@ -171,7 +173,7 @@ fn check_move<'a>(name: &'a [u8], base: &[u8]) -> Result<Command<'a>, BadLine>
     Ok(Command::Move(name, base))
 }
 
-/// The operands of a move: a name and a base.
+/// Parses the operands of a move: a name and a base.
 fn parse_move<'a>(operands: Option<&'a [u8]>) -> Result<Command<'a>, BadLine>
     ensures { parsed result ≡ move_of (cut_parts (option_copied operands.entry)) }
 {
@@ -189,7 +191,7 @@ fn parse_move<'a>(operands: Option<&'a [u8]>) -> Result<Command<'a>, BadLine>
     check_move(name, base)
 }
 
-/// A list has no operand.
+/// Checks that a list has no operands.
 fn parse_list<'a>(operands: Option<&'a [u8]>) -> Result<Command<'a>, BadLine>
     ensures { parsed result ≡ list_of (cut_parts (option_copied operands.entry)) }
 {
@@ -199,7 +201,7 @@ fn parse_list<'a>(operands: Option<&'a [u8]>) -> Result<Command<'a>, BadLine>
     }
 }
 
-/// A line of one field that is a number.
+/// Parses a line that is a single number.
 fn parse_address<'a>(word: &[u8], operands: Option<&'a [u8]>) -> Result<Command<'a>, BadLine>
     ensures { parsed result ≡ address_of (number word.now)
         (cut_parts (option_copied operands.entry)) }
@@ -213,7 +215,7 @@ fn parse_address<'a>(word: &[u8], operands: Option<&'a [u8]>) -> Result<Command<
     }
 }
 
-/// What a line asks for, or the first rule that it breaks.
+/// Parses a line, or returns the first rule that it breaks.
 #[tactic(auto, unfolding(crate::specs::Requests::parse))]
 pub fn parse_line(line: &[u8]) -> Result<Command<'_>, BadLine>
     ensures { parsed result ≡ parse line.now }

@@ -1,6 +1,6 @@
-//! The command loop: lines of input and words of a command line as requests, what each of them does
-//! to the loaded modules, and the replies to them. A caller of `run` and `program` finds all that
-//! they take and return here.
+//! The command loop. It parses the lines of the input and the addresses of the command line as
+//! requests, applies each request to the loaded modules and writes the reply. All types that `run`
+//! and `program` take and return are exported here.
 #![tactic(auto)]
 
 mod commands;

@@ -1,4 +1,4 @@
-//! The line that is being read.
+//! A buffer for the current line.
 
 ghost use Rattle.std.specs.Prelude.{◌≡◌, ℕ, List, [], Option, None, Some, if◌then◌else◌};
 ghost use Rattle.std.specs.Prelude.{option_copied, IsTrue, ◌↔◌};
@@ -7,7 +7,7 @@ ghost use Rattle.command_loop.specs.Lines.{longer};
 use arrayvec::ArrayVec;
 use std::marker::Model;
 
-/// A line so far, or that it is over the limit.
+/// The current line so far, or a mark that it is over the limit.
 #[derive(Drop)]
 pub struct LineBuffer {
     bytes: ArrayVec<u8, 4096>,

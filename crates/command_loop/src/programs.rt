@@ -1,5 +1,5 @@
-//! The program over its devices: the words of its command line, a run, the exit status, and what it
-//! says on standard error.
+//! The program over its I/O streams. It parses the arguments, runs, and returns the exit status.
+//! Faults are reported on standard error.
 
 use crate::replies::{write_object_refusal, write_refusal};
 use crate::running::run;
@@ -9,7 +9,7 @@ use command_line::{CliFault, options};
 use module_map::MapFault;
 use std::alloc::Global;
 
-/// What standard error begins with.
+/// The prefix of each message on standard error.
 const NAME: &[u8] = b"addr2line_live: ";
 
 fn write_message<E: Sink>(message: &str, errors: &mut E) -> Result<(), DeviceFault> {
@@ -17,8 +17,8 @@ fn write_message<E: Sink>(message: &str, errors: &mut E) -> Result<(), DeviceFau
     write_texts(&texts, errors)
 }
 
-/// Writes why the object of the command line is not loaded, as a reply would say it. With no module
-/// loaded it meets none.
+/// Writes why the object of the command line is not loaded, in the words of a reply. No other
+/// module is loaded, so it overlaps none.
 fn write_exe_fault<E: Sink>(fault: ExeFault, errors: &mut E) -> Result<(), DeviceFault> {
     write_texts(&[NAME], errors)?;
     let fault = match fault {
@@ -41,28 +41,28 @@ fn write_fault<E: Sink>(fault: RunFault, errors: &mut E) -> Result<(), DeviceFau
     }
 }
 
-/// Status 1, and on standard error why the run ended. A write that fails there is passed over.
+/// Writes why the run ended to standard error, and returns status 1. A failed write is ignored.
 fn end<E: Sink>(fault: RunFault, errors: &mut E) -> u8 {
     let _ = write_fault(fault, errors);
     let _ = errors.flush();
     1
 }
 
-/// Writes all of a text, and flushes.
+/// Writes a string and flushes.
 fn show<W: Sink>(text: &str, writer: &mut W) -> Result<(), DeviceFault> {
     write_texts(&[text.as_bytes()], writer)?;
     writer.flush()
 }
 
-/// Status 2, and a message on standard error.
+/// Writes a message to standard error, and returns status 2.
 fn refuse<E: Sink>(texts: &[&[u8]], errors: &mut E) -> u8 {
     let _ = write_texts(texts, errors);
     let _ = errors.flush();
     2
 }
 
-/// The help on standard output, and status 0; or what is wrong with the words on standard error,
-/// and status 2.
+/// Writes help to standard output and returns status 0, or writes the fault of the arguments to
+/// standard error and returns status 2.
 fn tell<W: Sink, E: Sink>(alloc: Global, error: &Error, writer: &mut W, errors: &mut E) -> u8 {
     let Ok(text) = format!(in alloc; "{error}") else {
         return refuse(&[NAME, b"no memory\n"], errors);
@@ -76,10 +76,10 @@ fn tell<W: Sink, E: Sink>(alloc: Global, error: &Error, writer: &mut W, errors: 
     }
 }
 
-/// Runs by the words of a command line, of which the first is the program's name. The answer is the
-/// exit status: 0 at the end of input or of the addresses among the words, or after help; 1 after a
-/// fault of the run; 2 where the words are refused. Standard error tells why; a write that fails
-/// there is passed over.
+/// Runs the program with the arguments of a command line, the first of which is the program's name.
+/// Returns the exit status: 0 at the end of input, after the last address of the arguments, or
+/// after help; 1 after a fault of the run; 2 if the arguments are refused. Standard error has the
+/// reason. A failed write there is ignored.
 pub fn program<R: Feed, W: Sink, E: Sink, O: Objects>(
     alloc: Global,
     words: &[String],

@@ -1,4 +1,4 @@
-//! The texts of replies.
+//! Formats and writes replies.
 
 ghost use Rattle.std.specs.Prelude.{◌≡◌, ◌++◌, ◌∷◌, [], List, codes, flat_map, map};
 ghost use Rattle.answer_text.specs.Devices.{failures_after, Writes};
@@ -17,7 +17,7 @@ use dwarf_bytes::LoadFault;
 use itoa::Buffer;
 use module_map::{Extent, Listing, MapFault, Modules};
 
-/// The word for a line that is no command.
+/// Returns the word for a line that is not a command.
 fn line_word(bad: BadLine) -> &'static str
     ensures { result.now ≡ line_word bad }
 {
@@ -31,7 +31,7 @@ fn line_word(bad: BadLine) -> &'static str
     }
 }
 
-/// Writes a refusal of one word.
+/// Writes a refusal with one word.
 pub fn write_refusal<W: Sink>(word: &str, writer: &mut W) -> Result<(), DeviceFault>
     ensures bytes { Writes (W.written writer.old) (W.written writer.new) result
         (refused word.now) }
@@ -41,8 +41,8 @@ pub fn write_refusal<W: Sink>(word: &str, writer: &mut W) -> Result<(), DeviceFa
     write_texts(&texts, writer)
 }
 
-/// Writes the refusal of an object: the section that holds its first fault, what is wrong, and the
-/// offset of the item that holds it.
+/// Writes the refusal of an object: the section of its first fault, the cause, and the offset of
+/// the item that has the fault.
 pub fn write_object_refusal<W: Sink>(fault: &LoadFault, writer: &mut W) -> Result<(), DeviceFault>
     ensures bytes { Writes (W.written writer.old) (W.written writer.new) result
         (refused (object_text fault.now)) }
@@ -56,7 +56,7 @@ pub fn write_object_refusal<W: Sink>(fault: &LoadFault, writer: &mut W) -> Resul
     write_texts(&texts, writer)
 }
 
-/// The name of the module at a place of the list; nothing where there is none.
+/// Returns the name of the module at an index of the list; empty if there is none.
 fn name_at<'a>(modules: &'a Modules, place: usize) -> &'a str
     ensures { result.now ≡ name_at modules.now.world.modules place }
 {
@@ -66,7 +66,7 @@ fn name_at<'a>(modules: &'a Modules, place: usize) -> &'a str
     }
 }
 
-/// Writes the refusal of a module that would meet another one.
+/// Writes the refusal of a module that would overlap another one.
 fn write_overlap<W: Sink>(met: &str, writer: &mut W) -> Result<(), DeviceFault>
     ensures bytes { Writes (W.written writer.old) (W.written writer.new) result
         (refused (codes "overlap " ++ met.now)) }
@@ -76,7 +76,7 @@ fn write_overlap<W: Sink>(met: &str, writer: &mut W) -> Result<(), DeviceFault>
     write_texts(&texts, writer)
 }
 
-/// Writes why modules are not changed.
+/// Writes why the modules are not changed.
 fn write_map_refusal<W: Sink>(
     modules: &Modules,
     fault: MapFault,
@@ -114,7 +114,7 @@ fn write_done_at<W: Sink>(
     write_texts(&texts, writer)
 }
 
-/// Writes that a module was taken out.
+/// Writes that a module was unloaded.
 fn write_unloaded<W: Sink>(name: &str, writer: &mut W) -> Result<(), DeviceFault>
     ensures bytes { Writes (W.written writer.old) (W.written writer.new) result
         (unloaded name.now) }
@@ -124,7 +124,7 @@ fn write_unloaded<W: Sink>(name: &str, writer: &mut W) -> Result<(), DeviceFault
     write_texts(&texts, writer)
 }
 
-/// Puts the line of a module.
+/// Appends the line of a module.
 fn put_module<W: Sink>(
     name: &str,
     extent: &Extent,
@@ -159,7 +159,7 @@ fn put_module<W: Sink>(
     pending.put_all(&texts, writer)
 }
 
-/// Puts the lines of modules.
+/// Appends the lines of modules.
 fn put_modules<W: Sink>(
     modules: Listing<'_>,
     pending: &mut Pending,
@@ -175,7 +175,7 @@ fn put_modules<W: Sink>(
     Ok(())
 }
 
-/// Writes the modules, and that these are all.
+/// Writes the list of modules and the line that ends it.
 fn write_list<W: Sink>(modules: &Modules, writer: &mut W) -> Result<(), DeviceFault>
     ensures bytes { Writes (W.written writer.old) (W.written writer.new) result
         (list_text (map listed modules.now.world.modules)) }
@@ -187,7 +187,7 @@ fn write_list<W: Sink>(modules: &Modules, writer: &mut W) -> Result<(), DeviceFa
     pending.send(writer)
 }
 
-/// Writes the reply to what came of a request.
+/// Writes the reply for the outcome of a request.
 #[tactic(auto, unfolding(crate::specs::Text::text))]
 pub fn write_reply<W: Sink>(
     options: &Options,

@@ -1,4 +1,4 @@
-//! The run.
+//! A run of the command loop.
 
 ghost use Rattle.std.specs.Prelude.{◌≡◌, ◌≢◌, ℕ, ◌≤◌, List, [], ◌++◌, length, Option, OnOk};
 ghost use Rattle.std.specs.Prelude.{IsErrOf};
@@ -17,8 +17,9 @@ use answer_text::{Feed, Objects, Options, RunFault, Sink};
 use module_map::Modules;
 use std::alloc::Global;
 
-/// Loads the object of the command line, and then answers its words, or where there are none serves
-/// the lines of a reader. Each reply is written and flushed before the next request is looked at.
+/// Loads the object of the command line. Then answers the addresses of the command line, or serves
+/// the lines of the reader if there are none. Each reply is written and flushed before the next
+/// request is handled.
 pub fn run<R: Feed, W: Sink, O: Objects>(
     alloc: Global,
     options: &Options,
@@ -26,23 +27,23 @@ pub fn run<R: Feed, W: Sink, O: Objects>(
     writer: &mut W,
     source: &mut O,
 ) -> Result<(), RunFault>
-    // What is written is the replies to all requests, and what was asked is their questions.
+    // The replies to all requests were written, and the source was asked only their questions.
     ensures served { OnOk result
         (Served options.now (R.left reader.old) (R.left reader.new) (λ requests.
         Answers options.now (exe_of options.now) requests (O.asked source.old) (O.asked source.new)
         (W.written writer.old) (W.written writer.new))) }
-    // After a failed read it is so for the lines that were ended.
+    // After a failed read, the same holds for the lines that were ended.
     ensures reading { IsErrOf result RunFault.Reading → (asks options.now ≡ [])
         × ((read : List ℕ) ×
         Consumes (R.left reader.old) (R.left reader.new) read ×
         Answers options.now (exe_of options.now) (requests (ended_lines read)) (O.asked source.old)
         (O.asked source.new) (W.written writer.old) (W.written writer.new)) }
-    // After a failed write it is so for the requests before the one at hand, of whose reply a
-    // beginning is written.
+    // After a failed write, the same holds for the requests before the current one. A prefix of its
+    // reply is written.
     ensures writing { IsErrOf result RunFault.Writing →
         Stopped options.now (R.left reader.old) (R.left reader.new) (O.asked source.old)
         (O.asked source.new) (W.written writer.old) (W.written writer.new) }
-    // Without memory for the cache, the reader, the writer and the source are not used at all.
+    // If the cache cannot be allocated, the reader, the writer and the source are not used at all.
     ensures memory { IsErrOf result RunFault.Memory → (reader.new ≡ reader.old)
         × (writer.new ≡ writer.old) × (source.new ≡ source.old) }
     // The reader is not used if there are addresses to answer.
@@ -50,7 +51,7 @@ pub fn run<R: Feed, W: Sink, O: Objects>(
     // Neither the reader nor the writer is used if the object of the command line is refused.
     ensures unused { (why : ExeFault) → IsErrOf result (RunFault.Exe why) →
         (reader.new ≡ reader.old) × (writer.new ≡ writer.old) }
-    // Where the object of the command line is refused, nothing but its path was asked.
+    // If the object of the command line is refused, the source was asked only for its path.
     ensures exe { IfErr result
         (Refused (exe_of options.now) (R.left reader.old) (R.left reader.new) (O.asked source.old)
         (O.asked source.new) (W.written writer.old) (W.written writer.new)) }

@@ -1,4 +1,4 @@
-//! One request: what it does, and the reply to it.
+//! Serves one request: performs it and writes the reply.
 
 ghost use Rattle.std.specs.Prelude.{◌≡◌, ℕ, List, [], ◌∷◌, Option, option_copied, MatchResult, Ok};
 ghost use Rattle.answer_text.specs.Devices.{failures_after, Writes};
@@ -14,7 +14,7 @@ use crate::replies::write_reply;
 use answer_text::{DeviceFault, FetchFault, Objects, Options, Sink};
 use module_map::{Asked, Extent, MapFault, Modules};
 
-/// What came of a request.
+/// The outcome of a request.
 #[derive(Clone, Copy)]
 pub enum Done<'a> {
     Unreadable(BadLine),
@@ -27,7 +27,7 @@ pub enum Done<'a> {
     Asked(Asked),
 }
 
-/// Asks the source for an object, and loads it.
+/// Fetches an object from the source and loads it.
 fn load<'a, O: Objects>(
     name: &'a str,
     base: u64,
@@ -67,7 +67,7 @@ fn move_to<'a>(name: &'a str, base: u64, modules: &mut Modules) -> Done<'a>
     }
 }
 
-/// What a line asks for. A line over the limit is None.
+/// Parses a line. `None` is a line over the limit.
 fn request_of(line: Option<&[u8]>) -> Result<Command<'_>, BadLine>
     ensures { parsed result ≡ parse_kept (option_copied line.entry) }
 {
@@ -77,7 +77,7 @@ fn request_of(line: Option<&[u8]>) -> Result<Command<'_>, BadLine>
     }
 }
 
-/// Does what is asked for.
+/// Performs a request.
 fn act<'a, O: Objects>(
     request: Result<Command<'a>, BadLine>,
     modules: &mut Modules,
@@ -99,7 +99,7 @@ fn act<'a, O: Objects>(
     }
 }
 
-/// Serves a request: the source is asked, the modules change, and the reply is written and flushed.
+/// Serves a request: asks the source, changes the modules, then writes and flushes the reply.
 pub fn serve_request<W: Sink, O: Objects>(
     options: &Options,
     request: Result<Command<'_>, BadLine>,
@@ -137,7 +137,7 @@ pub fn serve_request<W: Sink, O: Objects>(
     writer.flush()
 }
 
-/// Serves a line. One over the limit is None.
+/// Serves a line. `None` is a line over the limit.
 pub fn serve<W: Sink, O: Objects>(
     options: &Options,
     line: Option<&[u8]>,

@@ -1,4 +1,4 @@
-//! Lines are read, and each is served before more is read.
+//! Reads lines, and serves each one before more is read.
 
 ghost use Rattle.std.specs.Prelude.{◌≡◌, ℕ, ◌≤◌, List, [], ◌∷◌, ◌++◌, length, Option, OnOk, OnErr};
 ghost use Rattle.answer_text.specs.Devices.{failures_after};
@@ -11,7 +11,7 @@ use answer_text::{DeviceFault, Feed, Objects, Options, RunFault, Sink};
 use bstr::ByteSlice;
 use module_map::Modules;
 
-/// The modules, and the line that is being read.
+/// The modules and the current line.
 #[derive(Drop)]
 pub struct Session {
     modules: Modules,
@@ -19,7 +19,7 @@ pub struct Session {
 }
 
 impl Session {
-    /// Serves the line that is ended here, if it has a byte.
+    /// Serves the line that ends here, if it is nonempty.
     fn end_line<W: Sink, O: Objects>(
         &mut self,
         options: &Options,
@@ -54,7 +54,7 @@ impl Session {
         Ok(())
     }
 
-    /// Takes a piece of input, and serves each line that ends in it.
+    /// Processes a piece of input, and serves each line that ends in it.
     fn take_piece<W: Sink, O: Objects>(
         &mut self,
         options: &Options,
@@ -93,8 +93,8 @@ impl Session {
     }
 }
 
-/// Serves the lines of a reader, one after the other. Each reply is written and flushed before more
-/// is read. Input is asked for in pieces of at most 4,096 bytes.
+/// Serves the lines of a reader in order. Each reply is written and flushed before more is read.
+/// Input is read in pieces of at most 4,096 bytes.
 pub fn serve_input<R: Feed, W: Sink, O: Objects>(
     options: &Options,
     modules: Modules,

@@ -1,4 +1,4 @@
-//! The object of the command line.
+//! Loads the object of the command line.
 
 ghost use Rattle.std.specs.Prelude.{◌≡◌, option_map, string_bytes, MatchResult, Some};
 ghost use Rattle.module_map.specs.World.{no_modules};
@@ -8,7 +8,7 @@ ghost use Rattle.command_loop.specs.Private.Progress.{HasStarted};
 use answer_text::{ExeFault, Objects};
 use module_map::Modules;
 
-/// Asks the source for an object, and loads it as `exe` at base 0.
+/// Fetches an object from the source and loads it as `exe` at base 0.
 fn load_exe<O: Objects>(path: &str, modules: &mut Modules, source: &mut O) -> Result<(), ExeFault>
     requires { modules.old.world ≡ no_modules }
     ensures { MatchResult result

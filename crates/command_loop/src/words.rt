@@ -1,4 +1,4 @@
-//! The words of the command line.
+//! Answers the addresses of the command line.
 
 ghost use Rattle.std.specs.Prelude.{◌≡◌, OnOk, OnErr, List, ◌++◌, ◌∷◌, map};
 ghost use Rattle.answer_text.specs.Devices.{failures_after};
@@ -10,7 +10,7 @@ use crate::serving::serve_request;
 use answer_text::{DeviceFault, Objects, Options, Sink};
 use module_map::Modules;
 
-/// Answers addresses, one after the other.
+/// Answers addresses in order.
 pub fn serve_words<W: Sink, O: Objects>(
     options: &Options,
     words: &[u64],

@@ -1,4 +1,4 @@
--- What a parsed command stands for.
+-- The request of a parsed command.
 use Rattle.std.specs.Prelude.{ℕ, List, [], Option, Some, None, Result, Ok, Err}
 use Rattle.command_loop.specs.Requests.{Request, fields}
 use Rattle.command_loop.specs.Requests.Request.{Load, Unload, Move, ListAll, Ask}
@@ -13,12 +13,12 @@ request_of (command.Move name base) = Move name.now base
 request_of command.List = ListAll
 request_of (command.Ask address) = Ask address
 
--- the request that a line was parsed to, or why there is none
+-- the request of a line, or the reason why there is none
 abbrev pub parsed : Result Command BadLine → Result Request BadLine
 parsed (Ok c) = Ok (request_of c)
 parsed (Err bad) = Err bad
 
--- the fields of what follows a space, if there is one
+-- the fields after a space, if there is one
 abbrev pub cut_parts : Option (List ℕ) → List (List ℕ)
 cut_parts None = []
 cut_parts (Some rest) = fields rest

@@ -1,4 +1,4 @@
--- How far a run has come.
+-- The progress of a run.
 use Rattle.std.specs.Prelude.{◌≡◌, ℕ, ◌≤◌, List, [], ◌∷◌, ◌++◌, length, drop, Option, Result, Ok}
 use Rattle.std.specs.Prelude.{Err}
 use Rattle.std.specs.Option.{option_to_list}
@@ -16,7 +16,7 @@ use Rattle.command_loop.specs.Text.{text}
 use Rattle.command_loop.specs.Output.{Requests, Exchanges, started, replies, world_after}
 use Rattle.command_loop.specs.Output.{questions, Asked, EndsLine, EndsWith}
 
--- the modules, what the source has been asked, and what is written, where those are told
+-- the modules, the questions to the source, and the output, if contracts can name them
 pub record RunState : Type 0 where
   pub world : World
   pub asked : Exchanges
@@ -31,7 +31,7 @@ pub record ServesRequest (options : Options) (request : Result Request BadLine)
   pub replied : Appends old.written new.written
       (text options (step old.world request outcomes).reply)
 
--- one request was served, but no more than a beginning of its reply is written
+-- one request was served, but at most a prefix of its reply is written
 pub record FailsToReply (options : Options) (request : Result Request BadLine)
     (old new : RunState) : Type 0 where
   pub outcomes : List Outcome
@@ -40,7 +40,7 @@ pub record FailsToReply (options : Options) (request : Result Request BadLine)
   pub begins : IsBeginning part (text options (step old.world request outcomes).reply)
   pub replied : Appends old.written new.written part
 
--- these requests were served, one after the other
+-- these requests were served in order
 pub record ServedInOrder (options : Options) (start : RunState) (served : Requests)
     (now : RunState) : Type 0 where
   pub outcomes : List Outcome
@@ -48,7 +48,7 @@ pub record ServedInOrder (options : Options) (start : RunState) (served : Reques
   pub stands : now.world ≡ world_after start.world served outcomes
   pub replied : Appends start.written now.written (replies options start.world served outcomes)
 
--- these requests were served, and then one of whose reply no more than a beginning is written
+-- these requests were served, and then one more, with at most a prefix of its reply written
 pub record StopsAtRequest (options : Options) (start : RunState) (before : Requests)
     (request : Result Request BadLine) (asked : Exchanges)
     (written : Option (List ℕ)) : Type 0 where
@@ -62,14 +62,14 @@ pub record StopsAtRequest (options : Options) (start : RunState) (before : Reque
 
 -- ---- lines
 
--- all ended lines of what was read are served, and the rest of it is held
+-- all ended lines of the input so far are served, and the rest is buffered
 pub record ReadSoFar (options : Options) (start : RunState) (read : List ℕ) (now : RunState)
     (held : Option (List ℕ)) : Type 0 where
   pub handled : ServedInOrder options start (requests (ended_lines read)) now
   pub holds : held ≡ within_limit (open_line read)
 
--- What was read ends with a line, and all its lines are served but this last one, of whose reply
--- no more than a beginning is written.
+-- The input so far ends with a line. All lines before it are served, and at most a prefix of its
+-- reply is written.
 pub record StopsAtLine (options : Options) (start : RunState) (read : List ℕ) (asked : Exchanges)
     (written : Option (List ℕ)) : Type 0 where
   pub before : List (List ℕ)
@@ -77,13 +77,13 @@ pub record StopsAtLine (options : Options) (start : RunState) (read : List ℕ) 
   pub ends : EndsWith read before line
   pub halts : StopsAtRequest options start (requests before) (parse line) asked written
 
--- from wherever a run stood, it has come further by these bytes
+-- from any state of a run, these bytes advance it to the new state
 abbrev pub ReadsOn : Options → List ℕ → RunState → Option (List ℕ) → RunState → Option (List ℕ)
     → Type 0
 ReadsOn options bytes old held new held' = (start : RunState) (read : List ℕ)
     → ReadSoFar options start read old held → ReadSoFar options start (read ++ bytes) new held'
 
--- from wherever a run stood, it stopped at a line that ends within these bytes
+-- from any state of a run, it stopped at a line that ends within these bytes
 abbrev pub StopsWithin : Options → List ℕ → RunState → Option (List ℕ) → Exchanges
     → Option (List ℕ) → Type 0
 StopsWithin options bytes old held asked written = (start : RunState) (read : List ℕ)
@@ -91,7 +91,7 @@ StopsWithin options bytes old held asked written = (start : RunState) (read : Li
     (front past : List ℕ) × (bytes ≡ front ++ past) × ((rest : List ℕ) × (past ≡ 10 ∷ rest))
     × StopsAtLine options start (read ++ front) asked written
 
--- how the lines of a reader were served from here on
+-- how the lines of a reader are served from here on
 abbrev pub ReadsLines : {a : Type 0} → Options → RunState → Option (List ℕ) → Option (List ℕ)
     → Exchanges → Option (List ℕ) → Result a RunFault → Type 0
 ReadsLines options start left left' asked written (Ok done) =
@@ -118,9 +118,9 @@ pub record HasStarted (exe : Option (List ℕ)) (asked asked' : Exchanges)
   pub one : length first ≡ length (option_to_list exe)
   pub answered : Asked asked asked' (option_to_list exe) first
 
--- ---- words
+-- ---- addresses of the command line
 
--- it stopped at one of these requests
+-- the run stopped at one of these requests
 abbrev pub StopsAmong : Options → RunState → Requests → Exchanges → Option (List ℕ) → Type 0
 StopsAmong options start requests asked written =
     (before after : Requests) × (request : Result Request BadLine)

@@ -1,4 +1,4 @@
--- What came of a request, before it is printed.
+-- The outcome of a request, before it is printed.
 use Rattle.std.specs.Prelude.{◌≡◌, List, map, Result, ⊤}
 use Rattle.module_map.specs.World.{World}
 use Rattle.module_map.specs.Answers.{asked}
@@ -23,12 +23,12 @@ reply_of world (done.MovedTo name extent) = MovedTo name.now extent.low extent.h
 reply_of world done.Listed = AllListed (map listed world.modules)
 reply_of world (done.Asked found) = Answered (answer_at world found.address)
 
--- what was found is what the modules answer now
+-- the result of an ask is the current result of the modules
 abbrev pub IsCurrent : World → Done → Type 0
 IsCurrent world (done.Asked found) = found ≡ asked world found.address
 IsCurrent world other = ⊤
 
--- the request was served but for its reply
+-- the request was performed, but its reply is not written yet
 pub record Performs (request : Result Request BadLine) (old new : World) (asked asked' : Exchanges)
     (result : Done) : Type 0 where
   pub outcomes : List Outcome
