@@ -1,4 +1,4 @@
-//! Each byte of the headers of the first sample, with each of its 256 values.
+//! Tests each byte of the headers of the first sample with each of its 256 values.
 
 use crate::fixtures::{are_equal, find, numbers};
 use crate::plain_scan::PlainObject;
@@ -7,7 +7,7 @@ use dwarf_samples::inlined;
 use std::process::Abort;
 use std::test::*;
 
-/// Checks that an object is refused, or answers each address as a plain scan does.
+/// Checks that an object is refused, or answers each address like a linear scan.
 fn is_scanned(rt: &(impl Abort + AllocGlobal), object: &[u8]) -> Result<(), Fail> {
     let mut bytes = Vec::new(rt.alloc());
     bytes.extend_from_slice(object)?;
@@ -25,7 +25,7 @@ fn is_scanned(rt: &(impl Abort + AllocGlobal), object: &[u8]) -> Result<(), Fail
     Ok(())
 }
 
-/// Checks the sample with each value of a byte.
+/// Checks the sample with each value of the byte at an offset.
 fn is_changed(rt: &(impl Abort + AllocGlobal), place: usize) -> Result<(), Fail> {
     let mut object = *inlined();
     for value in 0..=255 {

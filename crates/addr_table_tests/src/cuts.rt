@@ -1,4 +1,4 @@
-//! Objects that are cut: whole files, and sections by their sizes.
+//! Truncated objects: whole files, and sections with reduced sizes.
 
 use crate::fixtures::are_equal;
 use addr_table::Module;
@@ -8,7 +8,7 @@ use std::alloc::{AllocError, Global};
 use std::process::Abort;
 use std::test::*;
 
-/// Where the sizes of the first sample's sections stand in its section headers.
+/// The offsets of the section sizes in the section headers of the first sample.
 const ABBREV_SIZE: usize = 479;
 
 const INFO_SIZE: usize = 543;
@@ -17,7 +17,7 @@ const LINE_SIZE: usize = 607;
 
 const NAMES_SIZE: usize = 671;
 
-/// The first fault of an object.
+/// Returns the first fault of an object.
 fn fault_of(alloc: Global, object: &[u8]) -> Result<Option<LoadFault>, AllocError> {
     let mut bytes = Vec::new(alloc);
     bytes.extend_from_slice(object)?;
@@ -27,7 +27,7 @@ fn fault_of(alloc: Global, object: &[u8]) -> Result<Option<LoadFault>, AllocErro
     }
 }
 
-/// The first sample with another size of a section.
+/// Returns the first sample with another size of a section.
 fn with_size(place: usize, size: u8) -> [u8; 703] {
     let mut object = *inlined();
     if let Some(byte) = object.get_mut(place) {
@@ -36,7 +36,7 @@ fn with_size(place: usize, size: u8) -> [u8; 703] {
     object
 }
 
-/// Checks the fault of the first sample with each of these sizes of a section.
+/// Checks the fault of the first sample for each of these sizes of a section.
 fn are_refused(
     rt: &(impl Abort + AllocGlobal),
     place: usize,
@@ -104,7 +104,7 @@ fn cut_units(rt: HostRuntime) -> Result<(), Fail> {
     are_refused(&rt, INFO_SIZE, (1, 96), fault)
 }
 
-/// The declarations stand at 0, 9, 20 and 35, and the end of the table at 42.
+/// The declarations are at offsets 0, 9, 20 and 35, and the end of the table is at 42.
 #[test]
 fn cut_abbreviations_of_a_module(rt: HostRuntime) -> Result<(), Fail> {
     for at in [0u8, 9, 20, 35, 42] {
@@ -114,7 +114,7 @@ fn cut_abbreviations_of_a_module(rt: HostRuntime) -> Result<(), Fail> {
     Ok(())
 }
 
-/// Where the next item of the table of abbreviations stands.
+/// Returns the offset of the next item of the abbreviation table.
 fn end_of_declaration(at: u8) -> u8 {
     match at {
         0 => 9,
@@ -125,7 +125,7 @@ fn end_of_declaration(at: u8) -> u8 {
     }
 }
 
-/// Names begin at 1, 15, 27 and 39, and headers have 64 bytes.
+/// Names start at offsets 1, 15, 27 and 39, and headers have 64 bytes.
 #[test]
 fn cut_names_of_sections(rt: HostRuntime) -> Result<(), Fail> {
     let names = [

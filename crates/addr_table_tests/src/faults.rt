@@ -7,7 +7,7 @@ use dwarf_samples::*;
 use std::process::Abort;
 use std::test::*;
 
-/// Checks that an object is refused, and its bytes come back.
+/// Checks that an object is refused and that its bytes are returned.
 fn is_refused(
     rt: &(impl Abort + AllocGlobal),
     object: &[u8],
@@ -55,7 +55,8 @@ fn samples_with_a_fault(rt: HostRuntime) -> Result<(), Fail> {
 
 #[test]
 fn a_root_of_no_program(rt: HostRuntime) -> Result<(), Fail> {
-    // the root's line program at 1; and also the call file outside: the root is judged first
+    // the root's line program is at 1; and also with an invalid call file: the root is checked
+    // first
     let mut object = *inlined();
     object[176] = 1;
     is_refused(&rt, &object, Section::DebugInfo, Cause::StmtList, 12)?;
@@ -76,7 +77,7 @@ const ABBREV: [u8; 29] = [
 
 #[test]
 fn units_are_judged_one_after_the_other(rt: HostRuntime) -> Result<(), Fail> {
-    // a unit with a call file outside, and behind it one of no line program
+    // a unit with an invalid call file, followed by a unit without a line program
     let mut info = Vec::new(rt.alloc());
     add_unit(&mut info, &[1, 0, 0, 0, 0, 2, b'f', 0, 3, 9, 0, 0])?;
     add_unit(&mut info, &[1, 9, 0, 0, 0, 0])?;
@@ -107,7 +108,7 @@ fn a_call_file_of_a_subprogram_is_not_judged(rt: HostRuntime) -> Result<(), Fail
     Ok(())
 }
 
-// Each allocation can be made to fail by the way in which the tests are run.
+// The test runner can make each allocation fail.
 #[test]
 fn want_of_memory_is_the_only_other_answer(rt: HostRuntime) -> Result<(), Fail> {
     let mut bytes = Vec::new(rt.alloc());

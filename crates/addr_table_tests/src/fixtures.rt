@@ -1,4 +1,4 @@
-//! Objects for the tests, and what is expected of them.
+//! Objects for the tests, and checks of their answers.
 
 use addr_table::{AddressTable, Frame, Frames, Module, Path, Place, Steps};
 use dwarf_bytes::LoadFault;
@@ -7,12 +7,12 @@ use std::fmt::Debug;
 use std::process::Abort;
 use std::test::*;
 
-/// Checks that both are the same.
+/// Checks that both values are equal.
 pub fn are_equal<T: Copy + Debug + PartialEq>(rt: &impl Abort, told: T, wanted: T) {
     assert_eq!(rt; told, wanted);
 }
 
-/// Checks that a number is one of these.
+/// Checks that a number is from `least` to `most`, inclusive.
 pub fn is_within(rt: &impl Abort, number: u64, least: u64, most: u64) {
     assert!(rt;
         least <= number && number <= most,
@@ -20,7 +20,7 @@ pub fn is_within(rt: &impl Abort, number: u64, least: u64, most: u64) {
     );
 }
 
-/// The sections of an object that is to be made.
+/// The sections of an object to build.
 #[derive(Clone, Copy)]
 pub struct Parts<'a> {
     pub abbrev: &'a [u8],
@@ -29,10 +29,10 @@ pub struct Parts<'a> {
     pub rnglists: &'a [u8],
 }
 
-/// The names of the sections, each with a NUL, behind one NUL.
+/// The section names: one NUL, then each name with a NUL.
 const NAMES: &[u8] = b"\0.debug_abbrev\0.debug_info\0.debug_line\0.debug_rnglists\0.shstrtab\0";
 
-/// Puts numbers of eight bytes behind others.
+/// Appends numbers of eight bytes.
 fn put_all(bytes: &mut Vec<u8>, numbers: &[u64]) -> Result<(), AllocError> {
     for number in numbers {
         bytes.extend_from_slice(&number.to_le_bytes())?;
@@ -40,7 +40,7 @@ fn put_all(bytes: &mut Vec<u8>, numbers: &[u64]) -> Result<(), AllocError> {
     Ok(())
 }
 
-/// Puts a section header behind others, of a section that stands at a place.
+/// Appends the header of a section at a file offset.
 fn put_header(bytes: &mut Vec<u8>, name: u8, place: u64, len: u64) -> Result<(), AllocError> {
     // sh_name, SHT_PROGBITS
     bytes.extend_from_slice(&[name, 0, 0, 0, 1, 0, 0, 0])?;
@@ -48,8 +48,8 @@ fn put_header(bytes: &mut Vec<u8>, name: u8, place: u64, len: u64) -> Result<(),
     put_all(bytes, &[0, 0, place, len, 0, 0, 0])
 }
 
-/// Puts the ELF header and one program header in front of sections that end at a place: `ET_DYN`,
-/// and a load segment of 0x2000_0000 bytes from 0x1000 on.
+/// Appends the ELF header and one program header, for sections that end at `end`: `ET_DYN`, and a
+/// load segment of 0x2000_0000 bytes from 0x1000 on.
 fn put_heads(bytes: &mut Vec<u8>, end: u64) -> Result<(), AllocError> {
     bytes.extend_from_slice(&[0x7f, b'E', b'L', b'F', 2, 1, 1, 0, 0, 0, 0, 0, 0, 0, 0, 0])?;
     bytes.extend_from_slice(&[3, 0, 0, 0, 0, 0, 0, 0])?;
@@ -61,7 +61,7 @@ fn put_heads(bytes: &mut Vec<u8>, end: u64) -> Result<(), AllocError> {
     put_all(bytes, &[1, 0, 0x1000, 0, 0, 0x2000_0000, 0])
 }
 
-/// An object of these sections.
+/// Builds an object with these sections.
 pub fn object(alloc: Global, parts: Parts<'_>) -> Result<Vec<u8>, AllocError> {
     let abbrev = parts.abbrev.len() as u64;
     let info = parts.info.len() as u64;
@@ -87,7 +87,7 @@ pub fn object(alloc: Global, parts: Parts<'_>) -> Result<Vec<u8>, AllocError> {
     Ok(bytes)
 }
 
-/// Puts the sections behind the heads, their names, and the header of no section.
+/// Appends the sections, their names, and the null section header.
 fn put_sections(bytes: &mut Vec<u8>, parts: Parts<'_>) -> Result<(), AllocError> {
     bytes.extend_from_slice(parts.abbrev)?;
     bytes.extend_from_slice(parts.info)?;
@@ -98,7 +98,7 @@ fn put_sections(bytes: &mut Vec<u8>, parts: Parts<'_>) -> Result<(), AllocError>
     Ok(())
 }
 
-/// Puts a compilation unit of these entries behind others, whose abbreviations stand at 0.
+/// Appends a compilation unit with these entries. Its abbreviations are at offset 0.
 pub fn add_unit(info: &mut Vec<u8>, entries: &[u8]) -> Result<(), AllocError> {
     let unit_length = u32::try_from(entries.len()).unwrap_or(0).saturating_add(8);
     info.extend_from_slice(&unit_length.to_le_bytes())?;
@@ -108,7 +108,7 @@ pub fn add_unit(info: &mut Vec<u8>, entries: &[u8]) -> Result<(), AllocError> {
     Ok(())
 }
 
-/// The module of some bytes, which hold no fault.
+/// Decodes a module from bytes without a fault.
 pub fn module(alloc: Global, bytes: Vec<u8>) -> Result<Module, LoadFault> {
     match Module::decode(alloc, bytes) {
         Ok(module) => Ok(module),
@@ -116,28 +116,28 @@ pub fn module(alloc: Global, bytes: Vec<u8>) -> Result<Module, LoadFault> {
     }
 }
 
-/// The module of a sample.
+/// Decodes the module of a sample.
 pub fn sample(alloc: Global, bytes: &[u8]) -> Result<Module, Fail> {
     let mut copy = Vec::new(alloc);
     copy.extend_from_slice(bytes)?;
     Ok(module(alloc, copy)?)
 }
 
-/// The place of a link address.
+/// Returns the place of a link address.
 pub fn find(module: &Module, link: u64) -> Option<Place> {
     module.find(link, &mut Steps::default())
 }
 
-/// The numbers of the row and the scope of a place.
+/// Returns the indexes of the row and the scope of a place.
 pub fn numbers(place: Option<Place>) -> Option<(Option<usize>, Option<usize>)> {
     let place = place?;
     Some((place.row(), place.scope()))
 }
 
-/// What is expected of a frame: its name, its path and its line.
+/// The expected name, path and line of a frame.
 pub type Expected = (Option<&'static [u8]>, Option<&'static [u8]>, u64);
 
-/// The parts of a path, with slashes between them.
+/// Joins the parts of a path with slashes.
 pub fn joined(alloc: Global, path: Path<'_>) -> Result<Vec<u8>, AllocError> {
     let mut bytes = Vec::new(alloc);
     for part in path {
@@ -149,7 +149,7 @@ pub fn joined(alloc: Global, path: Path<'_>) -> Result<Vec<u8>, AllocError> {
     Ok(bytes)
 }
 
-/// Checks that the next frame is this.
+/// Checks the next frame.
 fn is_frame(
     rt: &(impl Abort + AllocGlobal),
     frame: Frame<'_>,
@@ -165,7 +165,7 @@ fn is_frame(
     Ok(())
 }
 
-/// Checks that the frames are these.
+/// Checks that the frames are exactly the expected ones.
 pub fn are_frames(
     rt: &(impl Abort + AllocGlobal),
     frames: Frames<'_>,
@@ -196,7 +196,7 @@ pub fn answers(
     are_frames(rt, frames, expected)
 }
 
-/// Checks that the segments tell the same place of an address as all rows and scopes do.
+/// Checks that the segments and a linear scan give the same place of an address.
 pub fn tells_the_same(rt: &impl Abort, module: &Module, link: u64) {
     let scanned = module.scan().find(link, &mut Steps::default());
     let searched = module.segments().find(link, &mut Steps::default());

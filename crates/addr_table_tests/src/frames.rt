@@ -1,4 +1,4 @@
-//! Frames of objects that are made for one question.
+//! Frames of objects that are built for single tests.
 
 use crate::fixtures::*;
 use dwarf_samples::inlined;
@@ -20,7 +20,7 @@ const ABBREV: [u8; 67] = [
     6, 0x2e, 0, 0x11, 0x01, 0x12, 0x0b, 0, 0, 0, 0, 0,
 ];
 
-/// Puts an entry behind others: its code, its name, its low_pc and its high_pc.
+/// Appends an entry: its code, its name, its low_pc and its high_pc.
 fn put_entry(
     entries: &mut Vec<u8>,
     code: u8,
@@ -34,7 +34,7 @@ fn put_entry(
     Ok(())
 }
 
-/// An object with one unit of these entries, whose line program stands at 0.
+/// Builds an object with one unit of these entries, whose line program is at offset 0.
 fn one_unit(
     alloc: Global,
     entries: &[u8],
@@ -56,7 +56,7 @@ fn one_unit(
     object(alloc, parts)
 }
 
-/// The line program of the first sample.
+/// Returns the line program of the first sample.
 fn line() -> &'static [u8] {
     &inlined()[259..334]
 }
@@ -116,7 +116,7 @@ fn a_call_without_file_and_line(rt: HostRuntime) -> Result<(), Fail> {
     Ok(())
 }
 
-/// The first sample's line program for the file `b.c`.
+/// Returns the first sample's line program for the file `b.c`.
 fn other_line() -> [u8; 75] {
     let mut line = [0; 75];
     line.copy_from_slice(&inlined()[259..334]);

@@ -1,4 +1,4 @@
-//! Tests of `addr_table` on small objects, with answers worked out by hand.
+//! Tests of `addr_table` on small objects, with hand-computed answers.
 #![tactic(auto)]
 
 #[cfg(test)]

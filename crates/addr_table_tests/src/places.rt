@@ -1,4 +1,4 @@
-//! Places of other modules, and the laws.
+//! Places of other modules, and the theorems.
 
 use crate::fixtures::*;
 use addr_table::{Place, laws};
@@ -6,7 +6,7 @@ use dwarf_samples::{inlined, two_sequences};
 use std::process::Abort;
 use std::test::*;
 
-/// The place of 0x1004 in the first sample: row 1 and scope 4.
+/// Returns the place of 0x1004 in the first sample: row 1 and scope 4.
 fn place(rt: &(impl Abort + AllocGlobal)) -> Result<Place, Fail> {
     let module = sample(rt.alloc(), inlined())?;
     Ok(find(&module, 0x1004).ok_or("no place")?)

@@ -1,4 +1,4 @@
-//! The place of an address, by a scan that is written for the tests alone.
+//! A reference implementation for tests: finds the place of an address by a linear scan.
 
 use dwarf_bytes::{LoadFault, Object};
 use dwarf_entries::{Range, Scope, ScopeKind, Scopes, Sections};
@@ -25,7 +25,7 @@ impl PlainObject {
         Ok(PlainObject { lines, scopes })
     }
 
-    /// The row and the innermost scope of an address, if it has one of them.
+    /// Returns the row and the innermost scope of an address, if it has at least one of them.
     pub fn numbers(&self, link: u64) -> Option<(Option<usize>, Option<usize>)> {
         let row = covering_row(self.lines.rows(), link);
         let scope = innermost(&self.scopes, link);
@@ -36,7 +36,7 @@ impl PlainObject {
     }
 }
 
-/// The first row, in file order, that covers an address.
+/// Returns the index of the first row, in file order, that covers an address.
 fn covering_row(rows: &[Row], link: u64) -> Option<usize> {
     let mut pairs = rows.iter().zip(rows.iter().skip(1));
     pairs.position(|(row, next)| !row.end && row.address <= link && link < next.address)
@@ -48,8 +48,9 @@ fn holds(ranges: &[Range], link: u64) -> bool {
         .any(|range| range.from <= link && link < range.to)
 }
 
-/// The last scope of the chain of an address: the first subprogram that holds it, and after it each
-/// time the first inlined subroutine below the last one.
+/// Returns the last scope of the chain of an address. The chain starts with the first subprogram
+/// that contains the address. Each next scope is the first inlined subroutine below the previous
+/// one that contains it.
 fn innermost(scopes: &Scopes, link: u64) -> Option<usize> {
     let mut last: Option<&Scope> = None;
     for scope in scopes.scopes() {

@@ -1,4 +1,4 @@
-//! The sample objects.
+//! Tests of the sample objects.
 
 use crate::fixtures::*;
 use addr_table::{Frames, Path};
@@ -8,7 +8,7 @@ use dwarf_samples::{
 use std::process::Abort;
 use std::test::*;
 
-/// The first sample without `.debug_info`.
+/// Returns the first sample without `.debug_info`.
 fn without_entries() -> [u8; 703] {
     let mut object = *inlined();
     object[543] = 0;
@@ -22,13 +22,13 @@ fn places_of_inlined_subroutines(rt: HostRuntime) -> Result<(), Fail> {
     let place = find(&module, 0x1004);
     are_equal(&rt, numbers(place), Some((Some(1), Some(4))));
     are_equal(&rt, place.map(|place| place.link()), Some(0x1004));
-    // past the end of the sequence
+    // after the end of the sequence
     are_equal(&rt, find(&module, 0x1010), None);
     are_equal(&rt, find(&module, 0xfff), None);
     Ok(())
 }
 
-/// The frames of `main`, and of `mid` inlined into it, from their innermost lines.
+/// The frames of `main`, and of `mid` inlined into it, at their innermost lines.
 const MAIN: Expected = (Some(b"main"), Some(b"/src/a.c"), 20);
 
 const MID: Expected = (Some(b"mid"), Some(b"/src/a.c"), 11);
@@ -41,7 +41,7 @@ fn frames_of_inlined_subroutines(rt: HostRuntime) -> Result<(), Fail> {
     answers(&rt, &module, 0x1004, &[leaf, mid, MAIN])?;
     let main: Expected = (Some(b"main"), Some(b"/src/a.c"), 10);
     answers(&rt, &module, 0x1000, &[main])?;
-    // the end of leaf is not of it
+    // the end of leaf is exclusive
     answers(&rt, &module, 0x1008, &[MID, MAIN])?;
     Ok(())
 }
@@ -56,7 +56,7 @@ fn a_row_alone_is_a_frame_without_a_name(rt: HostRuntime) -> Result<(), Fail> {
 
 #[test]
 fn the_first_covering_row_in_file_order(rt: HostRuntime) -> Result<(), Fail> {
-    // both sequences cover 0x1000 to 0x1010; the later one tells line 98
+    // both sequences cover 0x1000 to 0x1010; the later one has line 98
     let module = sample(rt.alloc(), two_sequences())?;
     let main: Expected = (Some(b"main"), Some(b"/src/a.c"), 12);
     answers(&rt, &module, 0x1000, &[main])?;
@@ -91,7 +91,7 @@ fn are_parts(rt: &impl Abort, path: Path<'_>) {
     are_equal(rt, path.next(), None);
 }
 
-/// Checks that segments and scan of an object tell the same place of each address.
+/// Checks that the segments and a linear scan of an object give the same place of each address.
 fn tell_the_same(rt: &(impl Abort + AllocGlobal), object: &[u8]) -> Result<(), Fail> {
     let module = sample(rt.alloc(), object)?;
     for link in 0xff0..0x1021 {

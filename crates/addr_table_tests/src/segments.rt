@@ -1,4 +1,4 @@
-//! Segments, the calls of the sweep, and compares.
+//! Segments, the calls of the sweep, and comparisons.
 
 use crate::fixtures::*;
 use addr_table::{AddressTable, Module, Segment, Steps};
@@ -8,7 +8,7 @@ use std::alloc::Global;
 use std::process::Abort;
 use std::test::*;
 
-/// Checks a segment: its ends, and the numbers of its row and its scope.
+/// Checks a segment: its endpoints, and the indexes of its row and its scope.
 fn is_segment(
     rt: &impl Abort,
     segment: Option<&Segment>,
@@ -32,7 +32,7 @@ fn segments_of_inlined_subroutines(rt: HostRuntime) -> Result<(), Fail> {
     is_segment(&rt, list.get(1), (0x1004, 0x1008), 1, 4);
     is_segment(&rt, list.get(2), (0x1008, 0x100c), 1, 3);
     is_segment(&rt, list.get(3), (0x100c, 0x1010), 1, 2);
-    // five ranges; chains of 1, 3, 2, 1 and 0 scopes at the five ends
+    // five ranges; chains of 1, 3, 2, 1 and 0 scopes at the five endpoints
     is_within(&rt, module.sweep_calls(), 10, 27);
     Ok(())
 }
@@ -77,7 +77,7 @@ const ABBREV: [u8; 17] = [
     0, 0, 0,
 ];
 
-/// A module of 2,000 subprograms from 0x1000 on, each of 16 bytes and right behind the one before.
+/// Builds a module of 2,000 contiguous subprograms of 16 bytes each, from 0x1000 on.
 fn touching(alloc: Global) -> Result<Module, LoadFault> {
     let mut entries = Vec::new(alloc);
     entries.push(1)?;
