@@ -1,4 +1,4 @@
-//! What an ask tells.
+//! Results of asks.
 
 use crate::fixtures::*;
 use dwarf_samples::{inlined, two_sequences};
@@ -55,7 +55,7 @@ fn a_module_may_know_nothing_of_an_address(rt: HostRuntime) -> Result<(), Fail> 
     let found = asked.found.ok_or("no module")?;
     are_equal(&rt, (found.at, found.place), (0, None));
     are_equal(&rt, modules.answer(asked).frames().next().is_none(), true);
-    // past the extent, and before it
+    // after the extent, and before it
     are_equal(&rt, modules.ask(0x12000).found, None);
     are_equal(&rt, modules.ask(0x10fff).found, None);
     are_equal(&rt, modules.ask(0x11fff).found.is_some(), true);

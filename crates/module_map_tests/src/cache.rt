@@ -1,4 +1,4 @@
-//! What the cache has, and that it changes no answer.
+//! The contents of the cache. It changes no answer.
 
 use crate::fixtures::*;
 use dwarf_samples::two_sequences;
@@ -6,7 +6,7 @@ use module_map::Modules;
 use std::process::Abort;
 use std::test::*;
 
-/// Asks the 16 addresses from one on, at most so many compares each.
+/// Asks 16 addresses from `from` on, each with at most `most` comparisons.
 fn ask_all(rt: &impl Abort, modules: &mut Modules, from: u64, most: u64) {
     for offset in 0..16 {
         let asked = modules.ask(from.saturating_add(offset));
@@ -36,7 +36,7 @@ fn a_small_cache_stays_small(rt: HostRuntime) -> Result<(), Fail> {
     modules.move_to("a", 0x20000)?;
     ask_all(&rt, &mut modules, 0x21000, 6);
     are_equal(&rt, modules.cached(), (4, 4));
-    // the last one is there
+    // the last one is cached
     modules.ask(0x2100f);
     are_equal(&rt, modules.steps().compares, 2);
     Ok(())
@@ -59,7 +59,7 @@ fn an_address_of_which_nothing_is_known_is_cached(rt: HostRuntime) -> Result<(),
     are_equal(&rt, modules.cached(), (1, 4));
     are_equal(&rt, line(&mut modules, 0x11010), None);
     are_equal(&rt, modules.steps().compares, 2);
-    // no module holds this one
+    // no module contains this one
     are_equal(&rt, line(&mut modules, 0x12010), None);
     are_equal(&rt, modules.cached(), (1, 4));
     Ok(())

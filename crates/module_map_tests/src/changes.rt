@@ -1,4 +1,4 @@
-//! Loads, unloads and moves, and why they are refused.
+//! Loads, unloads and moves, and the reasons for refusing them.
 
 use crate::fixtures::*;
 use dwarf_bytes::{Cause, LoadFault, Section};
@@ -13,7 +13,7 @@ fn a_name_is_taken_before_all_else(rt: HostRuntime) -> Result<(), Fail> {
     are_equal(&rt, again, Err(MapFault::NameTaken));
     let bad = modules.load("a", 0x10000, Vec::new(rt.alloc()));
     are_equal(&rt, bad, Err(MapFault::NameTaken));
-    // the bytes of the first load alone
+    // only the bytes of the first load
     are_equal(&rt, modules.steps().decoded, 703);
     lists(&rt, &modules, &[("a", 0x11000, 0x10000)]);
     Ok(())
@@ -27,7 +27,7 @@ fn an_object_with_a_fault(rt: HostRuntime) -> Result<(), Fail> {
         cause: Cause::Short,
         at: 0,
     };
-    // it would also meet the other, but its fault is told first
+    // it would also overlap the other one, but its fault is reported first
     let bad = modules.load("b", 0x10000, copy(rt.alloc(), &cut_abbreviations())?);
     are_equal(&rt, bad, Err(MapFault::Object(fault)));
     lists(&rt, &modules, &[("a", 0x11000, 0x10000)]);
@@ -67,7 +67,7 @@ fn an_overlap_tells_the_lowest_module_met(rt: HostRuntime) -> Result<(), Fail> {
     modules.load("b", 0x20800, copy(rt.alloc(), inlined())?)?;
     modules.load("c", 0x1f000, copy(rt.alloc(), inlined())?)?;
     modules.load("d", 0x10000, copy(rt.alloc(), inlined())?)?;
-    // meets c, at 0x20000 to 0x21000, and b, at 0x21800 to 0x22800
+    // overlaps c, at 0x20000 to 0x21000, and b, at 0x21800 to 0x22800
     let met = modules.load("e", 0x1ff00, copy(rt.alloc(), inlined())?);
     are_equal(&rt, met, Err(MapFault::Overlap(1)));
     are_equal(&rt, modules.list().nth(1).map(|module| module.0), Some("c"));

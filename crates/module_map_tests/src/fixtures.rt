@@ -1,4 +1,4 @@
-//! Modules for the tests, and what is expected of them.
+//! Modules for the tests, and checks of their answers.
 
 use dwarf_samples::inlined;
 use module_map::{Extent, MapFault, Modules};
@@ -7,26 +7,26 @@ use std::fmt::Debug;
 use std::process::Abort;
 use std::test::*;
 
-/// Checks that both are the same.
+/// Checks that both values are equal.
 pub fn are_equal<T: Copy + Debug + PartialEq>(rt: &impl Abort, told: T, wanted: T) {
     assert_eq!(rt; told, wanted);
 }
 
-/// The bytes of a sample.
+/// Copies the bytes of a sample.
 pub fn copy(alloc: Global, object: &[u8]) -> Result<Vec<u8>, AllocError> {
     let mut bytes = Vec::new(alloc);
     bytes.extend_from_slice(object)?;
     Ok(bytes)
 }
 
-/// The first sample at a base, alone, with a cache of so many entries.
+/// Loads only the first sample at a base, with a cache of `cache_entries` answers.
 pub fn one(alloc: Global, base: u64, cache_entries: usize) -> Result<Modules, Fail> {
     let mut modules = Modules::new(alloc, cache_entries)?;
     modules.load("a", base, copy(alloc, inlined())?)?;
     Ok(modules)
 }
 
-/// Where an object of 0x1000 bytes from a place lies.
+/// Returns the extent of an object of 0x1000 bytes from `low` on.
 pub fn from(low: u64) -> Result<Extent, MapFault> {
     Ok(Extent {
         low,
@@ -34,7 +34,7 @@ pub fn from(low: u64) -> Result<Extent, MapFault> {
     })
 }
 
-/// The line of the innermost frame at an address; none where nothing is known.
+/// Returns the line of the innermost frame at an address; `None` if there is no frame.
 pub fn line(modules: &mut Modules, address: u64) -> Option<u64> {
     let asked = modules.ask(address);
     let frame = modules.answer(asked).frames().next()?;

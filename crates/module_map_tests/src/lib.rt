@@ -1,4 +1,4 @@
-//! Tests of `module_map` over the sample objects, with answers worked out by hand.
+//! Tests of `module_map` on the sample objects, with hand-computed answers.
 #![tactic(auto)]
 
 #[cfg(test)]

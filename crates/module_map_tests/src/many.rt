@@ -1,4 +1,4 @@
-//! As many modules as may be loaded.
+//! The maximum number of modules.
 
 use crate::fixtures::*;
 use dwarf_samples::inlined;
@@ -6,7 +6,7 @@ use module_map::{MapFault, Modules};
 use std::alloc::Global;
 use std::test::*;
 
-/// Modules `m0` to `m4095` of the first sample, 0x1000 apart.
+/// Loads modules `m0` to `m4095` of the first sample, 0x1000 apart.
 fn all(alloc: Global) -> Result<Modules, Fail> {
     let mut modules = Modules::new(alloc, 0)?;
     for number in 0..4096u64 {
@@ -28,7 +28,7 @@ fn one_more_is_refused(rt: HostRuntime) -> Result<(), Fail> {
     are_equal(&rt, again, Err(MapFault::NameTaken));
     are_equal(&rt, modules.steps().decoded, decoded);
     are_equal(&rt, modules.list().count(), 4096);
-    // an unload makes room for one
+    // after an unload one more can be loaded
     modules.unload("m9")?;
     let more = modules.load("more", 0x9000, copy(rt.alloc(), inlined())?);
     are_equal(&rt, more, from(0xa000));

@@ -1,5 +1,5 @@
-//! A load beside another module, to be run with allocations refused in turn: whatever memory
-//! refuses, the other module answers as before, and no answer is wrong.
+//! A load while another module is loaded. The test is run with each allocation refused in turn. The
+//! other module then answers as before, and no answer is wrong.
 
 use crate::fixtures::*;
 use dwarf_samples::{inlined, two_sequences};
@@ -37,7 +37,7 @@ fn a_load_that_memory_refuses_changes_nothing(rt: HostRuntime) {
         lists(&rt, &modules, &[("b", 0x1000, 0), ("a", 0x11000, 0x10000)]);
         are_equal(&rt, line(&mut modules, 0x1000), Some(12));
     }
-    // with an entry that the cache has, and one that it has not
+    // with a cached answer, and one that is not cached
     are_equal(&rt, line(&mut modules, 0x11000), Some(10));
     are_equal(&rt, line(&mut modules, 0x11004), Some(11));
     are_equal(&rt, modules.move_to("a", 0x20000), from(0x21000));
