@@ -1,4 +1,4 @@
-//! What the words of a command line give.
+//! Options and refusals of command lines.
 
 use answer_text::Options;
 use clap::error::ErrorKind;
@@ -7,7 +7,7 @@ use std::alloc::{AllocError, Global};
 use std::process::Abort;
 use std::test::Fail;
 
-/// The words of a command line, behind the program's name.
+/// Returns a command line: the program's name, followed by these arguments.
 fn line(alloc: Global, words: &[&str]) -> Result<Vec<String>, AllocError> {
     let mut line = Vec::new(alloc);
     line.push(String::from_str(alloc, "addr2line_live")?)?;
@@ -17,7 +17,7 @@ fn line(alloc: Global, words: &[&str]) -> Result<Vec<String>, AllocError> {
     Ok(line)
 }
 
-/// What is asked for by words that are taken.
+/// Returns the options of arguments that are accepted.
 fn taken(rt: &impl Abort, alloc: Global, words: &[&str]) -> Result<Options, AllocError> {
     let line = line(alloc, words)?;
     match options(alloc, &line) {
@@ -26,7 +26,7 @@ fn taken(rt: &impl Abort, alloc: Global, words: &[&str]) -> Result<Options, Allo
     }
 }
 
-/// Checks that words are refused by the parser, for this kind of fault.
+/// Checks that the parser refuses the arguments with this kind of fault.
 fn is_usage(
     rt: &impl Abort,
     alloc: Global,
@@ -41,7 +41,7 @@ fn is_usage(
     Ok(())
 }
 
-/// Checks which word is told as no address.
+/// Checks which argument is reported as no address.
 fn is_no_address(
     rt: &impl Abort,
     alloc: Global,
