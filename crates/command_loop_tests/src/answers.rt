@@ -1,4 +1,4 @@
-//! The texts of answers, for each option.
+//! Output of answers with each option.
 
 use crate::fixtures::*;
 use std::test::*;

@@ -1,4 +1,4 @@
-//! A source that tells what it was asked.
+//! A source that reports the paths that it was asked for.
 
 ghost use Rattle.std.specs.Prelude.{map, Some, Err, string_bytes};
 ghost use Rattle.answer_text.specs.declared.faults.FetchFault.TheVariants.{File};
@@ -7,8 +7,8 @@ use answer_text::{FetchFault, Objects};
 use std::alloc::Global;
 use std::process::Abort;
 
-/// Has no file, and stores the paths that it was asked for. It stops the test if there is no memory
-/// for one, so that it tells all of them.
+/// A source without files that stores the paths that it was asked for. It stops the test if it
+/// cannot allocate memory for a path, so it reports all of them.
 #[derive(Drop)]
 pub struct AskedPaths<'a, A: Abort> {
     rt: &'a A,

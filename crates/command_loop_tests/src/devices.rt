@@ -1,13 +1,13 @@
-//! Devices of fixed memory, which tell their bytes and fail where they are told to.
+//! Devices with fixed memory, whose bytes a contract can name and which fail on request.
 
 ghost use Rattle.std.specs.Prelude.{◌≡◌, ◌≤◌, Some, take, length};
 
 use answer_text::{DeviceFault, Feed, Sink};
 
-/// The most bytes that a `Paper` holds.
+/// The maximum capacity of a `Paper` in bytes.
 const ROOM: usize = 16384;
 
-/// Reads from a slice, so many bytes at a time, and fails once `until` bytes were read.
+/// A reader of a slice that returns at most `most` bytes at a time and fails after `until` bytes.
 #[derive(Drop)]
 pub struct Script<'a> {
     pub input: &'a [u8],
@@ -49,7 +49,7 @@ impl<'a> Feed for Script<'a> {
     }
 }
 
-/// Holds what is written, up to `room` bytes, and fails to flush once `flushes` is 0.
+/// A writer that stores up to `room` bytes, and fails to flush when `flushes` is 0.
 #[derive(Drop)]
 pub struct Paper {
     held: [u8; 16384],
@@ -57,7 +57,7 @@ pub struct Paper {
     failures: u64,
     pub room: usize,
     pub flushes: u64,
-    /// Whether a write past the room takes no byte, where it does not fail.
+    /// Whether a write beyond `room` accepts no byte instead of failing.
     pub is_stuck: bool,
     ghost within: { len ≤ 16384 },
 }

@@ -1,4 +1,4 @@
-//! Runs whose devices fail, or for which there is no memory.
+//! Runs with failing devices or without enough memory.
 
 use crate::devices::{Paper, Script};
 use crate::fixtures::*;
@@ -20,10 +20,10 @@ const REPLIES: [&[u8]; 5] = [
     b"unloaded a\n",
 ];
 
-/// What is written where there is no memory for the object.
+/// The output if there is no memory for the object.
 const WITHOUT_MEMORY: &[u8] = b"refused memory\n??:0\nrefused no-module\n??:0\nrefused no-module\n";
 
-/// Whether a text is the first so many replies.
+/// Returns whether the output is exactly the first `count` replies.
 fn is_first_replies(text: &[u8], count: usize) -> bool {
     let mut rest = text;
     for reply in REPLIES.iter().take(count) {
@@ -35,7 +35,7 @@ fn is_first_replies(text: &[u8], count: usize) -> bool {
     rest.is_empty()
 }
 
-/// The options of these runs: a cache of four answers.
+/// Returns the options of these runs: a cache of four answers.
 fn small(alloc: Global) -> Options {
     let mut options = Options::plain(alloc);
     options.cache = 4;
@@ -56,8 +56,8 @@ fn nothing_fails(rt: HostRuntime) {
     assert!(rt; is_first_replies(writer.text(), 5));
 }
 
-/// Which of its three outcomes a run has where an allocation may be refused: all replies, those
-/// without the object, or none.
+/// Returns which of its three outcomes a run has if an allocation may fail: all replies, the
+/// replies without the object, or none.
 fn outcome_without_memory(run: Result<(), RunFault>, text: &[u8]) -> &'static str {
     match run {
         Ok(()) if is_first_replies(text, 5) => "all replies",
@@ -67,7 +67,7 @@ fn outcome_without_memory(run: Result<(), RunFault>, text: &[u8]) -> &'static st
     }
 }
 
-/// Any allocation may be refused, by the way in which the tests are run: the outcome is printed.
+/// The test runner can make any allocation fail; the outcome is printed.
 #[test]
 fn memory_fails(rt: HostRuntime) -> Result<(), Fail> {
     let alloc = rt.alloc();
@@ -80,7 +80,7 @@ fn memory_fails(rt: HostRuntime) -> Result<(), Fail> {
     Ok(())
 }
 
-/// The cache is made for as many answers as the options say.
+/// The cache is allocated for as many answers as the options request.
 #[test]
 fn a_cache_of_more_answers_than_memory_has(rt: HostRuntime) {
     let alloc = rt.alloc();
@@ -130,7 +130,7 @@ fn a_flush_fails(rt: HostRuntime) {
     }
 }
 
-/// How many bytes of the script are read when each of its replies is made.
+/// The number of bytes of the script that are read before each of its replies.
 const ENDS: [usize; 5] = [17, 23, 38, 44, 53];
 
 #[test]
@@ -166,7 +166,8 @@ fn flushes_each_reply_before_it_reads_on(rt: HostRuntime) {
     assert!(rt; !reader.is_early);
 }
 
-/// Each reply is one write here, and is flushed before the next, though all lines come at once.
+/// Each reply is a single write here. It is flushed before the next one, although all lines come at
+/// once.
 #[test]
 fn flushes_each_reply_to_lines_of_one_piece(rt: HostRuntime) {
     let alloc = rt.alloc();

@@ -1,4 +1,4 @@
-//! Runs over devices of fixed memory, and what is expected of them.
+//! Runs over devices with fixed memory, and checks of their output.
 
 use crate::devices::{Paper, Script};
 use crate::shelf::Shelf;
@@ -8,12 +8,12 @@ use std::alloc::Global;
 use std::process::Abort;
 use std::test::*;
 
-/// A command that most runs begin with, and its reply.
+/// The first command of most runs, and its reply.
 pub const LOAD: &[u8] = b"load a 0x10000 A\n";
 
 pub const LOADED: &[u8] = b"loaded a 0x0000000000011000-0x0000000000012000\n";
 
-/// The options of these letters, `l` being linkage names.
+/// Returns the options for these letters; `l` means linkage names.
 pub fn options(alloc: Global, letters: &[u8]) -> Options {
     let mut options = Options::plain(alloc);
     options.addresses = letters.contains(&b'a');
@@ -25,7 +25,7 @@ pub fn options(alloc: Global, letters: &[u8]) -> Options {
     options
 }
 
-/// What comes of a run over these devices.
+/// Returns the outcome of a run over these devices.
 pub fn outcome(
     alloc: Global,
     options: &Options,
@@ -35,7 +35,7 @@ pub fn outcome(
     run(alloc, options, reader, writer, &mut Shelf::new(alloc))
 }
 
-/// Compares what is written for an input, in pieces of several sizes and with several caches.
+/// Compares the output for an input that is read in pieces of several sizes, with several caches.
 pub fn compare(rt: &impl Abort, options: &mut Options, alloc: Global, input: &[u8], wanted: &[u8]) {
     for (most, cache) in [(1, 0), (7, 1), (4096, 1024)] {
         options.cache = cache;
@@ -46,12 +46,12 @@ pub fn compare(rt: &impl Abort, options: &mut Options, alloc: Global, input: &[u
     }
 }
 
-/// The same of a run that begins without a module.
+/// Does the same for a run that starts without a module.
 pub fn fresh(rt: &impl Abort, alloc: Global, letters: &[u8], input: &[u8], wanted: &[u8]) {
     compare(rt, &mut options(alloc, letters), alloc, input, wanted);
 }
 
-/// The same of a run that begins with the first sample object at 0x10000.
+/// Does the same for a run that starts with the first sample object at 0x10000.
 pub fn loaded(
     rt: &impl Abort,
     alloc: Global,
@@ -67,7 +67,7 @@ pub fn loaded(
     Ok(())
 }
 
-/// The same of two runs, of which one begins without a module and one with that object.
+/// Does the same for two runs: one starts without a module, the other with that object.
 pub fn refused(rt: &impl Abort, alloc: Global, input: &[u8], wanted: &[u8]) -> Result<(), Fail> {
     fresh(rt, alloc, b"", input, wanted);
     loaded(rt, alloc, b"", input, wanted)

@@ -1,18 +1,18 @@
-//! Objects with units and line programs of the 64-bit format, and with dropped code.
+//! Objects with units and line programs of the 64-bit format, and with dead code.
 
 use crate::fixtures::*;
 use dwarf_samples::{inlined, program_of_64_bits, unit_of_64_bits};
 use std::alloc::{AllocError, Global};
 use std::test::*;
 
-/// Puts a number of eight bytes behind others.
+/// Appends a number of eight bytes.
 fn put(bytes: &mut Vec<u8>, number: usize) -> Result<(), AllocError> {
     bytes.extend_from_slice(&(number as u64).to_le_bytes())?;
     Ok(())
 }
 
-/// The first sample object with another `.debug_info` and another `.debug_line`; what stands behind
-/// them moves.
+/// Builds the first sample object with another `.debug_info` and another `.debug_line`. The bytes
+/// after them move.
 fn with_sections(alloc: Global, info: &[u8], line: &[u8]) -> Result<Vec<u8>, AllocError> {
     let sample = inlined();
     let at_line = info.len().saturating_add(163);
@@ -36,17 +36,17 @@ fn with_sections(alloc: Global, info: &[u8], line: &[u8]) -> Result<Vec<u8>, All
     Ok(bytes)
 }
 
-/// The first sample object in the 64-bit format.
+/// Builds the first sample object in the 64-bit format.
 pub fn wide(alloc: Global) -> Result<Vec<u8>, AllocError> {
     with_sections(alloc, unit_of_64_bits(), &program_of_64_bits())
 }
 
-/// The same with the line program of 32 bits.
+/// Builds the same object with the line program in the 32-bit format.
 pub fn wide_unit(alloc: Global) -> Result<Vec<u8>, AllocError> {
     with_sections(alloc, unit_of_64_bits(), &inlined()[259..334])
 }
 
-/// The unit of 32 bits, and behind it that of 64.
+/// Builds an object with the unit in the 32-bit format, followed by the unit in the 64-bit format.
 pub fn both_units(alloc: Global) -> Result<Vec<u8>, AllocError> {
     let mut info = Vec::new(alloc);
     info.extend_from_slice(&inlined()[163..259])?;
@@ -54,7 +54,7 @@ pub fn both_units(alloc: Global) -> Result<Vec<u8>, AllocError> {
     with_sections(alloc, &info, &inlined()[259..334])
 }
 
-/// A reserved length in the place of the mark of the 64-bit format.
+/// Builds an object with a reserved length instead of the escape value of the 64-bit format.
 pub fn reserved_length(alloc: Global) -> Result<Vec<u8>, AllocError> {
     let mut unit = *unit_of_64_bits();
     unit[0] = 0xf0;

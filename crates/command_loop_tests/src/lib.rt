@@ -1,5 +1,4 @@
-//! Tests of `command_loop`: whole runs over the sample objects, with devices that fail where they
-//! are told to.
+//! Tests of `command_loop`: whole runs over the sample objects, with devices that fail on request.
 #![tactic(auto)]
 
 #[cfg(test)]

@@ -1,4 +1,4 @@
-//! What is refused, and how.
+//! Refusals and their reasons.
 
 use crate::fixtures::*;
 use std::test::*;
@@ -117,7 +117,7 @@ fn lines_and_references(rt: HostRuntime) -> Result<(), Fail> {
     )
 }
 
-/// The source is asked before the modules are looked at.
+/// The source is asked before the modules are checked.
 #[test]
 fn no_file_before_a_name_that_is_taken(rt: HostRuntime) -> Result<(), Fail> {
     loaded(

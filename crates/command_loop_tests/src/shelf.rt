@@ -1,4 +1,4 @@
-//! A source of the sample objects by their names.
+//! A source of the sample objects by name.
 
 ghost use Rattle.std.specs.Prelude.{None};
 
@@ -7,12 +7,12 @@ use answer_text::{FetchFault, Objects};
 use dwarf_samples::*;
 use std::alloc::{AllocError, Global};
 
-/// Gives the sample objects, and counts the questions. It does not tell them: whoever tells all of
-/// them cannot be out of memory.
+/// A source of the sample objects that counts the questions. It does not store them, so contracts
+/// cannot name them: a source that reports all of its questions must never run out of memory.
 #[derive(Drop)]
 pub struct Shelf {
     alloc: Global,
-    /// How often it was asked.
+    /// The number of questions.
     pub questions: u64,
 }
 
@@ -24,7 +24,7 @@ impl Shelf {
         }
     }
 
-    /// The bytes of a sample object.
+    /// Returns the bytes of a sample object.
     fn object(&self, path: &str) -> Option<Result<Vec<u8>, AllocError>> {
         let bytes = match path {
             "A" => *inlined(),
@@ -48,7 +48,8 @@ impl Shelf {
     }
 }
 
-/// The first sample with other texts of its two files, each with a NUL and the number 0 behind it.
+/// Returns the first sample with other bytes for the names of its two files. Each name is followed
+/// by a NUL and the number 0.
 fn with_files(files: &[u8; 10]) -> [u8; 703] {
     let mut object = *inlined();
     object[304..314].copy_from_slice(files);

@@ -1,4 +1,4 @@
-//! Runs whose source does not give the object: the replies are those without it.
+//! Runs whose source does not return the object. The replies are the ones without it.
 
 use crate::asked::AskedPaths;
 use crate::devices::{Paper, Script};
@@ -40,8 +40,8 @@ fn the_source_has_no_memory(rt: HostRuntime) {
     );
 }
 
-/// A `load` line that breaks no rule asks for its path once, in the order of the lines; no other
-/// line asks.
+/// A `load` line that breaks no rule asks for its path once, in the order of the lines. Other lines
+/// ask for nothing.
 #[test]
 fn each_load_asks_once(rt: HostRuntime) {
     let alloc = rt.alloc();

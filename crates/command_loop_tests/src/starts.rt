@@ -1,4 +1,4 @@
-//! Words, the object that is loaded first, statuses, and what is said on standard error.
+//! Arguments, the object of the command line, exit statuses, and the output on standard error.
 
 use crate::devices::{Paper, Script};
 use crate::fixtures::*;
@@ -8,7 +8,7 @@ use command_loop::program;
 use std::alloc::{AllocError, Global};
 use std::test::*;
 
-/// The words of a command line, behind the program's name.
+/// Returns a command line: the program's name, followed by these arguments.
 fn words(alloc: Global, texts: &[&str]) -> Result<Vec<String>, AllocError> {
     let mut words = Vec::new(alloc);
     words.push(String::from_str(alloc, "addr2line_live")?)?;
@@ -18,7 +18,8 @@ fn words(alloc: Global, texts: &[&str]) -> Result<Vec<String>, AllocError> {
     Ok(words)
 }
 
-/// The status of the program over input that cannot be read, and what it leaves on its writers.
+/// Returns the status of the program over input that cannot be read, and its output on both
+/// writers.
 fn unread(
     alloc: Global,
     texts: &[&str],

@@ -1,4 +1,4 @@
-//! A reader that hands out a line at a time, a writer whose flushes it sees, and a writer that
+//! A reader that returns one line at a time, a writer that counts flushes for it, and a writer that
 //! checks that each write is flushed before the next.
 
 ghost use Rattle.std.specs.Prelude.{None, length};
@@ -6,13 +6,13 @@ ghost use Rattle.std.specs.Prelude.{None, length};
 use answer_text::{DeviceFault, Feed, Sink};
 use std::cell::Cell;
 
-/// Hands out a line at a time, and looks whether each line before it was answered.
+/// A reader that returns one line at a time and checks whether each earlier line was answered.
 #[derive(Drop)]
 pub struct Turns<'a> {
     pub input: &'a [u8],
     pub flushes: &'a Cell<u64>,
     pub lines: u64,
-    /// Whether a line was asked for before the reply to the one before it was flushed.
+    /// Whether a line was read before the reply to the previous line was flushed.
     pub is_early: bool,
 }
 
@@ -40,7 +40,7 @@ impl<'a> Feed for Turns<'a> {
     }
 }
 
-/// Takes everything, and counts flushes.
+/// A writer that accepts everything and counts flushes.
 #[derive(Drop)]
 pub struct Bell<'a> {
     pub flushes: &'a Cell<u64>,
@@ -61,7 +61,8 @@ impl<'a> Sink for Bell<'a> {
     }
 }
 
-/// Takes everything, and notes whether something was written before the write before it was flushed.
+/// A writer that accepts everything and records whether a write came before the previous one was
+/// flushed.
 #[derive(Drop)]
 pub struct FlushCheck {
     pub writes: u64,
