@@ -1,15 +1,15 @@
-//! How fast addresses of a loaded module are asked.
+//! Measures the speed of asks for the addresses of a loaded module.
 
 use crate::finds::{ASKED, spread};
 use anyhow::Result;
 use module_map::{Extent, Modules};
 use std::time::Instant;
 
-/// How many addresses are asked again and again.
+/// The number of addresses that are asked repeatedly.
 const FEW: u64 = 16;
 
-/// Loads an object at the base 0, asks addresses spread over it, which the cache has not, and then
-/// sixteen of them again and again, which it has.
+/// Loads an object at base 0. Asks addresses spread over it, which are not cached, and then asks
+/// sixteen of them repeatedly, which are cached.
 pub fn measure_asks(rt: &HostRuntime, bytes: Vec<u8>) -> Result<()> {
     let mut modules = Modules::new(rt.alloc(), 1024)?;
     let extent = modules.load("module", 0, bytes)?;
@@ -28,8 +28,8 @@ pub fn measure_asks(rt: &HostRuntime, bytes: Vec<u8>) -> Result<()> {
     Ok(())
 }
 
-/// Asks the first so many of the addresses in turn, one at least; gives how often a place was
-/// known.
+/// Asks the first `kinds` addresses in turn, at least one. Returns the number of asks that found a
+/// place.
 fn ask_all(modules: &mut Modules, extent: Extent, kinds: u64) -> u64 {
     let mut places = 0u64;
     for n in 0..ASKED {

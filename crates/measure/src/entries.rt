@@ -1,4 +1,4 @@
-//! The abbreviation tables of an object's units, and the values of their entries.
+//! Reads the abbreviation tables of an object's units, and the values of their entries.
 
 use dwarf_bytes::{Cause, Cursor, Format, LoadFault, Object, Section};
 use dwarf_forms::{
@@ -6,10 +6,10 @@ use dwarf_forms::{
 };
 use std::alloc::Global;
 
-/// The most declarations of an object.
+/// The maximum number of declarations of an object.
 const DECLARATIONS: u64 = 4_194_304;
 
-/// What was read.
+/// The numbers of items that were read.
 #[derive(Clone, Copy, Debug)]
 pub struct Counts {
     pub units: u64,
@@ -18,7 +18,7 @@ pub struct Counts {
     pub values: u64,
 }
 
-/// A unit: where its entries start and end, and where its table stands.
+/// A unit: the start and the end of its entries, and the offset of its abbreviation table.
 #[derive(Clone, Copy, Debug)]
 struct Unit {
     format: Format,
@@ -48,7 +48,7 @@ pub fn read(alloc: Global, bytes: &[u8]) -> Result<Counts, LoadFault> {
     Ok(counts)
 }
 
-/// Reads the tables of all units so many times, and counts their declarations.
+/// Reads the tables of all units `rounds` times. Returns the number of declarations.
 pub fn count_declarations(alloc: Global, bytes: &[u8], rounds: u64) -> Result<u64, LoadFault> {
     let layout = Object::find(bytes)?;
     let abbrev = layout.debug_abbrev.of(bytes);
@@ -60,7 +60,7 @@ pub fn count_declarations(alloc: Global, bytes: &[u8], rounds: u64) -> Result<u6
     Ok(count)
 }
 
-/// Reads the table of each unit, and counts their declarations.
+/// Reads the table of each unit. Returns the number of declarations.
 fn read_tables(alloc: Global, abbrev: &[u8], units: &[Unit]) -> Result<u64, LoadFault> {
     let mut lists = no_lists(alloc, abbrev)?;
     let mut left = DECLARATIONS;
@@ -70,7 +70,7 @@ fn read_tables(alloc: Global, abbrev: &[u8], units: &[Unit]) -> Result<u64, Load
     Ok(DECLARATIONS.saturating_sub(left))
 }
 
-/// The lists of a section of which nothing was read.
+/// Returns the attribute lists of a section before any of them is read.
 fn no_lists(alloc: Global, abbrev: &[u8]) -> Result<KnownLists<'_>, LoadFault> {
     match KnownLists::new(alloc, abbrev) {
         Ok(lists) => Ok(lists),
@@ -78,7 +78,7 @@ fn no_lists(alloc: Global, abbrev: &[u8]) -> Result<KnownLists<'_>, LoadFault> {
     }
 }
 
-/// All units, one after the other.
+/// Returns all units in order.
 fn units(alloc: Global, info: &[u8]) -> Result<Vec<Unit>, LoadFault> {
     let mut units = Vec::new(alloc);
     let mut place = 0;
@@ -99,7 +99,7 @@ fn units(alloc: Global, info: &[u8]) -> Result<Vec<Unit>, LoadFault> {
     Ok(units)
 }
 
-/// The unit at a place; of other types than 1 and 3 without its entries.
+/// Reads the unit at an offset. A unit of a type other than 1 and 3 has no entries.
 fn read_unit(info: &[u8], place: usize) -> Result<Unit, Cause> {
     let mut cursor = Cursor::new(info);
     cursor.seek(place)?;
@@ -154,7 +154,7 @@ fn read_entries(
     }
 }
 
-/// The declaration that the entry at the cursor names, or none where a code 0 stands.
+/// Returns the declaration of the entry at the cursor, or `None` for the code 0.
 fn next_declaration<'a>(
     cursor: &mut Cursor<'_>,
     table: &'a AbbreviationTable,
@@ -169,7 +169,7 @@ fn next_declaration<'a>(
     Ok(table.declarations().get(place))
 }
 
-/// Reads the values of a declaration's own attributes, and of those that are known behind them.
+/// Reads the values of a declaration's own attributes, and of the memoized attributes after them.
 fn read_values(
     cursor: &mut Cursor<'_>,
     format: Format,

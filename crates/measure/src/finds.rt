@@ -1,21 +1,21 @@
-//! How fast addresses of an object are found, and their frames told.
+//! Measures the speed of finding addresses of an object and their frames.
 
 use addr_table::{Frame, Module, Steps};
 use anyhow::Result;
 use std::time::Instant;
 
-/// How many addresses are asked.
+/// The number of addresses that are asked.
 pub const ASKED: u64 = 1_000_000;
 
-/// A step that spreads the addresses: the golden ratio of 2^64.
+/// A step that spreads the addresses: 2^64 divided by the golden ratio.
 const STEP: u64 = 0x9e37_79b9_7f4a_7c15;
 
-/// What a pass over the addresses saw.
+/// The results of a pass over the addresses.
 #[derive(Clone, Copy, Debug)]
 struct Seen {
     places: u64,
     frames: u64,
-    /// Names, paths and lines, so that none of them is left out.
+    /// The total length of names and paths, so that reading them is not skipped.
     bytes: u64,
 }
 
@@ -47,7 +47,7 @@ pub fn measure_finds(rt: &HostRuntime, module: &Module) -> Result<()> {
     Ok(())
 }
 
-/// The n-th of addresses that lie all over the ones from low up to high, in no order.
+/// Returns the n-th address of a sequence that is spread over `low..high`, in no order.
 pub fn spread(low: u64, high: u64, n: u64) -> u64 {
     let size = high.wrapping_sub(low).max(1);
     low.wrapping_add(n.wrapping_mul(STEP) % size)
@@ -84,7 +84,7 @@ fn tell_all(module: &Module, steps: &mut Steps) -> Seen {
     seen
 }
 
-/// How many bytes the texts of a frame have.
+/// Returns the number of bytes of the strings of a frame.
 fn length(frame: &Frame<'_>) -> u64 {
     let mut length = frame.name().map_or(0, |name| name.len());
     if let Some(path) = frame.path() {

@@ -1,14 +1,14 @@
-//! The frames of the addresses of an object.
+//! Prints the frames of the addresses of an object.
 
 use addr_table::{Frame, Module, Steps};
 use anyhow::{Context, Result};
 use std::io::{self, BufWriter, Write};
 
-/// How many addresses are asked.
+/// The number of addresses that are asked.
 const ASKED: u64 = 10_000;
 
 /// Prints the frames of addresses that are spread over the object: a line with the address, and for
-/// each frame, the innermost first, a line with its name and its place in the source.
+/// each frame, innermost first, a line with its name and its source position.
 pub fn print_frames(rt: &HostRuntime, module: &Module) -> Result<()> {
     let mut out = BufWriter::new(rt.alloc(), io::writer(rt))?;
     let mut steps = Steps {
@@ -30,7 +30,7 @@ pub fn print_frames(rt: &HostRuntime, module: &Module) -> Result<()> {
     Ok(())
 }
 
-/// Prints a frame as `\tNAME\tPATH:LINE`, with `??` for what is unknown.
+/// Prints a frame as `\tNAME\tPATH:LINE`, with `??` for unknown values.
 fn print_frame<W: Write>(out: &mut W, frame: &Frame<'_>) -> Result<()> {
     out.write_all(b"\t")?;
     out.write_all(frame.name().unwrap_or(b"??"))?;

@@ -1,4 +1,4 @@
-//! The line programs of an object.
+//! Reads and prints the line programs of an object.
 
 use crate::scopes;
 use anyhow::{Context, Result};
@@ -7,7 +7,7 @@ use dwarf_lines::{LineTables, PathParts};
 use std::alloc::Global;
 use std::io::{self, BufWriter, Write};
 
-/// The line programs of an object.
+/// Reads the line programs of an object.
 pub fn read(alloc: Global, bytes: &[u8]) -> Result<LineTables, LoadFault> {
     let layout = Object::find(bytes)?;
     LineTables::read(
@@ -37,7 +37,8 @@ pub fn print_rows(rt: &HostRuntime, bytes: &[u8]) -> Result<()> {
     Ok(())
 }
 
-/// Prints the files of the programs that units name, each as `STMT_LIST NUMBER PATH`, with tabs.
+/// Prints the files of the programs that units refer to, each as `STMT_LIST NUMBER PATH`, with
+/// tabs.
 pub fn print_files(rt: &HostRuntime, bytes: &[u8]) -> Result<()> {
     let lines = read(rt.alloc(), bytes)?;
     let scopes = scopes::read(rt.alloc(), bytes)?;
@@ -71,7 +72,7 @@ fn print_program_files<W: Write>(
     Ok(())
 }
 
-/// Prints the parts of a path with slashes between them.
+/// Prints the parts of a path, joined by slashes.
 fn print_path<W: Write>(out: &mut W, bytes: &[u8], parts: &PathParts) -> Result<()> {
     let layout = Object::find(bytes)?;
     for (i, part) in parts.parts().iter().enumerate() {

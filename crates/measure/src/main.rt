@@ -1,17 +1,17 @@
-//! Measures the readers, and shows what they read:
-//! `measure leb FILE` reads the LEB128 numbers of a file from end to end,
+//! Measures the readers, and prints what they read:
+//! `measure leb FILE` reads all LEB128 numbers of a file,
 //! `measure lines OBJECT` reads the line programs of an object,
 //! `measure rows OBJECT` prints their rows,
 //! `measure declarations OBJECT` reads its abbreviation tables 1,000 times,
 //! `measure values OBJECT` reads the abbreviation tables and the values of all entries,
 //! `measure scopes OBJECT` reads its subprograms and inlined subroutines,
-//! `measure scope-table OBJECT` prints them,
-//! `measure files OBJECT` prints the files that they are called from,
-//! `measure module OBJECT` decodes it whole, from its tables to the index of its addresses,
-//! `measure finds OBJECT` then finds a million addresses, and tells their frames,
-//! `measure asks OBJECT` loads it, and asks a million addresses that are cached, and that are not,
+//! `measure scope-table OBJECT` prints these scopes,
+//! `measure files OBJECT` prints the files of the line programs of its units,
+//! `measure module OBJECT` decodes all of it, from its tables to the index of its addresses,
+//! `measure finds OBJECT` then finds a million addresses and their frames,
+//! `measure asks OBJECT` loads it, and asks a million cached and a million uncached addresses,
 //! `measure frames OBJECT` prints the frames of addresses spread over it, and
-//! `measure dump OBJECT` prints its rows, and then these.
+//! `measure dump OBJECT` prints its rows, and then these frames.
 #![tactic(auto)]
 
 mod asks;
@@ -134,7 +134,7 @@ fn measure_module(rt: &HostRuntime, bytes: Vec<u8>) -> Result<()> {
     Ok(())
 }
 
-/// The object of these bytes.
+/// Decodes an object.
 fn decoded(rt: &HostRuntime, bytes: Vec<u8>) -> Result<Module> {
     match Module::decode(rt.alloc(), bytes) {
         Ok(module) => Ok(module),

@@ -1,4 +1,4 @@
-//! The scopes of an object.
+//! Reads and prints the scopes of an object.
 
 use anyhow::{Context, Result};
 use dwarf_bytes::{LoadFault, Object, Section, text_at};
@@ -6,12 +6,12 @@ use dwarf_entries::{Range, Root, Scope, ScopeKind, Scopes, Sections, TextOffset}
 use std::alloc::Global;
 use std::io::{self, BufWriter, Write};
 
-/// The scopes of an object.
+/// Reads the scopes of an object.
 pub fn read(alloc: Global, bytes: &[u8]) -> Result<Scopes, LoadFault> {
     Scopes::read(alloc, &Sections::of(bytes, &Object::find(bytes)?))
 }
 
-/// How many ranges scopes have.
+/// Returns the number of ranges of all scopes.
 pub fn count_ranges(scopes: &Scopes) -> u64 {
     let mut count = 0u64;
     for scope in scopes.scopes() {
@@ -65,7 +65,7 @@ fn print_scope<W: Write>(
     Ok(())
 }
 
-/// Prints the bytes of a text.
+/// Prints the bytes of a string.
 fn print_text<W: Write>(
     out: &mut W,
     sections: &Sections<'_>,
@@ -86,7 +86,7 @@ fn print_text<W: Write>(
     Ok(())
 }
 
-/// Prints ranges with commas between them.
+/// Prints ranges, separated by commas.
 fn print_ranges<W: Write>(out: &mut W, ranges: &[Range]) -> Result<()> {
     if ranges.is_empty() {
         out.write_all(b"-")?;
@@ -100,7 +100,7 @@ fn print_ranges<W: Write>(out: &mut W, ranges: &[Range]) -> Result<()> {
     Ok(())
 }
 
-/// Prints a number.
+/// Prints a number, or `-` if it is absent.
 fn print_number<W: Write>(out: &mut W, number: Option<u64>) -> Result<()> {
     match number {
         Some(number) => write!(out, "{number}")?,
