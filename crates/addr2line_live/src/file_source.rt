@@ -1,4 +1,4 @@
-//! Objects that are read from files.
+//! Reads objects from files.
 
 ghost use Rattle.std.specs.Prelude.{◌≤◌, ◌^◌, IfOk, vec_len, None};
 
@@ -8,10 +8,10 @@ use std::fs;
 use std::io::Read;
 use std::rt::Files;
 
-/// The most bytes of an object.
+/// The maximum number of bytes of an object.
 const MAX_BYTES: usize = 1 << 30;
 
-/// Reads objects from files. It does not tell what it was asked.
+/// A source that reads objects from files. Contracts cannot name the paths that it was asked for.
 #[derive(Drop)]
 pub struct FileSource<'a, R: Files> {
     alloc: Global,
@@ -24,7 +24,7 @@ impl<'a, R: Files> FileSource<'a, R> {
     }
 }
 
-/// All bytes of a reader: too large over the limit of an object's bytes.
+/// Reads all bytes of a reader. Returns `FetchFault::TooLarge` if there are more than `MAX_BYTES`.
 fn read_object<F: Read>(alloc: Global, file: &mut F) -> Result<Vec<u8>, FetchFault>
     ensures { IfOk result (λ bytes. vec_len bytes ≤ 2 ^ 30) }
 {

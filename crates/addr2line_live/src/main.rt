@@ -1,4 +1,4 @@
-//! A symbolizer that stays up: addr2line over ELF-64 objects with DWARF 5. It reads commands and
+//! A long-running symbolizer: addr2line over ELF-64 objects with DWARF 5. It reads commands and
 //! addresses as lines from standard input, and replies to each on standard output before it reads
 //! more. Modules are loaded at a base, moved and unloaded while it runs.
 #![tactic(auto)]
@@ -11,8 +11,9 @@ mod tests;
 use std::process::ExitCode;
 use std::{env, io};
 
-/// Status 0 at the end of input, of the addresses among the words, or after help; 1 after a fault
-/// of the run; 2 where the words are refused, or are no UTF-8. Standard error tells why.
+/// Returns status 0 at the end of input, after the last address of the arguments, or after help; 1
+/// after a fault of the run; 2 if the arguments are refused or are not UTF-8. Standard error has
+/// the reason.
 fn main(rt: HostRuntime) -> ExitCode {
     match words(&rt) {
         Ok(words) => ExitCode::from(streams::serve(&rt, &words)),
@@ -23,7 +24,7 @@ fn main(rt: HostRuntime) -> ExitCode {
     }
 }
 
-/// Tells on standard error why there are no words.
+/// Reports on standard error why the arguments cannot be read.
 fn tell(rt: &HostRuntime, fault: &io::Error) -> io::Result<()> {
     if fault.kind() == io::ErrorKind::OutOfMemory {
         return eprintln!(rt; "addr2line_live: no memory");
@@ -31,7 +32,7 @@ fn tell(rt: &HostRuntime, fault: &io::Error) -> io::Result<()> {
     eprintln!(rt; "addr2line_live: {fault}")
 }
 
-/// The words of the command line, the first of which is the program's name.
+/// Returns the arguments of the command line, starting with the program's name.
 fn words(rt: &HostRuntime) -> io::Result<Vec<String>> {
     let words = env::args(rt)?.collect(rt.alloc())?;
     Ok(words)

@@ -4,9 +4,9 @@ use crate::file_source::FileSource;
 use answer_text::Device;
 use command_loop::program;
 
-/// Serves the words of the command line, the first of which is the program's name: standard input,
-/// with replies to standard output, what is wrong to standard error, and objects from files. The
-/// answer is the exit status.
+/// Runs the program with the arguments of the command line, which start with the program's name.
+/// Reads standard input, writes replies to standard output and faults to standard error, and loads
+/// objects from files. Returns the exit status.
 pub fn serve(rt: &HostRuntime, words: &[String]) -> u8 {
     let alloc = rt.alloc();
     let mut reader = Device::new(rt.stdin());
