@@ -21,8 +21,8 @@ fn owned(alloc: Global, text: Option<&str>) -> Result<Option<String>, AllocError
     }
 }
 
-/// Parses the options from the arguments of a command line, the first of which is the program's
-/// name. A request for help is returned as a refusal; its error contains the help.
+/// Parses the options from the arguments of a command line, which start with the program's name. A
+/// request for help is returned as a refusal; its error contains the help.
 pub fn options<'a>(alloc: Global, arguments: &'a [String]) -> Result<Options, CliFault<'a>>
     ensures { MatchResult result (AreOptions (map string_bytes arguments.entry.now))
         (IsRefused (map string_bytes arguments.entry.now)) }

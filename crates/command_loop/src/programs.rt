@@ -76,7 +76,7 @@ fn tell<W: Sink, E: Sink>(alloc: Global, error: &Error, writer: &mut W, errors: 
     }
 }
 
-/// Runs the program with the arguments of a command line, the first of which is the program's name.
+/// Runs the program with the arguments of a command line, which start with the program's name.
 /// Returns the exit status: 0 at the end of input, after the last address of the arguments, or
 /// after help; 1 after a fault of the run; 2 if the arguments are refused. Standard error has the
 /// reason. A failed write there is ignored.

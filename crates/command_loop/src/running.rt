@@ -27,7 +27,8 @@ pub fn run<R: Feed, W: Sink, O: Objects>(
     writer: &mut W,
     source: &mut O,
 ) -> Result<(), RunFault>
-    // The replies to all requests were written, and the source was asked only their questions.
+    // The replies to all requests were written. The source was asked only for the object of the
+    // command line and for the objects of these requests.
     ensures served { OnOk result
         (Served options.now (R.left reader.old) (R.left reader.new) (λ requests.
         Answers options.now (exe_of options.now) requests (O.asked source.old) (O.asked source.new)
