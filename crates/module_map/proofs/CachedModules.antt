@@ -94,7 +94,7 @@ module _ (hs : List NumberedModule) (loads : ℕ) (name : List ℕ) (base own : 
       moved_into hs loads name base own x at_own only hs' at extent l.2 l.1
       (clear_by extent at h clear) l.0 turn
 
-  -- the precondition of a rotation
+  -- the precondition of relocating a module
   pub gap_by : (extent : Extent) (at : ℕ) → LiesAt extent (moved_to base x.loaded)
       → IsClear hs own extent.low extent.high at
       → (d : NumberedModule)

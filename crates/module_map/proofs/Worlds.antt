@@ -113,7 +113,7 @@ placed_at (x ∷ xs) (suc at) h le before after =
     (placed_at xs at h (omega arith) (λ k d lt. before (suc k) d (omega arith))
     (λ d lt. after d (omega arith))))
 
--- a gap is the index in ascending order of address
+-- inserting a module into a gap is inserting it in ascending order of address
 pub placed_in : (hs : List NumberedModule) (at : ℕ) (h : NumberedModule)
     → IsClear hs (length hs) (start_of h.loaded) (end_of h.loaded) at
     → start_of h.loaded < end_of h.loaded

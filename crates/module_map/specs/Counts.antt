@@ -39,7 +39,8 @@ abbrev pub CachesAnswer : ModuleMap → ModuleMap → Type 0
 CachesAnswer old new =
     (new.capacity ≡ old.capacity) × (old.cached ≤ new.cached) × (new.cached ≤ old.cached + 1)
 
--- the decoded bytes after a load; only an object that was decoded adds its bytes
+-- the decoded bytes after a load; the bytes of an object count unless the load is refused before
+-- decoding
 abbrev pub decoded_after : ℕ → ℕ → Result Extent MapFault → ℕ
 decoded_after decoded count (Err NameTaken) = decoded
 decoded_after decoded count (Err Full) = decoded
