@@ -47,4 +47,5 @@ pub mod WalkLaws
 pub mod ChainEnds
 pub mod FrameTurns
 pub mod FaultLaws
+pub mod FewLaws
 pub mod SegmentLaws

@@ -1,8 +1,7 @@
 -- The segments of bytes: they are disjoint and few, and agree with a linear scan.
 use Rattle.std.proofs.Common.{◌≡◌, ℕ, ◌+◌, ◌*◌, ◌≤◌, List, [], length, refl, arith}
-use Rattle.std.specs.Prelude.{Option, None, Result, Ok, Err, sum_by}
+use Rattle.std.specs.Prelude.{None, Result, Ok, Err, sum_by}
 use Rattle.dwarf_bytes.specs.declared.fault.LoadFault.{LoadFault}
-use Rattle.addr_table.specs.declared.place.Place.{Place}
 use Rattle.addr_table.specs.Decoded.{Decoded, decoded}
 use Rattle.addr_table.specs.Places.{place_at}
 use Rattle.addr_table.specs.Cuts.{Cut, AreDisjoint, cuts_of, place_among}
