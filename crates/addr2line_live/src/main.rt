@@ -3,10 +3,7 @@
 //! more. Modules are loaded at a base, moved and unloaded while it runs.
 #![tactic(auto)]
 
-mod file_source;
 mod streams;
-#[cfg(test)]
-mod tests;
 
 use std::process::ExitCode;
 use std::{env, io};

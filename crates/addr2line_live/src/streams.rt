@@ -1,8 +1,6 @@
 //! The standard streams and the file system as the devices of a run.
 
-use crate::file_source::FileSource;
-use answer_text::Device;
-use command_loop::program;
+use command_loop::{Device, FileSource, program};
 
 /// Runs the program with the arguments of the command line, which start with the program's name.
 /// Reads standard input, writes replies to standard output and faults to standard error, and loads

@@ -3,6 +3,12 @@ use Rattle.std.specs.Prelude.{◌≡◌, ℕ, ◌+◌, ◌-◌, ◌^◌, min, Li
 use Rattle.std.specs.Prelude.{Result, Ok, Err, Vec, if◌then◌else◌, ◌==◌, ⊤}
 use Rattle.std.specs.Io.KnownBytes.{Appends}
 
+-- a reader or writer, how many reads of some bytes it may still do, and its number of failures
+pub record DeviceState (T : Type 0) : Type 0 where
+  pub inner : T
+  pub reads_left : ℕ
+  pub failures : ℕ
+
 -- one more, up to the greatest u64
 abbrev pub one_more : ℕ → ℕ
 one_more n = min (n + 1) (2 ^ 64 - 1)

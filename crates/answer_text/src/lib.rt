@@ -2,6 +2,7 @@
 //! options of an answer.
 #![tactic(auto)]
 
+mod device;
 mod devices;
 mod faults;
 mod frame_text;
@@ -11,7 +12,8 @@ mod paths;
 mod pending;
 mod printing;
 
-pub use devices::{Device, DeviceFault, Feed, Objects, Sink};
+pub use device::Device;
+pub use devices::{DeviceFault, Feed, Objects, Sink};
 pub use faults::{ExeFault, FetchFault, RunFault};
 pub use numerals::{address_text, parse_number};
 pub use options::Options;

@@ -33,7 +33,7 @@ fn linkage(alloc: Global) -> Arg<'static>
 {
     Arg::new(alloc, "linkage")
         .long("linkage")
-        .help("Print linkage names where there are any")
+        .help("Print linkage names if there are any")
         .action(ArgAction::SetTrue)
 }
 
@@ -46,7 +46,7 @@ fn exe(alloc: Global) -> Arg<'static>
         .short('e')
         .long("exe")
         .value_name("FILE")
-        .help("Load FILE first, under the name exe at base 0")
+        .help("Load FILE first, as module exe at base 0")
         .action(ArgAction::Set)
 }
 
@@ -58,7 +58,7 @@ fn cache<'a>(alloc: Global) -> Arg<'a>
     Arg::new(alloc, "cache")
         .long("cache")
         .value_name("N")
-        .help("Keep N answers, 0 to 65536 [default: 1024]")
+        .help("Cache N answers, 0 to 65536 [default: 1024]")
         .action(ArgAction::Set)
         .value_parser(clap::value_parser!(u32).range(0..=65536))
 }
@@ -70,7 +70,7 @@ fn addresses(alloc: Global) -> Arg<'static>
 {
     Arg::new(alloc, "words")
         .value_name("ADDR")
-        .help("Answer these addresses, and read no input")
+        .help("Answer these addresses instead of reading standard input")
         .action(ArgAction::Append)
 }
 
@@ -90,7 +90,7 @@ fn command<'a>(alloc: Global) -> Result<Command<'a>, AllocError>
             alloc,
             'i',
             "inlines",
-            "Print the callers into which it was inlined",
+            "Print the callers into which the code was inlined",
         ))?
         .arg(flag(alloc, 'p', "pretty-print", "Print each frame on one line"))?
         .arg(flag(alloc, 's', "basenames", "Print base names of files"))?

@@ -2,18 +2,18 @@
 
 /// A description of the program.
 pub const ABOUT: &str =
-    "Tells the function, file and line of addresses of a running program, for as long as it runs.";
+    "Converts run-time addresses to functions, files and lines while modules are loaded and unloaded.";
 
-/// The commands of the input, with an example.
+/// The commands on standard input, with an example.
 pub const COMMANDS: &str = "\
-Without ADDR, commands are read, one a line, and each is answered at once:
-  load NAME BASE PATH   load the object of PATH, so that its address 0 stands at BASE
-  unload NAME           forget it
-  move NAME BASE        put it at another base
-  list                  tell what is loaded, and then end
-  ADDR                  tell where a run-time address is: FILE:LINE
+Without ADDR, commands are read from standard input, one a line. Each is answered at once:
+  load NAME BASE PATH   load the object file PATH, with its link address 0 at BASE
+  unload NAME           unload a module
+  move NAME BASE        move a module to another base
+  list                  list the modules by address, then print end
+  ADDR                  print FILE:LINE for a run-time address
 BASE and ADDR are hexadecimal, with or without 0x. NAME has letters, digits, '_', '-' and '.'.
-What cannot be done is answered by a line that begins with refused, and changes nothing.
+A command that fails gets a reply that begins with refused, and changes nothing.
 
 Example:
   $ printf 'load app 0x400000 ./app\\n401136\\n' | addr2line_live -f -i

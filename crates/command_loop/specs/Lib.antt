@@ -4,4 +4,5 @@ pub mod Devices
 pub mod Replies
 pub mod Text
 pub mod Output
+pub mod Prelude
 pub mod Private

@@ -5,6 +5,7 @@ use Rattle.dwarf_bytes.specs.declared.fault.LoadFault.{LoadFault}
 use Rattle.module_map.specs.Listing.{Listed}
 use Rattle.module_map.specs.declared.faults.MapFault.{MapFault}
 use Rattle.module_map.specs.declared.faults.MapFault.TheVariants as modules
+use Rattle.module_map.specs.Words.{map_word}
 use Rattle.answer_text.specs.Numerals.{address_text}
 use Rattle.answer_text.specs.Text.{answer_text}
 use Rattle.answer_text.specs.declared.options.Options.{Options}
@@ -30,13 +31,9 @@ object_text fault =
 
 -- why the modules are not changed, and the name of the module that one would overlap
 abbrev pub map_words : MapFault → List ℕ → List ℕ
-map_words modules.NameTaken met = codes "name-taken"
-map_words modules.NoModule met = codes "no-module"
-map_words modules.Full met = codes "full"
 map_words (modules.Object fault) met = object_text fault
-map_words modules.Range met = codes "range"
-map_words (modules.Overlap place) met = codes "overlap " ++ met
-map_words modules.Memory met = codes "memory"
+map_words (modules.Overlap index) met = codes "overlap " ++ met
+map_words fault met = map_word fault
 
 abbrev pub refused : List ℕ → List ℕ
 refused words = codes "refused " ++ words ++ 10 ∷ []

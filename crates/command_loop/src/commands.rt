@@ -9,6 +9,7 @@ ghost use Rattle.command_loop.specs.Requests.{move_of, list_of, checked_load, ch
 ghost use Rattle.command_loop.specs.Requests.{request_of_fields, address_of, is_name_byte};
 ghost use Rattle.answer_text.specs.Numbers.{number};
 ghost use Rattle.command_loop.specs.Private.Commands.{parsed, cut_parts};
+ghost use Rattle.command_loop.specs.Text.{line_word};
 
 use answer_text::parse_number;
 use bstr::ByteSlice;
@@ -16,25 +17,36 @@ use thiserror::Error;
 
 /// The reason why a line is not a command.
 #[derive(Clone, Copy, Debug, PartialEq, Eq, Error)]
+#[error("{}", self.word())]
 pub enum BadLine {
     /// The line has more than 4,096 bytes.
-    #[error("long-line")]
     LongLine = 1,
     /// The first field names no command, and the line is not a single number.
-    #[error("command")]
     Command = 2,
     /// The line has too few or too many fields.
-    #[error("fields")]
     Fields = 3,
     /// A name does not consist of 1 to 64 letters, digits, `_`, `-` and `.`.
-    #[error("name")]
     Name = 4,
     /// A number does not consist of 1 to 16 hexadecimal digits.
-    #[error("number")]
     Number = 5,
     /// A path is empty, contains a NUL, or is not UTF-8.
-    #[error("path")]
     Path = 6,
+}
+
+impl BadLine {
+    /// Returns the word after `refused` in the reply.
+    pub fn word(self) -> &'static str
+        ensures { result.now ≡ line_word self }
+    {
+        match self {
+            BadLine::LongLine => "long-line",
+            BadLine::Command => "command",
+            BadLine::Fields => "fields",
+            BadLine::Name => "name",
+            BadLine::Number => "number",
+            BadLine::Path => "path",
+        }
+    }
 }
 
 /// The command of a line.

@@ -4,6 +4,7 @@
 #![tactic(auto)]
 
 mod commands;
+mod file_source;
 mod line_buffer;
 mod programs;
 mod replies;
@@ -18,6 +19,7 @@ pub use answer_text::{
 };
 pub use command_line::{CliFault, options};
 pub use commands::{BadLine, Command, parse_line};
+pub use file_source::FileSource;
 pub use module_map::{Answer, Asked, Extent, Frame, Frames, LoadFault, MapFault, Modules, Path};
 pub use programs::program;
 pub use running::run;

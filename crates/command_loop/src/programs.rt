@@ -1,49 +1,26 @@
 //! The program over its I/O streams. It parses the arguments, runs, and returns the exit status.
 //! Faults are reported on standard error.
 
-use crate::replies::{write_object_refusal, write_refusal};
 use crate::running::run;
-use answer_text::{DeviceFault, ExeFault, Feed, Objects, Options, RunFault, Sink, write_texts};
+use answer_text::{DeviceFault, Feed, Objects, RunFault, Sink, write_texts};
+use arrayvec::ArrayString;
 use clap::Error;
 use command_line::{CliFault, options};
-use module_map::MapFault;
 use std::alloc::Global;
+use std::fmt::Write;
 
 /// The prefix of each message on standard error.
 const NAME: &[u8] = b"addr2line_live: ";
 
-fn write_message<E: Sink>(message: &str, errors: &mut E) -> Result<(), DeviceFault> {
-    let texts: [&[u8]; 3] = [NAME, message.as_bytes(), b"\n"];
-    write_texts(&texts, errors)
-}
-
-/// Writes why the object of the command line is not loaded, in the words of a reply. No other
-/// module is loaded, so it overlaps none.
-fn write_exe_fault<E: Sink>(fault: ExeFault, errors: &mut E) -> Result<(), DeviceFault> {
-    write_texts(&[NAME], errors)?;
-    let fault = match fault {
-        ExeFault::NotFetched(fault) => return write_refusal(fault.word(), errors),
-        ExeFault::NotLoaded(fault) => fault,
-    };
-    match fault {
-        MapFault::Object(fault) => write_object_refusal(&fault, errors),
-        MapFault::Range => write_refusal("range", errors),
-        _ => write_refusal("memory", errors),
-    }
-}
-
-fn write_fault<E: Sink>(fault: RunFault, errors: &mut E) -> Result<(), DeviceFault> {
-    match fault {
-        RunFault::Reading => write_message("reading failed", errors),
-        RunFault::Writing => write_message("writing failed", errors),
-        RunFault::Memory => write_message("no memory", errors),
-        RunFault::Exe(fault) => write_exe_fault(fault, errors),
-    }
-}
+/// The capacity for the message of a run fault. The longest message is the refusal of an object,
+/// with at most 73 bytes.
+const LONGEST_MESSAGE: usize = 128;
 
 /// Writes why the run ended to standard error, and returns status 1. A failed write is ignored.
 fn end<E: Sink>(fault: RunFault, errors: &mut E) -> u8 {
-    let _ = write_fault(fault, errors);
+    let mut message = ArrayString::<LONGEST_MESSAGE>::new();
+    let _ = write!(message, "{fault}");
+    let _ = write_texts(&[NAME, message.as_bytes(), b"\n"], errors);
     let _ = errors.flush();
     1
 }

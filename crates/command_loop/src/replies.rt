@@ -5,31 +5,16 @@ ghost use Rattle.answer_text.specs.Devices.{failures_after, Writes};
 ghost use Rattle.answer_text.specs.Pending.{Puts};
 ghost use Rattle.module_map.specs.Listing.{Listed, listed};
 ghost use Rattle.command_loop.specs.Private.Serving.{reply_of, IsCurrent};
-ghost use Rattle.command_loop.specs.Text.{line_word, map_words, object_text, refused};
+ghost use Rattle.command_loop.specs.Text.{map_words, object_text, refused};
 ghost use Rattle.command_loop.specs.Text.{done_at, unloaded, module_text, list_text, text};
 ghost use Rattle.command_loop.specs.Replies.{met_name};
 ghost use Rattle.module_map.specs.World.{name_at};
 
-use crate::commands::BadLine;
 use crate::serving::Done;
 use answer_text::{DeviceFault, Options, Pending, Sink, address_text, print, write_texts};
 use dwarf_bytes::LoadFault;
 use itoa::Buffer;
 use module_map::{Extent, Listing, MapFault, Modules};
-
-/// Returns the word for a line that is not a command.
-fn line_word(bad: BadLine) -> &'static str
-    ensures { result.now ≡ line_word bad }
-{
-    match bad {
-        BadLine::LongLine => "long-line",
-        BadLine::Command => "command",
-        BadLine::Fields => "fields",
-        BadLine::Name => "name",
-        BadLine::Number => "number",
-        BadLine::Path => "path",
-    }
-}
 
 /// Writes a refusal with one word.
 pub fn write_refusal<W: Sink>(word: &str, writer: &mut W) -> Result<(), DeviceFault>
@@ -87,13 +72,9 @@ fn write_map_refusal<W: Sink>(
     ensures failures { W.failures writer.new ≡ failures_after (W.failures writer.old) result }
 {
     match fault {
-        MapFault::NameTaken => write_refusal("name-taken", writer),
-        MapFault::NoModule => write_refusal("no-module", writer),
-        MapFault::Full => write_refusal("full", writer),
         MapFault::Object(fault) => write_object_refusal(&fault, writer),
-        MapFault::Range => write_refusal("range", writer),
-        MapFault::Overlap(place) => write_overlap(name_at(modules, place), writer),
-        MapFault::Memory => write_refusal("memory", writer),
+        MapFault::Overlap(index) => write_overlap(name_at(modules, index), writer),
+        _ => write_refusal(fault.word(), writer),
     }
 }
 
@@ -201,7 +182,7 @@ pub fn write_reply<W: Sink>(
     ensures failures { W.failures writer.new ≡ failures_after (W.failures writer.old) result }
 {
     match done {
-        Done::Unreadable(bad) => write_refusal(line_word(*bad), writer),
+        Done::Unreadable(bad) => write_refusal(bad.word(), writer),
         Done::NotFetched(fault) => write_refusal(fault.word(), writer),
         Done::Refused(fault) => write_map_refusal(modules, *fault, writer),
         Done::LoadedAt(name, extent) => write_done_at(b"loaded ", name, extent, writer),

@@ -118,6 +118,16 @@ fn a_name_stands_in_for_a_linkage_name(rt: HostRuntime) -> Result<(), Fail> {
     loaded(&rt, rt.alloc(), b"fl", b"11008\n", b"mid\n/src/a.c:11\n")
 }
 
+/// The linkage name of the sample begins with a control character, which is printed as `?`.
+#[test]
+fn linkage_names_come_first_if_asked_for(rt: HostRuntime) {
+    let load = b"load a 0 linkage\n1004\n";
+    let named = b"loaded a 0x0000000000001000-0x0000000000002000\nmid\n/src/a.c:11\n";
+    let linked = b"loaded a 0x0000000000001000-0x0000000000002000\n?leaf\n/src/a.c:11\n";
+    fresh(&rt, rt.alloc(), b"f", load, named);
+    fresh(&rt, rt.alloc(), b"fl", load, linked);
+}
+
 #[test]
 fn control_characters_are_question_marks(rt: HostRuntime) {
     fresh(

@@ -12,9 +12,13 @@ mod devices;
 #[cfg(test)]
 mod failures;
 #[cfg(test)]
+mod files;
+#[cfg(test)]
 mod fixtures;
 #[cfg(test)]
 mod formats;
+#[cfg(test)]
+mod messages;
 #[cfg(test)]
 mod refusals;
 #[cfg(test)]

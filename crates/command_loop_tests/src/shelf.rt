@@ -36,6 +36,7 @@ impl Shelf {
             "A6" => call_file_outside(),
             "A7" => cut_line_program(),
             "A8" => origin_of_no_entry(),
+            "linkage" => with_linkage_name(),
             "control" => with_files(b"a.\0\0a\x01.c\0\0"),
             "slash" => with_files(b"a\0\0/src/\0\0"),
             "dropped main" => dropped_main(),

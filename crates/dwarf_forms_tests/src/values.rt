@@ -208,3 +208,17 @@ fn refused_forms(rt: HostRuntime) {
         has_fault(&rt, form, &[0; 16], ValueFault::Form);
     }
 }
+
+#[test]
+fn prints_value_faults(rt: HostRuntime) -> Result<(), Fail> {
+    let messages = [
+        (ValueFault::Read(ReadFault::Short), "short"),
+        (ValueFault::Read(ReadFault::Leb), "leb"),
+        (ValueFault::Read(ReadFault::Unterminated), "unterminated"),
+        (ValueFault::Form, "form"),
+    ];
+    for (fault, message) in messages {
+        assert_eq!(rt; fault.to_string(rt.alloc())?.as_str(), message);
+    }
+    Ok(())
+}

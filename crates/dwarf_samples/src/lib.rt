@@ -13,5 +13,5 @@ pub use second::two_sequences;
 pub use variants::{
     call_file_outside, circular_origins, cut_abbreviations, cut_line_program, dropped_main,
     dropped_mid, dropped_sequence, leaf_without_code, many_directories_without_a_format,
-    open_dropped_sequence, origin_of_no_entry, version_four,
+    open_dropped_sequence, origin_of_no_entry, version_four, with_linkage_name,
 };

@@ -101,3 +101,15 @@ fn with_ones(place: usize) -> [u8; 703]
     }
     object
 }
+
+/// The abstract origin of both inlined subroutines is the entry at 25, which has the name `mid` and
+/// the linkage name `\x04leaf`. Their call line is of form `data2`, without a call file.
+pub fn with_linkage_name() -> [u8; 703] {
+    let mut object = *inlined();
+    object[140..162].copy_from_slice(&[
+        0x03, 0x1d, 0x01, 0x31, 0x13, 0x11, 0x01, 0x12, 0x06, 0x59, 0x05, 0x00, 0x00, 0x04, 0x2e,
+        0x00, 0x03, 0x08, 0x6e, 0x08, 0x00, 0x00,
+    ]);
+    object[237] = 0x19;
+    object
+}

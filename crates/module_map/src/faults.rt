@@ -2,8 +2,10 @@
 
 ghost use Rattle.std.specs.Prelude.{◌≡◌};
 ghost use Rattle.module_map.specs.Private.Refusals.{refusal_of};
+ghost use Rattle.module_map.specs.Words.{map_word};
 
 use dwarf_bytes::{Cause, LoadFault};
+use std::fmt;
 use thiserror::Error;
 
 /// The addresses of a module: its first address and its end (exclusive).
@@ -17,27 +19,46 @@ pub struct Extent {
 #[derive(Clone, Copy, Debug, PartialEq, Eq, Error)]
 pub enum MapFault {
     /// A module with that name is already loaded.
-    #[error("name-taken")]
     NameTaken,
     /// No module with that name is loaded.
-    #[error("no-module")]
     NoModule,
-    /// No more modules can be loaded.
-    #[error("full")]
+    /// 4,096 modules are loaded; no more can be.
     Full,
     /// The object is invalid; this is its first fault.
-    #[error("{0}")]
     Object(LoadFault),
     /// The end (exclusive) of the module would exceed 2^64-1.
-    #[error("range")]
     Range,
     /// The module would share an address with another one. The number is the index of the lowest
     /// such module in the list.
-    #[error("overlap")]
     Overlap(usize),
-    /// Memory ran out.
-    #[error("memory")]
+    /// Out of memory.
     Memory,
+}
+
+impl MapFault {
+    /// Returns the first word after `refused` in a reply.
+    pub fn word(self) -> &'static str
+        ensures { result.now ≡ map_word self }
+    {
+        match self {
+            MapFault::NameTaken => "name-taken",
+            MapFault::NoModule => "no-module",
+            MapFault::Full => "full",
+            MapFault::Object(_) => "object",
+            MapFault::Range => "range",
+            MapFault::Overlap(_) => "overlap",
+            MapFault::Memory => "memory",
+        }
+    }
+}
+
+impl fmt::Display for MapFault {
+    fn fmt<W: fmt::Write>(&self, f: &mut fmt::Formatter<W>) -> fmt::Result {
+        match self {
+            MapFault::Object(fault) => write!(f, "{fault}"),
+            _ => f.write_str(self.word()),
+        }
+    }
 }
 
 /// Returns the reason for refusing an object that cannot be decoded.

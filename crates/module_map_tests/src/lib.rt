@@ -13,3 +13,5 @@ mod fixtures;
 mod many;
 #[cfg(test)]
 mod memory;
+#[cfg(test)]
+mod messages;

@@ -1,4 +1,4 @@
-//! Reads objects from files.
+//! Objects from files.
 
 ghost use Rattle.std.specs.Prelude.{◌≤◌, ◌^◌, IfOk, vec_len, None};
 
@@ -8,10 +8,13 @@ use std::fs;
 use std::io::Read;
 use std::rt::Files;
 
-/// The maximum number of bytes of an object.
+/// The maximum size of an object in bytes.
 const MAX_BYTES: usize = 1 << 30;
 
-/// A source that reads objects from files. Contracts cannot name the paths that it was asked for.
+/// A source of objects that reads files. Contracts cannot name what it was asked.
+///
+/// `fetch` fails with `File` if a file cannot be opened or read, and with `TooLarge` if it has more
+/// than 2^30 bytes.
 #[derive(Drop)]
 pub struct FileSource<'a, R: Files> {
     alloc: Global,
@@ -19,12 +22,13 @@ pub struct FileSource<'a, R: Files> {
 }
 
 impl<'a, R: Files> FileSource<'a, R> {
+    /// A source that opens paths by `files`, such as the `HostRuntime` of `main`.
     pub fn new(alloc: Global, files: &'a R) -> FileSource<'a, R> {
         FileSource { alloc, files }
     }
 }
 
-/// Reads all bytes of a reader. Returns `FetchFault::TooLarge` if there are more than `MAX_BYTES`.
+/// Reads to the end of a file. Fails with `TooLarge` if it has more than `MAX_BYTES`.
 fn read_object<F: Read>(alloc: Global, file: &mut F) -> Result<Vec<u8>, FetchFault>
     ensures { IfOk result (λ bytes. vec_len bytes ≤ 2 ^ 30) }
 {
