@@ -16,6 +16,7 @@ PAGE = TOP / "addr2line_live.1"
 README = TOP / "README.md"
 # The page names about seventy; far fewer means that its form has changed and nothing is checked.
 LEAST_DEFINITIONS = 50
+LEAST_REFUSALS = 16
 
 
 def source(crate, file):
@@ -56,11 +57,12 @@ def causes():
 
 def refusals():
     """Refusals of lines, loads, unloads and moves."""
-    replies = source("command_loop", "replies.rt")
-    words = re.findall(r'(?:BadLine|FetchFault)::\w+ => "([a-z-]+)"', replies)
-    words += re.findall(r'write_refusal\("([a-z-]+)"', replies)
-    words += re.findall(r'b"refused (\w+) "', replies)
+    faults = source("command_loop", "commands.rt") + source("module_map", "faults.rt")
+    faults += source("answer_text", "faults.rt")
+    words = re.findall(r'(?:BadLine|FetchFault|MapFault)::\w+(?:\(_\))? => "([a-z-]+)"', faults)
     explained = entries(part("REFUSALS"))
+    if len(words) < LEAST_REFUSALS:
+        yield f"only {len(words)} words of refusals are found in the sources"
     for word in dict.fromkeys(words):
         if word not in explained:
             yield f"{PAGE.name}: the refusal {word} is not explained"
