@@ -18,6 +18,8 @@ mod fixtures;
 #[cfg(test)]
 mod formats;
 #[cfg(test)]
+mod help;
+#[cfg(test)]
 mod messages;
 #[cfg(test)]
 mod refusals;

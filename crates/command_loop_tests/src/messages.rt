@@ -25,11 +25,26 @@ fn prints_run_faults(rt: HostRuntime) -> Result<(), Fail> {
         (RunFault::Reading, "reading failed"),
         (RunFault::Writing, "writing failed"),
         (RunFault::Memory, "no memory"),
-        (RunFault::Exe(ExeFault::NotFetched(FetchFault::File)), "refused file"),
-        (RunFault::Exe(ExeFault::NotFetched(FetchFault::TooLarge)), "refused too-large"),
-        (RunFault::Exe(ExeFault::NotFetched(FetchFault::Memory)), "refused memory"),
-        (RunFault::Exe(ExeFault::NotLoaded(MapFault::Range)), "refused range"),
-        (RunFault::Exe(ExeFault::NotLoaded(MapFault::Memory)), "refused memory"),
+        (
+            RunFault::Exe(ExeFault::NotFetched(FetchFault::File)),
+            "refused file",
+        ),
+        (
+            RunFault::Exe(ExeFault::NotFetched(FetchFault::TooLarge)),
+            "refused too-large",
+        ),
+        (
+            RunFault::Exe(ExeFault::NotFetched(FetchFault::Memory)),
+            "refused memory",
+        ),
+        (
+            RunFault::Exe(ExeFault::NotLoaded(MapFault::Range)),
+            "refused range",
+        ),
+        (
+            RunFault::Exe(ExeFault::NotLoaded(MapFault::Memory)),
+            "refused memory",
+        ),
     ];
     for (fault, message) in messages {
         assert_eq!(rt; fault.to_string(rt.alloc())?.as_str(), message);

@@ -20,7 +20,7 @@ fn words(alloc: Global, texts: &[&str]) -> Result<Vec<String>, AllocError> {
 
 /// Returns the status of the program over input that cannot be read, and its output on both
 /// writers.
-fn unread(
+pub fn unread(
     alloc: Global,
     texts: &[&str],
     writer: &mut Paper,
@@ -82,28 +82,6 @@ fn a_bad_address(rt: HostRuntime) -> Result<(), Fail> {
         errors.text(),
         b"addr2line_live: bad address zz\n".as_slice()
     );
-    Ok(())
-}
-
-#[test]
-fn too_large_a_cache(rt: HostRuntime) -> Result<(), Fail> {
-    let mut writer = Paper::new();
-    let mut errors = Paper::new();
-    let status = unread(rt.alloc(), &["--cache", "65537"], &mut writer, &mut errors)?;
-    assert_eq!(rt; status, 2);
-    assert_eq!(rt; writer.text(), b"".as_slice());
-    assert!(rt; !errors.text().is_empty());
-    Ok(())
-}
-
-#[test]
-fn help_is_no_fault(rt: HostRuntime) -> Result<(), Fail> {
-    let mut writer = Paper::new();
-    let mut errors = Paper::new();
-    let status = unread(rt.alloc(), &["--help"], &mut writer, &mut errors)?;
-    assert_eq!(rt; status, 0);
-    assert!(rt; !writer.text().is_empty());
-    assert_eq!(rt; errors.text(), b"".as_slice());
     Ok(())
 }
 

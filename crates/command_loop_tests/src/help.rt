@@ -1,0 +1,92 @@
+//! The texts of the help and of refused arguments.
+
+use crate::devices::Paper;
+use crate::starts::unread;
+use std::test::*;
+
+/// The whole help.
+const HELP: &[u8] = b"\
+Converts run-time addresses to functions, files and lines while modules are loaded and unloaded.
+
+Usage: addr2line_live [OPTIONS] [ADDR]...
+
+Arguments:
+  [ADDR]...  Answer these addresses instead of reading standard input
+
+Options:
+  -a, --addresses     Print the address before each answer
+  -f, --functions     Print the names of functions
+  -i, --inlines       Print the callers into which the code was inlined
+  -p, --pretty-print  Print each frame on one line
+  -s, --basenames     Print base names of files
+      --linkage       Print linkage names if there are any
+  -e, --exe <FILE>    Load FILE first, as module exe at base 0
+      --cache <N>     Cache N answers, 0 to 65536 [default: 1024]
+  -h, --help          Print help
+
+Without ADDR, commands are read from standard input, one a line. Each is answered at once:
+  load NAME BASE PATH   load the object file PATH, with its link address 0 at BASE
+  unload NAME           unload a module
+  move NAME BASE        move a module to another base
+  list                  list the modules by address, then print end
+  ADDR                  print FILE:LINE for a run-time address
+BASE and ADDR are hexadecimal, with or without 0x. NAME has letters, digits, '_', '-' and '.'.
+A command that fails gets a reply that begins with refused, and changes nothing.
+
+Example:
+  $ printf 'load app 0x400000 ./app\\n401136\\n' | addr2line_live -f -i
+  loaded app 0x0000000000400000-0x0000000000404030
+  square
+  /home/me/app.c:3
+  main
+  /home/me/app.c:7
+";
+
+fn help() -> &'static [u8] {
+    HELP
+}
+
+/// The help is written to standard output, also after other options.
+#[test]
+fn prints_help(rt: HostRuntime) -> Result<(), Fail> {
+    for arguments in [["--help", "-f"], ["-f", "-h"]] {
+        let mut writer = Paper::new();
+        let mut errors = Paper::new();
+        let status = unread(rt.alloc(), &arguments, &mut writer, &mut errors)?;
+        assert_eq!(rt; status, 0);
+        assert_eq!(rt; writer.text(), help());
+        assert_eq!(rt; errors.text(), b"".as_slice());
+    }
+    Ok(())
+}
+
+/// Arguments that the parser refuses, and its message on standard error.
+#[test]
+fn prints_usage(rt: HostRuntime) -> Result<(), Fail> {
+    let refused: [([&str; 2], &[u8]); 3] = [
+        (
+            ["-x", "10"],
+            b"error: unexpected argument '-x' found\n\n  tip: to pass '-x' as a value, use '-- -x'\n\n\
+            Usage: addr2line_live [OPTIONS] [ADDR]...\n\nFor more information, try '--help'.\n",
+        ),
+        (
+            ["--cache", "65537"],
+            b"error: invalid value '65537' for '--cache <N>': 65537 is not in 0..=65536\n\n\
+            For more information, try '--help'.\n",
+        ),
+        (
+            ["-a", "-a"],
+            b"error: the argument '--addresses' cannot be used multiple times\n\n\
+            Usage: addr2line_live [OPTIONS] [ADDR]...\n\nFor more information, try '--help'.\n",
+        ),
+    ];
+    for (arguments, message) in refused {
+        let mut writer = Paper::new();
+        let mut errors = Paper::new();
+        let status = unread(rt.alloc(), &arguments, &mut writer, &mut errors)?;
+        assert_eq!(rt; status, 2);
+        assert_eq!(rt; writer.text(), b"".as_slice());
+        assert_eq!(rt; errors.text(), message);
+    }
+    Ok(())
+}
