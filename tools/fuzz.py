@@ -1,12 +1,12 @@
 #!/usr/bin/env python3
-"""Loads objects that are made by chance, mutants of samples and of real objects, and asks the
-program of them by commands that are made by chance, beside a plain scan in Python
-(tools/plain_session.py).
+"""Fuzzes objects and commands against a reference implementation in Python (plain_session.py).
 
-fuzz.py PROGRAM SEED COUNT [OBJECT..] tries COUNT objects; fuzz.py PROGRAM tables tries all values
-of each byte of a sample's headers, each of its cuts, and objects at the limits. It fails where a
-reply is another than the plain one, where the program ends, and where it says nothing for a minute;
-what it was told is then kept in out/fuzz.
+The objects are random objects and mutants of samples and of real objects. The commands are random.
+
+fuzz.py PROGRAM SEED COUNT [OBJECT..] tries COUNT objects. fuzz.py PROGRAM tables tries all values
+of each byte of a sample's headers, each truncation of the sample, and objects at the limits. It
+fails if a reply differs from that of the reference implementation, if the program ends, or if it
+prints nothing for a minute. It then stores the input of the program in out/fuzz.
 """
 import os
 import random
@@ -35,11 +35,11 @@ LINES = [b"list", b"list ", b"", b" ", b"x", b"load", b"load a 0", b"load a! 0 x
 
 
 class Differs(Exception):
-    """The program's replies are others than the plain ones."""
+    """The program's replies differ from those of the reference implementation."""
 
 
 class Run:
-    """A process, and the plain session that it is compared with."""
+    """A process, and the reference session that it is compared with."""
 
     def __init__(self, program, letters, folder, cache=64):
         options = [f"-{letter}" for letter in letters if letter != "l"]
@@ -51,7 +51,7 @@ class Run:
         self.count, self.told, self.script = 0, letters, []
 
     def say(self, line):
-        """Gives a line to both; the program gets it with the next `compare`."""
+        """Sends a line to both. The program receives it with the next `compare`."""
         reply = self.session.reply(line)
         self.script.append(line)
         self.said.append(line)
@@ -62,7 +62,7 @@ class Run:
         return reply
 
     def begin_anew(self):
-        """Unloads all modules, so that what is said from here on is a script of its own."""
+        """Unloads all modules, so that the following lines are a separate script."""
         for name in list(self.session.modules):
             self.say(b"unload " + name)
         self.compare()
@@ -70,7 +70,7 @@ class Run:
         self.script = []
 
     def read(self, size):
-        """So many bytes of replies; or fewer, and why."""
+        """Returns `size` bytes of replies, or fewer and the reason."""
         found = b""
         while len(found) < size:
             if not select.select([self.process.stdout], [], [], 60)[0]:
@@ -82,7 +82,7 @@ class Run:
         return found, ""
 
     def compare(self):
-        """Compares the replies to what was said since the last compare."""
+        """Compares the replies to the lines since the last call."""
         sent = b"".join(line + b"\n" for line in self.said)
         try:
             self.process.stdin.write(sent)
@@ -105,7 +105,7 @@ class Run:
 
 
 def links(chance, module, count):
-    """Link addresses near the ends of a module's rows and ranges."""
+    """Returns link addresses near the endpoints of a module's rows and ranges."""
     ends = [row.address for row in module.rows]
     ends += [end for scope in module.scopes for pair in scope.ranges for end in pair]
     near = [
@@ -116,7 +116,7 @@ def links(chance, module, count):
 
 
 def commands(chance, run, path):
-    """Loads an object under a name and base of chance, and says more of it and of others."""
+    """Loads an object with a random name and base, and sends more commands for it and others."""
     name = b"n%d" % chance.randrange(6)
     if chance.random() < 0.8:
         run.say(b"unload " + name)
@@ -139,7 +139,7 @@ def commands(chance, run, path):
 
 
 def table_commands(run, path):
-    """Loads an object, and asks each address near the sample's code."""
+    """Loads an object and looks up each address near the sample's code."""
     run.say(b"load table 0 " + path)
     if b"table" in run.session.modules:
         for link in range(0xFF0, 0x1021):
@@ -148,7 +148,7 @@ def table_commands(run, path):
 
 
 def feed(run, objects, tell):
-    """Writes each object to a file, and says what `tell` says of it."""
+    """Writes each object to a file and sends the commands of `tell` for it."""
     (run.folder / "sample").write_bytes(SAMPLE.read_bytes())
     for count, data in enumerate(objects):
         if count % 400 == 0:
@@ -160,8 +160,8 @@ def feed(run, objects, tell):
 
 
 def keep(run):
-    """Keeps what the program was told since no module was loaded, its objects, and the command:
-    `$(cat out/fuzz/command) < out/fuzz/script` tells it the same again."""
+    """Stores the lines since no module was loaded, the objects and the command:
+    `$(cat out/fuzz/command) < out/fuzz/script` repeats the run."""
     kept = Path("out/fuzz")
     shutil.rmtree(kept, ignore_errors=True)
     shutil.copytree(run.folder, kept)
@@ -171,8 +171,8 @@ def keep(run):
 
 
 def all_runs(words):
-    """The runs: the letters of the options, how many objects, the objects,
-    and what is said of each."""
+    """Returns the runs: the option letters, the number of objects, the objects, and the function
+    that sends the commands for each object."""
     sample = SAMPLE.read_bytes()
     if words[0] == "tables":
         table = [*limits(), *cut_sections(sample), *whole_table(sample)]

@@ -1,5 +1,5 @@
-"""Objects for tools/fuzz.py: the table of a sample's cuts and changed bytes, objects at the limits,
-and mutants of others, made by changes of bytes and of whole sections."""
+"""Objects for tools/fuzz.py: truncations and byte changes of a sample, objects at the limits, and
+mutants of other objects with changed bytes and sections."""
 import struct
 
 from fuzz_objects import Maker
@@ -8,7 +8,7 @@ from plain_bytes import read_elf
 
 
 def whole_table(sample):
-    """The cuts of a sample, and it with each value of each byte of its headers."""
+    """Yields all truncations of a sample, and the sample with each value of each header byte."""
     for size in range(len(sample)):
         yield sample[:size]
     headers = [*range(0, 120), *range(163, 175), *range(259, 314), *range(383, 703)]
@@ -18,7 +18,7 @@ def whole_table(sample):
 
 
 def cut_sections(sample):
-    """The sample with each smaller size of each of its sections."""
+    """Yields the sample with each smaller size of each of its sections."""
     for at in range(383 + 64, 703, 64):
         size = struct.unpack_from("<Q", sample, at + 32)[0]
         for less in range(size):
@@ -31,8 +31,8 @@ def one_unit(entries):
 
 
 def limits():
-    """Entries at the greatest depth and one deeper; as many declarations, and range items, as an
-    object may have, and more."""
+    """Yields objects at the limits and over them: the depth of entries, and the numbers of
+    declarations and of range items."""
     for depth in (256, 257):
         entries = b"\1" * (depth + 1) + b"\0" * (depth + 1)
         yield elf([(".debug_info", one_unit(entries)), (".debug_abbrev", b"\1\x2e\1\0\0\0")])
@@ -47,8 +47,8 @@ def limits():
 
 
 def mutant(chance, data):
-    """An object with changed bytes, mostly of its sections, or with a section
-    made longer or shorter."""
+    """Returns an object with changed bytes, mostly in its sections, or with a section that is
+    longer or shorter."""
     found, _, _ = read_elf(data)
     sections = [(name, body) for name, body in found.items() if body]
     at = chance.randrange(len(sections))
@@ -67,7 +67,7 @@ def mutant(chance, data):
 
 
 def changed(chance, data, most=3):
-    """Bytes with a few of them changed, taken out or put in."""
+    """Returns bytes of which a few are changed, removed or inserted."""
     data = bytearray(data)
     for _ in range(chance.randrange(1, most + 1)):
         if not data:
@@ -91,7 +91,7 @@ def changed(chance, data, most=3):
 
 
 def random_object(chance):
-    """An object made by chance, mostly with a change in one of its sections or in its bytes."""
+    """Returns a random object, mostly with a change in one of its sections or in its bytes."""
     sections = Maker(chance).make()
     how = chance.random()
     if how < 0.5:

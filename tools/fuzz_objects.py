@@ -1,4 +1,4 @@
-"""Objects for tools/fuzz.py that are made by chance from all that DWARF 5 has of what is read."""
+"""Random objects for tools/fuzz.py, with all parts of DWARF 5 that the program reads."""
 import struct
 
 from hostile import uleb
@@ -19,7 +19,7 @@ def sleb(number):
 
 
 class Maker:
-    """Makes one object. Most of what it makes is well formed."""
+    """Makes one random object. Most of its parts are well formed."""
 
     def __init__(self, chance):
         self.chance = chance
@@ -27,7 +27,7 @@ class Maker:
         self.starts, self.ats = [], []
         self.string = b"".join(name + b"\0" for name in NAMES)
         self.line_string = b"/src\0lib\0a.c\0\0/inc/\0x.c\0"
-        if chance.random() < 0.1:  # texts that do not fit into what is held for a reply
+        if chance.random() < 0.1:  # strings that do not fit in the buffer of a reply
             long = b"n/" * chance.choice([1020, 1024, 2048, 5000]) + b"\2z\0"
             self.string, self.line_string = self.string + long, self.line_string + long
 
@@ -35,20 +35,20 @@ class Maker:
         return self.chance.random() < 0.97
 
     def near(self):
-        """An address near those that are asked."""
+        """Returns an address near those that are looked up."""
         if self.chance.random() < 0.03:
             return self.chance.choice([TOP, TOP - 1, 0])
         return 0xFF8 + 4 * self.chance.randrange(10)
 
     def text(self, width):
-        """A text's form and bytes."""
+        """Returns the form and the bytes of a string."""
         form = self.chance.choice([0x08, 0x0E, 0x1F])
         if form == 0x08:
             return form, self.chance.choice(NAMES) + b"\0"
         return form, self.offset_in(self.string if form == 0x0E else self.line_string, width)
 
     def offset_in(self, section, width):
-        """The bytes of an offset that is in a section."""
+        """Returns the bytes of an offset in a section."""
         return self.chance.randrange(len(section)).to_bytes(width, "little")
 
     # Line programs.
@@ -156,7 +156,7 @@ class Maker:
         return form, self.index(form)
 
     def reference(self, start, width):
-        """A reference to an entry that stands before, mostly of the same unit."""
+        """Returns a reference to an earlier entry, mostly of the same unit."""
         own = [at for at in self.ats if at >= start]
         if own and self.chance.random() < 0.8:
             return 0x13, struct.pack("<I", self.chance.choice(own) - start)
@@ -187,7 +187,7 @@ class Maker:
         return found
 
     def declare(self, tag, children, found):
-        """Adds a declaration, and gives the bytes of an entry of it."""
+        """Appends a declaration and returns the bytes of an entry that uses it."""
         self.code += 1
         pairs, values = b"", b""
         for attribute, (form, read) in found.items():
@@ -217,7 +217,7 @@ class Maker:
             tag = self.chance.choice([0x2E, 0x1D, 0x1D, 0x0B, 0x34])
             children = self.chance.randrange(2)
             if self.chance.random() < 0.02:
-                self.ats.append(start + head + len(body))  # it may name itself
+                self.ats.append(start + head + len(body))  # the entry may refer to itself
             entry = self.declare(tag, children, self.attributes(tag, start, width))
             self.ats.append(start + head + len(body))
             body += entry
@@ -231,7 +231,7 @@ class Maker:
         self.info += self.length(width, len(rest)) + rest
 
     def make(self):
-        """The sections of an object, in an order of chance."""
+        """Returns the sections of an object in random order."""
         for _ in range(self.chance.choice([0, 1, 1, 1, 2])):
             self.program()
         found = self.tables() if self.often() else {}

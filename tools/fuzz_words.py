@@ -1,8 +1,9 @@
 #!/usr/bin/env python3
-"""Runs the program with command lines that are made by chance, beside a plain session.
+"""Fuzzes command lines against the reference session.
 
-fuzz_words.py PROGRAM SEED COUNT makes so many command lines of options, an object and addresses. It
-fails where status, standard output or standard error are others than those of a plain session.
+fuzz_words.py PROGRAM SEED COUNT runs COUNT random command lines with options, an object and
+addresses. It fails if the status, standard output or standard error differ from those of the
+reference session.
 """
 import random
 import subprocess
@@ -21,7 +22,7 @@ BAD = ["zz", "", "0x", "0X10", "12345678901234567", "0x11 "]
 
 
 def options(chance):
-    """Letters of options, and words that give them."""
+    """Returns random option letters, and the arguments that set these options."""
     letters = "".join(letter for letter in LONG if chance.random() < 0.4)
     short = letters.replace("l", "")
     if short and chance.random() < 0.5:
@@ -39,8 +40,8 @@ def addresses(chance):
 
 
 def plain(letters, path, words):
-    """The status, standard output and standard error that are wanted. The
-    input is a line `list`."""
+    """Returns the expected status, standard output and standard error. The input is a line
+    `list`."""
     session = Session(letters)
     for word in words:
         if number(word.encode()) is None:

@@ -1,11 +1,11 @@
 #!/usr/bin/env python3
-"""Times the readers on objects that are shaped to cost more than their bytes.
+"""Measures how long the readers take on adversarial objects.
 
-hostile.py MEASURE FOLDER [MEGABYTES] writes an object of each shape into FOLDER at a quarter of the
-size, half of it and the whole, reads each with `measure lines` or `measure scopes`, and prints the
-seconds of processor by size, and the most memory for a byte of the whole. It fails where doubling
-the size takes more than three times as long, the whole takes more than four seconds for each 20
-MB, or a byte more than 100 bytes of memory.
+hostile.py MEASURE FOLDER [MEGABYTES] writes an object of each shape into FOLDER at a quarter, a
+half and the whole of the size. It reads each with `measure lines` or `measure scopes`, and prints
+the CPU seconds for each size and the peak memory per byte of the whole object. It fails if doubling
+the size takes more than three times as long, if the whole object takes more than four seconds for
+each 20 MB, or if it takes more than 100 bytes of memory per byte.
 """
 import os
 import struct
@@ -14,8 +14,8 @@ import sys
 from pathlib import Path
 
 MEGABYTE = 1 << 20
-LEAST_TIME = 0.1  # seconds; shorter times say nothing of growth
-MOST_MEMORY = 100  # bytes for a byte of the object
+LEAST_TIME = 0.1  # seconds; shorter times do not show growth
+MOST_MEMORY = 100  # bytes of memory per byte of the object
 MOST_TIME = 4  # seconds for each 20 MB of the object
 
 
@@ -29,8 +29,11 @@ def uleb(number):
 
 
 def elf(sections, segments=1, names=None):
-    """An object of these sections, given as (name, bytes). Its section names may be given whole:
-    they are then the text, and how many further headers name it from its start."""
+    """Returns an ELF object with these sections, given as (name, bytes).
+
+    `names` is a string at the start of the section of names, and the number of additional section
+    headers that use it as their name.
+    """
     text = bytearray(b"\0")
     offsets = []
     for name, _ in sections:
@@ -59,7 +62,7 @@ def elf(sections, segments=1, names=None):
 
 
 def line_program(tables, instructions=b""):
-    """A program with these tables in its header."""
+    """Returns a line program with these tables in its header."""
     fields = bytes([1, 1, 1, 0xFB, 14, 13, 0, 1, 1, 1, 1, 0, 0, 0, 1, 0, 0, 1]) + tables
     rest = struct.pack("<HBBI", 5, 8, 0, len(fields)) + fields + instructions
     return struct.pack("<I", len(rest)) + rest
@@ -114,7 +117,7 @@ def segments(size):
 
 
 def names_in_one_text(size):
-    """Subprograms whose names are one long text."""
+    """Builds subprograms that share one long string as their name."""
     count = size // 10
     entries = bytes([1]) + (bytes([2]) + bytes(4)) * count + bytes([0])
     unit = struct.pack("<HBBI", 5, 1, 8, 0) + entries
@@ -127,7 +130,7 @@ def names_in_one_text(size):
 
 
 def tables_in_turn(size):
-    """Units of one entry each that name two tables in turn, each of one long declaration."""
+    """Builds units of one entry that alternate between two tables of one long declaration."""
     flags = b"".join(uleb(0x2000 + number) + bytes([0x19]) for number in range(size // 64))
     table = bytes([1, 0x11, 0]) + flags + bytes([0, 0, 0])
     unit = struct.Struct("<IHBBIB")
@@ -137,14 +140,17 @@ def tables_in_turn(size):
 
 
 def attributes_of(form, count):
-    """Attributes of names that differ, each name in two bytes."""
+    """Returns attributes with distinct names, each name encoded in two bytes."""
     return b"".join(uleb(128 + number) + bytes([form]) for number in range(count))
 
 
 def tables_in_one_list(size):
-    """Units without entries, each of which names another place of one list of attributes: at each
-    form stands a table, whose code and whether it has children are forms. The object has an eighth
-    of the size, since each of its units costs the 64 attributes that a declaration has itself."""
+    """Builds units without entries, whose tables start at different offsets of one attribute list.
+
+    A table starts at each form: forms of the list are its code and its flag for children. The
+    object has an eighth of the size, because each of its units costs the 64 attributes that a
+    declaration stores itself.
+    """
     places = range(5, 3 * 16_000, 3)
     table = bytes([1, 1, 0]) + attributes_of(1, 16_000) + bytes([0, 0, 0])
     unit = struct.Struct("<IHBBI")
@@ -154,8 +160,8 @@ def tables_in_one_list(size):
 
 
 def entries_in_one_list(size):
-    """Units of one entry each, by tables that stand in one list of attributes of a byte: an entry
-    has as many as are behind the place of its table."""
+    """Builds units of one entry, whose tables are in one list of one-byte attributes. An entry has
+    all attributes after the offset of its table."""
     count = 1_000
     table = bytes([1, 1, 0]) + attributes_of(1, count) + bytes([0, 0, 0])
     units = []
@@ -170,11 +176,11 @@ def entries_in_one_list(size):
 
 
 def lists_that_meet(size):
-    """Units that name, in turn, the heads of two lists of attributes, one of which leads into the
-    other by a constant in its declaration: what is behind is known by both."""
+    """Builds units that alternate between two attribute lists with a common suffix. One list
+    reaches the other through a constant in its declaration, so both memoize the suffix."""
     count = size // 64
     names = b"".join(uleb(0x4000 + number) + bytes([0x19]) for number in range(count))
-    heads = bytes([1, 0x11, 0, 0x3A, 0x21, 1, 0x49, 1])  # the second one begins at the constant
+    heads = bytes([1, 0x11, 0, 0x3A, 0x21, 1, 0x49, 1])  # the second list begins at the constant
     table = heads + names + bytes([0, 0, 0])
     pair = struct.pack("<IHBBIB8x", 17, 5, 1, 8, 0, 1)
     pair += struct.pack("<IHBBIBB", 10, 5, 1, 8, 5, 1, 0)
@@ -183,7 +189,7 @@ def lists_that_meet(size):
 
 
 def entries_without_bytes(size):
-    """Entries of a byte each, by one declaration of very many attributes without bytes."""
+    """Builds one-byte entries of one declaration with very many attributes without bytes."""
     names = b"".join(uleb(0x4000 + number) + bytes([0x19]) for number in range(size // 32))
     table = bytes([1, 0x11, 1, 0, 0, 2, 0x34, 0]) + names + bytes([0, 0, 0])
     entries = bytes([1]) + bytes([2]) * (size // 2) + bytes([0])
@@ -191,7 +197,7 @@ def entries_without_bytes(size):
 
 
 def references_to_a_long_entry(size):
-    """Subprograms that all refer to one, whose entry has very many attributes of a byte."""
+    """Builds subprograms that all refer to one entry with very many one-byte attributes."""
     attributes = b"".join(uleb(0x2000 + number) + bytes([0x0F]) for number in range(size // 20))
     abbreviations = bytes([1, 0x11, 1, 0, 0, 2, 0x2E, 0]) + attributes
     abbreviations += bytes([0, 0, 3, 0x2E, 0, 0x31, 0x13, 0, 0, 0])
@@ -202,9 +208,12 @@ def references_to_a_long_entry(size):
 
 
 def references_between_tables(size):
-    """Subprograms of a unit that refer to those of another one. The tables of both stand in one
-    long list of declarations, behind more of them than are kept. The object has a fifth of the
-    size, since a reference of these costs what several others do."""
+    """Builds subprograms of one unit that refer to subprograms of another unit.
+
+    The tables of both units are in one long list of declarations, after more declarations than the
+    cache holds. The object has a fifth of the size, because each of its references costs as much
+    as several others.
+    """
     attributes = b"".join(uleb(0x2000 + number) + bytes([0x0F]) for number in range(100))
     declared = [uleb(4 + number) + bytes([0x2E, 0]) + attributes + bytes([0, 0])
                 for number in range(size // 12_000)]
@@ -224,28 +233,28 @@ def references_between_tables(size):
 
 
 def unit_of(entries):
-    """A unit of these entries, by the table at the start of the section."""
+    """Returns a unit with these entries and the table at the start of the section."""
     unit = struct.pack("<HBBI", 5, 1, 8, 0) + entries
     return struct.pack("<I", len(unit)) + unit
 
 
 def one_byte_subprograms(size):
-    """Subprograms without attributes. The object has a third of the size, since each byte of it is
-    a scope to be told."""
+    """Builds subprograms without attributes. The object has a third of the size, because each of
+    its bytes is a scope to report."""
     entries = bytes([1]) + bytes([2]) * (size // 3) + bytes([0])
     abbreviations = bytes([1, 0x11, 1, 0, 0, 2, 0x2E, 0, 0, 0, 0])
     return elf([(".debug_abbrev", abbreviations), (".debug_info", unit_of(entries))])
 
 
 def deep_lists(size):
-    """Subprograms that stand within each other as deep as they may."""
+    """Builds subprograms that are nested to the depth limit."""
     entries = bytes([1]) + (bytes([2]) * 255 + bytes(255)) * (size // 510) + bytes([0])
     abbreviations = bytes([1, 0x11, 1, 0, 0, 2, 0x2E, 1, 0, 0, 0])
     return elf([(".debug_abbrev", abbreviations), (".debug_info", unit_of(entries))])
 
 
 def small_units(size):
-    """Units of one entry."""
+    """Builds units of one entry."""
     abbreviations = bytes([1, 0x11, 0, 0, 0, 0])
     units = unit_of(bytes([1])) * (size // 13)
     return elf([(".debug_abbrev", abbreviations), (".debug_info", units)])
@@ -275,7 +284,7 @@ SHAPES = [
 
 
 def run(measure, command, path):
-    """The seconds of processor that a run takes, and the most bytes of memory that it holds."""
+    """Returns the CPU seconds and the peak memory in bytes of a run."""
     out, told = os.pipe()
     process = subprocess.Popen([measure, command, path], stdout=told, stderr=told)
     os.close(told)
@@ -288,7 +297,8 @@ def run(measure, command, path):
 
 
 def try_shape(measure, command, shape, path, sizes):
-    """The least seconds of five runs at each size, and the memory for a byte of the last."""
+    """Returns the minimum seconds of five runs at each size, and the memory per byte of the last
+    size."""
     times = []
     for size in sizes:
         path.write_bytes(shape(size))

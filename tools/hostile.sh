@@ -1,6 +1,5 @@
 #!/usr/bin/env bash
-# Builds the measuring program, and times it on objects that are shaped to
-# cost more than their bytes.
+# Builds the measuring program and measures how long it takes on adversarial objects.
 set -euo pipefail
 cd "$(dirname "$0")/.."
 tools/build.sh measure measure.log

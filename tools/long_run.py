@@ -1,12 +1,13 @@
 #!/usr/bin/env python3
-"""Runs one process for long: a day's commands in small, and then outputs and
-files that are not as wanted.
+"""Runs one process over many commands, and then with failing outputs and unusual files.
 
-long_run.py PROGRAM COMMANDS [OBJECT..] gives so many commands, most of them addresses, with loads,
-moves and unloads among them, beside plain answers (tools/plain_session.py), which small OBJECTs may
-be added to. It fails where a reply is another, where memory or descriptors are not back where they
-were once all is unloaded, and where a full or closed output, a folder, a pipe, a device without
-end, a file at the limit of 1 GiB, or one that shrinks, is answered otherwise than the README says.
+long_run.py PROGRAM COMMANDS [OBJECT..] sends COMMANDS commands to one process: mostly addresses,
+and also loads, moves and unloads. It compares the replies with those of the reference session
+(plain_session.py). Small OBJECTs may be added. It fails if
+- a reply differs;
+- memory or descriptors do not return to their earlier values after all modules are unloaded;
+- a full or closed output, a folder, a pipe, an endless device, a file at the limit of 1 GiB or a
+  file that shrinks is not handled as the README says.
 """
 import functools
 import os
@@ -36,14 +37,14 @@ def expect(what, found, *wanted):
 
 
 def state(process):
-    """Resident memory now and at its peak, in KB, and how many descriptors are open."""
+    """Returns the resident memory and its peak in KB, and the number of open descriptors."""
     lines = Path(f"/proc/{process.pid}/status").read_text().splitlines()
     status = {line.split(":")[0]: line.split()[1] for line in lines if line.startswith("Vm")}
     return int(status["VmRSS"]), int(status["VmHWM"]), len(os.listdir(f"/proc/{process.pid}/fd"))
 
 
 def objects(paths):
-    """Samples, the objects named, and ones made by chance: some that load and some that do not."""
+    """Returns samples, the named objects and random objects: some are valid, some are not."""
     found = [SAMPLE.read_bytes(), REAL.read_bytes(), SAMPLE.read_bytes()[:500]]
     found += [Path(path).read_bytes() for path in paths]
     return found + [random_object(random.Random(seed)) for seed in range(60)]
@@ -66,8 +67,8 @@ def one_command(chance, run, paths):
 
 
 def crowd(run, path):
-    """Loads one module more than there may be, asks some of them, and tells the
-    state with all loaded."""
+    """Loads one module more than the limit, looks up addresses in some of them, and returns the
+    state with all of them loaded."""
     for number in range(4097):
         run.say(b"load c%d %x %s" % (number, number << 12, path))
     for number in range(0, 4096, 16):
@@ -78,7 +79,7 @@ def crowd(run, path):
 
 
 def empty(run):
-    """Unloads all, and tells the state."""
+    """Unloads all modules and returns the state."""
     for name in list(run.session.modules):
         run.say(b"unload " + name)
     run.say(b"list")
@@ -87,8 +88,8 @@ def empty(run):
 
 
 def stay_up(program, commands, folder, named):
-    """Gives the commands, in ten parts with nothing loaded between them, and
-    compares the states then."""
+    """Sends the commands in ten parts. Unloads all modules after each part and compares the
+    states."""
     paths = []
     for number, data in enumerate(objects(named)):
         paths.append(bytes(folder / f"o{number}"))
@@ -115,7 +116,7 @@ def stay_up(program, commands, folder, named):
     expect("descriptors at the end, beside those after the first part", last[2], first[2])
     expect("memory at the end is within 10 % and 512 KB of that after the first part",
            last[0] <= first[0] * 1.1 + 512, True)
-    # the first ones stand between what was freed before them, so the second may take other places
+    # the first modules fill gaps of earlier ones, so the second may get other addresses
     expect("memory of the third 4,096 modules is that of the second",
            full[2][0] <= full[1][0] * 1.02, True)
     print(f"{run.count} commands in {time.monotonic() - start:.0f} s, no reply differs", flush=True)
@@ -130,7 +131,7 @@ def run_with(program, lines, stdout=subprocess.PIPE, words=()):
 
 
 def outputs(program, sample):
-    """Outputs that are full or closed."""
+    """Checks full and closed outputs."""
     load = [b"load a 0 " + sample, b"1004"]
     failed = b"addr2line_live: writing failed\n"
     with open("/dev/full", "wb") as full:
@@ -150,7 +151,7 @@ def outputs(program, sample):
 
 
 def inputs(program, path):
-    """An input that was never open, and a folder as input."""
+    """Checks an input that was never open, and a folder as input."""
     failed = (1, b"addr2line_live: reading failed\n")
     done = subprocess.run(["sh", "-c", '"$0" <&-', program], capture_output=True, check=False)
     expect("an input that was never open", (done.returncode, done.stderr), failed)
@@ -161,14 +162,14 @@ def inputs(program, path):
 
 
 def sparse(path, sample, size):
-    """A file that begins as the sample, and has zeros up to its size, which take no room."""
+    """Writes a sparse file that begins with the sample, and returns its `load` line."""
     path.write_bytes(sample)
     os.truncate(path, size)
     return b"load a 0 " + bytes(path)
 
 
 def files(program, folder, sample):
-    """Files that are no files, that are at the limit, and that shrink while they are read."""
+    """Checks special files, files at the limit, and files that shrink while they are read."""
     def reply(line):
         return run_with(program, [line])[1]
     expect("a folder", reply(b"load a 0 " + bytes(folder)), b"refused file\n")
@@ -195,8 +196,8 @@ def files(program, folder, sample):
 
 
 def shrinking(program, path, sample, size):
-    """A file of 1 GiB that is cut to a size while it is read: what was read of it is an object or
-    none, and the process goes on."""
+    """Checks a file of 1 GiB that is truncated while it is read. The bytes that were read are
+    accepted or refused, and the process continues."""
     line = sparse(path, sample, LIMIT)
     process = subprocess.Popen([program], stdin=subprocess.PIPE, stdout=subprocess.PIPE)
     process.stdin.write(line + b"\nload b 10000 " + bytes(path.parent / "o0") + b"\n11004\n")

@@ -1,12 +1,12 @@
 #!/usr/bin/env python3
-"""Runs the program with each growth of memory, each read and each write refused in turn, by a
-library that is loaded before it (tools/refuse.c).
+"""Runs the program and makes each allocation, each read and each write fail in turn, with a
+preloaded library (tools/refuse.c).
 
-memory.py PROGRAM TESTS SECONDS tries each number of each script below: the call of that number
-fails, or it and all later ones. It fails where the outcome is none of those that the script may
-have. The first script is run once more by a test of TESTS, over I/O streams of fixed memory: the
-test prints which outcome it had, and each must come. Random scripts follow until SECONDS are over,
-whose outcomes are those of a plain session without some of the objects.
+memory.py PROGRAM TESTS SECONDS runs each script below once for each number N: the Nth call fails,
+or the Nth call and all later ones. It fails if the outcome is not one that the script may have. A
+test of TESTS runs the first script again, over I/O streams of fixed memory. The test prints its
+outcome, and each outcome must occur. Random scripts follow until SECONDS are over; their outcomes
+must be those of the reference session without some of the objects.
 """
 import os
 import random
@@ -35,7 +35,7 @@ class Runner:
         self.tried, self.outcomes, self.wrong = 0, Counter(), []
 
     def run(self, words, lines, **refused):
-        """The status, standard output and standard error of a run, and the counts of its calls."""
+        """Returns the status, standard output and standard error of a run, and its call counts."""
         counts = self.folder / "counts"
         counts.unlink(missing_ok=True)
         env = {"LD_PRELOAD": str(self.library), "COUNTS": str(counts)}
@@ -48,14 +48,14 @@ class Runner:
         return (done.returncode, done.stdout, done.stderr), [int(count) for count in told]
 
     def judge(self, what, words, outcome, allowed):
-        """Counts an outcome under its name, or keeps it as a wrong one."""
+        """Counts an outcome by its name, or records it as wrong."""
         name = next((name for name, wanted in allowed.items() if outcome == wanted), None)
         self.outcomes[name] += 1
         if name is None:
             self.wrong.append(f"{what} {' '.join(words)}: {outcome}")
 
     def each_growth(self, words, lines, allowed):
-        """Refuses each growth in turn. Each allowed outcome must come."""
+        """Makes each allocation fail in turn. Each allowed outcome must occur."""
         _, counts = self.run(words, lines)
         seen = Counter()
         for number in range(1, counts[0] + 1):
@@ -72,7 +72,7 @@ class Runner:
 
 
     def each_growth_of_a_test(self, tests, name, outcomes):
-        """Refuses each growth of a test in turn. It must pass, and print each of the outcomes."""
+        """Makes each allocation of a test fail in turn. It must pass and print each outcome."""
         self.program, program = os.path.abspath(tests), self.program
         _, counts = self.run([name], [])
         seen = Counter()
@@ -90,8 +90,8 @@ class Runner:
 
 
 def plain(folder, letters, lines, without=()):
-    """The replies of a plain session, in which loads of some names are
-    refused for want of memory."""
+    """Returns the replies of the reference session, in which loads of the names in `without` are
+    refused as out of memory."""
     session, text = Session(letters), b""
     for line in lines:
         line = line.replace(b" A", b" %s/A" % folder).replace(b" D", b" %s/D" % folder)
@@ -101,7 +101,7 @@ def plain(folder, letters, lines, without=()):
 
 
 def scripts(folder):
-    """The scripts whose outcomes are told one by one."""
+    """Yields the scripts whose outcomes are listed one by one."""
     where = bytes(folder)
     for words in (["--cache", "4"], ["--cache", "0"], ["-f", "-i"]):
         letters = "fi" if "-f" in words else ""
@@ -118,7 +118,7 @@ def scripts(folder):
 
 
 def merged(allowed):
-    """The same outcomes, each once."""
+    """Returns the same outcomes without duplicates."""
     once = {}
     for name, outcome in allowed.items():
         if outcome not in once.values():
@@ -127,7 +127,7 @@ def merged(allowed):
 
 
 def words_alone(runner):
-    """Command lines without input."""
+    """Yields command lines without input."""
     for words in (["--help"], ["--cache", "x"], ["zz"], ["-e", "A", "-f", "1004", "1010"],
                   ["-e", "none"], ["-e", "cut"]):
         outcome, _ = runner.run(words, [])
@@ -140,8 +140,8 @@ def words_alone(runner):
 
 
 def devices(runner):
-    """Fails each read and each write. Reads of an object are told as `file`;
-    standard input has one."""
+    """Makes each read and each write fail. A failed read of an object is reported as `file`;
+    standard input has one read."""
     whole, counts = runner.run(["--cache", "4"], SCRIPT)
     replies = whole[1].splitlines(keepends=True)
     gone = b"refused no-module\n"
@@ -160,7 +160,7 @@ def devices(runner):
 
 
 def chance(runner, folder, seconds):
-    """Scripts of chance, with growths of chance refused, until the time is over."""
+    """Runs random scripts with random failing allocations until the time is over."""
     where, rolls, end = bytes(folder), random.Random(1), time.monotonic() + seconds
     while time.monotonic() < end:
         lines, names = [], [b"a", b"b", b"c"]
