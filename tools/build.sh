@@ -1,13 +1,13 @@
 #!/usr/bin/env bash
-# build.sh CRATE [LOG]: proves and builds a program of crates/, and shows each crate below it as
-# its proof begins, on a terminal with how many functions are done. Where nothing changed it
-# only runs the program once.
+# build.sh CRATE [LOG]: proves and builds a program of crates/, and prints the name of each crate
+# when its proof starts. On a terminal it also prints the number of proved functions. If nothing
+# changed, it only runs the program once.
 set -euo pipefail
 cd "$(dirname "$0")/.."
 mkdir -p out
 crate=$1 log=$PWD/out/${2:-build.log}
 
-# Copies what rt says into the log, and shows how far it is.
+# Copies the output of rt into the log and prints the progress.
 progress() {
     local line proving='' counted=
     while IFS= read -r line; do

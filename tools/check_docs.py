@@ -1,10 +1,12 @@
 #!/usr/bin/env python3
-"""Compares what the documents say with what the program says.
+"""Compares the documents with the sources of the program.
 
-The manual page must explain each option, each refusal of a line, a load, an unload or a move, and
-each section and cause of a malformed object, and no cause that there is not; it must be formatted
-without a warning. The README must name each option and command; each definition that
-docs/ARCHITECTURE.md names by its file, and each `make` target that a document names, must be there.
+- The manual page must explain each option, each refusal of a line, a load, an unload or a move, and
+  each section and cause of a malformed object. It must not explain a cause that does not exist, and
+  groff must format it without a warning.
+- The README must name each option and command.
+- Each definition that docs/ARCHITECTURE.md names with its file, and each `make` target that a
+  document names, must exist.
 """
 import re
 import subprocess
@@ -14,7 +16,8 @@ from pathlib import Path
 TOP = Path(__file__).resolve().parent.parent
 PAGE = TOP / "addr2line_live.1"
 README = TOP / "README.md"
-# The page names about seventy; far fewer means that its form has changed and nothing is checked.
+# ARCHITECTURE.md names about seventy. Far fewer mean that its form has changed, so that nothing is
+# checked.
 LEAST_DEFINITIONS = 50
 LEAST_REFUSALS = 16
 
@@ -24,13 +27,13 @@ def source(crate, file):
 
 
 def part(title):
-    """The text of a section of the page."""
+    """Returns the text of a section of the manual page."""
     pattern = rf'^\.SH "?{title}"?\n(.*?)(?=^\.SH|\Z)'
     return re.search(pattern, PAGE.read_text(), re.DOTALL | re.MULTILINE)[1]
 
 
 def entries(text):
-    """The words that entries of the page explain, and what is said of each."""
+    """Returns the words that entries of the manual page explain, each with its explanation."""
     found = {}
     entry = re.compile(r"^\.TP\n(.*)\n((?:(?!\.TP|\.S[HS]).*\n)*)", re.MULTILINE)
     for tag, body in entry.findall(text):
@@ -41,7 +44,7 @@ def entries(text):
 
 
 def causes():
-    """Causes and sections of malformed objects."""
+    """Yields faults in the causes and sections of malformed objects."""
     fault = source("dwarf_bytes", "fault.rt")
     words = dict.fromkeys(re.findall(r'Cause::\w+ => "([a-z-]+)"', fault))
     explained = entries(part("CAUSES"))
@@ -56,7 +59,7 @@ def causes():
 
 
 def refusals():
-    """Refusals of lines, loads, unloads and moves."""
+    """Yields faults in the refusals of lines, loads, unloads and moves."""
     faults = source("command_loop", "commands.rt") + source("module_map", "faults.rt")
     faults += source("answer_text", "faults.rt")
     words = re.findall(r'(?:BadLine|FetchFault|MapFault)::\w+(?:\(_\))? => "([a-z-]+)"', faults)
@@ -69,7 +72,7 @@ def refusals():
 
 
 def options_and_commands():
-    """Options and commands, in the page and in the README."""
+    """Yields faults in the options and commands of the manual page and the README."""
     readme, command = README.read_text(), source("command_line", "command.rt")
     flags = {name: letter for letter, name in re.findall(r"'(\w)',\s+\"([a-z-]+)\"", command)}
     named = re.findall(r"(?:\.short\('(\w)'\)\s+)?\.long\(\"(\w+)\"\)", command)
@@ -86,7 +89,8 @@ def options_and_commands():
 
 
 def named_definitions(text):
-    """Each crate, file and word of specs/ that a text names: `crate/File` before words or after."""
+    """Yields each crate, file and word of specs/ that a text names, with `crate/File` before or
+    after the words."""
     words = r"((?:`[A-Za-z_]\w*`(?:, | and ))*`[A-Za-z_]\w*`)"
     file = r"`(\w+)/(\w+)`"
     for crate, name, found in re.findall(rf"{file} {words}", text):
@@ -96,7 +100,7 @@ def named_definitions(text):
 
 
 def definitions():
-    """Definitions that docs/ARCHITECTURE.md names, as `crate/File` `word`."""
+    """Yields the missing definitions that docs/ARCHITECTURE.md names as `crate/File` `word`."""
     text = (TOP / "docs/ARCHITECTURE.md").read_text()
     named = set(named_definitions(text))
     if len(named) < LEAST_DEFINITIONS:
@@ -109,7 +113,7 @@ def definitions():
 
 
 def targets():
-    """Targets of make that documents name."""
+    """Yields the missing targets of make that documents name."""
     known = set(re.findall(r"^([a-z-]+):", (TOP / "Makefile").read_text(), re.MULTILINE))
     named = re.compile(r"\bmake ([a-z][a-z-]+)(?=[` ]*(?:[A-Z]+=|`|$| {2,}))", re.MULTILINE)
     for document in [README, *sorted((TOP / "docs").glob("*.md"))]:
@@ -119,7 +123,7 @@ def targets():
 
 
 def formatting():
-    """What groff warns of."""
+    """Yields the warnings of groff."""
     done = subprocess.run(["groff", "-man", "-Tutf8", "-ww", PAGE], capture_output=True, text=True)
     yield from done.stderr.splitlines()
 

@@ -1,9 +1,10 @@
 #!/usr/bin/env python3
-"""Shows each must-fail edit that no longer fits the files it changes, before proofs take an hour.
+"""Lists the must-fail edits that no longer apply to their files, without the hour of proofs.
 
-An edit is lines `file: PATH` and pairs of lines `old: TEXT`, `new: TEXT`; each old text stands in
-its file exactly once. Those of the gate stand in their crate's must-fail/, the others, for which
-the gate has no time, in edits/CRATE, under names of their own. Ends with 1 where one does not fit.
+An edit has lines `file: PATH` and pairs of lines `old: TEXT`, `new: TEXT`. Each old text must occur
+exactly once in its file. The edits that CI runs are in must-fail/ of their crate. The others, which
+would take CI too long, are in edits/CRATE, and their names must differ from those of CI. The exit
+status is 1 if an edit does not apply.
 """
 import sys
 from pathlib import Path
@@ -12,14 +13,14 @@ TOP = Path(__file__).resolve().parent.parent
 
 
 def crate_of(edit: Path) -> Path:
-    """The folder of the crate that an edit changes."""
+    """Returns the folder of the crate that an edit changes."""
     if edit.parent.name == "must-fail":
         return edit.parent.parent
     return TOP / "crates" / edit.parent.name
 
 
 def misfits(edit: Path):
-    """The old texts of an edit that do not stand exactly once, each with its file."""
+    """Yields the old texts of an edit that do not occur exactly once, each with its file."""
     crate = crate_of(edit)
     texts: dict[str, str] = {}
     path = old = ""

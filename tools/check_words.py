@@ -3,9 +3,9 @@
 
 Usage: tools/check_words.py [--list] [--most NUMBER] PATH..
 
-A path is a file or a folder. Of .rt, .antt, .py and .sh files the comments are read, of all
-others every line. --list prints each line with such a phrase. The exit status is 1 if a path has
-more than NUMBER of them per 1,000 words (2 if not given).
+A path is a file or a folder. In .rt, .antt, .py and .sh files only comment lines are read, in other
+files all lines. --list prints each line with such a phrase. The exit status is 1 if a path has more
+than NUMBER of them per 1,000 words (2 if not given).
 """
 
 import argparse
@@ -13,7 +13,7 @@ import pathlib
 import re
 import sys
 
-# What a reader of this field would have to translate, and in the comment what to write instead.
+# Phrases of a private vocabulary. The comments list the usual words to write instead.
 PHRASES = [
     r'(is|are|was|were) told', r'tells?', r'told',        # returns, reports, has
     r'stands?', r'stood', r'standing',                    # is, is at offset
@@ -37,7 +37,7 @@ COMMENTS = {'.rt': '//', '.antt': '--', '.py': '#', '.sh': '#'}
 
 
 def prose_lines(path):
-    """The numbered lines of a file that are prose."""
+    """Yields the lines of a file that are prose, with their numbers."""
     mark = COMMENTS.get(path.suffix)
     for number, line in enumerate(path.read_text(errors='replace').splitlines(), 1):
         text = line.strip()
@@ -46,7 +46,7 @@ def prose_lines(path):
 
 
 def files_of(path):
-    """The files of a path: itself, or all below it that are prose or have comments."""
+    """Returns the files of a path: itself, or all files below it with prose or comments."""
     if path.is_file():
         return [path]
     kinds = {*COMMENTS, '.md', '.1'}
@@ -54,7 +54,7 @@ def files_of(path):
 
 
 def main():
-    """Prints the counts of each path, and of all."""
+    """Prints the count of each path."""
     parser = argparse.ArgumentParser(description=__doc__.splitlines()[0])
     parser.add_argument('--list', action='store_true')
     parser.add_argument('--most', type=float, default=2.0)

@@ -1,5 +1,7 @@
-"""Addresses of an object that are spread evenly over its executable sections, to be asked of this
-program and of others: tools/compare_replies.py and bench/answers.sh ask them."""
+"""Addresses that are spread evenly over the executable sections of an object.
+
+tools/compare_replies.py and bench/answers.sh look them up with this program and with others.
+"""
 import re
 import subprocess
 
@@ -9,7 +11,7 @@ SECTION = re.compile(
 
 
 def executable_sections(path):
-    """The address and the size of each."""
+    """Yields the address and the size of each executable section."""
     command = ["readelf", "-SW", path]
     done = subprocess.run(command, capture_output=True, text=True, check=True)
     for text in done.stdout.splitlines():
@@ -18,7 +20,7 @@ def executable_sections(path):
 
 
 def addresses(path, count):
-    """So many addresses, by rising position in the sections."""
+    """Yields `count` addresses, in the order of the sections."""
     places = list(executable_sections(path))
     total = sum(size for _, size in places)
     for k in range(count):

@@ -1,10 +1,10 @@
 #!/usr/bin/env python3
 """Compares the frames that `measure frames OBJECT` prints with those of llvm-symbolizer.
 
-compare_frames.py MEASURE OBJECT.. asks for the same addresses. Of each the frames are compared,
-innermost first: name, file and line. Files are compared by their base names, and where this
-program tells no scope (`??`), names are not: llvm-symbolizer then takes one of the symbol table.
-Fails where anything differs.
+compare_frames.py MEASURE OBJECT.. looks up the same addresses with both. It compares the name, file
+and line of each frame, innermost first. Only the base names of files are compared. If this program
+reports no scope (`??`), names are not compared, because llvm-symbolizer then prints a name of the
+symbol table. It fails if anything differs.
 """
 import json
 import subprocess
@@ -13,13 +13,13 @@ from pathlib import Path
 
 
 def printed(command, asked=""):
-    """The lines that a command prints, given what it is asked."""
+    """Returns the lines that a command prints for this input."""
     how = {"capture_output": True, "text": True, "errors": "replace", "check": True}
     return subprocess.run(command, input=asked, **how).stdout.splitlines()
 
 
 def ours(measure, path):
-    """The frames of each address."""
+    """Returns the frames of each address."""
     answers = {}
     for text in printed([measure, "frames", path]):
         if not text.startswith("\t"):

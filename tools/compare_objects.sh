@@ -1,8 +1,8 @@
 #!/usr/bin/env bash
-# Compares what is read from each object of tools/make_objects.sh, rows, scopes and the frames of
-# ten thousand addresses, with what other readers show, and the frames also with a scan of all rows
-# and scopes for each address; and the program's replies with those of addr2line and
-# llvm-symbolizer. Fails where anything differs.
+# Compares the rows, the scopes and the frames of ten thousand addresses of each object of
+# tools/make_objects.sh with the output of other readers. Compares the frames also with a scan of
+# all rows and scopes for each address, and the program's replies with those of addr2line and
+# llvm-symbolizer. Fails if anything differs.
 set -euo pipefail
 cd "$(dirname "$0")/.."
 tools/build.sh measure measure.log

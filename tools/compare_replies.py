@@ -1,14 +1,15 @@
 #!/usr/bin/env python3
-"""Compares the replies of addr2line_live, as text, with those of addr2line and of llvm-symbolizer.
+"""Compares the replies of addr2line_live with those of addr2line and of llvm-symbolizer.
 
-compare_replies.py PROGRAM COUNT OBJECT.. asks each for COUNT addresses, spread evenly over the
-executable sections, with -a -f -i -p -s and linkage names. Of the others' text is taken away what
-ours never has: a discriminator, and what a compiler puts behind the symbol of a copy of a
-function; and llvm-symbolizer's -s leaves an absolute file name whole, of which the last part is
-taken. Where this program tells no function, names of the symbol table agree, and where it
-knows nothing, all that tells no line, for it reads no symbols; of symbols with one value, as
-those of a destructor, others may tell another one. Fails where a reply is neither that of
-addr2line nor that of llvm-symbolizer.
+compare_replies.py PROGRAM COUNT OBJECT.. looks up COUNT addresses with each, spread evenly over the
+executable sections, with -a -f -i -p -s and linkage names. It fails if a reply is neither that of
+addr2line nor that of llvm-symbolizer, apart from these differences:
+- discriminators, and the suffixes that compilers append to the symbols of copies of a function, are
+  removed from the other programs' output;
+- -s of llvm-symbolizer does not shorten an absolute file name, so its last part is used;
+- this program reads no symbols: if it reports no function, any name of the symbol table agrees, and
+  if it reports nothing, any reply without a line agrees;
+- of several symbols with one value, such as those of a destructor, others may report another one.
 """
 import re
 import subprocess
@@ -27,7 +28,7 @@ OPTIONS = ["-a", "-f", "-i", "-p", "-s"]
 
 
 def replies(command, asked):
-    """The frames of each address, as name, file and line."""
+    """Returns the frames of each address, as name, file and line."""
     lines = "".join(f"0x{a:x}\n" for a in asked)
     how = {"capture_output": True, "text": True, "errors": "replace"}
     done = subprocess.run(command, input=lines, **how)
@@ -48,13 +49,13 @@ def replies(command, asked):
 
 
 def last_parts(found):
-    """The same frames with the last part of each file's path."""
+    """Returns the same frames with the last part of each file's path."""
     cut = [(a, [(n, f.rsplit("/", 1)[-1], line) for n, f, line in found[a]]) for a in found]
     return dict(cut)
 
 
 def values(path):
-    """The value of each symbol."""
+    """Returns the value of each symbol."""
     how = {"capture_output": True, "text": True, "check": True}
     listed = subprocess.run(["nm", "--defined-only", path], **how).stdout
     fields = (line.split(maxsplit=2) for line in listed.splitlines())
@@ -62,7 +63,7 @@ def values(path):
 
 
 def agree(ours, theirs, symbols):
-    """Whether two replies say the same, but for what this one does not know."""
+    """Returns whether two replies agree, apart from what this program does not report."""
     if ours == [("??", "??", 0)]:
         return all(line == 0 for _, _, line in theirs)
     if len(ours) != len(theirs):

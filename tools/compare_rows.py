@@ -1,10 +1,9 @@
 #!/usr/bin/env python3
 """Compares the rows that `measure rows OBJECT` prints with those that objdump decodes.
 
-objdump prints a row as FILE LINE ADDRESS, mostly with the base name of the file alone, and
-an end of a sequence with the line `-`; so base names are compared. Rows are compared in
-order, all of them, but for those of sequences that start at 2^64-1, the mark of dropped
-code. Fails where anything differs.
+objdump prints a row as FILE LINE ADDRESS. It mostly prints only the base name of the file, so base
+names are compared. The end of a sequence has the line `-`. All rows are compared in order, except
+those of dead sequences, which start at the tombstone 2^64-1. It fails if anything differs.
 """
 import re
 import subprocess
@@ -16,13 +15,13 @@ ROW = re.compile(r"^(?P<file>\S.*?)\s+(?P<line>\d+|-)\s+(?P<address>0x[0-9a-f]+|
 
 
 def printed(*command):
-    """The lines that a command prints."""
+    """Returns the lines that a command prints."""
     how = {"capture_output": True, "text": True, "errors": "replace", "check": True}
     return subprocess.run(command, **how).stdout.splitlines()
 
 
 def decoded(path):
-    """The rows that objdump shows: (address, base name, line), or (address, 'end', 0)."""
+    """Yields the rows that objdump prints: (address, base name, line), or (address, 'end', 0)."""
     for text in printed("objdump", "--dwarf=decodedline", path):
         found = ROW.match(text)
         if not found:
@@ -35,7 +34,7 @@ def decoded(path):
 
 
 def kept(rows):
-    """The rows of the sequences that are not dropped."""
+    """Yields the rows of the sequences that are not dead code."""
     sequence = []
     for row in rows:
         sequence.append(row)

@@ -1,13 +1,15 @@
 #!/usr/bin/env python3
-"""Compares the scopes that `measure scope-table OBJECT` prints with those that other readers show.
+"""Compares the scopes that `measure scope-table OBJECT` prints with the output of other readers.
 
-compare_scopes.py OBJECT TABLE, where TABLE holds what was printed. Kinds, names, linkage
-names, call files, call lines, and the offset and the statement list of the root are those of
-readelf, which leaves out the units of types; a name that is not at the entry is looked for
-along its references, up to 16 of them. Ranges are those of llvm-dwarfdump, which adds the
-base in force; empty ones, and those that start at 2^64-1, the mark of dropped code, are left
-out. A scope's number counts those before it, its end is found by the depths that readelf
-shows. Fails where anything differs.
+compare_scopes.py OBJECT TABLE reads the output of `measure` from TABLE. It fails if anything
+differs.
+- Kinds, names, linkage names, call files, call lines, and the offset and the statement list of the
+  root are compared with readelf. Scopes of type units are omitted. A name that is not in the entry
+  is searched along its references, at most 16 of them.
+- Ranges are compared with llvm-dwarfdump, which adds the current base. Empty ranges, and dead
+  ranges that start at the tombstone 2^64-1, are omitted.
+- The number of a scope is the number of scopes before it. Its end is computed from the depths that
+  readelf prints.
 """
 import re
 import subprocess
@@ -39,7 +41,7 @@ DUMPED_RANGE = re.compile(r"^ +\[(?P<start>0x[0-9a-f]+), (?P<end>0x[0-9a-f]+)\)"
 
 
 def lines(*command):
-    """The lines that a command prints, without their ends; its warnings are left out."""
+    """Yields the lines that a command prints, without line ends and without its warnings."""
     with subprocess.Popen(command, stdout=subprocess.PIPE, stderr=subprocess.DEVNULL, text=True,
                           errors="surrogateescape") as running:
         for text in running.stdout:
@@ -49,16 +51,16 @@ def lines(*command):
 
 
 def value_of(text):
-    """What readelf shows behind the form of a value, and behind the offset of a string."""
+    """Returns the text that readelf prints after the form of a value and the offset of a string."""
     form = FORM.match(text)
     value = text[form.end():]
     return value if form["form"] == "string" else ELSEWHERE.sub("", value)
 
 
 def attributes_of(path):
-    """The attributes of each scope as readelf shows them, by its offset; its tag stands
-    with them, the number of the first later scope that is not below it, and the
-    attributes of its unit's root."""
+    """Returns the attributes of each scope as readelf prints them, by offset. They include the tag,
+    the index of the first later scope that is not a descendant, and the attributes of the root of
+    the unit."""
     scopes, current, root, around, is_read = {}, None, {}, [], True
     options = ("--wide", "--debug-dump=info", "--debug-dump=no-follow-links")
     for text in lines("readelf", *options, path):
@@ -82,8 +84,8 @@ def attributes_of(path):
 
 
 def named(scopes, offset, name):
-    """The first name of a kind along the references of a scope, `-` where there is none, and `?`
-    where they lead to no scope or go on."""
+    """Returns the first name of a kind along the references of a scope, `-` if there is none, or
+    `?` if the references lead to no scope or are too many."""
     for _ in range(HOPS + 1):
         attributes = scopes.get(offset)
         if attributes is None:
@@ -99,7 +101,7 @@ def named(scopes, offset, name):
 
 
 def ranges_of(path):
-    """The ranges of each scope as llvm-dwarfdump shows them, by its offset."""
+    """Returns the ranges of each scope as llvm-dwarfdump prints them, by offset."""
     scopes, current, low, listed = {}, None, None, False
     for text in lines("llvm-dwarfdump", "--debug-info", path):
         if found := DUMPED_ENTRY.match(text):
@@ -127,12 +129,12 @@ def spelled(ranges):
 
 
 def number(text):
-    """A number in decimal, which readelf may show in hexadecimal."""
+    """Converts a number that readelf may print in hexadecimal to decimal."""
     return text if text == "-" else str(int(text, 0))
 
 
 def shown(path):
-    """The fields of each scope as the other readers show them, by its offset."""
+    """Yields the offset and the fields of each scope as the other readers print them."""
     scopes, ranges = attributes_of(path), ranges_of(path)
     for offset, attributes in scopes.items():
         yield offset, [
@@ -150,7 +152,7 @@ def shown(path):
 
 
 def ours(table):
-    """The fields of each scope of a table, by its offset."""
+    """Yields the offset and the fields of each scope of a table."""
     for text in Path(table).read_bytes().decode(errors="surrogateescape").split("\n")[:-1]:
         offset, *fields = text.split("\t")
         yield int(offset, 16), fields

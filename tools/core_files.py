@@ -1,5 +1,4 @@
-"""The files that a process had mapped when its core file was written (NT_FILE), as lines of
-/proc/PID/maps."""
+"""Reads the mapped files of a process from its core file (NT_FILE), as lines of /proc/PID/maps."""
 import os
 import struct
 from typing import NamedTuple
@@ -20,7 +19,7 @@ class Segment(NamedTuple):
 
 
 def notes(data):
-    """The type and the contents of each note."""
+    """Yields the type and the contents of each note."""
     at = 0
     while at + 12 <= len(data):
         name, size, kind = struct.unpack_from("<III", data, at)
@@ -30,7 +29,7 @@ def notes(data):
 
 
 def files(note):
-    """The start, end, offset and path of each file that NT_FILE names."""
+    """Yields the start, end, offset and path of each mapping in NT_FILE."""
     count, page = struct.unpack_from("<QQ", note)
     paths = note[16 + 24 * count :].split(b"\0")
     for number in range(count):
@@ -39,14 +38,15 @@ def files(note):
 
 
 def is_executable(start, end, segments):
-    """Whether a mapping is. gdb leaves out the segments of code that is as in its file."""
+    """Returns whether a mapping is executable. gdb omits the segments of code that is unchanged
+    from its file, so a mapping without a segment is executable."""
     flags = [row.flags for row in segments
              if row.kind == LOAD and row.address < end and start < row.address + row.size]
     return not flags or any(flag & EXECUTABLE for flag in flags)
 
 
 def mappings_of(path):
-    """The mappings of files, as lines of /proc/PID/maps: those that are executable have an `x`."""
+    """Returns the mapped files as lines of /proc/PID/maps. Executable mappings have an `x`."""
     with open(path, "rb") as file:
         header = file.read(64)
         if header[:6] != b"\x7fELF\x02\x01" or header[16] != CORE:

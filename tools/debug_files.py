@@ -1,10 +1,13 @@
-"""Debug information of ELF objects: separate debug files, and compressed sections.
+"""Finds separate debug files of ELF objects, and decompresses sections.
 
-A stripped object names its debug file by its build id and by its debug link. The files are looked
-for where gdb looks: FOLDER/.build-id/NN/REST.debug, and the debug link beside the object, in
-.debug beside it, and in FOLDER under the object's own folder. FOLDER is /usr/lib/debug, and each
-folder of DEBUGINFOD_CACHE_PATH or debuginfod's cache has BUILDID/debuginfo. Objects with compressed
-sections are decompressed by objcopy into a cache.
+A stripped object names its debug file with a build ID and a debug link. The files are searched
+where gdb searches:
+- FOLDER/.build-id/NN/REST.debug, where FOLDER is /usr/lib/debug;
+- BUILDID/debuginfo in DEBUGINFOD_CACHE_PATH or in debuginfod's cache;
+- the debug link in the folder of the object, in .debug in that folder, and in FOLDER under the path
+  of that folder.
+
+objcopy decompresses objects with compressed sections into a cache.
 """
 import os
 import struct
@@ -27,7 +30,7 @@ class Section(NamedTuple):
 
 
 def sections(path):
-    """The sections of a 64-bit little-endian ELF object by their names; none of another file."""
+    """Returns the sections of a 64-bit little-endian ELF object by name; empty for other files."""
     try:
         with open(path, "rb") as file:
             header = file.read(64)
@@ -52,26 +55,26 @@ def contents(path, section):
 
 
 def build_id(path, found):
-    """The build id in hexadecimal, or None."""
+    """Returns the build ID in hexadecimal, or None."""
     note = found.get(".note.gnu.build-id")
     return contents(path, note)[16:].hex() if note else None
 
 
 def debug_link(path, found):
-    """The name of the debug file, or None."""
+    """Returns the name of the debug file, or None."""
     link = found.get(".gnu_debuglink")
     name = contents(path, link).split(b"\0", 1)[0] if link else b""
     return os.fsdecode(name) or None
 
 
 def caches():
-    """Folders in which debuginfod's clients store what they downloaded."""
+    """Returns the folders in which clients of debuginfod store their downloads."""
     home = os.environ.get("XDG_CACHE_HOME") or os.path.expanduser("~/.cache")
     return [os.environ.get("DEBUGINFOD_CACHE_PATH") or os.path.join(home, "debuginfod_client")]
 
 
 def candidates(path, found, folders):
-    """Where the debug file of an object may be, in the order in which it is looked for."""
+    """Yields the possible paths of the debug file of an object, in search order."""
     identity, name = build_id(path, found), debug_link(path, found)
     if identity:
         for folder in folders:
@@ -90,7 +93,7 @@ def has_debug(found):
 
 
 def decompressed(path, found):
-    """The object without compressed sections: itself, or a copy in the cache."""
+    """Returns the object without compressed sections: its own path, or a copy in the cache."""
     if not any(row.flags & COMPRESSED for row in found.values()):
         return str(path)
     home = os.environ.get("XDG_CACHE_HOME") or os.path.expanduser("~/.cache")
@@ -112,8 +115,8 @@ def decompressed(path, found):
 
 
 def with_debug(path, folders=FOLDERS):
-    """The file to load in place of an object: the object itself if it has debug information, else
-    its debug file if there is one; without compressed sections."""
+    """Returns the file to load for an object: the object if it has debug information, otherwise
+    its debug file if there is one. The file has no compressed sections."""
     found = sections(path)
     if not has_debug(found):
         for candidate in candidates(path, found, folders):

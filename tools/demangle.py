@@ -1,10 +1,10 @@
-"""Demangled names, by one c++filt."""
+"""Demangles names with one process of c++filt."""
 import shutil
 import subprocess
 
 
 class Demangler:
-    """A c++filt, started at the first name. Without it names stay as they are."""
+    """A process of c++filt that starts at the first name. Without c++filt, names are unchanged."""
 
     def __init__(self, style="auto"):
         self.command = ["c++filt", *([] if style == "auto" else [f"--format={style}"])]

@@ -1,6 +1,6 @@
 #!/usr/bin/env bash
-# Shows the program at work on an object that gcc compiles there and then; with --stored, or where
-# there is no gcc, on demo.stored, which is demo.c as gcc compiled it, linked at /src.
+# Runs the program on an object that gcc compiles from demo.c. With --stored, or if there is no gcc,
+# it uses demo.stored, which gcc compiled from demo.c in /src.
 set -euo pipefail
 cd "$(dirname "$0")/.."
 program=${ADDR2LINE_LIVE:-crates/addr2line_live/out/addr2line_live}
@@ -12,8 +12,8 @@ else
     cp tools/demo.stored "$object"
 fi
 
-# The first address whose innermost frame is main, and the first with three frames, of
-# what is inlined into it.
+# Finds the first address whose innermost frame is main, and the first address with three frames,
+# which is in code that was inlined.
 addresses=$(for ((address = 0x1000; address < 0x1400; address++)); do printf '%x ' $address; done)
 read -r plain inlined < <("$program" -a -f -i -p -e "$object" $addresses | awk '
     /^0x/ { frames = 1; address = substr($1, 1, 18) }
@@ -26,7 +26,7 @@ if [ -z "$inlined" ]; then
 fi
 
 coproc "$program" -f -i -p
-# A command, and its reply: the line `.` behind it is no command, and marks where the reply ends.
+# Prints a command and its reply. The line `.` after it is not a command; its reply marks the end.
 say() {
     echo "> $1"
     printf '%s\n.\n' "$1" >&"${COPROC[1]}"

@@ -1,6 +1,6 @@
 #!/usr/bin/env bash
-# Prints a C++ source of so many instantiations of containers, sorting and streams, in the namespace
-# named: instantiate.sh COUNT NAME
+# instantiate.sh COUNT NAME prints a C++ source with COUNT instantiations of containers, sorting and
+# streams, in the namespace NAME.
 set -euo pipefail
 count=$1 name=$2
 for header in algorithm functional map regex sstream string unordered_map vector; do

@@ -1,4 +1,4 @@
-"""A client of addr2line_live: one process that answers line by line."""
+"""A client of addr2line_live: one process that replies to each line."""
 import os
 import shutil
 import subprocess
@@ -10,18 +10,19 @@ INSTALLED = TOOLS.parent.parent / "bin/addr2line_live"
 
 
 def program():
-    """The program to start: $ADDR2LINE_LIVE, or the one beside these tools, or the one in PATH."""
+    """Returns the path of the program: $ADDR2LINE_LIVE, or the one built or installed with these
+    tools, or the one in PATH."""
     beside = next((str(path) for path in (BUILT, INSTALLED) if path.exists()), None)
     found = os.environ.get("ADDR2LINE_LIVE") or beside or shutil.which("addr2line_live")
     return found or "addr2line_live"
 
 
 class Ended(Exception):
-    """The process ended before its reply did."""
+    """The process ended before the end of its reply."""
 
 
 class Live:
-    """An addr2line_live with these options."""
+    """A process of addr2line_live with these options."""
 
     def __init__(self, *options, path=None):
         pipes = {"stdin": subprocess.PIPE, "stdout": subprocess.PIPE}
@@ -29,8 +30,8 @@ class Live:
         self.running = subprocess.Popen([path or program(), *options], **pipes, **text)
 
     def say(self, line):
-        """Returns the lines of the reply to a line. A line that is no command follows it: the
-        reply to that one marks the end."""
+        """Returns the lines of the reply to a line. A second line that is not a command follows;
+        its reply marks the end."""
         try:
             self.running.stdin.write(f"{line}\n.\n")
             self.running.stdin.flush()

@@ -1,10 +1,10 @@
-"""The ELF objects that a process has loaded: the mappings of its address space, and where each
-object's address 0 stands.
+"""Finds the ELF objects that a process has loaded, and the base of each: the address of the
+object's address 0.
 
-An object is mapped segment by segment. A segment whose bytes begin at `offset` in the file and
-whose first address is `address` takes whole pages, so a mapping may begin before the segment's
-first byte; but a byte at an offset of the file always stands at
-`base + address + (that offset - offset)`. That gives the base.
+An object is mapped segment by segment. A segment has an `offset` in the file and an `address` in
+the object. It is mapped in whole pages, so a mapping may start before the segment's first byte. But
+a byte at an offset of the file is always at `base + address + (that offset - offset)`, which gives
+the base.
 """
 import functools
 import os
@@ -28,15 +28,15 @@ class Segment(NamedTuple):
     size: int  # in the file
 
     def has(self, offset):
-        """Whether an offset of the file is in the segment, or in the page on which it begins."""
+        """Returns whether an offset of the file is in the segment, or in the page of its start."""
         return self.offset - self.offset % PAGE <= offset < self.offset + self.size
 
 
-DELETED = " (deleted)"  # behind the path of a file that is no longer there
+DELETED = " (deleted)"  # follows the path of a deleted file
 
 
 class Mapping(NamedTuple):
-    """A stretch of an address space that shows a file."""
+    """A range of an address space that maps a file."""
 
     start: int
     end: int
@@ -45,7 +45,7 @@ class Mapping(NamedTuple):
 
 
 def mapping_of(line):
-    """The executable mapping of a file that a line of /proc/PID/maps tells of, or None."""
+    """Returns the executable mapping of a file in a line of /proc/PID/maps, or None."""
     found = LINE.fullmatch(line.rstrip("\n"))
     if not found or found["rights"][2] != "x":
         return None
@@ -55,8 +55,8 @@ def mapping_of(line):
 
 @functools.cache
 def segments(path):
-    """The executable segments of a 64-bit little-endian ELF object; none for any other file, and
-    none for one that is deleted, since another may have its path."""
+    """Returns the executable segments of a 64-bit little-endian ELF object; empty for other files,
+    and for a deleted file, because another file may have its path."""
     if path.endswith(DELETED):
         return []
     try:
@@ -78,7 +78,7 @@ def segments(path):
 
 
 def base_of(mapping, executable):
-    """Where address 0 of the object stands whose executable segments are given, or None."""
+    """Returns the base of the object with these executable segments, or None."""
     for segment in executable:
         base = mapping.start - mapping.offset + segment.offset - segment.address
         if segment.has(mapping.offset) and base >= 0 and base % PAGE == 0:
@@ -87,7 +87,7 @@ def base_of(mapping, executable):
 
 
 def name_of(path, taken):
-    """A name of at most 64 letters, digits, `_`, `-` and `.` that no other object has."""
+    """Returns a unique name of at most 64 letters, digits, `_`, `-` and `.`."""
     plain = re.sub(r"[^A-Za-z0-9_.-]", "_", os.path.basename(path))[:56] or "object"
     name, number = plain, 1
     while name in taken:
@@ -98,8 +98,8 @@ def name_of(path, taken):
 
 
 def objects_of(lines, root=""):
-    """The name, base and path of each object in lines of /proc/PID/maps, and other files' paths.
-    The files are read, and named, below `root`: a process may have a root folder of its own."""
+    """Returns the name, base and path of each object in lines of /proc/PID/maps, and the paths of
+    other files. `root` is prepended to each path: a process may have its own root folder."""
     loaded, others, taken = {}, [], set()
     for line in lines:
         mapping = mapping_of(line)

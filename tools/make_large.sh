@@ -1,6 +1,6 @@
 #!/usr/bin/env bash
-# Compiles a large C++ program of four parts, side by side, each of so many instantiations:
-# make_large.sh OBJECT COUNT. With 60 it has 69 MB, with 150 162 MB.
+# make_large.sh OBJECT COUNT compiles a large C++ program from four parts in parallel. Each part has
+# COUNT instantiations. The program has 69 MB for a COUNT of 60, and 162 MB for 150.
 set -euo pipefail
 object=$1 count=$2
 tools=$(dirname "$0")

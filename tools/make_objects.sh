@@ -1,10 +1,11 @@
 #!/usr/bin/env bash
-# Compiles the objects on which the readers are compared and measured, into the folder named: a C
-# program, a C++ program, the same with its types in units of their own, the same with link-time
-# optimization, a shared library, and a large C++ program of many instantiations. Where there is
-# dwz, also a C++ program of two units that share partial units. Where there is clang, also a C and
-# a C++ program of its own, and these in the 64-bit format of DWARF; where there is lld too, a C++
-# program whose dropped code is marked by the address 2^64-1, and one with link-time optimization.
+# make_objects.sh FOLDER compiles the objects for comparisons and measurements into FOLDER:
+# - a C program, a shared library, and a large C++ program with many instantiations;
+# - a C++ program, the same with type units, and the same with link-time optimization;
+# - with dwz, a C++ program of two units that share partial units;
+# - with clang, a C and a C++ program, and the same in the 64-bit format of DWARF;
+# - with clang and lld, a C++ program whose dead code has the tombstone address 2^64-1, and one with
+#   link-time optimization.
 set -euo pipefail
 folder=$1
 mkdir -p "$folder"

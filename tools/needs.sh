@@ -1,6 +1,6 @@
 #!/bin/sh
-# needs.sh TARGET TOOL..: fails where tools that a target needs are not there, and
-# names them in one line.
+# needs.sh TARGET TOOL..: fails if tools that a target needs are missing, and prints their names
+# in one line.
 target=$1
 shift
 missing=

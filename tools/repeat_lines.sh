@@ -1,5 +1,6 @@
 #!/usr/bin/env bash
-# Writes a copy of an object whose line programs are repeated to 100 MB, without its entries.
+# repeat_lines.sh OBJECT COPY writes a copy of an object without its entries, in which the line
+# programs are repeated up to 100 MB.
 set -euo pipefail
 object=$1 copy=$2
 only_lines=(--only-section=.debug_line --set-section-flags .debug_line=alloc)

@@ -1,6 +1,6 @@
 #!/bin/sh
-# Tries the edits that the gate leaves out, edits/CRATE/*.edit, of all crates or of those named.
-# Ends with 1 where one is not refused.
+# Tries the must-fail edits that are not in CI, edits/CRATE/*.edit, of all crates or of the named
+# ones. The exit status is 1 if the prover accepts one of them.
 set -eu
 cd "$(dirname "$0")/.."
 crates=${*:-$(ls edits)}
