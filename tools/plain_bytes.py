@@ -1,9 +1,11 @@
-"""Numbers, texts, values of forms, and ELF sections of an object, read plainly: a second
-reader beside the program's, written from ELF-64 and DWARF 5 chapter 7, for tools/fuzz.py
-and tools/long_run.py."""
+"""Reference implementation: numbers, strings, values of forms, and ELF sections.
+
+It was written from ELF-64 and DWARF 5 chapter 7, independently of the program's reader.
+tools/fuzz.py and tools/long_run.py use it.
+"""
 import struct
 
-TOP = (1 << 64) - 1  # also the mark of dropped code
+TOP = (1 << 64) - 1  # also the tombstone of dead code
 WANTED = (".debug_info", ".debug_abbrev", ".debug_line", ".debug_line_str", ".debug_str",
           ".debug_str_offsets", ".debug_addr", ".debug_rnglists")
 
@@ -17,7 +19,7 @@ FORMS = set(FIXED) | ULEB | OFFSET | set(BLOCK) | OTHER
 
 
 class Bad(Exception):
-    """What is wrong with an item, before it is known where the item stands."""
+    """The cause of a fault, before the offset of its item is known."""
 
     def __init__(self, cause):
         super().__init__(cause)
@@ -32,7 +34,7 @@ class Fault(Exception):
 
 
 class Cursor:
-    """A place in bytes, and an end that no read goes past."""
+    """An offset in bytes, and an end that reads do not exceed."""
 
     def __init__(self, data, at, end):
         self.data, self.at, self.end = data, at, end
@@ -47,7 +49,7 @@ class Cursor:
         return int.from_bytes(self.take(count), "little")
 
     def leb(self):
-        """The groups of a LEB128 number as one number, how many there are, and the last byte."""
+        """Returns the value of the groups of a LEB128 number, their count and the last byte."""
         value = 0
         for count in range(10):
             byte = self.fixed(1)
@@ -78,7 +80,7 @@ class Cursor:
         return self.data[start:place]
 
     def initial_length(self):
-        """The format's width of offsets, and the length."""
+        """Returns the width of offsets in the DWARF format, and the length."""
         length = self.fixed(4)
         if length < 0xFFFFFFF0:
             return 4, length
@@ -97,7 +99,7 @@ def text_at(section, offset):
 
 
 def value(cursor, form, width, constant=None):
-    """The value of a form that is not indirect: a number or bytes."""
+    """Reads the value of a form that is not indirect: a number or bytes."""
     if form in FIXED:
         return 1 if form == 0x19 else cursor.fixed(FIXED[form])
     if form in ULEB:
@@ -124,8 +126,8 @@ def elf_fault(cause, at=0):
 
 
 def tables(data):
-    """Where the program and section headers stand: (offset, count) of each,
-    and the names' number."""
+    """Returns the offset and the count of the program headers and of the section headers, and the
+    index of the section of names."""
     if len(data) > 1 << 30:
         raise elf_fault("too-many")
     if len(data) < 64 or data[:4] != b"\x7fELF":
@@ -146,7 +148,7 @@ def tables(data):
 
 
 def extent(data, phoff, phnum):
-    """The lowest address of the load segments, and the first one past them."""
+    """Returns the lowest address of the load segments, and their end (exclusive)."""
     lows, highs = [], []
     for at in range(phoff, phoff + 56 * phnum, 56):
         kind, low, size = struct.unpack_from("<I12xQ16xQ", data, at)
@@ -168,7 +170,7 @@ def section_header(data, at):
 
 
 def sections(data, shoff, shnum, shstrndx):
-    """The wanted sections by name, those that are absent being empty."""
+    """Returns the sections of WANTED by name. An absent section is empty."""
     found = {}
     if shnum == 0:
         return {name: b"" for name in WANTED}
@@ -198,7 +200,7 @@ def sections(data, shoff, shnum, shstrndx):
 
 
 def read_elf(data):
-    """The sections and the extent of an object."""
+    """Returns the sections and the extent of an object."""
     (phoff, phnum), (shoff, shnum), shstrndx = tables(data)
     low, high = extent(data, phoff, phnum)
     return sections(data, shoff, shnum, shstrndx), low, high

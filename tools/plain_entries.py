@@ -1,5 +1,4 @@
-"""The units, entries, scopes, ranges and names of an object, read plainly (DWARF
-5, chapters 2, 3, 7.5)."""
+"""Reference implementation: units, entries and names (DWARF 5, chapters 2, 3 and 7.5)."""
 from plain_bytes import FORMS, Bad, Cursor, Fault, text_at, value
 
 INFO = ".debug_info"
@@ -22,12 +21,12 @@ class Unit:
     def __init__(self, start, width, place, first, end):
         self.start, self.width, self.place, self.first, self.end = start, width, place, first, end
         self.root, self.low_pc, self.tables, self.entries = None, None, {}, {}
-        self.lists = {}  # the ranges of each list that was read, and how many items it has
+        self.lists = {}  # the ranges and the number of items of each list that was read
 
 
 class Entry:
-    """An entry with its used attributes as (form, value). `end` is the number of the first later
-    scope that is not below it; of a scope alone, as are its number, ranges and names."""
+    """An entry with its used attributes as (form, value). Only scopes have an index, ranges, names
+    and `end`, the index of the first later scope that is not a descendant."""
 
     def __init__(self, at, depth, tag, unit):
         self.at, self.depth, self.tag, self.unit, self.used = at, depth, tag, unit, {}
@@ -83,7 +82,8 @@ def read_attributes(cursor):
 
 
 def read_table(section, place, left):
-    """The declarations at a place by their codes; `left` is how many more an object may have."""
+    """Returns the declarations of the table at `place` by code. `left` is the number of
+    declarations that the object may still have."""
     found, cursor = {}, Cursor(section, place, len(section))
     while True:
         at = cursor.at
@@ -155,7 +155,7 @@ def read_entries(info, unit, table):
 
 
 def head(section, base, name, width):
-    """The width of a table's items, the end of the table, and how many items it has."""
+    """Checks the header of a table. Returns the width and the number of its items."""
     size = {".debug_rnglists": 12}.get(name, 8) + (8 if width == 8 else 0)
     if base < size or base > len(section):
         raise Bad("base")
@@ -208,7 +208,8 @@ def read_root(found, unit):
 
 
 def next_of(entry, entries):
-    """The entry that an entry names: its abstract origin, else its specification."""
+    """Returns a function that finds the abstract origin of an entry, otherwise its specification.
+    Returns None if there is neither."""
     form, number = entry.used.get(ORIGIN) or entry.used.get(SPECIFICATION) or (0x20, 0)
     if form == 0x20:
         return None

@@ -1,4 +1,4 @@
-"""The line programs of an object, read plainly (DWARF 5, section 6.2): rows and paths of files."""
+"""Reference implementation: rows and file paths of line programs (DWARF 5, section 6.2)."""
 from plain_bytes import FORMS, TOP, Bad, Cursor, Fault, text_at, value
 
 OPERANDS = (0, 1, 1, 1, 1, 0, 0, 0, 1, 0, 0, 1)  # of the standard opcodes from 1 on
@@ -18,7 +18,7 @@ class Program:
         self.least, self.line_base, self.line_range, self.opcode_base, self.lengths = parameters
 
     def path(self, number):
-        """The parts of a file's path that are not empty, with slashes between them."""
+        """Joins the non-empty parts of a file's path with slashes."""
         text, directory = self.files[number]
         parts = [text]
         if not text.startswith(b"/"):
@@ -29,8 +29,8 @@ class Program:
 
 
 def parameters(cursor):
-    """The parameters of a header: the least length of an instruction, what lines count from, their
-    range, the first special opcode, and how many operands the opcodes before it have."""
+    """Reads the parameters of a header: the minimum instruction length, line_base, line_range,
+    opcode_base, and the number of operands of each standard opcode."""
     least = cursor.fixed(1)
     if cursor.fixed(1) != 1:
         raise Bad("line-params")
@@ -51,7 +51,7 @@ def parameters(cursor):
 
 
 def is_format(pairs, has_index):
-    """Whether entries may have this format: one path, and of files one directory index at most."""
+    """Returns whether a format is valid: one path, and for files at most one directory index."""
     indexes = [form for content, form in pairs if has_index and content == 2]
     others = [form for content, form in pairs if content != 1 and not (has_index and content == 2)]
     paths = [form for content, form in pairs if content == 1]
@@ -61,8 +61,8 @@ def is_format(pairs, has_index):
 
 
 def entries(cursor, width, texts, directories):
-    """The entries of a table as (path, directory index); `directories` is how
-    many there are, or None."""
+    """Reads the entries of a table as (path, directory index). `directories` is the number of
+    directories, or None for the table of directories."""
     pairs = [(cursor.uleb(), cursor.uleb()) for _ in range(cursor.fixed(1))]
     count = cursor.uleb()
     found = []
@@ -83,7 +83,7 @@ def entries(cursor, width, texts, directories):
 
 
 class Machine:
-    """The registers of a sequence, and the rows so far."""
+    """The registers of the line state machine, and the rows so far."""
 
     def __init__(self, number, program):
         self.number, self.program, self.rows = number, program, []
@@ -118,7 +118,7 @@ class Machine:
             raise Bad("file-index")
 
     def special(self, opcode):
-        """The advance of the address by a special opcode, and of the line."""
+        """Returns the address advance and the line advance of a special opcode."""
         apart = opcode - self.program.opcode_base
         return (self.program.least * (apart // self.program.line_range),
                 self.program.line_base + apart % self.program.line_range)
@@ -171,7 +171,7 @@ class Machine:
 
 
 def read_program(cursor, number, texts):
-    """A program with its rows; the cursor is left at its end."""
+    """Reads a program and its rows. Sets the end of the cursor to the end of the program."""
     width, length = cursor.initial_length()
     end = cursor.at + length
     if end > cursor.end:
@@ -196,7 +196,7 @@ def read_program(cursor, number, texts):
 
 
 def read_lines(found):
-    """All rows in file order, and the programs with the offsets at which they start."""
+    """Returns all rows in file order, the programs, and the index of each program by its offset."""
     line = found[".debug_line"]
     texts = {0x0E: found[".debug_str"], 0x1F: found[".debug_line_str"]}
     rows, programs, offsets, at = [], [], {}, 0

@@ -1,5 +1,5 @@
-"""One object read plainly and whole: its first fault, or the frames of each link address by a scan
-over all rows and scopes."""
+"""Reference implementation of one object: its first fault, or the frames of each link address,
+found by a scan over all rows and scopes."""
 from plain_bytes import TOP, Bad, Cursor, Fault, read_elf
 from plain_entries import (CALL_FILE, CALL_LINE, COUNT, HIGH_PC, INFO, LINKAGE, LOW_PC, MOST, NAME,
                            RANGES, STMT_LIST, address, item_at, name_of, path_of, read_entries,
@@ -8,14 +8,14 @@ from plain_lines import read_lines
 
 
 class RangeList:
-    """A range list that is being read."""
+    """The reader of a range list."""
 
     def __init__(self, found, unit, left):
         self.found, self.unit, self.base = found, unit, unit.low_pc
         self.left, self.ranges = left, []
 
     def operand(self, cursor, kind):
-        """An operand that is an index of an address, a number or an address."""
+        """Reads an operand: the index of an address, a number or an address."""
         if kind == "index":
             return item_at(self.found, self.unit, ".debug_addr", cursor.uleb())
         return cursor.uleb() if kind == "number" else cursor.fixed(8)
@@ -60,7 +60,7 @@ class RangeList:
 
 
 def pair(found, scope):
-    """The range between low_pc and high_pc."""
+    """Returns the range from low_pc to high_pc in a list, or no range if it is empty or dead."""
     low = address(found, scope.unit, *scope.used[LOW_PC])
     form, high = scope.used[HIGH_PC]
     if form in COUNT:
@@ -77,7 +77,8 @@ def pair(found, scope):
 
 
 def ranges_of(found, scope, left):
-    """The ranges of a scope that are not empty, and how many more range items there may be."""
+    """Returns the non-empty ranges of a scope, and the number of range items that the object may
+    still have."""
     used = scope.used
     has_both = RANGES in used and (LOW_PC in used or HIGH_PC in used)
     if has_both or HIGH_PC in used and LOW_PC not in used:
@@ -103,7 +104,7 @@ def ranges_of(found, scope, left):
 
 
 def read_scopes(found):
-    """The units and the scopes of all of them in file order."""
+    """Returns the units, and the scopes of all units in file order."""
     info = found[INFO]
     units = read_units(info)
     tables = read_tables(found[".debug_abbrev"], units)
@@ -127,9 +128,8 @@ def read_scopes(found):
 
 
 def end_scopes(scopes):
-    """Sets the end of each scope, the first later one that is not below it. All that is
-    between a scope and the next one of its unit may end it, so depths of entries that
-    are no scopes count too."""
+    """Sets the end of each scope: the index of the first later scope that is not a descendant.
+    Any entry may end a scope, so the depths of entries that are not scopes count too."""
     for scope in scopes:
         later = (entry for at, entry in scope.unit.entries.items()
                  if at > scope.at and entry.depth <= scope.depth)
@@ -140,7 +140,7 @@ def end_scopes(scopes):
 
 
 class PlainModule:
-    """An object. Making one raises the object's first fault."""
+    """An object. The constructor raises the first fault of the object."""
 
     def __init__(self, data):
         found, self.low, self.high = read_elf(data)
@@ -151,7 +151,7 @@ class PlainModule:
         self.offsets = offsets
 
     def join(self, unit, offsets):
-        """Judges what a unit's entries say of line programs."""
+        """Cross-checks the entries of a unit and the line programs."""
         start = unit.root.number(STMT_LIST) if unit.root else None
         if start is not None and start not in offsets:
             raise Fault(INFO, "stmt-list", unit.root.at)
@@ -178,7 +178,7 @@ class PlainModule:
         return chain
 
     def call(self, scope):
-        """The path and the line from which a scope is called."""
+        """Returns the path and the line of the call of a scope."""
         file, line, path = scope.number(CALL_FILE), scope.number(CALL_LINE), None
         if file is not None:
             start = scope.unit.root.number(STMT_LIST)
@@ -186,7 +186,7 @@ class PlainModule:
         return path, line or 0
 
     def frames(self, link):
-        """The frames of an address, innermost first, as (name, linkage name, path, line)."""
+        """Returns the frames of an address, innermost first, as (name, linkage name, path, line)."""
         row, chain = self.row_of(link), self.chain_of(link)
         place = (None, 0)
         if row:

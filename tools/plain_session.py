@@ -1,5 +1,8 @@
-"""The replies of addr2line_live to lines of input, made plainly: a list of loaded objects, each
-read and scanned as plain_module.py does. It has no index, no cache and no order kept."""
+"""Reference implementation of the replies of addr2line_live to lines of input.
+
+It has a list of loaded objects, which plain_module.py reads and scans. It has no index, no cache
+and no sorted lists.
+"""
 import re
 
 from plain_bytes import TOP, Fault
@@ -10,7 +13,7 @@ CONTROL = bytes(63 if byte < 32 or byte == 127 else byte for byte in range(256))
 
 
 class Refusal(Exception):
-    """Why a line is refused."""
+    """The reason why a line is refused."""
 
 
 def number(text):
@@ -23,13 +26,13 @@ def hexadecimal(value):
 
 
 class Session:
-    """A run with options, given as their letters, and `l` for linkage names."""
+    """A run with options, which are given as letters, with `l` for linkage names."""
 
     def __init__(self, letters=""):
         self.letters, self.modules, self.known = letters, {}, {}
 
     def read(self, path):
-        """The module of a file's bytes, or its fault as text."""
+        """Returns the module of a file, or its fault as a string."""
         try:
             with open(path, "rb") as file:
                 data = file.read()
@@ -43,7 +46,7 @@ class Session:
         return self.known[data]
 
     def reply(self, line):
-        """The reply to a line."""
+        """Returns the reply to a line."""
         try:
             return self.done(line)
         except Refusal as refusal:
@@ -63,7 +66,7 @@ class Session:
         return self.answer(number(line))
 
     def operands(self, fields):
-        """A name and a base."""
+        """Parses a name and a base."""
         if re.fullmatch(rb"[A-Za-z0-9_.-]{1,64}", fields[0]) is None:
             raise Refusal("name")
         base = number(fields[1]) if len(fields) > 1 else 0
@@ -93,7 +96,7 @@ class Session:
         return self.at(b"loaded ", name)
 
     def place(self, name, base, module):
-        """Puts a module at a base, where no other one is met."""
+        """Places a module at a base, unless it overlaps another module."""
         if base + module.high > TOP:
             raise Refusal("range")
         low, high = base + module.low, base + module.high
@@ -143,7 +146,7 @@ class Session:
         return self.text(asked, frames)
 
     def text(self, asked, frames):
-        """The text of an answer."""
+        """Formats an answer."""
         has, text = self.letters.__contains__, b""
         shown = frames if has("i") else frames[:1]
         if has("a"):

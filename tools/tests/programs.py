@@ -1,4 +1,4 @@
-"""What the tests of the tools share: the program, and objects that gcc compiles for a test."""
+"""Helpers for the tests of the tools: the program, and objects that gcc compiles for a test."""
 import os
 import subprocess
 import sys
@@ -13,7 +13,7 @@ PROGRAM = Path(os.environ.get("ADDR2LINE_LIVE", TOP / "crates/addr2line_live/out
 
 
 def output_of(*words, text=""):
-    """What a command prints; it must end well."""
+    """Returns the output of a command, which must exit with status 0."""
     words = list(map(str, words))
     done = subprocess.run(words, input=text, capture_output=True, text=True)
     if done.returncode:
@@ -22,7 +22,7 @@ def output_of(*words, text=""):
 
 
 def compiled(folder, name, source, *flags):
-    """An object of a C source, with DWARF 5; its source is folder/NAME.c."""
+    """Compiles a C source to an object with DWARF 5. The source is written to folder/NAME.c."""
     path = Path(folder) / name
     path.with_suffix(".c").write_text(source)
     output_of("gcc", "-g", "-gdwarf-5", *flags, "-o", path, path.with_suffix(".c"), "-ldl")
@@ -30,31 +30,31 @@ def compiled(folder, name, source, *flags):
 
 
 def symbol(path, name):
-    """The link address of a symbol."""
+    """Returns the link address of a symbol."""
     told = [line.split() for line in output_of("nm", path).splitlines()]
     return next(int(words[0], 16) for words in told if words[-1] == name)
 
 
 def instructions(path, function):
-    """The link address and the text of each instruction of a function."""
+    """Returns the link address and the disassembly of each instruction of a function."""
     shown = output_of("objdump", "-d", "--no-show-raw-insn", f"--disassemble={function}", path)
     found = (line.partition(":") for line in shown.splitlines() if line.startswith(" "))
     return [(int(address, 16), text) for address, _, text in found]
 
 
 def tool(name, *arguments, text=""):
-    """What a tool prints."""
+    """Returns the output of a tool."""
     return output_of(TOOLS / name, *arguments, text=text)
 
 
 class Live(live.Live):
-    """An addr2line_live that stays up."""
+    """A long-running process of addr2line_live."""
 
     def __init__(self, *options):
         super().__init__(*options, path=PROGRAM)
 
     def end(self):
-        """The exit status after the end of input."""
+        """Ends the input and returns the exit status."""
         self.running.stdin.close()
         self.running.stdout.close()
         return self.running.wait(10)

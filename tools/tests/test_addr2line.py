@@ -1,4 +1,4 @@
-"""tools/addr2line beside addr2line of binutils."""
+"""Compares tools/addr2line with addr2line of binutils."""
 import os
 import re
 import shutil
@@ -42,7 +42,7 @@ ODD = [",", "", "zz", "-1", "main", "main+1", "twice+0x2", "none+2", "0", "fffff
 
 
 def plain(text):
-    """Without discriminators, which addr2line_live does not read."""
+    """Removes discriminators, which addr2line_live does not read."""
     return re.sub(r" \(discriminator \d+\)", "", text)
 
 
@@ -64,7 +64,7 @@ class Addr2line(unittest.TestCase):
         self.assertEqual(self.run_tool(*words, text=asked)[:2], (0, plain(wanted)), options)
 
     def test_beside_binutils(self):
-        """Each byte of two functions and odd lines, with each combination of options."""
+        """Looks up the instructions of two functions, and unusual lines, with all options."""
         path = compiled(self.folder, "twice", SOURCE, "-O2")
         code = [at for name in ("twice", "main") for at, _ in instructions(path, name)]
         asked = "".join(f"{line}\n" for line in [*map(hex, code), *ODD])
@@ -91,7 +91,7 @@ class Addr2line(unittest.TestCase):
         self.assertEqual(self.run_tool("-e", path, "-f", "-C", *starts)[1], wanted)
 
     def test_separate_and_compressed_debug_information(self):
-        """By debug link, by build id in debuginfod's cache, and decompressed."""
+        """By debug link, by build ID in debuginfod's cache, and with compressed sections."""
         path = compiled(self.folder, "twice", SOURCE, "-O2", "-gz", "-Wl,--build-id")
         start = hex(symbol(path, "twice"))
         wanted = output_of("addr2line", "-e", path, "-f", start)
@@ -111,7 +111,7 @@ class Addr2line(unittest.TestCase):
         self.assertEqual(self.run_tool("-e", stripped, "-f", start)[1], wanted)
 
     def test_refusals(self):
-        """With status 1, as binutils."""
+        """Refuses with status 1, like binutils."""
         text = self.folder / "text"
         text.write_text("no object\n")
         path = compiled(self.folder, "twice", SOURCE)

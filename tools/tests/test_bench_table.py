@@ -1,4 +1,4 @@
-"""The table that bench/table.py makes of what the measuring scripts print."""
+"""Tests the table that bench/table.py makes from the output of the measuring scripts."""
 import subprocess
 import sys
 import tempfile

@@ -1,4 +1,4 @@
-"""What documents show is what the program prints."""
+"""Compares the examples in the documents with the output of the program."""
 import re
 import subprocess
 import sys
@@ -15,7 +15,7 @@ class Documents(unittest.TestCase):
         self.assertIn(f"```\n{shown}```\n", (TOP / "README.md").read_text())
 
     def test_example_of_the_protocol(self):
-        """The answer to an address of the stored object, as the clients print it."""
+        """Compares the answer to an address of the stored object with the output of the clients."""
         page = (TOP / "docs/PROTOCOL.md").read_text()
         example = re.search(r"```\n(loaded object .*?)```", page, re.DOTALL)[1].splitlines()
         live = Live("-f", "-i", "-p")

@@ -1,4 +1,4 @@
-"""What `make install` puts under a prefix works from there, with the program on PATH."""
+"""Tests the files that `make install` installs under a prefix, with the program on PATH."""
 import os
 import subprocess
 import sys
@@ -25,7 +25,7 @@ class Install(unittest.TestCase):
         cls.main = symbol(cls.path, "main")
 
     def run_installed(self, name, *words, text):
-        """What a tool prints where the installed program is the first on PATH."""
+        """Returns the output of a tool if the installed program is the first on PATH."""
         env = {**os.environ, "PATH": f"{self.prefix}/bin:{os.environ['PATH']}"}
         env.pop("ADDR2LINE_LIVE", None)
         command = [self.prefix / "libexec/addr2line_live" / name, *words]

@@ -1,4 +1,4 @@
-"""Loaded objects of real processes: their bases, and a library that comes and goes."""
+"""Tests the bases of objects of real processes, and a library that is loaded and unloaded."""
 import shutil
 import subprocess
 import sys
@@ -12,7 +12,7 @@ from programs import TOOLS, Live, compiled, instructions, output_of, symbol, too
 sys.path.insert(0, str(TOOLS))
 from loaded_objects import PAGE, Mapping, Segment, base_of, objects_of
 
-# A program that loads and unloads libraries as it is told, and says where a function is.
+# A program that loads and unloads libraries on command, and prints the address of a function.
 HOST = r"""
 #include <dlfcn.h>
 #include <stdio.h>
@@ -40,12 +40,12 @@ static inline __attribute__((always_inline)) int value(volatile int *p) { return
 __attribute__((noinline)) int run(int *p) { return value(p) + 1; }
 int main(int count, char **words) { return run(count > 5 ? &count : (int *)0); }
 """
-FIRST = "\n\nint work(int x)\n{\n    return x * 3;\n}\n"  # `work` begins in line 4, its brace
+FIRST = "\n\nint work(int x)\n{\n    return x * 3;\n}\n"  # `work` starts in line 4, at its brace
 SECOND = "int pad(int x) { return x; }\n\n\n\n\n\nint work(int x) {\n    return pad(x);\n}\n"  # 7
 
 
 class Host:
-    """A process of HOST."""
+    """A process of the program HOST."""
 
     def __init__(self, path):
         pipe = subprocess.PIPE
@@ -54,7 +54,7 @@ class Host:
         self.pid = self.running.pid
 
     def say(self, line):
-        """The number that a line is answered."""
+        """Sends a line and returns the number in the reply."""
         self.running.stdin.write(f"{line}\n")
         self.running.stdin.flush()
         return int(self.running.stdout.readline(), 16)
@@ -66,7 +66,7 @@ class Host:
 
 
 def loads(pid):
-    """The load line of each object of a process, by its path."""
+    """Returns the load line of each object of a process, by path."""
     return {line.split(" ", 3)[3]: line for line in tool("loads_of_process", pid).splitlines()}
 
 
@@ -87,7 +87,7 @@ class LoadsOfProcess(unittest.TestCase):
         return path, host
 
     def test_each_way_of_linking(self):
-        """The base is right whether addresses are offsets of the file or not."""
+        """The base is right whether or not addresses equal file offsets."""
         ways = {
             "pie": [],
             "no-pie": ["-no-pie"],
@@ -107,7 +107,7 @@ class LoadsOfProcess(unittest.TestCase):
                 self.assertEqual(self.live.say("unload host"), ["unloaded host"])
 
     def test_library_comes_and_goes(self):
-        """The same name, other bytes, while the process runs and is asked."""
+        """A library is replaced by another while the process runs and addresses are looked up."""
         path, host = self.host()
         first = self.compile("first.so", FIRST, "-O0", "-shared", "-fPIC")
         second = self.compile("second.so", SECOND, "-O0", "-shared", "-fPIC")
@@ -128,7 +128,7 @@ class LoadsOfProcess(unittest.TestCase):
                 self.assertEqual(self.live.say(f"{work:x}"), ["??", "??:0"])
 
     def test_what_is_left_out(self):
-        """The kernel's pages, deleted files, data, and files that are no objects."""
+        """Pages of the kernel, deleted files, data, and files that are not objects are omitted."""
         text = Path(self.folder.name) / "text"
         text.write_text("no object\n" * 1000)
         path = self.compile("plain", "int main(void) { return 0; }\n", "-no-pie")
@@ -150,14 +150,14 @@ class LoadsOfProcess(unittest.TestCase):
         self.assertEqual(told, f"{left_out}{path} (deleted)\n{left_out}{text}\n")
 
     def test_another_root_folder(self):
-        """The files of a process with a root folder of its own are read and named below it."""
+        """The files of a process with its own root folder are read and named below that folder."""
         path = self.compile("plain", "int main(void) { return 0; }\n", "-no-pie")
         line = f"00401000-00402000 r-xp 00001000 fe:00 1          /{path.name}\n"
         self.assertEqual(objects_of([line], str(path.parent)), ([("plain", 0, str(path))], []))
         self.assertEqual(objects_of([line], ""), ([], [f"/{path.name}"]))
 
     def test_part_of_a_segment(self):
-        """The base is told by any page of a segment, also where a segment begins within a page."""
+        """Any page of a segment gives the base, even if the segment starts inside a page."""
         base, segment = 0x7F0000000000, Segment(0x640, 0x1640, 3 * PAGE)
         for page in range(4):
             start = base + PAGE + page * PAGE
@@ -166,7 +166,7 @@ class LoadsOfProcess(unittest.TestCase):
         self.assertIsNone(base_of(Mapping(base, base + PAGE, 4 * PAGE, "object"), [segment]))
 
     def stripped(self, path):
-        """The same object without its debug information, which is in a file of its own."""
+        """Moves the debug information of an object to a separate file and returns its path."""
         debug = Path(f"{path}.debug")
         output_of("objcopy", "--only-keep-debug", path, debug)
         output_of("strip", "--strip-debug", path)
@@ -198,7 +198,7 @@ class LoadsOfProcess(unittest.TestCase):
     @unittest.skipUnless(Path("/proc/sys/kernel/core_pattern").read_text() == "core\n",
                          "core files are not written to the working folder")
     def test_a_crash_of_a_stripped_program(self):
-        """From the core file to the lines of the frame at which it stopped, inlined callers too."""
+        """The core file leads to the lines of the frame of the crash, including inlined callers."""
         path = self.compile("crash", CRASH, "-O1", "-fno-pie", "-no-pie")
         stop = next(at for at, text in instructions(path, "run") if "(%" in text)
         self.stripped(path)
@@ -222,7 +222,7 @@ class LoadsOfProcess(unittest.TestCase):
 
     @unittest.skipUnless(shutil.which("eu-addr2line"), "eu-addr2line is not installed")
     def test_beside_eu_addr2line(self):
-        """Addresses of the functions of a running process, as eu-addr2line -p tells them."""
+        """Addresses in a running process have the same lines as in eu-addr2line -p."""
         path, host = self.host()
         library = self.compile("second.so", SECOND, "-O0", "-shared", "-fPIC")
         work = host.say(library)
@@ -238,7 +238,7 @@ class LoadsOfProcess(unittest.TestCase):
         self.assertTrue(places[-1].startswith(f"{library.with_suffix('.c')}:"))
 
     def test_whole_process_of_many_objects(self):
-        """Each object of a running python is loaded, and none meets another."""
+        """Each object of a running python is loaded, and none overlaps another."""
         source = "import bz2, ctypes, decimal, lzma, socket, sqlite3, ssl, sys, zlib\n"
         source += "print(flush=True)\nsys.stdin.read()\n"
         pipe = subprocess.PIPE

@@ -1,4 +1,4 @@
-"""The clients of docs/PROTOCOL.md, as they stand there, and what it says of where replies end."""
+"""Tests the clients in docs/PROTOCOL.md, and its rules for the end of a reply."""
 import re
 import subprocess
 import sys
@@ -27,7 +27,7 @@ int main(void)
 }
 """
 LEAF, MIDDLE, MAIN = 5, 9, 13  # the lines of the store and of the two calls
-LONG = "long_" * 14_000  # a name of a function, past what a buffer of 65,536 bytes holds
+LONG = "long_" * 14_000  # a function name that is longer than a buffer of 65,536 bytes
 BASE = 0x7F0000000000
 CODE = dict(re.findall(r"```(python|c)\n(.*?)```", PAGE, re.DOTALL))  # by its language
 
@@ -45,7 +45,7 @@ class Protocol(unittest.TestCase):
 
     @classmethod
     def clients_of_the_page(cls):
-        """The words that start each client, by its language."""
+        """Builds the clients. Returns the command that starts each client, by language."""
         paths = {language: Path(cls.folder.name) / f"client.{language}" for language in CODE}
         for language, path in paths.items():
             path.write_text(CODE[language])
@@ -54,7 +54,7 @@ class Protocol(unittest.TestCase):
         return {"python": [sys.executable, paths["python"]], "c": [built]}
 
     def wanted(self, path, leaf):
-        """What a client prints after the reply to the load."""
+        """Returns the expected output of a client after the reply to the load."""
         source = f"{path}.c"
         return [
             f"0 {leaf} at {source}:{LEAF}",
@@ -64,7 +64,7 @@ class Protocol(unittest.TestCase):
         ]
 
     def check(self, path, leaf):
-        """Asks both clients of an object whose innermost function has this name."""
+        """Runs both clients with an object whose innermost function has this name."""
         asked = [path, f"{BASE:x}", f"{self.store:x}", self.nowhere]
         for language, client in self.clients.items():
             with self.subTest(language):
@@ -81,7 +81,7 @@ class Protocol(unittest.TestCase):
         self.check(compiled(self.folder.name, "long", source, "-O1"), LONG)
 
     def statuses(self, program):
-        """The status of each client, of a program that is told as lines of a shell script."""
+        """Returns the status of each client with a program that is given as a shell script."""
         path = Path(self.folder.name) / "program"
         path.write_text(f"#!/bin/sh\n{program}\n")
         path.chmod(0o755)
@@ -92,7 +92,7 @@ class Protocol(unittest.TestCase):
         }
 
     def test_a_program_that_ends(self):
-        """A client does not end well where a reply is missing, whatever the program's status."""
+        """A client fails if a reply is missing, whatever the program's status is."""
         whole, load = f'"{PROGRAM}" "$@"', "head -n 2"
         self.assertEqual(self.statuses(f"exec {whole}"), {"python": 0, "c": 0})
         for program in (f"{load} | {whole}", f"{load} | {whole}; kill -9 $$", "exit 0", "exit 3"):
@@ -103,7 +103,7 @@ class Protocol(unittest.TestCase):
         return output_of(PROGRAM, *options.split(), text=text)
 
     def test_lines_of_an_answer(self):
-        """The table of the page, for an address with three frames and for one with none."""
+        """Checks the table of the page for an address with three frames and for one with none."""
         load = f"load a {BASE:x} {self.path}\n"
         one_frame = {"-p": 1, "-p -f -a": 1, "": 1, "-a": 2, "-f": 2, "-a -f": 3}
         table = {options: (count, count) for options, count in one_frame.items()}

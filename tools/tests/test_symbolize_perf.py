@@ -1,4 +1,4 @@
-"""Frames in the text of `perf script`: as perf wrote it here, and as its versions write it."""
+"""Tests frames in the output of `perf script`: of the local perf, and of several versions."""
 import shutil
 import subprocess
 import sys
@@ -39,7 +39,7 @@ HEAD = "spin 12 1.000001:  250000 cpu-clock: "
 
 
 def mapped(start, path):
-    """What perf tells of a page of code of an object."""
+    """Returns the line of perf for the mapping of a page of code."""
     where = f"[0x{start:x}(0x1000) @ 0x1000 fe:00 1 2]"
     return f"spin 12 0.5: PERF_RECORD_MMAP2 12/12: {where}: r-xp {path}\n"
 
@@ -58,7 +58,7 @@ class SymbolizePerf(unittest.TestCase):
         self.source = f"{self.path}.c"
 
     def frames(self, indent, product, behind):
-        """The frames of the product below the call of `spin`."""
+        """Returns the frames of the product inside the call of `spin`."""
         return (
             f"{indent}{product} step ({self.source}:{STEP})\n"
             f"{indent}{product} spin ({self.source}:{SPIN})\n"
@@ -89,7 +89,7 @@ class SymbolizePerf(unittest.TestCase):
         self.assertEqual(tool("symbolize_perf", "--maps", maps, text=text), wanted)
 
     def test_an_object_in_the_place_of_another(self):
-        """What is mapped last is asked."""
+        """The most recent mapping is used."""
         other = compiled(self.folder, "other", SOURCE.replace("step", "leap"), "-O2", "-no-pie")
         text, wanted, product = "", "", f"{self.product:x}"
         for path, name in ((self.path, "step"), (other, "leap")):
@@ -110,7 +110,7 @@ class SymbolizePerf(unittest.TestCase):
 
     @unittest.skipUnless(shutil.which("c++filt"), "c++filt is not installed")
     def test_methods_of_one_name(self):
-        """Two methods that are called alike keep their classes."""
+        """Two methods with the same name are printed with their classes."""
         source = self.folder / "methods.cc"
         source.write_text(METHODS)
         path = self.folder / "methods"
