@@ -1,10 +1,10 @@
 #!/usr/bin/env python3
-"""Whether plain C refuses what the program refuses, and says the same of it.
+"""Checks that plain C and the program refuse the same objects for the same reasons.
 
-agree.py PROGRAM SEED COUNT [OBJECT..] tries COUNT objects that are made by chance, mutants of
-samples and of the objects named (tools/fuzz_mutants.py), and then objects at the limits. It fails
-where the program's reply to `load` is another than what out/load says (bench/run.sh builds it);
-the object is then kept as out/differs:
+agree.py PROGRAM SEED COUNT [OBJECT..] tries COUNT objects: random objects, and mutants of samples
+and of the named objects (tools/fuzz_mutants.py). Then it tries objects at the limits. It fails if
+the program's reply to `load` differs from the message of out/load, which bench/run.sh builds. The
+object is then stored as out/differs:
 
     bench/agree.py crates/addr2line_live/out/addr2line_live 1 5000
 """
@@ -24,7 +24,7 @@ SAMPLES = [TOP / "crates/measure/data/inlined", TOP / "tools/demo.stored"]
 
 
 class Program:
-    """The program, which is told to load one object after the other."""
+    """The program, which loads one object after the other."""
 
     def __init__(self, path):
         pipes = {"stdin": subprocess.PIPE, "stdout": subprocess.PIPE}
@@ -36,7 +36,7 @@ class Program:
         return self.replies.readline().strip()
 
     def verdict(self, path):
-        """Why it refuses an object, or nothing."""
+        """Returns the refusal of an object, or an empty string."""
         reply = self.reply(f"load object 0 {path}")
         if reply.startswith("loaded"):
             self.reply("unload object")
@@ -45,7 +45,7 @@ class Program:
 
 
 def plain_verdict(path):
-    """Why plain C refuses an object, or nothing."""
+    """Returns the refusal of an object by plain C, or an empty string."""
     done = subprocess.run([TOP / "out/load", path], capture_output=True, text=True)
     if done.returncode == 0:
         return ""

@@ -1,8 +1,9 @@
 #!/usr/bin/env bash
-# Answers a second on three objects, beside the peers that are there: in a batch over a pipe and in
-# ping-pong, FILE:LINE alone and with functions and inlined callers, for addresses spread over an
-# object in no order, and, of this program, for sixteen addresses that are asked again and again.
-# Arguments: how many addresses are asked, and how many of slow peers.
+# answers.sh [MANY [FEW]] measures answers per second on three objects, for this program and the
+# installed peers: in a batch over a pipe and in ping-pong, with FILE:LINE alone and with functions
+# and inlined callers. The addresses are spread over an object in random order. For this program it
+# also measures sixteen addresses that are looked up repeatedly. MANY is the number of addresses,
+# and FEW is the number for slow peers.
 set -euo pipefail
 cd "$(dirname "$0")/.."
 program=crates/addr2line_live/out/addr2line_live
@@ -12,8 +13,8 @@ tools/build.sh addr2line_live program.log
 [ -f out/objects/large ] || tools/make_objects.sh out/objects
 gcc -O2 -o out/ask bench/ask.c
 
-# So many addresses of an object's executable sections, in no order, or the first sixteen of them
-# again and again.
+# spread OBJECT COUNT KINDS prints COUNT addresses of the executable sections in random order, or
+# repeats the first KINDS of them.
 spread() {
     python3 - "$1" "$2" "$3" << 'PY'
 import random
@@ -28,9 +29,8 @@ for number in range(count):
 PY
 }
 
-# How many bytes a program answers to each of some addresses: all but the lines with which its
-# answers begin where addresses are asked for too. A program may end with a status of its own and
-# have answered all.
+# Prints the number of bytes of a program's answer to each address. The program runs with -a, and
+# the address lines that start its answers are not counted. Its exit status is ignored.
 lengths() {
     local addresses=$1
     shift
@@ -45,7 +45,7 @@ for line in sys.stdin.buffer:
 print(*lengths, sep="\n")'
 }
 
-# One line: what was asked how, and what came of it.
+# Prints one line: the question, the way of asking, and the result.
 show() {
     local what=$1 how=$2 addresses=$3
     shift 3
@@ -53,8 +53,8 @@ show() {
     printf '  %-44s %s\n' "$what" "$(out/ask "$how" "$addresses" out/lengths "$@" || true)"
 }
 
-# The same of a program that may be slow: it is asked all addresses where it answers a few of them
-# at once, else these alone.
+# The same for a program that may be slow. It gets all addresses if it answers the few quickly,
+# otherwise only the few.
 show_slow() {
     local what=$1 how=$2 start
     shift 2

@@ -1,10 +1,10 @@
-// Asks a program that answers addresses on its standard input, and says how fast it answers.
+// Measures how fast a program answers addresses on its standard input.
 //
-// ask batch|pingpong ADDRESSES LENGTHS COMMAND.. sends the lines of the file ADDRESSES. The file
-// LENGTHS says how many bytes each answer has, a line each. The first address is sent and answered
-// before the clock starts, so that what was loaded is loaded. A batch is sent as fast as it is
-// taken; in ping-pong the next address is sent when all bytes of an answer have come. It fails,
-// and says how, where an answer ends early or no byte comes for a minute.
+// ask batch|pingpong ADDRESSES LENGTHS COMMAND.. sends the lines of the file ADDRESSES. Each line
+// of the file LENGTHS has the number of bytes of one answer. The first address is sent and answered
+// before the clock starts, so that loading is not measured. A batch is sent as fast as the program
+// reads it. In ping-pong the next address is sent when all bytes of an answer have arrived. If an
+// answer ends early or no byte arrives for a minute, the result line starts with `failed`.
 #define _GNU_SOURCE
 #include <poll.h>
 #include <signal.h>
@@ -44,7 +44,7 @@ static pid_t start(char **command) {
     return program;
 }
 
-// Sends bytes, as far as they are taken.
+// Sends bytes until the program stops reading.
 static void send_all(const char *bytes, size_t count) {
     while (count) {
         ssize_t sent = write(to_program, bytes, count);
@@ -54,13 +54,13 @@ static void send_all(const char *bytes, size_t count) {
     }
 }
 
-// Says how answers stopped, and how many bytes of the awaited ones had not come.
+// Prints why the answers stopped, and the number of bytes that did not arrive. Exits.
 static void fail(const char *why, size_t wanted) {
     printf("failed: %s after %zu bytes of answers, %zu were awaited\n", why, answered, wanted);
     exit(1);
 }
 
-// Reads so many bytes of answers.
+// Reads `wanted` bytes of answers.
 static void read_bytes(size_t wanted) {
     static char buffer[1 << 16];
     while (wanted) {
@@ -74,14 +74,14 @@ static void read_bytes(size_t wanted) {
     }
 }
 
-// The length of the next answer.
+// Returns the length of the next answer.
 static size_t next_length(FILE *lengths) {
     size_t length;
     if (fscanf(lengths, "%zu", &length) != 1) fail("no length of an answer", 0);
     return length;
 }
 
-// How often a process has read and written.
+// Returns the number of reads and writes of a process.
 static long calls_of(pid_t program) {
     char path[64], line[128];
     long sum = 0, count;
@@ -95,7 +95,7 @@ static long calls_of(pid_t program) {
     return sum;
 }
 
-// The most memory that a process held, in megabytes.
+// Returns the peak memory of a process in megabytes.
 static long peak_of(pid_t program) {
     char path[64], line[128];
     long kilobytes = 0;
@@ -107,7 +107,7 @@ static long peak_of(pid_t program) {
     return kilobytes / 1024;
 }
 
-// Sends each address when the one before is answered; gives how many there were.
+// Sends each address after the previous answer. Returns the number of addresses.
 static size_t ping_pong(char *line, char *end, FILE *lengths) {
     size_t asked = 0;
     for (; line < end; asked++) {
@@ -119,7 +119,7 @@ static size_t ping_pong(char *line, char *end, FILE *lengths) {
     return asked;
 }
 
-// Sends all addresses beside reading the answers; gives how many there were.
+// Sends all addresses while it reads the answers. Returns the number of addresses.
 static size_t batch(char *first, char *end, FILE *lengths) {
     size_t asked = 0, wanted = 0;
     for (char *line = first; line < end; line++)

@@ -1,4 +1,4 @@
-// The sections of an ELF file, and what its tables are refused for.
+// The sections of an ELF file, and the refusals of its tables.
 #define _GNU_SOURCE
 #include "object.h"
 #include <elf.h>
@@ -71,14 +71,14 @@ static struct section section_of(const uint8_t *bytes, const Elf64_Shdr *header)
     return (struct section){start, header->sh_size, nul ? nul - start + 1 : 0};
 }
 
-// The wanted section of this name, or ELF.
+// Returns the section of this name, or ELF if it is not needed.
 static enum section_name wanted(const char *name) {
     for (int i = INFO; i < SECTION_COUNT; i++)
         if (!strcmp(name, names[i])) return i;
     return ELF;
 }
 
-// Whether a section has no bytes in the file, or is compressed, or is outside.
+// Checks that a section has bytes in the file, is not compressed and is inside the file.
 static enum cause judge_section(const Elf64_Shdr *header, uint64_t size) {
     if (header->sh_type == SHT_NOBITS) return TABLE;
     if (header->sh_flags & SHF_COMPRESSED) return COMPRESSED;

@@ -1,5 +1,5 @@
 // Writes a file of typical LEB128 numbers, or reads one with a plain loop that makes the same
-// checks.
+// checks as our reader.
 #include "bytes.h"
 #include "timing.h"
 
@@ -12,7 +12,7 @@ static uint64_t next(void) {
     return state;
 }
 
-// Numbers as debugging sections have them: most below 128, some of two bytes, few longer.
+// Writes numbers like those in debug sections: most below 128, some of two bytes, few longer.
 static uint64_t typical(void) {
     uint64_t kind = next() % 1000;
     if (kind < 880) return next() % 128;

@@ -1,6 +1,5 @@
 #!/usr/bin/env bash
-# Measures the readers beside plain C loops that make the same checks, on the same bytes, in one
-# run.
+# Measures the readers and plain C loops that make the same checks, on the same bytes in one run.
 set -euo pipefail
 cd "$(dirname "$0")/.."
 tools/build.sh measure measure.log
@@ -15,13 +14,13 @@ g++ -O2 -o out/load bench/load.cpp out/elf.o out/lines.o out/entries.o
 [ -f out/objects/huge ] || tools/make_large.sh out/objects/huge 150
 [ -f out/objects/hundred ] || tools/repeat_lines.sh out/objects/large out/objects/hundred
 
-# The time in milliseconds that a command prints last, as `.., N ms`.
+# Prints the time in milliseconds that ends the output of a command, as `.., N ms`.
 time_of() {
     "$@" | sed -n 's/.*, \([0-9]*\) ms$/\1/p'
 }
 
-# The least of nine times of ours and of the plain one, which take turns; of twenty-five, where ours
-# is below half a second, so that chance does not decide.
+# Prints the minimum of nine times of our reader and of plain C, in alternating runs. If our reader
+# takes less than half a second, there are twenty-five runs, to reduce noise.
 least_of_both() {
     local object=$1 plain=$2 turns=9
     shift 2
@@ -31,7 +30,7 @@ least_of_both() {
     done | awk 'NR == 1 || $1 < a { a = $1 } NR == 1 || $2 < b { b = $2 } END { print a, b }'
 }
 
-# Prints both times and how fast ours is beside the plain one.
+# Prints both times and their ratio.
 compare() {
     local what=$1
     read -r ours plain <<< "$(least_of_both "$2" "$3" "$4")"
@@ -40,7 +39,7 @@ compare() {
     }'
 }
 
-# The most memory that a command holds, in megabytes, and how many page faults it takes.
+# Prints the peak memory of a command in megabytes, and the number of its page faults.
 peak() {
     python3 -c 'import resource, subprocess, sys
 subprocess.run(sys.argv[1:], stdout=subprocess.DEVNULL, check=True)
@@ -48,7 +47,7 @@ used = resource.getrusage(resource.RUSAGE_CHILDREN)
 print(used.ru_maxrss // 1024, used.ru_minflt)' "$@"
 }
 
-# How long a command takes that prints no time, in milliseconds.
+# Prints the duration in milliseconds of a command that prints no time.
 duration() {
     local start
     start=$(date +%s%N)
@@ -56,7 +55,7 @@ duration() {
     echo $((($(date +%s%N) - start) / 1000000))
 }
 
-# Prints the memory that both take for something, and their page faults.
+# Prints the peak memory and the page faults of both.
 compare_peaks() {
     local what=$1 ours plain
     read -r -a ours <<< "$2"
@@ -65,12 +64,12 @@ compare_peaks() {
     echo "page faults for $what: ${ours[1]}, plain C ${plain[1]}"
 }
 
-# The number before a word of what a command printed.
+# Prints the number before a word in the output of a command.
 count_of() {
     sed -n "s/.*\\b\\([0-9][0-9]*\\) $1\\b.*/\\1/p" <<< "$2"
 }
 
-# The scopes and the whole load of a program.
+# Measures the scopes and the whole load of a program.
 measure_program() {
     local name=$1 object=$2 told
     told=$(out/entries "$object")

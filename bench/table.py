@@ -1,10 +1,10 @@
 #!/usr/bin/env python3
-"""Makes a table of what bench/run.sh and bench/answers.sh print.
+"""Formats the output of bench/run.sh and bench/answers.sh as a table.
 
-table.py PRINTED writes docs/MEASURED.md to standard output: the machine, the versions, the day, and
-for loads, first answers, answers in a batch and in ping-pong, and memory the figures of this
-program and of each peer that was measured; gimli's is the one that GIMLI_ADDR2LINE names. A ratio
-behind a peer's figure says how many times better this program is: faster, or less memory.
+table.py PRINTED writes docs/MEASURED.md to standard output: the machine, the versions and the date,
+and the figures of this program and of each measured peer for loads, first answers, answers in a
+batch and in ping-pong, and memory. The peer of gimli is the program in GIMLI_ADDR2LINE. The ratio
+after a peer's figure is the factor by which this program is better: faster, or with less memory.
 """
 import datetime
 import os
@@ -36,7 +36,7 @@ WAYS = {"batch": "a batch over a pipe", "pingpong": "ping-pong"}
 
 
 def column(program):
-    """The program of a line of answers, or None for a variant that the table leaves out."""
+    """Returns the program of a line of answers, or None for a variant that the table omits."""
     name = re.sub(r", (spread|fewer)$", "", program)
     if name.startswith(OURS):
         return OURS if name == f"{OURS} --cache 1024" else None
@@ -44,12 +44,13 @@ def column(program):
 
 
 def again(program):
-    """Whether a line of answers is of the few addresses that are asked again and again."""
+    """Returns whether a line of answers is for the few addresses that are looked up repeatedly."""
     return program == f"{OURS}, sixteen addresses"
 
 
 def rows(lines):
-    """What was measured, in which unit, whether more is better, and each program's figure."""
+    """Returns the figure of each program for each measurement, with its unit and whether more is
+    better."""
     table = {}
 
     def put(what, unit, better, program, figure):
@@ -79,7 +80,7 @@ def rows(lines):
 
 
 def in_order(table):
-    """What was measured, with the memory for answers before the addresses asked again and again."""
+    """Returns the measurements, with memory before the addresses that are looked up repeatedly."""
     rows = list(table.items())
     for number in range(1, len(rows)):
         if rows[number][0][0].startswith("memory: ") and AGAIN in rows[number - 1][0][0]:
@@ -88,7 +89,7 @@ def in_order(table):
 
 
 def cell(figures, program, unit, better):
-    """A figure, and how many times better ours is."""
+    """Formats a figure, and the factor by which this program is better."""
     if program not in figures:
         return ""
     figure, ours = figures[program], figures.get(OURS)
@@ -100,7 +101,7 @@ def cell(figures, program, unit, better):
 
 
 def said(*command):
-    """The first line that a command says, or None where it is not there."""
+    """Returns the first line with a digit that a command prints, or None if it is not installed."""
     try:
         done = subprocess.run(command, stdout=subprocess.PIPE, stderr=subprocess.STDOUT, text=True)
         lines = (line.strip() for line in done.stdout.splitlines() if re.search(r"\d", line))
@@ -110,7 +111,7 @@ def said(*command):
 
 
 def machine():
-    """The processor, how many of it, and the memory."""
+    """Returns the processor, the number of processors, the memory and the kernel."""
     told = open("/proc/cpuinfo").read()
     model = re.search(r"^model name\s*: (.*)", told, re.MULTILINE)
     name = model[1] if model else "an unknown processor"

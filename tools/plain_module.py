@@ -186,7 +186,7 @@ class PlainModule:
         return path, line or 0
 
     def frames(self, link):
-        """Returns the frames of an address, innermost first, as (name, linkage name, path, line)."""
+        """Returns the frames of an address as (name, linkage name, path, line), innermost first."""
         row, chain = self.row_of(link), self.chain_of(link)
         place = (None, 0)
         if row:
