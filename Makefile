@@ -9,23 +9,29 @@ COMPILERS = gcc g++ objcopy
 READERS = readelf objdump nm addr2line llvm-symbolizer llvm-dwarfdump
 
 help:
-	@echo 'make demo         builds the program and shows it at work'
-	@echo 'make test         the whole gate: every proof, edit that must fail, test and program (an hour and more)'
+	@echo 'make demo         builds the program and runs it on an example'
+	@echo 'make test         runs CI: every proof, must-fail edit, test and program (an hour and more)'
 	@echo 'make program      builds the program, $(PROGRAM)'
-	@echo 'make install      puts it, its manual page, docs/PROTOCOL.md and its tools under PREFIX ($(PREFIX))'
-	@echo 'make check CRATE=dwarf_lines   one crate, over what earlier checks kept'
-	@echo 'make edits [CRATE=dwarf_lines]   the other edits that must fail, beyond those of the gate (hours; of one crate, minutes)'
-	@echo 'make tools-test   tests of tools/ and of the clients in docs/PROTOCOL.md, on real processes'
-	@echo 'make check-docs   the manual page and documents beside the program: options, refusals, causes, targets'
-	@echo 'make compare      what is read from objects, beside what other readers show'
-	@echo 'make hostile      time and memory of objects that are shaped to cost more than their bytes'
-	@echo 'make fuzz         objects and commands made by chance, beside a plain reader in Python (SEED=1 COUNT=20000)'
-	@echo 'make memory       each growth of memory, each read and write refused in turn (DURATION=60, in seconds)'
-	@echo 'make long-run     a million commands to one process, then full outputs and odd files (COMMANDS=1000000)'
-	@echo 'make bench        the speed beside plain C and other symbolizers, as docs/MEASURED.md (a quarter of an hour;'
-	@echo '                  GIMLI_ADDR2LINE=PATH: the addr2line of gimli too)'
+	@echo 'make install      installs it, its manual page, docs/PROTOCOL.md and its tools in PREFIX'
+	@echo '                  ($(PREFIX))'
+	@echo 'make check CRATE=dwarf_lines   checks one crate, with the cached results of earlier checks'
+	@echo 'make edits [CRATE=dwarf_lines]   tries the must-fail edits that are not in CI'
+	@echo '                  (hours; minutes for one crate)'
+	@echo 'make tools-test   tests tools/ and the clients in docs/PROTOCOL.md on real processes'
+	@echo 'make check-docs   compares the manual page and documents with the sources: options, refusals,'
+	@echo '                  causes, targets'
+	@echo 'make compare      compares the data read from objects with the output of other readers'
+	@echo 'make hostile      measures time and memory for adversarial objects'
+	@echo 'make fuzz         fuzzes objects and commands against a reference implementation in Python'
+	@echo '                  (SEED=1 COUNT=20000)'
+	@echo 'make memory       makes each allocation, read and write fail in turn (DURATION=60, in seconds)'
+	@echo 'make long-run     sends a million commands to one process, then tests full outputs and'
+	@echo '                  unusual files (COMMANDS=1000000)'
+	@echo 'make bench        compares the speed with plain C and other symbolizers, and writes'
+	@echo '                  docs/MEASURED.md (a quarter of an hour; GIMLI_ADDR2LINE=PATH includes the'
+	@echo '                  addr2line of gimli)'
 
-# Shows the program at work on an object that the compiler makes there and then.
+# Runs the program on an object that the compiler builds for the demo.
 demo:
 	@tools/needs.sh demo rt awk
 	@echo 'Proves and builds addr2line_live and the crates below it (some twenty minutes from nothing, then seconds),'
@@ -33,19 +39,19 @@ demo:
 	@tools/build.sh addr2line_live
 	@tools/demo.sh
 
-# The whole gate: every proof, every edit that must fail, every test and program, from nothing.
+# Runs CI from scratch: every proof, must-fail edit, test and program.
 test:
 	@tools/needs.sh test rt python3
 	@tools/check_edits.py
 	rt ci
 
-# One crate, quickly, over what earlier checks kept: make check CRATE=dwarf_lines
+# Checks one crate, with the cached results of earlier checks: make check CRATE=dwarf_lines
 check:
 	@tools/needs.sh check rt
 	@test -d 'crates/$(CRATE)/src' || { echo 'say which crate: make check CRATE=dwarf_lines'; exit 2; }
 	cd crates/$(CRATE) && rt check
 
-# The edits that must fail and that the gate leaves out.
+# Tries the must-fail edits that are not in CI.
 edits:
 	@tools/needs.sh edits rt python3
 	@tools/check_edits.py
@@ -65,7 +71,8 @@ install: program
 	for module in core_files debug_files demangle live loaded_objects; do \
 	    install -D -m 644 tools/$$module.py $(INSTALLED)/libexec/addr2line_live/$$module.py; done
 
-# Real processes, perf's text, a library that comes and goes, and the clients of docs/PROTOCOL.md.
+# Tests real processes, the output of perf, a library that is loaded and unloaded, and the clients
+# in docs/PROTOCOL.md.
 tools-test:
 	@tools/needs.sh tools-test rt python3 gcc nm objdump
 	@tools/build.sh addr2line_live
@@ -75,17 +82,17 @@ check-docs:
 	@tools/needs.sh check-docs python3 groff
 	@tools/check_docs.py
 
-# What is read from objects, beside what other readers show.
+# Compares the data read from objects with the output of other readers.
 compare:
 	@tools/needs.sh compare rt python3 $(COMPILERS) $(READERS)
 	tools/compare_objects.sh
 
-# How long objects take that are shaped to cost more than their bytes.
+# Measures time and memory for adversarial objects.
 hostile:
 	@tools/needs.sh hostile rt python3
 	tools/hostile.sh
 
-# Objects and commands made by chance, beside a plain reader in Python.
+# Fuzzes objects and commands against a reference implementation in Python.
 fuzz:
 	@tools/needs.sh fuzz rt python3
 	@tools/build.sh addr2line_live
@@ -93,20 +100,20 @@ fuzz:
 	tools/fuzz.py $(PROGRAM) $(or $(SEED),1) $(or $(COUNT),20000)
 	tools/fuzz_words.py $(PROGRAM) $(or $(SEED),1) 2000
 
-# Each growth of memory, each read and each write refused in turn, for so many seconds.
+# Makes each allocation, each read and each write fail in turn, for DURATION seconds.
 memory:
 	@tools/needs.sh memory rt python3 cc
 	@tools/build.sh addr2line_live
 	cd crates/command_loop_tests && rt test > ../../out/tests.log 2>&1
 	tools/memory.py $(PROGRAM) $(TESTS) $(or $(DURATION),60)
 
-# One process over many commands; then full and closed outputs, and odd files.
+# Sends many commands to one process. Then tests full and closed outputs, and unusual files.
 long-run:
 	@tools/needs.sh long-run rt python3
 	@tools/build.sh addr2line_live
 	tools/long_run.py $(PROGRAM) $(or $(COMMANDS),1000000)
 
-# All figures, with those of the other symbolizers that are installed.
+# Measures all figures, including those of the other installed symbolizers.
 bench:
 	@tools/needs.sh bench rt awk python3 $(COMPILERS) addr2line
 	@mkdir -p out
