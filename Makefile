@@ -113,7 +113,7 @@ long-run:
 	@tools/build.sh addr2line_live
 	tools/long_run.py $(PROGRAM) $(or $(COMMANDS),1000000)
 
-# Measures all figures, including those of the other installed symbolizers.
+# Measures this program, plain C and the other installed symbolizers.
 bench:
 	@tools/needs.sh bench rt awk python3 $(COMPILERS) addr2line
 	@mkdir -p out

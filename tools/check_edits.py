@@ -3,8 +3,8 @@
 
 An edit has lines `file: PATH` and pairs of lines `old: TEXT`, `new: TEXT`. Each old text must occur
 exactly once in its file. The edits that CI runs are in must-fail/ of their crate. The others, which
-would take CI too long, are in edits/CRATE, and their names must differ from those of CI. The exit
-status is 1 if an edit does not apply.
+would take CI too long, are in edits/CRATE, and none may have the name of an edit in CI. The exit
+status is 1 if there is a fault.
 """
 import sys
 from pathlib import Path

@@ -1,5 +1,5 @@
 #!/usr/bin/env python3
-"""Compares the frames that `measure frames OBJECT` prints with those of llvm-symbolizer.
+"""Compares the frames that `measure frames OBJECT` and llvm-symbolizer print.
 
 compare_frames.py MEASURE OBJECT.. looks up the same addresses with both. It compares the name, file
 and line of each frame, innermost first. Only the base names of files are compared. If this program

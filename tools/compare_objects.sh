@@ -1,7 +1,7 @@
 #!/usr/bin/env bash
 # Compares the rows, the scopes and the frames of ten thousand addresses of each object of
 # tools/make_objects.sh with the output of other readers. Compares the frames also with a scan of
-# all rows and scopes for each address, and the program's replies with those of addr2line and
+# all rows and scopes for each address, and the program's replies with the output of addr2line and
 # llvm-symbolizer. Fails if anything differs.
 set -euo pipefail
 cd "$(dirname "$0")/.."

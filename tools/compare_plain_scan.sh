@@ -1,7 +1,7 @@
 #!/usr/bin/env bash
 # compare_plain_scan.sh MEASURE OBJECT: compares the frames that `measure frames` prints for ten
-# thousand addresses with those of tools/plain_scan.c, built as out/plain_scan, which scans all rows
-# and scopes for each address.
+# thousand addresses with the output of tools/plain_scan.c, built as out/plain_scan, which scans all
+# rows and scopes for each address.
 set -euo pipefail
 measure=$1
 object=$2

@@ -1,5 +1,5 @@
 #!/usr/bin/env python3
-"""Compares the replies of addr2line_live with those of addr2line and of llvm-symbolizer.
+"""Compares the replies of addr2line_live with the output of addr2line and llvm-symbolizer.
 
 compare_replies.py PROGRAM COUNT OBJECT.. looks up COUNT addresses with each, spread evenly over the
 executable sections, with -a -f -i -p -s and linkage names. It fails if a reply is neither that of
@@ -9,7 +9,8 @@ addr2line nor that of llvm-symbolizer, apart from these differences:
 - -s of llvm-symbolizer does not shorten an absolute file name, so its last part is used;
 - this program reads no symbols: if it reports no function, any name of the symbol table agrees, and
   if it reports nothing, any reply without a line agrees;
-- of several symbols with one value, such as those of a destructor, others may report another one.
+- of several symbols with one value, such as the symbols of a destructor, others may report another
+  one.
 """
 import re
 import subprocess

@@ -3,7 +3,7 @@
 
 objdump prints a row as FILE LINE ADDRESS. It mostly prints only the base name of the file, so base
 names are compared. The end of a sequence has the line `-`. All rows are compared in order, except
-those of dead sequences, which start at the tombstone 2^64-1. It fails if anything differs.
+in dead sequences, which start at the tombstone 2^64-1. It fails if anything differs.
 """
 import re
 import subprocess

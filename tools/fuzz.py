@@ -35,7 +35,7 @@ LINES = [b"list", b"list ", b"", b" ", b"x", b"load", b"load a 0", b"load a! 0 x
 
 
 class Differs(Exception):
-    """The program's replies differ from those of the reference implementation."""
+    """The program and the reference implementation reply differently."""
 
 
 class Run:

@@ -67,7 +67,7 @@ def mutant(chance, data):
 
 
 def changed(chance, data, most=3):
-    """Returns bytes of which a few are changed, removed or inserted."""
+    """Returns a copy of the bytes with a few bytes changed, removed or inserted."""
     data = bytearray(data)
     for _ in range(chance.randrange(1, most + 1)):
         if not data:

@@ -2,7 +2,7 @@
 """Runs one process over many commands, and then with failing outputs and unusual files.
 
 long_run.py PROGRAM COMMANDS [OBJECT..] sends COMMANDS commands to one process: mostly addresses,
-and also loads, moves and unloads. It compares the replies with those of the reference session
+and also loads, moves and unloads. It compares the replies with the reference session
 (plain_session.py). Small OBJECTs may be added. It fails if
 - a reply differs;
 - memory or descriptors do not return to their earlier values after all modules are unloaded;
