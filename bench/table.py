@@ -121,6 +121,7 @@ def machine():
 
 
 def versions():
+    """Returns the version lines of the programs that are installed."""
     programs = ["gcc", "llvm-symbolizer", "eu-addr2line", "addr2line"]
     told = [said("rt", "version"), *(said(program, "--version") for program in programs)]
     gimli = said(os.environ.get("GIMLI_ADDR2LINE", "-"), "--version")
@@ -135,14 +136,15 @@ def main():
         raise SystemExit(f"{sys.argv[1]} has no figures")
     programs = list(dict.fromkeys(program for figures in table.values() for program in figures))
     print("# Measured\n")
-    print(f"Written by `make bench` on {datetime.date.today()}, on {machine()}. Versions:\n")
+    print(f"Written by `make bench` on {datetime.date.today()},\non {machine()}.\n\nVersions:\n")
     print(*(f"- {version}" for version in versions()), sep="\n")
     print(
-        "\nBehind the figure of another program stands how many times better this one is (below 1:"
-        "\nworse). Plain C is a program of this repository that makes the same checks and keeps the"
-        "\nsame (`bench/*.c`). Others load nothing before they are asked; this program has then read"
-        "\nand judged all. Of programs that answer slowly fewer addresses were asked, as"
-        "\n`bench/answers.sh` says.\n"
+        "\nThe ratio after a figure of another program is the factor by which addr2line_live is"
+        "\nbetter. Below 1, it is worse. Plain C is a program of this repository that makes the"
+        "\nsame checks and stores the same data (`bench/*.c`). The other programs load nothing"
+        "\nbefore the first question; addr2line_live has then read and validated the whole"
+        "\nobject. Slow programs are asked fewer addresses, see `bench/answers.sh`."
+        "\n[MEASURED-RUNS.md](MEASURED-RUNS.md) describes the conditions and how far runs differ.\n"
     )
     print(f"| | {' | '.join(programs)} |\n|---|{'---|' * len(programs)}")
     for (what, unit, better), figures in in_order(table):
