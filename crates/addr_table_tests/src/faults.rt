@@ -14,19 +14,16 @@ fn is_refused(
     section: Section,
     cause: Cause,
     at: u64,
-) -> Result<(), Fail> {
-    let mut bytes = Vec::new(rt.alloc());
-    bytes.extend_from_slice(object)?;
-    let Err((back, fault)) = Module::decode(rt.alloc(), bytes) else {
-        return Err("no fault".into());
+) {
+    let Err((back, fault)) = Module::decode(rt.alloc(), copy(rt, object)) else {
+        panic!(rt; "no fault");
     };
     are_equal(rt, fault, LoadFault { section, cause, at });
     are_equal(rt, back.as_slice(), object);
-    Ok(())
 }
 
 #[test]
-fn samples_with_a_fault(rt: HostRuntime) -> Result<(), Fail> {
+fn samples_with_a_fault(rt: HostRuntime) {
     let info = Section::DebugInfo;
     is_refused(
         &rt,
@@ -34,36 +31,34 @@ fn samples_with_a_fault(rt: HostRuntime) -> Result<(), Fail> {
         Section::DebugAbbrev,
         Cause::Short,
         0,
-    )?;
-    is_refused(&rt, &circular_origins(), info, Cause::OriginDepth, 54)?;
+    );
+    is_refused(&rt, &circular_origins(), info, Cause::OriginDepth, 54);
     let line = many_directories_without_a_format();
-    is_refused(&rt, &line, Section::DebugLine, Cause::FileFormat, 0)?;
-    is_refused(&rt, &version_four(), info, Cause::Version, 0)?;
-    is_refused(&rt, &call_file_outside(), info, Cause::CallFile, 54)?;
+    is_refused(&rt, &line, Section::DebugLine, Cause::FileFormat, 0);
+    is_refused(&rt, &version_four(), info, Cause::Version, 0);
+    is_refused(&rt, &call_file_outside(), info, Cause::CallFile, 54);
     is_refused(
         &rt,
         &cut_line_program(),
         Section::DebugLine,
         Cause::Short,
         0,
-    )?;
-    is_refused(&rt, &origin_of_no_entry(), info, Cause::Reference, 54)?;
-    is_refused(&rt, &[], Section::Elf, Cause::NotElf, 0)?;
-    is_refused(&rt, &inlined()[..63], Section::Elf, Cause::NotElf, 0)?;
-    Ok(())
+    );
+    is_refused(&rt, &origin_of_no_entry(), info, Cause::Reference, 54);
+    is_refused(&rt, &[], Section::Elf, Cause::NotElf, 0);
+    is_refused(&rt, &inlined()[..63], Section::Elf, Cause::NotElf, 0);
 }
 
 #[test]
-fn a_root_of_no_program(rt: HostRuntime) -> Result<(), Fail> {
+fn a_root_of_no_program(rt: HostRuntime) {
     // the root's line program is at 1; and also with an invalid call file: the root is checked
     // first
     let mut object = *inlined();
     object[176] = 1;
-    is_refused(&rt, &object, Section::DebugInfo, Cause::StmtList, 12)?;
+    is_refused(&rt, &object, Section::DebugInfo, Cause::StmtList, 12);
     let mut both = call_file_outside();
     both[176] = 1;
-    is_refused(&rt, &both, Section::DebugInfo, Cause::StmtList, 12)?;
-    Ok(())
+    is_refused(&rt, &both, Section::DebugInfo, Cause::StmtList, 12);
 }
 
 /// A compilation unit with stmt_list, a subprogram, and an inlined subroutine with a call file.
@@ -76,41 +71,39 @@ const ABBREV: [u8; 29] = [
 ];
 
 #[test]
-fn units_are_judged_one_after_the_other(rt: HostRuntime) -> Result<(), Fail> {
+fn units_are_judged_one_after_the_other(rt: HostRuntime) {
     // a unit with an invalid call file, followed by a unit without a line program
     let mut info = Vec::new(rt.alloc());
-    add_unit(&mut info, &[1, 0, 0, 0, 0, 2, b'f', 0, 3, 9, 0, 0])?;
-    add_unit(&mut info, &[1, 9, 0, 0, 0, 0])?;
+    add_unit(&rt, &mut info, &[1, 0, 0, 0, 0, 2, b'f', 0, 3, 9, 0, 0]);
+    add_unit(&rt, &mut info, &[1, 9, 0, 0, 0, 0]);
     let parts = Parts {
         abbrev: &ABBREV,
         info: &info,
         line: &inlined()[259..334],
         rnglists: &[],
     };
-    let bytes = object(rt.alloc(), parts)?;
+    let bytes = object(&rt, parts);
     // 12 bytes of the header, 5 of the root and 3 of the subprogram
-    is_refused(&rt, &bytes, Section::DebugInfo, Cause::CallFile, 20)?;
-    Ok(())
+    is_refused(&rt, &bytes, Section::DebugInfo, Cause::CallFile, 20);
 }
 
 #[test]
-fn a_call_file_of_a_subprogram_is_not_judged(rt: HostRuntime) -> Result<(), Fail> {
+fn a_call_file_of_a_subprogram_is_not_judged(rt: HostRuntime) {
     let mut info = Vec::new(rt.alloc());
-    add_unit(&mut info, &[1, 0, 0, 0, 0, 4, 9, 0])?;
+    add_unit(&rt, &mut info, &[1, 0, 0, 0, 0, 4, 9, 0]);
     let parts = Parts {
         abbrev: &ABBREV,
         info: &info,
         line: &inlined()[259..334],
         rnglists: &[],
     };
-    let bytes = object(rt.alloc(), parts)?;
-    are_equal(&rt, module(rt.alloc(), bytes).err(), None);
-    Ok(())
+    let bytes = object(&rt, parts);
+    are_equal(&rt, Module::decode(rt.alloc(), bytes).is_ok(), true);
 }
 
 // The test runner can make each allocation fail.
 #[test]
-fn want_of_memory_is_the_only_other_answer(rt: HostRuntime) -> Result<(), Fail> {
+fn out_of_memory_is_the_only_other_answer(rt: HostRuntime) -> Result<(), Fail> {
     let mut bytes = Vec::new(rt.alloc());
     bytes.extend_from_slice(inlined())?;
     match Module::decode(rt.alloc(), bytes) {

@@ -1,8 +1,6 @@
 //! Objects for the tests, and checks of their answers.
 
 use addr_table::{AddressTable, Frame, Frames, Module, Path, Place, Steps};
-use dwarf_bytes::LoadFault;
-use std::alloc::{AllocError, Global};
 use std::fmt::Debug;
 use std::process::Abort;
 use std::test::*;
@@ -32,37 +30,51 @@ pub struct Parts<'a> {
 /// The section names: one NUL, then each name with a NUL.
 const NAMES: &[u8] = b"\0.debug_abbrev\0.debug_info\0.debug_line\0.debug_rnglists\0.shstrtab\0";
 
-/// Appends numbers of eight bytes.
-fn put_all(bytes: &mut Vec<u8>, numbers: &[u64]) -> Result<(), AllocError> {
-    for number in numbers {
-        bytes.extend_from_slice(&number.to_le_bytes())?;
+/// Appends bytes.
+pub fn put(rt: &impl Abort, bytes: &mut Vec<u8>, more: &[u8]) {
+    if bytes.extend_from_slice(more).is_err() {
+        panic!(rt; "out of memory");
     }
-    Ok(())
+}
+
+/// Appends numbers of eight bytes.
+fn put_all(rt: &impl Abort, bytes: &mut Vec<u8>, numbers: &[u64]) {
+    for number in numbers {
+        put(rt, bytes, &number.to_le_bytes());
+    }
 }
 
 /// Appends the header of a section at a file offset.
-fn put_header(bytes: &mut Vec<u8>, name: u8, place: u64, len: u64) -> Result<(), AllocError> {
+fn put_header(rt: &impl Abort, bytes: &mut Vec<u8>, name: u8, place: u64, len: u64) {
     // sh_name, SHT_PROGBITS
-    bytes.extend_from_slice(&[name, 0, 0, 0, 1, 0, 0, 0])?;
+    put(rt, bytes, &[name, 0, 0, 0, 1, 0, 0, 0]);
     // sh_flags, sh_addr, sh_offset, sh_size, sh_link and sh_info, sh_addralign, sh_entsize
-    put_all(bytes, &[0, 0, place, len, 0, 0, 0])
+    put_all(rt, bytes, &[0, 0, place, len, 0, 0, 0]);
 }
 
 /// Appends the ELF header and one program header, for sections that end at `end`: `ET_DYN`, and a
 /// load segment of 0x2000_0000 bytes from 0x1000 on.
-fn put_heads(bytes: &mut Vec<u8>, end: u64) -> Result<(), AllocError> {
-    bytes.extend_from_slice(&[0x7f, b'E', b'L', b'F', 2, 1, 1, 0, 0, 0, 0, 0, 0, 0, 0, 0])?;
-    bytes.extend_from_slice(&[3, 0, 0, 0, 0, 0, 0, 0])?;
+fn put_heads(rt: &impl Abort, bytes: &mut Vec<u8>, end: u64) {
+    put(
+        rt,
+        bytes,
+        &[0x7f, b'E', b'L', b'F', 2, 1, 1, 0, 0, 0, 0, 0, 0, 0, 0, 0],
+    );
+    put(rt, bytes, &[3, 0, 0, 0, 0, 0, 0, 0]);
     // e_entry, e_phoff, e_shoff
-    put_all(bytes, &[0, 64, end])?;
+    put_all(rt, bytes, &[0, 64, end]);
     // e_flags, e_ehsize, e_phentsize, e_phnum, e_shentsize, e_shnum, e_shstrndx
-    bytes.extend_from_slice(&[0, 0, 0, 0, 0, 0, 0x38, 0, 1, 0, 0x40, 0, 6, 0, 5, 0])?;
+    put(
+        rt,
+        bytes,
+        &[0, 0, 0, 0, 0, 0, 0x38, 0, 1, 0, 0x40, 0, 6, 0, 5, 0],
+    );
     // p_type, p_offset, p_vaddr, p_paddr, p_filesz, p_memsz, p_align
-    put_all(bytes, &[1, 0, 0x1000, 0, 0, 0x2000_0000, 0])
+    put_all(rt, bytes, &[1, 0, 0x1000, 0, 0, 0x2000_0000, 0]);
 }
 
 /// Builds an object with these sections.
-pub fn object(alloc: Global, parts: Parts<'_>) -> Result<Vec<u8>, AllocError> {
+pub fn object(rt: &(impl Abort + AllocGlobal), parts: Parts<'_>) -> Vec<u8> {
     let abbrev = parts.abbrev.len() as u64;
     let info = parts.info.len() as u64;
     let line = parts.line.len() as u64;
@@ -71,9 +83,9 @@ pub fn object(alloc: Global, parts: Parts<'_>) -> Result<Vec<u8>, AllocError> {
     let at_line = at_info.saturating_add(info);
     let at_rnglists = at_line.saturating_add(line);
     let at_names = at_rnglists.saturating_add(rnglists);
-    let mut bytes = Vec::new(alloc);
-    put_heads(&mut bytes, at_names.saturating_add(65))?;
-    put_sections(&mut bytes, parts)?;
+    let mut bytes = Vec::new(rt.alloc());
+    put_heads(rt, &mut bytes, at_names.saturating_add(65));
+    put_sections(rt, &mut bytes, parts);
     let headers = [
         (1, 120, abbrev),
         (15, at_info, info),
@@ -82,45 +94,54 @@ pub fn object(alloc: Global, parts: Parts<'_>) -> Result<Vec<u8>, AllocError> {
         (55, at_names, 65),
     ];
     for (name, place, len) in headers {
-        put_header(&mut bytes, name, place, len)?;
+        put_header(rt, &mut bytes, name, place, len);
     }
-    Ok(bytes)
+    bytes
 }
 
 /// Appends the sections, their names, and the null section header.
-fn put_sections(bytes: &mut Vec<u8>, parts: Parts<'_>) -> Result<(), AllocError> {
-    bytes.extend_from_slice(parts.abbrev)?;
-    bytes.extend_from_slice(parts.info)?;
-    bytes.extend_from_slice(parts.line)?;
-    bytes.extend_from_slice(parts.rnglists)?;
-    bytes.extend_from_slice(NAMES)?;
-    bytes.extend_from_slice(&[0; 64])?;
-    Ok(())
+fn put_sections(rt: &impl Abort, bytes: &mut Vec<u8>, parts: Parts<'_>) {
+    let all = [
+        parts.abbrev,
+        parts.info,
+        parts.line,
+        parts.rnglists,
+        NAMES,
+        &[0; 64],
+    ];
+    for section in all {
+        put(rt, bytes, section);
+    }
 }
 
 /// Appends a compilation unit with these entries. Its abbreviations are at offset 0.
-pub fn add_unit(info: &mut Vec<u8>, entries: &[u8]) -> Result<(), AllocError> {
+pub fn add_unit(rt: &impl Abort, info: &mut Vec<u8>, entries: &[u8]) {
     let unit_length = u32::try_from(entries.len()).unwrap_or(0).saturating_add(8);
-    info.extend_from_slice(&unit_length.to_le_bytes())?;
+    put(rt, info, &unit_length.to_le_bytes());
     // version, DW_UT_compile, address_size, debug_abbrev_offset
-    info.extend_from_slice(&[5, 0, 1, 8, 0, 0, 0, 0])?;
-    info.extend_from_slice(entries)?;
-    Ok(())
+    put(rt, info, &[5, 0, 1, 8, 0, 0, 0, 0]);
+    put(rt, info, entries);
 }
 
 /// Decodes a module from bytes without a fault.
-pub fn module(alloc: Global, bytes: Vec<u8>) -> Result<Module, LoadFault> {
-    match Module::decode(alloc, bytes) {
-        Ok(module) => Ok(module),
-        Err((_, fault)) => Err(fault),
+pub fn module(rt: &(impl Abort + AllocGlobal), bytes: Vec<u8>) -> Module {
+    match Module::decode(rt.alloc(), bytes) {
+        Ok(module) => module,
+        Err(_) => panic!(rt; "the object is refused"),
+    }
+}
+
+/// Copies bytes.
+pub fn copy(rt: &(impl Abort + AllocGlobal), bytes: &[u8]) -> Vec<u8> {
+    match bytes.to_vec(rt.alloc()) {
+        Ok(copy) => copy,
+        Err(_) => panic!(rt; "out of memory"),
     }
 }
 
 /// Decodes the module of a sample.
-pub fn sample(alloc: Global, bytes: &[u8]) -> Result<Module, Fail> {
-    let mut copy = Vec::new(alloc);
-    copy.extend_from_slice(bytes)?;
-    Ok(module(alloc, copy)?)
+pub fn sample(rt: &(impl Abort + AllocGlobal), bytes: &[u8]) -> Module {
+    module(rt, copy(rt, bytes))
 }
 
 /// Returns the place of a link address.
@@ -137,63 +158,47 @@ pub fn numbers(place: Option<Place>) -> Option<(Option<usize>, Option<usize>)> {
 /// The expected name, path and line of a frame.
 pub type Expected = (Option<&'static [u8]>, Option<&'static [u8]>, u64);
 
-/// Joins the parts of a path with slashes.
-pub fn joined(alloc: Global, path: Path<'_>) -> Result<Vec<u8>, AllocError> {
-    let mut bytes = Vec::new(alloc);
+/// Checks that a path is these bytes: its parts are followed by slashes, except the last one.
+fn is_path(rt: &impl Abort, path: Path<'_>, expected: &[u8]) {
+    let mut rest = expected;
     for part in path {
-        if !bytes.is_empty() {
-            bytes.push(b'/')?;
-        }
-        bytes.extend_from_slice(part)?;
+        let slash = usize::from(rest.len() < expected.len());
+        let end = part.len().saturating_add(slash);
+        are_equal(rt, rest.get(slash..end), Some(part));
+        rest = rest.get(end..).unwrap_or(&[]);
     }
-    Ok(bytes)
+    are_equal(rt, rest.is_empty(), true);
 }
 
 /// Checks the next frame.
-fn is_frame(
-    rt: &(impl Abort + AllocGlobal),
-    frame: Frame<'_>,
-    expected: &Expected,
-) -> Result<(), AllocError> {
+fn is_frame(rt: &impl Abort, frame: Frame<'_>, expected: &Expected) {
     let (name, path, line) = *expected;
     are_equal(rt, (frame.name(), frame.line()), (name, line));
-    let told = match frame.path() {
-        Some(path) => Some(joined(rt.alloc(), path)?),
-        None => None,
-    };
-    are_equal(rt, told.as_deref(), path);
-    Ok(())
+    are_equal(rt, frame.path().is_some(), path.is_some());
+    if let (Some(told), Some(path)) = (frame.path(), path) {
+        is_path(rt, told, path);
+    }
 }
 
 /// Checks that the frames are exactly the expected ones.
-pub fn are_frames(
-    rt: &(impl Abort + AllocGlobal),
-    frames: Frames<'_>,
-    expected: &[Expected],
-) -> Result<(), AllocError> {
+pub fn are_frames(rt: &impl Abort, frames: Frames<'_>, expected: &[Expected]) {
     let mut frames = frames;
     for expected in expected {
         match frames.next() {
-            Some(frame) => is_frame(rt, frame, expected)?,
+            Some(frame) => is_frame(rt, frame, expected),
             None => are_equal(rt, "too few frames", ""),
         }
     }
     are_equal(rt, frames.next().is_none(), true);
-    Ok(())
 }
 
 /// Checks the frames of a link address of a module.
-pub fn answers(
-    rt: &(impl Abort + AllocGlobal),
-    module: &Module,
-    link: u64,
-    expected: &[Expected],
-) -> Result<(), AllocError> {
+pub fn answers(rt: &impl Abort, module: &Module, link: u64, expected: &[Expected]) {
     let frames = match find(module, link) {
         Some(place) => module.frames(place),
         None => Frames::none(),
     };
-    are_frames(rt, frames, expected)
+    are_frames(rt, frames, expected);
 }
 
 /// Checks that the segments and a linear scan give the same place of an address.

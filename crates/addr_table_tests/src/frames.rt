@@ -1,8 +1,9 @@
 //! Frames of objects that are built for single tests.
 
 use crate::fixtures::*;
+use addr_table::Module;
 use dwarf_samples::inlined;
-use std::alloc::{AllocError, Global};
+use std::process::Abort;
 use std::test::*;
 
 /// A unit, subprograms and inlined subroutines with low_pc, and a high_pc of one byte.
@@ -21,39 +22,32 @@ const ABBREV: [u8; 67] = [
 ];
 
 /// Appends an entry: its code, its name, its low_pc and its high_pc.
-fn put_entry(
-    entries: &mut Vec<u8>,
-    code: u8,
-    name: u8,
-    low: u64,
-    len: u8,
-) -> Result<(), AllocError> {
-    entries.extend_from_slice(&[code, name, 0])?;
-    entries.extend_from_slice(&low.to_le_bytes())?;
-    entries.push(len)?;
-    Ok(())
+fn put_entry(rt: &impl Abort, entries: &mut Vec<u8>, code: u8, name: u8, low: u64, len: u8) {
+    put(rt, entries, &[code, name, 0]);
+    put(rt, entries, &low.to_le_bytes());
+    put(rt, entries, &[len]);
 }
 
 /// Builds an object with one unit of these entries, whose line program is at offset 0.
 fn one_unit(
-    alloc: Global,
+    rt: &(impl Abort + AllocGlobal),
     entries: &[u8],
     line: &[u8],
     rnglists: &[u8],
-) -> Result<Vec<u8>, AllocError> {
-    let mut all = Vec::new(alloc);
-    all.extend_from_slice(&[1, 0, 0, 0, 0])?;
-    all.extend_from_slice(entries)?;
-    all.push(0)?;
-    let mut info = Vec::new(alloc);
-    add_unit(&mut info, &all)?;
+) -> Vec<u8> {
+    let mut all = Vec::new(rt.alloc());
+    put(rt, &mut all, &[1, 0, 0, 0, 0]);
+    put(rt, &mut all, entries);
+    put(rt, &mut all, &[0]);
+    let mut info = Vec::new(rt.alloc());
+    add_unit(rt, &mut info, &all);
     let parts = Parts {
         abbrev: &ABBREV,
         info: &info,
         line,
         rnglists,
     };
-    object(alloc, parts)
+    object(rt, parts)
 }
 
 /// Returns the line program of the first sample.
@@ -61,59 +55,60 @@ fn line() -> &'static [u8] {
     &inlined()[259..334]
 }
 
-#[test]
-fn two_ranges_of_a_scope_that_overlap(rt: HostRuntime) -> Result<(), Fail> {
-    // offset_pair 0 to 8 and 4 to 12, from a base of 0x1000
-    let list = [5, 0, 0x10, 0, 0, 0, 0, 0, 0, 4, 0, 8, 4, 4, 12, 0];
-    let entries = [4, b'f', 0, b'g', b'h', 0, 0, 0, 0, 0];
-    let bytes = one_unit(rt.alloc(), &entries, line(), &list)?;
-    let module = module(rt.alloc(), bytes)?;
-    answers(&rt, &module, 0x1009, &[(Some(b"f"), Some(b"/src/a.c"), 11)])?;
-    answers(&rt, &module, 0x1003, &[(Some(b"f"), Some(b"/src/a.c"), 10)])?;
-    answers(&rt, &module, 0x100c, &[(None, Some(b"/src/a.c"), 11)])?;
-    let place = find(&module, 0x1009).ok_or("no place")?;
-    let frame = module.frames(place).next().ok_or("no frame")?;
-    are_equal(&rt, frame.linkage(), Some(b"gh".as_slice()));
-    for link in 0xffe..0x1012 {
-        tells_the_same(&rt, &module, link);
-    }
-    Ok(())
+/// Returns the linkage name of the first frame of an address.
+fn linkage(module: &Module, link: u64) -> Option<&[u8]> {
+    let place = find(module, link)?;
+    module.frames(place).next()?.linkage()
 }
 
 #[test]
-fn the_first_inlined_subroutine_and_not_the_narrowest(rt: HostRuntime) -> Result<(), Fail> {
+fn two_ranges_of_a_scope_that_overlap(rt: HostRuntime) {
+    // offset_pair 0 to 8 and 4 to 12, from a base of 0x1000
+    let list = [5, 0, 0x10, 0, 0, 0, 0, 0, 0, 4, 0, 8, 4, 4, 12, 0];
+    let entries = [4, b'f', 0, b'g', b'h', 0, 0, 0, 0, 0];
+    let bytes = one_unit(&rt, &entries, line(), &list);
+    let module = module(&rt, bytes);
+    answers(&rt, &module, 0x1009, &[(Some(b"f"), Some(b"/src/a.c"), 11)]);
+    answers(&rt, &module, 0x1003, &[(Some(b"f"), Some(b"/src/a.c"), 10)]);
+    answers(&rt, &module, 0x100c, &[(None, Some(b"/src/a.c"), 11)]);
+    are_equal(&rt, linkage(&module, 0x1009), Some(b"gh".as_slice()));
+    for link in 0xffe..0x1012 {
+        tells_the_same(&rt, &module, link);
+    }
+}
+
+#[test]
+fn the_first_inlined_subroutine_and_not_the_narrowest(rt: HostRuntime) {
     let mut entries = Vec::new(rt.alloc());
-    put_entry(&mut entries, 2, b'm', 0x1000, 16)?;
-    put_entry(&mut entries, 3, b'w', 0x1000, 12)?;
-    entries.extend_from_slice(&[0, 7])?;
-    put_entry(&mut entries, 3, b'n', 0x1004, 4)?;
-    entries.extend_from_slice(&[1, 8])?;
-    entries.push(0)?;
-    let module = module(rt.alloc(), one_unit(rt.alloc(), &entries, line(), &[])?)?;
+    put_entry(&rt, &mut entries, 2, b'm', 0x1000, 16);
+    put_entry(&rt, &mut entries, 3, b'w', 0x1000, 12);
+    put(&rt, &mut entries, &[0, 7]);
+    put_entry(&rt, &mut entries, 3, b'n', 0x1004, 4);
+    put(&rt, &mut entries, &[1, 8]);
+    put(&rt, &mut entries, &[0]);
+    let module = module(&rt, one_unit(&rt, &entries, line(), &[]));
     // file 0 is the same file as file 1
     let frames: [Expected; 2] = [
         (Some(b"w"), Some(b"/src/a.c"), 11),
         (Some(b"m"), Some(b"/src/a.c"), 7),
     ];
-    answers(&rt, &module, 0x1004, &frames)?;
-    Ok(())
+    answers(&rt, &module, 0x1004, &frames);
 }
 
 #[test]
-fn a_call_without_file_and_line(rt: HostRuntime) -> Result<(), Fail> {
+fn a_call_without_file_and_line(rt: HostRuntime) {
     let mut entries = Vec::new(rt.alloc());
-    put_entry(&mut entries, 2, b'm', 0x1020, 16)?;
-    put_entry(&mut entries, 5, b'i', 0x1020, 8)?;
-    entries.push(0)?;
-    let module = module(rt.alloc(), one_unit(rt.alloc(), &entries, line(), &[])?)?;
+    put_entry(&rt, &mut entries, 2, b'm', 0x1020, 16);
+    put_entry(&rt, &mut entries, 5, b'i', 0x1020, 8);
+    put(&rt, &mut entries, &[0]);
+    let module = module(&rt, one_unit(&rt, &entries, line(), &[]));
     // no row covers the address
     answers(
         &rt,
         &module,
         0x1020,
         &[(Some(b"i"), None, 0), (Some(b"m"), None, 0)],
-    )?;
-    Ok(())
+    );
 }
 
 /// Returns the first sample's line program for the file `b.c`.
@@ -127,27 +122,27 @@ fn other_line() -> [u8; 75] {
 }
 
 #[test]
-fn a_call_file_is_of_the_unit_s_line_program(rt: HostRuntime) -> Result<(), Fail> {
+fn a_call_file_is_of_the_unit_s_line_program(rt: HostRuntime) {
     let mut lines = Vec::new(rt.alloc());
-    lines.extend_from_slice(line())?;
-    lines.extend_from_slice(&other_line())?;
+    put(&rt, &mut lines, line());
+    put(&rt, &mut lines, &other_line());
     let mut entries = Vec::new(rt.alloc());
     // the second program starts at 75
-    entries.extend_from_slice(&[1, 75, 0, 0, 0])?;
-    put_entry(&mut entries, 2, b'm', 0x1000, 16)?;
-    put_entry(&mut entries, 3, b'i', 0x1004, 4)?;
-    entries.extend_from_slice(&[1, 9])?;
-    entries.extend_from_slice(&[0, 0])?;
+    put(&rt, &mut entries, &[1, 75, 0, 0, 0]);
+    put_entry(&rt, &mut entries, 2, b'm', 0x1000, 16);
+    put_entry(&rt, &mut entries, 3, b'i', 0x1004, 4);
+    put(&rt, &mut entries, &[1, 9]);
+    put(&rt, &mut entries, &[0, 0]);
     let mut info = Vec::new(rt.alloc());
-    add_unit(&mut info, &[1, 0, 0, 0, 0, 0])?;
-    add_unit(&mut info, &entries)?;
+    add_unit(&rt, &mut info, &[1, 0, 0, 0, 0, 0]);
+    add_unit(&rt, &mut info, &entries);
     let parts = Parts {
         abbrev: &ABBREV,
         info: &info,
         line: &lines,
         rnglists: &[],
     };
-    let module = module(rt.alloc(), object(rt.alloc(), parts)?)?;
+    let module = module(&rt, object(&rt, parts));
     answers(
         &rt,
         &module,
@@ -156,6 +151,5 @@ fn a_call_file_is_of_the_unit_s_line_program(rt: HostRuntime) -> Result<(), Fail
             (Some(b"i"), Some(b"/src/a.c"), 11),
             (Some(b"m"), Some(b"/src/b.c"), 9),
         ],
-    )?;
-    Ok(())
+    );
 }

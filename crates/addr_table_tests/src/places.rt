@@ -7,48 +7,46 @@ use std::process::Abort;
 use std::test::*;
 
 /// Returns the place of 0x1004 in the first sample: row 1 and scope 4.
-fn place(rt: &(impl Abort + AllocGlobal)) -> Result<Place, Fail> {
-    let module = sample(rt.alloc(), inlined())?;
-    Ok(find(&module, 0x1004).ok_or("no place")?)
+fn place(rt: &(impl Abort + AllocGlobal)) -> Place {
+    let module = sample(rt, inlined());
+    match find(&module, 0x1004) {
+        Some(place) => place,
+        None => panic!(rt; "no place"),
+    }
 }
 
 #[test]
-fn a_place_of_a_module_with_scopes(rt: HostRuntime) -> Result<(), Fail> {
-    let place = place(&rt)?;
+fn a_place_of_a_module_with_scopes(rt: HostRuntime) {
+    let place = place(&rt);
     let mut bare = *inlined();
     bare[543] = 0;
-    let module = sample(rt.alloc(), &bare)?;
-    are_frames(&rt, module.frames(place), &[(None, Some(b"/src/a.c"), 11)])?;
-    Ok(())
+    let module = sample(&rt, &bare);
+    are_frames(&rt, module.frames(place), &[(None, Some(b"/src/a.c"), 11)]);
 }
 
 #[test]
-fn a_place_of_a_module_with_rows(rt: HostRuntime) -> Result<(), Fail> {
-    let place = place(&rt)?;
+fn a_place_of_a_module_with_rows(rt: HostRuntime) {
+    let place = place(&rt);
     let parts = Parts {
         abbrev: &[],
         info: &[],
         line: &[],
         rnglists: &[],
     };
-    let module = module(rt.alloc(), object(rt.alloc(), parts)?)?;
+    let module = module(&rt, object(&rt, parts));
     are_equal(&rt, find(&module, 0x1004), None);
-    are_frames(&rt, module.frames(place), &[(None, None, 0)])?;
-    Ok(())
+    are_frames(&rt, module.frames(place), &[(None, None, 0)]);
 }
 
 #[test]
-fn a_place_of_a_module_with_other_rows(rt: HostRuntime) -> Result<(), Fail> {
-    let place = place(&rt)?;
+fn a_place_of_a_module_with_other_rows(rt: HostRuntime) {
+    let place = place(&rt);
     // the same scopes
-    let module = sample(rt.alloc(), two_sequences())?;
-    let frame = module.frames(place).next();
-    are_equal(
-        &rt,
-        frame.and_then(|frame| frame.name()),
-        Some(b"leaf".as_slice()),
-    );
-    Ok(())
+    let module = sample(&rt, two_sequences());
+    let Some(frame) = module.frames(place).next() else {
+        panic!(rt; "no frame");
+    };
+    are_equal(&rt, frame.name(), Some(b"leaf".as_slice()));
 }
 
 #[test]

@@ -16,16 +16,15 @@ fn without_entries() -> [u8; 703] {
 }
 
 #[test]
-fn places_of_inlined_subroutines(rt: HostRuntime) -> Result<(), Fail> {
-    let module = sample(rt.alloc(), inlined())?;
+fn places_of_inlined_subroutines(rt: HostRuntime) {
+    let module = sample(&rt, inlined());
     are_equal(&rt, (module.low(), module.high()), (0x1000, 0x2000));
     let place = find(&module, 0x1004);
     are_equal(&rt, numbers(place), Some((Some(1), Some(4))));
-    are_equal(&rt, place.map(|place| place.link()), Some(0x1004));
+    are_equal(&rt, place.is_some_and(|place| place.link() == 0x1004), true);
     // after the end of the sequence
     are_equal(&rt, find(&module, 0x1010), None);
     are_equal(&rt, find(&module, 0xfff), None);
-    Ok(())
 }
 
 /// The frames of `main`, and of `mid` inlined into it, at their innermost lines.
@@ -34,53 +33,55 @@ const MAIN: Expected = (Some(b"main"), Some(b"/src/a.c"), 20);
 const MID: Expected = (Some(b"mid"), Some(b"/src/a.c"), 11);
 
 #[test]
-fn frames_of_inlined_subroutines(rt: HostRuntime) -> Result<(), Fail> {
-    let module = sample(rt.alloc(), inlined())?;
+fn frames_of_inlined_subroutines(rt: HostRuntime) {
+    let module = sample(&rt, inlined());
     let leaf: Expected = (Some(b"leaf"), Some(b"/src/a.c"), 11);
     let mid: Expected = (Some(b"mid"), Some(b"/src/a.c"), 5);
-    answers(&rt, &module, 0x1004, &[leaf, mid, MAIN])?;
+    answers(&rt, &module, 0x1004, &[leaf, mid, MAIN]);
     let main: Expected = (Some(b"main"), Some(b"/src/a.c"), 10);
-    answers(&rt, &module, 0x1000, &[main])?;
+    answers(&rt, &module, 0x1000, &[main]);
     // the end of leaf is exclusive
-    answers(&rt, &module, 0x1008, &[MID, MAIN])?;
-    Ok(())
+    answers(&rt, &module, 0x1008, &[MID, MAIN]);
 }
 
 #[test]
-fn a_row_alone_is_a_frame_without_a_name(rt: HostRuntime) -> Result<(), Fail> {
-    let module = sample(rt.alloc(), &without_entries())?;
+fn a_row_alone_is_a_frame_without_a_name(rt: HostRuntime) {
+    let module = sample(&rt, &without_entries());
     are_equal(&rt, numbers(find(&module, 0x1004)), Some((Some(1), None)));
-    answers(&rt, &module, 0x1004, &[(None, Some(b"/src/a.c"), 11)])?;
-    Ok(())
+    answers(&rt, &module, 0x1004, &[(None, Some(b"/src/a.c"), 11)]);
 }
 
 #[test]
-fn the_first_covering_row_in_file_order(rt: HostRuntime) -> Result<(), Fail> {
+fn the_first_covering_row_in_file_order(rt: HostRuntime) {
     // both sequences cover 0x1000 to 0x1010; the later one has line 98
-    let module = sample(rt.alloc(), two_sequences())?;
+    let module = sample(&rt, two_sequences());
     let main: Expected = (Some(b"main"), Some(b"/src/a.c"), 12);
-    answers(&rt, &module, 0x1000, &[main])?;
-    answers(&rt, &module, 0x100f, &[main])?;
+    answers(&rt, &module, 0x1000, &[main]);
+    answers(&rt, &module, 0x100f, &[main]);
     are_equal(&rt, find(&module, 0x1010), None);
-    Ok(())
 }
 
 #[test]
-fn a_scope_without_code_is_passed_over(rt: HostRuntime) -> Result<(), Fail> {
-    let module = sample(rt.alloc(), &leaf_without_code())?;
-    answers(&rt, &module, 0x1004, &[MID, MAIN])?;
-    Ok(())
+fn a_scope_without_code_is_passed_over(rt: HostRuntime) {
+    let module = sample(&rt, &leaf_without_code());
+    answers(&rt, &module, 0x1004, &[MID, MAIN]);
 }
 
 #[test]
-fn the_parts_of_a_path(rt: HostRuntime) -> Result<(), Fail> {
-    let module = sample(rt.alloc(), inlined())?;
-    let place = find(&module, 0x1000).ok_or("no place")?;
-    let frame = module.frames(place).next().ok_or("no frame")?;
+fn the_parts_of_a_path(rt: HostRuntime) {
+    let module = sample(&rt, inlined());
+    let Some(place) = find(&module, 0x1000) else {
+        panic!(rt; "no place");
+    };
+    let Some(frame) = module.frames(place).next() else {
+        panic!(rt; "no frame");
+    };
     are_equal(&rt, frame.linkage(), None);
-    are_parts(&rt, frame.path().ok_or("no path")?);
+    match frame.path() {
+        Some(path) => are_parts(&rt, path),
+        None => panic!(rt; "no path"),
+    }
     are_equal(&rt, Frames::none().next().is_none(), true);
-    Ok(())
 }
 
 /// Checks that the parts of a path are its directory and its name.
@@ -92,23 +93,22 @@ fn are_parts(rt: &impl Abort, path: Path<'_>) {
 }
 
 /// Checks that the segments and a linear scan of an object give the same place of each address.
-fn tell_the_same(rt: &(impl Abort + AllocGlobal), object: &[u8]) -> Result<(), Fail> {
-    let module = sample(rt.alloc(), object)?;
+fn tell_the_same(rt: &(impl Abort + AllocGlobal), object: &[u8]) {
+    let module = sample(rt, object);
     for link in 0xff0..0x1021 {
         tells_the_same(rt, &module, link);
     }
     tells_the_same(rt, &module, 0);
     tells_the_same(rt, &module, u64::MAX);
-    Ok(())
 }
 
 #[test]
-fn segments_and_scan_tell_the_same_places(rt: HostRuntime) -> Result<(), Fail> {
-    tell_the_same(&rt, inlined())?;
-    tell_the_same(&rt, two_sequences())?;
-    tell_the_same(&rt, &leaf_without_code())?;
-    tell_the_same(&rt, &dropped_main())?;
-    tell_the_same(&rt, &dropped_mid())?;
-    tell_the_same(&rt, &dropped_sequence())?;
-    tell_the_same(&rt, &without_entries())
+fn segments_and_scan_tell_the_same_places(rt: HostRuntime) {
+    tell_the_same(&rt, inlined());
+    tell_the_same(&rt, two_sequences());
+    tell_the_same(&rt, &leaf_without_code());
+    tell_the_same(&rt, &dropped_main());
+    tell_the_same(&rt, &dropped_mid());
+    tell_the_same(&rt, &dropped_sequence());
+    tell_the_same(&rt, &without_entries());
 }

@@ -2,9 +2,7 @@
 
 use crate::fixtures::*;
 use addr_table::{AddressTable, Module, Segment, Steps};
-use dwarf_bytes::LoadFault;
 use dwarf_samples::inlined;
-use std::alloc::Global;
 use std::process::Abort;
 use std::test::*;
 
@@ -16,16 +14,17 @@ fn is_segment(
     row: usize,
     scope: usize,
 ) {
-    let told = segment.map(|segment| {
-        let ends = (segment.from, segment.to);
-        (ends, segment.row.get(), segment.scope.get())
-    });
-    are_equal(rt, told, Some((ends, Some(row), Some(scope))));
+    let Some(segment) = segment else {
+        panic!(rt; "too few segments");
+    };
+    are_equal(rt, (segment.from, segment.to), ends);
+    let numbers = (segment.row.get(), segment.scope.get());
+    are_equal(rt, numbers, (Some(row), Some(scope)));
 }
 
 #[test]
-fn segments_of_inlined_subroutines(rt: HostRuntime) -> Result<(), Fail> {
-    let module = sample(rt.alloc(), inlined())?;
+fn segments_of_inlined_subroutines(rt: HostRuntime) {
+    let module = sample(&rt, inlined());
     let list = module.segments().list();
     are_equal(&rt, list.len(), 4);
     is_segment(&rt, list.get(0), (0x1000, 0x1004), 0, 2);
@@ -34,12 +33,11 @@ fn segments_of_inlined_subroutines(rt: HostRuntime) -> Result<(), Fail> {
     is_segment(&rt, list.get(3), (0x100c, 0x1010), 1, 2);
     // five ranges; chains of 1, 3, 2, 1 and 0 scopes at the five endpoints
     is_within(&rt, module.sweep_calls(), 10, 27);
-    Ok(())
 }
 
 #[test]
-fn a_search_halves(rt: HostRuntime) -> Result<(), Fail> {
-    let module = sample(rt.alloc(), inlined())?;
+fn a_search_halves(rt: HostRuntime) {
+    let module = sample(&rt, inlined());
     for link in 0x1000..0x1010 {
         let mut steps = Steps {
             compares: 100,
@@ -50,11 +48,10 @@ fn a_search_halves(rt: HostRuntime) -> Result<(), Fail> {
         is_within(&rt, steps.compares, 102, 104);
         are_equal(&rt, steps.decoded, 7);
     }
-    Ok(())
 }
 
 #[test]
-fn counts_stop_at_the_greatest_number(rt: HostRuntime) -> Result<(), Fail> {
+fn counts_stop_at_the_greatest_number(rt: HostRuntime) {
     let mut steps = Steps {
         compares: u64::MAX - 1,
         decoded: 3,
@@ -63,11 +60,10 @@ fn counts_stop_at_the_greatest_number(rt: HostRuntime) -> Result<(), Fail> {
     are_equal(&rt, steps.compares, u64::MAX);
     are_equal(&rt, steps.reached(4, 5), false);
     are_equal(&rt, (steps.compares, steps.decoded), (u64::MAX, 3));
-    let module = sample(rt.alloc(), inlined())?;
+    let module = sample(&rt, inlined());
     are_equal(&rt, module.find(0x1004, &mut steps).is_some(), true);
     are_equal(&rt, module.scan().find(0x1004, &mut steps).is_some(), true);
     are_equal(&rt, (steps.compares, steps.decoded), (u64::MAX, 3));
-    Ok(())
 }
 
 /// A compilation unit, and a subprogram with low_pc and a high_pc of one byte.
@@ -78,30 +74,30 @@ const ABBREV: [u8; 17] = [
 ];
 
 /// Builds a module of 2,000 contiguous subprograms of 16 bytes each, from 0x1000 on.
-fn touching(alloc: Global) -> Result<Module, LoadFault> {
-    let mut entries = Vec::new(alloc);
-    entries.push(1)?;
+fn touching(rt: &(impl Abort + AllocGlobal)) -> Module {
+    let mut entries = Vec::new(rt.alloc());
+    put(rt, &mut entries, &[1]);
     for number in 0..2000u64 {
-        entries.push(2)?;
+        put(rt, &mut entries, &[2]);
         let low = number.saturating_mul(16).saturating_add(0x1000);
-        entries.extend_from_slice(&low.to_le_bytes())?;
-        entries.push(16)?;
+        put(rt, &mut entries, &low.to_le_bytes());
+        put(rt, &mut entries, &[16]);
     }
-    entries.push(0)?;
-    let mut info = Vec::new(alloc);
-    add_unit(&mut info, &entries)?;
+    put(rt, &mut entries, &[0]);
+    let mut info = Vec::new(rt.alloc());
+    add_unit(rt, &mut info, &entries);
     let parts = Parts {
         abbrev: &ABBREV,
         info: &info,
         line: &[],
         rnglists: &[],
     };
-    module(alloc, object(alloc, parts)?)
+    module(rt, object(rt, parts))
 }
 
 #[test]
-fn two_thousand_touching_subprograms(rt: HostRuntime) -> Result<(), Fail> {
-    let module = touching(rt.alloc())?;
+fn two_thousand_touching_subprograms(rt: HostRuntime) {
+    let module = touching(&rt);
     are_equal(&rt, module.segments().list().len(), 2000);
     is_within(&rt, module.sweep_calls(), 4000, 10002);
     for number in 0..2000usize {
@@ -111,6 +107,5 @@ fn two_thousand_touching_subprograms(rt: HostRuntime) -> Result<(), Fail> {
         are_equal(&rt, numbers(place), Some((None, Some(number))));
         is_within(&rt, steps.compares, 2, 12);
     }
-    answers(&rt, &module, 0x1000, &[(None, None, 0)])?;
-    Ok(())
+    answers(&rt, &module, 0x1000, &[(None, None, 0)]);
 }
