@@ -13,69 +13,6 @@ fn loads_a_module(rt: HostRuntime) {
 }
 
 #[test]
-fn lists_modules_by_rising_address(rt: HostRuntime) -> Result<(), Fail> {
-    loaded(
-        &rt,
-        rt.alloc(),
-        b"",
-        b"load b 0x11000 A\nlist\n",
-        b"loaded b 0x0000000000012000-0x0000000000013000\n\
-            module a 0x0000000000011000-0x0000000000012000 0x0000000000010000\n\
-            module b 0x0000000000012000-0x0000000000013000 0x0000000000011000\nend\n",
-    )
-}
-
-#[test]
-fn moves_over_its_own_old_place(rt: HostRuntime) -> Result<(), Fail> {
-    loaded(
-        &rt,
-        rt.alloc(),
-        b"",
-        b"load b 0x11000 A\nmove a 0x10800\nunload b\nmove a 0x10800\n11804\n",
-        b"loaded b 0x0000000000012000-0x0000000000013000\nrefused overlap b\nunloaded b\n\
-            moved a 0x0000000000011800-0x0000000000012800\n/src/a.c:11\n",
-    )
-}
-
-#[test]
-fn answers_follow_a_move(rt: HostRuntime) -> Result<(), Fail> {
-    loaded(
-        &rt,
-        rt.alloc(),
-        b"",
-        b"11004\nmove a 0x20000\n11004\n21004\n",
-        b"/src/a.c:11\nmoved a 0x0000000000021000-0x0000000000022000\n??:0\n/src/a.c:11\n",
-    )
-}
-
-#[test]
-fn answers_are_those_of_the_module_of_now(rt: HostRuntime) -> Result<(), Fail> {
-    loaded(
-        &rt,
-        rt.alloc(),
-        b"",
-        b"11000\nunload a\nload a 0x10000 B\n11000\n",
-        b"/src/a.c:10\nunloaded a\nloaded a 0x0000000000011000-0x0000000000012000\n/src/a.c:12\n",
-    )
-}
-
-#[test]
-fn loads_up_to_the_greatest_address(rt: HostRuntime) {
-    fresh(
-        &rt,
-        rt.alloc(),
-        b"",
-        b"load a 0xffffffffffffdfff A\nunload a\nload a 0xffffffffffffe000 A\n",
-        b"loaded a 0xffffffffffffefff-0xffffffffffffffff\nunloaded a\nrefused range\n",
-    );
-}
-
-#[test]
-fn no_input_has_no_reply(rt: HostRuntime) {
-    fresh(&rt, rt.alloc(), b"", b"", b"");
-}
-
-#[test]
 fn a_good_load_asks_once(rt: HostRuntime) {
     let alloc = rt.alloc();
     let lines: [(&[u8], u64); 7] = [
@@ -99,5 +36,61 @@ fn a_good_load_asks_once(rt: HostRuntime) {
         );
         assert_eq!(rt; result, Ok(()));
         assert_eq!(rt; source.questions, questions);
+    }
+}
+
+/// Commands after the first sample object was loaded: options, input and output.
+#[test]
+fn commands_after_a_load(rt: HostRuntime) -> Result<(), Fail> {
+    let rows: [(&[u8], &[u8], &[u8]); 4] = [
+        // lists modules by rising address
+        (
+            b"",
+            b"load b 0x11000 A\nlist\n",
+            b"loaded b 0x0000000000012000-0x0000000000013000\n\
+            module a 0x0000000000011000-0x0000000000012000 0x0000000000010000\n\
+            module b 0x0000000000012000-0x0000000000013000 0x0000000000011000\nend\n",
+        ),
+        // moves over its own old place
+        (
+            b"",
+            b"load b 0x11000 A\nmove a 0x10800\nunload b\nmove a 0x10800\n11804\n",
+            b"loaded b 0x0000000000012000-0x0000000000013000\nrefused overlap b\nunloaded b\n\
+            moved a 0x0000000000011800-0x0000000000012800\n/src/a.c:11\n",
+        ),
+        // answers follow a move
+        (
+            b"",
+            b"11004\nmove a 0x20000\n11004\n21004\n",
+            b"/src/a.c:11\nmoved a 0x0000000000021000-0x0000000000022000\n??:0\n/src/a.c:11\n",
+        ),
+        // answers are those of the module of now
+        (
+            b"",
+            b"11000\nunload a\nload a 0x10000 B\n11000\n",
+            b"/src/a.c:10\nunloaded a\nloaded a 0x0000000000011000-0x0000000000012000\n/src/a.c:12\n",
+        ),
+    ];
+    for (letters, input, wanted) in rows {
+        loaded(&rt, rt.alloc(), letters, input, wanted)?;
+    }
+    Ok(())
+}
+
+/// Commands of a run that starts without a module: options, input and output.
+#[test]
+fn commands_without_modules(rt: HostRuntime) {
+    let rows: [(&[u8], &[u8], &[u8]); 2] = [
+        // loads up to the greatest address
+        (
+            b"",
+            b"load a 0xffffffffffffdfff A\nunload a\nload a 0xffffffffffffe000 A\n",
+            b"loaded a 0xffffffffffffefff-0xffffffffffffffff\nunloaded a\nrefused range\n",
+        ),
+        // no input has no reply
+        (b"", b"", b""),
+    ];
+    for (letters, input, wanted) in rows {
+        fresh(&rt, rt.alloc(), letters, input, wanted);
     }
 }

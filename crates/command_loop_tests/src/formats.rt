@@ -65,89 +65,58 @@ pub fn reserved_length(alloc: Global) -> Result<Vec<u8>, AllocError> {
 const FRAMES: &[u8] = b"loaded a 0x0000000000011000-0x0000000000012000\n\
         leaf\n/src/a.c:11\nmid\n/src/a.c:5\nmain\n/src/a.c:20\n";
 
+/// Objects of both formats and with dead code: options, input and output.
 #[test]
-fn units_and_programs_of_64_bits(rt: HostRuntime) {
-    fresh(
-        &rt,
-        rt.alloc(),
-        b"fi",
-        b"load a 0x10000 wide\n11004\n",
-        FRAMES,
-    );
-}
-
-#[test]
-fn a_unit_of_64_bits_with_a_program_of_32(rt: HostRuntime) {
-    fresh(
-        &rt,
-        rt.alloc(),
-        b"fi",
-        b"load a 0x10000 wide unit\n11004\n",
-        FRAMES,
-    );
-}
-
-#[test]
-fn units_of_both_formats(rt: HostRuntime) {
-    fresh(
-        &rt,
-        rt.alloc(),
-        b"fi",
-        b"load a 0x10000 both units\n11004\n",
-        FRAMES,
-    );
-}
-
-#[test]
-fn a_reserved_length(rt: HostRuntime) -> Result<(), Fail> {
-    refused(
-        &rt,
-        rt.alloc(),
-        b"load c 0 no length\n",
-        b"refused object .debug_info length at 0\n",
-    )
-}
-
-#[test]
-fn dropped_subprogram(rt: HostRuntime) {
-    fresh(
-        &rt,
-        rt.alloc(),
-        b"fi",
-        b"load a 0x10000 dropped main\n11004\n",
-        b"loaded a 0x0000000000011000-0x0000000000012000\n??\n/src/a.c:11\n",
-    );
-}
-
-#[test]
-fn dropped_rows(rt: HostRuntime) {
-    fresh(
-        &rt,
-        rt.alloc(),
-        b"fi",
-        b"load a 0x10000 dropped rows\n11004\n",
-        b"loaded a 0x0000000000011000-0x0000000000012000\n\
+fn formats_and_dead_code(rt: HostRuntime) {
+    let rows: [(&[u8], &[u8], &[u8]); 6] = [
+        // units and programs of 64 bits
+        (b"fi", b"load a 0x10000 wide\n11004\n", FRAMES),
+        // a unit of 64 bits with a program of 32
+        (b"fi", b"load a 0x10000 wide unit\n11004\n", FRAMES),
+        // units of both formats
+        (b"fi", b"load a 0x10000 both units\n11004\n", FRAMES),
+        // dropped subprogram
+        (
+            b"fi",
+            b"load a 0x10000 dropped main\n11004\n",
+            b"loaded a 0x0000000000011000-0x0000000000012000\n??\n/src/a.c:11\n",
+        ),
+        // dropped rows
+        (
+            b"fi",
+            b"load a 0x10000 dropped rows\n11004\n",
+            b"loaded a 0x0000000000011000-0x0000000000012000\n\
             leaf\n??:0\nmid\n/src/a.c:5\nmain\n/src/a.c:20\n",
-    );
+        ),
+        // dropped inlined subroutine
+        (
+            b"fi",
+            b"load a 0x10000 dropped mid\n11004\n",
+            b"loaded a 0x0000000000011000-0x0000000000012000\nleaf\n/src/a.c:11\nmain\n/src/a.c:5\n",
+        ),
+    ];
+    for (letters, input, wanted) in rows {
+        fresh(&rt, rt.alloc(), letters, input, wanted);
+    }
 }
 
+/// Refused objects: input and output.
 #[test]
-fn dropped_inlined_subroutine(rt: HostRuntime) {
-    fresh(
-        &rt,
-        rt.alloc(),
-        b"fi",
-        b"load a 0x10000 dropped mid\n11004\n",
-        b"loaded a 0x0000000000011000-0x0000000000012000\nleaf\n/src/a.c:11\nmain\n/src/a.c:5\n",
-    );
-}
-
-#[test]
-fn dropped_rows_that_do_not_end(rt: HostRuntime) -> Result<(), Fail> {
-    refused(
-        &rt,
-        rt.alloc(),
-        b"load c 0 open rows\n",
-        b"refused object .debug_line sequence-open at 0\n",
-    )
+fn refused_formats(rt: HostRuntime) -> Result<(), Fail> {
+    let rows: [(&[u8], &[u8]); 2] = [
+        // a reserved length
+        (
+            b"load c 0 no length\n",
+            b"refused object .debug_info length at 0\n",
+        ),
+        // dropped rows that do not end
+        (
+            b"load c 0 open rows\n",
+            b"refused object .debug_line sequence-open at 0\n",
+        ),
+    ];
+    for (input, wanted) in rows {
+        refused(&rt, rt.alloc(), input, wanted)?;
+    }
+    Ok(())
 }

@@ -7,39 +7,6 @@ use answer_text::Options;
 use command_loop::run;
 use std::test::*;
 
-#[test]
-fn the_source_has_no_file(rt: HostRuntime) {
-    fresh(
-        &rt,
-        rt.alloc(),
-        b"",
-        b"load a 0x10000 none\n11004\nmove a 0x20000\n21004\nunload a\n",
-        b"refused file\n??:0\nrefused no-module\n??:0\nrefused no-module\n",
-    );
-}
-
-#[test]
-fn the_source_has_too_large_a_file(rt: HostRuntime) {
-    fresh(
-        &rt,
-        rt.alloc(),
-        b"",
-        b"load a 0x10000 large\n11004\nmove a 0x20000\n21004\nunload a\n",
-        b"refused too-large\n??:0\nrefused no-module\n??:0\nrefused no-module\n",
-    );
-}
-
-#[test]
-fn the_source_has_no_memory(rt: HostRuntime) {
-    fresh(
-        &rt,
-        rt.alloc(),
-        b"",
-        b"load a 0x10000 short\n11004\nmove a 0x20000\n21004\nunload a\n",
-        b"refused memory\n??:0\nrefused no-module\n??:0\nrefused no-module\n",
-    );
-}
-
 /// A `load` line that breaks no rule asks for its path once, in the order of the lines. Other lines
 /// ask for nothing.
 #[test]
@@ -60,5 +27,33 @@ fn each_load_asks_once(rt: HostRuntime) {
     assert_eq!(rt; source.paths.len(), 2);
     for (path, wanted) in source.paths.iter().zip(["A", "C"]) {
         assert_eq!(rt; path.as_str(), wanted);
+    }
+}
+
+/// Sources without a file, with a file that is too large, and without memory.
+#[test]
+fn sources_that_fail(rt: HostRuntime) {
+    let rows: [(&[u8], &[u8], &[u8]); 3] = [
+        // the source has no file
+        (
+            b"",
+            b"load a 0x10000 none\n11004\nmove a 0x20000\n21004\nunload a\n",
+            b"refused file\n??:0\nrefused no-module\n??:0\nrefused no-module\n",
+        ),
+        // the source has too large a file
+        (
+            b"",
+            b"load a 0x10000 large\n11004\nmove a 0x20000\n21004\nunload a\n",
+            b"refused too-large\n??:0\nrefused no-module\n??:0\nrefused no-module\n",
+        ),
+        // the source has no memory
+        (
+            b"",
+            b"load a 0x10000 short\n11004\nmove a 0x20000\n21004\nunload a\n",
+            b"refused memory\n??:0\nrefused no-module\n??:0\nrefused no-module\n",
+        ),
+    ];
+    for (letters, input, wanted) in rows {
+        fresh(&rt, rt.alloc(), letters, input, wanted);
     }
 }
