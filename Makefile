@@ -68,7 +68,9 @@ install: program
 	install -D -m 755 tools/loads_of_process $(INSTALLED)/libexec/addr2line_live/loads_of_process
 	install -D -m 755 tools/symbolize_perf $(INSTALLED)/libexec/addr2line_live/symbolize_perf
 	install -D -m 755 tools/addr2line $(INSTALLED)/libexec/addr2line_live/addr2line
-	for module in core_files debug_files demangle live loaded_objects; do \
+	install -D -m 755 tools/mark_dropped $(INSTALLED)/libexec/addr2line_live/mark_dropped
+	for module in core_files debug_files demangle dropped_bytes dropped_code dropped_entries \
+	    dropped_lines dropped_tables live loaded_objects; do \
 	    install -D -m 644 tools/$$module.py $(INSTALLED)/libexec/addr2line_live/$$module.py; done
 
 # Tests real processes, the output of perf, a library that is loaded and unloaded, and the clients

@@ -49,6 +49,11 @@ class Install(unittest.TestCase):
         self.assertEqual(self.run_installed("addr2line", *words, text=""),
                          f"main\n{self.path}.c:2\n")
 
+    def test_mark_dropped(self):
+        words = [self.path, self.path.with_suffix(".marked")]
+        self.assertEqual(self.run_installed("mark_dropped", *words, text=""),
+                         "marked 0 addresses\n")
+
     def test_symbolize_perf(self):
         place = f"\t{self.main - 0x400000:x} main"
         text = f"{SAMPLE}{place}+0x0 ({self.path})\n"
