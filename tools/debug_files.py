@@ -7,7 +7,8 @@ where gdb searches:
 - the debug link in the folder of the object, in .debug in that folder, and in FOLDER under the path
   of that folder.
 
-objcopy decompresses objects with compressed sections into a cache.
+objcopy decompresses objects with compressed sections into a cache. Copies with the addresses of
+dead code marked (tools/dropped_code.py) are in the same cache.
 """
 import os
 import struct
@@ -16,6 +17,8 @@ import sys
 import tempfile
 from pathlib import Path
 from typing import NamedTuple
+
+from dropped_code import places_of, with_tombstones
 
 FOLDERS = ("/usr/lib/debug",)
 COMPRESSED, NOBITS = 0x800, 8  # SHF_COMPRESSED among the flags, SHT_NOBITS among the types
@@ -92,26 +95,54 @@ def has_debug(found):
     return bool(info) and info.kind != NOBITS
 
 
+def cached(path, found, suffix, write):
+    """Returns the path of a copy of an object in the cache. If there is none, write(path, copy)
+    writes it."""
+    home = os.environ.get("XDG_CACHE_HOME") or os.path.expanduser("~/.cache")
+    status = os.stat(path)
+    name = build_id(path, found) or f"{status.st_dev:x}-{status.st_ino:x}"
+    name = f"{name}-{status.st_size:x}-{status.st_mtime_ns:x}{suffix}"
+    copy = Path(home, "addr2line_live", name)
+    if not copy.exists():
+        copy.parent.mkdir(parents=True, exist_ok=True)
+        with tempfile.TemporaryDirectory(dir=copy.parent) as folder:
+            part = os.path.join(folder, "copy")
+            write(path, part)
+            os.replace(part, copy)
+    return copy
+
+
+def decompress(path, copy):
+    command = ["objcopy", "--decompress-debug-sections", str(path), copy]
+    subprocess.run(command, check=True, stderr=subprocess.PIPE)
+
+
 def decompressed(path, found):
     """Returns the object without compressed sections: its own path, or a copy in the cache."""
     if not any(row.flags & COMPRESSED for row in found.values()):
         return str(path)
-    home = os.environ.get("XDG_CACHE_HOME") or os.path.expanduser("~/.cache")
-    status = os.stat(path)
-    name = build_id(path, found) or f"{status.st_dev:x}-{status.st_ino:x}"
-    copy = Path(home, "addr2line_live", f"{name}-{status.st_size:x}-{status.st_mtime_ns:x}")
-    if not copy.exists():
-        copy.parent.mkdir(parents=True, exist_ok=True)
-        with tempfile.NamedTemporaryFile(dir=copy.parent, delete=False) as part:
-            command = ["objcopy", "--decompress-debug-sections", str(path), part.name]
-        try:
-            subprocess.run(command, check=True, stderr=subprocess.PIPE)
-            os.replace(part.name, copy)
-        except (OSError, subprocess.CalledProcessError) as fault:
-            os.unlink(part.name)
-            print(f"{path}: not decompressed: {fault}", file=sys.stderr)
-            return str(path)
-    return str(copy)
+    try:
+        return str(cached(path, found, "", decompress))
+    except (OSError, subprocess.CalledProcessError) as fault:
+        print(f"{path}: not decompressed: {fault}", file=sys.stderr)
+        return str(path)
+
+
+def mark_if_any(path, copy):
+    """Writes a marked copy of an object, or an empty file if it has no dead code."""
+    data = Path(path).read_bytes()
+    places = places_of(data)
+    Path(copy).write_bytes(with_tombstones(data, places) if places else b"")
+
+
+def marked(path):
+    """Returns the object with the addresses of dead code marked: its own path, or a copy in the
+    cache. Raises Unmarkable or OSError if it cannot be marked."""
+    found = sections(path)
+    if not has_debug(found):
+        return str(path)
+    copy = cached(path, found, "-marked", mark_if_any)
+    return str(copy) if copy.stat().st_size else str(path)
 
 
 def with_debug(path, folders=FOLDERS):
