@@ -1,10 +1,11 @@
 """Finds the starts of dead code in debugging information entries (DWARF 5, section 7.5).
 
-An abbreviation becomes the size of its entries if that is fixed, else a list of steps. Each step
-skips a number of bytes and then a value whose size is in its bytes.
+An abbreviation becomes a list of steps. Each step skips a number of bytes and then a value whose
+size is in its bytes. Entries of a fixed size are skipped at once if their code has one byte.
 """
 import functools
 import struct
+from typing import NamedTuple
 
 from dropped_bytes import ZEROS, Unmarkable, expect_version, extent, uleb
 
@@ -39,8 +40,8 @@ def attributes(section, at):
 
 @functools.cache
 def steps_of(declared, width):
-    """Returns the size of an entry with these attributes after its code, or its steps. The low_pc
-    of an entry with ranges is a base and not the start of code."""
+    """Returns the steps of an entry with these attributes after its code. The low_pc of an entry
+    with ranges is a base and not the start of code."""
     has_ranges = any(name == RANGES for name, _ in declared)
     steps, size = [], 0
     for name, form in declared:
@@ -52,30 +53,36 @@ def steps_of(declared, width):
             size += FIXED.get(form, width)
         else:
             raise Unmarkable(f"the form {form:#x} of an attribute is unknown")
-    return [*steps, (size, None)] if steps else size
+    return [*steps, (size, None)]
 
 
-class Tables:
-    """The abbreviation tables, each read once."""
+class Table(NamedTuple):
+    """An abbreviation table: the steps of each code, and for each value of a byte the size of an
+    entry that starts with it. The size is 0 if it is unknown: the code is longer, the size is not
+    fixed, or the table has no such code."""
 
-    def __init__(self, section):
-        self.section, self.known = section, {}
+    steps: dict
+    sizes: list
 
-    def table(self, at, width):
-        """Returns the size or the steps of each code. Code 0 has no attributes."""
-        if (at, width) not in self.known:
-            self.known[at, width] = dict(self.declarations(at, width))
-        return self.known[at, width]
 
-    def declarations(self, at, width):
-        yield 0, 0
-        while True:
-            code, at = uleb(self.section, at)
-            if code == 0:
-                return
-            _, at = uleb(self.section, at)  # the tag
-            declared, at = attributes(self.section, at + 1)
-            yield code, steps_of(tuple(declared), width)
+def declarations(section, at, width):
+    """Yields the code and the steps of each abbreviation of a table."""
+    while True:
+        code, at = uleb(section, at)
+        if code == 0:
+            return
+        _, at = uleb(section, at)  # the tag
+        declared, at = attributes(section, at + 1)
+        yield code, steps_of(tuple(declared), width)
+
+
+def read_table(section, at, width):
+    steps, sizes = dict(declarations(section, at, width)), [0] * 256
+    sizes[0] = 1  # an entry that ends a list of children
+    for code, own in steps.items():
+        if code < 128 and len(own) == 1:
+            sizes[code] = 1 + own[0][0]
+    return Table(steps, sizes)
 
 
 def after_entry(info, at, steps, found):
@@ -102,14 +109,14 @@ def after_entry(info, at, steps, found):
 
 def in_entries(info, at, end, table):
     """Returns the offset of each start of 0 in the entries of a unit."""
-    found = []
+    found, sizes = [], table.sizes
     while at < end:
-        code = info[at]
-        at += 1
-        if code > 127:
-            code, at = uleb(info, at - 1)
-        steps = table[code]
-        at = at + steps if steps.__class__ is int else after_entry(info, at, steps, found)
+        size = sizes[info[at]]
+        if size:
+            at += size
+        else:
+            code, at = uleb(info, at)
+            at = after_entry(info, at, table.steps[code], found)
     if at > end:
         raise Unmarkable(f"an entry exceeds its unit at {end}")
     return found
@@ -118,7 +125,7 @@ def in_entries(info, at, end, table):
 def dropped_in_entries(info, abbreviations):
     """Yields the offset of each start of dead code in .debug_info. A unit without eight zero
     bytes is not decoded."""
-    tables, end = Tables(abbreviations), 0
+    read, end = functools.cache(functools.partial(read_table, abbreviations)), 0
     while end < len(info):
         width, start, end = extent(info, end)
         at = expect_version(info, start)
@@ -132,7 +139,7 @@ def dropped_in_entries(info, abbreviations):
         if kind == TYPE or info.find(ZEROS, first, end) < 0:
             continue
         try:
-            yield from in_entries(info, first, end, tables.table(table, width))
+            yield from in_entries(info, first, end, read(table, width))
         except KeyError as code:
             raise Unmarkable(f"an abbreviation code {code} is unknown in the unit at {start}") \
                 from code
