@@ -96,7 +96,7 @@ def places_of(data):
     """Returns the offset in the file of each address of dead code."""
     try:
         found = debug_sections(data)
-    except (ValueError, struct.error) as fault:
+    except (OverflowError, ValueError, struct.error) as fault:
         raise Unmarkable("its ELF tables exceed the file") from fault
     bytes_of = {name: data[row.offset : row.offset + row.size] for name, row in found.items()}
     places = []
@@ -106,7 +106,7 @@ def places_of(data):
             places += [found[name].offset + at for at in FINDERS[name](bytes_of[name], *more)]
         except Unmarkable as fault:
             raise Unmarkable(f"{name}: {fault}") from fault
-        except (IndexError, ValueError, struct.error) as fault:
+        except (IndexError, OverflowError, ValueError, struct.error) as fault:
             raise Unmarkable(f"{name}: it ends inside a value") from fault
     return places
 

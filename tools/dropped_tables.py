@@ -44,4 +44,7 @@ def dropped_in_ranges(section):
         width, at, end = extent(section, end)
         at = expect_sizes(section, expect_version(section, at))
         (count,) = struct.unpack_from("<I", section, at)
-        yield from in_lists(section, at + 4 + count * width, end)
+        first = at + 4 + count * width
+        if first > end:
+            raise Unmarkable(f"a header exceeds its range lists at {at}")
+        yield from in_lists(section, first, end)

@@ -6,6 +6,7 @@ from pathlib import Path
 
 sys.path.insert(0, str(Path(__file__).resolve().parents[1]))
 from dropped_bytes import Unmarkable
+from dropped_code import places_of
 from dropped_entries import dropped_in_entries
 from dropped_lines import dropped_in_lines
 from dropped_tables import dropped_in_addresses, dropped_in_ranges
@@ -31,6 +32,15 @@ def program(instructions, operands=OPERANDS, is_wide=False):
     head = bytes([8, 0]) + length + parameters
     made = unit(head + instructions, is_wide)
     return made, len(made) - len(instructions)
+
+
+class Elf(unittest.TestCase):
+    def test_tables_outside_the_file(self):
+        for offset in (64, 1 << 40, (1 << 64) - 1):
+            header = b"\x7fELF\x02\x01\x01" + bytes(9) + struct.pack("<HHI", 3, 62, 1)
+            header += struct.pack("<QQQ", 0, 0, offset) + struct.pack("<I6H", 0, 64, 0, 0, 64, 1, 0)
+            with self.assertRaisesRegex(Unmarkable, "its ELF tables exceed the file"):
+                places_of(header)
 
 
 class Lines(unittest.TestCase):
