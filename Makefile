@@ -5,6 +5,9 @@ PREFIX ?= /usr/local
 PROGRAM = crates/addr2line_live/out/addr2line_live
 TESTS = crates/command_loop_tests/out/command_loop_tests_tests
 INSTALLED = $(DESTDIR)$(PREFIX)
+LIBEXEC = $(INSTALLED)/libexec/addr2line_live
+INSTALLED_TOOLS = addr2line loads_of_process symbolize_perf symbolize_text
+INSTALLED_MODULES = core_files debug_files demangle elf_symbols live loaded_objects symbolizer
 COMPILERS = gcc g++ objcopy
 READERS = readelf objdump nm addr2line llvm-symbolizer llvm-dwarfdump
 
@@ -65,11 +68,10 @@ install: program
 	install -D -m 755 $(PROGRAM) $(INSTALLED)/bin/addr2line_live
 	install -D -m 644 addr2line_live.1 $(INSTALLED)/share/man/man1/addr2line_live.1
 	install -D -m 644 docs/PROTOCOL.md $(INSTALLED)/share/doc/addr2line_live/PROTOCOL.md
-	install -D -m 755 tools/loads_of_process $(INSTALLED)/libexec/addr2line_live/loads_of_process
-	install -D -m 755 tools/symbolize_perf $(INSTALLED)/libexec/addr2line_live/symbolize_perf
-	install -D -m 755 tools/addr2line $(INSTALLED)/libexec/addr2line_live/addr2line
-	for module in core_files debug_files demangle live loaded_objects; do \
-	    install -D -m 644 tools/$$module.py $(INSTALLED)/libexec/addr2line_live/$$module.py; done
+	for tool in $(INSTALLED_TOOLS); do \
+	    install -D -m 755 tools/$$tool $(LIBEXEC)/$$tool || exit; done
+	for module in $(INSTALLED_MODULES); do \
+	    install -D -m 644 tools/$$module.py $(LIBEXEC)/$$module.py || exit; done
 
 # Tests real processes, the output of perf, a library that is loaded and unloaded, and the clients
 # in docs/PROTOCOL.md.
