@@ -6,8 +6,8 @@ PROGRAM = crates/addr2line_live/out/addr2line_live
 TESTS = crates/command_loop_tests/out/command_loop_tests_tests
 INSTALLED = $(DESTDIR)$(PREFIX)
 LIBEXEC = $(INSTALLED)/libexec/addr2line_live
-INSTALLED_TOOLS = addr2line loads_of_process symbolize_perf symbolize_text
-INSTALLED_MODULES = core_files debug_files demangle elf_symbols live loaded_objects symbolizer
+INSTALLED_TOOLS = addr2line loads_of_process symbolize_markup symbolize_perf symbolize_text
+INSTALLED_MODULES = core_files debug_files demangle elf_symbols live loaded_objects markup symbolizer
 COMPILERS = gcc g++ objcopy
 READERS = readelf objdump nm addr2line llvm-symbolizer llvm-dwarfdump
 
