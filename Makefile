@@ -8,9 +8,10 @@ INSTALLED = $(DESTDIR)$(PREFIX)
 LIBEXEC = $(INSTALLED)/libexec/addr2line_live
 DOCUMENTS = $(INSTALLED)/share/doc/addr2line_live
 DIST = out/addr2line_live-$(shell cat VERSION)
-INSTALLED_TOOLS = addr2line loads_of_process symbolize_markup symbolize_perf symbolize_text
-INSTALLED_MODULES = core_files debug_files demangle elf_symbols live loaded_objects markup \
-    symbolizer
+INSTALLED_TOOLS = addr2line load_of_kernel loads_of_process symbolize_markup symbolize_perf \
+    symbolize_text
+INSTALLED_MODULES = core_files debug_files demangle elf_symbols kernel_base live loaded_objects \
+    markup symbolizer
 COMPILERS = gcc g++ objcopy
 READERS = readelf objdump nm addr2line llvm-symbolizer llvm-dwarfdump
 

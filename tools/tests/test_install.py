@@ -77,6 +77,14 @@ class Install(unittest.TestCase):
         shown = self.run_installed("symbolize_markup", text=text).splitlines()
         self.assertEqual(shown[2], f"main[{self.path}.c:2]")
 
+    def test_load_of_kernel(self):
+        """The program links at a fixed address, as vmlinux does, with a symbol of its name."""
+        kernel, copy = f"{self.path}.vmlinux", f"{self.path}.copy"
+        output_of("objcopy", "--add-symbol", "_text=.text:0", self.path, kernel)
+        words = [kernel, copy, "--text", f"{symbol(kernel, '_text') + 0x1000:x}"]
+        self.assertEqual(self.run_installed("load_of_kernel", *words, text=""),
+                         f"load kernel 1000 {copy}\n")
+
     def test_uninstall(self):
         """Other files stay. Folders of the program are removed if they are empty."""
         with tempfile.TemporaryDirectory() as folder:
