@@ -1,5 +1,6 @@
-"""Reads the symbol tables of ELF objects."""
+"""Finds symbols in the symbol tables of ELF objects."""
 import functools
+import os
 import struct
 from typing import NamedTuple
 
@@ -14,14 +15,10 @@ ENTRY = struct.Struct("<IBBHQQ")
 class Symbol(NamedTuple):
     """A defined symbol. Its address is relative to the object's address 0."""
 
-    name: str
+    strings: bytes  # the string table
+    name: int  # an offset in it
     address: int
     size: int
-
-
-def string(data, offset):
-    """Returns the string at an offset of a string table."""
-    return data[offset : data.find(b"\0", offset)].decode("utf-8", "surrogateescape")
 
 
 @functools.cache
@@ -33,20 +30,24 @@ def symbols(path):
             continue
         text, data = contents(path, found[strings]), contents(path, found[table])
         data = data[: len(data) // ENTRY.size * ENTRY.size]
-        for name, info, _, section, address, size in ENTRY.iter_unpack(data):
-            if section != UNDEFINED and name and info % 16 in KINDS:
-                listed.append(Symbol(string(text, name), address, size))
+        listed += [Symbol(text, name, address, size)
+                   for name, info, _, section, address, size in ENTRY.iter_unpack(data)
+                   if section != UNDEFINED and name and info % 16 in KINDS]
     return listed
 
 
+@functools.cache
 def address_of(path, name):
     """Returns the address of a symbol, or None if no symbol or several addresses have the name."""
-    found = {symbol.address for symbol in symbols(path) if symbol.name == name}
+    wanted = os.fsencode(name) + b"\0"
+    found = {symbol.address for symbol in symbols(path)
+             if symbol.strings.startswith(wanted, symbol.name)}
     return found.pop() if len(found) == 1 else None
 
 
-def symbol_at(path, address):
-    """Returns the smallest symbol that contains an address, or None."""
+def name_at(path, address):
+    """Returns the name of the smallest symbol that contains an address, or None."""
     around = (symbol for symbol in symbols(path)
               if symbol.address <= address < symbol.address + max(symbol.size, 1))
-    return min(around, key=lambda symbol: symbol.size, default=None)
+    found = min(around, key=lambda symbol: symbol.size, default=None)
+    return os.fsdecode(found.strings[found.name :].split(b"\0", 1)[0]) if found else None

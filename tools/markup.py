@@ -2,7 +2,7 @@
 import re
 from typing import NamedTuple
 
-ELEMENT = re.compile(r"\{\{\{([a-z_]+)(?::(.*?))?\}\}\}")
+ELEMENT = re.compile(r"\{\{\{([a-z_]+)(?::([^{}]*))?\}\}\}")
 LAST = (1 << 64) - 1
 
 

@@ -158,6 +158,13 @@ class SymbolizeMarkup(unittest.TestCase):
                 "{{{module:1:x:elf:../../x}}} {{{mmap:0x1:0x1:load}}} {{{reset:1}}} {{{ {{{")
         self.assertEqual(tuple(self.filtered(*text)), text)
 
+    def test_long_lines(self):
+        """The time is linear in the length of a line."""
+        text = " ".join(word * 100000 for word in ("{{{bt:", "{{{", "}}}", "{{{pc:0x1"))
+        done = subprocess.run([TOOLS / "symbolize_markup"], input=f"{text}\n", text=True,
+                              capture_output=True, timeout=60)
+        self.assertEqual((done.returncode, done.stdout), (0, f"{text}\n"))
+
     @unittest.skipUnless(shutil.which("c++filt"), "c++filt is not installed")
     def test_symbols(self):
         text = "a {{{symbol:_ZN3foo3barEi}}} b {{{symbol:plain}}}"

@@ -153,6 +153,14 @@ class SymbolizeText(unittest.TestCase):
         wanted = "symbolize_text: /dev/zero: not found or not a 64-bit ELF object\n"
         self.assertIn(wanted, done.stderr)
 
+    def test_long_lines_and_other_ends(self):
+        """The time is linear in the length of a line. Carriage returns stay."""
+        line = " ".join(word * 100000 for word in ("a", "/+", "(a + ", "a(", "a[0x", "+0x1/"))
+        words = [TOOLS / "symbolize_text"]
+        text = f"{line}\n50%\r60%\r\n".encode()
+        done = subprocess.run(words, input=text, capture_output=True, timeout=60)
+        self.assertEqual((done.returncode, done.stdout), (0, text))
+
     @unittest.skipUnless(shutil.which("addr2line"), "addr2line is not installed")
     def test_beside_addr2line(self):
         """The lines of all addresses of a function equal those of addr2line of binutils."""
