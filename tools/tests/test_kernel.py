@@ -10,14 +10,18 @@ from pathlib import Path
 sys.path.insert(0, str(Path(__file__).resolve().parent))
 from programs import TOOLS, Live, compiled, instructions, output_of, symbol, tool
 
-# `check` is inlined into `work`, which `start` calls.
+# `check` is inlined into `work`, which `start` calls in line 9.
 SOURCE = """int per_cpu __attribute__((section(".data..percpu"))) = 1;
 static inline __attribute__((always_inline)) int check(int x) { return x * 7; }
 __attribute__((noinline)) int work(int x)
 {
     return check(x) + 1;
 }
-int start(void) { return work(3) - 1; }
+int start(void)
+{
+    int x = work(3);
+    return x - 1;
+}
 """
 # All code of a kernel, in one function.
 LARGE = 'void all(void)\n{\n    __asm__ volatile(".skip 0x2000000, 0x90");\n}\n'
@@ -121,7 +125,7 @@ class Kernel(unittest.TestCase):
         file = "([kernel.kallsyms])"
         text = f"{HEAD}\t{work:x} work+0x0 {file}\n\t{caller:x} start+0x9 {file}\n"
         wanted = (f"{HEAD}\t{work:x} check ({self.path}.c:2)\n\t{work:x} work ({self.path}.c:5)\n"
-                  f"\t{caller:x} start ({self.path}.c:7)\n")
+                  f"\t{caller:x} start ({self.path}.c:9)\n")
         return text, wanted
 
     def test_profiles(self):

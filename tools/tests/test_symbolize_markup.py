@@ -10,6 +10,9 @@ from pathlib import Path
 sys.path.insert(0, str(Path(__file__).resolve().parent))
 from programs import TOOLS, compiled, instructions, output_of, symbol, tool
 
+sys.path.insert(0, str(TOOLS))
+from markup import LAST, number
+
 # A program that writes its modules and a call stack from a library. `middle` is inlined into
 # `shown`. The calls are in lines 4, 5 and 6 of the library.
 LIBRARY = """#include <execinfo.h>
@@ -130,8 +133,15 @@ class SymbolizeMarkup(unittest.TestCase):
             (moved, first),
             ("{{{mmap:0x80000:65536:load:1:rx:0x0}}}", None),
             (f"{{{{{{pc:0x{0x80000 + two:x}:pc}}}}}}", second),
+            ("{{{mmap:0x85000:65536:load:1:rx:0x0}}}", None),
+            (f"{{{{{{pc:0x{0x85000 + two:x}}}}}}}", second),
             ("{{{reset}}}", None),
+            ("{{{mmap:0x80000:65536:load:0:rx:0x0}}}", None),
             (moved, moved),
+            ("{{{module:00:one.so:elf:abcd01}}}{{{mmap:0x80000:0200000:load:0:rx:0x0}}}", None),
+            (moved, first),
+            ("{{{module:1:two.so:elf:abcd02}}}{{{mmap:0x85000:65536:load:1:rx:0x0}}}", None),
+            (f"{{{{{{pc:0x{0x85000 + two:x}}}}}}}", second),
         ]
         wanted = [line if answer is None else answer for line, answer in steps]
         self.assertEqual(self.filtered(*(line for line, _ in steps)), wanted)
@@ -149,6 +159,21 @@ class SymbolizeMarkup(unittest.TestCase):
         shown = self.filtered(*head, *elements)[2:]
         self.assertEqual([int(re.search(r"one\.c:(\d+)", line)[1]) for line in shown],
                          list(forms.values()))
+
+    def test_build_ids_are_no_paths(self):
+        debug = self.with_id("one.so", "abcd01").rename(self.folder / "one.debug")
+        one = symbol(debug, "one")
+        text = (f"{{{{{{module:0:x:elf:..{self.folder}/one}}}}}}",
+                "{{{mmap:0x0:0x10000:load:0:rx:0x0}}}", f"{{{{{{pc:0x{one:x}}}}}}}")
+        self.assertEqual(tuple(self.filtered(*text)), text)
+
+    def test_numbers(self):
+        """Numbers are those of C: 0200000 is octal."""
+        known = {"0": 0, "0x1F": 31, "0X1f": 31, "010": 8, "12": 12, f"{LAST}": LAST}
+        self.assertEqual({text: number(text) for text in known}, known)
+        for text in ("", "0x", "-1", "+1", " 1", "1_0", "08", "zz", f"{LAST + 1}"):
+            with self.assertRaises(ValueError):
+                number(text)
 
     def test_what_stays(self):
         """Unknown, invalid and unmapped elements stay."""

@@ -141,6 +141,19 @@ class SymbolizeText(unittest.TestCase):
         wanted = (f"at one at {first.with_suffix('.c')}:2, then two at "
                   f"{second.with_suffix('.c')}:1.\n{first}+0x{two + 0x5000:x}\n")
         self.assertEqual(tool("symbolize_text", "--replace", text=text), wanted)
+        odd = shutil.copy(first, f"{first}+0x{one:x}")
+        text = f"{second}+0x{two:x}(+0x1) {odd}(+0x{one + 1:x})\n"
+        wanted = (f"two at {second.with_suffix('.c')}:1(+0x1) "
+                  f"one at {first.with_suffix('.c')}:2\n")
+        self.assertEqual(tool("symbolize_text", "--replace", text=text), wanted)
+
+    def test_symbols_are_no_files(self):
+        """SYMBOL+0xOFF stays if a file has the name of the symbol."""
+        path = self.compile("leaf", TRACE, "-no-pie")
+        text = f"leaf+0x{symbol(path, 'leaf'):x}\n{path}(leaf.c+0x12) {path}(no+0x1)\n"
+        other = f"{path}(leaf+0x{symbol(path, 'leaf'):x})\n"
+        words = ["--folder", self.folder]
+        self.assertEqual(tool("symbolize_text", *words, text=text + other), text + other)
 
     def test_what_stays(self):
         """Symbols of the kernel, other files, large offsets and odd bytes stay as they are."""
