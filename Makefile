@@ -29,7 +29,7 @@ help:
 	@echo '                  (hours; minutes for one crate)'
 	@echo 'make tools-test   tests tools/ and the clients in docs/PROTOCOL.md on real processes'
 	@echo 'make check-docs   compares the manual page and documents with the sources: options, refusals,'
-	@echo '                  causes, targets'
+	@echo '                  causes, targets, the version'
 	@echo 'make compare      compares the data read from objects with the output of other readers'
 	@echo 'make hostile      measures time and memory for adversarial objects'
 	@echo 'make fuzz         fuzzes objects and commands against a reference implementation in Python'
