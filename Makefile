@@ -1,10 +1,17 @@
-.PHONY: help demo test check edits program install compare hostile fuzz memory long-run bench tools-test \
-        check-docs
+.PHONY: help demo test check edits program install uninstall dist compare hostile fuzz memory \
+        long-run bench tools-test check-docs
 
 PREFIX ?= /usr/local
 PROGRAM = crates/addr2line_live/out/addr2line_live
 TESTS = crates/command_loop_tests/out/command_loop_tests_tests
 INSTALLED = $(DESTDIR)$(PREFIX)
+LIBEXEC = $(INSTALLED)/libexec/addr2line_live
+DOCUMENTS = $(INSTALLED)/share/doc/addr2line_live
+DIST = out/addr2line_live-$(shell cat VERSION)
+INSTALLED_TOOLS = addr2line load_of_kernel loads_of_process mark_dropped symbolize_markup \
+    symbolize_perf symbolize_text
+INSTALLED_MODULES = core_files debug_files demangle dropped_bytes dropped_code dropped_entries \
+    dropped_lines dropped_tables elf_symbols kernel_base live loaded_objects markup symbolizer
 COMPILERS = gcc g++ objcopy
 READERS = readelf objdump nm addr2line llvm-symbolizer llvm-dwarfdump
 
@@ -14,12 +21,15 @@ help:
 	@echo 'make program      builds the program, $(PROGRAM)'
 	@echo 'make install      installs it, its manual page, docs/PROTOCOL.md and its tools in PREFIX'
 	@echo '                  ($(PREFIX))'
+	@echo 'make uninstall    removes what make install installs in PREFIX'
+	@echo 'make dist         packs the program, its page, docs/PROTOCOL.md, tools and licenses into'
+	@echo '                  $(DIST).tar.gz'
 	@echo 'make check CRATE=dwarf_lines   checks one crate, with the cached results of earlier checks'
 	@echo 'make edits [CRATE=dwarf_lines]   tries the must-fail edits that are not in CI'
 	@echo '                  (hours; minutes for one crate)'
 	@echo 'make tools-test   tests tools/ and the clients in docs/PROTOCOL.md on real processes'
 	@echo 'make check-docs   compares the manual page and documents with the sources: options, refusals,'
-	@echo '                  causes, targets'
+	@echo '                  causes, targets, the version'
 	@echo 'make compare      compares the data read from objects with the output of other readers'
 	@echo 'make hostile      measures time and memory for adversarial objects'
 	@echo 'make fuzz         fuzzes objects and commands against a reference implementation in Python'
@@ -64,14 +74,29 @@ program:
 install: program
 	install -D -m 755 $(PROGRAM) $(INSTALLED)/bin/addr2line_live
 	install -D -m 644 addr2line_live.1 $(INSTALLED)/share/man/man1/addr2line_live.1
-	install -D -m 644 docs/PROTOCOL.md $(INSTALLED)/share/doc/addr2line_live/PROTOCOL.md
-	install -D -m 755 tools/loads_of_process $(INSTALLED)/libexec/addr2line_live/loads_of_process
-	install -D -m 755 tools/symbolize_perf $(INSTALLED)/libexec/addr2line_live/symbolize_perf
-	install -D -m 755 tools/addr2line $(INSTALLED)/libexec/addr2line_live/addr2line
-	install -D -m 755 tools/mark_dropped $(INSTALLED)/libexec/addr2line_live/mark_dropped
-	for module in core_files debug_files demangle dropped_bytes dropped_code dropped_entries \
-	    dropped_lines dropped_tables live loaded_objects; do \
-	    install -D -m 644 tools/$$module.py $(INSTALLED)/libexec/addr2line_live/$$module.py; done
+	install -D -m 644 docs/PROTOCOL.md $(DOCUMENTS)/PROTOCOL.md
+	for tool in $(INSTALLED_TOOLS); do \
+	    install -D -m 755 tools/$$tool $(LIBEXEC)/$$tool || exit; done
+	for module in $(INSTALLED_MODULES); do \
+	    install -D -m 644 tools/$$module.py $(LIBEXEC)/$$module.py || exit; done
+
+# Removes the files that `make install` installs, the bytecode that python caches of the tools, and
+# the folders of this program if they are empty then.
+uninstall:
+	rm -f $(INSTALLED)/bin/addr2line_live $(INSTALLED)/share/man/man1/addr2line_live.1 \
+	    $(DOCUMENTS)/PROTOCOL.md $(INSTALLED_TOOLS:%=$(LIBEXEC)/%) \
+	    $(INSTALLED_MODULES:%=$(LIBEXEC)/%.py) $(INSTALLED_MODULES:%=$(LIBEXEC)/__pycache__/%.*.pyc)
+	for folder in $(LIBEXEC)/__pycache__ $(LIBEXEC) $(DOCUMENTS); do \
+	    [ ! -d $$folder ] || rmdir --ignore-fail-on-non-empty $$folder || exit; done
+
+# Packs what `make install` installs, and the licenses. The archive can be unpacked anywhere.
+dist: program
+	rm -rf $(DIST) && mkdir -p $(DIST)
+	$(MAKE) --no-print-directory -o program install DESTDIR= PREFIX=$(abspath $(DIST))
+	install -m 644 LICENSE-APACHE LICENSE-MIT VERSION $(DIST)/share/doc/addr2line_live
+	tar --sort=name --owner=0 --group=0 --numeric-owner -C $(dir $(DIST)) -czf $(DIST).tar.gz \
+	    $(notdir $(DIST))
+	rm -rf $(DIST)
 
 # Tests real processes, the output of perf, a library that is loaded and unloaded, and the clients
 # in docs/PROTOCOL.md.

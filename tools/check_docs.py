@@ -5,6 +5,7 @@
   each section and cause of a malformed object. It must not explain a cause that does not exist, and
   groff must format it without a warning.
 - The README must name each option and command.
+- The manual page and the changelog must name the version in VERSION.
 - Each definition that docs/ARCHITECTURE.md names with its file, and each `make` target that a
   document names, must exist.
 """
@@ -122,6 +123,22 @@ def targets():
                 yield f"{document.name}: there is no make {target}"
 
 
+def versions():
+    """Yields faults in the version of the manual page and the changelog."""
+    text = (TOP / "VERSION").read_text()
+    version = text.removesuffix("\n")
+    if not re.fullmatch(r"\d+\.\d+\.\d+\n", text):
+        yield "VERSION: it is not one line with a version of three numbers"
+    forms = {
+        PAGE: r'^\.TH \S+ 1 "[\d-]+" "addr2line_live (\S+)"',
+        TOP / "CHANGELOG.md": r"^(?:## |The next version is )(\d+\.\d+\.\d+)\b",
+    }
+    for document, form in forms.items():
+        named = re.search(form, document.read_text(), re.MULTILINE)
+        if not named or named[1] != version:
+            yield f"{document.name}: its version is not {version}"
+
+
 def formatting():
     """Yields the warnings of groff."""
     done = subprocess.run(["groff", "-man", "-Tutf8", "-ww", PAGE], capture_output=True, text=True)
@@ -129,7 +146,7 @@ def formatting():
 
 
 def main():
-    checks = (causes, refusals, options_and_commands, definitions, targets, formatting)
+    checks = (causes, refusals, options_and_commands, versions, definitions, targets, formatting)
     found = [fault for check in checks for fault in check()]
     print(*found, sep="\n", end="\n" if found else "")
     print(f"check-docs: {len(found)} faults")

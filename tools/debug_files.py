@@ -52,9 +52,11 @@ def sections(path):
 
 
 def contents(path, section):
+    """Returns the bytes of a section; fewer if the file ends before the section does."""
+    length = os.stat(path).st_size
     with open(path, "rb") as file:
-        file.seek(section.offset)
-        return file.read(section.size)
+        file.seek(min(section.offset, length))
+        return file.read(min(section.size, length))
 
 
 def build_id(path, found):
@@ -76,14 +78,19 @@ def caches():
     return [os.environ.get("DEBUGINFOD_CACHE_PATH") or os.path.join(home, "debuginfod_client")]
 
 
+def by_build_id(identity, folders):
+    """Yields the possible paths of the debug file of a build ID, in search order."""
+    for folder in folders:
+        yield Path(folder, ".build-id", identity[:2], identity[2:] + ".debug")
+    for folder in caches():
+        yield Path(folder, identity, "debuginfo")
+
+
 def candidates(path, found, folders):
     """Yields the possible paths of the debug file of an object, in search order."""
     identity, name = build_id(path, found), debug_link(path, found)
     if identity:
-        for folder in folders:
-            yield Path(folder, ".build-id", identity[:2], identity[2:] + ".debug")
-        for folder in caches():
-            yield Path(folder, identity, "debuginfo")
+        yield from by_build_id(identity, folders)
     if name:
         beside = Path(path).resolve().parent
         yield from (beside / name, beside / ".debug" / name)

@@ -53,12 +53,19 @@ def mapping_of(line):
     return Mapping(start, end, offset, found["path"])
 
 
+def file_of(mapping, root="", map_files=None):
+    """Returns the path of the file of a mapping. The kernel has the contents of a deleted file at
+    map_files/FROM-TO. Returns None for a deleted file without `map_files`, because another file may
+    have its path."""
+    if not mapping.path.endswith(DELETED):
+        return root + mapping.path
+    return f"{map_files}/{mapping.start:x}-{mapping.end:x}" if map_files else None
+
+
 @functools.cache
 def segments(path):
-    """Returns the executable segments of a 64-bit little-endian ELF object; empty for other files,
-    and for a deleted file, because another file may have its path."""
-    if path.endswith(DELETED):
-        return []
+    """Returns the executable segments of a 64-bit little-endian ELF object; empty for other files
+    and for a file that cannot be read."""
     try:
         with open(path, "rb") as file:
             header = file.read(64)
@@ -88,7 +95,8 @@ def base_of(mapping, executable):
 
 def name_of(path, taken):
     """Returns a unique name of at most 64 letters, digits, `_`, `-` and `.`."""
-    plain = re.sub(r"[^A-Za-z0-9_.-]", "_", os.path.basename(path))[:56] or "object"
+    plain = os.path.basename(path.removesuffix(DELETED))
+    plain = re.sub(r"[^A-Za-z0-9_.-]", "_", plain)[:56] or "object"
     name, number = plain, 1
     while name in taken:
         number += 1
@@ -97,18 +105,16 @@ def name_of(path, taken):
     return name
 
 
-def objects_of(lines, root=""):
+def objects_of(lines, root="", map_files=None):
     """Returns the name, base and path of each object in lines of /proc/PID/maps, and the paths of
-    other files. `root` is prepended to each path: a process may have its own root folder."""
+    other files. `root` is prepended to each path: a process may have its own root folder.
+    `map_files` is /proc/PID/map_files of a running process."""
     loaded, others, taken = {}, [], set()
-    for line in lines:
-        mapping = mapping_of(line)
-        if not mapping:
-            continue
-        mapping = mapping._replace(path=root + mapping.path)
-        base = base_of(mapping, segments(mapping.path))
+    for mapping in filter(None, map(mapping_of, lines)):
+        path = file_of(mapping, root, map_files)
+        base = base_of(mapping, segments(path)) if path else None
         if base is None:
-            others.append(mapping.path)
+            others.append(root + mapping.path)
         elif (base, mapping.path) not in loaded:
-            loaded[base, mapping.path] = name_of(mapping.path, taken)
-    return [(name, base, path) for (base, path), name in loaded.items()], others
+            loaded[base, mapping.path] = name_of(mapping.path, taken), base, path
+    return list(loaded.values()), others

@@ -38,7 +38,7 @@ def symbol(path, name):
 def instructions(path, function):
     """Returns the link address and the disassembly of each instruction of a function."""
     shown = output_of("objdump", "-d", "--no-show-raw-insn", f"--disassemble={function}", path)
-    found = (line.partition(":") for line in shown.splitlines() if line.startswith(" "))
+    found = (line.partition(":") for line in shown.splitlines() if ":\t" in line)
     return [(int(address, 16), text) for address, _, text in found]
 
 

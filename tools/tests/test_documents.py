@@ -2,11 +2,15 @@
 import re
 import subprocess
 import sys
+import tempfile
 import unittest
 from pathlib import Path
+from unittest import mock
 
 sys.path.insert(0, str(Path(__file__).resolve().parent))
 from programs import PROGRAM, TOP, Live, output_of
+
+import check_docs
 
 
 class Documents(unittest.TestCase):
@@ -34,6 +38,15 @@ class Documents(unittest.TestCase):
         for words, wanted in cases.items():
             done = subprocess.run([PROGRAM, *words.split()], capture_output=True, text=True)
             self.assertEqual((done.returncode, done.stderr), wanted, words)
+
+    def test_versions(self):
+        """The check of the documents reports each document with another version."""
+        with tempfile.TemporaryDirectory() as folder, mock.patch("check_docs.TOP", Path(folder)):
+            (Path(folder) / "VERSION").write_text("9.9.9\n")
+            (Path(folder) / "CHANGELOG.md").write_text("The next version is 9.9.8.\n")
+            wanted = [f"{name}: its version is not 9.9.9"
+                      for name in ("addr2line_live.1", "CHANGELOG.md")]
+            self.assertEqual(list(check_docs.versions()), wanted)
 
 
 if __name__ == "__main__":

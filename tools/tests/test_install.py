@@ -1,4 +1,5 @@
-"""Tests the files that `make install` installs under a prefix, with the program on PATH."""
+"""Tests the files that `make install` and `make dist` put under a prefix, with the program on PATH,
+and `make uninstall`."""
 import os
 import subprocess
 import sys
@@ -13,14 +14,23 @@ SOURCE = "int main(void)\n{\n    return 0;\n}\n"
 SAMPLE = "app 12 1.000001:  250000 cpu-clock: \n"
 
 
+def make(target, prefix, *words):
+    """Runs a target of make, without building the program again."""
+    run = ["make", "-s", "-C", TOP, "-o", "program", target]
+    output_of(*run, f"PROGRAM={PROGRAM}", f"PREFIX={prefix}", "DESTDIR=", *words)
+
+
+def files_of(folder):
+    return {path.relative_to(folder) for path in folder.rglob("*") if path.is_file()}
+
+
 class Install(unittest.TestCase):
     @classmethod
     def setUpClass(cls):
         folder = tempfile.TemporaryDirectory()
         cls.addClassCleanup(folder.cleanup)
         cls.prefix = Path(folder.name) / "prefix"
-        make = ["make", "-s", "-C", TOP, "-o", "program", "install"]  # it is built already
-        output_of(*make, f"PROGRAM={PROGRAM}", f"PREFIX={cls.prefix}", "DESTDIR=")
+        make("install", cls.prefix)
         cls.path = compiled(folder.name, "app", SOURCE, "-O0", "-no-pie")
         cls.main = symbol(cls.path, "main")
 
@@ -59,6 +69,53 @@ class Install(unittest.TestCase):
         text = f"{SAMPLE}{place}+0x0 ({self.path})\n"
         wanted = f"{SAMPLE}{place} ({self.path}.c:2)\n"
         self.assertEqual(self.run_installed("symbolize_perf", text=text), wanted)
+
+    def test_symbolize_text(self):
+        line = f"{self.path}+0x{self.main:x}"
+        self.assertEqual(self.run_installed("symbolize_text", text=line),
+                         f"{line} main at {self.path}.c:2\n")
+
+    def test_symbolize_markup(self):
+        text = (f"{{{{{{module:0:{self.path}:elf:}}}}}}\n"
+                "{{{mmap:0x400000:0x4000:load:0:r:0x400000}}}\n"
+                f"{{{{{{pc:0x{self.main:x}}}}}}}\n")
+        shown = self.run_installed("symbolize_markup", text=text).splitlines()
+        self.assertEqual(shown[2], f"main[{self.path}.c:2]")
+
+    def test_load_of_kernel(self):
+        """The program links at a fixed address, as vmlinux does, with a symbol of its name."""
+        kernel, copy = f"{self.path}.vmlinux", f"{self.path}.copy"
+        output_of("objcopy", "--add-symbol", "_text=.text:0", self.path, kernel)
+        words = [kernel, copy, "--text", f"{symbol(kernel, '_text') + 0x1000:x}"]
+        self.assertEqual(self.run_installed("load_of_kernel", *words, text=""),
+                         f"load kernel 1000 {copy}\n")
+
+    def test_uninstall(self):
+        """Other files stay. Folders of the program are removed if they are empty."""
+        with tempfile.TemporaryDirectory() as folder:
+            make("install", folder)
+            output_of(Path(folder) / "libexec/addr2line_live/loads_of_process", os.getpid())
+            others = [Path(folder) / name for name in ("bin/other", "share/man/man1/other.1")]
+            for other in others:
+                other.write_text("other\n")
+            make("uninstall", folder)
+            self.assertEqual(files_of(Path(folder)), {path.relative_to(folder) for path in others})
+            self.assertFalse((Path(folder) / "libexec/addr2line_live").exists())
+            self.assertFalse((Path(folder) / "share/doc/addr2line_live").exists())
+            make("uninstall", folder)
+
+    def test_dist(self):
+        """The archive has the files of `make install`, the licenses and the version."""
+        version = (TOP / "VERSION").read_text().strip()
+        with tempfile.TemporaryDirectory() as folder:
+            name = f"addr2line_live-{version}"
+            make("dist", "/unused", f"DIST={folder}/{name}")
+            output_of("tar", "-C", folder, "-xzf", f"{folder}/{name}.tar.gz")
+            documents = Path("share/doc/addr2line_live")
+            extra = {documents / file for file in ("LICENSE-APACHE", "LICENSE-MIT", "VERSION")}
+            make("install", f"{folder}/prefix")
+            wanted = files_of(Path(folder) / "prefix") | extra
+            self.assertEqual(files_of(Path(folder) / name), wanted)
 
 
 if __name__ == "__main__":
