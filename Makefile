@@ -108,6 +108,7 @@ tools-test:
 check-docs:
 	@tools/needs.sh check-docs python3 groff
 	@tools/check_docs.py
+	@tools/check_words.py --quiet *.md addr2line_live.1 docs/*.md tools bench crates/*
 
 # Compares the data read from objects with the output of other readers.
 compare:

@@ -1,7 +1,7 @@
 #!/usr/bin/env python3
 """Counts phrases that the documents and comments avoid, per 1,000 words.
 
-Usage: tools/check_words.py [--list] [--most NUMBER] PATH..
+Usage: tools/check_words.py [--list] [--quiet] [--most NUMBER] PATH..
 
 A path is a file or a folder. In .rt, .antt, .py and .sh files only comment lines are read, in other
 files all lines. --list prints each line with such a phrase. The exit status is 1 if a path has more
@@ -57,6 +57,7 @@ def main():
     """Prints the count of each path."""
     parser = argparse.ArgumentParser(description=__doc__.splitlines()[0])
     parser.add_argument('--list', action='store_true')
+    parser.add_argument('--quiet', action='store_true')
     parser.add_argument('--most', type=float, default=2.0)
     parser.add_argument('paths', nargs='+', type=pathlib.Path)
     options = parser.parse_args()
@@ -72,7 +73,8 @@ def main():
                     print(f'{file}:{number}: {text}')
         rate = 1000 * found / max(words, 1)
         failed |= rate > options.most
-        print(f'{path}: {found} in {words} words, {rate:.1f} per 1,000')
+        if rate > options.most or not options.quiet:
+            print(f'{path}: {found} in {words} words, {rate:.1f} per 1,000')
     return 1 if failed else 0
 
 
