@@ -4,8 +4,9 @@
 Usage: tools/check_words.py [--list] [--quiet] [--most NUMBER] PATH..
 
 A path is a file or a folder. In .rt, .antt, .py and .sh files only comment lines are read, in other
-files all lines. --list prints each line with such a phrase. The exit status is 1 if a path has more
-than NUMBER of them per 1,000 words (2 if not given).
+files all lines. --list prints each line with such a phrase. --quiet prints only the paths that have
+too many. The exit status is 1 if a path has more than NUMBER of them per 1,000 words (2 if not
+given).
 """
 
 import argparse
