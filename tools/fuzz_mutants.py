@@ -3,7 +3,7 @@ mutants of other objects with changed bytes and sections."""
 import struct
 
 from fuzz_objects import Maker
-from hostile import elf, uleb
+from hostile_objects import elf, uleb
 from plain_bytes import read_elf
 
 

@@ -1,7 +1,7 @@
 """Random objects for tools/fuzz.py, with all parts of DWARF 5 that the program reads."""
 import struct
 
-from hostile import uleb
+from hostile_objects import uleb
 
 NAMES = [b"main", b"mid", b"leaf", b"", b"a\x01b", b"\xff\x80", b"/x/", b"operator new"]
 TOP = (1 << 64) - 1
