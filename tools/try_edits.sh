@@ -10,12 +10,14 @@ take_out() {
         for edit in "edits/$crate"/*.edit; do
             rm -f "crates/$crate/must-fail/${edit##*/}"
         done
+        rmdir --ignore-fail-on-non-empty "crates/$crate/must-fail"
     done
 }
 
 trap take_out EXIT
 trap 'exit 130' INT TERM
 for crate in $crates; do
+    mkdir -p "crates/$crate/must-fail"
     cp "edits/$crate"/*.edit "crates/$crate/must-fail/"
 done
 # shellcheck disable=SC2086
