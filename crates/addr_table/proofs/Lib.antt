@@ -35,6 +35,7 @@ pub mod ModuleLaws
 pub mod DecodeLaws
 pub mod ParentLaws
 pub mod ParentSearch
+pub mod SameScopes
 pub mod ScanLaws
 pub mod StepLaws
 pub mod ExtentLaws
