@@ -116,7 +116,7 @@ decoded-few bytes line found s rows scopes small found_is line_is s_is take_byte
     let offsets = few-below (length s.debug_info) (map (λ (scope : Scope). scope.offset) scopes)
     rise in
     let reaches = reaches-few rows scopes in
-    record { keys = omega arith; endpoints = omega arith }
+    record { segments = omega arith; keys = omega arith; endpoints = omega arith }
 
 -- The sorted endpoints are as many as the ranges.
 pub ends-few : (rows : List Row) (scopes : List Scope) (opens closes : List End)

@@ -28,6 +28,7 @@ pub mod DigitPlaces
 pub mod EndDigits
 pub mod EndTurns
 pub mod RoomLaws
+pub mod BucketLaws
 pub mod BuildLaws
 pub mod FrameLaws
 pub mod FrameChains

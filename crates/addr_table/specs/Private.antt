@@ -1,5 +1,6 @@
 pub mod Active
 pub mod Bits
+pub mod Buckets
 pub mod Digits
 pub mod EndLists
 pub mod Kept

@@ -3,6 +3,7 @@
 
 mod active;
 mod bits;
+mod buckets;
 mod decode;
 mod end_list;
 mod ends;
