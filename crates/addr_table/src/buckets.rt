@@ -12,8 +12,11 @@ use std::alloc::{AllocError, Global};
 /// segments on average, so a binary search between two counts takes a few steps.
 #[derive(Drop)]
 pub(crate) struct Buckets {
+    /// The lowest address of a segment, or 0 without segments.
     pub(crate) low: u64,
+    /// The binary logarithm of the number of addresses of a bucket.
     pub(crate) shift: u32,
+    /// One count for each bucket up to that of the last segment.
     pub(crate) counts: Vec<u32>,
     ghost small: { shift < 64 },
 }
