@@ -11,7 +11,10 @@ fn prints_map_faults(rt: HostRuntime) -> Result<(), Fail> {
         (MapFault::NameTaken, "name-taken"),
         (MapFault::NoModule, "no-module"),
         (MapFault::Full, "full"),
-        (MapFault::Object(object), "object .debug_line file-format at 7"),
+        (
+            MapFault::Object(object),
+            "object .debug_line file-format at 7",
+        ),
         (MapFault::Range, "range"),
         (MapFault::Overlap(3), "overlap"),
         (MapFault::Memory, "memory"),
