@@ -28,14 +28,14 @@ class DeletedLibraries(unittest.TestCase):
     @unittest.skipUnless(os.geteuid() == 0, "only root can read /proc/PID/map_files")
     def test_deleted_and_replaced(self):
         """The library of the process answers, not the new file at its path."""
-        library = self.library("work.so", FIRST)
+        library = self.library("plugin.so", FIRST)
         work = self.host.say(library)
         place = f"{library.with_suffix('.c')}:4"
         library.unlink()
-        self.library("work.so", SECOND)
+        self.library("plugin.so", SECOND)
         loads = tool("loads_of_process", self.host.pid).splitlines()
-        line = next(line for line in loads if line.startswith("load work.so "))
-        self.assertRegex(line, rf"^load work.so \w+ /proc/{self.host.pid}/map_files/\w+-\w+$")
+        line = next(line for line in loads if line.startswith("load plugin.so "))
+        self.assertRegex(line, rf"^load plugin.so \w+ /proc/{self.host.pid}/map_files/\w+-\w+$")
         live = Live("-f")
         self.addCleanup(live.end)
         for load in loads:
@@ -44,41 +44,41 @@ class DeletedLibraries(unittest.TestCase):
 
     @unittest.skipUnless(os.geteuid() == 0, "only root can read /proc/PID/map_files")
     def test_debug_file_of_a_deleted_library(self):
-        library = self.library("work.so", FIRST)
-        debug = self.folder / "work.so.debug"
+        library = self.library("plugin.so", FIRST)
+        debug = self.folder / "plugin.so.debug"
         output_of("objcopy", "--only-keep-debug", library, debug)
         output_of("strip", "--strip-debug", library)
         output_of("objcopy", f"--add-gnu-debuglink={debug}", library)
         self.host.say(library)
         library.unlink()
         loads = tool("loads_of_process", "--debug", self.host.pid)
-        self.assertRegex(loads, rf"(?m)^load work.so \w+ {debug}$")
+        self.assertRegex(loads, rf"(?m)^load plugin.so \w+ {debug}$")
 
     @unittest.skipUnless(os.geteuid() == 0, "another user is needed")
     def test_another_user(self):
         """Without the capability, standard error lists the deleted library."""
         os.chmod(self.folder, 0o755)
-        self.library("work.so", FIRST)
+        self.library("plugin.so", FIRST)
         pipe = subprocess.PIPE
         host = subprocess.Popen([self.folder / "host"], stdin=pipe, stdout=pipe, text=True,
                                 user=65534, group=65534, extra_groups=[])
         self.addCleanup(host.communicate)
-        host.stdin.write(f"{self.folder}/work.so\n")
+        host.stdin.write(f"{self.folder}/plugin.so\n")
         host.stdin.flush()
         host.stdout.readline(), host.stdout.readline()
-        (self.folder / "work.so").unlink()
+        (self.folder / "plugin.so").unlink()
         words = [TOOLS / "loads_of_process", str(host.pid)]
         done = subprocess.run(words, capture_output=True, text=True, user=65534, group=65534,
                               extra_groups=[])
-        path = f"{self.folder}/work.so (deleted)"
+        path = f"{self.folder}/plugin.so (deleted)"
         wanted = f"loads_of_process: only root can read this file: {path}\n"
         self.assertEqual((done.returncode, done.stderr), (0, wanted))
-        self.assertNotIn("work.so", done.stdout)
+        self.assertNotIn("plugin.so", done.stdout)
         self.assertRegex(done.stdout, rf"(?m)^load host \w+ {self.folder}/host$")
 
     def test_one_line_for_several_mappings(self):
         """Two mappings of one deleted object give one object, with the file of the first."""
-        code = self.library("work.so", FIRST + "__asm__(\".skip 8192\");\n")
+        code = self.library("plugin.so", FIRST + "__asm__(\".skip 8192\");\n")
         files = self.folder / "map_files"
         files.mkdir()
         lines = []
@@ -91,10 +91,10 @@ class DeletedLibraries(unittest.TestCase):
 
     def test_files_of_mappings(self):
         mapping = Mapping(0x1000, 0x2000, 0, "/x (deleted)")
-        self.assertIsNone(file_of(mapping, "/root"))
-        self.assertEqual(file_of(mapping, "/root", "/proc/7/map_files"),
+        self.assertIsNone(file_of(mapping, "/container"))
+        self.assertEqual(file_of(mapping, "/container", "/proc/7/map_files"),
                          "/proc/7/map_files/1000-2000")
-        self.assertEqual(file_of(mapping._replace(path="/x"), "/root", "/m"), "/root/x")
+        self.assertEqual(file_of(mapping._replace(path="/x"), "/container", "/m"), "/container/x")
 
 
 if __name__ == "__main__":

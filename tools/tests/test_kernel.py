@@ -144,7 +144,7 @@ class Kernel(unittest.TestCase):
         app = compiled(self.folder, "app", "int main(void)\n{ return 0; }\n", "-no-pie")
         text, wanted = self.profile(0)
         others = ("\tffffffffc0001000 nf_hook+0x10 ([nf_conntrack])\n"
-                  "\t7f1a2b3c4d5e py::work:/src/work.py (/tmp/perf-12.map)\n"
+                  "\t7f1a2b3c4d5e py::run:/src/run.py (/tmp/perf-12.map)\n"
                   "\t7f1a2b3c4d5e [unknown] (/memfd:doublemapper (deleted))\n"
                   "\t7f1a2b3c4d5e Lwork; (//anon)\n\tffffffff90000000 far ([kernel.kallsyms])\n")
         main = symbol(app, "main") - 0x400000
