@@ -46,7 +46,7 @@ def entries(text):
 
 def causes():
     """Yields faults in the causes and sections of malformed objects."""
-    fault = source("dwarf_bytes", "fault.rt")
+    fault = source("dwarf_bytes", "words.rt")
     words = dict.fromkeys(re.findall(r'Cause::\w+ => "([a-z-]+)"', fault))
     explained = entries(part("CAUSES"))
     for cause in words:

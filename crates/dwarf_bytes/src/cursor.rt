@@ -46,6 +46,7 @@ impl<'a> Cursor<'a> {
     }
 
     /// Returns a copy of the cursor, at the same offset of the same bytes.
+    // Inlined into other crates: called for each number.
     #[inline(always)]
     pub fn fork(&self) -> Cursor<'a>
         ensures { result ≡ self.now }
@@ -163,6 +164,7 @@ impl<'a> Cursor<'a> {
     }
 
     /// Reads an unsigned LEB128 number.
+    // Inlined into other crates: called for each number.
     #[inline]
     pub fn uleb(&mut self) -> Result<u64, ReadFault>
         ensures reads { Reads (λ x. x) result uleb_at self.old self.new }
@@ -174,6 +176,7 @@ impl<'a> Cursor<'a> {
     }
 
     /// Reads a signed LEB128 number.
+    // Inlined into other crates: called for each number.
     #[inline]
     pub fn sleb(&mut self) -> Result<i64, ReadFault>
         ensures reads { Reads (λ x. x) result sleb_at self.old self.new }

@@ -50,6 +50,7 @@ fn tenth(bytes: &[u8]) -> Result<u8, ReadFault>
 
 /// Decodes the unsigned number at the start of the bytes. Returns it and the length of its
 /// encoding.
+// Inlined into other crates: called for each number.
 #[inline]
 pub(crate) fn uleb_front(bytes: &[u8]) -> Result<(u64, usize), ReadFault>
     ensures value { MatchResult result (λ read. uleb_front bytes.now ≡ Ok read)
@@ -83,6 +84,7 @@ fn long_uleb(bytes: &[u8]) -> Result<(u64, usize), ReadFault>
 }
 
 /// Decodes the signed number at the start of the bytes. Returns it and the length of its encoding.
+// Inlined into other crates: called for each number.
 #[inline]
 pub(crate) fn sleb_front(bytes: &[u8]) -> Result<(i64, usize), ReadFault>
     ensures value { MatchResult result (λ read. sleb_front bytes.now ≡ Ok read)

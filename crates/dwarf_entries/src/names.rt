@@ -15,6 +15,7 @@ use dwarf_walk::Sections;
 
 /// Returns the string that a value refers to. `str_offsets` is the string offsets table of the
 /// unit that contains the value.
+// Inlined: called for each name.
 #[inline(always)]
 pub(crate) fn text_of(
     sections: &Sections<'_>,
@@ -43,6 +44,7 @@ pub(crate) fn text_of(
 }
 
 /// Returns the string at an offset of a section. Fails if no NUL follows.
+// Inlined: called for each name.
 #[inline(always)]
 fn text_in(name: Section, section: &TextSection<'_>, offset: u64) -> Result<TextOffset, Cause>
     ensures { result ≡ text_in name section.now offset }

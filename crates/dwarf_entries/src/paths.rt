@@ -72,6 +72,7 @@ pub(crate) struct EntryNames {
 /// Returns the names of an entry of a unit. Each name is the first one on the origin chain of the
 /// entry, which may follow at most `hops` references. The chain is followed to its end before the
 /// names are validated.
+// Inlined: called for each scope and each reference.
 #[inline(always)]
 pub(crate) fn path_names(
     of: Units<'_>,
@@ -95,6 +96,7 @@ pub(crate) fn path_names(
 }
 
 /// Returns the string of an attribute, if there is one.
+// Inlined: called for each scope and each reference.
 #[inline(always)]
 fn text(
     sections: &Sections<'_>,
@@ -115,6 +117,7 @@ fn text(
 
 /// Returns the first names of the origin chain of an entry, which may follow at most `hops`
 /// references.
+// Inlined: called for each scope and each reference.
 #[inline(always)]
 fn first_names(
     units: &[UnitEntries],
@@ -149,6 +152,7 @@ fn first_names(
 }
 
 /// Re-reads the entry at a place.
+// Inlined: called for each scope and each reference.
 #[inline(always)]
 pub(crate) fn entry_again(
     units: &[UnitEntries],

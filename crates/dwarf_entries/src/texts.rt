@@ -41,6 +41,7 @@ impl<'a> TextSection<'a> {
     }
 
     /// Returns an offset if it is the offset of a valid string.
+    // Inlined: called for each name.
     #[inline(always)]
     pub(crate) fn text_at(&self, offset: u64) -> Result<usize, ReadFault>
         ensures { result ≡ text_place self.now offset }

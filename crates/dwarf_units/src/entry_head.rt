@@ -129,6 +129,7 @@ impl<'a> EntryHead<'a> {
 
     /// Reads the attributes of the entry, which start at the cursor. Replaces the contents of
     /// `found` by the used attributes if `keep` is set, and otherwise by none.
+    // Inlined: called for each entry.
     #[inline(always)]
     pub fn read_attributes(
         &self,

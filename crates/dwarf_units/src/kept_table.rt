@@ -106,6 +106,7 @@ impl KeptTable {
     }
 
     /// Returns the fixed-size head of a one-byte code, if there is one.
+    // Inlined: called for each entry.
     #[inline(always)]
     pub(crate) fn plain(&self, code: u8) -> Option<PlainHead>
         ensures { result ≡ plain_at_hand self.now code }

@@ -96,6 +96,7 @@ impl<'a> LinkedLists<'a> {
 
     /// Runs the steps of a list from its memoized attribute `first` on. Appends the stored
     /// attributes to `found`.
+    // Inlined: called for each entry with a memoized list.
     #[inline(always)]
     pub(crate) fn read(
         &self,

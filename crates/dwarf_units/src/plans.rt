@@ -83,6 +83,7 @@ pub(crate) fn plans(
 }
 
 /// Runs steps in order. Appends the stored attributes to `found`.
+// Inlined: called for each entry or attribute.
 #[inline(always)]
 pub(crate) fn read_steps(
     format: Format,
@@ -100,6 +101,7 @@ pub(crate) fn read_steps(
 }
 
 /// Runs a step. Appends the attribute that it stores, if any, to `found`.
+// Inlined: called for each entry or attribute.
 #[inline(always)]
 pub(crate) fn read_step(
     format: Format,

@@ -14,6 +14,7 @@ use dwarf_bytes::{Cause, Content, Cursor, Format, ValueLayout, Width};
 use dwarf_forms::AttributeSpecification;
 
 /// Skips the attribute at the cursor. Validates it if no layout is known.
+// Inlined: called for each attribute.
 #[inline(always)]
 pub(crate) fn pass_attribute(
     format: Format,
@@ -39,6 +40,7 @@ pub(crate) fn pass_attribute(
 
 /// Reads the attribute at the cursor and adds it to `found` under its name. Validates it if no
 /// layout is known.
+// Inlined: called for each attribute.
 #[inline(always)]
 pub(crate) fn keep_attribute(
     format: Format,
@@ -68,6 +70,7 @@ pub(crate) fn keep_attribute(
 
 /// Reads the attribute at the cursor, whose value has a known layout. The most common layouts have
 /// an arm of their own, because every stored attribute is read here.
+// Inlined: called for each attribute.
 #[inline(always)]
 #[tactic(auto, unfolding(dwarf_bytes::specs::Contents::content_at))]
 fn take_attribute(
@@ -102,6 +105,7 @@ fn take_attribute(
 }
 
 /// Reads a value at the cursor as a number, for the less common layouts.
+// Not inlined: it is rare, and its code would slow down the caller.
 #[inline(never)]
 fn read_number(format: Format, layout: ValueLayout, cursor: &mut Cursor) -> Result<u64, Cause>
     ensures { ReadsField (λ n. n) result (number_at format layout) cursor.old cursor.new }

@@ -49,6 +49,7 @@ impl<'a> UnitTable<'a> {
 
     /// Returns the head of the entry at an offset and the offset after it, if the entry has a
     /// fixed size, is below the root, and is not truncated.
+    // Inlined: called for each entry.
     #[inline(always)]
     pub fn plain_entry(&self, depth: u32, bytes: &[u8], place: usize) -> Option<(PlainHead, usize)>
         ensures found { result ≡ plain_entry_at self.now depth bytes.now place }

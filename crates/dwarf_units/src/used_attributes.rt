@@ -27,6 +27,7 @@ impl Model for UsedAttributes {
     ghost view = { λ u. in_slots u.has u.values };
 }
 
+// The methods are inlined: they are called for each attribute of each entry.
 impl UsedAttributes {
     /// Creates an empty set of attributes.
     pub fn none() -> UsedAttributes

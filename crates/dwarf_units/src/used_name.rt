@@ -26,6 +26,7 @@ pub(crate) enum UsedName {
 
 impl UsedName {
     /// Returns the name of an attribute code, if the attribute is used.
+    // Inlined: called for each attribute.
     #[inline(always)]
     pub(crate) fn of(name: u64) -> Option<UsedName>
         ensures { result ≡ used_name name }
@@ -49,6 +50,7 @@ impl UsedName {
     }
 
     /// Returns the slot of the name in `UsedAttributes`.
+    // Inlined: called for each attribute.
     #[inline(always)]
     pub(crate) fn slot(self) -> usize
         ensures slot { result ≡ slot_of self }

@@ -110,6 +110,7 @@ impl<'a> EntryReader<'a> {
     /// Returns the names and the reference of the entry at an offset in the unit of `header`. Long
     /// entries are read once and then cached. If the table of the unit is not cached permanently,
     /// the first read caches all entries of the unit whose offsets are in `marks`.
+    // Inlined: called for each reference.
     #[inline(always)]
     pub fn named(
         &mut self,
@@ -198,6 +199,7 @@ impl<'a> EntryReader<'a> {
     }
 
     /// Re-reads the names and the reference of an entry without using the cache.
+    // Inlined: called for each reference.
     #[inline(always)]
     fn named_again(&mut self, header: &UnitHeader, offset: usize) -> Result<NamedEntry, Cause>
         ensures named { (s : SectionBytes) (table : List Declaration) → IsReaderOf s self.old

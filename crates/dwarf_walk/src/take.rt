@@ -20,6 +20,7 @@ use std::alloc::AllocError;
 impl Walk {
     /// Reads the entry or null entry at an offset of a unit and returns the offset after it. Sets
     /// the bit of an entry in `marks`. `found` is a buffer for its used attributes.
+    // Inlined: called for each entry.
     #[inline(always)]
     pub(crate) fn take(
         &mut self,
@@ -49,6 +50,7 @@ impl Walk {
     }
 
     /// Adds the fixed-size entry at an offset, which is not the root, and sets its bit in `marks`.
+    // Inlined: called for each entry.
     #[inline(always)]
     fn take_plain(
         &mut self,
@@ -72,6 +74,7 @@ impl Walk {
 
     /// Reads the entry or null entry at an offset of a unit as `step` does, and returns the offset
     /// after it.
+    // Not inlined: it is rare, and its code would slow down the caller.
     #[inline(never)]
     fn step_at(
         &mut self,
@@ -95,6 +98,7 @@ impl Walk {
 
     /// Closes every open scope that does not contain the entry at an offset, and opens a scope if
     /// the entry is one.
+    // Inlined: called for each entry.
     #[inline(always)]
     pub(crate) fn keep_scope(&mut self, offset: usize, tag: u64) -> Result<(), AllocError>
         ensures { OnOk result (walked_of self.new
@@ -108,6 +112,7 @@ impl Walk {
     }
 
     /// Opens a scope whose entry is at an offset.
+    // Inlined: called for each entry.
     #[inline(always)]
     fn open(&mut self, offset: u32) -> Result<(), AllocError>
         ensures { OnOk result (walked_of self.new ≡ with_scope offset (walked_of self.old)) }
