@@ -83,7 +83,7 @@ bounds-of cuts low shift a n b c counts h is b_is more =
       some = λ some. omega (arith, order, some);
     }
 
--- the count after that of the last number of 64 bits is the default
+-- The number of the next bucket saturates at 2^64-1. Neither 2^64-1 nor 2^64 has a count.
 pub stopped : (counts : List ℕ) (b c n : ℕ) → c ≡ min (b + 1) (2 ^ 64 - 1)
     → length counts ≤ 2 ^ 64 - 1 → get_or counts c n ≡ get_or counts (b + 1) n
 stopped counts b c n is short = by_lt (b + 1) (2 ^ 64)

@@ -16,7 +16,7 @@ pub(crate) struct Buckets {
     pub(crate) low: u64,
     /// The binary logarithm of the number of addresses of a bucket.
     pub(crate) shift: u32,
-    /// One count for each bucket up to that of the last segment.
+    /// One count for each bucket, up to the bucket of the last segment.
     pub(crate) counts: Vec<u32>,
     ghost small: { shift < 64 },
 }
@@ -73,7 +73,7 @@ fn shift_of(span: u64, count: usize) -> u32
     bits.saturating_sub(span.leading_zeros()).min(63)
 }
 
-/// Counts the segments in lower buckets, for each bucket up to that of the last segment.
+/// Counts the segments in lower buckets, for each bucket up to the bucket of the last segment.
 fn counts_of(alloc: Global, list: &[Segment], low: u64, shift: u32) -> Result<Vec<u32>, AllocError>
     requires disjoint { AreDisjoint list.now }
     requires few { length list.now < 2 ^ 32 }

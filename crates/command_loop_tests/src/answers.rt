@@ -68,7 +68,7 @@ fn answers_of_the_first_object(rt: HostRuntime) -> Result<(), Fail> {
         (b"ap", b"11004\n", b"0x0000000000011004: /src/a.c:11\n"),
         // nothing known has no at
         (b"fp", b"11010\n", b"?? ??:0\n"),
-        // a name stands in for a linkage name
+        // without a linkage name, the name is printed
         (b"fl", b"11008\n", b"mid\n/src/a.c:11\n"),
     ];
     for (letters, input, wanted) in rows {

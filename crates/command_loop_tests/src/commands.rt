@@ -64,7 +64,7 @@ fn commands_after_a_load(rt: HostRuntime) -> Result<(), Fail> {
             b"11004\nmove a 0x20000\n11004\n21004\n",
             b"/src/a.c:11\nmoved a 0x0000000000021000-0x0000000000022000\n??:0\n/src/a.c:11\n",
         ),
-        // answers are those of the module of now
+        // answers come from the module that is loaded at the time
         (
             b"",
             b"11000\nunload a\nload a 0x10000 B\n11000\n",
