@@ -17,7 +17,7 @@ use Rattle.addr_table.proofs.OutwardLaws.{held-none, held-some, number_in}
 
 -- ---- whether scopes remain
 
-filled : (s : Scope) (xs : List Scope) → reverse (s ∷ xs) ≡ [] → ⊥
+pub filled : (s : Scope) (xs : List Scope) → reverse (s ∷ xs) ≡ [] → ⊥
 filled s xs h = full (reverse xs) (sym (reverse-append (s ∷ []) xs) ∙ h)
   where
     full : (ys : List Scope) → ys ++ s ∷ [] ≡ [] → ⊥

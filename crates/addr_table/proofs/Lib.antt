@@ -33,6 +33,7 @@ pub mod BuildLaws
 pub mod FrameLaws
 pub mod FrameChains
 pub mod ModuleLaws
+pub mod SiteLaws
 pub mod DecodeLaws
 pub mod ParentLaws
 pub mod ParentSearch

@@ -92,7 +92,8 @@ impl<'a> Texts<'a> {
         Some(Path::new(line, line_str, str, parts))
     }
 
-    fn row_path(self, number: Option<usize>) -> Option<Path<'a>>
+    /// Returns the path of the file of a row, given its index.
+    pub fn row_path(self, number: Option<usize>) -> Option<Path<'a>>
         ensures { option_map (join_with_byte 47) result
             ≡ (row_site self.entry.bytes.now self.entry.lines.now number).path }
     {
@@ -100,7 +101,8 @@ impl<'a> Texts<'a> {
         self.file(row.program, row.file)
     }
 
-    fn row_line(self, number: Option<usize>) -> u64
+    /// Returns the line of a row, given its index; 0 if it is unknown.
+    pub fn row_line(self, number: Option<usize>) -> u64
         ensures { result ≡ (row_site self.entry.bytes.now self.entry.lines.now number).line }
     {
         let Some(number) = number else {

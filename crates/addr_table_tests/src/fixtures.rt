@@ -1,6 +1,6 @@
 //! Objects for the tests, and checks of their answers.
 
-use addr_table::{AddressTable, Frame, Frames, Module, Path, Place, Steps};
+use addr_table::{AddressTable, Frame, Frames, Module, Path, Place, Site, Steps};
 use std::fmt::Debug;
 use std::process::Abort;
 use std::test::*;
@@ -192,13 +192,25 @@ pub fn are_frames(rt: &impl Abort, frames: Frames<'_>, expected: &[Expected]) {
     are_equal(rt, frames.next().is_none(), true);
 }
 
-/// Checks the frames of a link address of a module.
-pub fn answers(rt: &impl Abort, module: &Module, link: u64, expected: &[Expected]) {
-    let frames = match find(module, link) {
-        Some(place) => module.frames(place),
-        None => Frames::none(),
+/// Checks that a site is that of the first of the expected frames.
+fn is_site(rt: &impl Abort, site: Site<'_>, expected: &[Expected]) {
+    let (path, line) = match expected.first() {
+        Some(frame) => (frame.1, frame.2),
+        None => (None, 0),
     };
-    are_frames(rt, frames, expected);
+    are_equal(rt, (site.path.is_some(), site.line), (path.is_some(), line));
+    if let (Some(told), Some(path)) = (site.path, path) {
+        is_path(rt, told, path);
+    }
+}
+
+/// Checks the frames of a link address of a module, and its site.
+pub fn answers(rt: &impl Abort, module: &Module, link: u64, expected: &[Expected]) {
+    let Some(place) = find(module, link) else {
+        return are_equal(rt, expected.len(), 0);
+    };
+    are_frames(rt, module.frames(place), expected);
+    is_site(rt, module.site(place), expected);
 }
 
 /// Checks that the segments and a linear scan give the same place of an address.

@@ -1,13 +1,14 @@
 -- Output with a part that is known by an equation.
 use Rattle.std.proofs.Common.{◌≡◌, ℕ, true, false, List, [], ◌∷◌, ◌++◌, refl, sym, ap, ◌∙◌, subst}
-use Rattle.std.proofs.Common.{append_assoc, append-nil}
-use Rattle.std.specs.Prelude.{Option, Result, Ok, Err, flat_map, if◌then◌else◌}
+use Rattle.std.proofs.Common.{append_assoc, append-nil, Bool, arith}
+use Rattle.std.proofs.lemmas.Fmt.{decimal_digit}
+use Rattle.std.specs.Prelude.{Option, None, Result, Ok, Err, flat_map, if◌then◌else◌}
 use Rattle.answer_text.specs.Pending.{Put, Cut, Puts}
-use Rattle.addr_table.specs.Frames.{Frame}
+use Rattle.addr_table.specs.Frames.{Frame, Site, first_site}
 use Rattle.answer_text.specs.Printable.{known_text}
 use Rattle.answer_text.specs.Text.{frame_text, later_text, frames_text, nothing_text, name_text}
 use Rattle.answer_text.specs.Text.{name_of, after_name, heading_text}
-use Rattle.answer_text.specs.Text.{after_address}
+use Rattle.answer_text.specs.Text.{after_address, file_of, place_text}
 use Rattle.answer_text.specs.Numerals.{address_text}
 use Rattle.answer_text.specs.declared.options.Options.{Options}
 use Rattle.answer_text.proofs.PendingLemmas.{cut_more, puts_then, cut_as, put_as, puts_as}
@@ -143,3 +144,22 @@ cut_item a b c h h' t all done left rest x e g p q =
     flat_map_append t (x ∷ xs) ys =
         ap (λ (z : List ℕ). t x ++ z) (flat_map_append t xs ys)
         ∙ sym (append_assoc (t x) (flat_map t xs) (flat_map t ys))
+
+-- without names and inlined callers, the output is the position of the innermost frame
+pub site_text : (options : Options) (site : Site) (fs : List Frame) → options.functions ≡ false
+    → options.inlines ≡ false → site ≡ first_site fs
+    → place_text options site.path site.line ≡ frames_text options fs
+site_text options site fs unnamed alone is =
+    ap (λ (s : Site). place_text options s.path s.line) is ∙ first fs
+  where
+    no_file : file_of options None ≡ None
+    no_file = cases options.basenames refl
+      where
+        cases : (short : Bool) → options.basenames ≡ short → file_of options None ≡ None
+        cases true e = rw e refl
+        cases false e = rw e refl
+
+    first : (fs : List Frame)
+        → place_text options (first_site fs).path (first_site fs).line ≡ frames_text options fs
+    first [] = rw (no_file, unnamed, decimal_digit 0 (omega arith)) refl
+    first (frame ∷ outer) = rw (unnamed, alone) (sym (append-nil _))

@@ -19,8 +19,8 @@ name_of options frame = if options.linkage then option_or frame.linkage frame.na
 abbrev pub base_name : List ℕ → List ℕ
 base_name path = after_last (λ byte. byte == 47) path
 
-abbrev pub file_of : Options → Frame → Option (List ℕ)
-file_of options frame = if options.basenames then option_map base_name frame.path else frame.path
+abbrev pub file_of : Options → Option (List ℕ) → Option (List ℕ)
+file_of options path = if options.basenames then option_map base_name path else path
 
 abbrev pub after_name : Options → List ℕ
 after_name options = if options.pretty then codes " at " else codes "\n"
@@ -29,12 +29,11 @@ abbrev pub name_text : Options → Frame → List ℕ
 name_text options frame =
     if options.functions then known_text (name_of options frame) ++ after_name options else []
 
-abbrev pub place_text : Options → Frame → List ℕ
-place_text options frame =
-    known_text (file_of options frame) ++ (58 ∷ decimal frame.line ++ 10 ∷ [])
+abbrev pub place_text : Options → Option (List ℕ) → ℕ → List ℕ
+place_text options path line = known_text (file_of options path) ++ (58 ∷ decimal line ++ 10 ∷ [])
 
 abbrev pub frame_text : Options → Frame → List ℕ
-frame_text options frame = name_text options frame ++ place_text options frame
+frame_text options frame = name_text options frame ++ place_text options frame.path frame.line
 
 -- ---- an answer
 

@@ -1,6 +1,7 @@
 //! Formats frames.
 
-ghost use Rattle.std.specs.Prelude.{◌≡◌, ◌++◌, ◌∷◌, [], List};
+ghost use Rattle.std.specs.Prelude.{◌≡◌, ◌++◌, ◌∷◌, [], List, option_map};
+ghost use Rattle.std.specs.List.{join_with_byte};
 ghost use Rattle.answer_text.specs.Devices.{failures_after};
 ghost use Rattle.answer_text.specs.Pending.{Puts};
 ghost use Rattle.answer_text.specs.Printable.{known_text};
@@ -12,7 +13,7 @@ use crate::devices::{DeviceFault, Sink};
 use crate::options::Options;
 use crate::paths::{put_base_name, put_path};
 use crate::pending::Pending;
-use addr_table::Frame;
+use addr_table::{Frame, Path};
 use itoa::Buffer;
 
 /// Returns the name to print: the linkage name if it is requested and present, else the name.
@@ -62,18 +63,18 @@ fn put_name<W: Sink>(
     pending.put(after_name(options), writer)
 }
 
-/// Appends the path of a frame, or its base name if requested; `??` if it is missing or empty.
+/// Appends a path, or its base name if requested; `??` if it is missing or empty.
 fn put_file<W: Sink>(
     options: &Options,
-    frame: &Frame<'_>,
+    path: Option<Path<'_>>,
     pending: &mut Pending,
     writer: &mut W,
 ) -> Result<(), DeviceFault>
     ensures bytes { Puts (W.written writer.old) (W.written writer.new) pending.old pending.new
-        result (known_text (file_of options.now frame.now)) }
+        result (known_text (file_of options.now (option_map (join_with_byte 47) path.entry))) }
     ensures failures { W.failures writer.new ≡ failures_after (W.failures writer.old) result }
 {
-    let Some(path) = frame.path() else {
+    let Some(path) = path else {
         return pending.put(b"??", writer);
     };
     if options.basenames {
@@ -83,20 +84,21 @@ fn put_file<W: Sink>(
     }
 }
 
-/// Appends the file and the line of a frame.
-fn put_place<W: Sink>(
+/// Appends a file and a line.
+pub fn put_place<W: Sink>(
     options: &Options,
-    frame: &Frame<'_>,
+    path: Option<Path<'_>>,
+    line: u64,
     pending: &mut Pending,
     writer: &mut W,
 ) -> Result<(), DeviceFault>
     ensures bytes { Puts (W.written writer.old) (W.written writer.new) pending.old pending.new
-        result (place_text options.now frame.now) }
+        result (place_text options.now (option_map (join_with_byte 47) path.entry) line) }
     ensures failures { W.failures writer.new ≡ failures_after (W.failures writer.old) result }
 {
-    put_file(options, frame, pending, writer)?;
+    put_file(options, path, pending, writer)?;
     let mut buffer = Buffer::new();
-    let line = buffer.format(frame.line()).as_bytes();
+    let line = buffer.format(line).as_bytes();
     let texts: [&[u8]; 3] = [b":", line, b"\n"];
     pending.put_all(&texts, writer)
 }
@@ -113,7 +115,7 @@ pub fn put_frame<W: Sink>(
     ensures failures { W.failures writer.new ≡ failures_after (W.failures writer.old) result }
 {
     put_name(options, frame, pending, writer)?;
-    put_place(options, frame, pending, writer)
+    put_place(options, frame.path(), frame.line(), pending, writer)
 }
 
 /// Appends a frame that is not the innermost one.

@@ -31,7 +31,12 @@ fn printable(byte: u8) -> u8
 fn are_printable(text: &[u8]) -> bool
     ensures { result ≡ list_all (λ byte. not (is_control byte)) text.now }
 {
-    text.iter().all(|byte| !is_control(*byte))
+    let mut all = true;
+    // The loop looks at each byte, so that the compiler can take several at a time.
+    for byte in text {
+        all &= !is_control(*byte);
+    }
+    all
 }
 
 /// A buffer of bytes that are not written yet.

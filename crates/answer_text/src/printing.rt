@@ -8,7 +8,7 @@ ghost use Rattle.answer_text.specs.Text.{heading_text, answer_text};
 
 use crate::devices::{DeviceFault, Sink};
 use crate::faults::RunFault;
-use crate::frame_text::{put_frame, put_later};
+use crate::frame_text::{put_frame, put_later, put_place};
 use crate::numerals::address_text;
 use crate::options::Options;
 use crate::pending::Pending;
@@ -105,6 +105,10 @@ fn put_answer<W: Sink>(
     ensures failures { W.failures writer.new ≡ failures_after (W.failures writer.old) result }
 {
     put_heading(options, answer.address(), pending, writer)?;
+    if !options.functions && !options.inlines {
+        let site = answer.site();
+        return put_place(options, site.path, site.line, pending, writer);
+    }
     put_frames(options, answer.frames(), pending, writer)
 }
 

@@ -1,5 +1,5 @@
 -- The ascending order of the modules, without their serial numbers.
-use Rattle.std.proofs.Common.{◌≡◌, ◌≢◌, ℕ, ◌<◌, ◌≤◌, List, length, map, get_or, refl, sym, subst, arith}
+use Rattle.std.proofs.Common.{◌≡◌, ℕ, ◌<◌, ◌≤◌, List, length, map, get_or, refl, arith}
 use Rattle.std.proofs.Common.{true, inl, inr, [], ◌∷◌, suc, ap}
 use Rattle.std.specs.Prelude.{◌⊎◌}
 use Rattle.std.proofs.Math.ListN.{get_or-map}

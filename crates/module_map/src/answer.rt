@@ -1,9 +1,11 @@
 //! The answer for an address.
 
-ghost use Rattle.std.specs.Prelude.{◌≡◌, [], None, Some};
+ghost use Rattle.std.specs.Prelude.{◌≡◌, [], None, Some, option_map};
+ghost use Rattle.std.specs.List.{join_with_byte};
 ghost use Rattle.addr_table.specs.Module.{frames_in};
+ghost use Rattle.addr_table.specs.Frames.{first_site};
 
-use addr_table::{Frames, Module, Place};
+use addr_table::{Frames, Module, Place, Site};
 use std::marker::Model;
 
 /// An address, with the module that contains it and its place there, if any.
@@ -65,6 +67,21 @@ impl<'a> Answer<'a> {
         match self.found {
             None => Frames::none(),
             Some((object, place)) => object.frames(place),
+        }
+    }
+
+    /// Returns the source position of the innermost frame, without a search for the function. The
+    /// path is `None` and the line is 0 if there are no frames.
+    pub fn site(&self) -> Site<'a>
+        ensures { record { path = option_map (join_with_byte 47) result.path; line = result.line }
+            ≡ first_site self.now.frames }
+    {
+        match self.found {
+            None => Site {
+                path: None,
+                line: 0,
+            },
+            Some((object, place)) => object.site(place),
         }
     }
 }

@@ -9,4 +9,4 @@ returns-in_err-put_name-clause-bytes g c =
 
 pub returns-clause-bytes : goal.returns-clause-bytes
 returns-clause-bytes g c = puts_then _ _ _ _ _ _ _ _ _ c.in_ok-put_name.ensures.bytes
-    c.put_place.ensures.bytes
+    (rw (c.path.ensures, c.line.ensures) at c.put_place.ensures.bytes)

@@ -9,6 +9,6 @@ returns-in_err-put_file-clause-bytes g c =
 
 pub returns-clause-bytes : goal.returns-clause-bytes
 returns-clause-bytes g c =
-    let h = rw (c.as_bytes-line.ensures.value, c.format.ensures.text, c.line.ensures) at
+    let h = rw (c.as_bytes-line.ensures.value, c.format.ensures.text) at
     c.put_all.ensures.bytes in
     puts_then _ _ _ _ _ _ _ _ _ c.in_ok-put_file.ensures.bytes h
