@@ -6,7 +6,6 @@ ghost use Rattle.std.specs.Prelude.{◌≡◌, ◌+◌, length};
 use dwarf_bytes::{Cause, LoadFault, Section};
 use dwarf_lines::{LineTables, ProgramNo, Row, Text};
 use dwarf_samples::{inlined, two_sequences as second_sample};
-use std::alloc::{AllocError, Global};
 use std::fmt::Debug;
 use std::process::Abort;
 use std::test::*;
@@ -21,14 +20,45 @@ pub fn are_same_bytes(rt: &impl Abort, told: &[u8], wanted: &[u8]) {
     assert_eq!(rt; told, wanted);
 }
 
-/// Reads a `.debug_line` without other sections.
-pub fn read(alloc: Global, line: &[u8]) -> Result<LineTables, LoadFault> {
-    LineTables::read(alloc, line, &[], &[])
+/// Appends bytes.
+pub fn put(rt: &impl Abort, bytes: &mut Vec<u8>, more: &[u8]) {
+    if bytes.extend_from_slice(more).is_err() {
+        panic!(rt; "out of memory");
+    }
+}
+
+/// Copies bytes.
+pub fn copy(rt: &(impl Abort + AllocGlobal), bytes: &[u8]) -> Vec<u8> {
+    match bytes.to_vec(rt.alloc()) {
+        Ok(copy) => copy,
+        Err(_) => panic!(rt; "out of memory"),
+    }
+}
+
+/// Reads a `.debug_line`, `.debug_line_str` and `.debug_str` without a fault.
+pub fn read_sections(rt: &(impl Abort + AllocGlobal), sections: [&[u8]; 3]) -> LineTables {
+    match LineTables::read(rt.alloc(), sections[0], sections[1], sections[2]) {
+        Ok(tables) => tables,
+        Err(_) => panic!(rt; "the program is refused"),
+    }
+}
+
+/// Reads a `.debug_line` without other sections and without a fault.
+pub fn read(rt: &(impl Abort + AllocGlobal), line: &[u8]) -> LineTables {
+    read_sections(rt, [line, &[], &[]])
+}
+
+/// Returns the fault of a `.debug_line` without other sections.
+pub fn fault_of(rt: &(impl Abort + AllocGlobal), line: &[u8]) -> Option<LoadFault> {
+    match LineTables::read(rt.alloc(), line, &[], &[]) {
+        Ok(_) => None,
+        Err(fault) => Some(fault),
+    }
 }
 
 /// Checks the fault of a `.debug_line`.
 pub fn has_fault(rt: &(impl Abort + AllocGlobal), line: &[u8], cause: Cause, at: u64) {
-    are_equal(rt, read(rt.alloc(), line).err(), Some(fault(cause, at)));
+    are_equal(rt, fault_of(rt, line), Some(fault(cause, at)));
 }
 
 /// Checks all rows.
@@ -37,55 +67,29 @@ pub fn are_rows(rt: &impl Abort, tables: &LineTables, rows: &[Row]) {
 }
 
 /// Checks the rows of a `.debug_line`.
-pub fn has_rows(
-    rt: &(impl Abort + AllocGlobal),
-    line: &[u8],
-    rows: &[Row],
-) -> Result<(), LoadFault> {
-    are_rows(rt, &read(rt.alloc(), line)?, rows);
-    Ok(())
+pub fn has_rows(rt: &(impl Abort + AllocGlobal), line: &[u8], rows: &[Row]) {
+    are_rows(rt, &read(rt, line), rows);
 }
 
 /// Checks the rows of a program of these instructions.
-pub fn have_rows(
-    rt: &(impl Abort + AllocGlobal),
-    instructions: &[u8],
-    rows: &[Row],
-) -> Result<(), Fail> {
-    has_rows(
-        rt,
-        with_instructions(rt.alloc(), instructions)?.as_slice(),
-        rows,
-    )?;
-    Ok(())
+pub fn have_rows(rt: &(impl Abort + AllocGlobal), instructions: &[u8], rows: &[Row]) {
+    has_rows(rt, &with_instructions(rt, instructions), rows);
 }
 
 /// Checks the fault of a program of these instructions.
-pub fn have_fault(
-    rt: &(impl Abort + AllocGlobal),
-    instructions: &[u8],
-    cause: Cause,
-) -> Result<(), AllocError> {
-    has_fault(
-        rt,
-        with_instructions(rt.alloc(), instructions)?.as_slice(),
-        cause,
-        0,
-    );
-    Ok(())
+pub fn have_fault(rt: &(impl Abort + AllocGlobal), instructions: &[u8], cause: Cause) {
+    has_fault(rt, &with_instructions(rt, instructions), cause, 0);
 }
 
-/// Checks the path of a file of a program, whose parts are in these sections.
+/// Checks the path of a file of the first program, whose parts are in these sections.
 pub fn has_path(
     rt: &(impl Abort + AllocGlobal),
     tables: &LineTables,
     sections: [&[u8]; 3],
     file: u64,
     wanted: &[u8],
-) -> Result<(), Fail> {
-    let path = path(rt.alloc(), tables, sections, 0, file)?.ok_or("no path")?;
-    are_same_bytes(rt, path.as_slice(), wanted);
-    Ok(())
+) {
+    are_same_bytes(rt, &path(rt, tables, sections, file), wanted);
 }
 
 /// Returns the 75 bytes of the first sample's `.debug_line`.
@@ -118,46 +122,53 @@ pub fn dead_program() -> [u8; 75] {
 }
 
 /// Builds a program with the first sample's header and these instructions.
-pub fn with_instructions(alloc: Global, instructions: &[u8]) -> Result<Vec<u8>, AllocError> {
-    let mut line = Vec::new(alloc);
-    line.push(51u8.saturating_add(instructions.len().min(200) as u8))?;
-    line.extend_from_slice(&inlined()[260..314])?;
-    line.extend_from_slice(instructions)?;
-    Ok(line)
+pub fn with_instructions(rt: &(impl Abort + AllocGlobal), instructions: &[u8]) -> Vec<u8> {
+    let len = 51u8.saturating_add(instructions.len().min(200) as u8);
+    let mut line = Vec::new(rt.alloc());
+    put(rt, &mut line, &[len]);
+    put(rt, &mut line, &inlined()[260..314]);
+    put(rt, &mut line, instructions);
+    line
+}
+
+/// Appends a string and its NUL.
+fn put_text(rt: &impl Abort, bytes: &mut Vec<u8>, text: &[u8]) {
+    put(rt, bytes, text);
+    put(rt, bytes, &[0]);
 }
 
 /// Builds a program without instructions, with these directories and one file in directory 1.
 pub fn with_paths(
-    alloc: Global,
+    rt: &(impl Abort + AllocGlobal),
     directories: [&[u8]; 2],
     file: &[u8],
-) -> Result<Vec<u8>, AllocError> {
-    let mut tables = Vec::new(alloc);
-    tables.extend_from_slice(&inlined()[271..289])?;
-    tables.extend_from_slice(&[1, 1, 8, 2])?;
+) -> Vec<u8> {
+    let mut tables = Vec::new(rt.alloc());
+    put(rt, &mut tables, &inlined()[271..289]);
+    put(rt, &mut tables, &[1, 1, 8, 2]);
     for directory in directories {
-        tables.extend_from_slice(directory)?;
-        tables.push(0)?;
+        put_text(rt, &mut tables, directory);
     }
-    tables.extend_from_slice(&[2, 1, 8, 2, 0x0b, 1])?;
-    tables.extend_from_slice(file)?;
-    tables.extend_from_slice(&[0, 1])?;
+    put(rt, &mut tables, &[2, 1, 8, 2, 0x0b, 1]);
+    put_text(rt, &mut tables, file);
+    put(rt, &mut tables, &[1]);
     let len = tables.len().min(200) as u8;
-    let mut line = Vec::new(alloc);
-    line.extend_from_slice(&[len + 8, 0, 0, 0, 5, 0, 8, 0, len, 0, 0, 0])?;
-    line.extend_from_slice(tables.as_slice())?;
-    Ok(line)
+    let mut line = Vec::new(rt.alloc());
+    put(rt, &mut line, &[len + 8, 0, 0, 0, 5, 0, 8, 0, len, 0, 0, 0]);
+    put(rt, &mut line, &tables);
+    line
 }
 
 /// Builds a program without instructions, with a directory at offset 0 of `.debug_line_str` and a
 /// file at offset 3 of `.debug_str`. Two bytes follow the tables of its header.
-pub fn with_offsets(alloc: Global) -> Result<Vec<u8>, AllocError> {
-    let mut line = Vec::new(alloc);
-    line.extend_from_slice(&[44, 0, 0, 0, 5, 0, 8, 0, 36, 0, 0, 0])?;
-    line.extend_from_slice(&inlined()[271..289])?;
-    line.extend_from_slice(&[1, 1, 0x1f, 1, 0, 0, 0, 0, 1, 1, 0x0e, 1, 3, 0, 0, 0])?;
-    line.extend_from_slice(&[0xaa, 0xbb])?;
-    Ok(line)
+pub fn with_offsets(rt: &(impl Abort + AllocGlobal)) -> Vec<u8> {
+    let mut line = Vec::new(rt.alloc());
+    put(rt, &mut line, &[44, 0, 0, 0, 5, 0, 8, 0, 36, 0, 0, 0]);
+    put(rt, &mut line, &inlined()[271..289]);
+    let tables = [1, 1, 0x1f, 1, 0, 0, 0, 0, 1, 1, 0x0e, 1, 3, 0, 0, 0];
+    put(rt, &mut line, &tables);
+    put(rt, &mut line, &[0xaa, 0xbb]);
+    line
 }
 
 /// Returns a fault of the program at an offset.
@@ -200,27 +211,27 @@ pub fn end(program: usize, address: u64) -> Row {
     }
 }
 
-/// Returns the bytes of a path, whose parts are in these sections.
-pub fn path(
-    alloc: Global,
+/// Returns the bytes of the path of a file of the first program, whose parts are in these sections.
+fn path(
+    rt: &(impl Abort + AllocGlobal),
     tables: &LineTables,
     sections: [&[u8]; 3],
-    program: usize,
     file: u64,
-) -> Result<Option<Vec<u8>>, AllocError> {
-    let Some(parts) = tables.path(ProgramNo(program), file) else {
-        return Ok(None);
+) -> Vec<u8> {
+    let Some(parts) = tables.path(ProgramNo(0), file) else {
+        panic!(rt; "no path");
     };
-    let mut text = Vec::new(alloc);
+    let mut text = Vec::new(rt.alloc());
     for (i, part) in parts.parts().iter().enumerate() {
         if i > 0 {
-            text.push(b'/')?;
+            put(rt, &mut text, b"/");
         }
-        text.extend_from_slice(bytes_of(sections, *part))?;
+        put(rt, &mut text, bytes_of(sections, *part));
     }
-    Ok(Some(text))
+    text
 }
 
+/// Returns the bytes of a part of a path.
 fn bytes_of(sections: [&[u8]; 3], part: Text) -> &[u8] {
     let section = match part.section {
         Section::DebugStr => sections[2],

@@ -4,19 +4,12 @@ use crate::fixtures::*;
 use dwarf_bytes::Cause;
 use dwarf_lines::LineTables;
 use dwarf_samples::{cut_line_program, many_directories_without_a_format};
-use std::alloc::AllocError;
 use std::process::Abort;
 use std::test::*;
 
 /// Checks the path of a file of the first program, if all its strings are in `.debug_line`.
-fn has_first_path(
-    rt: &(impl Abort + AllocGlobal),
-    line: &[u8],
-    file: u64,
-    wanted: &[u8],
-) -> Result<(), Fail> {
-    let tables = read(rt.alloc(), line)?;
-    has_path(rt, &tables, [line, &[], &[]], file, wanted)
+fn has_first_path(rt: &(impl Abort + AllocGlobal), line: &[u8], file: u64, wanted: &[u8]) {
+    has_path(rt, &read(rt, line), [line, &[], &[]], file, wanted);
 }
 
 #[test]
@@ -45,21 +38,21 @@ fn each_changed_byte_has_its_cause(rt: HostRuntime) {
         if let Some(changed) = line.get_mut(place) {
             *changed = byte;
         }
-        let told = read(rt.alloc(), &line).err();
+        let told = fault_of(&rt, &line);
         are_equal(&rt, (place, told), (place, Some(fault(cause, 0))));
     }
 }
 
 #[test]
-fn a_file_without_a_directory_is_in_directory_0(rt: HostRuntime) -> Result<(), Fail> {
+fn a_file_without_a_directory_is_in_directory_0(rt: HostRuntime) {
     let mut line = one_sequence();
     line[42] = 5;
-    has_first_path(&rt, &line, 0, b"/src/a.c")?;
-    has_first_path(&rt, &line, 1, b"/src/a.c")
+    has_first_path(&rt, &line, 0, b"/src/a.c");
+    has_first_path(&rt, &line, 1, b"/src/a.c");
 }
 
 #[test]
-fn a_path_has_up_to_three_parts(rt: HostRuntime) -> Result<(), Fail> {
+fn a_path_has_up_to_three_parts(rt: HostRuntime) {
     let cases: [([&[u8]; 2], &[u8], &[u8]); 7] = [
         ([b"/src", b"lib"], b"x.c", b"/src/lib/x.c"),
         ([b"/src", b"/inc"], b"x.c", b"/inc/x.c"),
@@ -70,26 +63,22 @@ fn a_path_has_up_to_three_parts(rt: HostRuntime) -> Result<(), Fail> {
         ([b"", b""], b"", b""),
     ];
     for (directories, file, wanted) in cases {
-        let line = with_paths(rt.alloc(), directories, file)?;
-        has_first_path(&rt, line.as_slice(), 0, wanted)?;
+        has_first_path(&rt, &with_paths(&rt, directories, file), 0, wanted);
     }
-    Ok(())
 }
 
 #[test]
-fn paths_stand_in_other_sections(rt: HostRuntime) -> Result<(), Fail> {
-    let line = with_offsets(rt.alloc())?;
-    let tables = LineTables::read(rt.alloc(), line.as_slice(), b"/src\0", b"??\0x.c\0")?;
+fn paths_stand_in_other_sections(rt: HostRuntime) {
+    let line = with_offsets(&rt);
     let sections = [line.as_slice(), b"/src\0", b"??\0x.c\0"];
-    has_path(&rt, &tables, sections, 0, b"/src/x.c")
+    has_path(&rt, &read_sections(&rt, sections), sections, 0, b"/src/x.c");
 }
 
 #[test]
-fn a_path_without_a_nul_is_a_fault(rt: HostRuntime) -> Result<(), Fail> {
-    let line = with_offsets(rt.alloc())?;
+fn a_path_without_a_nul_is_a_fault(rt: HostRuntime) {
+    let line = with_offsets(&rt);
     let read = LineTables::read(rt.alloc(), line.as_slice(), b"/src\0", b"??\0x.c");
     are_equal(&rt, read.err(), Some(fault(Cause::Text, 0)));
-    Ok(())
 }
 
 #[test]
@@ -100,35 +89,28 @@ fn samples_with_faults(rt: HostRuntime) {
 }
 
 /// Checks the fault of a program that follows a valid one.
-fn second_has_fault(
-    rt: &(impl Abort + AllocGlobal),
-    second: &[u8],
-    cause: Cause,
-) -> Result<(), AllocError> {
-    let mut line = one_sequence().to_vec(rt.alloc())?;
-    line.extend_from_slice(second)?;
-    has_fault(rt, line.as_slice(), cause, 75);
-    Ok(())
+fn second_has_fault(rt: &(impl Abort + AllocGlobal), second: &[u8], cause: Cause) {
+    let mut line = copy(rt, &one_sequence());
+    put(rt, &mut line, second);
+    has_fault(rt, &line, cause, 75);
 }
 
 #[test]
-fn the_first_bad_program_is_told(rt: HostRuntime) -> Result<(), Fail> {
-    let mut second = one_sequence().to_vec(rt.alloc())?;
-    if let Some(index) = second.get_mut(44) {
-        *index = 1;
-    }
-    second.extend_from_slice(&[0xff, 0xff, 0xff, 0xff])?;
-    second_has_fault(&rt, second.as_slice(), Cause::FileIndex)?;
-    second_has_fault(&rt, &[0xf0, 0xff, 0xff, 0xff], Cause::Length)?;
-    second_has_fault(&rt, &[0xff, 0xff, 0xff, 0xff], Cause::Short)?;
-    Ok(())
+fn the_first_bad_program_is_told(rt: HostRuntime) {
+    let mut bad = one_sequence();
+    bad[44] = 1;
+    let mut second = copy(&rt, &bad);
+    put(&rt, &mut second, &[0xff, 0xff, 0xff, 0xff]);
+    second_has_fault(&rt, &second, Cause::FileIndex);
+    second_has_fault(&rt, &[0xf0, 0xff, 0xff, 0xff], Cause::Length);
+    second_has_fault(&rt, &[0xff, 0xff, 0xff, 0xff], Cause::Short);
 }
 
 #[test]
 fn a_cut_section_is_short(rt: HostRuntime) {
     let line = one_sequence();
     for len in 1..75 {
-        let told = read(rt.alloc(), &line[..len]).err();
+        let told = fault_of(&rt, &line[..len]);
         are_equal(&rt, (len, told), (len, Some(fault(Cause::Short, 0))));
     }
 }

@@ -2,19 +2,18 @@
 
 use crate::fixtures::*;
 use dwarf_bytes::Cause;
-use dwarf_lines::ProgramNo;
+use dwarf_lines::{LineTables, ProgramNo};
 use dwarf_samples::program_of_64_bits;
-use std::test::Fail;
 
 #[test]
-fn standard_opcodes_move_the_address(rt: HostRuntime) -> Result<(), Fail> {
+fn standard_opcodes_move_the_address(rt: HostRuntime) {
     // set_address 0x1000, copy, const_add_pc, copy, fixed_advance_pc 5, copy, advance_pc 1, end
     let line = with_instructions(
-        rt.alloc(),
+        &rt,
         &[
             0, 9, 2, 0, 0x10, 0, 0, 0, 0, 0, 0, 1, 8, 1, 9, 5, 0, 1, 2, 1, 0, 1, 1,
         ],
-    )?;
+    );
     are_equal(&rt, line.len(), 78);
     are_equal(&rt, line.first().copied(), Some(0x4a));
     let rows = [
@@ -23,12 +22,11 @@ fn standard_opcodes_move_the_address(rt: HostRuntime) -> Result<(), Fail> {
         row(0, 0x1016, 1),
         end(0, 0x1017),
     ];
-    has_rows(&rt, line.as_slice(), &rows)?;
-    Ok(())
+    has_rows(&rt, line.as_slice(), &rows);
 }
 
 #[test]
-fn a_file_is_set_and_a_line_is_advanced(rt: HostRuntime) -> Result<(), Fail> {
+fn a_file_is_set_and_a_line_is_advanced(rt: HostRuntime) {
     // set_address 0x1000, set_file 0, copy, advance_line 5, copy, advance_pc 1, end
     let mut first = row(0, 0x1000, 1);
     first.file = 0;
@@ -40,13 +38,13 @@ fn a_file_is_set_and_a_line_is_advanced(rt: HostRuntime) -> Result<(), Fail> {
             0, 9, 2, 0, 0x10, 0, 0, 0, 0, 0, 0, 4, 0, 1, 3, 5, 1, 2, 1, 0, 1, 1,
         ],
         &[first, second, end(0, 0x1001)],
-    )
+    );
 }
 
 #[test]
-fn rows_of_one_and_two_sequences(rt: HostRuntime) -> Result<(), Fail> {
+fn rows_of_one_and_two_sequences(rt: HostRuntime) {
     let rows = [row(0, 0x1000, 10), row(0, 0x1004, 11), end(0, 0x1010)];
-    has_rows(&rt, &one_sequence(), &rows)?;
+    has_rows(&rt, &one_sequence(), &rows);
     let rows = [
         row(0, 0x1000, 10),
         row(0, 0x1000, 12),
@@ -54,13 +52,12 @@ fn rows_of_one_and_two_sequences(rt: HostRuntime) -> Result<(), Fail> {
         row(0, 0x1000, 99),
         end(0, 0x1010),
     ];
-    has_rows(&rt, &two_sequences(), &rows)?;
-    Ok(())
+    has_rows(&rt, &two_sequences(), &rows);
 }
 
 #[test]
-fn programs_start_where_the_last_one_ends(rt: HostRuntime) -> Result<(), Fail> {
-    let tables = read(rt.alloc(), &two_programs())?;
+fn programs_start_where_the_last_one_ends(rt: HostRuntime) {
+    let tables = read(&rt, &two_programs());
     are_equal(&rt, tables.program_at(0), Some(ProgramNo(0)));
     are_equal(&rt, tables.program_at(75), Some(ProgramNo(1)));
     for offset in [1, 74, 76, 172, u64::MAX] {
@@ -72,11 +69,10 @@ fn programs_start_where_the_last_one_ends(rt: HostRuntime) -> Result<(), Fail> {
     are_equal(&rt, tables.files(ProgramNo(2)), 0);
     are_equal(&rt, tables.path(ProgramNo(2), 0).is_none(), true);
     are_equal(&rt, tables.path(ProgramNo(1), 2).is_none(), true);
-    Ok(())
 }
 
 #[test]
-fn sums_are_judged_where_a_row_is_made(rt: HostRuntime) -> Result<(), Fail> {
+fn sums_are_judged_where_a_row_is_made(rt: HostRuntime) {
     // advance_line -5, advance_line 5, set_address 2^64 - 1, advance_pc 1, set_address 7, copy, end
     have_rows(
         &rt,
@@ -85,27 +81,26 @@ fn sums_are_judged_where_a_row_is_made(rt: HostRuntime) -> Result<(), Fail> {
             0, 0, 0, 0, 0, 1, 0, 1, 1,
         ],
         &[row(0, 7, 1), end(0, 7)],
-    )?;
+    );
     have_fault(
         &rt,
         &[
             0, 9, 2, 254, 255, 255, 255, 255, 255, 255, 255, 2, 2, 1, 0, 1, 1,
         ],
         Cause::Overflow,
-    )?;
+    );
     have_fault(
         &rt,
         &[2, 9, 1, 0, 9, 2, 8, 0, 0, 0, 0, 0, 0, 0, 0, 1, 1],
         Cause::GoesBack,
-    )?;
-    Ok(())
+    );
 }
 
 #[test]
-fn a_program_of_the_64_bit_format_has_the_same_rows(rt: HostRuntime) -> Result<(), Fail> {
-    let mut line = program_of_64_bits().to_vec(rt.alloc())?;
-    line.extend_from_slice(&one_sequence())?;
-    let tables = read(rt.alloc(), line.as_slice())?;
+fn a_program_of_the_64_bit_format_has_the_same_rows(rt: HostRuntime) {
+    let mut line = copy(&rt, &program_of_64_bits());
+    put(&rt, &mut line, &one_sequence());
+    let tables = read(&rt, line.as_slice());
     let rows = [
         row(0, 0x1000, 10),
         row(0, 0x1004, 11),
@@ -116,7 +111,7 @@ fn a_program_of_the_64_bit_format_has_the_same_rows(rt: HostRuntime) -> Result<(
     ];
     are_rows(&rt, &tables, &rows);
     are_equal(&rt, tables.program_at(87), Some(ProgramNo(1)));
-    has_path(&rt, &tables, [line.as_slice(), &[], &[]], 1, b"/src/a.c")
+    has_path(&rt, &tables, [line.as_slice(), &[], &[]], 1, b"/src/a.c");
 }
 
 #[test]
@@ -131,14 +126,14 @@ fn changed_bytes_of_a_program_of_the_64_bit_format(rt: HostRuntime) {
         if let Some(changed) = line.get_mut(place) {
             *changed = byte;
         }
-        let told = read(rt.alloc(), &line).err();
+        let told = fault_of(&rt, &line);
         are_equal(&rt, (place, told), (place, Some(fault(cause, 0))));
     }
 }
 
 #[test]
-fn a_dead_sequence_has_no_rows(rt: HostRuntime) -> Result<(), Fail> {
-    has_rows(&rt, &dead_program(), &[])?;
+fn a_dead_sequence_has_no_rows(rt: HostRuntime) {
+    has_rows(&rt, &dead_program(), &[]);
     let mut open = dead_program();
     open[74] = 4;
     has_fault(&rt, &open, Cause::SequenceOpen, 0);
@@ -152,42 +147,40 @@ fn a_dead_sequence_has_no_rows(rt: HostRuntime) -> Result<(), Fail> {
             4, 9, 3, 0x7b, 1, 0, 9, 2, 0, 0, 0, 0, 0, 0, 0, 0, 1, 0, 1, 1, 1, 0, 1, 1,
         ],
         &[row(0, 0, 1), end(0, 0)],
-    )?;
+    );
     // a sequence that consists only of its end is dead too
     have_rows(
         &rt,
         &[0, 9, 2, 255, 255, 255, 255, 255, 255, 255, 255, 0, 1, 1],
         &[],
-    )
+    );
 }
 
 #[test]
-fn the_mark_behind_a_row_is_an_address(rt: HostRuntime) -> Result<(), Fail> {
+fn the_mark_behind_a_row_is_an_address(rt: HostRuntime) {
     have_rows(
         &rt,
         &[1, 0, 9, 2, 255, 255, 255, 255, 255, 255, 255, 255, 0, 1, 1],
         &[row(0, 0, 1), end(0, u64::MAX)],
-    )?;
+    );
     have_fault(
         &rt,
         &[0, 9, 2, 255, 255, 255, 255, 255, 255, 255, 255, 1, 0, 2, 2],
         Cause::Short,
-    )?;
-    Ok(())
+    );
 }
 
 #[test]
-fn no_programs(rt: HostRuntime) -> Result<(), Fail> {
-    let tables = read(rt.alloc(), &[])?;
+fn no_programs(rt: HostRuntime) {
+    let tables = read(&rt, &[]);
     are_equal(&rt, tables.rows().len(), 0);
     are_equal(&rt, tables.program_at(0), None);
-    Ok(())
 }
 
 // The test runner can make each allocation fail.
 #[test]
-fn want_of_memory_is_the_only_other_answer(rt: HostRuntime) {
-    match read(rt.alloc(), &two_programs()) {
+fn out_of_memory_is_the_only_other_answer(rt: HostRuntime) {
+    match LineTables::read(rt.alloc(), &two_programs(), &[], &[]) {
         Ok(tables) => {
             are_equal(&rt, tables.rows().len(), 8);
             are_equal(&rt, tables.program_at(75), Some(ProgramNo(1)));
