@@ -5,28 +5,56 @@ use dwarf_forms::{
     AbbreviationDeclaration, AbbreviationTable, Abbrevs, AttributeSpecification, Decl, KnownLists,
 };
 use dwarf_samples::inlined;
-use std::alloc::{AllocError, Global};
 use std::process::Abort;
 use std::test::*;
 
+/// Returns the lists of a section, without a memoized attribute.
+pub fn lists_of<'a>(rt: &(impl Abort + AllocGlobal), section: &'a [u8]) -> KnownLists<'a> {
+    match KnownLists::new(rt.alloc(), section) {
+        Ok(lists) => lists,
+        Err(_) => panic!(rt; "out of memory"),
+    }
+}
+
+/// Appends an attribute.
+pub fn add(
+    rt: &impl Abort,
+    attributes: &mut Vec<AttributeSpecification>,
+    attribute: AttributeSpecification,
+) {
+    if attributes.push(attribute).is_err() {
+        panic!(rt; "out of memory");
+    }
+}
+
+/// Returns the attributes that a declaration stores itself.
+fn own_attributes(
+    rt: &(impl Abort + AllocGlobal),
+    declaration: &AbbreviationDeclaration,
+) -> Vec<AttributeSpecification> {
+    match Vec::from_slice(rt.alloc(), declaration.list().own()) {
+        Ok(attributes) => attributes,
+        Err(_) => panic!(rt; "out of memory"),
+    }
+}
+
 /// Returns the attributes of a declaration, in order: its own, and then the memoized ones.
 pub fn attributes_of(
-    alloc: Global,
+    rt: &(impl Abort + AllocGlobal),
     lists: &KnownLists<'_>,
     declaration: &AbbreviationDeclaration,
-) -> Result<Vec<AttributeSpecification>, AllocError> {
-    let list = declaration.list();
-    let mut attributes = Vec::from_slice(alloc, list.own())?;
-    let mut next = list.rest();
+) -> Vec<AttributeSpecification> {
+    let mut attributes = own_attributes(rt, declaration);
+    let mut next = declaration.list().rest();
     for _ in 0..lists.len() {
         if let Some(number) = next {
             if number < lists.len() {
-                attributes.push(*lists.attribute(number))?;
+                add(rt, &mut attributes, *lists.attribute(number));
                 next = lists.next(number);
             }
         }
     }
-    Ok(attributes)
+    attributes
 }
 
 /// Checks that both readers return the same declaration.
@@ -35,53 +63,61 @@ fn is_same(
     decl: &Decl,
     lists: &KnownLists<'_>,
     shared: &AbbreviationDeclaration,
-) -> Result<(), AllocError> {
+) {
     let head = (shared.code(), shared.tag(), shared.children());
     are_equal(rt, (decl.code(), decl.tag(), decl.children()), head);
-    let attributes = attributes_of(rt.alloc(), lists, shared)?;
+    let attributes = attributes_of(rt, lists, shared);
     are_equal(rt, decl.attributes(), attributes.as_slice());
-    Ok(())
+}
+
+/// Checks that both readers return the same declarations.
+fn are_same(
+    rt: &(impl Abort + AllocGlobal),
+    alone: &Abbrevs,
+    lists: &KnownLists<'_>,
+    shared: &AbbreviationTable,
+) {
+    are_equal(rt, alone.decls().len(), shared.declarations().len());
+    for (decl, other) in alone.decls().iter().zip(shared.declarations()) {
+        is_same(rt, decl, lists, other);
+    }
 }
 
 /// Reads the table at an offset with both readers, and checks that they agree.
-fn agree_at(
-    rt: &(impl Abort + AllocGlobal),
-    section: &[u8],
-    offset: u64,
-) -> Result<(), AllocError> {
+fn agree_at(rt: &(impl Abort + AllocGlobal), section: &[u8], offset: u64) {
     let (mut left, mut shared_left) = (3, 3);
-    let mut lists = KnownLists::new(rt.alloc(), section)?;
+    let mut lists = lists_of(rt, section);
     let alone = Abbrevs::read(rt.alloc(), section, offset, &mut left);
     let shared = AbbreviationTable::read(rt.alloc(), &mut lists, offset, &mut shared_left);
     are_equal(rt, left, shared_left);
     match (alone, shared) {
-        (Ok(alone), Ok(shared)) => {
-            are_equal(rt, alone.decls().len(), shared.declarations().len());
-            for (decl, other) in alone.decls().iter().zip(shared.declarations()) {
-                is_same(rt, decl, &lists, other)?;
-            }
-        }
+        (Ok(alone), Ok(shared)) => are_same(rt, &alone, &lists, &shared),
         (alone, shared) => are_equal(rt, alone.err(), shared.err()),
     }
-    Ok(())
 }
 
-/// Reads a table, valid or not, at each offset of four sections: the sample's, and sections with a
-/// constant, a repeated code and a repeated attribute.
+/// Reads a table, valid or not, at each offset of a section, and checks that both readers agree.
+fn agree(rt: &(impl Abort + AllocGlobal), section: &[u8]) {
+    for offset in 0..section.len() as u64 + 2 {
+        agree_at(rt, section, offset);
+    }
+}
+
 #[test]
-fn readers_agree_at_each_offset(rt: HostRuntime) -> Result<(), Fail> {
+fn readers_agree_at_each_offset(rt: HostRuntime) {
     let sections: [&[u8]; 4] = [
+        // the sample's
         &inlined()[120..163],
+        // a constant
         &[
             1, 9, 0, 3, 0x21, 0x7f, 0, 0, 2, 9, 1, 0, 0, 3, 9, 0, 0, 0, 0,
         ],
+        // a repeated code
         &[1, 9, 0, 0, 0, 2, 9, 0, 0, 0, 1, 9, 0, 0, 0, 0],
+        // a repeated attribute
         &[1, 9, 0, 3, 8, 4, 8, 3, 8, 0, 0, 0],
     ];
     for section in sections {
-        for offset in 0..section.len() as u64 + 2 {
-            agree_at(&rt, section, offset)?;
-        }
+        agree(&rt, section);
     }
-    Ok(())
 }

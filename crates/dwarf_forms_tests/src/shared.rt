@@ -1,55 +1,53 @@
 //! Tables that overlap one list of attributes.
 
-use crate::both_readers::attributes_of;
-use crate::checks::are_equal;
+use crate::both_readers::{add, attributes_of, lists_of};
+use crate::checks::{are_equal, put};
 use dwarf_forms::{AbbreviationTable, AttributeSpecification, KnownLists, UNSHARED};
-use std::alloc::{AllocError, Global};
 use std::process::Abort;
 use std::test::*;
 
 /// Builds a declaration of 100 attributes, with names from 0x80 on and the form addr. Another table
 /// starts at each form: its code and its children flag are forms of the list.
-fn one_list(alloc: Global) -> Result<Vec<u8>, AllocError> {
-    let mut section = Vec::new(alloc);
-    for byte in [1, 1, 0] {
-        section.push(byte)?;
-    }
+fn one_list(rt: &(impl Abort + AllocGlobal)) -> Vec<u8> {
+    let mut section = Vec::new(rt.alloc());
+    put(rt, &mut section, &[1, 1, 0]);
     for name in 0u8..100 {
-        section.push(0x80 | name)?;
-        section.push(1)?;
-        section.push(1)?;
+        put(rt, &mut section, &[0x80 | name, 1, 1]);
     }
-    for byte in [0, 0, 0] {
-        section.push(byte)?;
-    }
-    Ok(section)
+    put(rt, &mut section, &[0, 0, 0]);
+    section
 }
 
 /// Returns the attributes of that list from a name on.
-fn attributes_from(alloc: Global, first: u64) -> Result<Vec<AttributeSpecification>, AllocError> {
-    let mut attributes = Vec::new(alloc);
+fn attributes_from(rt: &(impl Abort + AllocGlobal), first: u64) -> Vec<AttributeSpecification> {
+    let mut attributes = Vec::new(rt.alloc());
     for name in first..0x80 + 100 {
-        attributes.push(AttributeSpecification {
+        let attribute = AttributeSpecification {
             name,
             form: 1,
             constant: None,
-        })?;
+        };
+        add(rt, &mut attributes, attribute);
     }
-    Ok(attributes)
+    attributes
 }
 
 /// Reads the table at an offset. Returns the attributes of its first declaration, and the number of
 /// them that the declaration stores itself.
 fn first_of(
-    alloc: Global,
+    rt: &(impl Abort + AllocGlobal),
     lists: &mut KnownLists<'_>,
     offset: u64,
-) -> Result<(Vec<AttributeSpecification>, usize), Fail> {
+) -> (Vec<AttributeSpecification>, usize) {
     let mut left = 1;
-    let table = AbbreviationTable::read(alloc, lists, offset, &mut left)?;
-    let declaration = table.declarations().first().ok_or("no declaration")?;
-    let attributes = attributes_of(alloc, lists, declaration)?;
-    Ok((attributes, declaration.list().own().len()))
+    let Ok(table) = AbbreviationTable::read(rt.alloc(), lists, offset, &mut left) else {
+        panic!(rt; "the table is refused");
+    };
+    let Some(declaration) = table.declarations().first() else {
+        panic!(rt; "no declaration");
+    };
+    let attributes = attributes_of(rt, lists, declaration);
+    (attributes, declaration.list().own().len())
 }
 
 /// Checks that the table at an offset has a declaration with the attributes from a name on. Also
@@ -61,12 +59,11 @@ fn is_shared(
     first: u64,
     own: usize,
     known: usize,
-) -> Result<(), Fail> {
-    let (shared, count) = first_of(rt.alloc(), lists, offset)?;
+) {
+    let (shared, count) = first_of(rt, lists, offset);
     are_equal(rt, (count, lists.len()), (own, known));
-    let wanted = attributes_from(rt.alloc(), first)?;
+    let wanted = attributes_from(rt, first);
     are_equal(rt, shared.as_slice() == wanted.as_slice(), true);
-    Ok(())
 }
 
 /// Checks the same if no other attribute of the section is memoized.
@@ -77,29 +74,29 @@ fn is_alone(
     first: u64,
     own: usize,
     known: usize,
-) -> Result<(), Fail> {
-    let mut lists = KnownLists::new(rt.alloc(), section)?;
-    is_shared(rt, &mut lists, offset, first, own, known)
+) {
+    let mut lists = lists_of(rt, section);
+    is_shared(rt, &mut lists, offset, first, own, known);
 }
 
 #[test]
-fn tables_within_one_list(rt: HostRuntime) -> Result<(), Fail> {
-    let section = one_list(rt.alloc())?;
-    let mut lists = KnownLists::new(rt.alloc(), &section)?;
+fn tables_within_one_list(rt: HostRuntime) {
+    let section = one_list(&rt);
+    let mut lists = lists_of(&rt, &section);
     let behind = 100 - UNSHARED;
-    is_shared(&rt, &mut lists, 0, 0x80, UNSHARED, behind)?;
+    is_shared(&rt, &mut lists, 0, 0x80, UNSHARED, behind);
     // from the forms of the attributes 9, 34 and 35: their tables have the attributes after the
     // next one
-    is_shared(&rt, &mut lists, 32, 0x8b, UNSHARED, behind)?;
-    is_shared(&rt, &mut lists, 107, 0xa4, UNSHARED, behind)?;
-    is_shared(&rt, &mut lists, 110, 0xa5, 63, behind)
+    is_shared(&rt, &mut lists, 32, 0x8b, UNSHARED, behind);
+    is_shared(&rt, &mut lists, 107, 0xa4, UNSHARED, behind);
+    is_shared(&rt, &mut lists, 110, 0xa5, 63, behind);
 }
 
 #[test]
-fn tables_within_one_list_alone(rt: HostRuntime) -> Result<(), Fail> {
-    let section = one_list(rt.alloc())?;
-    is_alone(&rt, &section, 0, 0x80, UNSHARED, 100 - UNSHARED)?;
-    is_alone(&rt, &section, 32, 0x8b, UNSHARED, 89 - UNSHARED)?;
-    is_alone(&rt, &section, 107, 0xa4, UNSHARED, 0)?;
-    is_alone(&rt, &section, 110, 0xa5, 63, 0)
+fn tables_within_one_list_alone(rt: HostRuntime) {
+    let section = one_list(&rt);
+    is_alone(&rt, &section, 0, 0x80, UNSHARED, 100 - UNSHARED);
+    is_alone(&rt, &section, 32, 0x8b, UNSHARED, 89 - UNSHARED);
+    is_alone(&rt, &section, 107, 0xa4, UNSHARED, 0);
+    is_alone(&rt, &section, 110, 0xa5, 63, 0);
 }

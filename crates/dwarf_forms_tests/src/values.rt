@@ -15,22 +15,26 @@ fn read(form: u64, format: Format, bytes: &[u8]) -> (Result<Value<'_>, ValueFaul
 
 /// Returns the form and the number of a value.
 fn number_of(value: Result<Value<'_>, ValueFault>) -> Option<(u64, u64)> {
-    match value.ok()? {
-        Value {
-            form,
-            content: Content::Number(number),
-        } => Some((form, number)),
+    match value {
+        Ok(
+            Value {
+                form,
+                content: Content::Number(number),
+            },
+        ) => Some((form, number)),
         _ => None,
     }
 }
 
 /// Returns the form and the number of a signed value.
 fn signed_of(value: Result<Value<'_>, ValueFault>) -> Option<(u64, i64)> {
-    match value.ok()? {
-        Value {
-            form,
-            content: Content::Signed(number),
-        } => Some((form, number)),
+    match value {
+        Ok(
+            Value {
+                form,
+                content: Content::Signed(number),
+            },
+        ) => Some((form, number)),
         _ => None,
     }
 }
@@ -75,53 +79,58 @@ fn is_block(rt: &impl Abort, form: u64, bytes: &[u8], block: &[u8], cut: ReadFau
     cut_has_fault(rt, form, bytes, cut);
 }
 
+/// Checks that all of the bytes encode the number in each of these forms, and that one byte less is
+/// short.
+fn are_numbers(rt: &impl Abort, forms: &[u64], bytes: &[u8], number: u64) {
+    for form in forms {
+        is_number(rt, *form, bytes, number);
+    }
+}
+
 #[test]
 fn numbers(rt: HostRuntime) {
-    let bytes = [1, 2, 3, 4, 5, 6, 7, 8];
-    for form in [0x0b, 0x0c, 0x11, 0x25, 0x29] {
-        is_number(&rt, form, &bytes[..1], 1);
+    let numbers: [(&[u64], &[u8], u64); 7] = [
+        (&[0x0b, 0x0c, 0x11, 0x25, 0x29], &[1], 1),
+        (&[0x05, 0x12, 0x26, 0x2a], &[1, 2], 513),
+        (&[0x27, 0x2b], &[1, 2, 3], 197_121),
+        (
+            &[0x06, 0x13, 0x28, 0x2c, 0x0e, 0x1f, 0x17, 0x10],
+            &[1, 2, 3, 4],
+            67_305_985,
+        ),
+        (
+            &[0x01, 0x07, 0x14, 0x20],
+            &[1, 2, 3, 4, 5, 6, 7, 8],
+            578_437_695_752_307_201,
+        ),
+        (&[0x0f, 0x15, 0x1a, 0x1b, 0x22, 0x23], &[0x80, 0x01], 128),
+        (&[0x19], &[], 1),
+    ];
+    for (forms, bytes, number) in numbers {
+        are_numbers(&rt, forms, bytes, number);
     }
-    for form in [0x05, 0x12, 0x26, 0x2a] {
-        is_number(&rt, form, &bytes[..2], 513);
-    }
-    for form in [0x27, 0x2b] {
-        is_number(&rt, form, &bytes[..3], 197_121);
-    }
-    for form in [0x06, 0x13, 0x28, 0x2c, 0x0e, 0x1f, 0x17, 0x10] {
-        is_number(&rt, form, &bytes[..4], 67_305_985);
-    }
-    for form in [0x01, 0x07, 0x14, 0x20] {
-        is_number(&rt, form, &bytes, 578_437_695_752_307_201);
-    }
-    for form in [0x0f, 0x15, 0x1a, 0x1b, 0x22, 0x23] {
-        is_number(&rt, form, &[0x80, 0x01], 128);
-    }
-    is_number(&rt, 0x19, &[], 1);
 }
 
 #[test]
 fn blocks_and_texts(rt: HostRuntime) {
-    is_block(&rt, 0x0a, &[2, 0xaa, 0xbb], &[0xaa, 0xbb], ReadFault::Short);
-    is_block(
-        &rt,
-        0x03,
-        &[2, 0, 0xaa, 0xbb],
-        &[0xaa, 0xbb],
-        ReadFault::Short,
-    );
-    is_block(
-        &rt,
-        0x04,
-        &[2, 0, 0, 0, 0xaa, 0xbb],
-        &[0xaa, 0xbb],
-        ReadFault::Short,
-    );
-    for form in [0x09, 0x18] {
-        is_block(&rt, form, &[2, 0xaa, 0xbb], &[0xaa, 0xbb], ReadFault::Short);
-    }
     let sixteen = [1, 2, 3, 4, 5, 6, 7, 8, 9, 10, 11, 12, 13, 14, 15, 16];
-    is_block(&rt, 0x1e, &sixteen, &sixteen, ReadFault::Short);
-    is_block(&rt, 0x08, &[0x61, 0], &[0x61], ReadFault::Unterminated);
+    let blocks: [(u64, &[u8], &[u8], ReadFault); 7] = [
+        (0x0a, &[2, 0xaa, 0xbb], &[0xaa, 0xbb], ReadFault::Short),
+        (0x03, &[2, 0, 0xaa, 0xbb], &[0xaa, 0xbb], ReadFault::Short),
+        (
+            0x04,
+            &[2, 0, 0, 0, 0xaa, 0xbb],
+            &[0xaa, 0xbb],
+            ReadFault::Short,
+        ),
+        (0x09, &[2, 0xaa, 0xbb], &[0xaa, 0xbb], ReadFault::Short),
+        (0x18, &[2, 0xaa, 0xbb], &[0xaa, 0xbb], ReadFault::Short),
+        (0x1e, &sixteen, &sixteen, ReadFault::Short),
+        (0x08, &[0x61, 0], &[0x61], ReadFault::Unterminated),
+    ];
+    for (form, bytes, block, cut) in blocks {
+        is_block(&rt, form, bytes, block, cut);
+    }
 }
 
 #[test]
@@ -134,17 +143,20 @@ fn signed_numbers(rt: HostRuntime) {
 /// The value of DW_FORM_implicit_const is in the declaration, and no byte is read.
 #[test]
 fn constants_of_declarations(rt: HostRuntime) {
-    let nothing: [u8; 0] = [];
-    for bytes in [nothing.as_slice(), &[1, 2, 3]] {
-        for format in [Format::Dwarf32, Format::Dwarf64] {
-            let mut cursor = Cursor::new(bytes);
-            let value = value(0x21, format, Some(-1), &mut cursor);
-            are_equal(
-                &rt,
-                (signed_of(value), cursor.place()),
-                (Some((0x21, -1)), 0),
-            );
-        }
+    let cases: [(&[u8], Format); 4] = [
+        (&[], Format::Dwarf32),
+        (&[], Format::Dwarf64),
+        (&[1, 2, 3], Format::Dwarf32),
+        (&[1, 2, 3], Format::Dwarf64),
+    ];
+    for (bytes, format) in cases {
+        let mut cursor = Cursor::new(bytes);
+        let value = value(0x21, format, Some(-1), &mut cursor);
+        are_equal(
+            &rt,
+            (signed_of(value), cursor.place()),
+            (Some((0x21, -1)), 0),
+        );
     }
 }
 
@@ -209,8 +221,16 @@ fn refused_forms(rt: HostRuntime) {
     }
 }
 
+/// Checks the message of a fault.
+fn is_printed(rt: &(impl Abort + AllocGlobal), fault: ValueFault, message: &str) {
+    match fault.to_string(rt.alloc()) {
+        Ok(text) => assert_eq!(rt; text.as_str(), message),
+        Err(_) => panic!(rt; "out of memory"),
+    }
+}
+
 #[test]
-fn prints_value_faults(rt: HostRuntime) -> Result<(), Fail> {
+fn prints_value_faults(rt: HostRuntime) {
     let messages = [
         (ValueFault::Read(ReadFault::Short), "short"),
         (ValueFault::Read(ReadFault::Leb), "leb"),
@@ -218,7 +238,6 @@ fn prints_value_faults(rt: HostRuntime) -> Result<(), Fail> {
         (ValueFault::Form, "form"),
     ];
     for (fault, message) in messages {
-        assert_eq!(rt; fault.to_string(rt.alloc())?.as_str(), message);
+        is_printed(&rt, fault, message);
     }
-    Ok(())
 }
