@@ -1,4 +1,4 @@
-//! Assertions shared by the tests.
+//! Helpers shared by the tests.
 
 use std::fmt::Debug;
 use std::process::Abort;
@@ -7,4 +7,18 @@ use std::test::*;
 /// Checks that two values are equal.
 pub fn are_equal<T: Copy + Debug + PartialEq>(rt: &impl Abort, told: T, wanted: T) {
     assert_eq!(rt; told, wanted);
+}
+
+/// Appends bytes.
+pub fn put(rt: &impl Abort, bytes: &mut Vec<u8>, more: &[u8]) {
+    if bytes.extend_from_slice(more).is_err() {
+        panic!(rt; "out of memory");
+    }
+}
+
+/// Appends the same bytes `count` times.
+pub fn put_many(rt: &impl Abort, bytes: &mut Vec<u8>, count: usize, more: &[u8]) {
+    for _ in 0..count {
+        put(rt, bytes, more);
+    }
 }

@@ -5,7 +5,7 @@ use dwarf_bytes::{Cause, LoadFault, ReadFault, Section};
 use std::test::*;
 
 #[test]
-fn prints_read_faults(rt: HostRuntime) -> Result<(), Fail> {
+fn prints_read_faults(rt: HostRuntime) {
     let messages = [
         (ReadFault::Short, "short"),
         (ReadFault::Leb, "leb"),
@@ -13,16 +13,19 @@ fn prints_read_faults(rt: HostRuntime) -> Result<(), Fail> {
         (ReadFault::Length, "length"),
     ];
     for (fault, message) in messages {
-        let printed = fault.to_string(rt.alloc())?;
+        let Ok(printed) = fault.to_string(rt.alloc()) else {
+            panic!(rt; "out of memory");
+        };
         are_equal(&rt, printed.as_str(), message);
     }
-    Ok(())
 }
 
 #[test]
-fn prints_load_faults(rt: HostRuntime) -> Result<(), Fail> {
+fn prints_load_faults(rt: HostRuntime) {
     let fault = LoadFault::told(Section::DebugStrOffsets, Cause::PcAndRanges, 54);
-    let text = fault.to_string(rt.alloc())?;
+    let Ok(text) = fault.to_string(rt.alloc()) else {
+        panic!(rt; "out of memory");
+    };
     are_equal(
         &rt,
         text.as_str(),
@@ -31,5 +34,4 @@ fn prints_load_faults(rt: HostRuntime) -> Result<(), Fail> {
     let memory = LoadFault::told(Section::DebugInfo, Cause::Memory, 54);
     are_equal(&rt, (memory.section, memory.at), (Section::Elf, 0));
     are_equal(&rt, (Cause::NotElf as u8, Cause::RangeKind as u8), (1, 46));
-    Ok(())
 }

@@ -1,9 +1,9 @@
 //! Section names in an object with many section headers.
 
-use crate::checks::are_equal;
+use crate::checks::{are_equal, put, put_many};
 use dwarf_bytes::{Cause, LoadFault, Object, Section, Span};
-use std::alloc::Global;
-use std::test::Fail;
+use std::process::Abort;
+use std::test::*;
 
 /// The number of section headers, and the size of the long name in bytes.
 const HEADERS: u16 = 20_000;
@@ -53,47 +53,49 @@ fn section(name: u32, place: usize, len: usize) -> [u8; 64] {
 
 /// Builds an object where all section headers but the last two refer to one long name, at an offset
 /// into it. The one before the last is named `.debug_str`, which follows the long name.
-fn long_names(alloc: Global, offset: u32) -> Result<Vec<u8>, LoadFault> {
-    let mut object = Vec::new(alloc);
-    object.extend_from_slice(&file_header())?;
-    object.extend_from_slice(&segment())?;
-    object.extend_from_slice(b".debug_str")?;
-    for _ in 10..NAME_LEN {
-        object.push(b'x')?;
-    }
-    object.extend_from_slice(b"\0.debug_str\0\x61\x62\x63")?;
-    for _ in 2..HEADERS {
-        object.extend_from_slice(&section(offset, 0, 0))?;
-    }
-    object.extend_from_slice(&section(NAME_LEN + 1, 3, 5))?;
-    object.extend_from_slice(&section(0, NAMES, NAMES_LEN as usize))?;
-    Ok(object)
+fn long_names(rt: &(impl Abort + AllocGlobal), offset: u32) -> Vec<u8> {
+    let mut object = Vec::new(rt.alloc());
+    put(rt, &mut object, &file_header());
+    put(rt, &mut object, &segment());
+    put(rt, &mut object, b".debug_str");
+    put_many(rt, &mut object, NAME_LEN as usize - 10, b"x");
+    put(rt, &mut object, b"\0.debug_str\0\x61\x62\x63");
+    put_many(
+        rt,
+        &mut object,
+        HEADERS as usize - 2,
+        &section(offset, 0, 0),
+    );
+    put(rt, &mut object, &section(NAME_LEN + 1, 3, 5));
+    put(rt, &mut object, &section(0, NAMES, NAMES_LEN as usize));
+    object
 }
 
-#[test]
-fn walks_over_no_name(rt: HostRuntime) -> Result<(), Fail> {
-    let layout = Object::find(&long_names(rt.alloc(), 0)?)?;
-    are_equal(&rt, layout.debug_str, Span { place: 3, len: 5 });
-    are_equal(&rt, layout.debug_info, Span { place: 0, len: 0 });
-    Ok(())
-}
-
-#[test]
-fn refuses_a_name_behind_the_last_nul(rt: HostRuntime) -> Result<(), Fail> {
-    let fault = |at| Some(LoadFault {
+/// Returns the fault of a section header.
+fn fault(at: u64) -> Option<LoadFault> {
+    Some(LoadFault {
         section: Section::Elf,
         cause: Cause::Table,
         at,
-    });
+    })
+}
+
+#[test]
+fn walks_over_no_name(rt: HostRuntime) {
+    let Ok(layout) = Object::find(&long_names(&rt, 0)) else {
+        panic!(rt; "the object is refused");
+    };
+    are_equal(&rt, layout.debug_str, Span { place: 3, len: 5 });
+    are_equal(&rt, layout.debug_info, Span { place: 0, len: 0 });
+}
+
+#[test]
+fn refuses_a_name_behind_the_last_nul(rt: HostRuntime) {
     let last_nul = NAME_LEN + 11;
-    are_equal(
-        &rt,
-        Object::find(&long_names(rt.alloc(), last_nul)?).err(),
-        None,
-    );
+    let object = long_names(&rt, last_nul);
+    are_equal(&rt, Object::find(&object).err(), None);
     for offset in [last_nul + 1, NAMES_LEN - 1, NAMES_LEN, u32::MAX] {
-        let object = long_names(rt.alloc(), offset)?;
+        let object = long_names(&rt, offset);
         are_equal(&rt, Object::find(&object).err(), fault(SECTIONS as u64));
     }
-    Ok(())
 }

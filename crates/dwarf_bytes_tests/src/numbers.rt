@@ -8,6 +8,23 @@ use std::test::*;
 
 const HIGH: u8 = 0xff;
 
+/// Returns a cursor at offset 1 of the bytes.
+fn at_one<'a>(rt: &impl Abort, bytes: &'a [u8]) -> Cursor<'a> {
+    let mut cursor = Cursor::new(bytes);
+    if cursor.seek(1).is_err() {
+        panic!(rt; "no byte");
+    }
+    cursor
+}
+
+/// Returns the part of `len` bytes from a cursor on.
+fn part_of<'a>(rt: &impl Abort, cursor: &Cursor<'a>, len: u64) -> Cursor<'a> {
+    match cursor.part(len) {
+        Ok(part) => part,
+        Err(_) => panic!(rt; "the part is refused"),
+    }
+}
+
 #[test]
 fn reads_fixed_widths(rt: HostRuntime) {
     let bytes = [
@@ -36,41 +53,37 @@ fn seeks_to_the_end_and_no_further(rt: HostRuntime) {
 
 /// A part ends `len` bytes after the cursor. Its offsets are relative to the start of the whole.
 #[test]
-fn parts_end_behind_the_cursor(rt: HostRuntime) -> Result<(), Fail> {
-    let mut cursor = Cursor::new(&[1, 2, 3, 4]);
-    cursor.seek(1)?;
-    let mut part = cursor.part(2)?;
+fn parts_end_behind_the_cursor(rt: HostRuntime) {
+    let cursor = at_one(&rt, &[1, 2, 3, 4]);
+    let mut part = part_of(&rt, &cursor, 2);
     are_equal(&rt, part.place(), 1);
     are_equal(&rt, part.u16(), Ok(0x0302));
     are_equal(&rt, part.u8(), Err(ReadFault::Short));
     are_equal(&rt, cursor.place(), 1);
-    Ok(())
 }
 
 /// A fork has the bytes and the offset of its cursor, and moves independently.
 #[test]
-fn forks_move_alone(rt: HostRuntime) -> Result<(), Fail> {
-    let mut cursor = Cursor::new(&[1, 2, 3]);
-    cursor.seek(1)?;
+fn forks_move_alone(rt: HostRuntime) {
+    let mut cursor = at_one(&rt, &[1, 2, 3]);
     let mut fork = cursor.fork();
     are_equal(&rt, fork.place(), 1);
     are_equal(&rt, fork.u16(), Ok(0x0302));
     are_equal(&rt, cursor.place(), 1);
     are_equal(&rt, cursor.u8(), Ok(2));
     are_equal(&rt, fork.place(), 3);
-    Ok(())
 }
 
 /// The longest part, an empty one, and parts that extend past the end.
 #[test]
-fn parts_end_with_the_whole(rt: HostRuntime) -> Result<(), Fail> {
-    let mut cursor = Cursor::new(&[1, 2, 3, 4]);
-    cursor.seek(1)?;
-    are_equal(&rt, cursor.part(3)?.u24(), Ok(0x0004_0302));
-    are_equal(&rt, cursor.part(0)?.u8(), Err(ReadFault::Short));
+fn parts_end_with_the_whole(rt: HostRuntime) {
+    let cursor = at_one(&rt, &[1, 2, 3, 4]);
+    let mut longest = part_of(&rt, &cursor, 3);
+    are_equal(&rt, longest.u24(), Ok(0x0004_0302));
+    let mut empty = part_of(&rt, &cursor, 0);
+    are_equal(&rt, empty.u8(), Err(ReadFault::Short));
     are_equal(&rt, cursor.part(4).err(), Some(ReadFault::Short));
     are_equal(&rt, cursor.part(u64::MAX).err(), Some(ReadFault::Short));
-    Ok(())
 }
 
 /// Checks the result of a read of these bytes. The cursor must be at their end on success, and at

@@ -75,9 +75,7 @@ fn refuses_each_changed_field(rt: HostRuntime) {
         );
     }
     let mut reserved = LISTS;
-    for place in 0..4 {
-        reserved[place] = 0xff;
-    }
+    reserved[..4].copy_from_slice(&[0xff; 4]);
     are_equal(
         &rt,
         before(&reserved, 12, TableKind::RngLists),

@@ -1,44 +1,59 @@
 //! Strings of sections, and their ends.
 
-use crate::checks::are_equal;
-use dwarf_bytes::{LoadFault, ReadFault, Section, Span, Text, TextIndex, text_at};
-use std::alloc::{AllocGlobal, Global};
+use crate::checks::{are_equal, put, put_many};
+use dwarf_bytes::{ReadFault, Section, Span, Text, TextIndex, text_at};
 use std::process::Abort;
 use std::test::*;
 
 /// Returns `len` bytes `a`.
-fn run(alloc: Global, len: usize) -> Result<Vec<u8>, LoadFault> {
-    let mut bytes = Vec::new(alloc);
-    for _ in 0..len {
-        bytes.push(b'a')?;
-    }
-    Ok(bytes)
+fn run(rt: &(impl Abort + AllocGlobal), len: usize) -> Vec<u8> {
+    let mut bytes = Vec::new(rt.alloc());
+    put_many(rt, &mut bytes, len, b"a");
+    bytes
 }
 
-/// Checks the length of the string at each offset, both by the index and by a read of the section.
-fn has_texts(
-    rt: &(impl Abort + AllocGlobal),
-    section: &[u8],
-    texts: &[(u64, Option<usize>)],
-) -> Result<(), LoadFault> {
-    let index = TextIndex::of(rt.alloc(), section)?;
-    for (offset, len) in texts {
-        let text = index.text_at(*offset);
-        let want = len.ok_or(ReadFault::Unterminated);
-        are_equal(rt, (offset, text.map(|text| text.len())), (offset, want));
-        are_equal(rt, (offset, text), (offset, text_at(section, *offset)));
+/// Returns the index of a section.
+fn index_of<'a>(rt: &(impl Abort + AllocGlobal), section: &'a [u8]) -> TextIndex<'a> {
+    match TextIndex::of(rt.alloc(), section) {
+        Ok(index) => index,
+        Err(_) => panic!(rt; "out of memory"),
     }
-    Ok(())
+}
+
+/// Checks the length of the string at an offset, both by the index and by a read of the section.
+fn has_text(
+    rt: &impl Abort,
+    index: &TextIndex<'_>,
+    section: &[u8],
+    offset: u64,
+    len: Option<usize>,
+) {
+    let text = index.text_at(offset);
+    let told = match text {
+        Ok(text) => Ok(text.len()),
+        Err(fault) => Err(fault),
+    };
+    let want = len.ok_or(ReadFault::Unterminated);
+    are_equal(rt, (offset, told), (offset, want));
+    are_equal(rt, (offset, text), (offset, text_at(section, offset)));
+}
+
+/// Checks the lengths of the strings at these offsets.
+fn has_texts(rt: &(impl Abort + AllocGlobal), section: &[u8], texts: &[(u64, Option<usize>)]) {
+    let index = index_of(rt, section);
+    for (offset, len) in texts {
+        has_text(rt, &index, section, *offset, *len);
+    }
 }
 
 /// Strings of 4,095 and 4,096 bytes, whose NULs are the last byte of a block and the first of one;
 /// a string of one byte; and one without a NUL.
 #[test]
-fn ends_texts_at_the_ends_of_blocks(rt: HostRuntime) -> Result<(), Fail> {
-    let mut section = run(rt.alloc(), 4_095)?;
-    section.push(0)?;
-    section.extend_from_slice(&run(rt.alloc(), 4_096)?)?;
-    section.extend_from_slice(b"\0c\0d")?;
+fn ends_texts_at_the_ends_of_blocks(rt: HostRuntime) {
+    let mut section = run(&rt, 4_095);
+    put(&rt, &mut section, &[0]);
+    put_many(&rt, &mut section, 4_096, b"a");
+    put(&rt, &mut section, b"\0c\0d");
     let texts = [
         (0, Some(4_095)),
         (1, Some(4_094)),
@@ -55,15 +70,14 @@ fn ends_texts_at_the_ends_of_blocks(rt: HostRuntime) -> Result<(), Fail> {
         (8_197, None),
         (u64::MAX, None),
     ];
-    has_texts(&rt, &section, &texts)?;
-    Ok(())
+    has_texts(&rt, &section, &texts);
 }
 
 /// A string that extends over three blocks.
 #[test]
-fn ends_texts_past_their_block(rt: HostRuntime) -> Result<(), Fail> {
-    let mut section = run(rt.alloc(), 10_000)?;
-    section.extend_from_slice(b"\0bc\0d")?;
+fn ends_texts_past_their_block(rt: HostRuntime) {
+    let mut section = run(&rt, 10_000);
+    put(&rt, &mut section, b"\0bc\0d");
     let texts = [
         (0, Some(10_000)),
         (4_095, Some(5_905)),
@@ -74,19 +88,17 @@ fn ends_texts_past_their_block(rt: HostRuntime) -> Result<(), Fail> {
         (10_001, Some(2)),
         (10_004, None),
     ];
-    has_texts(&rt, &section, &texts)?;
-    let index = TextIndex::of(rt.alloc(), &section)?;
+    has_texts(&rt, &section, &texts);
+    let index = index_of(&rt, &section);
     are_equal(&rt, index.text_at(10_001), Ok(b"bc".as_slice()));
-    Ok(())
 }
 
 #[test]
-fn ends_no_text_without_a_nul(rt: HostRuntime) -> Result<(), Fail> {
-    has_texts(&rt, &[], &[(0, None), (1, None), (u64::MAX, None)])?;
-    has_texts(&rt, &[0], &[(0, Some(0)), (1, None)])?;
-    let section = run(rt.alloc(), 5_000)?;
-    has_texts(&rt, &section, &[(0, None), (4_095, None), (4_096, None)])?;
-    Ok(())
+fn ends_no_text_without_a_nul(rt: HostRuntime) {
+    has_texts(&rt, &[], &[(0, None), (1, None), (u64::MAX, None)]);
+    has_texts(&rt, &[0], &[(0, Some(0)), (1, None)]);
+    let section = run(&rt, 5_000);
+    has_texts(&rt, &section, &[(0, None), (4_095, None), (4_096, None)]);
 }
 
 /// A span that extends past the end of the bytes is truncated.
