@@ -10,51 +10,47 @@ use std::test::*;
 fn ask_all(rt: &impl Abort, modules: &mut Modules, from: u64, most: u64) {
     for offset in 0..16 {
         let asked = modules.ask(from.saturating_add(offset));
-        let compares = modules.steps().compares;
-        assert!(rt; 2 <= compares && compares <= most, "{compares} at {offset}");
+        takes_at_most(rt, modules, most, offset);
         are_equal(rt, modules.answer(asked).frames().next().is_some(), true);
     }
 }
 
 #[test]
-fn later_asks_take_two_compares(rt: HostRuntime) -> Result<(), Fail> {
-    let mut modules = one(rt.alloc(), 0x10000, 1024)?;
+fn later_asks_take_two_compares(rt: HostRuntime) {
+    let mut modules = one(&rt, 0x10000, 1024);
     are_equal(&rt, modules.cached(), (0, 1024));
     ask_all(&rt, &mut modules, 0x11000, 6);
     ask_all(&rt, &mut modules, 0x11000, 2);
-    modules.move_to("a", 0x20000)?;
+    move_to(&rt, &mut modules, "a", 0x20000);
     ask_all(&rt, &mut modules, 0x21000, 2);
     are_equal(&rt, modules.cached(), (16, 1024));
-    Ok(())
 }
 
 #[test]
-fn a_small_cache_stays_small(rt: HostRuntime) -> Result<(), Fail> {
-    let mut modules = one(rt.alloc(), 0x10000, 4)?;
+fn a_small_cache_stays_small(rt: HostRuntime) {
+    let mut modules = one(&rt, 0x10000, 4);
     ask_all(&rt, &mut modules, 0x11000, 6);
     ask_all(&rt, &mut modules, 0x11000, 6);
-    modules.move_to("a", 0x20000)?;
+    move_to(&rt, &mut modules, "a", 0x20000);
     ask_all(&rt, &mut modules, 0x21000, 6);
     are_equal(&rt, modules.cached(), (4, 4));
     // the last one is cached
     modules.ask(0x2100f);
     are_equal(&rt, modules.steps().compares, 2);
-    Ok(())
 }
 
 #[test]
-fn no_cache(rt: HostRuntime) -> Result<(), Fail> {
-    let mut modules = one(rt.alloc(), 0x10000, 0)?;
+fn no_cache(rt: HostRuntime) {
+    let mut modules = one(&rt, 0x10000, 0);
     ask_all(&rt, &mut modules, 0x11000, 6);
     are_equal(&rt, modules.cached(), (0, 0));
     modules.ask(0x11004);
     assert!(rt; modules.steps().compares > 2);
-    Ok(())
 }
 
 #[test]
-fn an_address_of_which_nothing_is_known_is_cached(rt: HostRuntime) -> Result<(), Fail> {
-    let mut modules = one(rt.alloc(), 0x10000, 4)?;
+fn an_address_of_which_nothing_is_known_is_cached(rt: HostRuntime) {
+    let mut modules = one(&rt, 0x10000, 4);
     are_equal(&rt, line(&mut modules, 0x11010), None);
     are_equal(&rt, modules.cached(), (1, 4));
     are_equal(&rt, line(&mut modules, 0x11010), None);
@@ -62,40 +58,36 @@ fn an_address_of_which_nothing_is_known_is_cached(rt: HostRuntime) -> Result<(),
     // no module contains this one
     are_equal(&rt, line(&mut modules, 0x12010), None);
     are_equal(&rt, modules.cached(), (1, 4));
-    Ok(())
 }
 
 #[test]
-fn a_moved_module_answers_at_its_new_base(rt: HostRuntime) -> Result<(), Fail> {
-    let mut modules = one(rt.alloc(), 0x10000, 16)?;
+fn a_moved_module_answers_at_its_new_base(rt: HostRuntime) {
+    let mut modules = one(&rt, 0x10000, 16);
     are_equal(&rt, line(&mut modules, 0x11004), Some(11));
-    modules.move_to("a", 0x20000)?;
+    move_to(&rt, &mut modules, "a", 0x20000);
     are_equal(&rt, line(&mut modules, 0x11004), None);
     are_equal(&rt, line(&mut modules, 0x21004), Some(11));
     are_equal(&rt, line(&mut modules, 0x21000), Some(10));
-    Ok(())
 }
 
 #[test]
-fn a_later_load_of_a_name_answers_for_itself(rt: HostRuntime) -> Result<(), Fail> {
-    let mut modules = one(rt.alloc(), 0x10000, 16)?;
+fn a_later_load_of_a_name_answers_for_itself(rt: HostRuntime) {
+    let mut modules = one(&rt, 0x10000, 16);
     are_equal(&rt, line(&mut modules, 0x11000), Some(10));
-    modules.unload("a")?;
+    unload(&rt, &mut modules, "a");
     are_equal(&rt, modules.cached(), (1, 16));
-    modules.load("a", 0x10000, copy(rt.alloc(), two_sequences())?)?;
+    load(&rt, &mut modules, "a", 0x10000, two_sequences());
     are_equal(&rt, modules.cached(), (1, 16));
     are_equal(&rt, line(&mut modules, 0x11000), Some(12));
     are_equal(&rt, modules.cached(), (2, 16));
-    Ok(())
 }
 
 #[test]
-fn two_modules_of_one_object(rt: HostRuntime) -> Result<(), Fail> {
-    let mut modules = one(rt.alloc(), 0x10000, 16)?;
-    modules.load("b", 0x20000, copy(rt.alloc(), two_sequences())?)?;
+fn two_modules_of_one_object(rt: HostRuntime) {
+    let mut modules = one(&rt, 0x10000, 16);
+    load(&rt, &mut modules, "b", 0x20000, two_sequences());
     are_equal(&rt, line(&mut modules, 0x11000), Some(10));
     are_equal(&rt, line(&mut modules, 0x21000), Some(12));
     are_equal(&rt, line(&mut modules, 0x11000), Some(10));
     are_equal(&rt, modules.cached(), (2, 16));
-    Ok(())
 }

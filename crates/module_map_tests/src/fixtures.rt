@@ -2,7 +2,6 @@
 
 use dwarf_samples::inlined;
 use module_map::{Extent, MapFault, Modules};
-use std::alloc::{AllocError, Global};
 use std::fmt::Debug;
 use std::process::Abort;
 use std::test::*;
@@ -12,18 +11,60 @@ pub fn are_equal<T: Copy + Debug + PartialEq>(rt: &impl Abort, told: T, wanted: 
     assert_eq!(rt; told, wanted);
 }
 
+/// Checks that the last ask took two to `most` comparisons. A failure prints `at`.
+pub fn takes_at_most(rt: &impl Abort, modules: &Modules, most: u64, at: u64) {
+    let compares = modules.steps().compares;
+    assert!(rt; 2 <= compares && compares <= most, "{compares} at {at}");
+}
+
 /// Copies the bytes of a sample.
-pub fn copy(alloc: Global, object: &[u8]) -> Result<Vec<u8>, AllocError> {
-    let mut bytes = Vec::new(alloc);
-    bytes.extend_from_slice(object)?;
-    Ok(bytes)
+pub fn copy(rt: &(impl Abort + AllocGlobal), object: &[u8]) -> Vec<u8> {
+    match object.to_vec(rt.alloc()) {
+        Ok(copy) => copy,
+        Err(_) => panic!(rt; "out of memory"),
+    }
+}
+
+/// Creates an empty list of modules with a cache of `cache_entries` answers.
+pub fn empty(rt: &(impl Abort + AllocGlobal), cache_entries: usize) -> Modules {
+    match Modules::new(rt.alloc(), cache_entries) {
+        Ok(modules) => modules,
+        Err(_) => panic!(rt; "out of memory"),
+    }
+}
+
+/// Loads an object. The load is not refused.
+pub fn load(
+    rt: &(impl Abort + AllocGlobal),
+    modules: &mut Modules,
+    name: &str,
+    base: u64,
+    object: &[u8],
+) {
+    if modules.load(name, base, copy(rt, object)).is_err() {
+        panic!(rt; "the load is refused");
+    }
+}
+
+/// Unloads a module that is loaded.
+pub fn unload(rt: &impl Abort, modules: &mut Modules, name: &str) {
+    if modules.unload(name).is_err() {
+        panic!(rt; "the unload is refused");
+    }
+}
+
+/// Moves a module. The move is not refused.
+pub fn move_to(rt: &impl Abort, modules: &mut Modules, name: &str, base: u64) {
+    if modules.move_to(name, base).is_err() {
+        panic!(rt; "the move is refused");
+    }
 }
 
 /// Loads only the first sample at a base, with a cache of `cache_entries` answers.
-pub fn one(alloc: Global, base: u64, cache_entries: usize) -> Result<Modules, Fail> {
-    let mut modules = Modules::new(alloc, cache_entries)?;
-    modules.load("a", base, copy(alloc, inlined())?)?;
-    Ok(modules)
+pub fn one(rt: &(impl Abort + AllocGlobal), base: u64, cache_entries: usize) -> Modules {
+    let mut modules = empty(rt, cache_entries);
+    load(rt, &mut modules, "a", base, inlined());
+    modules
 }
 
 /// Returns the extent of an object of 0x1000 bytes from `low` on.
@@ -34,11 +75,36 @@ pub fn from(low: u64) -> Result<Extent, MapFault> {
     })
 }
 
+/// Checks the result of a load of the first sample.
+pub fn load_gives(
+    rt: &(impl Abort + AllocGlobal),
+    modules: &mut Modules,
+    name: &str,
+    base: u64,
+    wanted: Result<Extent, MapFault>,
+) {
+    let told = modules.load(name, base, copy(rt, inlined()));
+    are_equal(rt, told, wanted);
+}
+
+/// Checks the result of a move.
+pub fn move_gives(
+    rt: &impl Abort,
+    modules: &mut Modules,
+    name: &str,
+    base: u64,
+    wanted: Result<Extent, MapFault>,
+) {
+    are_equal(rt, modules.move_to(name, base), wanted);
+}
+
 /// Returns the line of the innermost frame at an address; `None` if there is no frame.
 pub fn line(modules: &mut Modules, address: u64) -> Option<u64> {
     let asked = modules.ask(address);
-    let frame = modules.answer(asked).frames().next()?;
-    Some(frame.line())
+    match modules.answer(asked).frames().next() {
+        Some(frame) => Some(frame.line()),
+        None => None,
+    }
 }
 
 /// Checks the name and the extent of each module of the list.

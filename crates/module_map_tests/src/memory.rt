@@ -8,10 +8,10 @@ use std::test::*;
 
 #[test]
 fn a_load_that_memory_refuses_changes_nothing(rt: HostRuntime) {
-    let Ok(first) = copy(rt.alloc(), inlined()) else {
+    let Ok(first) = inlined().to_vec(rt.alloc()) else {
         return;
     };
-    let Ok(second) = copy(rt.alloc(), two_sequences()) else {
+    let Ok(second) = two_sequences().to_vec(rt.alloc()) else {
         return;
     };
     let mut modules = match Modules::new(rt.alloc(), 4) {

@@ -1,11 +1,21 @@
 //! What faults print.
 
+use crate::fixtures::are_equal;
 use dwarf_bytes::{Cause, LoadFault, Section};
 use module_map::MapFault;
+use std::process::Abort;
 use std::test::*;
 
+/// Checks what a fault prints.
+fn prints(rt: &(impl Abort + AllocGlobal), fault: MapFault, message: &str) {
+    let Ok(text) = fault.to_string(rt.alloc()) else {
+        panic!(rt; "out of memory");
+    };
+    are_equal(rt, text.as_str(), message);
+}
+
 #[test]
-fn prints_map_faults(rt: HostRuntime) -> Result<(), Fail> {
+fn prints_map_faults(rt: HostRuntime) {
     let object = LoadFault::told(Section::DebugLine, Cause::FileFormat, 7);
     let messages = [
         (MapFault::NameTaken, "name-taken"),
@@ -20,7 +30,6 @@ fn prints_map_faults(rt: HostRuntime) -> Result<(), Fail> {
         (MapFault::Memory, "memory"),
     ];
     for (fault, message) in messages {
-        assert_eq!(rt; fault.to_string(rt.alloc())?.as_str(), message);
+        prints(&rt, fault, message);
     }
-    Ok(())
 }
