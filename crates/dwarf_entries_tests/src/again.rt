@@ -2,7 +2,7 @@
 
 use crate::fixtures::*;
 use dwarf_bytes::{Cause, Cursor};
-use dwarf_units::{AttributeValue, Tables, UsedAttributes, units};
+use dwarf_units::{AttributeValue, Tables, UnitTable, UsedAttributes, units};
 use std::process::Abort;
 use std::test::*;
 
@@ -16,49 +16,74 @@ fn is_read(
     name: u64,
     high_pc: u64,
     end: usize,
-) -> Result<(), Fail> {
-    let table = declarations(rt.alloc(), (&[], &[]), (forms, &[]))?;
-    let info = one_scope(rt.alloc(), (&[], &[]), (&[], values))?;
-    let headers = units(rt.alloc(), &info)?;
-    let mut tables = Tables::judge(rt.alloc(), &table, &headers)?;
-    let header = headers.first().ok_or("no unit")?;
-    let number = tables.number_of(rt.alloc(), header)?;
-    let mut cursor = Cursor::new(&info);
-    cursor.seek(13)?;
+) {
+    let table = declarations(rt, (&[], &[]), (forms, &[]));
+    let info = one_scope(rt, (&[], &[]), (&[], values));
+    let Ok(headers) = units(rt.alloc(), &info) else {
+        panic!(rt; "the unit is refused");
+    };
+    let Ok(mut tables) = Tables::judge(rt.alloc(), &table, &headers) else {
+        panic!(rt; "the table is refused");
+    };
+    let Some(header) = headers.first() else {
+        panic!(rt; "no unit");
+    };
+    let Ok(number) = tables.number_of(rt.alloc(), header) else {
+        panic!(rt; "no table");
+    };
+    is_entry(rt, &tables.table(number), &info, name, high_pc, end);
+}
+
+/// Reads the entry at offset 13. Checks its values and its end, and that the null entry after it
+/// is refused.
+fn is_entry(
+    rt: &impl Abort,
+    table: &UnitTable<'_>,
+    info: &[u8],
+    name: u64,
+    high_pc: u64,
+    end: usize,
+) {
+    let mut cursor = Cursor::new(info);
+    if cursor.seek(13).is_err() {
+        panic!(rt; "no entry");
+    }
     let mut found = UsedAttributes::none();
-    let tag = tables.table(number).read_entry(&mut cursor, &mut found);
+    let tag = table.read_entry(&mut cursor, &mut found);
     are_equal(rt, tag, Ok(0x2e));
     are_equal(rt, number_of(found.name()), Some(name));
     are_equal(rt, number_of(found.high_pc()), Some(high_pc));
     are_equal(rt, number_of(found.low_pc()), None);
     are_equal(rt, cursor.place(), end);
-    let null = tables.table(number).read_entry(&mut cursor, &mut found);
+    let null = table.read_entry(&mut cursor, &mut found);
     are_equal(rt, null, Err(Cause::AbbrevCode));
-    Ok(())
 }
 
 fn number_of(value: Option<AttributeValue>) -> Option<u64> {
-    value.map(|value| value.number)
+    match value {
+        Some(value) => Some(value.number),
+        None => None,
+    }
 }
 
 #[test]
-fn entries_at_their_places(rt: HostRuntime) -> Result<(), Fail> {
+fn entries_at_their_places(rt: HostRuntime) {
     // subprogram: decl_file as data1, name as string, high_pc as data1
     let forms = [0x3a, 0x0b, 0x03, 0x08, 0x12, 0x0b];
-    is_read(&rt, &forms, &[7, 0x66, 0, 9], 15, 9, 18)
+    is_read(&rt, &forms, &[7, 0x66, 0, 9], 15, 9, 18);
 }
 
 /// Reads an entry whose used attributes are after 70 others in its declaration. Most of the others
 /// take no bytes.
 #[test]
-fn entry_of_a_long_list(rt: HostRuntime) -> Result<(), Fail> {
+fn entry_of_a_long_list(rt: HostRuntime) {
     let mut forms = Vec::new(rt.alloc());
     for name in 0u8..70 {
         // the first and the last as data1, the others as flag_present
         let form = if name == 0 || name == 69 { 0x0b } else { 0x19 };
-        forms.extend_from_slice(&[0x80 | name, 0x40, form])?;
+        put(&rt, &mut forms, &[0x80 | name, 0x40, form]);
     }
     // name as string, high_pc as data1
-    forms.extend_from_slice(&[0x03, 0x08, 0x12, 0x0b])?;
-    is_read(&rt, &forms, &[7, 8, 0x66, 0, 9], 16, 9, 19)
+    put(&rt, &mut forms, &[0x03, 0x08, 0x12, 0x0b]);
+    is_read(&rt, &forms, &[7, 8, 0x66, 0, 9], 16, 9, 19);
 }

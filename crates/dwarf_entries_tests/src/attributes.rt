@@ -2,12 +2,13 @@
 
 use crate::fixtures::*;
 use dwarf_bytes::Cause;
+use std::process::Abort;
 use std::test::*;
 
 /// Attributes of the subprogram at offset 13 that are refused: the name and form of each, and its
 /// value.
 #[test]
-fn forms_of_attributes(rt: HostRuntime) -> Result<(), Fail> {
+fn forms_of_attributes(rt: HostRuntime) {
     let refused: [(&[u8], &[u8], Cause); 19] = [
         // name as data1, linkage_name as exprloc
         (&[0x03, 0x0b], &[0], Cause::AttrForm),
@@ -39,16 +40,19 @@ fn forms_of_attributes(rt: HostRuntime) -> Result<(), Fail> {
         (&[0x3a, 0x0a], &[9, 0], Cause::Short),
     ];
     for (declared, values, cause) in refused {
-        let attributes = (declared, values);
-        let object = OneScope::new(rt.alloc(), (&[], &[]), attributes)?;
-        is_refused(&rt, &object.sections(), cause, 13);
+        is_bad_scope(&rt, (declared, values), cause);
     }
-    Ok(())
+}
+
+/// Checks that a subprogram at offset 13 with these attributes is refused.
+fn is_bad_scope(rt: &(impl Abort + AllocGlobal), attributes: Attributes<'_>, cause: Cause) {
+    let object = OneScope::new(rt, (&[], &[]), attributes);
+    is_refused(rt, &object.sections(), cause, 13);
 }
 
 /// Reads call_file in each form of a count.
 #[test]
-fn forms_of_counts(rt: HostRuntime) -> Result<(), Fail> {
+fn forms_of_counts(rt: HostRuntime) {
     let counts: [(&[u8], &[u8]); 8] = [
         (&[0x58, 0x0b], &[7]),
         (&[0x58, 0x05], &[7, 0]),
@@ -60,10 +64,16 @@ fn forms_of_counts(rt: HostRuntime) -> Result<(), Fail> {
         (&[0x58, 0x16], &[0x0d, 7]),
     ];
     for (declared, values) in counts {
-        let object = OneScope::new(rt.alloc(), (&[], &[]), (declared, values))?;
-        let read = scopes_of(rt.alloc(), &object.sections())?;
-        let scope = read.scopes().first().ok_or("no scope")?;
-        are_equal(&rt, call_of(&read, scope), (Some(7), None));
+        is_called_in_file_7(&rt, (declared, values));
     }
-    Ok(())
+}
+
+/// Checks that a subprogram with these attributes has the call file 7 and no call line.
+fn is_called_in_file_7(rt: &(impl Abort + AllocGlobal), attributes: Attributes<'_>) {
+    let object = OneScope::new(rt, (&[], &[]), attributes);
+    let read = scopes_of(rt, &object.sections());
+    let Some(scope) = read.scopes().first() else {
+        panic!(rt; "no scope");
+    };
+    are_equal(rt, call_of(&read, scope), (Some(7), None));
 }

@@ -4,7 +4,6 @@
 use crate::fixtures::*;
 use dwarf_bytes::{Cause, LoadFault};
 use dwarf_entries::{Range, Scope, ScopeKind, Scopes, Sections, TextOffset};
-use std::alloc::{AllocError, Global};
 use std::fmt::Debug;
 use std::process::Abort;
 use std::test::*;
@@ -15,8 +14,11 @@ pub fn are_equal<T: Copy + Debug + PartialEq>(rt: &impl Abort, told: T, wanted: 
 }
 
 /// Reads the scopes of these sections.
-pub fn scopes_of(alloc: Global, sections: &Sections<'_>) -> Result<Scopes, LoadFault> {
-    Scopes::read(alloc, sections)
+pub fn scopes_of(rt: &(impl Abort + AllocGlobal), sections: &Sections<'_>) -> Scopes {
+    match Scopes::read(rt.alloc(), sections) {
+        Ok(read) => read,
+        Err(_) => panic!(rt; "the sections are refused"),
+    }
 }
 
 /// Checks the fault of the sections, if any.
@@ -25,7 +27,7 @@ pub fn has_fault(
     sections: &Sections<'_>,
     fault: Option<LoadFault>,
 ) {
-    are_equal(rt, scopes_of(rt.alloc(), sections).err(), fault);
+    are_equal(rt, Scopes::read(rt.alloc(), sections).err(), fault);
 }
 
 /// Checks that the sections are refused with a fault of `.debug_info`.
@@ -39,10 +41,9 @@ pub fn have_fault(
     units: &[Unit<'_>],
     table: &[u8],
     fault: Option<LoadFault>,
-) -> Result<(), AllocError> {
-    let info = units_of(rt.alloc(), units)?;
+) {
+    let info = units_of(rt, units);
     has_fault(rt, &sections(&info, table), fault);
-    Ok(())
 }
 
 /// Checks that a unit with these entries is refused with a fault of `.debug_info`.
@@ -52,8 +53,8 @@ pub fn is_bad_unit(
     table: &[u8],
     cause: Cause,
     at: u64,
-) -> Result<(), AllocError> {
-    have_fault(rt, &[(1, 0, entries)], table, Some(fault(cause, at)))
+) {
+    have_fault(rt, &[(1, 0, entries)], table, Some(fault(cause, at)));
 }
 
 /// Checks that the sections are read or refused as expected, and that the only scope has these
@@ -63,7 +64,7 @@ pub fn covers_or_is_refused(
     sections: &Sections<'_>,
     wanted: Result<&[Range], LoadFault>,
 ) {
-    match scopes_of(rt.alloc(), sections) {
+    match Scopes::read(rt.alloc(), sections) {
         Ok(read) => are_equal(rt, only_ranges(&read), wanted.ok()),
         Err(told) => are_equal(rt, Some(told), wanted.err()),
     }
@@ -84,7 +85,7 @@ pub fn is_named_or_refused(
     sections: &Sections<'_>,
     wanted: Result<Option<TextOffset>, LoadFault>,
 ) {
-    match scopes_of(rt.alloc(), sections) {
+    match Scopes::read(rt.alloc(), sections) {
         Ok(read) => are_equal(rt, only_name(&read), wanted.ok()),
         Err(told) => are_equal(rt, Some(told), wanted.err()),
     }

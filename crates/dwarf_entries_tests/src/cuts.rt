@@ -2,7 +2,7 @@
 
 use crate::fixtures::*;
 use dwarf_bytes::{Cause, LoadFault, Section};
-use dwarf_entries::Sections;
+use dwarf_entries::{Scopes, Sections};
 use dwarf_samples::inlined;
 use std::process::Abort;
 use std::test::*;
@@ -28,31 +28,29 @@ fn is_cut(
     sections: &Sections<'_>,
     fault: Option<LoadFault>,
 ) {
-    let told = scopes_of(rt.alloc(), sections).err();
+    let told = Scopes::read(rt.alloc(), sections).err();
     are_equal(rt, (size, told), (size, fault));
 }
 
 /// `.debug_info` truncated to each size. An empty section has no unit, and any other size
 /// truncates the unit.
 #[test]
-fn a_unit_past_the_end(rt: HostRuntime) -> Result<(), Fail> {
-    let whole = sections_of(inlined())?;
+fn a_unit_past_the_end(rt: HostRuntime) {
+    let whole = sections_of(&rt, inlined());
     are_equal(&rt, whole.debug_info.len(), 96);
     for size in 1..96 {
         let cut = sections(start(whole.debug_info, size), whole.debug_abbrev);
         is_cut(&rt, size, &cut, Some(fault(Cause::Short, 0)));
     }
     has_fault(&rt, &whole, None);
-    Ok(())
 }
 
 #[test]
-fn no_unit(rt: HostRuntime) -> Result<(), Fail> {
-    let whole = sections_of(inlined())?;
-    let read = scopes_of(rt.alloc(), &sections(&[], whole.debug_abbrev))?;
+fn no_unit(rt: HostRuntime) {
+    let whole = sections_of(&rt, inlined());
+    let read = scopes_of(&rt, &sections(&[], whole.debug_abbrev));
     let empty = (read.roots().is_empty(), read.scopes().is_empty());
     are_equal(&rt, empty, (true, true));
-    Ok(())
 }
 
 /// Returns the fault of the first object if the length of its unit is reduced to `size` bytes.
@@ -80,8 +78,8 @@ fn fault_of_a_unit_of(size: usize) -> Option<LoadFault> {
 }
 
 #[test]
-fn a_unit_of_each_length(rt: HostRuntime) -> Result<(), Fail> {
-    let whole = sections_of(inlined())?;
+fn a_unit_of_each_length(rt: HostRuntime) {
+    let whole = sections_of(&rt, inlined());
     let mut info = [0; 96];
     info.copy_from_slice(&inlined()[163..259]);
     for size in 4u8..97 {
@@ -90,7 +88,6 @@ fn a_unit_of_each_length(rt: HostRuntime) -> Result<(), Fail> {
         let cut = sections(unit, whole.debug_abbrev);
         is_cut(&rt, unit.len(), &cut, fault_of_a_unit_of(unit.len()));
     }
-    Ok(())
 }
 
 /// Returns the offset of the declaration that is truncated in a table of this size.
@@ -105,14 +102,13 @@ fn cut_declaration(size: usize) -> u64 {
 }
 
 #[test]
-fn cut_abbreviation_tables(rt: HostRuntime) -> Result<(), Fail> {
-    let whole = sections_of(inlined())?;
+fn cut_abbreviation_tables(rt: HostRuntime) {
+    let whole = sections_of(&rt, inlined());
     are_equal(&rt, whole.debug_abbrev.len(), 43);
     for size in 0..43 {
         let cut = sections(whole.debug_info, start(whole.debug_abbrev, size));
         is_cut(&rt, size, &cut, Some(cut_at(cut_declaration(size))));
     }
-    Ok(())
 }
 
 /// The declarations of a unit and of a block, both with children. The block has two unused
@@ -123,13 +119,20 @@ const BLOCKS: [u8; 15] = [
 
 /// Truncated blocks: a block at offset 13 of each size, and a block after it that lacks one byte.
 #[test]
-fn cut_blocks(rt: HostRuntime) -> Result<(), Fail> {
-    is_bad_unit(&rt, &[1, 2], &BLOCKS, Cause::Short, 13)?;
-    is_bad_unit(&rt, &[1, 2, 0], &BLOCKS, Cause::Short, 13)?;
-    is_bad_unit(&rt, &[1, 2, 0, 0], &BLOCKS, Cause::Short, 13)?;
-    is_bad_unit(&rt, &[1, 2, 0, 0, 0], &BLOCKS, Cause::TreeOpen, 0)?;
-    is_bad_unit(&rt, &[1, 2, 0, 0, 0, 2, 0, 0], &BLOCKS, Cause::Short, 17)?;
-    let info = unit(rt.alloc(), &[1, 2, 0, 0, 0, 2, 0, 0, 0, 0, 0, 0])?;
+fn cut_blocks(rt: HostRuntime) {
+    let refused: [(&[u8], Cause, u64); 5] = [
+        // the block at offset 13, without some or all of its three bytes
+        (&[1, 2], Cause::Short, 13),
+        (&[1, 2, 0], Cause::Short, 13),
+        (&[1, 2, 0, 0], Cause::Short, 13),
+        // the whole block, whose list of children is not terminated
+        (&[1, 2, 0, 0, 0], Cause::TreeOpen, 0),
+        // a block after it, at offset 17, that lacks one byte
+        (&[1, 2, 0, 0, 0, 2, 0, 0], Cause::Short, 17),
+    ];
+    for (entries, cause, at) in refused {
+        is_bad_unit(&rt, entries, &BLOCKS, cause, at);
+    }
+    let info = unit(&rt, &[1, 2, 0, 0, 0, 2, 0, 0, 0, 0, 0, 0]);
     has_fault(&rt, &sections(&info, &BLOCKS), None);
-    Ok(())
 }

@@ -1,7 +1,7 @@
 //! Tombstones: scopes and range list entries whose start or base is 2^64-1.
 
 use crate::fixtures::*;
-use dwarf_bytes::Cause;
+use dwarf_bytes::{Cause, LoadFault};
 use dwarf_entries::{Range, Scopes, Sections};
 use std::process::Abort;
 use std::test::*;
@@ -26,17 +26,24 @@ fn covers(
     scope: Attributes<'_>,
     list: &[u8],
     wanted: Result<&[Range], Cause>,
-) -> Result<(), Fail> {
+) {
     // low_pc as addr, addr_base as sec_offset
     let root: Attributes<'_> = (&[0x11, 1, 0x73, 0x17], root);
-    let object = OneScope::new(rt.alloc(), root, scope)?;
+    let object = OneScope::new(rt, root, scope);
     let all = Sections {
         debug_addr: &ADDRESSES,
         debug_rnglists: list,
         ..object.sections()
     };
-    covers_or_is_refused(rt, &all, wanted.map_err(|cause| fault(cause, 25)));
-    Ok(())
+    covers_or_is_refused(rt, &all, at_25(wanted));
+}
+
+/// Returns these ranges, or a fault at offset 25.
+fn at_25(wanted: Result<&[Range], Cause>) -> Result<&[Range], LoadFault> {
+    match wanted {
+        Ok(ranges) => Ok(ranges),
+        Err(cause) => Err(fault(cause, 25)),
+    }
 }
 
 /// Checks the ranges of a list with these entries.
@@ -45,15 +52,14 @@ fn lists(
     root: &[u8],
     list: &[u8],
     wanted: Result<&[Range], Cause>,
-) -> Result<(), Fail> {
-    covers(rt, root, (&[0x55, 0x17], &[0, 0, 0, 0]), list, wanted)
+) {
+    covers(rt, root, (&[0x55, 0x17], &[0, 0, 0, 0]), list, wanted);
 }
 
 /// Each list has an entry with a tombstone, whose range would otherwise overflow or be backwards,
 /// followed by start_length 0x3000, 5.
 #[test]
-fn entries_of_each_kind(rt: HostRuntime) -> Result<(), Fail> {
-    let good = [range(0x3000, 0x3005)];
+fn entries_of_each_kind(rt: HostRuntime) {
     let entries: [&[u8]; 6] = [
         // startx_endx 1 and 0, startx_length 1, 0x10
         &[2, 1, 0],
@@ -68,27 +74,31 @@ fn entries_of_each_kind(rt: HostRuntime) -> Result<(), Fail> {
         &[1, 1, 4, 2, 1],
     ];
     for entry in entries {
-        let mut list = Vec::new(rt.alloc());
-        list.extend_from_slice(entry)?;
-        list.extend_from_slice(&[7, 0, 0x30, 0, 0, 0, 0, 0, 0, 5, 0])?;
-        lists(&rt, &BELOW, &list, Ok(&good))?;
+        is_skipped(&rt, entry);
     }
-    Ok(())
+}
+
+/// Checks that only start_length 0x3000, 5 gives a range in a list that starts with these bytes.
+fn is_skipped(rt: &(impl Abort + AllocGlobal), start: &[u8]) {
+    let mut list = Vec::new(rt.alloc());
+    put(rt, &mut list, start);
+    put(rt, &mut list, &[7, 0, 0x30, 0, 0, 0, 0, 0, 0, 5, 0]);
+    lists(rt, &BELOW, &list, Ok(&[range(0x3000, 0x3005)]));
 }
 
 /// offset_pair 0 to 8 relative to the low_pc of the unit, and offset_pair 1 to 3 relative to a
 /// base that the list sets after it.
 #[test]
-fn offsets_from_a_low_pc(rt: HostRuntime) -> Result<(), Fail> {
+fn offsets_from_a_low_pc(rt: HostRuntime) {
     let list = [4, 0, 8, 5, 0, 0x20, 0, 0, 0, 0, 0, 0, 4, 1, 3, 0];
     let second = range(0x2001, 0x2003);
-    lists(&rt, &BELOW, &list, Ok(&[range(0x1000, 0x1008), second]))?;
-    lists(&rt, &DROPPED, &list, Ok(&[second]))
+    lists(&rt, &BELOW, &list, Ok(&[range(0x1000, 0x1008), second]));
+    lists(&rt, &DROPPED, &list, Ok(&[second]));
 }
 
 /// The operands after a tombstone are read and resolved.
 #[test]
-fn operands_are_judged(rt: HostRuntime) -> Result<(), Fail> {
+fn operands_are_judged(rt: HostRuntime) {
     let entries: [(&[u8], Cause); 7] = [
         (&[2, 1], Cause::Short),
         (&[2, 1, 2, 0], Cause::Index),
@@ -107,13 +117,12 @@ fn operands_are_judged(rt: HostRuntime) -> Result<(), Fail> {
         (&[1, 1, 8], Cause::RangeKind),
     ];
     for (list, cause) in entries {
-        lists(&rt, &BELOW, list, Err(cause))?;
+        lists(&rt, &BELOW, list, Err(cause));
     }
-    Ok(())
 }
 
 #[test]
-fn pairs(rt: HostRuntime) -> Result<(), Fail> {
+fn pairs(rt: HostRuntime) {
     let top = [0xff; 8];
     let both = [
         0xff, 0xff, 0xff, 0xff, 0xff, 0xff, 0xff, 0xff, 0, 0x10, 0, 0, 0, 0, 0, 0,
@@ -135,14 +144,13 @@ fn pairs(rt: HostRuntime) -> Result<(), Fail> {
         (&[0x11, 1, 0x55, 0x17], &with_list, Err(Cause::PcAndRanges)),
     ];
     for (declared, values, wanted) in pairs {
-        covers(&rt, &BELOW, (declared, values), &[0], wanted)?;
+        covers(&rt, &BELOW, (declared, values), &[0], wanted);
     }
-    Ok(())
 }
 
 /// A sum of 2^64-1 is not a tombstone, and neither is an end of 2^64-1.
 #[test]
-fn sums_and_ends_at_the_top(rt: HostRuntime) -> Result<(), Fail> {
+fn sums_and_ends_at_the_top(rt: HostRuntime) {
     let last = [range(u64::MAX - 1, u64::MAX)];
     let none: [Range; 0] = [];
     let pairs: [(u8, u8, Result<&[Range], Cause>); 4] = [
@@ -156,18 +164,11 @@ fn sums_and_ends_at_the_top(rt: HostRuntime) -> Result<(), Fail> {
         let list = [
             5, 0xfe, 0xff, 0xff, 0xff, 0xff, 0xff, 0xff, 0xff, 4, from, to, 0,
         ];
-        lists(&rt, &BELOW, &list, wanted)?;
+        lists(&rt, &BELOW, &list, wanted);
     }
-    let entries: [(&[u8], Result<&[Range], Cause>); 2] = [
-        // start_length, and startx_endx 0 and 1
-        (
-            &[7, 0xfe, 0xff, 0xff, 0xff, 0xff, 0xff, 0xff, 0xff, 1, 0],
-            Ok(&last),
-        ),
-        (&[2, 0, 1, 0], Ok(&[range(0x1000, u64::MAX)])),
-    ];
-    for (list, wanted) in entries {
-        lists(&rt, &BELOW, list, wanted)?;
-    }
-    Ok(())
+    // start_length 2^64-2, 1
+    let list = [7, 0xfe, 0xff, 0xff, 0xff, 0xff, 0xff, 0xff, 0xff, 1, 0];
+    lists(&rt, &BELOW, &list, Ok(&last));
+    // startx_endx 0 and 1
+    lists(&rt, &BELOW, &[2, 0, 1, 0], Ok(&[range(0x1000, u64::MAX)]));
 }

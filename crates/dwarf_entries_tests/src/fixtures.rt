@@ -6,7 +6,8 @@ pub use crate::checks::{
 };
 use dwarf_bytes::{Cause, LoadFault, Object, Section};
 use dwarf_entries::{Range, Root, Sections, TextOffset};
-use std::alloc::{AllocError, Global};
+use std::process::Abort;
+use std::test::*;
 
 /// Returns sections with these entries and abbreviations. All other sections are empty.
 pub fn sections<'a>(debug_info: &'a [u8], debug_abbrev: &'a [u8]) -> Sections<'a> {
@@ -23,43 +24,60 @@ pub fn sections<'a>(debug_info: &'a [u8], debug_abbrev: &'a [u8]) -> Sections<'a
 }
 
 /// Returns the sections of a sample object.
-pub fn sections_of(object: &[u8]) -> Result<Sections<'_>, LoadFault> {
-    Ok(Sections::of(object, &Object::find(object)?))
+pub fn sections_of<'a>(rt: &impl Abort, object: &'a [u8]) -> Sections<'a> {
+    match Object::find(object) {
+        Ok(layout) => Sections::of(object, &layout),
+        Err(_) => panic!(rt; "the object is refused"),
+    }
+}
+
+/// Appends bytes.
+pub fn put(rt: &impl Abort, bytes: &mut Vec<u8>, more: &[u8]) {
+    if bytes.extend_from_slice(more).is_err() {
+        panic!(rt; "out of memory");
+    }
+}
+
+/// Appends `count` copies of a byte.
+pub fn put_copies(rt: &impl Abort, bytes: &mut Vec<u8>, byte: u8, count: usize) {
+    for _ in 0..count {
+        put(rt, bytes, &[byte]);
+    }
 }
 
 /// Appends a unit of a type, with the offset of its abbreviations and its entries.
 pub fn add_unit(
+    rt: &impl Abort,
     info: &mut Vec<u8>,
     unit_type: u8,
     abbreviations: u8,
     entries: &[u8],
-) -> Result<(), AllocError> {
+) {
     let unit_length = u32::try_from(entries.len()).unwrap_or(0).saturating_add(8);
-    info.extend_from_slice(&unit_length.to_le_bytes())?;
+    put(rt, info, &unit_length.to_le_bytes());
     // version, unit_type, address_size, debug_abbrev_offset
-    info.extend_from_slice(&[5, 0, unit_type, 8, abbreviations, 0, 0, 0])?;
-    info.extend_from_slice(entries)?;
-    Ok(())
+    put(rt, info, &[5, 0, unit_type, 8, abbreviations, 0, 0, 0]);
+    put(rt, info, entries);
 }
 
 /// Builds a compilation unit with these entries, whose abbreviations are at offset 0. Its first
 /// entry is at offset 12.
-pub fn unit(alloc: Global, entries: &[u8]) -> Result<Vec<u8>, AllocError> {
-    let mut info = Vec::new(alloc);
-    add_unit(&mut info, 1, 0, entries)?;
-    Ok(info)
+pub fn unit(rt: &(impl Abort + AllocGlobal), entries: &[u8]) -> Vec<u8> {
+    let mut info = Vec::new(rt.alloc());
+    add_unit(rt, &mut info, 1, 0, entries);
+    info
 }
 
 /// A unit: its type, the offset of its abbreviations, and its entries.
 pub type Unit<'a> = (u8, u8, &'a [u8]);
 
 /// Builds contiguous units.
-pub fn units_of(alloc: Global, units: &[Unit<'_>]) -> Result<Vec<u8>, AllocError> {
-    let mut info = Vec::new(alloc);
+pub fn units_of(rt: &(impl Abort + AllocGlobal), units: &[Unit<'_>]) -> Vec<u8> {
+    let mut info = Vec::new(rt.alloc());
     for (unit_type, abbreviations, entries) in units {
-        add_unit(&mut info, *unit_type, *abbreviations, entries)?;
+        add_unit(rt, &mut info, *unit_type, *abbreviations, entries);
     }
-    Ok(info)
+    info
 }
 
 /// The attributes of an entry: pairs of a name and a form, and their values.
@@ -68,32 +86,32 @@ pub type Attributes<'a> = (&'a [u8], &'a [u8]);
 /// Builds the declarations of a compilation unit with children and of a subprogram without
 /// children.
 pub fn declarations(
-    alloc: Global,
+    rt: &(impl Abort + AllocGlobal),
     root: Attributes<'_>,
     scope: Attributes<'_>,
-) -> Result<Vec<u8>, AllocError> {
-    let mut table = Vec::new(alloc);
-    table.extend_from_slice(&[1, 0x11, 1])?;
-    table.extend_from_slice(root.0)?;
-    table.extend_from_slice(&[0, 0, 2, 0x2e, 0])?;
-    table.extend_from_slice(scope.0)?;
-    table.extend_from_slice(&[0, 0, 0])?;
-    Ok(table)
+) -> Vec<u8> {
+    let mut table = Vec::new(rt.alloc());
+    put(rt, &mut table, &[1, 0x11, 1]);
+    put(rt, &mut table, root.0);
+    put(rt, &mut table, &[0, 0, 2, 0x2e, 0]);
+    put(rt, &mut table, scope.0);
+    put(rt, &mut table, &[0, 0, 0]);
+    table
 }
 
 /// Builds a unit with one subprogram. Its root is at offset 12, and the subprogram follows it.
 pub fn one_scope(
-    alloc: Global,
+    rt: &(impl Abort + AllocGlobal),
     root: Attributes<'_>,
     scope: Attributes<'_>,
-) -> Result<Vec<u8>, AllocError> {
-    let mut entries = Vec::new(alloc);
-    entries.push(1)?;
-    entries.extend_from_slice(root.1)?;
-    entries.push(2)?;
-    entries.extend_from_slice(scope.1)?;
-    entries.push(0)?;
-    unit(alloc, &entries)
+) -> Vec<u8> {
+    let mut entries = Vec::new(rt.alloc());
+    put(rt, &mut entries, &[1]);
+    put(rt, &mut entries, root.1);
+    put(rt, &mut entries, &[2]);
+    put(rt, &mut entries, scope.1);
+    put(rt, &mut entries, &[0]);
+    unit(rt, &entries)
 }
 
 /// A unit with one subprogram, and the declarations of both.
@@ -105,13 +123,13 @@ pub struct OneScope {
 
 impl OneScope {
     pub fn new(
-        alloc: Global,
+        rt: &(impl Abort + AllocGlobal),
         root: Attributes<'_>,
         scope: Attributes<'_>,
-    ) -> Result<OneScope, AllocError> {
-        let info = one_scope(alloc, root, scope)?;
-        let table = declarations(alloc, root, scope)?;
-        Ok(OneScope { info, table })
+    ) -> OneScope {
+        let info = one_scope(rt, root, scope);
+        let table = declarations(rt, root, scope);
+        OneScope { info, table }
     }
 
     /// Returns sections with its entries and abbreviations. All other sections are empty.
@@ -126,6 +144,14 @@ pub fn fault(cause: Cause, at: u64) -> LoadFault {
         section: Section::DebugInfo,
         cause,
         at,
+    }
+}
+
+/// Returns a fault of `.debug_info` if there is a cause.
+pub fn fault_if(cause: Option<Cause>, at: u64) -> Option<LoadFault> {
+    match cause {
+        Some(cause) => Some(fault(cause, at)),
+        None => None,
     }
 }
 

@@ -4,7 +4,6 @@ use crate::fixtures::*;
 use dwarf_bytes::{Cause, LoadFault, Section};
 use dwarf_entries::{Range, Root, ScopeKind, Sections, TextOffset};
 use dwarf_samples::{inlined, unit_of_64_bits};
-use std::alloc::{AllocError, Global};
 use std::process::Abort;
 use std::test::*;
 
@@ -12,18 +11,21 @@ use std::test::*;
 /// scopes. `first` and `last` are relative to the unit: the first subprogram and the second
 /// inlined one.
 fn rows(start: usize, before: usize, first: usize, last: usize) -> [Row; 5] {
-    let at = |offset: usize| start.saturating_add(offset);
-    let end = |number: usize| before.saturating_add(number);
-    let mid = text(Section::DebugInfo, at(first.saturating_add(1)));
-    let leaf = text(Section::DebugInfo, at(first.saturating_add(6)));
-    let main = text(Section::DebugInfo, at(first.saturating_add(12)));
+    let first = start.saturating_add(first);
+    let last = start.saturating_add(last);
+    let at_leaf = first.saturating_add(5);
+    let two = before.saturating_add(2);
+    let end = before.saturating_add(5);
+    let mid = text(Section::DebugInfo, first.saturating_add(1));
+    let leaf = text(Section::DebugInfo, first.saturating_add(6));
+    let main = text(Section::DebugInfo, first.saturating_add(12));
     let main_range = Some(range(0x1000, 0x1010));
     [
-        subprogram(at(first), end(1), None, mid),
-        subprogram(at(first.saturating_add(5)), end(2), None, leaf),
-        subprogram(at(first.saturating_add(11)), end(5), main_range, main),
-        inlined_row(at(last.saturating_sub(19)), end(5), 0x100c, mid, 20),
-        inlined_row(at(last), end(5), 0x1008, leaf, 5),
+        subprogram(first, before.saturating_add(1), None, mid),
+        subprogram(at_leaf, two, None, leaf),
+        subprogram(first.saturating_add(11), end, main_range, main),
+        inlined_row(last.saturating_sub(19), end, 0x100c, mid, 20),
+        inlined_row(last, end, 0x1008, leaf, 5),
     ]
 }
 
@@ -58,36 +60,41 @@ fn root_of(offset: usize, first: usize, past: usize) -> Root {
 }
 
 #[test]
-fn a_unit_of_64_bits(rt: HostRuntime) -> Result<(), Fail> {
-    let table = sections_of(inlined())?.debug_abbrev;
-    let read = scopes_of(rt.alloc(), &sections(unit_of_64_bits(), table))?;
+fn a_unit_of_64_bits(rt: HostRuntime) {
+    let table = sections_of(&rt, inlined()).debug_abbrev;
+    let read = scopes_of(&rt, &sections(unit_of_64_bits(), table));
     are_equal(&rt, read.roots(), [root_of(24, 0, 5)].as_slice());
     are_scopes(&rt, &read, Some(0), &rows(0, 0, 41, 89));
-    Ok(())
 }
 
 /// Both units use the same table, and references are relative to the first byte of their own unit.
 #[test]
-fn units_of_both_formats(rt: HostRuntime) -> Result<(), Fail> {
-    let object = sections_of(inlined())?;
+fn units_of_both_formats(rt: HostRuntime) {
+    let object = sections_of(&rt, inlined());
     let mut info = Vec::new(rt.alloc());
-    info.extend_from_slice(object.debug_info)?;
-    info.extend_from_slice(unit_of_64_bits())?;
-    info.extend_from_slice(object.debug_info)?;
-    let read = scopes_of(rt.alloc(), &sections(&info, object.debug_abbrev))?;
+    put(&rt, &mut info, object.debug_info);
+    put(&rt, &mut info, unit_of_64_bits());
+    put(&rt, &mut info, object.debug_info);
+    let read = scopes_of(&rt, &sections(&info, object.debug_abbrev));
     let roots = [root_of(12, 0, 5), root_of(120, 5, 10), root_of(220, 10, 15)];
     are_equal(&rt, read.roots(), roots.as_slice());
     let mut wanted = Vec::new(rt.alloc());
-    wanted.extend_from_slice(&rows(0, 0, 25, 73))?;
-    wanted.extend_from_slice(&rows(96, 5, 41, 89))?;
-    wanted.extend_from_slice(&rows(208, 10, 25, 73))?;
+    put_rows(&rt, &mut wanted, rows(0, 0, 25, 73));
+    put_rows(&rt, &mut wanted, rows(96, 5, 41, 89));
+    put_rows(&rt, &mut wanted, rows(208, 10, 25, 73));
     are_scopes(&rt, &read, Some(0), &wanted);
-    Ok(())
+}
+
+/// Appends the scopes of a unit.
+fn put_rows(rt: &impl Abort, wanted: &mut Vec<Row>, rows: [Row; 5]) {
+    if wanted.extend_from_slice(&rows).is_err() {
+        panic!(rt; "out of memory");
+    }
 }
 
 #[test]
-fn refused_lengths(rt: HostRuntime) -> Result<(), Fail> {
-    let table = sections_of(inlined())?.debug_abbrev;
+fn refused_lengths(rt: HostRuntime) {
+    let table = sections_of(&rt, inlined()).debug_abbrev;
     for (place, byte, cause) in [
         // reserved, one byte too long, and beyond all sections
         (0, 0xf0, Cause::Length),
@@ -101,13 +108,12 @@ fn refused_lengths(rt: HostRuntime) -> Result<(), Fail> {
         info[place] = byte;
         is_refused(&rt, &sections(&info, table), cause, 0);
     }
-    Ok(())
 }
 
 /// Truncated units of the 64-bit format.
 #[test]
-fn cut_units(rt: HostRuntime) -> Result<(), Fail> {
-    let table = sections_of(inlined())?.debug_abbrev;
+fn cut_units(rt: HostRuntime) {
+    let table = sections_of(&rt, inlined()).debug_abbrev;
     // without the last null entry
     let mut info = *unit_of_64_bits();
     info[4] = 0x63;
@@ -118,18 +124,17 @@ fn cut_units(rt: HostRuntime) -> Result<(), Fail> {
         let cut = sections(&unit_of_64_bits()[..size], table);
         is_refused(&rt, &cut, Cause::Short, 0);
     }
-    Ok(())
 }
 
 /// Builds a unit of the 64-bit format with these entries. Its first entry is at offset 24.
-fn wide_unit(alloc: Global, entries: &[u8]) -> Result<Vec<u8>, AllocError> {
+fn wide_unit(rt: &(impl Abort + AllocGlobal), entries: &[u8]) -> Vec<u8> {
     let unit_length = u64::try_from(entries.len()).unwrap_or(0).saturating_add(12);
-    let mut info = Vec::new(alloc);
-    info.extend_from_slice(&[0xff; 4])?;
-    info.extend_from_slice(&unit_length.to_le_bytes())?;
-    info.extend_from_slice(&[5, 0, 1, 8, 0, 0, 0, 0, 0, 0, 0, 0])?;
-    info.extend_from_slice(entries)?;
-    Ok(info)
+    let mut info = Vec::new(rt.alloc());
+    put(rt, &mut info, &[0xff; 4]);
+    put(rt, &mut info, &unit_length.to_le_bytes());
+    put(rt, &mut info, &[5, 0, 1, 8, 0, 0, 0, 0, 0, 0, 0, 0]);
+    put(rt, &mut info, entries);
+    info
 }
 
 /// The strings `ab` at offset 0 and `c` at offset 3.
@@ -153,38 +158,36 @@ fn is_indexed(
     index: u8,
     debug_str_offsets: &[u8],
     wanted: Result<Option<TextOffset>, LoadFault>,
-) -> Result<(), AllocError> {
+) {
     // str_offsets_base as sec_offset, and name as strx1
-    let table = declarations(rt.alloc(), (&[0x72, 0x17], &[]), (&[0x03, 0x25], &[]))?;
-    let info = wide_unit(rt.alloc(), &[1, base, 0, 0, 0, 0, 0, 0, 0, 2, index, 0])?;
+    let table = declarations(rt, (&[0x72, 0x17], &[]), (&[0x03, 0x25], &[]));
+    let info = wide_unit(rt, &[1, base, 0, 0, 0, 0, 0, 0, 0, 2, index, 0]);
     let all = Sections {
         debug_str: &TEXTS,
         debug_str_offsets,
         ..sections(&info, &table)
     };
     is_named_or_refused(rt, &all, wanted);
-    Ok(())
 }
 
 #[test]
-fn names_by_index(rt: HostRuntime) -> Result<(), Fail> {
+fn names_by_index(rt: HostRuntime) {
     let c = text(Section::DebugStr, 3);
     let ab = text(Section::DebugStr, 0);
-    is_indexed(&rt, 16, 0, &WIDE_OFFSETS, Ok(c))?;
-    is_indexed(&rt, 16, 1, &WIDE_OFFSETS, Ok(ab))?;
-    is_indexed(&rt, 16, 2, &WIDE_OFFSETS, Err(fault(Cause::Index, 33)))?;
-    is_indexed(&rt, 8, 0, &WIDE_OFFSETS, Err(fault(Cause::Base, 24)))?;
-    is_indexed(&rt, 33, 0, &WIDE_OFFSETS, Err(fault(Cause::Base, 24)))?;
+    is_indexed(&rt, 16, 0, &WIDE_OFFSETS, Ok(c));
+    is_indexed(&rt, 16, 1, &WIDE_OFFSETS, Ok(ab));
+    is_indexed(&rt, 16, 2, &WIDE_OFFSETS, Err(fault(Cause::Index, 33)));
+    is_indexed(&rt, 8, 0, &WIDE_OFFSETS, Err(fault(Cause::Base, 24)));
+    is_indexed(&rt, 33, 0, &WIDE_OFFSETS, Err(fault(Cause::Base, 24)));
     // a table of the other format
-    is_indexed(&rt, 24, 0, &SHORT_OFFSETS, Err(fault(Cause::Length, 24)))?;
-    Ok(())
+    is_indexed(&rt, 24, 0, &SHORT_OFFSETS, Err(fault(Cause::Length, 24)));
 }
 
 /// A unit of the 32-bit format that refers to a table of the 64-bit format.
 #[test]
-fn tables_of_the_other_format(rt: HostRuntime) -> Result<(), Fail> {
-    let table = declarations(rt.alloc(), (&[0x72, 0x17], &[]), (&[], &[]))?;
-    let info = unit(rt.alloc(), &[1, 8, 0, 0, 0, 2, 0])?;
+fn tables_of_the_other_format(rt: HostRuntime) {
+    let table = declarations(&rt, (&[0x72, 0x17], &[]), (&[], &[]));
+    let info = unit(&rt, &[1, 8, 0, 0, 0, 2, 0]);
     for (size, cause) in [(32, Cause::Length), (12, Cause::Length), (11, Cause::Short)] {
         let all = Sections {
             debug_str_offsets: &WIDE_OFFSETS[..size],
@@ -192,7 +195,6 @@ fn tables_of_the_other_format(rt: HostRuntime) -> Result<(), Fail> {
         };
         is_refused(&rt, &all, cause, 12);
     }
-    Ok(())
 }
 
 /// A table of the addresses 0x1000 and 0x2000, whose base is 16.
@@ -224,25 +226,23 @@ fn is_list(
     bases: (u8, u8),
     index: u8,
     wanted: Result<&[Range], LoadFault>,
-) -> Result<(), AllocError> {
+) {
     // addr_base and rnglists_base as sec_offset, and ranges as rnglistx
     let root: Attributes<'_> = (&[0x73, 0x17, 0x74, 0x17], &[]);
-    let table = declarations(rt.alloc(), root, (&[0x55, 0x23], &[]))?;
-    let info = wide_unit(rt.alloc(), &entries_by_index(bases.0, bases.1, index))?;
+    let table = declarations(rt, root, (&[0x55, 0x23], &[]));
+    let info = wide_unit(rt, &entries_by_index(bases.0, bases.1, index));
     let all = Sections {
         debug_addr: &ADDRESSES,
         debug_rnglists: &LISTS,
         ..sections(&info, &table)
     };
     covers_or_is_refused(rt, &all, wanted);
-    Ok(())
 }
 
 #[test]
-fn addresses_and_lists_by_index(rt: HostRuntime) -> Result<(), Fail> {
-    is_list(&rt, (16, 20), 0, Ok(&[range(0x1000, 0x2000)]))?;
-    is_list(&rt, (16, 20), 1, Err(fault(Cause::Index, 41)))?;
-    is_list(&rt, (8, 20), 0, Err(fault(Cause::Base, 24)))?;
-    is_list(&rt, (16, 16), 0, Err(fault(Cause::Base, 24)))?;
-    Ok(())
+fn addresses_and_lists_by_index(rt: HostRuntime) {
+    is_list(&rt, (16, 20), 0, Ok(&[range(0x1000, 0x2000)]));
+    is_list(&rt, (16, 20), 1, Err(fault(Cause::Index, 41)));
+    is_list(&rt, (8, 20), 0, Err(fault(Cause::Base, 24)));
+    is_list(&rt, (16, 16), 0, Err(fault(Cause::Base, 24)));
 }

@@ -3,7 +3,6 @@
 use crate::fixtures::*;
 use dwarf_bytes::{Cause, LoadFault, Section};
 use dwarf_entries::{Scope, Scopes, Sections, TextOffset};
-use std::alloc::AllocError;
 use std::process::Abort;
 use std::test::*;
 
@@ -29,36 +28,33 @@ fn is_indexed(
     base: u8,
     index: u8,
     wanted: Result<Option<TextOffset>, LoadFault>,
-) -> Result<(), AllocError> {
+) {
     // str_offsets_base, and name as strx1
     let base = [base, 0, 0, 0];
     let index = [index];
-    let object = OneScope::new(rt.alloc(), (&[0x72, 0x17], &base), (&[0x03, 0x25], &index))?;
+    let object = OneScope::new(rt, (&[0x72, 0x17], &base), (&[0x03, 0x25], &index));
     is_named_or_refused(rt, &with_texts(object.sections()), wanted);
-    Ok(())
 }
 
 #[test]
-fn names_by_index(rt: HostRuntime) -> Result<(), Fail> {
-    is_indexed(&rt, 8, 0, Ok(text(Section::DebugStr, 3)))?;
-    is_indexed(&rt, 8, 1, Ok(text(Section::DebugStr, 0)))?;
-    is_indexed(&rt, 8, 2, Err(fault(Cause::Index, 17)))?;
-    is_indexed(&rt, 7, 0, Err(fault(Cause::Base, 12)))?;
-    is_indexed(&rt, 16, 0, Err(fault(Cause::Short, 12)))?;
-    is_indexed(&rt, 17, 0, Err(fault(Cause::Base, 12)))?;
-    Ok(())
+fn names_by_index(rt: HostRuntime) {
+    is_indexed(&rt, 8, 0, Ok(text(Section::DebugStr, 3)));
+    is_indexed(&rt, 8, 1, Ok(text(Section::DebugStr, 0)));
+    is_indexed(&rt, 8, 2, Err(fault(Cause::Index, 17)));
+    is_indexed(&rt, 7, 0, Err(fault(Cause::Base, 12)));
+    is_indexed(&rt, 16, 0, Err(fault(Cause::Short, 12)));
+    is_indexed(&rt, 17, 0, Err(fault(Cause::Base, 12)));
 }
 
 #[test]
-fn a_name_by_index_without_a_base(rt: HostRuntime) -> Result<(), Fail> {
-    let object = OneScope::new(rt.alloc(), (&[], &[]), (&[0x03, 0x25], &[0]))?;
+fn a_name_by_index_without_a_base(rt: HostRuntime) {
+    let object = OneScope::new(&rt, (&[], &[]), (&[0x03, 0x25], &[0]));
     is_refused(&rt, &with_texts(object.sections()), Cause::Base, 13);
-    Ok(())
 }
 
 /// Reads a subprogram at offset 17 with a name in each form, or with an invalid name.
 #[test]
-fn forms_of_names(rt: HostRuntime) -> Result<(), Fail> {
+fn forms_of_names(rt: HostRuntime) {
     let ab = text(Section::DebugStr, 0);
     let names: [(u8, &[u8], Option<TextOffset>); 13] = [
         // string, in the entry itself
@@ -81,21 +77,26 @@ fn forms_of_names(rt: HostRuntime) -> Result<(), Fail> {
         (0x16, &[0x25, 1], ab),
     ];
     for (form, values, wanted) in names {
-        let declared = [0x03, form];
-        let root: Attributes<'_> = (&[0x72, 0x17], &[8, 0, 0, 0]);
-        let object = OneScope::new(rt.alloc(), root, (&declared, values))?;
-        let wanted = match wanted {
-            Some(_) => Ok(wanted),
-            None => Err(fault(Cause::Text, 17)),
-        };
-        is_named_or_refused(&rt, &with_texts(object.sections()), wanted);
+        has_name(&rt, form, values, wanted);
     }
-    Ok(())
+}
+
+/// Checks the name of a subprogram at offset 17, which has this form and these bytes. Without an
+/// expected name, the sections are refused.
+fn has_name(rt: &(impl Abort + AllocGlobal), form: u8, values: &[u8], wanted: Option<TextOffset>) {
+    let declared = [0x03, form];
+    let root: Attributes<'_> = (&[0x72, 0x17], &[8, 0, 0, 0]);
+    let object = OneScope::new(rt, root, (&declared, values));
+    let wanted = match wanted {
+        Some(_) => Ok(wanted),
+        None => Err(fault(Cause::Text, 17)),
+    };
+    is_named_or_refused(rt, &with_texts(object.sections()), wanted);
 }
 
 /// The index of a name is relative to the base of the unit that contains the name.
 #[test]
-fn names_of_another_unit(rt: HostRuntime) -> Result<(), Fail> {
+fn names_of_another_unit(rt: HostRuntime) {
     let table = [
         1, 0x11, 1, 0x72, 0x17, 0, 0, // unit: str_offsets_base
         2, 0x2e, 0, 0x03, 0x25, 0, 0, // subprogram: name as strx1
@@ -111,7 +112,7 @@ fn names_of_another_unit(rt: HostRuntime) -> Result<(), Fail> {
         // the origin 17 at offset 63, in a unit without a base
         (1, 0, &[4, 3, 17, 0, 0, 0, 0]),
     ];
-    let info = units_of(rt.alloc(), &units)?;
+    let info = units_of(&rt, &units);
     // a table with the offsets 3 and 0 at base 8, and a table with the offset 0 at base 24
     let offsets = [
         12, 0, 0, 0, 5, 0, 0, 0, 3, 0, 0, 0, 0, 0, 0, 0, 8, 0, 0, 0, 5, 0, 0, 0, 0, 0, 0, 0,
@@ -121,7 +122,7 @@ fn names_of_another_unit(rt: HostRuntime) -> Result<(), Fail> {
         debug_str_offsets: &offsets,
         ..sections(&info, &table)
     };
-    let read = scopes_of(rt.alloc(), &all)?;
+    let read = scopes_of(&rt, &all);
     are_equal(
         &rt,
         read.roots(),
@@ -130,7 +131,6 @@ fn names_of_another_unit(rt: HostRuntime) -> Result<(), Fail> {
     let c = text(Section::DebugStr, 3);
     let ab = text(Section::DebugStr, 0);
     have_names(&rt, &read, &[c, ab, ab, c, c]);
-    Ok(())
 }
 
 /// The declarations of subprograms with names and references.
@@ -181,9 +181,9 @@ fn both_of(scope: &Scope) -> (Option<TextOffset>, Option<TextOffset>) {
 }
 
 #[test]
-fn first_names_on_a_path(rt: HostRuntime) -> Result<(), Fail> {
-    let info = unit(rt.alloc(), &NAMED_ENTRIES)?;
-    let read = scopes_of(rt.alloc(), &sections(&info, &NAMED))?;
+fn first_names_on_a_path(rt: HostRuntime) {
+    let info = unit(&rt, &NAMED_ENTRIES);
+    let read = scopes_of(&rt, &sections(&info, &NAMED));
     let names = [
         (at(18), at(15)),
         (at(18), at(20)),
@@ -194,26 +194,23 @@ fn first_names_on_a_path(rt: HostRuntime) -> Result<(), Fail> {
         (None, None),
     ];
     have_both(&rt, &read, &names);
-    Ok(())
 }
 
 /// An origin chain may contain entries that are not scopes.
 #[test]
-fn paths_out_of_the_scopes(rt: HostRuntime) -> Result<(), Fail> {
-    let info = unit(rt.alloc(), &PATHS)?;
-    let read = scopes_of(rt.alloc(), &sections(&info, &OUTSIDE))?;
+fn paths_out_of_the_scopes(rt: HostRuntime) {
+    let info = unit(&rt, &PATHS);
+    let read = scopes_of(&rt, &sections(&info, &OUTSIDE));
     let both = (at(22), at(15));
     have_both(&rt, &read, &[both, both]);
-    Ok(())
 }
 
 /// The variable at offset 19 refers to offset 14, where there is no entry.
 #[test]
-fn a_path_to_no_entry(rt: HostRuntime) -> Result<(), Fail> {
+fn a_path_to_no_entry(rt: HostRuntime) {
     let mut entries = PATHS;
     entries[8] = 14;
-    is_bad_unit(&rt, &entries, &OUTSIDE, Cause::Reference, 17)?;
-    Ok(())
+    is_bad_unit(&rt, &entries, &OUTSIDE, Cause::Reference, 17);
 }
 
 /// The declarations of subprograms and variables with names and references.

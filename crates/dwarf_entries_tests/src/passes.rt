@@ -2,6 +2,7 @@
 
 use crate::fixtures::*;
 use dwarf_bytes::{Cause, LoadFault, Section};
+use std::process::Abort;
 use std::test::*;
 
 /// The declarations of the units below, and at offset 38 a table with an invalid declaration.
@@ -93,63 +94,62 @@ const FAULTS: [Bad<'static>; 5] = [
 /// If two units have faults, the fault of the earlier pass is reported. If both are of the same
 /// pass, the fault of the first unit is reported.
 #[test]
-fn faults_of_two_units(rt: HostRuntime) -> Result<(), Fail> {
+fn faults_of_two_units(rt: HostRuntime) {
     for (pass, first) in FAULTS.iter().enumerate() {
-        for (second_pass, second) in FAULTS.iter().enumerate() {
-            let start = first.len();
-            let wanted = if pass <= second_pass {
-                first.fault(0)
-            } else {
-                second.fault(start)
-            };
-            have_fault(&rt, &[first.unit(), second.unit()], &TABLES, Some(wanted))?;
-        }
+        is_before_each(&rt, pass, *first);
     }
-    Ok(())
+}
+
+/// Checks the fault of this unit, whose fault is of this pass, and each other unit after it.
+fn is_before_each(rt: &(impl Abort + AllocGlobal), pass: usize, first: Bad<'_>) {
+    for (second_pass, second) in FAULTS.iter().enumerate() {
+        let wanted = if pass <= second_pass {
+            first.fault(0)
+        } else {
+            second.fault(first.len())
+        };
+        have_fault(rt, &[first.unit(), second.unit()], &TABLES, Some(wanted));
+    }
 }
 
 /// A valid unit before or after an invalid one does not hide the fault.
 #[test]
-fn one_bad_unit_refuses_all(rt: HostRuntime) -> Result<(), Fail> {
+fn one_bad_unit_refuses_all(rt: HostRuntime) {
     let good: Unit<'_> = (1, 0, &[5, 6, 0]);
     for bad in FAULTS {
-        have_fault(&rt, &[good, bad.unit()], &TABLES, Some(bad.fault(15)))?;
-        have_fault(&rt, &[bad.unit(), good], &TABLES, Some(bad.fault(0)))?;
+        have_fault(&rt, &[good, bad.unit()], &TABLES, Some(bad.fault(15)));
+        have_fault(&rt, &[bad.unit(), good], &TABLES, Some(bad.fault(0)));
     }
-    Ok(())
 }
 
 /// In the pass over scopes, the names of the first scope are resolved before its ranges, and its
 /// ranges before the names of the next scope.
 #[test]
-fn faults_of_two_scopes(rt: HostRuntime) -> Result<(), Fail> {
+fn faults_of_two_scopes(rt: HostRuntime) {
     let first = [5, 4, 1, 3, 0, 0, 0, 0, 0];
-    is_bad_unit(&rt, &first, &TABLES, Cause::PcAndRanges, 13)?;
+    is_bad_unit(&rt, &first, &TABLES, Cause::PcAndRanges, 13);
     let second = [5, 3, 0, 0, 0, 0, 4, 1, 0];
-    is_bad_unit(&rt, &second, &TABLES, Cause::Reference, 13)?;
-    Ok(())
+    is_bad_unit(&rt, &second, &TABLES, Cause::Reference, 13);
 }
 
 /// The abbreviations of a unit without entries are validated. An empty table contains no code.
 #[test]
-fn tables_of_each_unit(rt: HostRuntime) -> Result<(), Fail> {
-    have_fault(&rt, &[(1, 37, &[])], &TABLES, None)?;
+fn tables_of_each_unit(rt: HostRuntime) {
+    have_fault(&rt, &[(1, 37, &[])], &TABLES, None);
     let fault_of_table = LoadFault {
         section: Section::DebugAbbrev,
         cause: Cause::Children,
         at: 38,
     };
-    have_fault(&rt, &[(1, 38, &[])], &TABLES, Some(fault_of_table))?;
+    have_fault(&rt, &[(1, 38, &[])], &TABLES, Some(fault_of_table));
     let no_code = Some(fault(Cause::AbbrevCode, 12));
-    have_fault(&rt, &[(1, 37, &[1])], &TABLES, no_code)?;
-    Ok(())
+    have_fault(&rt, &[(1, 37, &[1])], &TABLES, no_code);
 }
 
 /// A unit without entries has no root.
 #[test]
-fn no_entries(rt: HostRuntime) -> Result<(), Fail> {
-    let info = units_of(rt.alloc(), &[(1, 37, &[])])?;
-    let read = scopes_of(rt.alloc(), &sections(&info, &TABLES))?;
+fn no_entries(rt: HostRuntime) {
+    let info = units_of(&rt, &[(1, 37, &[])]);
+    let read = scopes_of(&rt, &sections(&info, &TABLES));
     are_equal(&rt, read.roots().is_empty(), true);
-    Ok(())
 }

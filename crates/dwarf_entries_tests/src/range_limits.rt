@@ -3,7 +3,6 @@
 use crate::fixtures::*;
 use dwarf_bytes::Cause;
 use dwarf_entries::Sections;
-use std::alloc::{AllocError, Global};
 use std::process::Abort;
 use std::test::*;
 
@@ -25,30 +24,30 @@ const PAIR: [u8; 10] = [3, 0xff, 0xff, 0xff, 0xff, 0xff, 0xff, 0xff, 0xff, 1];
 /// Builds a unit with this low_pc and `count` subprograms, followed by the entries `behind`. The
 /// first subprogram is at offset 21. Each has five bytes and refers to the list at offset 0.
 fn listed_scopes(
-    alloc: Global,
+    rt: &(impl Abort + AllocGlobal),
     low_pc: &[u8; 8],
     count: usize,
     behind: &[u8],
-) -> Result<Vec<u8>, AllocError> {
-    let mut entries = Vec::new(alloc);
-    entries.push(1)?;
-    entries.extend_from_slice(low_pc)?;
+) -> Vec<u8> {
+    let mut entries = Vec::new(rt.alloc());
+    put(rt, &mut entries, &[1]);
+    put(rt, &mut entries, low_pc);
     for _ in 0..count {
-        entries.extend_from_slice(&[2, 0, 0, 0, 0])?;
+        put(rt, &mut entries, &[2, 0, 0, 0, 0]);
     }
-    entries.extend_from_slice(behind)?;
-    entries.push(0)?;
-    unit(alloc, &entries)
+    put(rt, &mut entries, behind);
+    put(rt, &mut entries, &[0]);
+    unit(rt, &entries)
 }
 
 /// Builds a list with `count` entries offset_pair 0 to 0.
-fn empty_pairs(alloc: Global, count: usize) -> Result<Vec<u8>, AllocError> {
-    let mut list = Vec::new(alloc);
+fn empty_pairs(rt: &(impl Abort + AllocGlobal), count: usize) -> Vec<u8> {
+    let mut list = Vec::new(rt.alloc());
     for _ in 0..count {
-        list.extend_from_slice(&[4, 0, 0])?;
+        put(rt, &mut list, &[4, 0, 0]);
     }
-    list.push(0)?;
-    Ok(list)
+    put(rt, &mut list, &[0]);
+    list
 }
 
 /// Checks whether a unit with this low_pc is refused at offset 341 for its range items. The list
@@ -59,38 +58,36 @@ fn has_too_many(
     count: usize,
     behind: &[u8],
     cause: Option<Cause>,
-) -> Result<(), Fail> {
-    let lists = empty_pairs(rt.alloc(), 65_536)?;
-    let info = listed_scopes(rt.alloc(), low_pc, count, behind)?;
+) {
+    let lists = empty_pairs(rt, 65_536);
+    let info = listed_scopes(rt, low_pc, count, behind);
     let all = Sections {
         debug_rnglists: &lists,
         ..sections(&info, &TABLE)
     };
-    has_fault(rt, &all, cause.map(|cause| fault(cause, 341)));
-    Ok(())
+    has_fault(rt, &all, fault_if(cause, 341));
 }
 
 /// 64 scopes use up the limit of 2^22 items. Entries with a tombstone count too, and so does a
 /// low_pc with a high_pc.
 #[test]
-fn range_items_of_an_object(rt: HostRuntime) -> Result<(), Fail> {
-    has_too_many(&rt, &LIVE, 65, &[], Some(Cause::TooMany))?;
-    has_too_many(&rt, &DROPPED, 64, &[], None)?;
-    has_too_many(&rt, &DROPPED, 64, &PAIR, Some(Cause::TooMany))
+fn range_items_of_an_object(rt: HostRuntime) {
+    has_too_many(&rt, &LIVE, 65, &[], Some(Cause::TooMany));
+    has_too_many(&rt, &DROPPED, 64, &[], None);
+    has_too_many(&rt, &DROPPED, 64, &PAIR, Some(Cause::TooMany));
 }
 
 #[test]
-fn empty_pairs_give_no_ranges(rt: HostRuntime) -> Result<(), Fail> {
-    let lists = empty_pairs(rt.alloc(), 65_536)?;
-    let info = listed_scopes(rt.alloc(), &LIVE, 64, &[])?;
+fn empty_pairs_give_no_ranges(rt: HostRuntime) {
+    let lists = empty_pairs(&rt, 65_536);
+    let info = listed_scopes(&rt, &LIVE, 64, &[]);
     let all = Sections {
         debug_rnglists: &lists,
         ..sections(&info, &TABLE)
     };
-    let read = scopes_of(rt.alloc(), &all)?;
+    let read = scopes_of(&rt, &all);
     are_equal(&rt, read.scopes().len(), 64);
     for scope in read.scopes() {
         are_equal(&rt, scope.ranges(&read).len(), 0);
     }
-    Ok(())
 }

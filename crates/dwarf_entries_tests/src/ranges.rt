@@ -23,21 +23,21 @@ pub const ADDRESSES: [u8; 24] = [
 ];
 
 #[test]
-fn a_list_of_two_scopes(rt: HostRuntime) -> Result<(), Fail> {
+fn a_list_of_two_scopes(rt: HostRuntime) {
     // low_pc as addr, and ranges as sec_offset
-    let table = declarations(rt.alloc(), (&[0x11, 0x01], &[]), (&[0x55, 0x17], &[]))?;
+    let table = declarations(&rt, (&[0x11, 0x01], &[]), (&[0x55, 0x17], &[]));
     let entries = [
         1, 0, 0x10, 0, 0, 0, 0, 0, 0, // 12: unit of low_pc 0x1000
         2, 0, 0, 0, 0, // 21: subprogram of the list at 0
         2, 0, 0, 0, 0, // 26: another one of the same list
         0,
     ];
-    let info = unit(rt.alloc(), &entries)?;
+    let info = unit(&rt, &entries);
     let all = Sections {
         debug_rnglists: &LIST,
         ..sections(&info, &table)
     };
-    let read = scopes_of(rt.alloc(), &all)?;
+    let read = scopes_of(&rt, &all);
     let ranges = [
         range(0x1000, 0x1008),
         range(0x2001, 0x2003),
@@ -47,7 +47,6 @@ fn a_list_of_two_scopes(rt: HostRuntime) -> Result<(), Fail> {
     for scope in read.scopes() {
         cover(&rt, &read, scope, &ranges);
     }
-    Ok(())
 }
 
 /// Checks the ranges of a scope.
@@ -56,131 +55,112 @@ fn cover(rt: &impl Abort, read: &Scopes, scope: &Scope, ranges: &[Range]) {
 }
 
 #[test]
-fn a_list_without_a_base(rt: HostRuntime) -> Result<(), Fail> {
+fn a_list_without_a_base(rt: HostRuntime) {
     let scope: Attributes<'_> = (&[0x55, 0x17], &[0, 0, 0, 0]);
-    let object = OneScope::new(rt.alloc(), (&[], &[]), scope)?;
+    let object = OneScope::new(&rt, (&[], &[]), scope);
     let all = Sections {
         debug_rnglists: &LIST,
         ..object.sections()
     };
     is_refused(&rt, &all, Cause::Base, 13);
-    Ok(())
 }
 
-/// Checks lists at offset 0 that a subprogram at offset 13 refers to, in a unit without bases.
-/// Each list has no range, or has this fault.
-fn are_lists(
-    rt: &(impl Abort + AllocGlobal),
-    lists: &[(&[u8], Option<Cause>)],
-) -> Result<(), Fail> {
+/// Lists at offset 0 that a subprogram at offset 13 refers to, in a unit without bases. Each list
+/// has no range, or has this fault.
+const LISTS: [(&[u8], Option<Cause>); 21] = [
+    // no list, and a list that is not terminated
+    (&[], Some(Cause::Short)),
+    (&[5, 0, 0, 0, 0, 0, 0, 0, 0], Some(Cause::Short)),
+    // an unknown kind
+    (&[8], Some(Cause::RangeKind)),
+    (&[0xff, 0], Some(Cause::RangeKind)),
+    // nothing after the end of the list is read
+    (&[0, 8], None),
+    // indexes without a table
+    (&[1, 0, 0], Some(Cause::Base)),
+    (&[2, 0, 0, 0], Some(Cause::Base)),
+    (&[3, 0, 0, 0], Some(Cause::Base)),
+    // offset_pair without a base: the operands are read before the missing base is reported
+    (&[4, 0], Some(Cause::Short)),
+    (&[4, 0, 0, 0], Some(Cause::Base)),
+    // offsets beyond the highest address, which are reported before their order
+    (
+        &[
+            5, 0xfe, 0xff, 0xff, 0xff, 0xff, 0xff, 0xff, 0xff, 4, 2, 0, 0,
+        ],
+        Some(Cause::Overflow),
+    ),
+    (
+        &[
+            5, 0xfe, 0xff, 0xff, 0xff, 0xff, 0xff, 0xff, 0xff, 4, 0, 2, 0,
+        ],
+        Some(Cause::Overflow),
+    ),
+    // offsets up to the highest address: a sum that is the highest address is not a tombstone
+    (
+        &[
+            5, 0xfe, 0xff, 0xff, 0xff, 0xff, 0xff, 0xff, 0xff, 4, 1, 0, 0,
+        ],
+        Some(Cause::RangeBackwards),
+    ),
+    (
+        &[
+            5, 0xfe, 0xff, 0xff, 0xff, 0xff, 0xff, 0xff, 0xff, 4, 1, 1, 0,
+        ],
+        None,
+    ),
+    // offsets that are backwards
+    (
+        &[5, 0, 0, 0, 0, 0, 0, 0, 0, 4, 2, 1, 0],
+        Some(Cause::RangeBackwards),
+    ),
+    // start_end that is backwards, one that is empty, and one that is truncated
+    (
+        &[6, 2, 0, 0, 0, 0, 0, 0, 0, 1, 0, 0, 0, 0, 0, 0, 0, 0],
+        Some(Cause::RangeBackwards),
+    ),
+    (
+        &[6, 2, 0, 0, 0, 0, 0, 0, 0, 2, 0, 0, 0, 0, 0, 0, 0, 0],
+        None,
+    ),
+    (
+        &[6, 2, 0, 0, 0, 0, 0, 0, 0, 1, 0, 0, 0, 0, 0, 0],
+        Some(Cause::Short),
+    ),
+    // start_length beyond the highest address, one that is empty, and one that is truncated
+    (
+        &[7, 0xfe, 0xff, 0xff, 0xff, 0xff, 0xff, 0xff, 0xff, 2, 0],
+        Some(Cause::Overflow),
+    ),
+    (
+        &[7, 0xfe, 0xff, 0xff, 0xff, 0xff, 0xff, 0xff, 0xff, 0, 0],
+        None,
+    ),
+    (&[7, 0, 0, 0, 0, 0, 0, 0, 0, 0x80], Some(Cause::Short)),
+];
+
+#[test]
+fn lists_without_a_range(rt: HostRuntime) {
     let scope: Attributes<'_> = (&[0x55, 0x17], &[0, 0, 0, 0]);
-    let object = OneScope::new(rt.alloc(), (&[], &[]), scope)?;
-    for (list, cause) in lists {
-        let all = Sections {
-            debug_rnglists: list,
-            ..object.sections()
-        };
-        match cause {
-            None => covers_or_is_refused(rt, &all, Ok(&[])),
-            Some(cause) => is_refused(rt, &all, *cause, 13),
-        }
+    let object = OneScope::new(&rt, (&[], &[]), scope);
+    for (list, cause) in LISTS {
+        is_empty_or_refused(&rt, &object, list, cause);
     }
-    Ok(())
 }
 
-#[test]
-fn ends_and_kinds_of_lists(rt: HostRuntime) -> Result<(), Fail> {
-    let lists: [(&[u8], Option<Cause>); 5] = [
-        // no list, and a list that is not terminated
-        (&[], Some(Cause::Short)),
-        (&[5, 0, 0, 0, 0, 0, 0, 0, 0], Some(Cause::Short)),
-        // an unknown kind
-        (&[8], Some(Cause::RangeKind)),
-        (&[0xff, 0], Some(Cause::RangeKind)),
-        // nothing after the end of the list is read
-        (&[0, 8], None),
-    ];
-    are_lists(&rt, &lists)
-}
-
-#[test]
-fn list_entries_without_a_base(rt: HostRuntime) -> Result<(), Fail> {
-    let lists: [(&[u8], Option<Cause>); 5] = [
-        // indexes without a table
-        (&[1, 0, 0], Some(Cause::Base)),
-        (&[2, 0, 0, 0], Some(Cause::Base)),
-        (&[3, 0, 0, 0], Some(Cause::Base)),
-        // the operands are read before the missing base is reported
-        (&[4, 0], Some(Cause::Short)),
-        (&[4, 0, 0, 0], Some(Cause::Base)),
-    ];
-    are_lists(&rt, &lists)
-}
-
-/// Offsets beyond the highest address, which are reported before their order, and offsets up to
-/// it.
-#[test]
-fn offsets_from_a_base(rt: HostRuntime) -> Result<(), Fail> {
-    let lists: [(&[u8], Option<Cause>); 5] = [
-        (
-            &[
-                5, 0xfe, 0xff, 0xff, 0xff, 0xff, 0xff, 0xff, 0xff, 4, 2, 0, 0,
-            ],
-            Some(Cause::Overflow),
-        ),
-        (
-            &[
-                5, 0xfe, 0xff, 0xff, 0xff, 0xff, 0xff, 0xff, 0xff, 4, 0, 2, 0,
-            ],
-            Some(Cause::Overflow),
-        ),
-        // a sum that is the highest address is not a tombstone
-        (
-            &[
-                5, 0xfe, 0xff, 0xff, 0xff, 0xff, 0xff, 0xff, 0xff, 4, 1, 0, 0,
-            ],
-            Some(Cause::RangeBackwards),
-        ),
-        (
-            &[
-                5, 0xfe, 0xff, 0xff, 0xff, 0xff, 0xff, 0xff, 0xff, 4, 1, 1, 0,
-            ],
-            None,
-        ),
-        (
-            &[5, 0, 0, 0, 0, 0, 0, 0, 0, 4, 2, 1, 0],
-            Some(Cause::RangeBackwards),
-        ),
-    ];
-    are_lists(&rt, &lists)
-}
-
-#[test]
-fn ends_and_lengths_from_a_start(rt: HostRuntime) -> Result<(), Fail> {
-    let lists: [(&[u8], Option<Cause>); 6] = [
-        // start_end that is backwards, and one that is empty
-        (
-            &[6, 2, 0, 0, 0, 0, 0, 0, 0, 1, 0, 0, 0, 0, 0, 0, 0, 0],
-            Some(Cause::RangeBackwards),
-        ),
-        (
-            &[6, 2, 0, 0, 0, 0, 0, 0, 0, 2, 0, 0, 0, 0, 0, 0, 0, 0],
-            None,
-        ),
-        (
-            &[6, 2, 0, 0, 0, 0, 0, 0, 0, 1, 0, 0, 0, 0, 0, 0],
-            Some(Cause::Short),
-        ),
-        // start_length beyond the highest address
-        (
-            &[7, 0xfe, 0xff, 0xff, 0xff, 0xff, 0xff, 0xff, 0xff, 2, 0],
-            Some(Cause::Overflow),
-        ),
-        (
-            &[7, 0xfe, 0xff, 0xff, 0xff, 0xff, 0xff, 0xff, 0xff, 0, 0],
-            None,
-        ),
-        (&[7, 0, 0, 0, 0, 0, 0, 0, 0, 0x80], Some(Cause::Short)),
-    ];
-    are_lists(&rt, &lists)
+/// Checks that the subprogram has no range with this list, or that the list has this fault.
+fn is_empty_or_refused(
+    rt: &(impl Abort + AllocGlobal),
+    object: &OneScope,
+    list: &[u8],
+    cause: Option<Cause>,
+) {
+    let all = Sections {
+        debug_rnglists: list,
+        ..object.sections()
+    };
+    match cause {
+        None => covers_or_is_refused(rt, &all, Ok(&[])),
+        Some(cause) => is_refused(rt, &all, cause, 13),
+    }
 }

@@ -4,22 +4,20 @@ use crate::fixtures::*;
 use dwarf_bytes::{Cause, Section};
 use dwarf_entries::TextOffset;
 use dwarf_samples::inlined;
-use std::alloc::{AllocError, Global};
 use std::process::Abort;
 use std::test::*;
 
 /// Builds a chain of subprograms from offset 13 on. Each except the last refers to the next one,
 /// with `hops` references in all. The last is named `z`.
-fn linked(alloc: Global, hops: u8) -> Result<Vec<u8>, AllocError> {
-    let mut entries = Vec::new(alloc);
-    entries.push(1)?;
+fn linked(rt: &(impl Abort + AllocGlobal), hops: u8) -> Vec<u8> {
+    let mut entries = Vec::new(rt.alloc());
+    put(rt, &mut entries, &[1]);
     for hop in 1..=hops {
-        entries.push(2)?;
-        entries.push(hop.saturating_mul(5).saturating_add(13))?;
-        entries.extend_from_slice(&[0, 0, 0])?;
+        let next = hop.saturating_mul(5).saturating_add(13);
+        put(rt, &mut entries, &[2, next, 0, 0, 0]);
     }
-    entries.extend_from_slice(&[3, 0x7a, 0, 0])?;
-    unit(alloc, &entries)
+    put(rt, &mut entries, &[3, 0x7a, 0, 0]);
+    unit(rt, &entries)
 }
 
 /// A unit, a subprogram whose abstract_origin is ref4, and a subprogram with a name.
@@ -31,44 +29,41 @@ const LINKED: [u8; 20] = [
 ];
 
 #[test]
-fn linked_subprograms(rt: HostRuntime) -> Result<(), Fail> {
-    let info = linked(rt.alloc(), 16)?;
-    let read = scopes_of(rt.alloc(), &sections(&info, &LINKED))?;
+fn linked_subprograms(rt: HostRuntime) {
+    let info = linked(&rt, 16);
+    let read = scopes_of(&rt, &sections(&info, &LINKED));
     have_names(&rt, &read, &[text(Section::DebugInfo, 94); 17]);
-    Ok(())
 }
 
 #[test]
-fn one_hop_too_many(rt: HostRuntime) -> Result<(), Fail> {
-    let info = linked(rt.alloc(), 17)?;
+fn one_hop_too_many(rt: HostRuntime) {
+    let info = linked(&rt, 17);
     is_refused(&rt, &sections(&info, &LINKED), Cause::OriginDepth, 13);
-    Ok(())
 }
 
 /// A reference that exceeds the limit is not resolved, so it may be invalid.
 #[test]
-fn a_bad_reference_behind_the_last_hop(rt: HostRuntime) -> Result<(), Fail> {
-    let mut info = linked(rt.alloc(), 17)?;
+fn a_bad_reference_behind_the_last_hop(rt: HostRuntime) {
+    let mut info = linked(&rt, 17);
     are_equal(&rt, (info.len(), info.get(94)), (102, Some(&98)));
     if let Some(byte) = info.get_mut(94) {
         *byte = 0;
     }
     is_refused(&rt, &sections(&info, &LINKED), Cause::OriginDepth, 13);
-    Ok(())
 }
 
 /// Builds two units whose roots are named `q`, at offset 12, and `r`, at offset 28. The abstract
 /// origin of the subprogram at 31 has this value.
-fn referring(alloc: Global, value: &[u8]) -> Result<Vec<u8>, AllocError> {
-    let mut entries = Vec::new(alloc);
-    entries.extend_from_slice(&[1, 0x72, 0, 2])?;
-    entries.extend_from_slice(value)?;
-    entries.push(0)?;
-    units_of(alloc, &[(1, 0, &[1, 0x71, 0, 0]), (1, 0, &entries)])
+fn referring(rt: &(impl Abort + AllocGlobal), value: &[u8]) -> Vec<u8> {
+    let mut entries = Vec::new(rt.alloc());
+    put(rt, &mut entries, &[1, 0x72, 0, 2]);
+    put(rt, &mut entries, value);
+    put(rt, &mut entries, &[0]);
+    units_of(rt, &[(1, 0, &[1, 0x71, 0, 0]), (1, 0, &entries)])
 }
 
 #[test]
-fn forms_of_references(rt: HostRuntime) -> Result<(), Fail> {
+fn forms_of_references(rt: HostRuntime) {
     let q = text(Section::DebugInfo, 13);
     let r = text(Section::DebugInfo, 29);
     let references: [(u8, &[u8], Option<TextOffset>); 9] = [
@@ -86,27 +81,20 @@ fn forms_of_references(rt: HostRuntime) -> Result<(), Fail> {
         (0x16, &[0x11, 12], r),
     ];
     for (form, value, name) in references {
-        has_origin(&rt, form, value, name)?;
+        has_origin(&rt, form, value, name);
     }
-    Ok(())
 }
 
 /// Checks the name of the subprogram if its abstract origin has this form.
-fn has_origin(
-    rt: &(impl Abort + AllocGlobal),
-    form: u8,
-    value: &[u8],
-    name: Option<TextOffset>,
-) -> Result<(), Fail> {
-    let table = declarations(rt.alloc(), (&[0x03, 0x08], &[]), (&[0x31, form], &[]))?;
-    let info = referring(rt.alloc(), value)?;
-    let read = scopes_of(rt.alloc(), &sections(&info, &table))?;
+fn has_origin(rt: &(impl Abort + AllocGlobal), form: u8, value: &[u8], name: Option<TextOffset>) {
+    let table = declarations(rt, (&[0x03, 0x08], &[]), (&[0x31, form], &[]));
+    let info = referring(rt, value);
+    let read = scopes_of(rt, &sections(&info, &table));
     have_names(rt, &read, &[name]);
-    Ok(())
 }
 
 #[test]
-fn references_to_no_entry(rt: HostRuntime) -> Result<(), Fail> {
+fn references_to_no_entry(rt: HostRuntime) {
     let references: [(u8, &[u8]); 11] = [
         // ref_addr: a header, within a root, the null entries of both units, beyond the section
         (0x10, &[0, 0, 0, 0]),
@@ -124,18 +112,21 @@ fn references_to_no_entry(rt: HostRuntime) -> Result<(), Fail> {
         (0x14, &[0xff; 8]),
     ];
     for (form, value) in references {
-        let declared = [0x31, form];
-        let table = declarations(rt.alloc(), (&[0x03, 0x08], &[]), (&declared, &[]))?;
-        let info = referring(rt.alloc(), value)?;
-        is_refused(&rt, &sections(&info, &table), Cause::Reference, 31);
+        has_no_origin(&rt, form, value);
     }
-    Ok(())
+}
+
+/// Checks that the sections are refused if the abstract origin of the subprogram has this form.
+fn has_no_origin(rt: &(impl Abort + AllocGlobal), form: u8, value: &[u8]) {
+    let table = declarations(rt, (&[0x03, 0x08], &[]), (&[0x31, form], &[]));
+    let info = referring(rt, value);
+    is_refused(rt, &sections(&info, &table), Cause::Reference, 31);
 }
 
 /// References to null entries, to headers, and into the middle of entries of the first object.
 #[test]
-fn an_origin_that_is_no_entry(rt: HostRuntime) -> Result<(), Fail> {
-    let whole = sections_of(inlined())?;
+fn an_origin_that_is_no_entry(rt: HostRuntime) {
+    let whole = sections_of(&rt, inlined());
     let mut info = [0; 96];
     info.copy_from_slice(&inlined()[163..259]);
     for origin in [0, 11, 13, 26, 91, 92, 93, 94, 95, 96, 255] {
@@ -147,25 +138,22 @@ fn an_origin_that_is_no_entry(rt: HostRuntime) -> Result<(), Fail> {
             54,
         );
     }
-    Ok(())
 }
 
 /// A reference that is relative to a unit cannot leave it: ref4 to the root of the next unit.
 #[test]
-fn references_out_of_the_unit(rt: HostRuntime) -> Result<(), Fail> {
-    let table = declarations(rt.alloc(), (&[], &[]), (&[0x31, 0x13], &[]))?;
+fn references_out_of_the_unit(rt: HostRuntime) {
+    let table = declarations(&rt, (&[], &[]), (&[0x31, 0x13], &[]));
     let units: [Unit<'_>; 2] = [(1, 0, &[1, 2, 31, 0, 0, 0, 0]), (1, 0, &[1, 0])];
     let reference = Some(fault(Cause::Reference, 13));
-    have_fault(&rt, &units, &table, reference)?;
-    Ok(())
+    have_fault(&rt, &units, &table, reference);
 }
 
 /// Entries of type units are not read: ref_addr to what would be the root of the unit before.
 #[test]
-fn references_into_a_type_unit(rt: HostRuntime) -> Result<(), Fail> {
-    let table = declarations(rt.alloc(), (&[], &[]), (&[0x31, 0x10], &[]))?;
+fn references_into_a_type_unit(rt: HostRuntime) {
+    let table = declarations(&rt, (&[], &[]), (&[0x31, 0x10], &[]));
     let units: [Unit<'_>; 2] = [(2, 0, &[1, 0]), (1, 0, &[1, 2, 12, 0, 0, 0, 0])];
     let reference = Some(fault(Cause::Reference, 27));
-    have_fault(&rt, &units, &table, reference)?;
-    Ok(())
+    have_fault(&rt, &units, &table, reference);
 }

@@ -55,8 +55,8 @@ fn rows() -> [Row; 5] {
 }
 
 /// Checks that an object has one root and these scopes.
-fn has(rt: &(impl Abort + AllocGlobal), object: &[u8], rows: &[Row]) -> Result<(), Fail> {
-    let read = scopes_of(rt.alloc(), &sections_of(object)?)?;
+fn has(rt: &(impl Abort + AllocGlobal), object: &[u8], rows: &[Row]) {
+    let read = scopes_of(rt, &sections_of(rt, object));
     let root = Root {
         offset: 12,
         stmt_list: Some(0),
@@ -65,27 +65,27 @@ fn has(rt: &(impl Abort + AllocGlobal), object: &[u8], rows: &[Row]) -> Result<(
     };
     are_equal(rt, read.roots(), [root].as_slice());
     are_scopes(rt, &read, Some(0), rows);
-    Ok(())
 }
 
 #[test]
-fn scopes_of_a_sample(rt: HostRuntime) -> Result<(), Fail> {
-    has(&rt, inlined(), &rows())
+fn scopes_of_a_sample(rt: HostRuntime) {
+    has(&rt, inlined(), &rows());
 }
 
 /// Shared data is looked up by the number of the scope, in whatever `Scopes` is passed.
 #[test]
-fn scopes_of_another_object(rt: HostRuntime) -> Result<(), Fail> {
+fn scopes_of_another_object(rt: HostRuntime) {
     let bare = leaf_without_code();
-    let read = scopes_of(rt.alloc(), &sections_of(inlined())?)?;
-    let leaf = read.scopes().last().ok_or("no scope")?;
+    let read = scopes_of(&rt, &sections_of(&rt, inlined()));
+    let Some(leaf) = read.scopes().last() else {
+        panic!(rt; "no scope");
+    };
     let call = (Some(1), Some(5));
     tells(&rt, leaf, &read, Some(range(0x1004, 0x1008)), Some(0), call);
-    let other = scopes_of(rt.alloc(), &sections_of(&bare)?)?;
+    let other = scopes_of(&rt, &sections_of(&rt, &bare));
     tells(&rt, leaf, &other, None, Some(0), call);
-    let none = scopes_of(rt.alloc(), &sections(&[], &[]))?;
+    let none = scopes_of(&rt, &sections(&[], &[]));
     tells(&rt, leaf, &none, None, None, (None, None));
-    Ok(())
 }
 
 /// Checks the shared data of a scope: its range, its line program and its call.
@@ -103,54 +103,45 @@ fn tells(
 }
 
 #[test]
-fn line_programs_are_not_read(rt: HostRuntime) -> Result<(), Fail> {
-    has(&rt, two_sequences(), &rows())
+fn line_programs_are_not_read(rt: HostRuntime) {
+    has(&rt, two_sequences(), &rows());
 }
 
 #[test]
-fn a_scope_without_code(rt: HostRuntime) -> Result<(), Fail> {
+fn a_scope_without_code(rt: HostRuntime) {
     let mut rows = rows();
     rows[4].range = None;
-    has(&rt, &leaf_without_code(), &rows)
+    has(&rt, &leaf_without_code(), &rows);
 }
 
 /// The start of `main`, or of `mid` inlined into it, is the tombstone 2^64-1.
 #[test]
-fn scopes_of_dropped_code(rt: HostRuntime) -> Result<(), Fail> {
+fn scopes_of_dropped_code(rt: HostRuntime) {
     for (start, dropped) in [(205, 2), (222, 3)] {
         let mut object = *inlined();
-        for byte in &mut object[start..start + 8] {
-            *byte = 0xff;
-        }
+        object[start..start + 8].fill(0xff);
         let mut rows = rows();
         rows[dropped].range = None;
-        has(&rt, &object, &rows)?;
+        has(&rt, &object, &rows);
     }
-    Ok(())
 }
 
 #[test]
-fn a_call_file_is_not_judged(rt: HostRuntime) -> Result<(), Fail> {
+fn a_call_file_is_not_judged(rt: HostRuntime) {
     let mut rows = rows();
     rows[3].call = Some((2, 20));
-    has(&rt, &call_file_outside(), &rows)
+    has(&rt, &call_file_outside(), &rows);
 }
 
 /// Checks that an object is refused.
-fn is_refused_object(
-    rt: &(impl Abort + AllocGlobal),
-    object: &[u8],
-    fault: LoadFault,
-) -> Result<(), LoadFault> {
-    has_fault(rt, &sections_of(object)?, Some(fault));
-    Ok(())
+fn is_refused_object(rt: &(impl Abort + AllocGlobal), object: &[u8], fault: LoadFault) {
+    has_fault(rt, &sections_of(rt, object), Some(fault));
 }
 
 #[test]
-fn refused_samples(rt: HostRuntime) -> Result<(), Fail> {
-    is_refused_object(&rt, &cut_abbreviations(), cut_at(0))?;
-    is_refused_object(&rt, &circular_origins(), fault(Cause::OriginDepth, 54))?;
-    is_refused_object(&rt, &version_four(), fault(Cause::Version, 0))?;
-    is_refused_object(&rt, &origin_of_no_entry(), fault(Cause::Reference, 54))?;
-    Ok(())
+fn refused_samples(rt: HostRuntime) {
+    is_refused_object(&rt, &cut_abbreviations(), cut_at(0));
+    is_refused_object(&rt, &circular_origins(), fault(Cause::OriginDepth, 54));
+    is_refused_object(&rt, &version_four(), fault(Cause::Version, 0));
+    is_refused_object(&rt, &origin_of_no_entry(), fault(Cause::Reference, 54));
 }

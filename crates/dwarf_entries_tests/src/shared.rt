@@ -3,7 +3,6 @@
 
 use crate::fixtures::*;
 use dwarf_entries::{Range, Scopes, Sections};
-use std::alloc::{AllocError, Global};
 use std::process::Abort;
 use std::test::*;
 
@@ -41,11 +40,11 @@ const UNITS: [u8; 17] = [
 ];
 
 /// Builds a table of these declarations.
-fn table(alloc: Global, declarations: &[u8]) -> Result<Vec<u8>, AllocError> {
-    let mut bytes = Vec::new(alloc);
-    bytes.extend_from_slice(declarations)?;
-    bytes.push(0)?;
-    Ok(bytes)
+fn table(rt: &(impl Abort + AllocGlobal), declarations: &[u8]) -> Vec<u8> {
+    let mut bytes = Vec::new(rt.alloc());
+    put(rt, &mut bytes, declarations);
+    put(rt, &mut bytes, &[0]);
+    bytes
 }
 
 /// Checks the ranges of each scope.
@@ -57,8 +56,8 @@ fn cover(rt: &impl Abort, read: &Scopes, ranges: &[&[Range]]) {
 }
 
 #[test]
-fn ranges_of_neighbours(rt: HostRuntime) -> Result<(), Fail> {
-    let table = table(rt.alloc(), &COVERING)?;
+fn ranges_of_neighbours(rt: HostRuntime) {
+    let table = table(&rt, &COVERING);
     let entries = [
         1, // unit
         2, // no range
@@ -71,12 +70,12 @@ fn ranges_of_neighbours(rt: HostRuntime) -> Result<(), Fail> {
         2, // no range
         0,
     ];
-    let info = unit(rt.alloc(), &entries)?;
+    let info = unit(&rt, &entries);
     let all = Sections {
         debug_rnglists: &LIST,
         ..sections(&info, &table)
     };
-    let read = scopes_of(rt.alloc(), &all)?;
+    let read = scopes_of(&rt, &all);
     let three = [
         range(0x3000, 0x3005),
         range(0x4000, 0x4006),
@@ -86,12 +85,11 @@ fn ranges_of_neighbours(rt: HostRuntime) -> Result<(), Fail> {
     let last = [range(0x2000, 0x2004)];
     let wanted: [&[Range]; 8] = [&[], &first, &three, &[], &three, &[], &last, &[]];
     cover(&rt, &read, &wanted);
-    Ok(())
 }
 
 #[test]
-fn calls_of_neighbours(rt: HostRuntime) -> Result<(), Fail> {
-    let table = table(rt.alloc(), &CALLED)?;
+fn calls_of_neighbours(rt: HostRuntime) {
+    let table = table(&rt, &CALLED);
     let entries = [
         1, // unit
         2, 7, 0, 0, 0, 0, 0, 0, 0, 9, 0, 0, 0, 0, 0, 0, 0, // 7 and 9
@@ -104,8 +102,8 @@ fn calls_of_neighbours(rt: HostRuntime) -> Result<(), Fail> {
         5, 8, 0, 0, 0, 0, 0, 0, 0, // line 8
         0,
     ];
-    let info = unit(rt.alloc(), &entries)?;
-    let read = scopes_of(rt.alloc(), &sections(&info, &table))?;
+    let info = unit(&rt, &entries);
+    let read = scopes_of(&rt, &sections(&info, &table));
     let calls = [
         (Some(7), Some(9)),
         (Some(0x100_0000_0000), Some(0x1_0000_0005)),
@@ -116,28 +114,31 @@ fn calls_of_neighbours(rt: HostRuntime) -> Result<(), Fail> {
         (None, Some(0x1_0000_0006)),
         (None, Some(8)),
     ];
-    are_equal(&rt, read.scopes().len(), calls.len());
-    for (number, (scope, call)) in read.scopes().iter().zip(&calls).enumerate() {
-        are_equal(&rt, (number, call_of(&read, scope)), (number, *call));
+    have_calls(&rt, &read, &calls);
+}
+
+/// Checks the call of each scope.
+fn have_calls(rt: &impl Abort, read: &Scopes, calls: &[(Option<u64>, Option<u64>)]) {
+    are_equal(rt, read.scopes().len(), calls.len());
+    for (number, (scope, call)) in read.scopes().iter().zip(calls).enumerate() {
+        are_equal(rt, (number, call_of(read, scope)), (number, *call));
     }
-    Ok(())
 }
 
 #[test]
-fn line_programs_of_units(rt: HostRuntime) -> Result<(), Fail> {
-    let table = table(rt.alloc(), &UNITS)?;
+fn line_programs_of_units(rt: HostRuntime) {
+    let table = table(&rt, &UNITS);
     let units: [Unit<'_>; 4] = [
         (1, 0, &[1, 0x10, 0, 0, 0, 3, 0]),
         (1, 0, &[]),
         (1, 0, &[2, 3, 3, 0]),
         (1, 0, &[1, 0x30, 0, 0, 0, 3, 3, 0]),
     ];
-    let info = units_of(rt.alloc(), &units)?;
-    let read = scopes_of(rt.alloc(), &sections(&info, &table))?;
+    let info = units_of(&rt, &units);
+    let read = scopes_of(&rt, &sections(&info, &table));
     let wanted = [Some(0x10), None, None, Some(0x30), Some(0x30)];
     are_equal(&rt, read.roots().len(), 3);
     have_programs(&rt, &read, &wanted);
-    Ok(())
 }
 
 /// Checks the line program of each scope.

@@ -3,7 +3,6 @@
 use crate::fixtures::*;
 use dwarf_bytes::Cause;
 use dwarf_entries::{Scope, ScopeKind};
-use std::alloc::{AllocError, Global};
 use std::process::Abort;
 use std::test::*;
 
@@ -48,17 +47,12 @@ pub fn bare(offset: usize, end: usize) -> Row {
 }
 
 /// Checks that a unit with these entries is refused.
-fn is_bad_tree(
-    rt: &(impl Abort + AllocGlobal),
-    entries: &[u8],
-    cause: Cause,
-    at: u64,
-) -> Result<(), Fail> {
-    Ok(is_bad_unit(rt, entries, &TREES, cause, at)?)
+fn is_bad_tree(rt: &(impl Abort + AllocGlobal), entries: &[u8], cause: Cause, at: u64) {
+    is_bad_unit(rt, entries, &TREES, cause, at);
 }
 
 #[test]
-fn scopes_of_three_trees(rt: HostRuntime) -> Result<(), Fail> {
+fn scopes_of_three_trees(rt: HostRuntime) {
     let units: [Unit<'_>; 5] = [
         (1, 0, &TREE),
         // padding at offset 37, a root at 38, a subprogram at 39
@@ -70,8 +64,8 @@ fn scopes_of_three_trees(rt: HostRuntime) -> Result<(), Fail> {
         // a root at offset 78 that is a subprogram
         (3, 0, &[2]),
     ];
-    let info = units_of(rt.alloc(), &units)?;
-    let read = scopes_of(rt.alloc(), &sections(&info, &TREES))?;
+    let info = units_of(&rt, &units);
+    let read = scopes_of(&rt, &sections(&info, &TREES));
     are_equal(
         &rt,
         read.roots(),
@@ -90,31 +84,26 @@ fn scopes_of_three_trees(rt: HostRuntime) -> Result<(), Fail> {
         bare(78, 7),
     ];
     are_scopes(&rt, &read, None, &rows);
-    Ok(())
 }
 
 /// Builds nested subprograms, `below` of them below the root, which is a subprogram too.
-fn nested(alloc: Global, below: usize) -> Result<Vec<u8>, AllocError> {
-    let mut entries = Vec::new(alloc);
-    for _ in 0..=below {
-        entries.push(1)?;
-    }
-    for _ in 0..=below {
-        entries.push(0)?;
-    }
-    unit(alloc, &entries)
+fn nested(rt: &(impl Abort + AllocGlobal), below: usize) -> Vec<u8> {
+    let depth = below.saturating_add(1);
+    let mut entries = Vec::new(rt.alloc());
+    put_copies(rt, &mut entries, 1, depth);
+    put_copies(rt, &mut entries, 0, depth);
+    unit(rt, &entries)
 }
 
 #[test]
-fn entries_at_the_greatest_depth(rt: HostRuntime) -> Result<(), Fail> {
-    let info = nested(rt.alloc(), 256)?;
-    let read = scopes_of(rt.alloc(), &sections(&info, &TREES))?;
+fn entries_at_the_greatest_depth(rt: HostRuntime) {
+    let info = nested(&rt, 256);
+    let read = scopes_of(&rt, &sections(&info, &TREES));
     are_equal(&rt, read.roots(), [root(12, 0, 257)].as_slice());
     are_equal(&rt, read.scopes().len(), 257);
     for (number, scope) in read.scopes().iter().enumerate() {
         stands_at(&rt, scope, number);
     }
-    Ok(())
 }
 
 /// Checks the number and the offset of a scope, and that it ends after the last of 257 scopes.
@@ -124,14 +113,13 @@ fn stands_at(rt: &impl Abort, scope: &Scope, number: usize) {
 }
 
 #[test]
-fn an_entry_below_the_greatest_depth(rt: HostRuntime) -> Result<(), Fail> {
-    let info = nested(rt.alloc(), 257)?;
+fn an_entry_below_the_greatest_depth(rt: HostRuntime) {
+    let info = nested(&rt, 257);
     is_refused(&rt, &sections(&info, &TREES), Cause::TooDeep, 269);
-    Ok(())
 }
 
 #[test]
-fn padding(rt: HostRuntime) -> Result<(), Fail> {
+fn padding(rt: HostRuntime) {
     let trees: [(&[u8], usize); 5] = [
         (&[3, 0, 0], 12),
         (&[0, 0, 3], 14),
@@ -141,52 +129,51 @@ fn padding(rt: HostRuntime) -> Result<(), Fail> {
         (&[0x83, 0], 12),
     ];
     for (entries, offset) in trees {
-        is_only_root(&rt, entries, offset)?;
+        is_only_root(&rt, entries, offset);
     }
     // a null entry before the root does not end a list, and a null entry after it does not start
     // one
-    is_bad_tree(&rt, &[0, 4], Cause::TreeOpen, 0)?;
-    is_bad_tree(&rt, &[3, 0, 3], Cause::TwoRoots, 14)
+    is_bad_tree(&rt, &[0, 4], Cause::TreeOpen, 0);
+    is_bad_tree(&rt, &[3, 0, 3], Cause::TwoRoots, 14);
 }
 
 /// Checks the offset of the only root of a unit without scopes.
-fn is_only_root(
-    rt: &(impl Abort + AllocGlobal),
-    entries: &[u8],
-    offset: usize,
-) -> Result<(), Fail> {
-    let info = unit(rt.alloc(), entries)?;
-    let read = scopes_of(rt.alloc(), &sections(&info, &TREES))?;
+fn is_only_root(rt: &(impl Abort + AllocGlobal), entries: &[u8], offset: usize) {
+    let info = unit(rt, entries);
+    let read = scopes_of(rt, &sections(&info, &TREES));
     are_equal(rt, read.roots(), [root(offset, 0, 0)].as_slice());
-    Ok(())
 }
 
+/// Trees and codes that are refused.
 #[test]
-fn refused_trees(rt: HostRuntime) -> Result<(), Fail> {
-    is_bad_tree(&rt, &[3, 3], Cause::TwoRoots, 13)?;
-    is_bad_tree(&rt, &[4, 2, 0, 4, 0], Cause::TwoRoots, 15)?;
-    is_bad_tree(&rt, &[4], Cause::TreeOpen, 0)?;
-    is_bad_tree(&rt, &[4, 1, 2, 0], Cause::TreeOpen, 0)?;
-    is_bad_tree(&rt, &[7], Cause::AbbrevCode, 12)
-}
-
-#[test]
-fn refused_codes(rt: HostRuntime) -> Result<(), Fail> {
-    // an undeclared code is reported before a second root or an unterminated list
-    is_bad_tree(&rt, &[3, 7], Cause::AbbrevCode, 13)?;
-    is_bad_tree(&rt, &[4, 7], Cause::AbbrevCode, 13)?;
-    is_bad_tree(&rt, &[4, 0x80], Cause::Short, 13)?;
+fn refused_trees(rt: HostRuntime) {
     let long = [
         4, 0x80, 0x80, 0x80, 0x80, 0x80, 0x80, 0x80, 0x80, 0x80, 0x80, 0,
     ];
-    is_bad_tree(&rt, &long, Cause::Leb, 13)
+    let refused: [(&[u8], Cause, u64); 9] = [
+        // a second root
+        (&[3, 3], Cause::TwoRoots, 13),
+        (&[4, 2, 0, 4, 0], Cause::TwoRoots, 15),
+        // a list of children that is not terminated
+        (&[4], Cause::TreeOpen, 0),
+        (&[4, 1, 2, 0], Cause::TreeOpen, 0),
+        // an undeclared code, which is reported before a second root or an unterminated list
+        (&[7], Cause::AbbrevCode, 12),
+        (&[3, 7], Cause::AbbrevCode, 13),
+        (&[4, 7], Cause::AbbrevCode, 13),
+        // a truncated code, and a code of more than ten bytes
+        (&[4, 0x80], Cause::Short, 13),
+        (&long, Cause::Leb, 13),
+    ];
+    for (entries, cause, at) in refused {
+        is_bad_tree(&rt, entries, cause, at);
+    }
 }
 
 /// An unterminated list of children is reported at the start of its unit.
 #[test]
-fn an_open_list_of_a_second_unit(rt: HostRuntime) -> Result<(), Fail> {
+fn an_open_list_of_a_second_unit(rt: HostRuntime) {
     let units: [Unit<'_>; 2] = [(1, 0, &[4, 0]), (1, 0, &[4, 1, 0])];
     let open = Some(fault(Cause::TreeOpen, 14));
-    have_fault(&rt, &units, &TREES, open)?;
-    Ok(())
+    have_fault(&rt, &units, &TREES, open);
 }
