@@ -20,6 +20,8 @@ pub use answer_text::{
 pub use command_line::{CliFault, options};
 pub use commands::{BadLine, Command, parse_line};
 pub use file_source::FileSource;
-pub use module_map::{Answer, Asked, Extent, Frame, Frames, LoadFault, MapFault, Modules, Path};
+pub use module_map::{
+    Answer, Asked, Extent, Frame, Frames, LoadFault, MapFault, Modules, Path, Site,
+};
 pub use programs::program;
 pub use running::run;

@@ -21,6 +21,7 @@ fn no_module_answers_nothing(rt: HostRuntime) {
     );
     are_equal(&rt, modules.answer(asked).address(), 0x1004);
     are_equal(&rt, modules.answer(asked).frames().next().is_none(), true);
+    are_equal(&rt, modules.answer(asked).site().line, 0);
     are_equal(&rt, modules.steps().compares, 0);
 }
 
@@ -43,6 +44,8 @@ fn the_frames_of_a_link_address(rt: HostRuntime) {
     is_frame(&rt, frames.next(), b"mid", 5);
     is_frame(&rt, frames.next(), b"main", 20);
     are_equal(&rt, frames.next().is_none(), true);
+    are_equal(&rt, answer.site().line, 11);
+    are_equal(&rt, answer.site().path.is_some(), true);
 }
 
 #[test]
