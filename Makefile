@@ -49,11 +49,12 @@ demo:
 	@tools/build.sh addr2line_live
 	@tools/demo.sh
 
-# Runs CI from scratch: every proof, must-fail edit, test and program.
+# Runs CI from scratch: every proof, must-fail edit, test and program. With RT_JOBS, rt runs one check
+# on each processor; without it, a check may use several, and each reads all libraries again.
 test:
 	@tools/needs.sh test rt python3
 	@tools/check_edits.py
-	rt ci
+	RT_JOBS=$${RT_JOBS:-$$(nproc)} rt ci
 
 # Checks one crate, with the cached results of earlier checks: make check CRATE=dwarf_lines
 check:
