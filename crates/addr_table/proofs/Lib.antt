@@ -3,6 +3,7 @@ pub mod TellLaws
 pub mod EachTurns
 pub mod JoinLaws
 pub mod Constant
+pub mod CursorTurns
 pub mod CutLaws
 pub mod SearchLaws
 pub mod BitLaws
@@ -28,10 +29,13 @@ pub mod DigitPlaces
 pub mod EndDigits
 pub mod EndTurns
 pub mod RoomLaws
+pub mod RowEndLaws
+pub mod RowOrderLaws
 pub mod BucketLaws
 pub mod BuildLaws
 pub mod FrameLaws
 pub mod FrameChains
+pub mod MergeLaws
 pub mod ModuleLaws
 pub mod SiteLaws
 pub mod DecodeLaws
@@ -51,4 +55,5 @@ pub mod ChainEnds
 pub mod FrameTurns
 pub mod FaultLaws
 pub mod FewLaws
+pub mod FlatPermutations
 pub mod SegmentLaws

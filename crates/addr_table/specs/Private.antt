@@ -4,7 +4,9 @@ pub mod Buckets
 pub mod Digits
 pub mod EndLists
 pub mod Kept
+pub mod Merged
 pub mod Parents
+pub mod RowOrder
 pub mod Scans
 pub mod Segments
 pub mod Sweep

@@ -16,7 +16,7 @@ fn is_cover(row: &Row, next: &Row) -> bool
 }
 
 /// Returns the number of rows that cover addresses.
-fn count_covers(rows: &[Row]) -> usize
+pub(crate) fn count_covers(rows: &[Row]) -> usize
     ensures { result ≡ length (nonempty (row_reaches rows.now)) }
 {
     let mut covers = 0;
@@ -29,7 +29,7 @@ fn count_covers(rows: &[Row]) -> usize
 }
 
 /// Returns the number of ranges of all scopes, saturating at `usize::MAX`.
-fn count_ranges(scopes: &Scopes) -> usize
+pub(crate) fn count_ranges(scopes: &Scopes) -> usize
     requires { AreInOrder scopes.now.scopes }
     ensures { result ≡ min (sum_by (λ s. length s.ranges) scopes.now.scopes) (2 ^ 64 - 1) }
 {

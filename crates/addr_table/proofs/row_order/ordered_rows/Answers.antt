@@ -1,0 +1,13 @@
+use Rattle.std.proofs.Common.{ℕ, rules}
+use Rattle.std.proofs.lemmas.List.Sorted.{IsNonDecreasingBy-from_sort_by_key, IsPermutation-trans}
+use Rattle.addr_table.specs.Private.RowOrder.{row_end}
+use Rattle.addr_table.proofs.row_order.ordered_rows.Goals as goal
+
+pub returns-clause-permutation : goal.returns-clause-permutation
+returns-clause-permutation c = IsPermutation-trans _ _ _ c.in_ok-order.ensures
+    c.sort_unstable_by_key.ensures.permutation
+
+pub returns-clause-rise : goal.returns-clause-rise
+returns-clause-rise c =
+    IsNonDecreasingBy-from_sort_by_key (λ (n : ℕ). (row_end c.args.rows.now c.args.is_end n).at) _
+    c.sort_unstable_by_key.ensures.sorted (λ a r q k. search rules)

@@ -1,0 +1,36 @@
+-- The rows that cover addresses, sequence by sequence, and where they start and end.
+use Rattle.std.specs.Prelude.{ℕ, suc, List, [], ◌∷◌, map, filter, Bool, true, false, nat_lt}
+use Rattle.std.specs.Prelude.{if◌then◌else◌, slice_index_or}
+use Rattle.dwarf_lines.specs.declared.row.Row.{Row}
+use Rattle.addr_table.specs.declared.ends.End.{End}
+use Rattle.addr_table.specs.Cuts.{is_nonempty}
+use Rattle.addr_table.specs.Rows.{covers_from}
+
+-- the numbers of the rows that cover addresses, if the first row has this number
+abbrev pub covering_from : ℕ → List Row → List ℕ
+covering_from n rows = map (λ c. c.row) (filter (λ c. is_nonempty c.range) (covers_from n rows))
+
+-- the same up to the row that ends the sequence
+abbrev pub sequence_from : ℕ → List Row → List ℕ
+sequence_from n [] = []
+sequence_from n (row ∷ []) = []
+sequence_from n (row ∷ next ∷ rows) =
+    if row.«end» then [] else
+    (if nat_lt row.address next.address then n ∷ sequence_from (suc n) (next ∷ rows)
+    else sequence_from (suc n) (next ∷ rows))
+
+-- the numbers of the first rows of sequences; whether the first row of the list is one
+abbrev pub starts_from : Bool → ℕ → List Row → List ℕ
+starts_from is_first n [] = []
+starts_from true n (row ∷ rows) = n ∷ starts_from row.«end» (suc n) rows
+starts_from false n (row ∷ rows) = starts_from row.«end» (suc n) rows
+
+abbrev pub no_row : Row
+no_row = record { address = 0; program = record { 0 = 0 }; file = 0; line = 0; «end» = false }
+
+-- the start of the addresses that a row covers, or their end, which is where the next row starts
+abbrev pub row_end : List Row → Bool → ℕ → End
+row_end rows is_end n = record {
+  at = (slice_index_or rows (if is_end then suc n else n) no_row).address;
+  key = n;
+}

@@ -1,0 +1,108 @@
+//! The rows that cover addresses, in the order of their sequences' first addresses.
+
+ghost use Rattle.std.specs.Prelude.{◌≡◌, ◌++◌, ◌<◌, ◌^◌, ℕ, true, drop, length, IfOk, OnOk};
+ghost use Rattle.std.specs.List.Sorted.{IsPermutation, IsNonDecreasingBy};
+ghost use Rattle.addr_table.specs.Private.RowOrder.{covering_from, sequence_from, starts_from};
+ghost use Rattle.addr_table.specs.Private.RowOrder.{row_end};
+
+use crate::packed::narrow;
+use crate::room::count_covers;
+use dwarf_lines::Row;
+use std::alloc::{AllocError, Global};
+
+/// Returns the address at which a row starts to cover addresses, or at which it ends; 0 if there is
+/// no such row.
+pub(crate) fn address_of(rows: &[Row], row: u32, is_end: bool) -> u64
+    ensures { result ≡ (row_end rows.now is_end row).at }
+{
+    let index = if is_end {
+        row as usize + 1
+    } else {
+        row as usize
+    };
+    match rows.get(index) {
+        Some(row) => row.address,
+        None => 0,
+    }
+}
+
+/// Returns the indexes of the first rows of sequences.
+fn sequence_starts(alloc: Global, rows: &[Row]) -> Result<Vec<u32>, AllocError>
+    requires { length rows.now < 2 ^ 32 }
+    ensures { IfOk result (λ starts. starts.items ≡ starts_from true 0 rows.now) }
+{
+    let mut starts = Vec::new(alloc);
+    let mut is_first = true;
+    for number in 0..rows.len() {
+        if is_first {
+            starts.push(narrow(number))?;
+        }
+        is_first = rows[number].end;
+    }
+    Ok(starts)
+}
+
+/// Appends the rows of a sequence that cover addresses, from row `start` on.
+fn add_sequence(order: &mut Vec<u32>, rows: &[Row], start: usize) -> Result<(), AllocError>
+    requires { length rows.now < 2 ^ 32 }
+    ensures { OnOk result
+        (order.new.items ≡ order.old.items ++ sequence_from start (drop start rows.now)) }
+{
+    let mut number = start;
+    while number < rows.len().saturating_sub(1) && !rows[number].end {
+        if rows[number].address < rows[number + 1].address {
+            order.push(narrow(number))?;
+        }
+        number += 1;
+    }
+    Ok(())
+}
+
+/// Returns the rows that cover addresses. Few sequences overlap, so most rows are in ascending
+/// order of address.
+fn covering_rows(alloc: Global, rows: &[Row]) -> Result<Vec<u32>, AllocError>
+    requires { length rows.now < 2 ^ 32 }
+    ensures { IfOk result (λ order. IsPermutation (covering_from 0 rows.now) order.items) }
+{
+    let mut starts = sequence_starts(alloc, rows)?;
+    starts.sort_unstable_by_key(|start| address_of(rows, *start, false));
+    let mut order = Vec::with_capacity(alloc, count_covers(rows))?;
+    for index in 0..starts.len() {
+        add_sequence(&mut order, rows, starts[index] as usize)?;
+    }
+    Ok(order)
+}
+
+/// Returns whether no row starts, or ends, below the one before it.
+fn is_ascending(rows: &[Row], order: &[u32], is_end: bool) -> bool
+    ensures { result ≡ true →
+        IsNonDecreasingBy (λ (n : ℕ). (row_end rows.now is_end n).at) order.now }
+{
+    for index in 1..order.len() {
+        let address = address_of(rows, order[index], is_end);
+        if address < address_of(rows, order[index - 1], is_end) {
+            return false;
+        }
+    }
+    true
+}
+
+/// Returns the rows that cover addresses, in ascending order of where they start, or end.
+pub(crate) fn ordered_rows(
+    alloc: Global,
+    rows: &[Row],
+    is_end: bool,
+) -> Result<Vec<u32>, AllocError>
+    requires { length rows.now < 2 ^ 32 }
+    ensures permutation { IfOk result
+        (λ order. IsPermutation (covering_from 0 rows.now) order.items) }
+    ensures rise { IfOk result (λ order.
+        IsNonDecreasingBy (λ (n : ℕ). (row_end rows.now is_end n).at) order.items) }
+{
+    let mut order = covering_rows(alloc, rows)?;
+    if is_ascending(rows, &order, is_end) {
+        return Ok(order);
+    }
+    order.sort_unstable_by_key(|row| address_of(rows, *row, is_end));
+    Ok(order)
+}
