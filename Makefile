@@ -29,7 +29,7 @@ help:
 	@echo '                  (hours; minutes for one crate)'
 	@echo 'make tools-test   tests tools/ and the clients in docs/PROTOCOL.md on real processes'
 	@echo 'make check-docs   compares the manual page and documents with the sources: options, refusals,'
-	@echo '                  causes, targets, the version'
+	@echo '                  causes, targets, the version; finds phrases that the documents avoid'
 	@echo 'make compare      compares the data read from objects with the output of other readers'
 	@echo 'make hostile      measures time and memory for adversarial objects'
 	@echo 'make fuzz         fuzzes objects and commands against a reference implementation in Python'
@@ -109,7 +109,8 @@ tools-test:
 check-docs:
 	@tools/needs.sh check-docs python3 groff
 	@tools/check_docs.py
-	@tools/check_words.py --quiet *.md addr2line_live.1 docs/*.md tools bench crates/*
+	@tools/check_words.py --list --quiet --most 0 *.md addr2line_live.1 docs/*.md
+	@tools/check_words.py --quiet tools bench crates/*
 
 # Compares the data read from objects with the output of other readers.
 compare:

@@ -3,10 +3,10 @@
 
 Usage: tools/check_words.py [--list] [--quiet] [--most NUMBER] PATH..
 
-A path is a file or a folder. In .rt, .antt, .py and .sh files only comment lines are read, in other
-files all lines. --list prints each line with such a phrase. --quiet prints only the paths that have
-too many. The exit status is 1 if a path has more than NUMBER of them per 1,000 words (2 if not
-given).
+A path is a file or a folder. In .rt, .antt, .py and .sh files only comment lines are read. In .md
+files, code in backticks is skipped. --list prints each line with such a phrase. --quiet prints only
+the paths that have too many. The exit status is 1 if a path has more than NUMBER of them per 1,000
+words (2 if not given).
 """
 
 import argparse
@@ -35,12 +35,21 @@ PHRASES = [
 ]
 PATTERN = re.compile(r'\b(?:' + '|'.join(PHRASES) + r')\b', re.IGNORECASE)
 COMMENTS = {'.rt': '//', '.antt': '--', '.py': '#', '.sh': '#'}
+CODE = re.compile(r'```.*?```|`[^`]+`', re.DOTALL)
+
+
+def without_code(text):
+    """Returns the text of a document with `..` for code in backticks. Line breaks are retained."""
+    return CODE.sub(lambda code: '`..`' + '\n' * code[0].count('\n'), text)
 
 
 def prose_lines(path):
     """Yields the lines of a file that are prose, with their numbers."""
     mark = COMMENTS.get(path.suffix)
-    for number, line in enumerate(path.read_text(errors='replace').splitlines(), 1):
+    text = path.read_text(errors='replace')
+    if path.suffix == '.md':
+        text = without_code(text)
+    for number, line in enumerate(text.splitlines(), 1):
         text = line.strip()
         if mark is None or text.startswith(mark):
             yield number, text
