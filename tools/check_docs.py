@@ -4,6 +4,7 @@
 - The manual page must explain each option, each refusal of a line, a load, an unload or a move, and
   each section and cause of a malformed object. It must not explain a cause that does not exist, and
   groff must format it without a warning.
+- Each cause must have a doc comment in the source.
 - The README must name each option and command.
 - The manual page and the changelog must name the version in VERSION.
 - Each definition that docs/ARCHITECTURE.md names with its file, and each `make` target that a
@@ -21,6 +22,8 @@ README = TOP / "README.md"
 # checked.
 LEAST_DEFINITIONS = 50
 LEAST_REFUSALS = 16
+# A cause is explained in at least this number of words.
+LEAST_WORDS = 3
 
 
 def source(crate, file):
@@ -44,17 +47,37 @@ def entries(text):
     return found
 
 
+def word_source():
+    """Returns the source with the words of causes and sections: words.rt if it exists, else
+    fault.rt."""
+    exists = (TOP / "crates/dwarf_bytes/src/words.rt").exists()
+    return source("dwarf_bytes", "words.rt" if exists else "fault.rt")
+
+
+def variants(text, name):
+    """Returns the variants of an enum in a source, each with its doc comment."""
+    body = re.search(rf"^pub enum {name} {{\n(.*?)^}}", text, re.DOTALL | re.MULTILINE)[1]
+    variant = re.compile(r"((?:^ +///.*\n)*)^ +([A-Z]\w*)(?: = \d+)?,$", re.MULTILINE)
+    return {name: comment.replace("///", "") for comment, name in variant.findall(body)}
+
+
 def causes():
     """Yields faults in the causes and sections of malformed objects."""
-    fault = source("dwarf_bytes", "words.rt")
-    words = dict.fromkeys(re.findall(r'Cause::\w+ => "([a-z-]+)"', fault))
+    text = word_source()
+    words = dict(re.findall(r'Cause::(\w+) => "([a-z-]+)"', text))
+    comments = variants(source("dwarf_bytes", "fault.rt"), "Cause")
+    for name in sorted(words.keys() | comments.keys()):
+        if name not in words:
+            yield f"dwarf_bytes: Cause::{name} has no word"
+        if len(comments.get(name, "").split()) < LEAST_WORDS:
+            yield f"fault.rt: Cause::{name} is not explained"
     explained = entries(part("CAUSES"))
-    for cause in words:
-        if len(explained.get(cause, "").split()) < 3:
+    for cause in dict.fromkeys(words.values()):
+        if len(explained.get(cause, "").split()) < LEAST_WORDS:
             yield f"{PAGE.name}: the cause {cause} is not explained"
-    for cause in explained.keys() - words.keys():
+    for cause in explained.keys() - words.values():
         yield f"{PAGE.name}: {cause} is no cause"
-    for section in re.findall(r'Section::\w+ => "(\S+?)"', fault):
+    for section in re.findall(r'Section::\w+ => "(\S+?)"', text):
         if section not in part("CAUSES"):
             yield f"{PAGE.name}: the section {section} is not named"
 
