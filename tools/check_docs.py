@@ -9,6 +9,7 @@
 - The manual page and the changelog must name the version in VERSION.
 - Each definition that docs/ARCHITECTURE.md names with its file, and each `make` target that a
   document names, must exist.
+- Each line of an example in docs/LIBRARY.md must be in the source that the example names.
 """
 import re
 import subprocess
@@ -18,12 +19,14 @@ from pathlib import Path
 TOP = Path(__file__).resolve().parent.parent
 PAGE = TOP / "addr2line_live.1"
 README = TOP / "README.md"
+LIBRARY = TOP / "docs/LIBRARY.md"
 # ARCHITECTURE.md names about seventy. Far fewer mean that its form has changed, so that nothing is
 # checked.
 LEAST_DEFINITIONS = 50
 LEAST_REFUSALS = 16
 # A cause is explained in at least this number of words.
 LEAST_WORDS = 3
+LEAST_EXAMPLES = 4
 
 
 def source(crate, file):
@@ -146,6 +149,24 @@ def targets():
                 yield f"{document.name}: there is no make {target}"
 
 
+def examples():
+    """Yields the first wrong line of each example in docs/LIBRARY.md. The first line of an example
+    names a source. The source must have the other lines in the same order, and may have more."""
+    blocks = re.findall(r"^```\w*\n(.*?)^```$", LIBRARY.read_text(), re.DOTALL | re.MULTILINE)
+    if len(blocks) < LEAST_EXAMPLES:
+        yield f"{LIBRARY.name}: only {len(blocks)} examples are found"
+    for block in blocks:
+        first, *lines = block.splitlines()
+        named = re.fullmatch(r"// (crates/[\w/]+\.rt)", first)
+        if not named or not (TOP / named[1]).exists():
+            yield f"{LIBRARY.name}: an example starts with {first!r}, which names no source"
+            continue
+        left = iter([line.strip() for line in (TOP / named[1]).read_text().splitlines()])
+        missing = [line for line in lines if line.strip() and line.strip() not in left]
+        if missing:
+            yield f"{LIBRARY.name}: {missing[0].strip()!r} is not at this position of {named[1]}"
+
+
 def versions():
     """Yields faults in the version of the manual page and the changelog."""
     text = (TOP / "VERSION").read_text()
@@ -169,7 +190,8 @@ def formatting():
 
 
 def main():
-    checks = (causes, refusals, options_and_commands, versions, definitions, targets, formatting)
+    checks = (causes, refusals, options_and_commands, versions, definitions, targets, examples,
+              formatting)
     found = [fault for check in checks for fault in check()]
     print(*found, sep="\n", end="\n" if found else "")
     print(f"check-docs: {len(found)} faults")

@@ -76,6 +76,26 @@ class CheckDocs(unittest.TestCase):
                      "    /// A unit has two entries at depth 0.\n", "")
         self.reports("fault.rt: Cause::TwoRoots is not explained")
 
+    def test_changed_line_of_an_example(self):
+        self.replace("docs/LIBRARY.md", 'is_frame(&rt, frames.next(), b"mid", 5);',
+                     'is_frame(&rt, frames.next(), b"mid", 6);')
+        line = """'is_frame(&rt, frames.next(), b"mid", 6);'"""
+        self.reports(f"LIBRARY.md: {line} is not at this position of "
+                     "crates/module_map_tests/src/answers.rt")
+
+    def test_lines_of_an_example_in_another_order(self):
+        first, second = ("    are_equal(rt, scope.ranges(of), range.as_slice());\n",
+                         "    are_equal(rt, scope.stmt_list(of), stmt_list);\n")
+        self.replace("docs/LIBRARY.md", first + second, second + first)
+        self.reports(f"LIBRARY.md: {first.strip()!r} is not at this position of "
+                     "crates/dwarf_entries_tests/src/samples.rt")
+
+    def test_example_without_a_source(self):
+        first = "// crates/dwarf_lines_tests/src/rows.rt"
+        self.replace("docs/LIBRARY.md", first, first.replace("rows", "columns"))
+        self.reports("LIBRARY.md: an example starts with "
+                     "'// crates/dwarf_lines_tests/src/columns.rt', which names no source")
+
     def test_words_in_the_file_of_causes(self):
         """Without words.rt, the words are read from fault.rt."""
         folder = self.top / "crates/dwarf_bytes/src"
