@@ -7,8 +7,8 @@
 - Each cause must have a doc comment in the source.
 - The README must name each option and command.
 - The manual page and the changelog must name the version in VERSION.
-- Each definition that docs/ARCHITECTURE.md names with its file, and each `make` target that a
-  document names, must exist.
+- Each definition that docs/ARCHITECTURE.md names with its file, each `make` target that a document
+  names, and each name with an underscore that a document has in backticks, must exist.
 - Each line of an example in docs/LIBRARY.md must be in the source that the example names.
 """
 import re
@@ -27,6 +27,8 @@ LEAST_REFUSALS = 16
 # A cause is explained in at least this number of words.
 LEAST_WORDS = 3
 LEAST_EXAMPLES = 4
+# Names that documents use and no source has: a field of the ELF header.
+OTHER_NAMES = {"e_machine"}
 
 
 def source(crate, file):
@@ -139,11 +141,41 @@ def definitions():
             yield f"ARCHITECTURE.md: {word} is not in {crate}/{name}"
 
 
+def documents():
+    """Returns the documents, except the changelog, which may name what no longer exists."""
+    pages = sorted((TOP / "docs").glob("*.md"))
+    return [README, TOP / "CONTRIBUTING.md", TOP / "SECURITY.md", *pages]
+
+
+def source_names():
+    """Returns the words of the sources, and the names of their files and folders."""
+    known = set(OTHER_NAMES)
+    for folder in ("crates", "tools", "bench", "edits"):
+        for file in (TOP / folder).rglob("*"):
+            parts = file.relative_to(TOP).parts
+            if "out" in parts or "tests" in parts or not file.is_file():
+                continue
+            known.update(parts, [file.stem])
+            known.update(re.findall(r"\w+", file.read_text(errors="replace")))
+    return known
+
+
+def names():
+    """Yields the names with underscores that documents have in backticks and no source has."""
+    known = source_names()
+    for document in documents():
+        text = re.sub(r"^```.*?^```$", "", document.read_text(), flags=re.DOTALL | re.MULTILINE)
+        code = " ".join(re.findall(r"`([^`]+)`", text))
+        for name in dict.fromkeys(re.findall(r"\b[a-z][a-z0-9]*(?:_[a-z0-9]+)+\b", code)):
+            if name not in known:
+                yield f"{document.name}: no source has the name {name}"
+
+
 def targets():
     """Yields the missing targets of make that documents name."""
     known = set(re.findall(r"^([a-z-]+):", (TOP / "Makefile").read_text(), re.MULTILINE))
     named = re.compile(r"\bmake ([a-z][a-z-]+)(?=[` ]*(?:[A-Z]+=|`|$| {2,}))", re.MULTILINE)
-    for document in [README, *sorted((TOP / "docs").glob("*.md"))]:
+    for document in documents():
         for target in named.findall(document.read_text()):
             if target not in known:
                 yield f"{document.name}: there is no make {target}"
@@ -190,8 +222,8 @@ def formatting():
 
 
 def main():
-    checks = (causes, refusals, options_and_commands, versions, definitions, targets, examples,
-              formatting)
+    checks = (causes, refusals, options_and_commands, versions, definitions, names, targets,
+              examples, formatting)
     found = [fault for check in checks for fault in check()]
     print(*found, sep="\n", end="\n" if found else "")
     print(f"check-docs: {len(found)} faults")

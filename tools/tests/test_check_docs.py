@@ -64,7 +64,12 @@ class CheckDocs(unittest.TestCase):
     def test_wrong_name(self):
         self.replace("docs/ARCHITECTURE.md", "`addr_table/Places` `place_at`",
                      "`addr_table/Places` `place_near`")
-        self.reports("ARCHITECTURE.md: place_near is not in addr_table/Places")
+        self.reports("ARCHITECTURE.md: place_near is not in addr_table/Places",
+                     "ARCHITECTURE.md: no source has the name place_near")
+
+    def test_wrong_name_of_a_test(self):
+        self.replace("docs/PROOFS.md", "`memory_fails`", "`memory_is_short`")
+        self.reports("PROOFS.md: no source has the name memory_is_short")
 
     def test_missing_cause_of_the_manual_page(self):
         entry = ".TP\n.B two\\-roots\nA unit has two entries at depth 0.\n"
