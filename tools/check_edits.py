@@ -44,14 +44,14 @@ def main():
     faults = 0
     for edit in left_out:
         if (crate_of(edit) / "must-fail" / edit.name).exists():
-            print(f"{edit.relative_to(TOP)}: the gate has one of this name")
+            print(f"{edit.relative_to(TOP)}: CI has an edit of this name")
             faults += 1
     edits = gate + left_out
     for edit in edits:
         for path, old in misfits(edit):
             print(f"{edit.relative_to(TOP)}: not once in {path}: {old}")
             faults += 1
-    print(f"check_edits: {len(gate)} edits of the gate, {len(left_out)} others, {faults} faults")
+    print(f"check_edits: {len(gate)} edits of CI, {len(left_out)} others, {faults} faults")
     return 1 if faults or not gate else 0
 
 

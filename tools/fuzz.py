@@ -184,7 +184,8 @@ def all_runs(words):
     def tell(run, path):
         commands(chance, run, path)
 
-    return [(OPTIONS[n % 8], size, made(chance, reals, size), tell) for n, size in enumerate(sizes)]
+    return [(OPTIONS[n % len(OPTIONS)], size, made(chance, reals, size), tell)
+            for n, size in enumerate(sizes)]
 
 
 def main():
