@@ -1,4 +1,4 @@
-.PHONY: help demo test check edits program install uninstall dist compare hostile fuzz memory \
+.PHONY: help try demo test check edits program install uninstall dist compare hostile fuzz memory \
         long-run bench tools-test check-docs
 
 PREFIX ?= /usr/local
@@ -16,6 +16,7 @@ COMPILERS = gcc g++ objcopy
 READERS = readelf objdump nm addr2line llvm-symbolizer llvm-dwarfdump
 
 help:
+	@echo 'make try          compiles the program without proving it, and runs it on an example'
 	@echo 'make demo         builds the program and runs it on an example'
 	@echo 'make test         runs CI: every proof, must-fail edit, test and program (an hour and more)'
 	@echo 'make program      builds the program, $(PROGRAM)'
@@ -40,6 +41,12 @@ help:
 	@echo 'make bench        compares the speed with plain C and other symbolizers, and writes'
 	@echo '                  docs/MEASURED.md (a quarter of an hour; GIMLI_ADDR2LINE=PATH includes the'
 	@echo '                  addr2line of gimli)'
+
+# Runs the program on a stored object. The program is compiled without optimization or proof.
+try:
+	@tools/needs.sh try rt
+	@echo 'Compiles addr2line_live without proving it (one to two minutes), and asks it addresses.'
+	@tools/demo.sh --try
 
 # Runs the program on an object that the compiler builds for the demo.
 demo:

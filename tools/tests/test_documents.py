@@ -1,4 +1,5 @@
 """Compares the examples in the documents with the output of the program."""
+import os
 import re
 import subprocess
 import sys
@@ -13,9 +14,37 @@ from programs import PROGRAM, TOP, Live, output_of
 import check_docs
 
 
+# A stand-in for `rt try --data NAME=FILE.. -- OPTION..`: it runs the built program in a new folder
+# with copies of the files.
+RT = """#!/bin/sh
+folder=$(mktemp -d)
+while shift && [ "$1" != -- ]; do
+    if [ "$1" != --data ]; then
+        mkdir -p "$(dirname "$folder/${1%%=*}")" && cp "${1#*=}" "$folder/${1%%=*}" || exit
+    fi
+done
+shift
+(cd "$folder" && "$PROGRAM" "$@")
+status=$?
+rm -r "$folder"
+exit $status
+"""
+
+
 class Documents(unittest.TestCase):
     def test_demo_of_the_readme(self):
         shown = output_of(TOP / "tools/demo.sh", "--stored")
+        self.assertIn(f"```\n{shown}```\n", (TOP / "README.md").read_text())
+
+    def test_demo_without_a_proof(self):
+        """The output of `make try` is the session of the README."""
+        with tempfile.TemporaryDirectory() as folder:
+            rt = Path(folder) / "rt"
+            rt.write_text(RT)
+            rt.chmod(0o755)
+            path = {"PATH": f"{folder}:{os.environ['PATH']}", "PROGRAM": str(PROGRAM.resolve())}
+            with mock.patch.dict(os.environ, path):
+                shown = output_of(TOP / "tools/demo.sh", "--try")
         self.assertIn(f"```\n{shown}```\n", (TOP / "README.md").read_text())
 
     def test_example_of_the_protocol(self):
