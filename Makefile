@@ -2,8 +2,19 @@
         long-run bench tools-test check-docs
 
 PREFIX ?= /usr/local
-PROGRAM = crates/addr2line_live/out/addr2line_live
-TESTS = crates/command_loop_tests/out/command_loop_tests_tests
+# Paths of built programs. A target that gets all programs that it runs needs no rt.
+ifneq ($(ADDR2LINE_LIVE),)
+override ADDR2LINE_LIVE := $(abspath $(ADDR2LINE_LIVE))
+endif
+ifneq ($(MEASURE),)
+override MEASURE := $(abspath $(MEASURE))
+endif
+ifneq ($(TESTS),)
+override TESTS := $(abspath $(TESTS))
+endif
+RT = $(if $(ADDR2LINE_LIVE),,rt)
+PROGRAM = $(or $(ADDR2LINE_LIVE),crates/addr2line_live/out/addr2line_live)
+TEST_PROGRAM = $(or $(TESTS),crates/command_loop_tests/out/command_loop_tests_tests)
 INSTALLED = $(DESTDIR)$(PREFIX)
 LIBEXEC = $(INSTALLED)/libexec/addr2line_live
 DOCUMENTS = $(INSTALLED)/share/doc/addr2line_live
@@ -41,6 +52,9 @@ help:
 	@echo 'make bench        compares the speed with plain C and other symbolizers, and writes'
 	@echo '                  docs/MEASURED.md (a quarter of an hour; GIMLI_ADDR2LINE=PATH includes the'
 	@echo '                  addr2line of gimli)'
+	@echo 'With ADDR2LINE_LIVE=PATH, a target that runs the program uses the built one at PATH, and does'
+	@echo 'not prove or build it. MEASURE=PATH (compare, hostile, bench) and TESTS=PATH (memory) do the'
+	@echo 'same for measure and for the tests of command_loop.'
 
 # Runs the program on a stored object. The program is compiled without optimization or proof.
 try:
@@ -50,9 +64,11 @@ try:
 
 # Runs the program on an object that the compiler builds for the demo.
 demo:
-	@tools/needs.sh demo rt awk
-	@echo 'Proves and builds addr2line_live and the crates below it (some twenty minutes from nothing, then seconds),'
-	@echo 'and asks it addresses of two objects, one of which moves and goes.'
+	@tools/needs.sh demo $(RT) awk
+	@[ -n '$(ADDR2LINE_LIVE)' ] || { \
+	    echo 'Proves and builds addr2line_live and the crates below it: some twenty minutes from'; \
+	    echo 'nothing, then seconds.'; }
+	@echo 'Looks up addresses of two loaded objects, and moves and unloads one of them.'
 	@tools/build.sh addr2line_live
 	@tools/demo.sh
 
@@ -76,7 +92,7 @@ edits:
 	tools/try_edits.sh $(CRATE)
 
 program:
-	@tools/needs.sh program rt
+	@tools/needs.sh program $(RT)
 	@tools/build.sh addr2line_live
 
 install: program
@@ -109,7 +125,7 @@ dist: program
 # Tests real processes, the output of perf, a library that is loaded and unloaded, and the clients
 # in docs/PROTOCOL.md.
 tools-test:
-	@tools/needs.sh tools-test rt python3 gcc nm objdump
+	@tools/needs.sh tools-test $(RT) python3 gcc nm objdump
 	@tools/build.sh addr2line_live
 	python3 -m unittest discover -s tools/tests
 
@@ -121,17 +137,17 @@ check-docs:
 
 # Compares the data read from objects with the output of other readers.
 compare:
-	@tools/needs.sh compare rt python3 $(COMPILERS) $(READERS)
+	@tools/needs.sh compare $(or $(RT),$(if $(MEASURE),,rt)) python3 $(COMPILERS) $(READERS)
 	tools/compare_objects.sh
 
 # Measures time and memory for adversarial objects.
 hostile:
-	@tools/needs.sh hostile rt python3
+	@tools/needs.sh hostile $(if $(MEASURE),,rt) python3
 	tools/hostile.sh
 
 # Fuzzes objects and commands against a reference implementation in Python.
 fuzz:
-	@tools/needs.sh fuzz rt python3
+	@tools/needs.sh fuzz $(RT) python3
 	@tools/build.sh addr2line_live
 	tools/fuzz.py $(PROGRAM) tables
 	tools/fuzz.py $(PROGRAM) $(or $(SEED),1) $(or $(COUNT),20000)
@@ -139,20 +155,20 @@ fuzz:
 
 # Makes each allocation, each read and each write fail in turn, for DURATION seconds.
 memory:
-	@tools/needs.sh memory rt python3 cc
+	@tools/needs.sh memory $(or $(RT),$(if $(TESTS),,rt)) python3 cc
 	@tools/build.sh addr2line_live
-	cd crates/command_loop_tests && rt test > ../../out/tests.log 2>&1
-	tools/memory.py $(PROGRAM) $(TESTS) $(or $(DURATION),60)
+	@tools/build.sh command_loop_tests tests.log
+	tools/memory.py $(PROGRAM) $(TEST_PROGRAM) $(or $(DURATION),60)
 
 # Sends many commands to one process. Then tests full and closed outputs, and unusual files.
 long-run:
-	@tools/needs.sh long-run rt python3
+	@tools/needs.sh long-run $(RT) python3
 	@tools/build.sh addr2line_live
 	tools/long_run.py $(PROGRAM) $(or $(COMMANDS),1000000)
 
 # Measures this program, plain C and the other installed symbolizers.
 bench:
-	@tools/needs.sh bench rt awk python3 $(COMPILERS) addr2line
+	@tools/needs.sh bench $(or $(RT),$(if $(MEASURE),,rt)) awk python3 $(COMPILERS) addr2line
 	@mkdir -p out
 	bash -c 'set -o pipefail; { bench/run.sh && bench/answers.sh; } | tee out/bench.txt'
 	bench/table.py out/bench.txt > out/MEASURED.md && mv out/MEASURED.md docs/MEASURED.md

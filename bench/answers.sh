@@ -6,7 +6,7 @@
 # and FEW is the number for slow peers.
 set -euo pipefail
 cd "$(dirname "$0")/.."
-program=crates/addr2line_live/out/addr2line_live
+program=${ADDR2LINE_LIVE:-crates/addr2line_live/out/addr2line_live}
 many=${1:-200000}
 few=${2:-200}
 tools/build.sh addr2line_live program.log
@@ -74,9 +74,9 @@ measure() {
     head -n "$few" out/spread > out/few
     for cache in 1024 0 65536; do
         show "addr2line_live --cache $cache, spread" "$how" out/spread \
-            $program -e "$object" $options --cache $cache
+            "$program" -e "$object" $options --cache $cache
     done
-    show 'addr2line_live, sixteen addresses' "$how" out/hot $program -e "$object" $options
+    show 'addr2line_live, sixteen addresses' "$how" out/hot "$program" -e "$object" $options
     if command -v llvm-symbolizer > /dev/null; then
         local style='--functions=none --no-inlines'
         [ -z "$options" ] || style='--functions=short --inlines'

@@ -3,7 +3,7 @@
 set -euo pipefail
 cd "$(dirname "$0")/.."
 tools/build.sh measure measure.log
-measure=crates/measure/out/measure
+measure=${MEASURE:-crates/measure/out/measure}
 gcc -O2 -o out/leb bench/leb.c
 gcc -O2 -o out/lines bench/lines.c bench/elf.c
 gcc -O2 -o out/entries bench/entries.c bench/elf.c
@@ -78,14 +78,14 @@ measure_program() {
         awk -v n="$(count_of $what "$told")" -v w="$what a second: $name" -v a="$ours" \
             -v b="$plain" 'BEGIN { printf "%s: %d, plain C %d\n", w, n * 1000 / a, n * 1000 / b }'
     done
-    $measure scopes "$object"
+    "$measure" scopes "$object"
     echo "$told"
-    compare_peaks "scopes of $name" "$(peak $measure scopes "$object")" \
+    compare_peaks "scopes of $name" "$(peak "$measure" scopes "$object")" \
         "$(peak out/entries "$object")"
     compare "whole load of $name" "$object" out/load module
-    $measure module "$object"
+    "$measure" module "$object"
     out/load "$object"
-    compare_peaks "whole load of $name" "$(peak $measure module "$object")" \
+    compare_peaks "whole load of $name" "$(peak "$measure" module "$object")" \
         "$(peak out/load "$object")"
 }
 
@@ -100,7 +100,7 @@ for peer in 'llvm-dwarfdump --debug-info' 'readelf --debug-dump=info'; do
         echo "$peer of a C++ program: $(duration $peer out/objects/large) ms, $memory MB"
     fi
 done
-$measure declarations out/objects/large
-$measure values out/objects/large
-$measure finds out/objects/large
-$measure asks out/objects/large
+"$measure" declarations out/objects/large
+"$measure" values out/objects/large
+"$measure" finds out/objects/large
+"$measure" asks out/objects/large

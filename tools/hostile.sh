@@ -3,4 +3,4 @@
 set -euo pipefail
 cd "$(dirname "$0")/.."
 tools/build.sh measure measure.log
-tools/hostile.py crates/measure/out/measure out "${1:-20}"
+tools/hostile.py "${MEASURE:-crates/measure/out/measure}" out "${1:-20}"

@@ -9,7 +9,8 @@ TOOLS = TOP / "tools"
 sys.path.insert(0, str(TOOLS))
 import live
 
-PROGRAM = Path(os.environ.get("ADDR2LINE_LIVE", TOP / "crates/addr2line_live/out/addr2line_live"))
+BUILT = TOP / "crates/addr2line_live/out/addr2line_live"
+PROGRAM = Path(os.environ.get("ADDR2LINE_LIVE") or BUILT).absolute()
 
 
 def output_of(*words, text=""):
