@@ -68,6 +68,22 @@ class Documents(unittest.TestCase):
             done = subprocess.run([PROGRAM, *words.split()], capture_output=True, text=True)
             self.assertEqual((done.returncode, done.stderr), wanted, words)
 
+    def test_options_that_the_manual_page_excludes(self):
+        words = ["-b elf64-x86-64", "--target=elf64-x86-64", "-C", "--demangle", "-H", "-j .text",
+                 "--section=.text", "-r", "--no-recurse-limit", "-R", "--recurse-limit", "-v", "-V",
+                 "--version", "-i -i", "--func", "-- --version", "@file"]
+        for options in words:
+            done = subprocess.run([PROGRAM, *options.split(), "0"], capture_output=True, text=True)
+            self.assertEqual((done.returncode, done.stdout), (2, ""), options)
+
+    def test_addresses_that_the_manual_page_excludes(self):
+        for text in ("0X10", "0" * 17, "+0x10", "main+0x10", " 10", "10 ", "10\r", ","):
+            done = subprocess.run([PROGRAM, "0", text], capture_output=True)
+            wanted = f"addr2line_live: bad address {text}\n".encode()
+            self.assertEqual((done.returncode, done.stdout), (2, b""), text)
+            self.assertEqual(done.stderr, wanted)
+            self.assertEqual(output_of(PROGRAM, text=f"{text}\n"), "refused command\n", text)
+
     def test_versions(self):
         """The check of the documents reports each document with another version."""
         with tempfile.TemporaryDirectory() as folder, mock.patch("check_docs.TOP", Path(folder)):
