@@ -5,12 +5,15 @@ PREFIX ?= /usr/local
 # Paths of built programs. A target that gets all programs that it runs needs no rt.
 ifneq ($(ADDR2LINE_LIVE),)
 override ADDR2LINE_LIVE := $(abspath $(ADDR2LINE_LIVE))
+export ADDR2LINE_LIVE
 endif
 ifneq ($(MEASURE),)
 override MEASURE := $(abspath $(MEASURE))
+export MEASURE
 endif
 ifneq ($(TESTS),)
 override TESTS := $(abspath $(TESTS))
+export TESTS
 endif
 RT = $(if $(ADDR2LINE_LIVE),,rt)
 PROGRAM = $(or $(ADDR2LINE_LIVE),crates/addr2line_live/out/addr2line_live)

@@ -63,12 +63,16 @@ class BuiltPrograms(unittest.TestCase):
                                     "command_loop_tests: rt test"])
 
     def test_demo(self):
-        """The demo looks for its addresses with one run, and prints the replies of another."""
+        """The demo looks for its addresses with one run, and prints the replies of another. The
+        path is a variable of the environment, or an argument of make, relative to the folder."""
         given = self.stand_in("given", f'exec "{PROGRAM}" "$@"')
-        status, _, log = self.run_with("make", "-s", "demo", ADDR2LINE_LIVE=given)
-        calls = [line.split(" out/demo")[0] for line in log]
         wanted = [f"{TOP.name}: given -a -f -i -p -e", f"{TOP.name}: given -f -i -p"]
-        self.assertEqual((status, calls), (0, wanted))
+        argument = f"ADDR2LINE_LIVE={os.path.relpath(given, TOP)}"
+        for words, variables in (([], {"ADDR2LINE_LIVE": given}), ([argument], {})):
+            self.log.write_text("")
+            status, _, log = self.run_with("make", "-s", "demo", *words, **variables)
+            calls = [line.split(" out/demo")[0] for line in log]
+            self.assertEqual((status, calls), (0, wanted), words)
 
     def test_hostile(self):
         """The target ends at the first failure, with what the program printed."""
@@ -79,7 +83,7 @@ class BuiltPrograms(unittest.TestCase):
         self.assertIn("stand-in", errors)
 
     def test_paths_of_targets(self):
-        """Paths are relative to the top folder, and make takes the variables as arguments."""
+        """The commands have absolute paths."""
         for target, count in (("fuzz", 3), ("long-run", 1), ("memory", 1)):
             words = ["ADDR2LINE_LIVE=bin/program", "TESTS=bin/tests"]
             done = subprocess.run(["make", "-n", target, *words], cwd=TOP, env=self.env,
