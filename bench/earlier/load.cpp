@@ -4,8 +4,10 @@
 extern "C" {
 #include "object.h"
 }
+#include "../sums.hpp"
 #include "timing.h"
 #include <algorithm>
+#include <cstring>
 #include <vector>
 
 // A set of numbers below a bound, which finds the first member at or after a number.
@@ -180,28 +182,32 @@ private:
     }
 };
 
-static size_t make_index() {
+static const std::vector<Segment> &make_index() {
     static Sweep sweep;
     Extent extent;
     if (extent.key_bits + extent.address_bits <= 64) sweep.run(Ends<uint64_t>(extent));
     else sweep.run(Ends<unsigned __int128>(extent));
-    return sweep.segments.size();
+    return sweep.segments;
 }
 
 int main(int argc, char **argv) {
     struct section sections[SECTION_COUNT];
     uint64_t size;
-    if (argc != 2) return 2;
+    if (argc < 2) return 2;
     const uint8_t *bytes = file_bytes(argv[1], &size);
     timespec start = now();
     if (find_sections(bytes, size, sections) || read_lines(sections)) return 1;
     timespec lines = now();
     if (read_scopes(sections) || join()) return 1;
     timespec entries = now();
-    size_t segments = make_index();
+    const std::vector<Segment> &segments = make_index();
     timespec end = now();
+    if (argc > 2 && !strcmp(argv[2], "sums")) {
+        print_sums(sections, segments);
+        return 0;
+    }
     printf("lines %ld ms, scopes %ld ms, index %ld ms, %zu segments, %lu calls, %ld ms\n",
         milliseconds(start, lines), milliseconds(lines, entries), milliseconds(entries, end),
-        segments, (unsigned long)calls, milliseconds(start, end));
+        segments.size(), (unsigned long)calls, milliseconds(start, end));
     return 0;
 }

@@ -52,6 +52,9 @@ struct rows {
     size_t count, room;
 };
 
+static inline int is_end(const struct row *row) { return row->end; }
+static inline uint32_t file_of(const struct row *row) { return row->file; }
+
 struct range {
     uint64_t from, to;
 };
