@@ -1,5 +1,5 @@
 .PHONY: help try demo test check edits program install uninstall dist compare hostile fuzz memory \
-        long-run bench tools-test check-docs
+        long-run bench growth tools-test check-docs
 
 PREFIX ?= /usr/local
 # Paths of built programs. A target that gets all programs that it runs needs no rt.
@@ -55,6 +55,8 @@ help:
 	@echo 'make bench        compares the speed with plain C and other symbolizers, and writes'
 	@echo '                  docs/MEASURED.md (a quarter of an hour; GIMLI_ADDR2LINE=PATH includes the'
 	@echo '                  addr2line of gimli)'
+	@echo 'make growth       measures how the costs grow with the size of an object and the number of'
+	@echo '                  modules, and draws docs/growth.svg (some ten minutes, 2 GB in out/growth)'
 	@echo 'With ADDR2LINE_LIVE=PATH, a target that runs the program uses the built one at PATH, and does'
 	@echo 'not prove or build it. MEASURE=PATH (compare, hostile, bench) and TESTS=PATH (memory) do the'
 	@echo 'same for measure and for the tests of command_loop.'
@@ -175,3 +177,10 @@ bench:
 	@mkdir -p out
 	bash -c 'set -o pipefail; { bench/run.sh && bench/answers.sh; } | tee out/bench.txt'
 	bench/table.py out/bench.txt > out/MEASURED.md && mv out/MEASURED.md docs/MEASURED.md
+
+# Measures objects of 1 to 500 MB, and 1 to 4,096 modules.
+growth:
+	@tools/needs.sh growth $(or $(RT),$(if $(MEASURE),,rt)) python3 gcc g++ objcopy readelf
+	@tools/build.sh measure measure.log
+	@tools/build.sh addr2line_live
+	bench/growth.py

@@ -1,14 +1,13 @@
 #!/usr/bin/env bash
-# Measures the readers and plain C loops that make the same checks, on the same bytes in one run.
+# Measures the readers and plain C programs that make the same checks, on the same bytes in one run.
+# MEASURE and ADDR2LINE_LIVE name programs that are built already.
 set -euo pipefail
 cd "$(dirname "$0")/.."
 tools/build.sh measure measure.log
+tools/build.sh addr2line_live program.log
 measure=${MEASURE:-crates/measure/out/measure}
-gcc -O2 -o out/leb bench/leb.c
-gcc -O2 -o out/lines bench/lines.c bench/elf.c
-gcc -O2 -o out/entries bench/entries.c bench/elf.c
-for part in elf lines entries; do gcc -O2 -DWHOLE -c -o out/$part.o bench/$part.c; done
-g++ -O2 -o out/load bench/load.cpp out/elf.o out/lines.o out/entries.o
+program=${ADDR2LINE_LIVE:-crates/addr2line_live/out/addr2line_live}
+bench/build.sh
 [ -f out/leb.bin ] || out/leb make out/leb.bin 100000000
 [ -f out/objects/large ] || tools/make_objects.sh out/objects
 [ -f out/objects/huge ] || tools/make_large.sh out/objects/huge 150
@@ -19,23 +18,29 @@ time_of() {
     "$@" | sed -n 's/.*, \([0-9]*\) ms$/\1/p'
 }
 
-# Prints the minimum of nine times of our reader and of plain C, in alternating runs. If our reader
-# takes less than half a second, there are twenty-five runs, to reduce noise.
-least_of_both() {
-    local object=$1 plain=$2 turns=9
-    shift 2
-    if [ "$(time_of "$measure" "$@" "$object")" -lt 500 ]; then turns=25; fi
+# Prints the minimum of nine times of our reader, of plain C and, if there is one, of earlier plain
+# C, in alternating runs. If our reader takes less than half a second, there are twenty-five runs,
+# to reduce noise.
+least_of_all() {
+    local object=$1 plain=$2 command=$3 turns=9 earlier
+    earlier=out/earlier/$(basename "$plain")
+    if [ "$(time_of "$measure" "$command" "$object")" -lt 500 ]; then turns=25; fi
     for ((turn = 0; turn < turns; turn++)); do
-        echo "$(time_of "$measure" "$@" "$object") $(time_of "$plain" "$object")"
-    done | awk 'NR == 1 || $1 < a { a = $1 } NR == 1 || $2 < b { b = $2 } END { print a, b }'
+        echo "$(time_of "$measure" "$command" "$object") $(time_of "$plain" "$object")" \
+            "$([ ! -f "$earlier" ] || time_of "$earlier" "$object")"
+    done | awk 'NR == 1 || $1 < a { a = $1 } NR == 1 || $2 < b { b = $2 }
+        NR == 1 || $3 < c { c = $3 } END { print a, b, c }'
 }
 
-# Prints both times and their ratio.
+# Prints the times and the ratios of the plain C programs.
 compare() {
     local what=$1
-    read -r ours plain <<< "$(least_of_both "$2" "$3" "$4")"
-    awk -v w="$what" -v a="$ours" -v b="$plain" 'BEGIN {
-        printf "%-40s %6d ms, plain C %6d ms, ratio %.2f\n", w, a, b, b / (a > 0 ? a : 1)
+    read -r ours plain earlier <<< "$(least_of_all "$2" "$3" "$4")"
+    awk -v w="$what" -v a="$ours" -v b="$plain" -v c="$earlier" 'BEGIN {
+        printf "%-40s %6d ms, plain C %6d ms", w, a, b
+        if (c != "") printf ", earlier plain C %6d ms", c
+        printf ", ratio %.2f", b / (a > 0 ? a : 1)
+        print c == "" ? "" : sprintf(" and %.2f", c / (a > 0 ? a : 1))
     }'
 }
 
@@ -55,13 +60,16 @@ duration() {
     echo $((($(date +%s%N) - start) / 1000000))
 }
 
-# Prints the peak memory and the page faults of both.
+# Prints the peak memory and the page faults of our reader and of both plain C programs.
 compare_peaks() {
-    local what=$1 ours plain
-    read -r -a ours <<< "$2"
-    read -r -a plain <<< "$3"
-    echo "memory for $what: ${ours[0]} MB, plain C ${plain[0]} MB"
-    echo "page faults for $what: ${ours[1]}, plain C ${plain[1]}"
+    local what=$1 object=$2 plain=$3 command=$4
+    local memory faults plain_memory plain_faults earlier_memory earlier_faults
+    read -r memory faults <<< "$(peak "$measure" "$command" "$object")"
+    read -r plain_memory plain_faults <<< "$(peak "out/$plain" "$object")"
+    read -r earlier_memory earlier_faults <<< "$(peak "out/earlier/$plain" "$object")"
+    echo "memory for $what: $memory MB, plain C $plain_memory MB," \
+        "earlier plain C $earlier_memory MB"
+    echo "page faults for $what: $faults, plain C $plain_faults, earlier plain C $earlier_faults"
 }
 
 # Prints the number before a word in the output of a command.
@@ -76,17 +84,20 @@ measure_program() {
     compare "scopes of $name" "$object" out/entries scopes
     for what in entries scopes; do
         awk -v n="$(count_of $what "$told")" -v w="$what a second: $name" -v a="$ours" \
-            -v b="$plain" 'BEGIN { printf "%s: %d, plain C %d\n", w, n * 1000 / a, n * 1000 / b }'
+            -v b="$plain" -v c="$earlier" 'BEGIN {
+            printf "%s: %d, plain C %d", w, n * 1000 / a, n * 1000 / b
+            printf ", earlier plain C %d\n", n * 1000 / c
+        }'
     done
     "$measure" scopes "$object"
     echo "$told"
-    compare_peaks "scopes of $name" "$(peak "$measure" scopes "$object")" \
-        "$(peak out/entries "$object")"
+    compare_peaks "scopes of $name" "$object" entries scopes
     compare "whole load of $name" "$object" out/load module
     "$measure" module "$object"
     out/load "$object"
-    compare_peaks "whole load of $name" "$(peak "$measure" module "$object")" \
-        "$(peak out/load "$object")"
+    compare_peaks "whole load of $name" "$object" load module
+    bench/huge_pages.py "$program" "$object" "$name"
+    bench/same_data.py --measure "$measure" "$object"
 }
 
 compare 'LEB128, 100 MB' out/leb.bin out/leb leb

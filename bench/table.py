@@ -2,30 +2,34 @@
 """Formats the output of bench/run.sh and bench/answers.sh as a table.
 
 table.py PRINTED writes docs/MEASURED.md to standard output: the machine, the versions and the date,
-and the figures of this program and of each measured peer for loads, first answers, answers in a
-batch and in ping-pong, and memory. The peer of gimli is the program in GIMLI_ADDR2LINE. The ratio
-after a peer's figure is the factor by which this program is better: faster, or with less memory.
+and the figures of this program, of plain C and of each measured peer for loads, first answers,
+answers in a batch and in ping-pong, and memory. The peer of gimli is the program in
+GIMLI_ADDR2LINE. The ratio after a figure of another column is the factor by which this program is
+better: faster, or with less memory.
 """
 import datetime
 import os
 import re
 import subprocess
 import sys
+import textwrap
 
 OURS = "addr2line_live"
-PLAIN = "plain C"
-FIGURE = re.compile(r"(?P<what>.*?) +(?P<ours>\d+) ms, plain C +(?P<plain>\d+) ms, ratio")
-MEMORY = re.compile(r"memory for (?P<what>.*): (?P<ours>\d+) MB, plain C (?P<plain>\d+) MB")
-FAULTS = re.compile(r"(?P<what>page faults for .*): (?P<ours>\d+), plain C (?P<plain>\d+)")
-RATE = re.compile(
-    r"(?P<what>(?:entries|scopes) a second: .*): (?P<ours>\d+), plain C (?P<plain>\d+)"
+# What the columns of bench/run.sh are, each in one sentence.
+COLUMNS = {
+    "plain C": "Plain C is a program of this repository (`bench/*.c`, `bench/load.cpp`) that makes"
+    " the same checks and stores the same data in the fastest way that we know.",
+    "earlier plain C": "Earlier plain C (`bench/earlier`) makes the same checks and stores the same"
+    " data in a simpler and slower way.",
+    "huge pages": "Huge pages is addr2line_live with huge pages for its memory"
+    " (`GLIBC_TUNABLES=glibc.malloc.hugetlb=1`).",
+}
+NAMES = "|".join(COLUMNS)
+FIGURES = re.compile(
+    r"(?P<what>.+?):? +(?P<ours>\d+)(?P<unit> ms| MB|)"
+    rf"(?P<others>(?:, (?:{NAMES}) +\d+(?: ms| MB|))+)(?:, ratio .*)?"
 )
-BESIDE_PLAIN = [
-    (FIGURE, "{}", "ms", "less"),
-    (MEMORY, "memory, {}", "MB", "less"),
-    (FAULTS, "{}", "", "less"),
-    (RATE, "{}", "", "more"),
-]
+OTHER = re.compile(rf"({NAMES}) +(\d+)")
 ANSWERS = re.compile(
     r"  (?P<program>.*?) {2,}(?P<rate>\d+) answers a second(?:, [\d.]+ reads and writes an answer)?"
     r", first answer after (?P<first>\d+) ms(?:, peak (?P<peak>\d+) MB)?"
@@ -58,15 +62,17 @@ def rows(lines):
 
     asked = ""
     for line in lines:
-        heading, answers = HEADING.fullmatch(line), ANSWERS.match(line)
+        heading, answers, figures = (
+            HEADING.fullmatch(line), ANSWERS.match(line), FIGURES.fullmatch(line)
+        )
         if heading:
             options = f", `{heading['options'][2:]}`" if heading["options"] else ""
             asked = f"{heading['object']}, {WAYS[heading['how']]}{options}"
-        for form, named, unit, better in BESIDE_PLAIN:
-            if found := form.match(line):
-                what = named.format(found["what"])
-                put(what, unit, better, OURS, found["ours"])
-                put(what, unit, better, PLAIN, found["plain"])
+        if figures:
+            what = re.sub("^memory for ", "memory, ", figures["what"])
+            better = "more" if " a second: " in what else "less"
+            for program, figure in [(OURS, figures["ours"]), *OTHER.findall(figures["others"])]:
+                put(what, figures["unit"].strip(), better, program, figure)
         if answers and again(answers["program"]):
             what = f"answers a second, {AGAIN}: {asked}"
             put(what, "", "more", OURS, answers["rate"])
@@ -129,6 +135,20 @@ def versions():
     return [version for version in [*told, gimli and f"addr2line of gimli: {named}"] if version]
 
 
+def explanation(programs):
+    """Returns the lines that say what the columns of these programs are."""
+    sentences = [
+        "The ratio after a figure of another column is the factor by which addr2line_live is"
+        " better. Below 1, it is worse.",
+        *(sentence for name, sentence in COLUMNS.items() if name in programs),
+        "The other columns are other symbolizers. They load nothing before the first question;"
+        " addr2line_live has then read and validated the whole object. Slow symbolizers are asked"
+        " fewer addresses, see `bench/answers.sh`.",
+        "[MEASURED-RUNS.md](MEASURED-RUNS.md) describes the conditions and how far runs differ.",
+    ]
+    return textwrap.wrap(" ".join(sentences), 100, break_on_hyphens=False)
+
+
 def main():
     with open(sys.argv[1]) as printed:
         table = rows(printed.read().splitlines())
@@ -138,14 +158,9 @@ def main():
     print("# Measured\n")
     print(f"Written by `make bench` on {datetime.date.today()},\non {machine()}.\n\nVersions:\n")
     print(*(f"- {version}" for version in versions()), sep="\n")
-    print(
-        "\nThe ratio after a figure of another program is the factor by which addr2line_live is"
-        "\nbetter. Below 1, it is worse. Plain C is a program of this repository that makes the"
-        "\nsame checks and stores the same data (`bench/*.c`). The other programs load nothing"
-        "\nbefore the first question; addr2line_live has then read and validated the whole"
-        "\nobject. Slow programs are asked fewer addresses, see `bench/answers.sh`."
-        "\n[MEASURED-RUNS.md](MEASURED-RUNS.md) describes the conditions and how far runs differ.\n"
-    )
+    print()
+    print(*explanation(programs), sep="\n")
+    print()
     print(f"| | {' | '.join(programs)} |\n|---|{'---|' * len(programs)}")
     for (what, unit, better), figures in in_order(table):
         cells = (cell(figures, program, unit, better) for program in programs)

@@ -9,9 +9,12 @@ sys.path.insert(0, str(Path(__file__).resolve().parent))
 from programs import TOP, output_of
 
 PRINTED = """LEB128, 100 MB                              165 ms, plain C    190 ms, ratio 1.15
-memory for whole load of a C++ program: 811 MB, plain C 767 MB
-page faults for whole load of a C++ program: 20000, plain C 19000
-entries a second: a C++ program: 9000000, plain C 12000000
+line programs, 100 MB    100 ms, plain C     50 ms, earlier plain C    80 ms, ratio 0.50 and 0.80
+5 units, 2138520 entries, 509137 scopes, 304817 ranges, 107 ms
+memory for whole load of a C++ program: 811 MB, plain C 767 MB, earlier plain C 811 MB
+page faults for whole load of a C++ program: 20000, plain C 19000, earlier plain C 30000
+entries a second: a C++ program: 9000000, plain C 12000000, earlier plain C 9000000
+processor time of reading and loading a program: 400 ms, huge pages 300 ms
 large, batch, -f -i
   addr2line_live --cache 1024, spread  90000 answers a second, first answer after 1000 ms, 7 bytes
   addr2line_live --cache 0, spread  80000 answers a second, first answer after 1000 ms, 7 bytes
@@ -22,16 +25,21 @@ large, batch, -f -i
 """
 ASKED = "large, a batch over a pipe, `-f -i`"
 ROWS = [
-    "| | addr2line_live | plain C | llvm-symbolizer | eu-addr2line |",
-    "|---|---|---|---|---|",
-    "| LEB128, 100 MB | 165 ms | 190 ms (×1.15) |  |  |",
-    "| memory, whole load of a C++ program | 811 MB | 767 MB (×0.946) |  |  |",
-    "| page faults for whole load of a C++ program | 20,000 | 19,000 (×0.95) |  |  |",
-    "| entries a second: a C++ program | 9,000,000 | 12,000,000 (×0.75) |  |  |",
-    f"| answers a second: {ASKED} | 90,000 |  | 22,500 (×4) | 8 (×11,250) |",
-    f"| first answer: {ASKED} | 1,000 ms |  | 500 ms (×0.5) | 1,500 ms (×1.5) |",
-    f"| memory: {ASKED} |  |  | 60 MB |  |",
-    f"| answers a second, sixteen addresses again and again: {ASKED} | 300,000 |  |  |  |",
+    "| | addr2line_live | plain C | earlier plain C | huge pages | llvm-symbolizer"
+    " | eu-addr2line |",
+    "|---|---|---|---|---|---|---|",
+    "| LEB128, 100 MB | 165 ms | 190 ms (×1.15) |  |  |  |  |",
+    "| line programs, 100 MB | 100 ms | 50 ms (×0.5) | 80 ms (×0.8) |  |  |  |",
+    "| memory, whole load of a C++ program | 811 MB | 767 MB (×0.946) | 811 MB (×1) |  |  |  |",
+    "| page faults for whole load of a C++ program | 20,000 | 19,000 (×0.95) | 30,000 (×1.5) |  |"
+    "  |  |",
+    "| entries a second: a C++ program | 9,000,000 | 12,000,000 (×0.75) | 9,000,000 (×1) |  |"
+    "  |  |",
+    "| processor time of reading and loading a program | 400 ms |  |  | 300 ms (×0.75) |  |  |",
+    f"| answers a second: {ASKED} | 90,000 |  |  |  | 22,500 (×4) | 8 (×11,250) |",
+    f"| first answer: {ASKED} | 1,000 ms |  |  |  | 500 ms (×0.5) | 1,500 ms (×1.5) |",
+    f"| memory: {ASKED} |  |  |  |  | 60 MB |  |",
+    f"| answers a second, sixteen addresses again and again: {ASKED} | 300,000 |  |  |  |  |  |",
 ]
 
 
@@ -42,6 +50,17 @@ class Table(unittest.TestCase):
             printed.flush()
             shown = output_of(TOP / "bench/table.py", printed.name)
         self.assertEqual([line for line in shown.splitlines() if line.startswith("|")], ROWS)
+        for column in ("Plain C", "Earlier plain C", "Huge pages"):
+            self.assertIn(f". {column} ", " ".join(shown.split()))
+
+    def test_columns_that_are_absent_are_not_described(self):
+        with tempfile.NamedTemporaryFile("w") as printed:
+            printed.write(PRINTED.splitlines()[0])
+            printed.flush()
+            shown = output_of(TOP / "bench/table.py", printed.name)
+        self.assertIn("Plain C is", shown)
+        self.assertNotIn("Earlier plain C", shown)
+        self.assertNotIn("Huge pages", shown)
 
     def test_no_figures(self):
         done = subprocess.run([TOP / "bench/table.py", "/dev/null"], capture_output=True, text=True)
