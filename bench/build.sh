@@ -1,5 +1,5 @@
 #!/usr/bin/env bash
-# build.sh [FOLDER [FLAG..]] compiles the plain C programs into FOLDER, and those of bench/earlier
+# build.sh [FOLDER [FLAG..]] compiles the plain C programs into FOLDER, and bench/earlier
 # into FOLDER/earlier. The default is `out -O2`.
 set -euo pipefail
 cd "$(dirname "$0")/.."
