@@ -64,7 +64,7 @@ help:
 # Runs the program on a stored object. The program is compiled without optimization or proof.
 try:
 	@tools/needs.sh try rt
-	@echo 'Compiles addr2line_live without proving it (one to two minutes), and asks it addresses.'
+	@echo 'Compiles addr2line_live without proving it (about two minutes), and asks it addresses.'
 	@tools/demo.sh --try
 
 # Runs the program on an object that the compiler builds for the demo.
