@@ -33,7 +33,7 @@ fn with_size(place: usize, size: u8) -> [u8; 703] {
     object
 }
 
-/// Checks the fault of the first sample for each of these sizes of a section.
+/// Checks that the first sample is refused with `fault` for each size of a section.
 fn are_refused(rt: &(impl Abort + AllocGlobal), place: usize, sizes: (u8, u8), fault: LoadFault) {
     for size in sizes.0..sizes.1 {
         let found = fault_of(rt, &with_size(place, size));

@@ -84,7 +84,7 @@ fn put_file<W: Sink>(
     }
 }
 
-/// Appends a file and a line.
+/// Appends `FILE:LINE` and a newline.
 pub fn put_place<W: Sink>(
     options: &Options,
     path: Option<Path<'_>>,

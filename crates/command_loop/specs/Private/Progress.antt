@@ -31,7 +31,7 @@ pub record ServesRequest (options : Options) (request : Result Request BadLine)
   pub replied : Appends old.written new.written
       (text options (step old.world request outcomes).reply)
 
--- one request was served, but at most a prefix of its reply is written
+-- A request was processed, but only a prefix of its reply was written.
 pub record FailsToReply (options : Options) (request : Result Request BadLine)
     (old new : RunState) : Type 0 where
   pub outcomes : List Outcome
