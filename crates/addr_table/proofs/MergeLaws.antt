@@ -2,7 +2,8 @@
 use Rattle.std.proofs.Common.{◌≡◌, ℕ, zero, suc, ◌+◌, ◌<◌, ◌≤◌, List, [], ◌∷◌, ◌++◌, length, drop}
 use Rattle.std.proofs.Common.{get_or, Bool, true, false, cond, refl, ap, sym, ◌∙◌, subst, inl, inr}
 use Rattle.std.proofs.Common.{arith}
-use Rattle.std.specs.Prelude.{nat_le}
+use Rattle.std.specs.Prelude.{nat_le, not}
+use Rattle.std.specs.Int.{from_bool}
 use Rattle.std.specs.List.{AllByRecursion}
 use Rattle.std.specs.List.Sorted.{IsPermutation, IsNonDecreasingBy}
 use Rattle.std.proofs.lemmas.Bool.{cases_lt}
@@ -228,6 +229,22 @@ scope-taken c e is_row scope m kind other is =
       left = ap (λ n. drop n (merged c.rows c.scopes)) sum ∙ rest
           ∙ ap (λ n. merged (drop c.row c.rows) (drop n c.scopes)) (sym is);
     }
+
+-- .. or of the list that the endpoint is of
+pub one-taken : (c : Cursor) (e : End) (is_row : Bool) (row scope : ℕ)
+    → IsMerging c.rows c.scopes c.row c.scope → IsHead c e is_row
+    → row ≡ c.row + from_bool is_row → scope ≡ c.scope + from_bool (not is_row)
+    → IsMerging c.rows c.scopes row scope
+one-taken c e true row scope m h r s =
+    let same : c.scope ≡ scope = omega (arith, s) in
+    subst (λ n. IsMerging c.rows c.scopes row n) same (row-taken c e true row m h refl r)
+one-taken c e false row scope m h r s =
+    let same : c.row ≡ row = omega (arith, r) in
+    subst (λ n. IsMerging c.rows c.scopes n scope) same (scope-taken c e false scope m h refl s)
+
+pub one-counted : (is_row : Bool) → from_bool is_row + from_bool (not is_row) ≡ 1
+one-counted true = refl
+one-counted false = refl
 
 -- an address below the next endpoint is below all later ones
 pub later-above : (c : Cursor) (e : End) (a : ℕ) → IsMerging c.rows c.scopes c.row c.scope

@@ -3,8 +3,7 @@
 ghost use Rattle.std.specs.Prelude.{◌≡◌, ◌+◌, ◌<◌, ◌≤◌, length, drop, slice_index_or, MatchOption};
 ghost use Rattle.std.specs.List.Sorted.{IsNonDecreasingBy};
 ghost use Rattle.addr_table.specs.declared.ends.End.{End as Ended};
-ghost use Rattle.addr_table.specs.Private.Merged.{IsHead, IsMerging, Takes, merged, ends_in};
-ghost use Rattle.addr_table.specs.Private.Merged.{taken_of};
+ghost use Rattle.addr_table.specs.Private.Merged.{IsNext, Takes, merged, ends_in, taken_of};
 ghost use Rattle.addr_table.specs.Private.Sweep.{Above};
 
 use crate::end_list::EndList;
@@ -21,16 +20,42 @@ pub(crate) struct EndCursor<'a> {
     row: usize,
     /// The number of endpoints of scopes that were taken.
     scope: usize,
+    /// The next endpoint, and whether it is one of a row.
+    next: Option<(End, bool)>,
 }
 
 impl<'a> Model for EndCursor<'a> {
-    ghost use Rattle.addr_table.specs.Private.Merged.{Cursor, IsMerging};
+    ghost use Rattle.addr_table.specs.Private.Merged.{Cursor, IsMerging, IsNext};
 
     ghost Value = { Cursor };
 
     ghost view = { λ c. record { rows = c.rows; scopes = c.scopes; row = c.row; scope = c.scope } };
 
-    ghost invariant = { λ c. IsMerging c.rows c.scopes c.row c.scope };
+    ghost invariant = { λ c. IsMerging c.rows c.scopes c.row c.scope
+        × IsNext (record { rows = c.rows; scopes = c.scopes; row = c.row; scope = c.scope })
+        c.next };
+}
+
+/// Returns the next endpoint of two ascending lists, and whether it is one of a row, given how many
+/// of each list were taken.
+fn next_of(rows: &RowEnds<'_>, scopes: &EndList, row: usize, scope: usize) -> Option<(End, bool)>
+    ensures { IsNext (record { rows = rows.now; scopes = scopes.now; row = row; scope = scope })
+        result }
+{
+    if row >= rows.len() {
+        if scope >= scopes.len() {
+            return None;
+        }
+        return Some((scopes.get(scope), false));
+    }
+    let of_row = rows.get(row);
+    if scope < scopes.len() {
+        let of_scope = scopes.get(scope);
+        if of_scope.at < of_row.at {
+            return Some((of_scope, false));
+        }
+    }
+    Some((of_row, true))
 }
 
 impl<'a> EndCursor<'a> {
@@ -41,32 +66,14 @@ impl<'a> EndCursor<'a> {
         ensures ends { ends_in result ≡ merged rows.entry scopes }
         ensures taken { taken_of result ≡ 0 }
     {
+        let next = next_of(&rows, &scopes, 0, 0);
         EndCursor {
             rows,
             scopes,
             row: 0,
             scope: 0,
+            next,
         }
-    }
-
-    /// Returns the next endpoint, and whether it is one of a row.
-    fn head(&self) -> Option<(End, bool)>
-        ensures head { MatchOption result
-            ((length self.now.rows ≤ self.now.row) × (length self.now.scopes ≤ self.now.scope))
-            (λ h. IsHead self.now h.0 h.1) }
-        ensures merging { IsMerging self.now.rows self.now.scopes self.now.row self.now.scope }
-    {
-        if self.row < self.rows.len() {
-            let row = self.rows.get(self.row);
-            if self.scope < self.scopes.len() && self.scopes.get(self.scope).at < row.at {
-                return Some((self.scopes.get(self.scope), false));
-            }
-            return Some((row, true));
-        }
-        if self.scope < self.scopes.len() {
-            return Some((self.scopes.get(self.scope), false));
-        }
-        None
     }
 
     /// Returns the address of the next endpoint.
@@ -75,7 +82,7 @@ impl<'a> EndCursor<'a> {
             (λ at. (taken_of self.now < length (ends_in self.now)) × ((d : Ended) →
             (slice_index_or (ends_in self.now) (taken_of self.now) d).at ≡ at)) }
     {
-        match self.head() {
+        match self.next {
             Some((end, _)) => Some(end.at),
             None => None,
         }
@@ -88,15 +95,13 @@ impl<'a> EndCursor<'a> {
             × Above end (drop (taken_of self.old) (ends_in self.old)))
             (λ key. Takes end key (taken_of self.old) (taken_of self.new) (ends_in self.old)) }
     {
-        let (next, is_row) = self.head()?;
+        let (next, is_row) = self.next?;
         if next.at > end {
             return None;
         }
-        if is_row {
-            self.row += 1;
-        } else {
-            self.scope += 1;
-        }
+        self.row += usize::from(is_row);
+        self.scope += usize::from(!is_row);
+        self.next = next_of(&self.rows, &self.scopes, self.row, self.scope);
         Some(next.key)
     }
 }

@@ -6,9 +6,8 @@ ghost use Rattle.addr_table.specs.declared.ends.End.{End as Ended};
 ghost use Rattle.addr_table.specs.Private.RowOrder.{covering_from, row_end};
 
 use crate::ends::End;
-use crate::row_order::{address_of, ordered_rows};
+use crate::row_order::{address_of, sort_rows};
 use dwarf_lines::Row;
-use std::alloc::{AllocError, Global};
 use std::marker::Model;
 
 /// Endpoints of rows, of four bytes each: the address is looked up in the rows.
@@ -32,19 +31,17 @@ impl<'a> Model for RowEnds<'a> {
 }
 
 impl<'a> RowEnds<'a> {
-    /// Returns the starts of all rows that cover addresses, or their ends, in ascending order.
-    pub(crate) fn of(alloc: Global, rows: &'a [Row], is_end: bool) -> Result<Self, AllocError>
-        requires { length rows.now < 2 ^ 32 }
-        ensures permutation { IfOk result
-            (λ r. IsPermutation (map (row_end rows.now is_end) (covering_from 0 rows.now)) r) }
-        ensures rise { IfOk result (λ r. IsNonDecreasingBy (λ (e : Ended). e.at) r) }
+    /// Returns the starts, or the ends, of the rows of a list, in ascending order.
+    pub(crate) fn of(rows: &'a [Row], mut order: Vec<u32>, is_end: bool) -> RowEnds<'a>
+        ensures permutation { IsPermutation (map (row_end rows.now is_end) order.items) result }
+        ensures rise { IsNonDecreasingBy (λ (e : Ended). e.at) result }
     {
-        let order = ordered_rows(alloc, rows, is_end)?;
-        Ok(RowEnds {
+        sort_rows(rows, &mut order, is_end);
+        RowEnds {
             rows,
             order,
             is_end,
-        })
+        }
     }
 
     /// Returns the number of endpoints.

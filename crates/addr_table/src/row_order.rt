@@ -60,7 +60,7 @@ fn add_sequence(order: &mut Vec<u32>, rows: &[Row], start: usize) -> Result<(), 
 
 /// Returns the rows that cover addresses. Few sequences overlap, so most rows are in ascending
 /// order of address.
-fn covering_rows(alloc: Global, rows: &[Row]) -> Result<Vec<u32>, AllocError>
+pub(crate) fn covering_rows(alloc: Global, rows: &[Row]) -> Result<Vec<u32>, AllocError>
     requires { length rows.now < 2 ^ 32 }
     ensures { IfOk result (λ order. IsPermutation (covering_from 0 rows.now) order.items) }
 {
@@ -87,22 +87,13 @@ fn is_ascending(rows: &[Row], order: &[u32], is_end: bool) -> bool
     true
 }
 
-/// Returns the rows that cover addresses, in ascending order of where they start, or end.
-pub(crate) fn ordered_rows(
-    alloc: Global,
-    rows: &[Row],
-    is_end: bool,
-) -> Result<Vec<u32>, AllocError>
-    requires { length rows.now < 2 ^ 32 }
-    ensures permutation { IfOk result
-        (λ order. IsPermutation (covering_from 0 rows.now) order.items) }
-    ensures rise { IfOk result (λ order.
-        IsNonDecreasingBy (λ (n : ℕ). (row_end rows.now is_end n).at) order.items) }
+/// Sorts rows by the address at which they start, or end.
+pub(crate) fn sort_rows(rows: &[Row], order: &mut Vec<u32>, is_end: bool)
+    ensures permutation { IsPermutation order.old.items order.new.items }
+    ensures rise { IsNonDecreasingBy (λ (n : ℕ). (row_end rows.now is_end n).at) order.new.items }
 {
-    let mut order = covering_rows(alloc, rows)?;
-    if is_ascending(rows, &order, is_end) {
-        return Ok(order);
+    if is_ascending(rows, order, is_end) {
+        return;
     }
     order.sort_unstable_by_key(|row| address_of(rows, *row, is_end));
-    Ok(order)
 }

@@ -1,6 +1,6 @@
 -- The endpoints of rows and of scopes, merged.
 use Rattle.std.specs.Prelude.{◌≡◌, ℕ, ◌+◌, ◌^◌, ◌<◌, ◌≤◌, List, [], ◌∷◌, length, drop, Bool, true, false}
-use Rattle.std.specs.Prelude.{nat_le, if◌then◌else◌, slice_index_or}
+use Rattle.std.specs.Prelude.{nat_le, if◌then◌else◌, slice_index_or, Option, None, Some}
 use Rattle.std.specs.List.Sorted.{IsNonDecreasingBy}
 use Rattle.addr_table.specs.declared.ends.End.{End}
 
@@ -46,6 +46,11 @@ IsHead c e false = (c.scope < length c.scopes)
     × ((d : End) → e ≡ slice_index_or c.scopes c.scope d)
     × ((d : End) → c.row < length c.rows → e.at < (slice_index_or c.rows c.row d).at)
     × (c.scope + 1 < 2 ^ 64)
+
+-- what is next: an endpoint, and whether it is one of a row; nothing if all were taken
+abbrev pub IsNext : Cursor → Option (End × Bool) → Type 0
+IsNext c None = (length c.rows ≤ c.row) × (length c.scopes ≤ c.scope)
+IsNext c (Some h) = IsHead c h.0 h.1
 
 pub record IsNextIn (c : Cursor) (e : End) : Type 0 where
   pub within : taken_of c < length (ends_in c)

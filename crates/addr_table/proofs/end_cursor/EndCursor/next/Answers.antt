@@ -1,14 +1,31 @@
-use Rattle.std.proofs.Common.{ap}
+use Rattle.std.proofs.Common.{◌≡◌, ◌<◌, ◌≤◌, length, ap, subst, slice_index_or}
 use Rattle.addr_table.specs.declared.ends.End.{End}
+use Rattle.addr_table.specs.Private.Merged.{Cursor, IsNext, ends_in, taken_of}
 use Rattle.addr_table.proofs.MergeLaws.{head-next, none-next}
 use Rattle.addr_table.proofs.end_cursor.EndCursor.next.Goals as goal
 
 pub returns-in-Some : goal.returns-in-Some
 returns-in-Some c =
-    let next = head-next c.args.self.now c.in-Some.end c.in-Some.field-0-1 c.head.ensures.merging
-    c.in-Some.ensures.head in
-    (next.within, λ d. ap (λ (e : End). e.at) (next.here d))
+    let inside : Cursor = record {
+      rows = c.self.inside.rows;
+      scopes = c.self.inside.scopes;
+      row = c.self.inside.row;
+      scope = c.self.inside.scope;
+    } in
+    let next = head-next inside c.in-Some.end c.in-Some.field-0-1 c.self.invariant.0
+    (subst (IsNext inside) c.in-Some.is c.self.invariant.1) in
+    let P : Cursor → Type 0 = λ x. (taken_of x < length (ends_in x))
+    × ((d : End) → (slice_index_or (ends_in x) (taken_of x) d).at ≡ c.in-Some.end.at) in
+    subst P c.self.view_is (next.within, λ d. ap (λ (e : End). e.at) (next.here d))
 
 pub returns-in-None : goal.returns-in-None
-returns-in-None c = none-next c.args.self.now c.head.ensures.merging c.in-None.ensures.head.0
-    c.in-None.ensures.head.1
+returns-in-None c =
+    let inside : Cursor = record {
+      rows = c.self.inside.rows;
+      scopes = c.self.inside.scopes;
+      row = c.self.inside.row;
+      scope = c.self.inside.scope;
+    } in
+    let none = subst (IsNext inside) c.in-None.is c.self.invariant.1 in
+    let P : Cursor → Type 0 = λ x. length (ends_in x) ≤ taken_of x in
+    subst P c.self.view_is (none-next inside c.self.invariant.0 none.0 none.1)

@@ -1,77 +1,63 @@
-use Rattle.std.proofs.Common.{◌≡◌, ◌+◌, ◌<◌, ◌^◌, Bool, true, false, refl, ap, sym, subst, arith}
+use Rattle.std.proofs.Common.{◌≡◌, ◌+◌, ℕ, drop, refl, ap, subst}
+use Rattle.std.proofs.Common.{arith}
+use Rattle.std.specs.Int.{from_bool}
+use Rattle.std.specs.Prelude.{not}
 use Rattle.addr_table.specs.declared.ends.End.{End}
-use Rattle.addr_table.specs.Private.Merged.{Cursor, IsHead, IsNextIn, taken_of}
-use Rattle.addr_table.proofs.MergeLaws.{head-next, later-above, row-taken, scope-taken}
+use Rattle.addr_table.specs.Private.Merged.{Cursor, IsHead, IsNext, IsNextIn, Takes, ends_in}
+use Rattle.addr_table.specs.Private.Merged.{taken_of}
+use Rattle.addr_table.specs.Private.Sweep.{Above}
+use Rattle.addr_table.proofs.MergeLaws.{head-next, later-above, one-taken, one-counted}
 use Rattle.addr_table.proofs.end_cursor.EndCursor.take_up_to.Goals as goal
 use Rattle.addr_table.proofs.end_cursor.EndCursor.take_up_to.Goals.{In_ok-next}
 
-next : (c : In_ok-next) → IsNextIn c.args.self.now c.in_ok-next.next
-next c = head-next c.args.self.now c.in_ok-next.next c.in_ok-next.is_row c.head.ensures.merging
-    c.in_ok-next.ensures.head
-
--- what the fields say of the next endpoint
-head : (c : In_ok-next) → IsHead (record {
+-- the fields before the call
+abbrev inside : In_ok-next → Cursor
+inside c = record {
   rows = c.self.inside.rows;
   scopes = c.self.inside.scopes;
   row = c.self.inside.row;
   scope = c.self.inside.scope;
-}) c.in_ok-next.next c.in_ok-next.is_row
-head c =
-    let H : Cursor → Type 0 = λ x. IsHead x c.in_ok-next.next c.in_ok-next.is_row in
-    subst H (sym c.self.view_is) c.in_ok-next.ensures.head
+}
+
+head : (c : In_ok-next) → IsHead (inside c) c.in_ok-next.next c.in_ok-next.is_row
+head c = subst (IsNext (inside c)) c.in_ok-next.was c.self.invariant.1
+
+next : (c : In_ok-next) → IsNextIn (inside c) c.in_ok-next.next
+next c = head-next (inside c) c.in_ok-next.next c.in_ok-next.is_row c.self.invariant.0 (head c)
 
 pub returns-then-next-end-clause-taken : goal.returns-then-next-end-clause-taken
-returns-then-next-end-clause-taken c = (
-  refl,
-  later-above c.args.self.now c.in_ok-next.next c.args.end c.head.ensures.merging
-      (next (goal.at.returns-then-next-end-clause-taken c).In_ok-next) c.if-next-end.true,
-)
-
-row_fits : (c : Cursor) (e : End) (is_row : Bool) → IsHead c e is_row → is_row ≡ true
-    → c.row + 1 < 2 ^ 64
-row_fits c e is_row h one = (subst (IsHead c e) one h).3
-
-scope_fits : (c : Cursor) (e : End) (is_row : Bool) → IsHead c e is_row → is_row ≡ false
-    → c.scope + 1 < 2 ^ 64
-scope_fits c e is_row h other = (subst (IsHead c e) other h).3
-
-pub overflow_add-self : goal.overflow_add-self
-overflow_add-self c =
-    omega (arith, row_fits _ _ _ (head (goal.at.overflow_add-self c).In_ok-next) c.if-is_row.true)
-
-pub overflow_add-self-else-is_row : goal.overflow_add-self-else-is_row
-overflow_add-self-else-is_row c =
-    let h = head (goal.at.overflow_add-self-else-is_row c).In_ok-next in
-    omega (arith, scope_fits _ _ _ h c.if-is_row.false)
+returns-then-next-end-clause-taken c =
+    let a = (goal.at.returns-then-next-end-clause-taken c).In_ok-next in
+    let P : Cursor → Type 0 = λ x. Above c.args.end (drop (taken_of x) (ends_in x)) in (
+      refl,
+      subst P c.self.view_is
+          (later-above (inside a) c.in_ok-next.next c.args.end c.self.invariant.0 (next a)
+          c.if-next-end.true),
+    )
 
 pub invariant_of-self : goal.invariant_of-self
-invariant_of-self c = row-taken _ c.in_ok-next.next _ _ c.self.invariant
-    (head (goal.at.invariant_of-self c).In_ok-next) c.if-is_row.true refl
+invariant_of-self c = (
+  one-taken (inside (goal.at.invariant_of-self c).In_ok-next) c.in_ok-next.next
+      c.in_ok-next.is_row _ _ c.self.invariant.0 (head (goal.at.invariant_of-self c).In_ok-next)
+      (ap (λ n. c.self.inside.row + n) c.from.ensures)
+      (ap (λ n. c.self.inside.scope + n) c.from-2.ensures),
+  c.next_of-self-inside.ensures,
+)
 
-pub invariant_of-self-else-is_row : goal.invariant_of-self-else-is_row
-invariant_of-self-else-is_row c = scope-taken _ c.in_ok-next.next _ _ c.self.invariant
-    (head (goal.at.invariant_of-self-else-is_row c).In_ok-next) c.if-is_row.false refl
-
-pub returns-then-is_row-clause-taken : goal.returns-then-is_row-clause-taken
-returns-then-is_row-clause-taken c =
-    let n = next (goal.at.returns-then-is_row-clause-taken c).In_ok-next in
-    let taken : c.self.inside.row + c.self.inside.scope ≡ taken_of c.args.self.now =
-    ap taken_of c.self.view_is in
-    record {
+pub returns-clause-taken : goal.returns-clause-taken
+returns-clause-taken c =
+    let a = (goal.at.returns-clause-taken c).In_ok-next in
+    let n = next a in
+    let row : c.from.result ≡ from_bool c.in_ok-next.is_row = c.from.ensures in
+    let scope : c.from-2.result ≡ from_bool (not c.in_ok-next.is_row) = c.from-2.ensures in
+    let one = one-counted c.in_ok-next.is_row in
+    let after : ℕ = c.self.inside.row + c.from.result + (c.self.inside.scope + c.from-2.result) in
+    let more : after ≡ taken_of (inside a) + 1 = omega (arith, row, scope, one) in
+    let T : Cursor → Type 0 = λ x. Takes c.args.end c.in_ok-next.next.key (taken_of x) after
+    (ends_in x) in
+    subst T c.self.view_is (record {
       within = n.within;
       key_is = λ d. ap (λ (e : End). e.key) (n.here d);
       low = λ d. omega (arith, ap (λ (e : End). e.at) (n.here d), c.if-next-end.false);
-      more = omega (arith, taken);
-    }
-
-pub returns-else-is_row-clause-taken : goal.returns-else-is_row-clause-taken
-returns-else-is_row-clause-taken c =
-    let n = next (goal.at.returns-else-is_row-clause-taken c).In_ok-next in
-    let taken : c.self.inside.row + c.self.inside.scope ≡ taken_of c.args.self.now =
-    ap taken_of c.self.view_is in
-    record {
-      within = n.within;
-      key_is = λ d. ap (λ (e : End). e.key) (n.here d);
-      low = λ d. omega (arith, ap (λ (e : End). e.at) (n.here d), c.if-next-end.false);
-      more = omega (arith, taken);
-    }
+      more = more;
+    })

@@ -5,8 +5,7 @@ use Rattle.addr_table.proofs.row_ends.RowEnds.of.Goals as goal
 
 pub returns-clause-permutation : goal.returns-clause-permutation
 returns-clause-permutation c = IsPermutation-map (row_end c.args.rows.now c.args.is_end) _ _
-    c.in_ok-order.ensures.permutation
+    c.sort_rows.ensures.permutation
 
 pub returns-clause-rise : goal.returns-clause-rise
-returns-clause-rise c =
-    ends-rise c.args.rows.now c.args.is_end _ c.in_ok-order.ensures.rise
+returns-clause-rise c = ends-rise c.args.rows.now c.args.is_end _ c.sort_rows.ensures.rise
