@@ -8,7 +8,7 @@ use Rattle.dwarf_entries.specs.Order.{AreNumbered}
 use Rattle.addr_table.specs.Chains.{chain_of}
 use Rattle.addr_table.specs.Places.{last, scope_at}
 use Rattle.addr_table.specs.Private.Bits.{is_filled, IsFirstIn}
-use Rattle.addr_table.specs.Private.Sweep.{IsActiveAt}
+use Rattle.addr_table.specs.Private.Sweep.{IsActiveBelow, IsActiveAt}
 use Rattle.addr_table.proofs.ChainLaws.{chain-none, chain-some, inside, inside-none, inside-some}
 use Rattle.addr_table.proofs.ChainLaws.{number-at}
 
@@ -38,26 +38,26 @@ pub record IsWalked (a : ℕ) (scopes : List Scope) (n before now : ℕ) : Type 
   pub calls : now + length (inside a scopes n no_scope) + 1 ≤ before + length (chain_of a scopes) +
       1
 
-pub walked-start : (rows a n before now : ℕ) (scopes : List Scope) (counts : List ℕ)
+pub walked-start : (rows a n limit before now : ℕ) (scopes : List Scope) (counts : List ℕ)
     → AreNumbered 0 (length scopes) scopes
-    → IsActiveAt rows scopes a counts
+    → IsActiveBelow rows scopes limit a counts → n < limit
     → IsFirstIn (is_filled counts) rows (rows + length scopes) (Some (rows + n)) → now ≤ before + 1
     → IsWalked a scopes n before now
-walked-start rows a n before now scopes counts numbered h found le =
-    let is = chain-some rows a n scopes counts no_scope numbered h found in
+walked-start rows a n limit before now scopes counts numbered h under found le =
+    let is = chain-some rows a n limit scopes counts no_scope numbered h under found in
     let len : length (chain_of a scopes) ≡ suc (length (inside a scopes n no_scope)) =
     ap length is in
     record { last_is = ap last is; calls = omega arith }
 
-pub walked-more : (rows a n m before now after : ℕ) (scopes : List Scope) (counts : List ℕ)
+pub walked-more : (rows a n m limit before now after : ℕ) (scopes : List Scope) (counts : List ℕ)
     → AreNumbered 0 (length scopes) scopes
-    → IsActiveAt rows scopes a counts → n < length scopes
+    → IsActiveBelow rows scopes limit a counts → n < length scopes → m < limit
     → IsFirstIn (is_filled counts) (rows + length scopes + n + 1)
     (rows + length scopes + (get_or scopes n no_scope).«end»)
     (Some (rows + length scopes + m))
     → IsWalked a scopes n before now → after ≤ now + 1 → IsWalked a scopes m before after
-walked-more rows a n m before now after scopes counts numbered h lt found w le =
-    let is = inside-some rows a n m scopes counts no_scope numbered h lt found in
+walked-more rows a n m limit before now after scopes counts numbered h lt under found w le =
+    let is = inside-some rows a n m limit scopes counts no_scope numbered h lt under found in
     let len : length (inside a scopes n no_scope) ≡ suc (length (inside a scopes m no_scope)) =
     ap length is in
     let was : now + length (inside a scopes n no_scope) + 1 ≤ before + length (chain_of a scopes) +
@@ -68,15 +68,16 @@ walked-more rows a n m before now after scopes counts numbered h lt found w le =
       calls = omega arith;
     }
 
-pub walked-end : (rows a n before now after : ℕ) (scopes : List Scope) (counts : List ℕ)
+pub walked-end : (rows a n limit before now after : ℕ) (scopes : List Scope) (counts : List ℕ)
     → AreNumbered 0 (length scopes) scopes
-    → IsActiveAt rows scopes a counts → n < length scopes
+    → IsActiveBelow rows scopes limit a counts → n < length scopes
+    → (get_or scopes n no_scope).«end» ≤ limit
     → IsFirstIn (is_filled counts) (rows + length scopes + n + 1)
     (rows + length scopes + (get_or scopes n no_scope).«end») None
     → IsWalked a scopes n before now → after ≤ now + 1
     → (Some n ≡ scope_at scopes a) × (after ≤ before + length (chain_of a scopes) + 1)
-walked-end rows a n before now after scopes counts numbered h lt none w le =
-    let is = inside-none rows a n scopes counts no_scope numbered h lt none in
+walked-end rows a n limit before now after scopes counts numbered h lt fits none w le =
+    let is = inside-none rows a n limit scopes counts no_scope numbered h lt fits none in
     let len : length (inside a scopes n no_scope) ≡ 0 = ap length is in
     let was : now + length (inside a scopes n no_scope) + 1 ≤ before + length (chain_of a scopes) +
     1 = w.calls in
@@ -105,16 +106,16 @@ pub numbered-all : (total : ℕ) (scopes : List Scope) → total ≡ length scop
     → AreNumbered 0 (length scopes) scopes
 numbered-all total scopes is h = let N : ℕ → Type 0 = λ t. AreNumbered 0 t scopes in subst N is h
 
-pub start-walk : (rows total a key n before now : ℕ) (scopes : List Scope) (counts : List ℕ)
+pub start-walk : (rows total a key n limit before now : ℕ) (scopes : List Scope) (counts : List ℕ)
     → total ≡ length scopes
-    → AreNumbered 0 total scopes → IsActiveAt rows scopes a counts
+    → AreNumbered 0 total scopes → IsActiveBelow rows scopes limit a counts → n < limit
     → IsFirstIn (is_filled counts) rows (rows + total) (Some key) → key ≡ rows + n
     → now ≤ before + 1 → IsWalked a scopes n before now
-start-walk rows total a key n before now scopes counts is numbered h found key_is le =
+start-walk rows total a key n limit before now scopes counts is numbered h under found key_is le =
     let T : ℕ → Type 0 = λ t. IsFirstIn (is_filled counts) rows (rows + t) (Some key) in
     let K : ℕ → Type 0 = λ k. IsFirstIn (is_filled counts) rows (rows + length scopes) (Some k) in
-    walked-start rows a n before now scopes counts (numbered-all total scopes is numbered) h
-    (subst K key_is (subst T is found)) le
+    walked-start rows a n limit before now scopes counts (numbered-all total scopes is numbered) h
+    under (subst K key_is (subst T is found)) le
 
 pub no-walk : (rows total a before now : ℕ) (scopes : List Scope) (counts : List ℕ)
     → total ≡ length scopes → AreNumbered 0 total scopes
@@ -126,15 +127,16 @@ no-walk rows total a before now scopes counts is numbered h none le =
     walked-none rows a before now scopes counts (numbered-all total scopes is numbered) h
     (subst T is none) le
 
-pub more-walk : (rows total a key n m past before now after : ℕ) (scopes : List Scope)
+pub more-walk : (rows total a key n m past limit before now after : ℕ) (scopes : List Scope)
     (counts counts' : List ℕ) → total ≡ length scopes
-    → AreNumbered 0 total scopes → IsActiveAt rows scopes a counts → n < total → counts' ≡ counts
+    → AreNumbered 0 total scopes → IsActiveBelow rows scopes limit a counts → n < total → m < limit
+    → counts' ≡ counts
     → past ≡ (get_or scopes n no_scope).«end»
     → IsFirstIn (is_filled counts') (rows + total + n + 1) (rows + total + past) (Some key)
     → key ≡ rows + total + m → IsWalked a scopes n before now → after ≤ now + 1
     → IsWalked a scopes m before after
-more-walk rows total a key n m past before now after scopes counts counts' is numbered h lt same
-    past_is found key_is w le =
+more-walk rows total a key n m past limit before now after scopes counts counts' is numbered h lt
+    under same past_is found key_is w le =
     let C : List ℕ → Type 0 = λ cs. IsFirstIn (is_filled cs) (rows + total + n + 1)
     (rows + total + past) (Some key) in
     let K : ℕ → Type 0 = λ k. IsFirstIn (is_filled counts) (rows + total + n + 1)
@@ -144,27 +146,27 @@ more-walk rows total a key n m past before now after scopes counts counts' is nu
     let T : ℕ → Type 0 =
     λ t. IsFirstIn (is_filled counts) (rows + t + n + 1)
     (rows + t + (get_or scopes n no_scope).«end») (Some (rows + t + m)) in
-    walked-more rows a n m before now after scopes counts (numbered-all total scopes is numbered) h
-    (omega arith)
+    walked-more rows a n m limit before now after scopes counts
+    (numbered-all total scopes is numbered) h (omega arith) under
     (subst T is (subst P past_is (subst K key_is (subst C same found)))) w le
 
-pub end-walk : (rows total a n past before now after : ℕ) (scopes : List Scope)
+pub end-walk : (rows total a n past limit before now after : ℕ) (scopes : List Scope)
     (counts counts' : List ℕ) → total ≡ length scopes
-    → AreNumbered 0 total scopes → IsActiveAt rows scopes a counts → n < total → counts' ≡ counts
-    → past ≡ (get_or scopes n no_scope).«end»
+    → AreNumbered 0 total scopes → IsActiveBelow rows scopes limit a counts → n < total
+    → past ≤ limit → counts' ≡ counts → past ≡ (get_or scopes n no_scope).«end»
     → IsFirstIn (is_filled counts') (rows + total + n + 1) (rows + total + past) None
     → IsWalked a scopes n before now → after ≤ now + 1
     → (Some n ≡ scope_at scopes a) × (after ≤ before + length (chain_of a scopes) + 1)
-end-walk rows total a n past before now after scopes counts counts' is numbered h lt same past_is
-    none w le =
+end-walk rows total a n past limit before now after scopes counts counts' is numbered h lt fits same
+    past_is none w le =
     let C : List ℕ → Type 0 = λ cs. IsFirstIn (is_filled cs) (rows + total + n + 1)
     (rows + total + past) None in
     let P : ℕ → Type 0 = λ e. IsFirstIn (is_filled counts) (rows + total + n + 1) (rows + total + e)
     None in
     let T : ℕ → Type 0 = λ t. IsFirstIn (is_filled counts) (rows + t + n + 1)
     (rows + t + (get_or scopes n no_scope).«end») None in
-    walked-end rows a n before now after scopes counts (numbered-all total scopes is numbered) h
-    (omega arith)
+    walked-end rows a n limit before now after scopes counts (numbered-all total scopes is numbered)
+    h (omega arith) (omega arith)
     (subst T is (subst P past_is (subst C same none))) w le
 
 -- the end of a scope is within the list

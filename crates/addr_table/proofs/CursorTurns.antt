@@ -1,17 +1,17 @@
 -- One endpoint of a cursor is taken.
 use Rattle.std.proofs.Common.{◌≡◌, ℕ, ◌+◌, ◌-◌, ◌<◌, ◌≤◌, ◌^◌, List, length, take, set, get_or}
 use Rattle.std.proofs.Common.{ap, sym, ◌∙◌, subst, inl, inr, refl, arith, Bool, true, false, ◌||◌}
-use Rattle.std.specs.Prelude.{nat_le}
 use Rattle.std.proofs.lemmas.Bool.{false≢true}
-use Rattle.std.proofs.lemmas.Bool.Decides.{nat_tests}
 use Rattle.std.specs.List.{All}
 use Rattle.std.proofs.lemmas.Bool.{cases_lt}
 use Rattle.std.proofs.lemmas.List.{get_or_default, length-take}
 use Rattle.std.proofs.lemmas.List.Elements.{All-more}
 use Rattle.addr_table.specs.declared.ends.End.{End}
+use Rattle.addr_table.specs.declared.watched_scopes.WatchedScopes.{WatchedScopes}
 use Rattle.addr_table.specs.Private.Active.{ActiveSet, one_more}
 use Rattle.addr_table.specs.Private.Merged.{Takes}
-use Rattle.addr_table.specs.Private.Sweep.{UpTo, IsBalanced, MayClose, AreOfRows, keyed}
+use Rattle.addr_table.specs.Private.Sweep.{UpTo, IsBalanced, MayClose, keyed}
+use Rattle.addr_table.specs.Private.Sweep.{is_watched, AreUnwatched}
 use Rattle.addr_table.proofs.ActiveCounts.{balance-open, balance-close, close-active, count-few}
 use Rattle.addr_table.proofs.ActiveCounts.{keyed-more, one_same}
 
@@ -30,14 +30,16 @@ upto-taken end key n n' ends upto t =
     subst (λ m. UpTo end (take m ends)) (sym t.more)
     (All-more (λ (x : End). x.at ≤ end) ends n d t.within upto (t.low d))
 
-pub rows-taken : (rows end key first n n' : ℕ) (ends : List End) → AreOfRows rows first n ends
-    → key < rows → Takes end key n n' ends → AreOfRows rows first n' ends
-rows-taken rows end key first n n' ends of lt t k d low high = elim (cases_lt k n) [
-  | inl before ↦ of k d low before
+pub unwatched-taken : (w : WatchedScopes) (end key first n n' : ℕ) (ends : List End)
+    → AreUnwatched w first n ends → is_watched w key ≡ false → Takes end key n n' ends
+    → AreUnwatched w first n' ends
+unwatched-taken w end key first n n' ends before not_watched t k d low high = elim (cases_lt k n) [
+  | inl lt ↦ before k d low lt
   | inr after ↦
       let same : n ≡ k = omega (arith, after, high, t.more) in
-      let here : (get_or ends k d).key ≡ key = ap (λ m. (get_or ends m d).key) (sym same) ∙ t.key_is d
-      in omega (arith, here, lt)
+      let here : (get_or ends k d).key ≡ key =
+      ap (λ m. (get_or ends m d).key) (sym same) ∙ t.key_is d in
+      ap (is_watched w) here ∙ not_watched
 ]
 
 -- a count is at most the number of starts
@@ -98,11 +100,10 @@ close-taken end key p n n' opens closes old new t b within some counts calls =
     (λ lt more put. balance-close opens closes p n old new e b t.within is lt more put calls)
     within some counts)
 
--- neither this endpoint nor an earlier one is of a scope
-pub none-of-scopes : (has_scope : Bool) (rows key : ℕ) → (has_scope || nat_le rows key) ≡ false
-    → (has_scope ≡ false) × (key < rows)
-none-of-scopes true rows key h = absurd (false≢true (sym h))
-none-of-scopes false rows key h = (refl, grind (arith, nat_tests))
+-- neither an earlier endpoint nor this one is watched
+pub neither : (earlier this : Bool) → (earlier || this) ≡ false → (earlier ≡ false) × (this ≡ false)
+neither true this h = absurd (false≢true (sym h))
+neither false this h = (refl, h)
 
 -- what holds of two lists holds of equal lists
 pub of-equal : (P : List End → List End → Type 0) (xs xs' ys ys' : List End) → xs ≡ xs' → ys ≡ ys'

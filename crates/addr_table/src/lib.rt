@@ -31,6 +31,7 @@ mod steps;
 mod sweep;
 mod table;
 mod texts;
+mod watched_scopes;
 
 pub use frames::{Frame, Frames};
 pub use module::{Module, Scan};

@@ -96,6 +96,34 @@ fn the_first_inlined_subroutine_and_not_the_narrowest(rt: HostRuntime) {
 }
 
 #[test]
+fn scopes_that_start_inside_and_after_the_innermost_scope(rt: HostRuntime) {
+    let mut entries = Vec::new(rt.alloc());
+    // scopes 0 and 1: 0x1024 to 0x1040, and inside it 0x1028 to 0x1030
+    put_entry(&rt, &mut entries, 2, b'm', 0x1024, 28);
+    put_entry(&rt, &mut entries, 5, b'i', 0x1028, 8);
+    put(&rt, &mut entries, &[0]);
+    // scopes 2 and 3: 0x1020 to 0x1044, and inside it 0x102c to 0x103c
+    put_entry(&rt, &mut entries, 2, b'n', 0x1020, 36);
+    put_entry(&rt, &mut entries, 5, b'j', 0x102c, 16);
+    put(&rt, &mut entries, &[0]);
+    let module = module(&rt, one_unit(&rt, &entries, line(), &[]));
+    let innermost = [
+        (0x1020, 2),
+        (0x1024, 0),
+        (0x1028, 1),
+        (0x102c, 1),
+        (0x1030, 0),
+        (0x103c, 0),
+        (0x1040, 2),
+    ];
+    for (link, scope) in innermost {
+        let place = numbers(find(&module, link));
+        are_equal(&rt, (link, place), (link, Some((None, Some(scope)))));
+    }
+    are_equal(&rt, find(&module, 0x1044), None);
+}
+
+#[test]
 fn a_call_without_file_and_line(rt: HostRuntime) {
     let mut entries = Vec::new(rt.alloc());
     put_entry(&rt, &mut entries, 2, b'm', 0x1020, 16);
