@@ -1,6 +1,7 @@
 //! A cursor over the endpoints of rows and of scopes.
 
-ghost use Rattle.std.specs.Prelude.{◌≡◌, ◌+◌, ◌<◌, ◌≤◌, length, drop, slice_index_or, MatchOption};
+ghost use Rattle.std.specs.Prelude.{◌≡◌, ◌+◌, ◌-◌, ◌^◌, ◌<◌, ◌≤◌, length, drop, min, slice_index_or};
+ghost use Rattle.std.specs.Prelude.{MatchOption};
 ghost use Rattle.std.specs.List.Sorted.{IsNonDecreasingBy};
 ghost use Rattle.addr_table.specs.declared.ends.End.{End as Ended};
 ghost use Rattle.addr_table.specs.Private.Merged.{IsNext, Takes, merged, ends_in, taken_of};
@@ -74,6 +75,13 @@ impl<'a> EndCursor<'a> {
             scope: 0,
             next,
         }
+    }
+
+    /// Returns the number of endpoints, saturating at `usize::MAX`.
+    pub(crate) fn len(&self) -> usize
+        ensures { result ≡ min (length self.now.rows + length self.now.scopes) (2 ^ 64 - 1) }
+    {
+        self.rows.len().saturating_add(self.scopes.len())
     }
 
     /// Returns the address of the next endpoint.

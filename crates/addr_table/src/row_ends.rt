@@ -6,8 +6,9 @@ ghost use Rattle.addr_table.specs.declared.ends.End.{End as Ended};
 ghost use Rattle.addr_table.specs.Private.RowOrder.{covering_from, row_end};
 
 use crate::ends::End;
-use crate::row_order::{address_of, sort_rows};
+use crate::row_order::address_of;
 use dwarf_lines::Row;
+use std::alloc::AllocError;
 use std::marker::Model;
 
 /// Endpoints of rows, of four bytes each: the address is looked up in the rows.
@@ -31,17 +32,23 @@ impl<'a> Model for RowEnds<'a> {
 }
 
 impl<'a> RowEnds<'a> {
-    /// Returns the starts, or the ends, of the rows of a list, in ascending order.
-    pub(crate) fn of(rows: &'a [Row], mut order: Vec<u32>, is_end: bool) -> RowEnds<'a>
-        ensures permutation { IsPermutation (map (row_end rows.now is_end) order.items) result }
-        ensures rise { IsNonDecreasingBy (λ (e : Ended). e.at) result }
+    /// Returns the starts, or the ends, of the rows of a list, in ascending order. The stable sort
+    /// exploits that the rows of most sequences are in order already.
+    pub(crate) fn of(
+        rows: &'a [Row],
+        mut order: Vec<u32>,
+        is_end: bool,
+    ) -> Result<RowEnds<'a>, AllocError>
+        ensures permutation { IfOk result
+            (λ r. IsPermutation (map (row_end rows.now is_end) order.items) r) }
+        ensures rise { IfOk result (λ r. IsNonDecreasingBy (λ (e : Ended). e.at) r) }
     {
-        sort_rows(rows, &mut order, is_end);
-        RowEnds {
+        order.sort_by_key(|row| address_of(rows, *row, is_end))?;
+        Ok(RowEnds {
             rows,
             order,
             is_end,
-        }
+        })
     }
 
     /// Returns the number of endpoints.

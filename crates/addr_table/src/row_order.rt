@@ -6,7 +6,6 @@ ghost use Rattle.addr_table.specs.Private.RowOrder.{covering_from, sequence_from
 ghost use Rattle.addr_table.specs.Private.RowOrder.{row_end};
 
 use crate::packed::narrow;
-use crate::room::count_covers;
 use dwarf_lines::Row;
 use std::alloc::{AllocError, Global};
 
@@ -66,34 +65,9 @@ pub(crate) fn covering_rows(alloc: Global, rows: &[Row]) -> Result<Vec<u32>, All
 {
     let mut starts = sequence_starts(alloc, rows)?;
     starts.sort_unstable_by_key(|start| address_of(rows, *start, false));
-    let mut order = Vec::with_capacity(alloc, count_covers(rows))?;
+    let mut order = Vec::with_capacity(alloc, rows.len())?;
     for index in 0..starts.len() {
         add_sequence(&mut order, rows, starts[index] as usize)?;
     }
     Ok(order)
-}
-
-/// Returns whether no row starts, or ends, below the one before it.
-fn is_ascending(rows: &[Row], order: &[u32], is_end: bool) -> bool
-    ensures { result ≡ true →
-        IsNonDecreasingBy (λ (n : ℕ). (row_end rows.now is_end n).at) order.now }
-{
-    for index in 1..order.len() {
-        let address = address_of(rows, order[index], is_end);
-        if address < address_of(rows, order[index - 1], is_end) {
-            return false;
-        }
-    }
-    true
-}
-
-/// Sorts rows by the address at which they start, or end.
-pub(crate) fn sort_rows(rows: &[Row], order: &mut Vec<u32>, is_end: bool)
-    ensures permutation { IsPermutation order.old.items order.new.items }
-    ensures rise { IsNonDecreasingBy (λ (n : ℕ). (row_end rows.now is_end n).at) order.new.items }
-{
-    if is_ascending(rows, order, is_end) {
-        return;
-    }
-    order.sort_unstable_by_key(|row| address_of(rows, *row, is_end));
 }

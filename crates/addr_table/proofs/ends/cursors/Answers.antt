@@ -15,11 +15,11 @@ returns-clause-ends c =
     c.in_ok-starts.ensures in
     let starts = IsPermutation-trans _ _ _
     (IsPermutation-map (row_end c.args.rows.now false) _ _ c.in_ok-starts.ensures)
-    c.of.ensures.permutation in
+    c.in_ok-row_starts.ensures.permutation in
     let ends = IsPermutation-trans _ _ _
     (IsPermutation-map (row_end c.args.rows.now true) _ _ copied)
-    c.of-2.ensures.permutation in
-    let rows = rows-sorted c.args.rows.now _ _ starts ends c.of.ensures.rise c.of-2.ensures.rise in
+    c.in_ok-row_ends.ensures.permutation in
+    let rows = rows-sorted c.args.rows.now _ _ starts ends c.in_ok-row_starts.ensures.rise c.in_ok-row_ends.ensures.rise in
     let scopes = are-sorted _ _ _ _ _ _ _ c.in_ok-of_scopes.ensures.opens
     c.in_ok-of_scopes.ensures.closes c.in_ok-add_scopes.ensures c.sort.ensures.opens
     c.sort.ensures.closes c.in_ok-sort.ensures.opens_rise c.in_ok-sort.ensures.closes_rise in
