@@ -1,12 +1,10 @@
 //! Counts ranges, so that lists of their endpoints can be allocated with the full capacity.
 
-ghost use Rattle.std.specs.Prelude.{◌≡◌, ◌+◌, ◌-◌, ◌^◌, length, min, sum_by, not, ◌&&◌, nat_lt};
+ghost use Rattle.std.specs.Prelude.{◌≡◌, ◌-◌, ◌^◌, length, min, sum_by};
 ghost use Rattle.dwarf_entries.specs.Order.{AreInOrder};
-ghost use Rattle.addr_table.specs.Private.Sweep.{row_reaches, nonempty};
 
 use crate::scopes::{count, scope_at};
 use dwarf_entries::Scopes;
-use dwarf_lines::Row;
 
 /// Returns the number of ranges of all scopes, saturating at `usize::MAX`.
 pub(crate) fn count_ranges(scopes: &Scopes) -> usize

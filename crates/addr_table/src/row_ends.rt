@@ -1,9 +1,9 @@
 //! The starts, or the ends, of the addresses that rows cover.
 
-ghost use Rattle.std.specs.Prelude.{◌≡◌, ◌<◌, ◌^◌, length, map, slice_index_or, IfOk};
+ghost use Rattle.std.specs.Prelude.{◌≡◌, ◌<◌, length, map, slice_index_or, IfOk};
 ghost use Rattle.std.specs.List.Sorted.{IsPermutation, IsNonDecreasingBy};
 ghost use Rattle.addr_table.specs.declared.ends.End.{End as Ended};
-ghost use Rattle.addr_table.specs.Private.RowOrder.{covering_from, row_end};
+ghost use Rattle.addr_table.specs.Private.RowOrder.{row_end};
 
 use crate::ends::End;
 use crate::row_order::address_of;

@@ -1,7 +1,7 @@
 //! The rows that cover addresses, in the order of their sequences' first addresses.
 
-ghost use Rattle.std.specs.Prelude.{◌≡◌, ◌++◌, ◌<◌, ◌^◌, ℕ, true, drop, length, IfOk, OnOk};
-ghost use Rattle.std.specs.List.Sorted.{IsPermutation, IsNonDecreasingBy};
+ghost use Rattle.std.specs.Prelude.{◌≡◌, ◌++◌, ◌<◌, ◌^◌, true, drop, length, IfOk, OnOk};
+ghost use Rattle.std.specs.List.Sorted.{IsPermutation};
 ghost use Rattle.addr_table.specs.Private.RowOrder.{covering_from, sequence_from, starts_from};
 ghost use Rattle.addr_table.specs.Private.RowOrder.{row_end};
 
