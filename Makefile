@@ -46,7 +46,7 @@ help:
 	@echo 'make check-docs   compares the manual page and documents with the sources: options, refusals,'
 	@echo '                  causes, targets, the version; finds phrases that the documents avoid'
 	@echo 'make compare      compares the data read from objects with the output of other readers'
-	@echo 'make hostile      measures time and memory for adversarial objects'
+	@echo 'make hostile      measures time and memory of readers and whole loads for adversarial objects'
 	@echo 'make fuzz         fuzzes objects and commands against a reference implementation in Python'
 	@echo '                  (SEED=1 COUNT=20000)'
 	@echo 'make memory       makes each allocation, read and write fail in turn (DURATION=60, in seconds)'
@@ -145,7 +145,7 @@ compare:
 	@tools/needs.sh compare $(or $(RT),$(if $(MEASURE),,rt)) python3 $(COMPILERS) $(READERS)
 	tools/compare_objects.sh
 
-# Measures time and memory for adversarial objects.
+# Measures time and memory of readers and whole loads for adversarial objects.
 hostile:
 	@tools/needs.sh hostile $(if $(MEASURE),,rt) python3
 	tools/hostile.sh

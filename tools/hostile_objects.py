@@ -1,6 +1,10 @@
 """Builds ELF objects, line programs and units for adversarial and random tests."""
 import struct
 
+# The directories and files of a line program: the directory `/` with the files `a` and `b`.
+FILES = bytes([1, 1, 8, 1]) + b"/\0" + bytes([1, 1, 8, 2]) + b"a\0b\0"
+NAMES = ".shstrtab"  # the section of names
+
 
 def uleb(number):
     """Returns the ULEB128 encoding of a number."""
@@ -24,7 +28,7 @@ def elf(sections, segments=1, names=None):
         offsets.append(len(text))
         text += name.encode() + b"\0"
     offsets.append(len(text))
-    text += b".shstrtab\0"
+    text += NAMES.encode() + b"\0"
     further = 0
     if names is not None:
         further = names[1]
@@ -33,8 +37,9 @@ def elf(sections, segments=1, names=None):
     program_headers = struct.pack("<IIQQQQQQ", 1, 0, 0, 0x1000, 0, 0, 0x1000, 0) * segments
     place = 64 + len(program_headers)
     headers, body = [bytes(64)], bytearray()
-    for (_, data), offset in zip(list(sections) + [("", bytes(text))], offsets):
-        numbers = (offset, 1, 0, 0, place + len(body), len(data), 0, 0, 0, 0)
+    for (name, data), offset in zip([*sections, (NAMES, bytes(text))], offsets):
+        kind = 3 if name == NAMES else 1  # SHT_STRTAB or SHT_PROGBITS
+        numbers = (offset, kind, 0, 0, place + len(body), len(data), 0, 0, 0, 0)
         headers.append(struct.pack("<IIQQQQIIQQ", *numbers))
         body += data
     headers += [bytes(64)] * further
@@ -50,6 +55,18 @@ def line_program(tables, instructions=b""):
     fields = bytes([1, 1, 1, 0xFB, 14, 13, 0, 1, 1, 1, 1, 0, 0, 0, 1, 0, 0, 1]) + tables
     rest = struct.pack("<HBBI", 5, 8, 0, len(fields)) + fields + instructions
     return struct.pack("<I", len(rest)) + rest
+
+
+def abbreviation_table(*declarations):
+    """Returns a table of declarations with the codes 1, 2 and so on. A declaration has a tag,
+    whether there are children, and pairs of an attribute and its form."""
+    table = bytearray()
+    for code, (tag, has_children, *attributes) in enumerate(declarations, 1):
+        table += bytes([code, tag, has_children])
+        for attribute, form in attributes:
+            table += bytes([attribute, form])
+        table += bytes(2)
+    return bytes(table) + bytes(1)
 
 
 def unit_of(entries):

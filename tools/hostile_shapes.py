@@ -1,9 +1,7 @@
 """Adversarial objects, each of about a given size in bytes."""
 import struct
 
-from hostile_objects import elf, line_program, uleb, unit_of
-
-FILES = bytes([1, 1, 8, 1]) + b"/\0" + bytes([1, 1, 8, 2]) + b"a\0b\0"
+from hostile_objects import FILES, elf, line_program, uleb, unit_of
 
 
 def directories_in_one_text(size):
