@@ -24,8 +24,9 @@ DOCUMENTS = $(INSTALLED)/share/doc/addr2line_live
 DIST = out/addr2line_live-$(shell cat VERSION)
 INSTALLED_TOOLS = addr2line load_of_kernel loads_of_process mark_dropped symbolize_markup \
     symbolize_perf symbolize_text
-INSTALLED_MODULES = core_files debug_files demangle dropped_bytes dropped_code dropped_entries \
-    dropped_lines dropped_tables elf_symbols kernel_base live loaded_objects markup symbolizer
+INSTALLED_MODULES = asked_addresses core_files debug_files demangle dropped_bytes dropped_code \
+    dropped_entries dropped_lines dropped_tables elf_symbols kernel_base live loaded_objects markup \
+    symbolizer
 COMPILERS = gcc g++ objcopy
 READERS = readelf objdump nm addr2line llvm-symbolizer llvm-dwarfdump
 

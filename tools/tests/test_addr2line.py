@@ -11,6 +11,9 @@ from pathlib import Path
 sys.path.insert(0, str(Path(__file__).resolve().parent))
 from programs import PROGRAM, TOOLS, compiled, instructions, output_of, symbol
 
+sys.path.insert(0, str(TOOLS))
+from debug_files import sections
+
 # `square` is inlined into `twice`.
 SOURCE = """
 static inline __attribute__((always_inline)) int square(int x)
@@ -39,6 +42,7 @@ OPTIONS = (
     "-b elf64-x86-64",
 )
 ODD = [",", "", "zz", "-1", "main", "main+1", "twice+0x2", "none+2", "0", "ffffffffffffffff"]
+AROUND = ["+{}", "+ {}", " {}", "{} ", "{} main", "{}\r", "{}zz", "{}+1", "-{}"]
 
 
 def plain(text):
@@ -67,9 +71,18 @@ class Addr2line(unittest.TestCase):
         """Looks up the instructions of two functions, and unusual lines, with all options."""
         path = compiled(self.folder, "twice", SOURCE, "-O2")
         code = [at for name in ("twice", "main") for at, _ in instructions(path, name)]
-        asked = "".join(f"{line}\n" for line in [*map(hex, code), *ODD])
+        around = [text.format(hex(code[0])) for text in AROUND]
+        asked = "".join(f"{line}\n" for line in [*map(hex, code), *around, *ODD])
         for options in OPTIONS:
             self.same_as_binutils(path, options, asked)
+
+    def test_addresses_in_a_section(self):
+        """They are relative to the start of the section, and unknown after its end."""
+        path = compiled(self.folder, "twice", SOURCE, "-O2")
+        text = sections(path)[".text"]
+        code = [at - text.address for at, _ in instructions(path, "twice")]
+        asked = "".join(f"{at:x}\n" for at in [*code, text.size, text.size + 1, text.address])
+        self.same_as_binutils(path, "-a -f -i -j .text", asked)
 
     def test_addresses_as_arguments_and_from_a_file(self):
         path = compiled(self.folder, "twice", SOURCE, "-O2")
