@@ -1,5 +1,5 @@
-.PHONY: help try demo test check edits program install uninstall dist compare hostile fuzz memory \
-        long-run bench growth tools-test check-docs
+.PHONY: help try demo test check edits program install uninstall dist compare compare-real hostile \
+        fuzz memory long-run bench growth tools-test check-docs
 
 PREFIX ?= /usr/local
 # Paths of built programs. A target that gets all programs that it runs needs no rt.
@@ -17,6 +17,7 @@ export TESTS
 endif
 RT = $(if $(ADDR2LINE_LIVE),,rt)
 PROGRAM = $(or $(ADDR2LINE_LIVE),crates/addr2line_live/out/addr2line_live)
+MEASURE_PROGRAM = $(or $(MEASURE),crates/measure/out/measure)
 TEST_PROGRAM = $(or $(TESTS),crates/command_loop_tests/out/command_loop_tests_tests)
 INSTALLED = $(DESTDIR)$(PREFIX)
 LIBEXEC = $(INSTALLED)/libexec/addr2line_live
@@ -47,6 +48,9 @@ help:
 	@echo 'make check-docs   compares the manual page and documents with the sources: options, refusals,'
 	@echo '                  causes, targets, the version; finds phrases that the documents avoid'
 	@echo 'make compare      compares the data read from objects with the output of other readers'
+	@echo 'make compare-real   does so for objects of the distribution: the debug files of the C library'
+	@echo '                  and of Python, and kernels, if their packages are installed, or'
+	@echo '                  REAL_OBJECTS="PATH PATH"; prints the time and memory of each load'
 	@echo 'make hostile      measures time and memory of readers and whole loads for adversarial objects'
 	@echo 'make fuzz         fuzzes objects and commands against a reference implementation in Python'
 	@echo '                  (SEED=1 COUNT=20000)'
@@ -59,8 +63,8 @@ help:
 	@echo 'make growth       measures how the costs grow with the size of an object and the number of'
 	@echo '                  modules, and draws docs/growth.svg (some ten minutes, 2 GB in out/growth)'
 	@echo 'With ADDR2LINE_LIVE=PATH, a target that runs the program uses the built one at PATH, and does'
-	@echo 'not prove or build it. MEASURE=PATH (compare, hostile, bench) and TESTS=PATH (memory) do the'
-	@echo 'same for measure and for the tests of command_loop.'
+	@echo 'not prove or build it. MEASURE=PATH (compare, compare-real, hostile, bench) and TESTS=PATH'
+	@echo '(memory) do the same for measure and for the tests of command_loop.'
 
 # Runs the program on a stored object. The program is compiled without optimization or proof.
 try:
@@ -145,6 +149,13 @@ check-docs:
 compare:
 	@tools/needs.sh compare $(or $(RT),$(if $(MEASURE),,rt)) python3 $(COMPILERS) $(READERS)
 	tools/compare_objects.sh
+
+# Does so for objects of the distribution, or for REAL_OBJECTS.
+compare-real:
+	@tools/needs.sh compare-real $(or $(RT),$(if $(MEASURE),,rt)) python3 objcopy $(READERS)
+	@tools/build.sh measure measure.log
+	@tools/build.sh addr2line_live
+	tools/compare_real.py $(PROGRAM) $(MEASURE_PROGRAM) out/real $(REAL_OBJECTS)
 
 # Measures time and memory of readers and whole loads for adversarial objects.
 hostile:

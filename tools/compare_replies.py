@@ -10,7 +10,9 @@ addr2line nor that of llvm-symbolizer, apart from these differences:
 - this program reads no symbols: if it reports no function, any name of the symbol table agrees, and
   if it reports nothing, any reply without a line agrees;
 - of several symbols with one value, such as the symbols of a destructor, others may report another
-  one.
+  one;
+- for units of link-time optimization, addr2line may print their name `<artificial>` instead of the
+  file. Then the file of llvm-symbolizer counts, or none if it reports nothing.
 """
 import re
 import subprocess
@@ -26,6 +28,9 @@ FRAME = re.compile(
 DISCRIMINATOR = re.compile(r" \(discriminator \d+\)$")
 COPY = re.compile(r"(\.(lto_priv|isra|constprop|part|cold)(\.\d+)?)+$")
 OPTIONS = ["-a", "-f", "-i", "-p", "-s"]
+UNKNOWN = [("??", "??", 0)]
+ARTIFICIAL = "<artificial>"
+ANY = None  # a file that agrees with each file
 
 
 def replies(command, asked):
@@ -59,46 +64,62 @@ def values(path):
     """Returns the value of each symbol."""
     how = {"capture_output": True, "text": True, "check": True}
     listed = subprocess.run(["nm", "--defined-only", path], **how).stdout
-    fields = (line.split(maxsplit=2) for line in listed.splitlines())
-    return {name: value for value, _, name in fields}
+    rows = (line.split(maxsplit=2) for line in listed.splitlines())
+    return {row[2]: row[0] for row in rows if len(row) == 3}  # a name can be empty
+
+
+def with_files(frames, others):
+    """Returns the frames with the files of others in place of `<artificial>`."""
+    if others == UNKNOWN:
+        files = [ANY] * len(frames)
+    elif len(others) == len(frames):
+        files = [file for _, file, _ in others]
+    else:
+        return frames
+    return [(name, other if file == ARTIFICIAL else file, line)
+            for (name, file, line), other in zip(frames, files)]
 
 
 def agree(ours, theirs, symbols):
     """Returns whether two replies agree, apart from what this program does not report."""
-    if ours == [("??", "??", 0)]:
+    if ours == UNKNOWN:
         return all(line == 0 for _, _, line in theirs)
     if len(ours) != len(theirs):
         return False
     return all(
-        a[1:] == b[1:] and (a[0] in ("??", b[0]) or symbols.get(a[0], 0) == symbols.get(b[0]))
+        a[2] == b[2] and b[1] in (a[1], ANY)
+        and (a[0] in ("??", b[0]) or symbols.get(a[0], 0) == symbols.get(b[0]))
         for a, b in zip(ours, theirs)
     )
 
 
+def compare(program, path, asked):
+    """Compares the replies for some addresses. Returns the number of unexplained ones."""
+    ours = replies([program, "-e", path, "--linkage", *OPTIONS], asked)
+    printed = replies(["addr2line", "-e", path, *OPTIONS], asked)
+    style = ["--output-style=GNU", "--no-demangle"]
+    command = ["llvm-symbolizer", *style, f"--obj={path}", *OPTIONS]
+    llvm = last_parts(replies(command, asked))
+    binutils = {a: with_files(printed[a], llvm[a]) for a in asked}
+    symbols = values(path)
+    with_binutils = {a for a in asked if agree(ours[a], binutils[a], symbols)}
+    with_llvm = {a for a in asked if agree(ours[a], llvm[a], symbols)}
+    alone = [a for a in asked if a not in with_binutils and a not in with_llvm]
+    print(
+        f"{Path(path).name}: {len(asked)} replies,"
+        f" {len(with_binutils & with_llvm)} as both others,"
+        f" {len(with_llvm - with_binutils)} as llvm-symbolizer alone,"
+        f" {len(with_binutils - with_llvm)} as addr2line alone, {len(alone)} as neither"
+    )
+    for a in alone[:3]:
+        print(f"  {a:x}: {ours[a]}\n    addr2line {printed[a]}\n    llvm-symbolizer {llvm[a]}")
+    return len(alone)
+
+
 def main():
     program, count, *paths = sys.argv[1:]
-    unexplained = 0
-    for path in paths:
-        asked = list(dict.fromkeys(addresses(path, int(count))))
-        ours = replies([program, "-e", path, "--linkage", *OPTIONS], asked)
-        binutils = replies(["addr2line", "-e", path, *OPTIONS], asked)
-        style = ["--output-style=GNU", "--no-demangle"]
-        command = ["llvm-symbolizer", *style, f"--obj={path}", *OPTIONS]
-        llvm = last_parts(replies(command, asked))
-        symbols = values(path)
-        with_binutils = {a for a in asked if agree(ours[a], binutils[a], symbols)}
-        with_llvm = {a for a in asked if agree(ours[a], llvm[a], symbols)}
-        alone = [a for a in asked if a not in with_binutils and a not in with_llvm]
-        print(
-            f"{Path(path).name}: {len(asked)} replies,"
-            f" {len(with_binutils & with_llvm)} as both others,"
-            f" {len(with_llvm - with_binutils)} as llvm-symbolizer alone,"
-            f" {len(with_binutils - with_llvm)} as addr2line alone, {len(alone)} as neither"
-        )
-        for a in alone[:3]:
-            print(f"  {a:x}: {ours[a]}\n    addr2line {binutils[a]}\n    llvm-symbolizer {llvm[a]}")
-        unexplained += len(alone)
-    sys.exit(bool(unexplained))
+    asked = {path: list(dict.fromkeys(addresses(path, int(count)))) for path in paths}
+    sys.exit(any([compare(program, path, asked[path]) for path in paths]))
 
 
 if __name__ == "__main__":

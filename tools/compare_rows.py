@@ -8,6 +8,7 @@ in dead sequences, which start at the tombstone 2^64-1. It fails if anything dif
 import re
 import subprocess
 import sys
+from itertools import zip_longest
 from pathlib import Path
 
 DROPPED = 2**64 - 1
@@ -15,14 +16,18 @@ ROW = re.compile(r"^(?P<file>\S.*?)\s+(?P<line>\d+|-)\s+(?P<address>0x[0-9a-f]+|
 
 
 def printed(*command):
-    """Returns the lines that a command prints."""
-    how = {"capture_output": True, "text": True, "errors": "replace", "check": True}
-    return subprocess.run(command, **how).stdout.splitlines()
+    """Yields the lines that a command prints. Its warnings are dropped."""
+    with subprocess.Popen(command, stdout=subprocess.PIPE, stderr=subprocess.DEVNULL, text=True,
+                          errors="replace") as running:
+        for text in running.stdout:
+            yield text.rstrip("\n")
+    if running.returncode != 0:
+        raise SystemExit(f"{command[0]} ended with {running.returncode}")
 
 
 def decoded(path):
     """Yields the rows that objdump prints: (address, base name, line), or (address, 'end', 0)."""
-    for text in printed("objdump", "--dwarf=decodedline", path):
+    for text in printed("objdump", "--wide", "--dwarf=decodedline", path):
         found = ROW.match(text)
         if not found:
             continue
@@ -55,19 +60,27 @@ def ours(measure, path):
             yield int(address, 16), file.rsplit("/", 1)[-1], int(line)
 
 
+def differences(left, right):
+    """Compares two sequences of rows. Returns the number of rows of each, the number that agree,
+    and the first differences."""
+    counts, same, shown = [0, 0], 0, []
+    for number, (a, b) in enumerate(zip_longest(left, right)):
+        counts[0] += a is not None
+        counts[1] += b is not None
+        same += a == b
+        if a != b and len(shown) < 5:
+            shown.append(f"  row {number}: {a} beside {b}")
+    return *counts, same, shown
+
+
 def main():
     measure, *paths = sys.argv[1:]
     differ = False
     for path in paths:
-        left, right = list(ours(measure, path)), list(kept(decoded(path)))
-        differ = differ or left != right
-        same = sum(a == b for a, b in zip(left, right))
-        print(f"{Path(path).name}: {len(left)} rows, objdump {len(right)}, {same} agree in place")
-        shown = 0
-        for number, (a, b) in enumerate(zip(left, right)):
-            if a != b and shown < 5:
-                shown += 1
-                print(f"  row {number}: {a} beside {b}")
+        own, other, same, shown = differences(ours(measure, path), kept(decoded(path)))
+        print(f"{Path(path).name}: {own} rows, objdump {other}, {same} agree in place")
+        print(*shown, sep="\n", end="\n" if shown else "")
+        differ = differ or bool(shown)
     sys.exit(differ)
 
 
