@@ -53,6 +53,7 @@ help:
 	@echo '                  and of Python, and kernels, if their packages are installed, or'
 	@echo '                  REAL_OBJECTS="PATH PATH"; prints the time and memory of each load'
 	@echo 'make hostile      measures time and memory of readers and whole loads for adversarial objects'
+	@echo '                  (some five minutes)'
 	@echo 'make fuzz         fuzzes objects and commands against a reference implementation in Python'
 	@echo '                  (SEED=1 COUNT=20000)'
 	@echo 'make memory       makes each allocation, read and write fail in turn (DURATION=60, in seconds)'

@@ -12,7 +12,9 @@ addr2line nor that of llvm-symbolizer, apart from these differences:
 - of several symbols with one value, such as the symbols of a destructor, others may report another
   one;
 - for units of link-time optimization, addr2line may print their name `<artificial>` instead of the
-  file. Then the file of llvm-symbolizer counts, or none if it reports nothing.
+  file. Then the file of llvm-symbolizer counts, or none if it reports nothing;
+- the last row of a function covers the padding after it, which may be outside the ranges of all
+  units. This program reports that row, and the others report no line.
 """
 import re
 import subprocess
@@ -93,6 +95,12 @@ def agree(ours, theirs, symbols):
     )
 
 
+def is_padding(ours, *others):
+    """Returns whether only this program reports a line, and no function with it."""
+    return len(ours) == 1 and ours[0][0] == "??" and all(
+        line == 0 for frames in others for _, _, line in frames)
+
+
 def compare(program, path, asked):
     """Compares the replies for some addresses. Returns the number of unexplained ones."""
     ours = replies([program, "-e", path, "--linkage", *OPTIONS], asked)
@@ -104,12 +112,14 @@ def compare(program, path, asked):
     symbols = values(path)
     with_binutils = {a for a in asked if agree(ours[a], binutils[a], symbols)}
     with_llvm = {a for a in asked if agree(ours[a], llvm[a], symbols)}
-    alone = [a for a in asked if a not in with_binutils and a not in with_llvm]
+    neither = [a for a in asked if a not in with_binutils and a not in with_llvm]
+    alone = [a for a in neither if not is_padding(ours[a], printed[a], llvm[a])]
     print(
         f"{Path(path).name}: {len(asked)} replies,"
         f" {len(with_binutils & with_llvm)} as both others,"
         f" {len(with_llvm - with_binutils)} as llvm-symbolizer alone,"
-        f" {len(with_binutils - with_llvm)} as addr2line alone, {len(alone)} as neither"
+        f" {len(with_binutils - with_llvm)} as addr2line alone,"
+        f" {len(neither) - len(alone)} of padding, {len(alone)} as neither"
     )
     for a in alone[:3]:
         print(f"  {a:x}: {ours[a]}\n    addr2line {printed[a]}\n    llvm-symbolizer {llvm[a]}")

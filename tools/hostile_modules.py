@@ -17,15 +17,15 @@ LINES, LOW, SIZE, RANGES = (0x10, 0x17), (0x11, 0x01), (0x12, 0x07), (0x55, 0x17
 (UNIT, UNIT_OF_LIST, SUBPROGRAM, INLINED, LEAF, LISTED, NESTED, NESTED_INLINED,
  EMPTY) = range(1, 10)
 TABLE = abbreviation_table(
-    (0x11, 1, LINES),
-    (0x11, 1, LOW),
-    (0x2E, 1, LOW, SIZE),
-    (0x1D, 1, LOW, SIZE),
-    (0x2E, 0, LOW, SIZE),
-    (0x2E, 0, RANGES),
-    (0x2E, 1, RANGES),
-    (0x1D, 1, RANGES),
-    (0x2E, 0),
+    (0x11, 1, LINES),  # UNIT
+    (0x11, 1, LOW),  # UNIT_OF_LIST
+    (0x2E, 1, LOW, SIZE),  # SUBPROGRAM
+    (0x1D, 1, LOW, SIZE),  # INLINED
+    (0x2E, 0, LOW, SIZE),  # LEAF
+    (0x2E, 0, RANGES),  # LISTED
+    (0x2E, 1, RANGES),  # NESTED
+    (0x1D, 1, RANGES),  # NESTED_INLINED
+    (0x2E, 0),  # EMPTY
 )
 
 

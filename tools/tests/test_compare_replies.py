@@ -4,7 +4,7 @@ import unittest
 from pathlib import Path
 
 sys.path.insert(0, str(Path(__file__).resolve().parents[1]))
-from compare_replies import UNKNOWN, agree, with_files
+from compare_replies import UNKNOWN, agree, is_padding, with_files
 
 INLINED = [("square", "a.c", 3), ("main", "a.c", 7)]
 SYMBOLS = {"C1": "0000000000001000", "C2": "0000000000001000", "D1": "0000000000002000"}
@@ -35,6 +35,12 @@ class Replies(unittest.TestCase):
             self.assertFalse(agree(INLINED, with_files(artificial, other), {}), other)
         caller = ("main", "b.c", 7)
         self.assertFalse(agree(INLINED, with_files([artificial[0], caller], UNKNOWN), {}))
+
+    def test_padding(self):
+        row, symbol = [("??", "a.c", 3)], [("main", "a.c", 0)]
+        self.assertTrue(is_padding(row, symbol, UNKNOWN))
+        for ours, others in ((INLINED[:1], [UNKNOWN]), (row, [UNKNOWN, row]), (INLINED, [UNKNOWN])):
+            self.assertFalse(is_padding(ours, *others), ours)
 
 
 if __name__ == "__main__":
