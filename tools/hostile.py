@@ -22,7 +22,7 @@ from hostile_modules import MODULE_SHAPES
 from hostile_shapes import SHAPES
 
 TURNS, MOST_TURNS = 3, 10
-ROW = "| {:7} | {:28} | {:>7} | {:>8} | {:>8} | {:>8} | {:>6} | {:>7} | {:>12} | {:8} |"
+ROW = "| {:7} | {:29} | {:>7} | {:>8} | {:>8} | {:>8} | {:>6} | {:>7} | {:>12} | {:8} |"
 COLUMNS = ("Command", "Shape", "Object", "Quarter", "Half", "Whole", "Factor", "Memory",
            "Bytes", "Exceeded")
 

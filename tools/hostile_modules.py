@@ -14,8 +14,8 @@ DEPTH = 254  # of nested scopes
 HIGH = 1 << 40  # endpoints at addresses of more than 32 bits take more memory
 LIST = 12  # the offset of the only range list, after the header of its section
 LINES, LOW, SIZE, RANGES = (0x10, 0x17), (0x11, 0x01), (0x12, 0x07), (0x55, 0x17)
-(UNIT, UNIT_OF_LIST, SUBPROGRAM, INLINED, LEAF, LISTED, NESTED, NESTED_INLINED,
- EMPTY) = range(1, 10)
+(UNIT, UNIT_OF_LIST, SUBPROGRAM, INLINED, LEAF, LISTED, NESTED, NESTED_INLINED, EMPTY,
+ LISTED_INLINED) = range(1, 11)
 TABLE = abbreviation_table(
     (0x11, 1, LINES),  # UNIT
     (0x11, 1, LOW),  # UNIT_OF_LIST
@@ -26,6 +26,7 @@ TABLE = abbreviation_table(
     (0x2E, 1, RANGES),  # NESTED
     (0x1D, 1, RANGES),  # NESTED_INLINED
     (0x2E, 0),  # EMPTY
+    (0x1D, 0, RANGES),  # LISTED_INLINED
 )
 
 
@@ -103,28 +104,34 @@ def nested_scopes_with_one_list(items):
     return object_of([at_base(0, body)], range_list(items // DEPTH))
 
 
-def units_of_list(base):
-    """Returns two thousand units at different bases. Each has a subprogram that names the list."""
-    return [at_base(base + (number << 20), listed(LISTED)) for number in range(1, 2001)]
+def units_of_list(base, code=LISTED):
+    """Returns two thousand units at different bases. Each has a scope that names the list."""
+    return [at_base(base + (number << 20), listed(code)) for number in range(1, 2001)]
 
 
 def units_with_one_list(items):
     return object_of(units_of_list(0), range_list(items // 2000))
 
 
-def units_after_a_chain(items, empty=0):
-    units = [at_base(0, chain(empty)), *units_of_list(HIGH)]
-    return object_of(units, range_list(items // 2000))
+def units_after_a_chain(items):
+    return object_of([at_base(0, chain()), *units_of_list(HIGH)], range_list(items // 2000))
 
 
 def units_before_a_chain(items):
     return object_of([*units_of_list(0), at_base(0, chain())], range_list(items // 2000))
 
 
-def units_after_a_sparse_chain(items):
+def inlined_before_a_chain(items, empty=0):
+    """Builds units with inlined subroutines outside of subprograms, before a chain. They never
+    change the innermost scope, but precede it in file order."""
+    units = [*units_of_list(HIGH, LISTED_INLINED), at_base(0, chain(empty))]
+    return object_of(units, range_list(items // 2000))
+
+
+def inlined_before_a_sparse_chain(items):
     """Builds a chain whose scopes are more than 4,096 scopes apart. In a bitmap of the scopes with
     three levels, each search from one to the next then uses all levels."""
-    return units_after_a_chain(items, 4096)
+    return inlined_before_a_chain(items, 4096)
 
 
 MODULE_SHAPES = [
@@ -139,5 +146,5 @@ MODULE_SHAPES = [
     ("module", units_with_one_list, BY_ITEMS),
     ("module", units_after_a_chain, BY_CHAINS),
     ("module", units_before_a_chain, BY_CHAINS),
-    ("module", units_after_a_sparse_chain, BY_SPARSE_CHAINS),
+    ("module", inlined_before_a_sparse_chain, BY_SPARSE_CHAINS),
 ]

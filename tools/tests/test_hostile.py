@@ -79,7 +79,8 @@ class Objects(unittest.TestCase):
         """Scopes that share lists have as many ranges as the object is built for."""
         for name, items in (("subprograms_with_one_list", 4096),
                             ("nested_scopes_with_one_list", 508), ("units_with_one_list", 4000),
-                            ("units_after_a_chain", 4000), ("units_before_a_chain", 4000)):
+                            ("units_after_a_chain", 4000), ("units_before_a_chain", 4000),
+                            ("inlined_before_a_chain", 4000)):
             shown = self.dumped(getattr(hostile_modules, name)(items), "--debug-info")
             ranges = re.findall(r"\[(0x[0-9a-f]+), (0x[0-9a-f]+)\)", shown)
             self.assertEqual(len(ranges), items, name)
@@ -88,11 +89,12 @@ class Objects(unittest.TestCase):
     def test_depth_of_chains(self):
         """llvm-dwarfdump indents an entry by two columns more than its parent."""
         for empty in (0, 3):
-            data = hostile_modules.units_after_a_chain(2000, empty)
+            data = hostile_modules.inlined_before_a_chain(2000, empty)
             shown = self.dumped(data, "--debug-info")
             inner = re.findall(r"^0x\w+:( +)DW_TAG_inlined_subroutine", shown, re.MULTILINE)
-            self.assertEqual([len(spaces) for spaces in inner], list(range(5, 5 + 2 * 253, 2)))
-            self.assertEqual(shown.count("DW_TAG_subprogram"), 1 + 2000 + 253 * empty)
+            wanted = [3] * 2000 + list(range(5, 5 + 2 * 253, 2))
+            self.assertEqual([len(spaces) for spaces in inner], wanted)
+            self.assertEqual(shown.count("DW_TAG_subprogram"), 1 + 253 * empty)
 
     def test_sequences_of_rows(self):
         for name, size, count, rows in (("rows_under_a_chain", 1000, 1, 1000),
