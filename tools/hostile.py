@@ -92,7 +92,7 @@ def main():
     failed = False
     shapes = [(command, build, BY_SIZE) for command, build in SHAPES]
     for command, build, limit in shapes + MODULE_SHAPES:
-        size = megabytes * MEGABYTE if limit is BY_SIZE else limit.whole
+        size = limit.whole if limit.memory_of_item else megabytes * MEGABYTE
         costs = costs_of(measure, command, build, limit, size, folder)
         print(shown(command, build, limit, costs), flush=True)
         failed = failed or bool(costs.exceeded(limit))

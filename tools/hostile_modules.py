@@ -6,7 +6,7 @@ a given number of range items, which scopes share: such an object is small.
 """
 import struct
 
-from hostile_limits import BY_CHAINS, BY_ITEMS, BY_SIZE, BY_SPARSE_CHAINS
+from hostile_limits import BY_CHAINS, BY_ITEMS, BY_SIZE, BY_SORTING, BY_SPARSE_CHAINS
 from hostile_objects import FILES, abbreviation_table, elf, line_program, uleb, unit_of
 from hostile_shapes import rows, sequences
 
@@ -137,7 +137,7 @@ def inlined_before_a_sparse_chain(items):
 MODULE_SHAPES = [
     ("module", rows, BY_SIZE),
     ("module", sequences, BY_SIZE),
-    ("module", overlapping_sequences, BY_SIZE),
+    ("module", overlapping_sequences, BY_SORTING),
     ("module", rows_under_a_chain, BY_SIZE),
     ("module", overlapping_subprograms, BY_SIZE),
     ("module", descending_subprograms, BY_SIZE),
