@@ -63,7 +63,7 @@ help:
 	@echo '                  docs/MEASURED.md (a quarter of an hour; GIMLI_ADDR2LINE=PATH includes the'
 	@echo '                  addr2line of gimli)'
 	@echo 'make growth       measures how the costs grow with the size of an object and the number of'
-	@echo '                  modules, and draws docs/growth.svg (some ten minutes, 2 GB in out/growth)'
+	@echo '                  modules, and draws docs/growth.svg (two minutes, 1 GB in out/growth)'
 	@echo 'With ADDR2LINE_LIVE=PATH, a target that runs the program uses the built one at PATH, and does'
 	@echo 'not prove or build it. MEASURE=PATH (compare, compare-real, hostile, bench) and TESTS=PATH'
 	@echo '(memory) do the same for measure and for the tests of command_loop.'
@@ -192,7 +192,7 @@ bench:
 	bash -c 'set -o pipefail; { bench/run.sh && bench/answers.sh; } | tee out/bench.txt'
 	bench/table.py out/bench.txt > out/MEASURED.md && mv out/MEASURED.md docs/MEASURED.md
 
-# Measures objects of 1 to 500 MB, and 1 to 4,096 modules.
+# Measures objects of 2 to 320 MB, and 1 to 4,096 modules.
 growth:
 	@tools/needs.sh growth $(or $(RT),$(if $(MEASURE),,rt)) python3 gcc g++ objcopy readelf
 	@tools/build.sh measure measure.log
