@@ -103,7 +103,7 @@ def panels(loads, index, answers):
         Panel("Reading and loading an object", "size of the object (MB)",
               "processor time (ms/MB)", [1, 10, 100, 1000], [Series("", loads)]),
         Panel("Building the index", "endpoints of rows and ranges", "count",
-              [10**5, 10**6, 10**7], [
+              [10**4, 10**5, 10**6, 10**7, 10**8], [
                   Series("calls on the active set", [(ends, calls) for ends, _, calls in index]),
                   Series("segments", [(ends, segments) for ends, segments, _ in index]),
               ], has_log_heights=True),
