@@ -55,7 +55,7 @@ stays_on old new unit grows same (table, at, stands, is) =
         ap (λ (s : List ℕ). size_limit s) same in
         inr (omega (arith, large, sum, limit))
 
--- A table that is added for a unit is permanent, or exceeds the limit.
+-- A table that is added for a unit stays in the cache, or exceeds the limit.
 pub stays_with : (old : KeptTables) (unit : UnitHeader) (table : Table)
     → old.kept ≤ length old.tables → IsAt unit.format unit.abbreviations table
     → StandsIn old.section table → StaysOrIsTooLarge (with_table old table) unit

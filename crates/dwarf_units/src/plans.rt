@@ -55,8 +55,8 @@ impl Plan {
         self.kept.len() as u128 + self.passed.len() as u128
     }
 
-    /// Returns the steps that store the used attributes if `keep` is set, and otherwise those that
-    /// store none.
+    /// Returns the steps that store the used attributes if `keep` is set, or else the steps that
+    /// store nothing.
     pub(crate) fn steps(&self, keep: bool) -> &[AttributeStep]
         ensures { (format : Format) (declared : List Specification)
             → self.now ≡ plan_of format declared → result.now ≡ steps_of keep format declared }

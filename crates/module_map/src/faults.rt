@@ -5,7 +5,6 @@ ghost use Rattle.module_map.specs.Private.Refusals.{refusal_of};
 ghost use Rattle.module_map.specs.Words.{map_word};
 
 use dwarf_bytes::{Cause, LoadFault};
-use std::fmt;
 use thiserror::Error;
 
 /// The addresses of a module: its first address and its end (exclusive).
@@ -17,6 +16,7 @@ pub struct Extent {
 
 /// The reason why a module is not loaded, moved or unloaded.
 #[derive(Clone, Copy, Debug, PartialEq, Eq, Error)]
+#[error("{}", self.word())]
 pub enum MapFault {
     /// A module with that name is already loaded.
     NameTaken,
@@ -25,6 +25,7 @@ pub enum MapFault {
     /// 4,096 modules are loaded; no more can be.
     Full,
     /// The object is invalid; this is its first fault.
+    #[error("{0}")]
     Object(LoadFault),
     /// The end (exclusive) of the module would exceed 2^64-1.
     Range,
@@ -48,15 +49,6 @@ impl MapFault {
             MapFault::Range => "range",
             MapFault::Overlap(_) => "overlap",
             MapFault::Memory => "memory",
-        }
-    }
-}
-
-impl fmt::Display for MapFault {
-    fn fmt<W: fmt::Write>(&self, f: &mut fmt::Formatter<W>) -> fmt::Result {
-        match self {
-            MapFault::Object(fault) => write!(f, "{fault}"),
-            _ => f.write_str(self.word()),
         }
     }
 }

@@ -16,8 +16,8 @@ use Rattle.dwarf_entries.specs.declared.scope_lists.ScopeLists.{ScopeLists}
 use Rattle.dwarf_entries.specs.Ranges.{Covering}
 use Rattle.dwarf_entries.specs.Scopes.{Scope, scope_of, root_stmt_list, Judged}
 
--- The ranges of an entry are appended to those before. The result is the number of items that they
--- were read from.
+-- The ranges of an entry are appended. On success, the result also has the number of range list
+-- items that were read.
 abbrev pub AddsRanges : Result ℕ Cause → List Range → List Range → Result Covering Cause
     → Type 0
 AddsRanges (Ok items) old new outcome =

@@ -25,7 +25,7 @@ use Rattle.dwarf_units.specs.declared.used_name.UsedName.TheVariants.{CallFile, 
 use Rattle.dwarf_units.specs.declared.used_name.UsedName.TheVariants.{StmtList, StrOffsetsBase}
 use Rattle.dwarf_units.specs.declared.used_name.UsedName.TheVariants.{AddrBase, RnglistsBase}
 
--- The code of a name.
+-- The code of an attribute name (DWARF 5, table 7.5).
 abbrev pub name_of : UsedName → ℕ
 name_of Name = DW_AT_NAME
 name_of LinkageName = DW_AT_LINKAGE_NAME

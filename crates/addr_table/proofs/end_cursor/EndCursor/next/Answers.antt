@@ -6,26 +6,14 @@ use Rattle.addr_table.proofs.end_cursor.EndCursor.next.Goals as goal
 
 pub returns-in-Some : goal.returns-in-Some
 returns-in-Some c =
-    let inside : Cursor = record {
-      rows = c.self.inside.rows;
-      scopes = c.self.inside.scopes;
-      row = c.self.inside.row;
-      scope = c.self.inside.scope;
-    } in
-    let next = head-next inside c.in-Some.end c.in-Some.field-0-1 c.self.invariant.0
-    (subst (IsNext inside) c.in-Some.is c.self.invariant.1) in
+    let next = head-next _ c.in-Some.end c.in-Some.field-0-1 c.self.invariant.0
+    (subst (IsNext _) c.in-Some.is c.self.invariant.1) in
     let P : Cursor → Type 0 = λ x. (taken_of x < length (ends_in x))
     × ((d : End) → (slice_index_or (ends_in x) (taken_of x) d).at ≡ c.in-Some.end.at) in
     subst P c.self.view_is (next.within, λ d. ap (λ (e : End). e.at) (next.here d))
 
 pub returns-in-None : goal.returns-in-None
 returns-in-None c =
-    let inside : Cursor = record {
-      rows = c.self.inside.rows;
-      scopes = c.self.inside.scopes;
-      row = c.self.inside.row;
-      scope = c.self.inside.scope;
-    } in
-    let none = subst (IsNext inside) c.in-None.is c.self.invariant.1 in
+    let none = subst (IsNext _) c.in-None.is c.self.invariant.1 in
     let P : Cursor → Type 0 = λ x. length (ends_in x) ≤ taken_of x in
-    subst P c.self.view_is (none-next inside c.self.invariant.0 none.0 none.1)
+    subst P c.self.view_is (none-next _ c.self.invariant.0 none.0 none.1)
