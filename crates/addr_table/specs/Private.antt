@@ -10,5 +10,5 @@ pub mod RowOrder
 pub mod Scans
 pub mod Segments
 pub mod Sweep
-pub mod Told
+pub mod Views
 pub mod Walks

@@ -1,7 +1,7 @@
 //! A table that narrows the search for an address to a few segments.
 
 ghost use Rattle.std.specs.Prelude.{◌≡◌, ◌^◌, ◌<◌, ◌≤◌, List, length, slice_index_or, IfOk, OnOk};
-ghost use Rattle.addr_table.specs.Cuts.{Cut, AreDisjoint};
+ghost use Rattle.addr_table.specs.Segments.{Segment as SegmentSeen, AreDisjoint};
 ghost use Rattle.addr_table.specs.Private.Buckets.{AreBounds, AreBuckets, Fills};
 
 use crate::packed::narrow;
@@ -54,9 +54,9 @@ impl Buckets {
 
     /// Returns bounds for the number of segments that start at or before an address.
     pub(crate) fn bounds(&self, link: u64, total: usize) -> (usize, usize)
-        ensures { (cuts : List Cut) → total ≡ length cuts →
-            AreBuckets cuts self.now.low self.now.shift total self.now.counts.items →
-            AreBounds cuts link result.0 result.1 }
+        ensures { (segments : List SegmentSeen) → total ≡ length segments →
+            AreBuckets segments self.now.low self.now.shift total self.now.counts.items →
+            AreBounds segments link result.0 result.1 }
     {
         let bucket = (link.saturating_sub(self.low) >> self.shift) as usize;
         let low = self.below(bucket, total).saturating_sub(1);

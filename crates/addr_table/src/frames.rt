@@ -5,17 +5,17 @@ ghost use Rattle.std.specs.List.{join_with_byte};
 ghost use Rattle.addr_table.specs.Frames.{frames_of, place_chain};
 ghost use Rattle.addr_table.specs.Private.Walks.{HaveParents};
 
-use crate::outwards::{begin, next_told, outer, top};
+use crate::object_tables::{FrameSite, ObjectTables};
+use crate::parent_walk::{next_in_chain, outer, search_start, top};
 use crate::path::Path;
 use crate::place::Place;
 use crate::scopes::count;
-use crate::texts::{FrameSite, Texts};
 use std::marker::Model;
 
 /// A function and a position in its source. Its strings are bytes of the object.
 #[derive(Drop)]
 pub struct Frame<'a> {
-    texts: Texts<'a>,
+    tables: ObjectTables<'a>,
     /// The index of its scope; `None` if the address has only a row.
     scope: Option<usize>,
     site: FrameSite,
@@ -24,14 +24,14 @@ pub struct Frame<'a> {
 impl<'a> Model for Frame<'a> {
     ghost use Rattle.addr_table.specs.Frames.{Frame as FrameSeen};
     ghost use Rattle.dwarf_entries.specs.Order.{AreInOrder};
-    ghost use Rattle.addr_table.specs.Private.Told.{frame_told};
+    ghost use Rattle.addr_table.specs.Private.Views.{frame_view};
 
     ghost Value = { FrameSeen };
 
-    ghost view = { λ f. frame_told f.texts.bytes.now f.texts.lines.now f.texts.scopes.now.scopes
+    ghost view = { λ f. frame_view f.tables.bytes.now f.tables.lines.now f.tables.scopes.now.scopes
         f.scope f.site };
 
-    ghost invariant = { λ f. AreInOrder f.texts.scopes.now.scopes };
+    ghost invariant = { λ f. AreInOrder f.tables.scopes.now.scopes };
 }
 
 impl<'a> Frame<'a> {
@@ -39,35 +39,35 @@ impl<'a> Frame<'a> {
     pub fn name(&self) -> Option<&'a [u8]>
         ensures { option_map (λ text. text.now) result ≡ self.now.name }
     {
-        self.texts.name(self.scope?)
+        self.tables.name(self.scope?)
     }
 
     /// Returns the linkage name of the function, if it has one.
     pub fn linkage(&self) -> Option<&'a [u8]>
         ensures { option_map (λ text. text.now) result ≡ self.now.linkage }
     {
-        self.texts.linkage(self.scope?)
+        self.tables.linkage(self.scope?)
     }
 
     /// Returns the path of the source file, if it is known.
     pub fn path(&self) -> Option<Path<'a>>
         ensures { option_map (join_with_byte 47) result ≡ self.now.path }
     {
-        self.texts.path(self.site)
+        self.tables.path(self.site)
     }
 
     /// Returns the source line; 0 if it is unknown.
     pub fn line(&self) -> u64
         ensures { result ≡ self.now.line }
     {
-        self.texts.line(self.site)
+        self.tables.line(self.site)
     }
 }
 
 /// A walk over the scopes of a chain, from the innermost to the outermost.
 #[derive(Drop)]
-pub struct Walk<'a> {
-    texts: Texts<'a>,
+pub struct FrameWalk<'a> {
+    tables: ObjectTables<'a>,
     parents: &'a [u32],
     link: u64,
     /// 1 + the index of the scope where the search for the next frame starts; 0 if no scope is
@@ -81,42 +81,42 @@ pub struct Walk<'a> {
     alone: bool,
 }
 
-impl<'a> Model for Walk<'a> {
+impl<'a> Model for FrameWalk<'a> {
     ghost use Rattle.std.specs.Prelude.{List};
     ghost use Rattle.addr_table.specs.Frames.{Frame as FrameSeen};
-    ghost use Rattle.addr_table.specs.Private.Told.{walk_left};
+    ghost use Rattle.addr_table.specs.Private.Views.{walk_left};
     ghost use Rattle.addr_table.specs.Private.Walks.{IsWalk};
 
     ghost Value = { List FrameSeen };
 
-    ghost view = { λ w. walk_left w.texts.bytes.now w.texts.lines.now w.texts.scopes.now.scopes
+    ghost view = { λ w. walk_left w.tables.bytes.now w.tables.lines.now w.tables.scopes.now.scopes
         w.link w.near w.site w.alone };
 
-    ghost invariant = { λ w. IsWalk w.texts.scopes.now.scopes w.parents.now w.link w.near w.top };
+    ghost invariant = { λ w. IsWalk w.tables.scopes.now.scopes w.parents.now w.link w.near w.top };
 }
 
-impl<'a> Walk<'a> {
+impl<'a> FrameWalk<'a> {
     /// Starts a walk at the scope of a place.
-    fn of(texts: Texts<'a>, parents: &'a [u32], place: Place) -> Walk<'a>
-        requires { HaveParents texts.scopes.now.scopes parents.now }
-        ensures { result ≡ frames_of texts.entry.bytes.now texts.entry.lines.now
-            (place_chain place.link place.scope texts.entry.scopes.now.scopes) place.row }
+    fn of(tables: ObjectTables<'a>, parents: &'a [u32], place: Place) -> FrameWalk<'a>
+        requires { HaveParents tables.scopes.now.scopes parents.now }
+        ensures { result ≡ frames_of tables.entry.bytes.now tables.entry.lines.now
+            (place_chain place.link place.scope tables.entry.scopes.now.scopes) place.row }
     {
         let link = place.link;
-        let begun = begin(count(texts.scopes), place.scope);
+        let started = search_start(count(tables.scopes), place.scope);
         let site = FrameSite::Row(place.row);
-        match top(texts.scopes, parents, link, begun) {
-            Some(top) => Walk {
-                texts,
+        match top(tables.scopes, parents, link, started) {
+            Some(top) => FrameWalk {
+                tables,
                 parents,
                 link,
-                near: begun,
+                near: started,
                 top,
                 site,
                 alone: false,
             },
-            None => Walk {
-                texts,
+            None => FrameWalk {
+                tables,
                 parents,
                 link,
                 near: 0,
@@ -132,17 +132,17 @@ impl<'a> Walk<'a> {
         ensures { MatchOption result ((self.old ≡ []) × (self.new ≡ []))
             (λ frame. self.old ≡ frame ∷ self.new) }
     {
-        let texts = self.texts;
+        let tables = self.tables;
         let site = self.site;
         if self.alone {
             self.alone = false;
             return Some(Frame {
-                texts,
+                tables,
                 scope: None,
                 site,
             });
         }
-        let near = next_told(texts.scopes, self.parents, self.link, self.top, self.near);
+        let near = next_in_chain(tables.scopes, self.parents, self.link, self.top, self.near);
         if near == 0 {
             self.near = 0;
             return None;
@@ -151,7 +151,7 @@ impl<'a> Walk<'a> {
         self.near = outer(self.parents, self.top, number);
         self.site = FrameSite::Call(number);
         Some(Frame {
-            texts,
+            tables,
             scope: Some(number),
             site,
         })
@@ -161,13 +161,13 @@ impl<'a> Walk<'a> {
 /// The remaining frames of an address, innermost first.
 #[derive(Drop)]
 pub struct Frames<'a> {
-    walk: Option<Walk<'a>>,
+    walk: Option<FrameWalk<'a>>,
 }
 
 impl<'a> Model for Frames<'a> {
     ghost use Rattle.std.specs.Prelude.{List};
     ghost use Rattle.addr_table.specs.Frames.{Frame as FrameSeen};
-    ghost use Rattle.addr_table.specs.Private.Told.{frames_left};
+    ghost use Rattle.addr_table.specs.Private.Views.{frames_left};
 
     ghost Value = { List FrameSeen };
 
@@ -183,13 +183,13 @@ impl<'a> Frames<'a> {
     }
 
     /// Returns the frames of a place.
-    pub(crate) fn of(texts: Texts<'a>, parents: &'a [u32], place: Place) -> Frames<'a>
-        requires { HaveParents texts.scopes.now.scopes parents.now }
-        ensures { result ≡ frames_of texts.entry.bytes.now texts.entry.lines.now
-            (place_chain place.link place.scope texts.entry.scopes.now.scopes) place.row }
+    pub(crate) fn of(tables: ObjectTables<'a>, parents: &'a [u32], place: Place) -> Frames<'a>
+        requires { HaveParents tables.scopes.now.scopes parents.now }
+        ensures { result ≡ frames_of tables.entry.bytes.now tables.entry.lines.now
+            (place_chain place.link place.scope tables.entry.scopes.now.scopes) place.row }
     {
         Frames {
-            walk: Some(Walk::of(texts, parents, place)),
+            walk: Some(FrameWalk::of(tables, parents, place)),
         }
     }
 }

@@ -20,7 +20,7 @@ pub struct Path<'a> {
 
 impl<'a> Model for Path<'a> {
     ghost use Rattle.std.specs.Prelude.{List, ℕ};
-    ghost use Rattle.addr_table.specs.Private.Told.{parts_left};
+    ghost use Rattle.addr_table.specs.Private.Views.{parts_left};
 
     ghost Value = { List (List ℕ) };
 

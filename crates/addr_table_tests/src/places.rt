@@ -54,8 +54,8 @@ fn laws_may_be_cited(_rt: HostRuntime) {
     laws::constant_between_ends();
     laws::rows_are_first();
     laws::chains_are_first_of_each();
-    laws::cuts_are_few();
-    laws::cuts_tell_places();
+    laws::segments_are_few();
+    laws::segments_give_places();
     laws::chains_are_of_enclosing_scopes();
     laws::frames_are_of_places();
 }

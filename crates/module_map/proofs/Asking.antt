@@ -6,7 +6,7 @@ use Rattle.std.specs.Option.{option_and_then}
 use Rattle.std.proofs.lemmas.Bool.{leb-true, true≢false}
 use Rattle.std.proofs.lemmas.List.{length-map}
 use Rattle.std.proofs.lemmas.List.Quantifiers.{position-Some}
-use Rattle.addr_table.specs.Module.{place_in, cuts_in}
+use Rattle.addr_table.specs.Module.{place_in, segments_in}
 use Rattle.addr_table.specs.Steps.{bits, counted}
 use Rattle.addr_table.specs.declared.steps.Steps.{Steps}
 use Rattle.addr_table.specs.declared.place.Place.{Place}
@@ -115,7 +115,8 @@ takes_none hs loads address n s t e none is up =
 pub takes_some : (hs : List NumberedModule) (loads address at n k : ℕ) (d : NumberedModule)
     (s t u : Steps)
     → position (holding address) hs ≡ Some at → s.compares ≡ 0 → t ≡ counted n s → u ≡ counted k t
-    → n ≤ bits (length hs) + 1 → 2 ≤ n → k ≤ bits (length (cuts_in (get_or hs at d).loaded.bytes)) +
+    → n ≤ bits (length hs) + 1 → 2 ≤ n → k ≤ bits (length (segments_in
+    (get_or hs at d).loaded.bytes)) +
     1 → TakesCompares (world_of hs loads) address u.compares
 takes_some hs loads address at n k d s t u e none first then up two fits =
     let found = found_some (holds address) hs at d e in

@@ -11,7 +11,7 @@ use Rattle.module_map.specs.declared.faults.Extent.{Extent}
 use Rattle.module_map.specs.declared.faults.MapFault.TheVariants.{Range, Overlap}
 use Rattle.module_map.specs.Counts.{ModuleMap}
 use Rattle.module_map.specs.Private.Serials.{NumberedModule, loaded_of}
-use Rattle.module_map.specs.Private.Rising.{IsClear, IsMet, IsOnly, relocated, rebased}
+use Rattle.module_map.specs.Private.Rising.{IsClear, Overlaps, IsOnly, relocated, rebased}
 use Rattle.module_map.proofs.Names.{all_fail}
 use Rattle.module_map.proofs.Worlds.{any_is, placed_in, met_is, nothing_met, overlap_fault}
 use Rattle.module_map.proofs.Worlds.{no_place_fault}
@@ -25,7 +25,8 @@ module _ (hs : List NumberedModule) (loads : ℕ) (m : Loaded)
       → is_named m.name (get_or hs (length hs) d).loaded ≡ true
   none_itself d lt = absurd (omega arith)
 
-  pub placed_over : (met : ℕ) → end_of m < 2 ^ 64 → IsMet hs (length hs) (start_of m) (end_of m) met
+  pub placed_over : (met : ℕ) → end_of m < 2 ^ 64 → Overlaps hs (length hs) (start_of m)
+      (end_of m) met
       → place_fault m (map loaded_of hs) ≡ Some (Overlap met)
   placed_over met lt is =
       overlap_fault m (map loaded_of hs) met lt
@@ -70,12 +71,12 @@ module _ (hs : List NumberedModule) (loads : ℕ) (name : List ℕ) (base own : 
       (subst (λ (y : NumberedModule). 2 ^ 64 ≤ end_of (moved_to base y.loaded)) is le)
 
   pub over_by : (extent : Extent) (met : ℕ) → LiesAt extent (moved_to base x.loaded)
-      → IsMet hs own extent.low extent.high met
+      → Overlaps hs own extent.low extent.high met
       → Moves (world_of hs loads) name base (Err (Overlap met)) (world_of hs loads)
   over_by extent met h there = let l = lies extent h in
       moved_over hs loads name base own x at_own only met l.2
-      (subst (λ a. IsMet hs own a (end_of its) met) l.0.0
-      (subst (λ b. IsMet hs own extent.low b met) l.0.1 there))
+      (subst (λ a. Overlaps hs own a (end_of its) met) l.0.0
+      (subst (λ b. Overlaps hs own extent.low b met) l.0.1 there))
 
   clear_by : (extent : Extent) (at : ℕ) → LiesAt extent (moved_to base x.loaded)
       → IsClear hs own extent.low extent.high at
@@ -116,13 +117,13 @@ module _ (hs : List NumberedModule) (loads : ℕ) (name : List ℕ) (base own : 
 module _ (hs : List NumberedModule) (loads : ℕ) (m : Loaded) (len low high : ℕ)
     (free : is_taken m.name (world_of hs loads) ≡ false) (all : len ≡ length hs)
     (from : low ≡ start_of m) (to : high ≡ end_of m) where
-  pub over_any : (met : ℕ) → end_of m < 2 ^ 64 → IsMet hs len low high met
+  pub over_any : (met : ℕ) → end_of m < 2 ^ 64 → Overlaps hs len low high met
       → place_fault m (map loaded_of hs) ≡ Some (Overlap met)
   over_any met lt is =
       placed_over hs loads m (free_name m.name hs loads free) met lt
-      (subst (λ n. IsMet hs n (start_of m) (end_of m) met) all
-      (subst (λ a. IsMet hs len a (end_of m) met) from
-      (subst (λ b. IsMet hs len low b met) to is)))
+      (subst (λ n. Overlaps hs n (start_of m) (end_of m) met) all
+      (subst (λ a. Overlaps hs len a (end_of m) met) from
+      (subst (λ b. Overlaps hs len low b met) to is)))
 
   pub clear_all : (at : ℕ) → IsClear hs len low high at
       → IsClear hs (length hs) (start_of m) (end_of m) at

@@ -10,7 +10,7 @@ use Rattle.module_map.specs.declared.faults.Extent.{Extent}
 use Rattle.module_map.specs.declared.faults.MapFault.{MapFault}
 use Rattle.module_map.specs.declared.faults.MapFault.TheVariants.{NoModule, Range, Overlap}
 use Rattle.module_map.specs.Private.Serials.{NumberedModule, loaded_of}
-use Rattle.module_map.specs.Private.Rising.{IsClear, IsMet, IsOther, IsOnly, relocated, rebased}
+use Rattle.module_map.specs.Private.Rising.{IsClear, Overlaps, IsOther, IsOnly, relocated, rebased}
 use Rattle.module_map.proofs.Removals.{clear_removed}
 use Rattle.module_map.proofs.Worlds.{any_is, found_none, found_some, placed_in, without_is}
 use Rattle.module_map.proofs.Worlds.{not_named, is_its_name, met_is, nothing_met, range_fault}
@@ -71,7 +71,7 @@ module _ (hs : List NumberedModule) (loads : ℕ) (name : List ℕ) where
         (world_of hs loads)
     moved_past le = refused Range (range_fault m (map loaded_of hs) le)
 
-    pub moved_over : (met : ℕ) → end_of m < 2 ^ 64 → IsMet hs own (start_of m) (end_of m) met
+    pub moved_over : (met : ℕ) → end_of m < 2 ^ 64 → Overlaps hs own (start_of m) (end_of m) met
         → Moves (world_of hs loads) name base (Err (Overlap met)) (world_of hs loads)
     moved_over met lt is = refused (Overlap met)
         (overlap_fault m (map loaded_of hs) met lt (met_is hs own m its_name other_names met is))

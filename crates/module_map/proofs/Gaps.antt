@@ -4,7 +4,8 @@ use Rattle.std.proofs.Common.{arith}
 use Rattle.std.proofs.lemmas.Bool.{cases_lt}
 use Rattle.module_map.specs.World.{start_of, end_of}
 use Rattle.module_map.specs.Private.Serials.{NumberedModule}
-use Rattle.module_map.specs.Private.Rising.{AreRising, HasBegun, IsClear, IsMet, IsOther, IsNext}
+use Rattle.module_map.specs.Private.Rising.{AreRising, CountsStarted, IsClear, Overlaps, IsOther}
+use Rattle.module_map.specs.Private.Rising.{IsNext}
 use Rattle.module_map.proofs.Searches.{passed}
 
 pub other_of : (own k : ℕ) → k ≢ own → IsOther own k
@@ -39,17 +40,17 @@ next_past own len from is = record {
 }
 
 module _ (held : List NumberedModule) (own low high n : ℕ) (rising : AreRising held)
-    (begun : HasBegun held low n) (order : low < high) where
+    (started : CountsStarted held low n) (order : low < high) where
   -- the last module that starts at or before the low end ends after it, so it overlaps
   pub met_last : (at : ℕ) → at + 1 ≡ n → at ≢ own
       → ((d : NumberedModule) → low < end_of (get_or held at d).loaded)
-      → IsMet held own low high at
+      → Overlaps held own low high at
   met_last at last ne ends = record {
-    within = let w = begun.within in omega arith;
+    within = let w = started.within in omega arith;
     other = other_of own at ne;
-    begins = λ d. (let b = begun.before at d last in omega arith);
+    begins = λ d. (let b = started.before at d last in omega arith);
     ends = ends;
-    before = λ k d lt o. passed held low n rising begun k d (omega arith);
+    before = λ k d lt o. passed held low n rising started k d (omega arith);
   }
 
   -- if a module starts at or after the high end, so do all later ones
@@ -72,7 +73,7 @@ module _ (held : List NumberedModule) (own low high n : ℕ) (rising : AreRising
       ended k d lt o = by (cases_lt (k + 1) n)
         where
           by : (k + 1 < n) ⊎ (n ≤ k + 1) → end_of (get_or held k d).loaded ≤ low
-          by (inl before) = passed held low n rising begun k d before
+          by (inl before) = passed held low n rising started k d before
           by (inr last) = done k d (omega arith) o
 
       before_next : (k : ℕ) (d : NumberedModule) → k < next → IsOther own k
@@ -85,12 +86,12 @@ module _ (held : List NumberedModule) (own low high n : ℕ) (rising : AreRising
 
       pub met_next : next < length held → ((d : NumberedModule)
           → start_of (get_or held next d).loaded < high)
-          → IsMet held own low high next
+          → Overlaps held own low high next
       met_next lt begins = record {
         within = lt;
         other = is.other lt;
         begins = begins;
-        ends = λ d. (let l = begun.after next d is.above lt in let s = rising.sound next d lt in
+        ends = λ d. (let l = started.after next d is.above lt in let s = rising.sound next d lt in
             omega arith);
         before = before_next;
       }
@@ -106,8 +107,8 @@ module _ (held : List NumberedModule) (own low high n : ℕ) (rising : AreRising
           → high ≤ start_of (get_or held next d).loaded)
           → IsClear held own low high n
       clear_all begins = record {
-        within = begun.within;
-        under = λ k d lt o. (let e = ended k d lt o in let w = begun.within in let s =
+        within = started.within;
+        under = λ k d lt o. (let e = ended k d lt o in let w = started.within in let s =
             rising.sound k d (omega arith) in omega arith);
         before = ended;
         after = λ k d le lt o. (let f = from_next k le o in

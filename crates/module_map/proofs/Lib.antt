@@ -1,5 +1,5 @@
 pub mod CacheLemmas
-pub mod Halving
+pub mod BinarySearch
 pub mod Positions
 pub mod Searches
 pub mod Gaps

@@ -8,8 +8,8 @@ use Rattle.addr_table.specs.declared.steps.Steps.{Steps}
 use Rattle.addr_table.proofs.StepLaws.{counted_one}
 use Rattle.module_map.specs.World.{start_of, end_of, holds}
 use Rattle.module_map.specs.Private.Serials.{NumberedModule}
-use Rattle.module_map.specs.Private.Rising.{AreRising, HasBegun}
-use Rattle.module_map.proofs.Halving.{Halved, halved_none, halved_more, halved_all}
+use Rattle.module_map.specs.Private.Rising.{AreRising, CountsStarted}
+use Rattle.module_map.proofs.BinarySearch.{Halved, halved_none, halved_more, halved_all}
 use Rattle.module_map.proofs.Positions.{is_at, is_nowhere}
 
 -- the number is at least `low` and at most `high`
@@ -89,7 +89,7 @@ narrowed_down held address low high middle before now then rising n some is begi
 
 pub narrowed_all : (held : List NumberedModule) (address low high : ℕ) (before now : Steps)
     → Narrowed held address low high before now
-    → high ≤ low → HasBegun held address low
+    → high ≤ low → CountsStarted held address low
 narrowed_all held address low high before now n end = record {
   within = let o = n.order in let w = n.within in omega arith;
   before = n.begins;
@@ -123,26 +123,26 @@ test_past s e a p = by (nat_le s a) (nat_lt a e) refl
     by false false t = refl
 
 module _ (held : List NumberedModule) (address n : ℕ) (rising : AreRising held)
-    (begun : HasBegun held address n) where
+    (started : CountsStarted held address n) where
   -- modules before the last one that starts at or before the address end at or before the address
   pub passed : (k : ℕ) (d : NumberedModule) → k + 1 < n → end_of (get_or held k d).loaded ≤ address
   passed k d lt =
-      let a = rising.apart k (n - 1) d (omega arith) (let w = begun.within in omega arith) in
-      let b = begun.before (n - 1) d (omega arith) in
+      let a = rising.apart k (n - 1) d (omega arith) (let w = started.within in omega arith) in
+      let b = started.before (n - 1) d (omega arith) in
       omega arith
 
   -- a module at another index does not contain the address
   others : (k : ℕ) (d : NumberedModule) → k < length held → (k + 1 < n) ⊎ (n ≤ k)
       → holds address (get_or held k d).loaded ≡ false
   others k d lt (inl before) = test_past _ _ address (passed k d before)
-  others k d lt (inr after) = test_below _ _ address (begun.after k d after lt)
+  others k d lt (inr after) = test_below _ _ address (started.after k d after lt)
 
   pub held_here : (at : ℕ) → at + 1 ≡ n → ((d : NumberedModule)
       → address < end_of (get_or held at d).loaded)
       → position (λ h. holds address h.loaded) held ≡ Some at
   held_here at last ends = is_at (λ (h : NumberedModule). holds address h.loaded) held at
-      (let w = begun.within in omega arith)
-      (λ d. test_holds _ _ address (begun.before at d last) (ends d))
+      (let w = started.within in omega arith)
+      (λ d. test_holds _ _ address (started.before at d last) (ends d))
       (λ k d lt. test_past _ _ address (passed k d (omega arith)))
 
   pub held_nowhere : ((at : ℕ) (d : NumberedModule) → at + 1 ≡ n

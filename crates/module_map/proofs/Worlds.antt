@@ -10,11 +10,11 @@ use Rattle.std.proofs.lemmas.Bool.{cases_lt, lt-ltb, ltb-true, false_from_ne_tru
 use Rattle.std.proofs.lemmas.List.Quantifiers.{position-Some}
 use Rattle.std.proofs.lemmas.Slice.Eq.{bytes_eq-Decides}
 use Rattle.module_map.specs.World.{Loaded, start_of, end_of, is_named, meets, placed, without}
-use Rattle.module_map.specs.World.{met_at}
+use Rattle.module_map.specs.World.{first_overlap}
 use Rattle.module_map.specs.Changes.{place_fault}
 use Rattle.module_map.specs.declared.faults.MapFault.TheVariants.{Range, Overlap}
 use Rattle.module_map.specs.Private.Serials.{NumberedModule, loaded_of}
-use Rattle.module_map.specs.Private.Rising.{IsClear, IsMet, IsOther, IsOnly}
+use Rattle.module_map.specs.Private.Rising.{IsClear, Overlaps, IsOther, IsOnly}
 use Rattle.module_map.proofs.Positions.{is_at, is_nowhere, position_of_map}
 use Rattle.module_map.proofs.Names.{all_fail}
 
@@ -203,7 +203,8 @@ module _ (hs : List NumberedModule) (own : ℕ) (m : Loaded)
       by (inr from) (inr to) = let same : k ≡ own = omega arith in let named =
           itself d (omega arith) in rw same (rw named refl)
 
-  pub met_is : (met : ℕ) → IsMet hs own (start_of m) (end_of m) met → met_at m (map loaded_of hs)
+  pub met_is : (met : ℕ) → Overlaps hs own (start_of m) (end_of m) met → first_overlap m
+      (map loaded_of hs)
       ≡ Some met
   met_is met is = position_of_map meeting loaded_of hs
       ∙ is_at (λ (h : NumberedModule). meeting h.loaded) hs met is.within
@@ -213,7 +214,7 @@ module _ (hs : List NumberedModule) (own : ℕ) (m : Loaded)
       (λ o. meets_no (start_of m) (end_of (get_or hs k d).loaded) _ (is.before k d lt o)))
 
   pub nothing_met : (at : ℕ) → IsClear hs own (start_of m) (end_of m) at
-      → met_at m (map loaded_of hs) ≡ None
+      → first_overlap m (map loaded_of hs) ≡ None
   nothing_met at clear =
       position_of_map meeting loaded_of hs
       ∙ is_nowhere (λ (h : NumberedModule). meeting h.loaded) hs
@@ -231,10 +232,10 @@ pub range_fault : (m : Loaded) (others : List Loaded) → 2 ^ 64 ≤ end_of m
 range_fault m others le = rw (lt-ltb (2 ^ 64 - 1) (end_of m) (omega arith)) refl
 
 pub overlap_fault : (m : Loaded) (others : List Loaded) (met : ℕ) → end_of m < 2 ^ 64
-    → met_at m others ≡ Some met
+    → first_overlap m others ≡ Some met
     → place_fault m others ≡ Some (Overlap met)
 overlap_fault m others met lt e = rw (not_below (2 ^ 64 - 1) (end_of m) (omega arith), e) refl
 
 pub no_place_fault : (m : Loaded) (others : List Loaded) → end_of m < 2 ^ 64
-    → met_at m others ≡ None → place_fault m others ≡ None
+    → first_overlap m others ≡ None → place_fault m others ≡ None
 no_place_fault m others lt e = rw (not_below (2 ^ 64 - 1) (end_of m) (omega arith), e) refl

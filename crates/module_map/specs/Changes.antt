@@ -6,7 +6,7 @@ use Rattle.std.specs.List.{list_any}
 use Rattle.addr_table.specs.Module.{fault_of}
 use Rattle.dwarf_bytes.specs.declared.fault.LoadFault.{LoadFault}
 use Rattle.module_map.specs.World.{World, most_modules, Loaded, start_of, end_of, is_named}
-use Rattle.module_map.specs.World.{placed, without, moved_to, met_at}
+use Rattle.module_map.specs.World.{placed, without, moved_to, first_overlap}
 use Rattle.module_map.specs.declared.faults.Extent.{Extent}
 use Rattle.module_map.specs.declared.faults.MapFault.{MapFault}
 use Rattle.module_map.specs.declared.faults.MapFault.TheVariants.{NameTaken, NoModule, Full}
@@ -21,7 +21,8 @@ is_taken name world = list_any (is_named name) world.modules
 -- the fault of a module that ends after the highest address or overlaps another module
 abbrev pub place_fault : Loaded → List Loaded → Option MapFault
 place_fault m others =
-    if nat_lt (2 ^ 64 - 1) (end_of m) then Some Range else option_map Overlap (met_at m others)
+    if nat_lt (2 ^ 64 - 1) (end_of m) then Some Range else option_map Overlap
+    (first_overlap m others)
 
 abbrev pub object_fault : Option LoadFault → Option MapFault → Option MapFault
 object_fault (Some fault) place = Some (Object fault)

@@ -2,7 +2,7 @@
 use Rattle.std.specs.Prelude.{◌≡◌, ℕ, ◌+◌, ◌-◌, ◌^◌, ◌≤◌, min, length}
 use Rattle.std.specs.Prelude.{Option, None, Some, Result, Err}
 use Rattle.addr_table.specs.Steps.{bits}
-use Rattle.addr_table.specs.Module.{cuts_in}
+use Rattle.addr_table.specs.Module.{segments_in}
 use Rattle.module_map.specs.World.{World, Loaded}
 use Rattle.module_map.specs.Answers.{holder}
 use Rattle.module_map.specs.declared.faults.Extent.{Extent}
@@ -21,7 +21,7 @@ pub record ModuleMap : Type 0 where
 
 abbrev pub segments_of : Option Loaded → ℕ
 segments_of None = 0
-segments_of (Some m) = length (cuts_in m.bytes)
+segments_of (Some m) = length (segments_in m.bytes)
 
 abbrev pub least_of : Option Loaded → ℕ
 least_of None = 0

@@ -56,8 +56,8 @@ abbrev pub moved_to : ℕ → Loaded → Loaded
 moved_to base m = record m { base = base }
 
 -- the index of the lowest module that overlaps this one, excluding itself
-abbrev pub met_at : Loaded → List Loaded → Option ℕ
-met_at m modules = position (λ other. not (is_named m.name other) && meets m other) modules
+abbrev pub first_overlap : Loaded → List Loaded → Option ℕ
+first_overlap m modules = position (λ other. not (is_named m.name other) && meets m other) modules
 
 -- the name of the module at an index
 abbrev pub name_at : List Loaded → ℕ → List ℕ

@@ -1,7 +1,7 @@
 //! A cache of answers for repeated asks.
 
 ghost use Rattle.std.specs.Prelude.{◌≡◌, ◌≤◌, ◌⊎◌, ◌+◌, [], length, IfOk, IfSome, Contains};
-ghost use Rattle.module_map.specs.Private.Cached.{kept_under, asked_for, with_answer};
+ghost use Rattle.module_map.specs.Private.Cached.{cached_under, after_lookup, with_answer};
 ghost use Rattle.module_map.specs.Private.Serials.{CacheEntry};
 
 use addr_table::Place;
@@ -39,8 +39,8 @@ fn recall(
     answers: &mut LruCache<(u64, u64), Option<Place>>,
     key: (u64, u64),
 ) -> Option<Option<Place>>
-    ensures value { result ≡ kept_under key answers.old.entries }
-    ensures order { answers.new.entries ≡ asked_for key answers.old.entries }
+    ensures value { result ≡ cached_under key answers.old.entries }
+    ensures order { answers.new.entries ≡ after_lookup key answers.old.entries }
     ensures found { IfSome result (λ place. Contains answers.old.entries (key, place)) }
     ensures cached { (e : CacheEntry) → Contains answers.new.entries e →
         Contains answers.old.entries e }
@@ -100,8 +100,8 @@ impl Cache {
 
     /// Returns the cached answer for a key and makes it the most recently used one.
     pub fn get(&mut self, key: (u64, u64)) -> Option<Option<Place>>
-        ensures value { result ≡ kept_under key self.old.entries }
-        ensures order { self.new.entries ≡ asked_for key self.old.entries }
+        ensures value { result ≡ cached_under key self.old.entries }
+        ensures order { self.new.entries ≡ after_lookup key self.old.entries }
         ensures found { IfSome result (λ place. Contains self.old.entries (key, place)) }
         ensures cached { (e : CacheEntry) → Contains self.new.entries e →
             Contains self.old.entries e }

@@ -6,8 +6,8 @@
 mod answer;
 mod asked;
 mod cache;
+mod cached_lookup;
 mod faults;
-mod finding;
 mod listing;
 mod loaded_module;
 mod modules;

@@ -2,7 +2,7 @@
 
 ghost use Rattle.std.specs.Prelude.{◌≡◌, ◌<◌, ◌≤◌, ◌+◌, ◌-◌, ◌^◌, ℕ, length, IfOk};
 ghost use Rattle.std.specs.Prelude.{MatchOption};
-ghost use Rattle.addr_table.specs.Module.{place_in, cuts_in, low_of, high_of};
+ghost use Rattle.addr_table.specs.Module.{place_in, segments_in, low_of, high_of};
 ghost use Rattle.addr_table.specs.Steps.{counted, bits};
 ghost use Rattle.module_map.specs.World.{is_named, start_of, end_of, moved_to};
 ghost use Rattle.module_map.specs.Changes.{IsExtentOf};
@@ -140,7 +140,7 @@ impl LoadedModule {
     /// Returns the place of a link address, if any.
     pub fn find(&self, link: u64, steps: &mut Steps) -> Option<Place>
         ensures place { result ≡ place_in self.now.loaded.bytes link }
-        ensures counted { (n : ℕ) × (n ≤ bits (length (cuts_in self.now.loaded.bytes)) + 1)
+        ensures counted { (n : ℕ) × (n ≤ bits (length (segments_in self.now.loaded.bytes)) + 1)
             × (steps.new ≡ counted n steps.old) }
     {
         self.object.find(link, steps)

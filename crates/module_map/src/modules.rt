@@ -12,8 +12,8 @@ ghost use Rattle.module_map.specs.Listing.{listing};
 use crate::answer::Answer;
 use crate::asked::{Asked, Found};
 use crate::cache::Cache;
+use crate::cached_lookup::look_up;
 use crate::faults::{Extent, MapFault, refusal};
-use crate::finding::look_up;
 use crate::listing::Listing;
 use crate::loaded_module::{LoadedModule, extent_of};
 use crate::sorted::SortedModules;
@@ -145,7 +145,7 @@ impl Modules {
             return Err(MapFault::Range);
         }
         let extent = extent_of(&object, base);
-        let at = match self.sorted.gap(extent, self.sorted.len()) {
+        let at = match self.sorted.free_index(extent, self.sorted.len()) {
             Ok(at) => at,
             Err(met) => return Err(MapFault::Overlap(met)),
         };
@@ -182,7 +182,7 @@ impl Modules {
         let Some(extent) = self.sorted.loaded_at(own).extent_at(base) else {
             return Err(MapFault::Range);
         };
-        match self.sorted.gap(extent, own) {
+        match self.sorted.free_index(extent, own) {
             Err(met) => Err(MapFault::Overlap(met)),
             Ok(at) => {
                 self.sorted.relocate(own, at, base);

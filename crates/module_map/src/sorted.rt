@@ -8,7 +8,7 @@ ghost use Rattle.addr_table.specs.Module.{high_of};
 ghost use Rattle.module_map.specs.World.{is_named, holds, start_of, end_of, moved_to, AreRising};
 ghost use Rattle.module_map.specs.Listing.{listed};
 ghost use Rattle.module_map.specs.Private.Serials.{NumberedModule, loaded_of};
-ghost use Rattle.module_map.specs.Private.Rising.{HasBegun, IsClear, IsMet, IsOnly};
+ghost use Rattle.module_map.specs.Private.Rising.{CountsStarted, IsClear, Overlaps, IsOnly};
 ghost use Rattle.module_map.specs.Private.Rising.{IsNext, relocated, rebased};
 
 use crate::faults::Extent;
@@ -51,7 +51,7 @@ fn rotate(list: &mut [LoadedModule], own: usize, at: usize)
 }
 
 /// Returns the first index at or after `from` that is not `own`.
-fn next_place(from: usize, own: usize, len: usize) -> usize
+fn next_index(from: usize, own: usize, len: usize) -> usize
     requires { from ≤ len }
     ensures { IsNext own len from result }
 {
@@ -125,8 +125,8 @@ impl SortedModules {
     }
 
     /// Returns the number of modules that start at or before an address, by binary search.
-    fn begun(&self, address: u64, steps: &mut Steps) -> usize
-        ensures begun { HasBegun self.now address result }
+    fn count_started(&self, address: u64, steps: &mut Steps) -> usize
+        ensures started { CountsStarted self.now address result }
         ensures counted { (n : ℕ) × (n ≤ bits (length self.now)) × ((result ≡ 0) ⊎ (1 ≤ n))
             × (steps.new ≡ counted n steps.old) }
     {
@@ -151,39 +151,39 @@ impl SortedModules {
             × (steps.new ≡ counted n steps.old) }
     {
         let _ = &self.list; // a field that is used lends the invariant of the type
-        let begun = self.begun(address, steps);
-        if begun == 0 {
+        let started = self.count_started(address, steps);
+        if started == 0 {
             return None;
         }
-        let at = begun - 1;
+        let at = started - 1;
         if steps.reached(address, self.end(at)) {
             return None;
         }
         Some(at)
     }
 
-    /// Returns the index of the gap for an extent between the modules, or the index of the lowest
-    /// module that the extent overlaps. Ignores the module at index `own`, if there is one.
-    pub fn gap(&self, extent: Extent, own: usize) -> Result<usize, usize>
+    /// Returns the index at which a module with an extent can be inserted, or the index of the
+    /// lowest module that the extent overlaps. Ignores the module at index `own`, if there is one.
+    pub fn free_index(&self, extent: Extent, own: usize) -> Result<usize, usize>
         requires { extent.low < extent.high }
         ensures { MatchResult result (IsClear self.now own extent.low extent.high)
-            (IsMet self.now own extent.low extent.high) }
+            (Overlaps self.now own extent.low extent.high) }
     {
         let _ = &self.list; // a field that is used lends the invariant of the type
         let len = self.len();
         let mut uncounted = Steps::default();
-        let begun = self.begun(extent.low, &mut uncounted);
-        if begun > 0 && begun - 1 != own && self.end(begun - 1) > extent.low {
-            return Err(begun - 1);
+        let started = self.count_started(extent.low, &mut uncounted);
+        if started > 0 && started - 1 != own && self.end(started - 1) > extent.low {
+            return Err(started - 1);
         }
-        let next = next_place(begun, own, len);
+        let next = next_index(started, own, len);
         if next < len && self.start(next) < extent.high {
             return Err(next);
         }
-        Ok(begun)
+        Ok(started)
     }
 
-    /// Inserts a module into a gap. Returns an error if memory runs out.
+    /// Inserts a module at an index where its extent is free. Returns an error if memory runs out.
     pub fn insert(&mut self, at: usize, loaded: LoadedModule) -> Result<(), AllocError>
         requires clear { IsClear self.old (length self.old) (start_of loaded.loaded)
             (end_of loaded.loaded) at }
@@ -204,8 +204,8 @@ impl SortedModules {
         let _loaded = self.list.remove(at);
     }
 
-    /// Moves the module at index `own` to another base and into the gap at index `at`, by rotating
-    /// the modules between the two indexes.
+    /// Moves the module at index `own` to another base and to index `at`, where its extent is free,
+    /// by rotating the modules between the two indexes.
     pub fn relocate(&mut self, own: usize, at: usize, base: u64)
         requires within { own < length self.old }
         requires fits { (d : NumberedModule) →

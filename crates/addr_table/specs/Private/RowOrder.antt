@@ -3,7 +3,7 @@ use Rattle.std.specs.Prelude.{ℕ, suc, List, [], ◌∷◌, map, filter, Bool, 
 use Rattle.std.specs.Prelude.{if◌then◌else◌, slice_index_or}
 use Rattle.dwarf_lines.specs.declared.row.Row.{Row}
 use Rattle.addr_table.specs.declared.ends.End.{End}
-use Rattle.addr_table.specs.Cuts.{is_nonempty}
+use Rattle.addr_table.specs.Segments.{is_nonempty}
 use Rattle.addr_table.specs.Rows.{covers_from}
 
 -- the numbers of the rows that cover addresses, if the first row has this number

@@ -27,20 +27,20 @@ abbrev pub EndsAt : ℕ → List Scope → ℕ → ℕ → Type 0
 EndsAt a scopes near top = (near ≡ 0) ⊎ (top_around a scopes near ≡ Some top)
 
 -- no scope is left, or the scope before near is in the chain
-pub data IsTold (a : ℕ) (scopes : List Scope) (near top : ℕ) : Type 0 where
-  nothing : near ≡ 0 → IsTold a scopes near top
-  outermost : near ≡ suc top → IsTold a scopes near top
+pub data IsInChain (a : ℕ) (scopes : List Scope) (near top : ℕ) : Type 0 where
+  nothing : near ≡ 0 → IsInChain a scopes near top
+  outermost : near ≡ suc top → IsInChain a scopes near top
   inlined : (k : ℕ) → near ≡ suc k → k ≢ top
-      → ((d : Scope) → is_at Inlined a (get_or scopes k d) ≡ true) → IsTold a scopes near top
+      → ((d : Scope) → is_at Inlined a (get_or scopes k d) ≡ true) → IsInChain a scopes near top
 
 -- 1 + the number of the parent of a scope in the chain; 0 for the outermost scope
 abbrev pub outer_of : List ℕ → ℕ → ℕ → ℕ
 outer_of nears top number = if number == top then 0 else get_or nears number 0
 
 -- 1 + the number of a scope if it is below count; 0 otherwise
-abbrev pub begin_of : ℕ → Option ℕ → ℕ
-begin_of count None = 0
-begin_of count (Some number) = if nat_lt number count then suc number else 0
+abbrev pub search_start_of : ℕ → Option ℕ → ℕ
+search_start_of count None = 0
+search_start_of count (Some number) = if nat_lt number count then suc number else 0
 
 pub record IsWalk (scopes : List Scope) (nears : List ℕ) (a near top : ℕ) : Type 0 where
   pub have : HaveParents scopes nears

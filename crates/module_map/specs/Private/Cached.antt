@@ -10,12 +10,12 @@ abbrev pub is_key : ℕ × ℕ → ℕ × ℕ → Bool
 is_key x y = (x.0 == y.0) && (x.1 == y.1)
 
 -- the value cached under a key
-abbrev pub kept_under : ℕ × ℕ → List CacheEntry → Option (Option Place)
-kept_under key entries = lookup (is_key key) entries
+abbrev pub cached_under : ℕ × ℕ → List CacheEntry → Option (Option Place)
+cached_under key entries = lookup (is_key key) entries
 
 -- the entries after a lookup, with the entry of the key first
-abbrev pub asked_for : ℕ × ℕ → List CacheEntry → List CacheEntry
-asked_for key entries = promoted (is_key key) entries
+abbrev pub after_lookup : ℕ × ℕ → List CacheEntry → List CacheEntry
+after_lookup key entries = promoted (is_key key) entries
 
 -- the entries with a new one first, which replaces the entry of its key, or the last entry if the
 -- cache is full

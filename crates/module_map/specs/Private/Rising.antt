@@ -25,7 +25,7 @@ pub record IsOnly (held : List NumberedModule) (name : List ℕ) (own : ℕ) : T
       (slice_index_or held k d).loaded.name ≢ name
 
 -- module n - 1 starts at or before the address, and all modules from index n on start after it
-pub record HasBegun (held : List NumberedModule) (address n : ℕ) : Type 0 where
+pub record CountsStarted (held : List NumberedModule) (address n : ℕ) : Type 0 where
   pub within : n ≤ length held
   pub before : (k : ℕ) (d : NumberedModule) → k + 1 ≡ n →
       start_of (slice_index_or held k d).loaded ≤ address
@@ -45,7 +45,7 @@ pub record IsClear (held : List NumberedModule) (own low high at : ℕ) : Type 0
 
 -- Except for the module at index own, the module at this index is the lowest one with an address
 -- between the two ends.
-pub record IsMet (held : List NumberedModule) (own low high at : ℕ) : Type 0 where
+pub record Overlaps (held : List NumberedModule) (own low high at : ℕ) : Type 0 where
   pub within : at < length held
   pub other : IsOther own at
   pub begins : (d : NumberedModule) → start_of (slice_index_or held at d).loaded < high

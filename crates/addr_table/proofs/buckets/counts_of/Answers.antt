@@ -1,9 +1,9 @@
 use Rattle.std.proofs.Common.{◌≡◌, ◌∙◌, ℕ, ◌/◌, ◌^◌, List, length, get_or}
 use Rattle.std.proofs.Common.{ap, sym, subst, arith}
 use Rattle.std.proofs.lemmas.List.{get_or_default}
-use Rattle.addr_table.specs.Cuts.{Cut}
+use Rattle.addr_table.specs.Segments.{Segment}
 use Rattle.addr_table.specs.Private.Buckets.{bucket_of, AreBuckets}
-use Rattle.addr_table.proofs.BucketLaws.{none-counted, one-counted}
+use Rattle.addr_table.proofs.Searching.BucketLaws.{none-counted, one-counted}
 use Rattle.addr_table.proofs.buckets.counts_of.Goals as goal
 
 pub loop-index-init : goal.loop-index-init
@@ -17,9 +17,9 @@ loop-index-init c =
 
 pub loop-index-preserved : goal.loop-index-preserved
 loop-index-preserved c =
-    let from_is : (d : Cut) → (get_or c.args.list.now c.loop-index.index d).from
+    let from_is : (d : Segment) → (get_or c.args.list.now c.loop-index.index d).from
     ≡ c.segment.inside.from =
-    λ d. ap (λ (cut : Cut). cut.from)
+    λ d. ap (λ (segment : Segment). segment.from)
     (get_or_default _ _ d _ c.loop-index-test.true ∙ sym c.index-list-index.is
     ∙ sym c.segment.view_is) in
     let bucket_is : c.saturating_sub.result / 2 ^ c.args.shift

@@ -3,8 +3,8 @@ use Rattle.std.specs.List.Sorted.{IsPermutation}
 use Rattle.std.proofs.lemmas.List.Sorted.{IsPermutation-map, IsPermutation-trans}
 use Rattle.addr_table.specs.Private.RowOrder.{covering_from, row_end}
 use Rattle.addr_table.specs.Private.Sweep.{AreEnds, reaches_of}
-use Rattle.addr_table.proofs.BuildLaws.{rows-sorted, are-sorted, ends-merged}
-use Rattle.addr_table.proofs.CursorTurns.{of-equal}
+use Rattle.addr_table.proofs.Endpoints.BuildLaws.{rows-sorted, are-sorted, ends-merged}
+use Rattle.addr_table.proofs.Endpoints.CursorTurns.{of-equal}
 use Rattle.addr_table.proofs.ends.cursors.Goals as goal
 
 pub returns-clause-ends : goal.returns-clause-ends

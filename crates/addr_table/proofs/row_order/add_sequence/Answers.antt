@@ -1,6 +1,6 @@
 use Rattle.std.proofs.Common.{◌≡◌, ◌∙◌, ◌++◌, [], ap, sym, arith, append-nil, drop}
 use Rattle.addr_table.specs.Private.RowOrder.{sequence_from}
-use Rattle.addr_table.proofs.RowOrderLaws.{sequence-over}
+use Rattle.addr_table.proofs.Endpoints.RowOrderLaws.{sequence-over}
 use Rattle.addr_table.proofs.row_order.add_sequence.Goals as goal
 
 pub returns-after-loop-number : goal.returns-after-loop-number

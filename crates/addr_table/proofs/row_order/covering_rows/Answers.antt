@@ -3,8 +3,8 @@ use Rattle.std.specs.Prelude.{flat_map}
 use Rattle.std.specs.List.Sorted.{IsPermutation}
 use Rattle.std.proofs.lemmas.List.{take_all}
 use Rattle.addr_table.specs.Private.RowOrder.{covering_from}
-use Rattle.addr_table.proofs.FlatPermutations.{flat-permutation}
-use Rattle.addr_table.proofs.RowOrderLaws.{sequence_at, covering-sequences}
+use Rattle.addr_table.proofs.Endpoints.FlatPermutations.{flat-permutation}
+use Rattle.addr_table.proofs.Endpoints.RowOrderLaws.{sequence_at, covering-sequences}
 use Rattle.addr_table.proofs.row_order.covering_rows.Goals as goal
 
 pub returns : goal.returns

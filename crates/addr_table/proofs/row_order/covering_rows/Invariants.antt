@@ -1,6 +1,6 @@
 use Rattle.std.proofs.Common.{◌≡◌, take}
 use Rattle.std.specs.Prelude.{flat_map}
-use Rattle.addr_table.proofs.RowOrderLaws.{sequence_at}
+use Rattle.addr_table.proofs.Endpoints.RowOrderLaws.{sequence_at}
 use Rattle.addr_table.proofs.row_order.covering_rows.Given as goal
 
 abbrev pub invariant-loop-index : goal.invariant-loop-index

@@ -1,7 +1,7 @@
 use Rattle.std.proofs.Common.{◌≡◌, ◌<◌, ◌≤◌, length, ap, subst, slice_index_or}
 use Rattle.addr_table.specs.declared.ends.End.{End}
 use Rattle.addr_table.specs.Private.Merged.{Cursor, IsNext, ends_in, taken_of}
-use Rattle.addr_table.proofs.MergeLaws.{head-next, none-next}
+use Rattle.addr_table.proofs.Endpoints.MergeLaws.{head-next, none-next}
 use Rattle.addr_table.proofs.end_cursor.EndCursor.next.Goals as goal
 
 pub returns-in-Some : goal.returns-in-Some

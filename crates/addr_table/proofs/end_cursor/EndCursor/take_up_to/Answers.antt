@@ -6,7 +6,7 @@ use Rattle.addr_table.specs.declared.ends.End.{End}
 use Rattle.addr_table.specs.Private.Merged.{Cursor, IsHead, IsNext, IsNextIn, Takes, ends_in}
 use Rattle.addr_table.specs.Private.Merged.{taken_of}
 use Rattle.addr_table.specs.Private.Sweep.{Above}
-use Rattle.addr_table.proofs.MergeLaws.{head-next, later-above, one-taken, one-counted}
+use Rattle.addr_table.proofs.Endpoints.MergeLaws.{head-next, later-above, one-taken, one-counted}
 use Rattle.addr_table.proofs.end_cursor.EndCursor.take_up_to.Goals as goal
 use Rattle.addr_table.proofs.end_cursor.EndCursor.take_up_to.Goals.{In_ok-next}
 

@@ -1,4 +1,4 @@
-use Rattle.addr_table.proofs.EndListLaws.{low-more}
+use Rattle.addr_table.proofs.Endpoints.EndListLaws.{low-more}
 use Rattle.addr_table.proofs.end_list.EndList.push.Goals as goal
 
 pub returns-in_ok-push-in-Ok : goal.returns-in_ok-push-in-Ok

@@ -3,7 +3,7 @@ use Rattle.std.proofs.lemmas.List.Sorted.{IsNonDecreasingBy-from_sort_by_key, Al
 use Rattle.std.proofs.lemmas.List.Sorted.{IsPermutation-refl}
 use Rattle.addr_table.specs.declared.ends.End.{End}
 use Rattle.addr_table.specs.declared.low_ends.LowEnd.{LowEnd}
-use Rattle.addr_table.proofs.EndListLaws.{both-sorted, both-rise}
+use Rattle.addr_table.proofs.Endpoints.EndListLaws.{both-sorted, both-rise}
 use Rattle.addr_table.proofs.end_list.EndList.sort.Goals as goal
 
 pub invariant_of-self : goal.invariant_of-self

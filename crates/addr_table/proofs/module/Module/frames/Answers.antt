@@ -1,5 +1,5 @@
 use Rattle.std.proofs.Common.{◌∙◌}
-use Rattle.addr_table.proofs.ModuleLaws.{frames-told, parents-told}
+use Rattle.addr_table.proofs.Decoding.ModuleLaws.{frames-told, parents-told}
 use Rattle.addr_table.proofs.module.Module.frames.Goals as goal
 
 pub returns : goal.returns

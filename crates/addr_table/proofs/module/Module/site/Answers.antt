@@ -1,4 +1,4 @@
-use Rattle.addr_table.proofs.ModuleLaws.{site-told}
+use Rattle.addr_table.proofs.Decoding.ModuleLaws.{site-told}
 use Rattle.addr_table.proofs.module.Module.site.Goals as goal
 
 pub returns : goal.returns

@@ -1,6 +1,6 @@
 use Rattle.std.proofs.Common.{sym}
 use Rattle.std.proofs.lemmas.Bool.{ltb-true}
-use Rattle.addr_table.proofs.FrameTurns.{path-step}
+use Rattle.addr_table.proofs.FrameWalks.FrameTurns.{path-step}
 use Rattle.addr_table.proofs.path.PathIterator.next.Goals as goal
 
 pub returns-clause-steps : goal.returns-clause-steps

@@ -1,7 +1,7 @@
 use Rattle.std.proofs.Common.{ℕ, rules}
 use Rattle.std.proofs.lemmas.List.Sorted.{IsPermutation-map, IsNonDecreasingBy-from_sort_by_key}
 use Rattle.addr_table.specs.Private.RowOrder.{row_end}
-use Rattle.addr_table.proofs.RowEndLaws.{ends-rise}
+use Rattle.addr_table.proofs.Endpoints.RowEndLaws.{ends-rise}
 use Rattle.addr_table.proofs.row_ends.RowEnds.of.Goals as goal
 
 pub returns-clause-permutation : goal.returns-clause-permutation

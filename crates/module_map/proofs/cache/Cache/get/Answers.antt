@@ -1,5 +1,5 @@
 use Rattle.std.proofs.Common.{◌≡◌, ◌∙◌, refl, subst, arith, Contains}
-use Rattle.module_map.specs.Private.Cached.{kept_under, asked_for}
+use Rattle.module_map.specs.Private.Cached.{cached_under, after_lookup}
 use Rattle.module_map.proofs.cache.Cache.get.Goals as goal
 
 pub invariant_of-self-2 : goal.invariant_of-self-2
@@ -15,9 +15,9 @@ returns-clause-cached c = let was : c.in-Some.answers.entries ≡ c.args.self.no
 pub returns-clause-value : goal.returns-clause-value
 returns-clause-value c = let was : c.in-Some.answers.entries ≡ c.args.self.now.entries =
     rw (← c.self.view_is, c.in-Some.is) refl in
-    subst (λ l. c.recall.result ≡ kept_under c.args.key l) was c.recall.ensures.value
+    subst (λ l. c.recall.result ≡ cached_under c.args.key l) was c.recall.ensures.value
 
 pub returns-clause-order : goal.returns-clause-order
 returns-clause-order c = let was : c.in-Some.answers.entries ≡ c.args.self.now.entries =
     rw (← c.self.view_is, c.in-Some.is) refl in
-    subst (λ l. c.recall.new.answers.entries ≡ asked_for c.args.key l) was c.recall.ensures.order
+    subst (λ l. c.recall.new.answers.entries ≡ after_lookup c.args.key l) was c.recall.ensures.order

@@ -1,0 +1,6 @@
+pub mod ActiveCounts
+pub mod ActiveLaws
+pub mod BitLaws
+pub mod FilledLaws
+pub mod FirstBits
+pub mod FirstLaws

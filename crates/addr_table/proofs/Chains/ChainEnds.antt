@@ -1,0 +1,111 @@
+-- The start of a walk over a chain, and whether scopes remain.
+use Rattle.std.proofs.Common.{◌≡◌, ◌∙◌, ℕ, suc, ◌-◌, ◌<◌, ◌≤◌, List, [], ◌∷◌, ◌++◌, length, reverse}
+use Rattle.std.proofs.Common.{get_or, Bool, true, false, ◌&&◌, refl, sym, ap, subst, inl, inr}
+use Rattle.std.proofs.Common.{arith}
+use Rattle.std.specs.Prelude.{Option, Some, None, nat_lt, nat_le, find}
+use Rattle.std.proofs.lemmas.Bool.Decides.{nat_tests}
+use Rattle.std.proofs.lemmas.Bool.{cases_lt}
+use Rattle.std.proofs.lemmas.List.{reverse-append, get_or_default}
+use Rattle.dwarf_walk.specs.declared.scope_kind.ScopeKind.TheVariants.{Subprogram}
+use Rattle.dwarf_entries.specs.Scopes.{Scope}
+use Rattle.dwarf_entries.specs.Order.{AreNumbered}
+use Rattle.addr_table.specs.Chains.{is_at, encloses, enclosing, held_among}
+use Rattle.addr_table.specs.Frames.{place_chain}
+use Rattle.addr_table.specs.Private.Parents.{around, IsParent}
+use Rattle.addr_table.specs.Private.Walks.{HaveParents, chain_around, top_around, search_start_of}
+use Rattle.addr_table.specs.Private.Walks.{IsWalk}
+use Rattle.addr_table.proofs.Chains.ParentWalkLaws.{held-none, held-some, number_in}
+
+-- ---- whether scopes remain
+
+pub filled : (s : Scope) (xs : List Scope) → reverse (s ∷ xs) ≡ [] → ⊥
+filled s xs h = full (reverse xs) (sym (reverse-append (s ∷ []) xs) ∙ h)
+  where
+    full : (ys : List Scope) → ys ++ s ∷ [] ≡ [] → ⊥
+    full [] h = cc
+    full (y ∷ ys) h = cc
+
+pub left-none : (scopes : List Scope) (nears : List ℕ) (a near top : ℕ)
+    → IsWalk scopes nears a near top
+    → reverse (chain_around a scopes near) ≡ [] → near ≡ 0
+left-none scopes nears a near top h none = elim h.ends [
+  | inl e ↦ e
+  | inr there ↦ by (find (is_at Subprogram a) (around scopes near)) refl there
+]
+  where
+    by : (o : Option Scope) → find (is_at Subprogram a) (around scopes near) ≡ o
+        → number_in o ≡ Some top → near ≡ 0
+    by None f t = cc
+    by (Some s) f t =
+        let held = held-some a (around scopes near) s f in
+        absurd (filled s held.0 (ap (reverse {A = Scope}) (sym held.1) ∙ none))
+
+-- ---- the start
+
+past-end : (m total number : ℕ) (xs : List Scope) → AreNumbered m total xs → total ≤ number
+    → enclosing number xs ≡ []
+past-end m total number [] h le = refl
+past-end m total number (s ∷ xs) h le =
+    let low : s.«end» ≤ total = h.2 in
+    let out : encloses number s ≡ false = beyond (nat_le s.number number) s.«end» (omega arith) in
+    rw out (past-end (suc m) total number xs h.3 le)
+  where
+    beyond : (b : Bool) (e : ℕ) → e ≤ number → (b && nat_lt number e) ≡ false
+    beyond b e le = grind (arith, nat_tests)
+
+pub started-chain : (a : ℕ) (scopes : List Scope) (nears : List ℕ) (scope : Option ℕ)
+    → HaveParents scopes nears
+    → place_chain a scope scopes ≡ chain_around a scopes (search_start_of (length scopes) scope)
+started-chain a scopes nears None have = refl
+started-chain a scopes nears (Some number) have = elim (cases_lt number (length scopes)) [
+  | inl lt ↦ (let inside : nat_lt number (length scopes) ≡ true = grind (arith, nat_tests) in
+      rw inside refl)
+  | inr le ↦
+      (let outside : nat_lt number (length scopes) ≡ false = grind (arith, nat_tests) in rw outside
+      (ap (held_among a) (past-end 0 (length scopes) number scopes have.order.numbered le)))
+]
+
+pub search_start-within : (count : ℕ) (scope : Option ℕ) → search_start_of count scope ≤ count
+search_start-within count None = omega arith
+search_start-within count (Some number) = elim (cases_lt number count) [
+  | inl lt ↦ (let inside : nat_lt number count ≡ true = grind (arith, nat_tests) in
+      rw inside (omega arith))
+  | inr le ↦ (let outside : nat_lt number count ≡ false = grind (arith, nat_tests) in
+      rw outside (omega arith))
+]
+
+-- without an outermost scope the chain is empty
+pub no-chain : (a : ℕ) (scopes : List Scope) (near : ℕ) → top_around a scopes near ≡ None
+    → chain_around a scopes near ≡ []
+no-chain a scopes near h = held-none a (around scopes near)
+    (by (find (is_at Subprogram a) (around scopes near)) h)
+  where
+    by : (o : Option Scope) → number_in o ≡ None → o ≡ None
+    by None h = refl
+    by (Some s) h = cc
+
+pub left-empty : (scopes : List Scope) (a near : ℕ) → near ≡ 0
+    → reverse (chain_around a scopes near) ≡ []
+left-empty scopes a near none = ap (λ (n : ℕ). reverse (chain_around a scopes n)) none
+
+pub parent-within : (scopes : List Scope) (nears : List ℕ) (near e : ℕ) → HaveParents scopes nears
+    → near ≤ length scopes → 0 < near
+    → get_or nears (near - 1) e ≤ length scopes
+parent-within scopes nears near e have le some =
+    let all : length nears ≡ length scopes = have.all in
+    let within : near - 1 < length nears = omega arith in
+    let parent : IsParent scopes (near - 1) (get_or nears (near - 1) 0) =
+    have.parents (near - 1) within in
+    let low : get_or nears (near - 1) 0 ≤ near - 1 = parent.near_is in
+    subst (λ (p : ℕ). p ≤ length scopes) (get_or_default nears (near - 1) 0 e within) (omega arith)
+
+-- with an outermost scope the chain is not empty
+pub some-chain : (a : ℕ) (scopes : List Scope) (near top : ℕ) → top_around a scopes near ≡ Some top
+    → (s : Scope) × (inner : List Scope) × (chain_around a scopes near ≡ s ∷ inner)
+some-chain a scopes near top h = by (find (is_at Subprogram a) (around scopes near)) refl h
+  where
+    by : (o : Option Scope) → find (is_at Subprogram a) (around scopes near) ≡ o
+        → number_in o ≡ Some top
+        → (s : Scope) × (inner : List Scope) × (chain_around a scopes near ≡ s ∷ inner)
+    by None f t = cc
+    by (Some s) f t = let held = held-some a (around scopes near) s f in (s, held.0, held.1)

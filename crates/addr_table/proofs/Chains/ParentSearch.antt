@@ -1,0 +1,209 @@
+-- The search for the parent of a scope.
+use Rattle.std.proofs.Common.{◌≡◌, ◌∙◌, ℕ, zero, suc, ◌+◌, ◌-◌, ◌<◌, ◌≤◌, List, [], ◌∷◌, ◌++◌}
+use Rattle.std.proofs.Common.{length, get_or, Bool, true, false, cond, ◌&&◌, ◌⊎◌, refl, sym, ap}
+use Rattle.std.proofs.Common.{subst, inl, inr, arith, append-nil, zero-add}
+use Rattle.std.specs.Prelude.{nat_lt, nat_le, filter}
+use Rattle.std.specs.List.{AllByRecursion}
+use Rattle.std.proofs.lemmas.Bool.Decides.{nat_tests}
+use Rattle.std.proofs.lemmas.List.{get_or_default}
+use Rattle.std.proofs.lemmas.List.Elements.{filter-append}
+use Rattle.dwarf_entries.specs.Scopes.{Scope}
+use Rattle.dwarf_entries.specs.Order.{AreNumbered, AreNested, AreInOrder}
+use Rattle.addr_table.proofs.Chains.ChainWalks.{no_scope}
+use Rattle.addr_table.specs.Chains.{encloses, enclosing}
+use Rattle.addr_table.specs.Private.Parents.{around, IsParent, AreParents}
+use Rattle.addr_table.proofs.Chains.ParentLaws.{ends_past, later-enclose, is_before, itself-last}
+use Rattle.addr_table.proofs.Chains.ParentLaws.{before-around}
+
+-- ---- the state of the search: the scopes that enclose scope i are scope i itself and the scopes
+-- around near that end after it
+
+pub record IsNear (scopes : List Scope) (i near : ℕ) : Type 0 where
+  pub within : near ≤ i
+  pub rest : (d : Scope) → enclosing i scopes ≡ filter (ends_past i) (around scopes near)
+      ++ get_or scopes i d ∷ []
+
+pub near-first : (scopes : List Scope) (i : ℕ) → AreInOrder scopes → i < length scopes
+    → IsNear scopes i i
+near-first scopes i order lt = record {
+  within = omega arith;
+  rest =
+      λ d. subst (λ n. enclosing n scopes ≡ filter (is_before n) scopes ++ get_or scopes i d ∷ [])
+      (zero-add i)
+      (itself-last 0 (length scopes) i scopes d order.numbered lt)
+      ∙ ap (λ (zs : List Scope). zs ++ get_or scopes i d ∷ [])
+      (before-around i scopes (length scopes) order.numbered);
+}
+
+pub near-outwards : (scopes : List Scope) (i k near : ℕ) (d : Scope) → IsNear scopes i (suc k)
+    → k < length scopes
+    → IsParent scopes k near → (get_or scopes k d).«end» ≤ i → IsNear scopes i near
+near-outwards scopes i k near d h lt parent ends =
+    let inside : suc k ≤ i = h.within in
+    let low : near ≤ k = parent.near_is in
+    let out : ends_past i (get_or scopes k d) ≡ false = past i (get_or scopes k d).«end» ends in
+    let one : filter (ends_past i) (get_or scopes k d ∷ []) ≡ [] = rw out refl in
+    let same : filter (ends_past i) (enclosing k scopes)
+    ≡ filter (ends_past i) (around scopes near) =
+    ap (filter (ends_past i)) (parent.around_is d)
+    ∙ (filter-append (ends_past i) (around scopes near) (get_or scopes k d ∷ [])
+    ∙ (ap (λ (zs : List Scope). filter (ends_past i) (around scopes near) ++ zs) one ∙ append-nil
+    (filter (ends_past i) (around scopes near)))) in
+    record {
+      within = omega arith;
+      rest =
+          λ e. h.rest e ∙ ap (λ (zs : List Scope). zs ++ get_or scopes i e ∷ []) same;
+    }
+  where
+    past : (i e : ℕ) → e ≤ i → nat_lt i e ≡ false
+    past i e le = grind (arith, nat_tests)
+
+each_at : (P : Scope → Type 0) (xs : List Scope) (i : ℕ) (d : Scope) → AllByRecursion P xs
+    → i < length xs → P (get_or xs i d)
+each_at P [] i d h lt = absurd (omega arith)
+each_at P (x ∷ xs) zero d h lt = h.0
+each_at P (x ∷ xs) (suc i) d h lt = each_at P xs i d h.1 (omega arith)
+
+pub number-there : (m total k : ℕ) (xs : List Scope) (d : Scope) → AreNumbered m total xs
+    → k < length xs → (get_or xs k d).number ≡ m + k
+number-there m total k [] d h lt = absurd (omega arith)
+number-there m total zero (s ∷ xs) d h lt = let a : s.number ≡ m = h.0 in omega arith
+number-there m total (suc k) (s ∷ xs) d h lt =
+    let r : (get_or xs k d).number ≡ suc m + k =
+    number-there (suc m) total k xs d h.3 (omega arith) in omega arith
+
+-- the scopes that enclose a scope end no earlier than it
+all-past : (m total k i : ℕ) (xs : List Scope) (d : Scope) → AreNumbered m total xs → AreNested xs
+    → k < length xs
+    → i < (get_or xs k d).«end» → filter (ends_past i) (enclosing (m + k) xs) ≡ enclosing (m + k) xs
+all-past m total k i [] d h n lt past = refl
+all-past m total zero i (s ∷ xs) d h n lt past =
+    let a : s.number ≡ m = h.0 in
+    let b : m < s.«end» = h.1 in
+    let t : encloses (m + zero) s ≡ true =
+    both s.number (m + zero) s.«end» (omega arith) (omega arith) in
+    let u : ends_past i s ≡ true = ends i s.«end» past in
+    rw (t, later-enclose (suc m) total (m + zero) xs h.3 (omega arith), u) refl
+  where
+    both : (n i e : ℕ) → n ≤ i → i < e → (nat_le n i && nat_lt i e) ≡ true
+    both n i e x y = grind (arith, nat_tests)
+
+    ends : (i e : ℕ) → i < e → nat_lt i e ≡ true
+    ends i e lt = grind (arith, nat_tests)
+all-past m total (suc k) i (s ∷ xs) d h n lt past =
+    let e : suc m + k ≡ m + suc k = omega arith in
+    let P : ℕ → Type 0 = λ j. filter (ends_past i) (enclosing j xs) ≡ enclosing j xs in
+    let rest : P (m + suc k) = subst P e
+    (all-past (suc m) total k i xs d h.3 n.1 (omega arith) past) in
+    cases (encloses (m + suc k) s) refl rest
+  where
+    inner : (a b i : ℕ) (c : Bool) → (c && nat_lt a b) ≡ true → a < b
+    inner a b i c h = grind (arith, nat_tests)
+
+    ends : (i e : ℕ) → i < e → nat_lt i e ≡ true
+    ends i e lt = grind (arith, nat_tests)
+
+    wide : encloses (m + suc k) s ≡ true → ends_past i s ≡ true
+    wide t =
+        let there : (get_or xs k d).number ≡ suc m + k =
+        number-there (suc m) total k xs d h.3 (omega arith) in
+        let inside : m + suc k < s.«end» =
+        inner (m + suc k) s.«end» i (nat_le s.number (m + suc k)) t in
+        let within : (get_or xs k d).number < s.«end» → (get_or xs k d).«end» ≤ s.«end» =
+        each_at (λ t. t.number < s.«end» → t.«end» ≤ s.«end») xs k d n.0 (omega arith) in
+        let le : (get_or xs k d).«end» ≤ s.«end» = within (omega arith) in
+        ends i s.«end» (omega arith)
+
+    cases : (b : Bool) → encloses (m + suc k) s ≡ b
+        → filter (ends_past i) (enclosing (m + suc k) xs) ≡ enclosing (m + suc k) xs
+        → filter (ends_past i) (cond b (s ∷ enclosing (m + suc k) xs) (enclosing (m + suc k) xs))
+        ≡ cond b (s ∷ enclosing (m + suc k) xs)
+        (enclosing (m + suc k) xs)
+    cases true t rest = rw (wide t) (ap (λ (zs : List Scope). s ∷ zs) rest)
+    cases false t rest = rest
+
+pub near-found : (scopes : List Scope) (i k : ℕ) (d : Scope) → AreInOrder scopes
+    → IsNear scopes i (suc k) → k < length scopes
+    → i < (get_or scopes k d).«end» → IsParent scopes i (suc k)
+near-found scopes i k d order h lt past =
+    let all : filter (ends_past i) (around scopes (suc k)) ≡ around scopes (suc k) =
+    subst (λ n. filter (ends_past i) (enclosing n scopes) ≡ enclosing n scopes) (zero-add k)
+    (all-past 0 (length scopes) k i scopes d order.numbered order.nested lt past) in
+    record {
+      near_is = h.within;
+      around_is =
+          λ e. h.rest e ∙ ap (λ (zs : List Scope). zs ++ get_or scopes i e ∷ []) all;
+    }
+
+-- ---- one parent more
+
+pub parents-more : (scopes : List Scope) (nears : List ℕ) (near : ℕ) → AreParents scopes nears
+    → IsParent scopes (length nears) near
+    → AreParents scopes (nears ++ near ∷ [])
+parents-more scopes nears near h one i lt = cases nears i h one lt
+  where
+    last_of : (i n : ℕ) (xs : List ℕ) → i < length (xs ++ n ∷ [])
+        → (i < length xs) ⊎ (i ≡ length xs)
+    last_of i n [] lt = inr (omega arith)
+    last_of zero n (x ∷ xs) lt = inl (omega arith)
+    last_of (suc i) n (x ∷ xs) lt = elim (last_of i n xs (omega arith)) [
+      | inl l ↦ inl (omega arith)
+      | inr e ↦ inr (omega arith)
+    ]
+
+    early : (i n : ℕ) (xs : List ℕ) → i < length xs → get_or (xs ++ n ∷ []) i 0 ≡ get_or xs i 0
+    early i n [] lt = absurd (omega arith)
+    early zero n (x ∷ xs) lt = refl
+    early (suc i) n (x ∷ xs) lt = early i n xs (omega arith)
+
+    at_end : (n : ℕ) (xs : List ℕ) → get_or (xs ++ n ∷ []) (length xs) 0 ≡ n
+    at_end n [] = refl
+    at_end n (x ∷ xs) = at_end n xs
+
+    cases : (nears : List ℕ) (i : ℕ) → AreParents scopes nears → IsParent scopes (length nears) near
+        → i < length (nears ++ near ∷ [])
+        → IsParent scopes i (get_or (nears ++ near ∷ []) i 0)
+    cases nears i h one lt = elim (last_of i near nears lt) [
+      | inl l ↦ (let P : ℕ → Type 0 = λ p. IsParent scopes i p in
+          subst P (sym (early i near nears l)) (h i l))
+      | inr e ↦ (let Q : ℕ → Type 0 = λ j. IsParent scopes j (get_or (nears ++ near ∷ []) j 0) in
+          let P : ℕ → Type 0 = λ p. IsParent scopes (length nears) p in
+          subst Q (sym e) (subst P (sym (at_end near nears)) one))
+    ]
+
+-- ---- the same for the ends of the program
+
+-- the candidate before near does not enclose scope i, so the search continues with its parent
+pub step-outwards : (scopes : List Scope) (nears : List ℕ) (i near past e : ℕ)
+    → AreParents scopes nears → length nears ≡ i
+    → i < length scopes → 0 < near → IsNear scopes i near
+    → ((d : Scope) → past ≡ (get_or scopes (near - 1) d).«end») → past ≤ i
+    → IsNear scopes i (get_or nears (near - 1) e)
+step-outwards scopes nears i zero past e parents len lt some h is ends = absurd (omega arith)
+step-outwards scopes nears i (suc k) past e parents len lt some h is ends =
+    let k_is : suc k - 1 ≡ k = omega arith in
+    let within : suc k ≤ i = h.within in
+    let P : ℕ → Type 0 = λ n. IsNear scopes i (get_or nears n e) in
+    let E : ℕ → Type 0 = λ n. past ≡ (get_or scopes n no_scope).«end» in
+    let Q : ℕ → Type 0 = λ p. IsParent scopes k p in
+    let lt_n : k < length nears = omega arith in
+    let parent : IsParent scopes k (get_or nears k e) =
+    subst Q (get_or_default nears k 0 e lt_n) (parents k lt_n) in
+    let over : past ≡ (get_or scopes k no_scope).«end» = subst E k_is (is no_scope) in
+    subst P (sym k_is) (near-outwards scopes i k (get_or nears k e) no_scope h (omega arith) parent
+    (omega arith))
+
+pub stop-outwards : (scopes : List Scope) (i near past : ℕ) → AreInOrder scopes → i < length scopes
+    → 0 < near → IsNear scopes i near
+    → ((d : Scope) → past ≡ (get_or scopes (near - 1) d).«end») → i < past → IsParent scopes i near
+stop-outwards scopes i zero past order lt some h is beyond = absurd (omega arith)
+stop-outwards scopes i (suc k) past order lt some h is beyond =
+    let k_is : suc k - 1 ≡ k = omega arith in
+    let within : suc k ≤ i = h.within in
+    let E : ℕ → Type 0 = λ n. past ≡ (get_or scopes n no_scope).«end» in
+    let under : past ≡ (get_or scopes k no_scope).«end» = subst E k_is (is no_scope) in
+    near-found scopes i k no_scope order h (omega arith) (omega arith)
+
+pub start-outwards : (scopes : List Scope) (i : ℕ) → AreInOrder scopes → i < length scopes
+    → IsNear scopes i i
+start-outwards scopes i order lt = near-first scopes i order lt

@@ -1,0 +1,112 @@
+-- The outermost scope of a chain, found by following parents.
+use Rattle.std.proofs.Common.{◌≡◌, ◌∙◌, ℕ, zero, suc, ◌-◌, ◌<◌, ◌≤◌, List, [], length, get_or, Bool}
+use Rattle.std.proofs.Common.{true, false, cond, refl, sym, ap, subst, arith, zero-add}
+use Rattle.std.specs.Prelude.{Option, Some, None, find}
+use Rattle.std.specs.Option.{option_or}
+use Rattle.std.proofs.lemmas.List.{get_or_default}
+use Rattle.dwarf_walk.specs.declared.scope_kind.ScopeKind.TheVariants.{Subprogram}
+use Rattle.dwarf_entries.specs.Scopes.{Scope}
+use Rattle.addr_table.specs.Chains.{is_at}
+use Rattle.addr_table.specs.Private.Parents.{around, IsParent}
+use Rattle.addr_table.specs.Private.Walks.{HaveParents, top_around}
+use Rattle.addr_table.proofs.Chains.ParentSearch.{number-there}
+use Rattle.addr_table.proofs.Chains.ParentWalkLaws.{found_more, number_in}
+
+-- ---- the outermost scope, found by following parents
+
+or-none : {X : Type 0} (o : Option X) → option_or o None ≡ o
+or-none None = refl
+or-none (Some x) = refl
+
+or-some : {X : Type 0} (x : X) (o found : Option X) → option_or (option_or o (Some x)) found
+    ≡ option_or o (Some x)
+or-some x None found = refl
+or-some x (Some y) found = refl
+
+number_or : (o p : Option Scope) → number_in (option_or o p) ≡ option_or (number_in o) (number_in p)
+number_or None p = refl
+number_or (Some s) p = refl
+
+-- the outermost scope after one step to the parent
+top-split : (a : ℕ) (scopes : List Scope) (nears : List ℕ) (k : ℕ) (d : Scope)
+    → HaveParents scopes nears → k < length scopes
+    → top_around a scopes (suc k) ≡ option_or (top_around a scopes (get_or nears k 0))
+    (cond (is_at Subprogram a (get_or scopes k d)) (Some k) None)
+top-split a scopes nears k d have lt =
+    ap (λ (xs : List Scope). number_in (find (is_at Subprogram a) xs)) (parent.around_is d)
+    ∙ (ap number_in (found_more a (around scopes (get_or nears k 0)) (get_or scopes k d))
+    ∙ (number_or (find (is_at Subprogram a) (around scopes (get_or nears k 0)))
+    (cond (is_at Subprogram a (get_or scopes k d)) (Some (get_or scopes k d)) None)
+    ∙ ap (option_or (top_around a scopes (get_or nears k 0)))
+    (inside (is_at Subprogram a (get_or scopes k d)))))
+  where
+    parent : IsParent scopes k (get_or nears k 0)
+    parent = have.parents k (let all : length nears ≡ length scopes = have.all in omega arith)
+
+    there : (get_or scopes k d).number ≡ k
+    there = number-there 0 (length scopes) k scopes d have.order.numbered lt ∙ zero-add k
+
+    inside : (b : Bool) → number_in (cond b (Some (get_or scopes k d)) None) ≡ cond b (Some k) None
+    inside true = ap Some there
+    inside false = refl
+
+-- after some steps from a number
+abbrev pub IsTop : ℕ → List Scope → ℕ → ℕ → Option ℕ → Type 0
+IsTop a scopes start near found = top_around a scopes start ≡ option_or (top_around a scopes near)
+    found
+
+pub top-start : (a : ℕ) (scopes : List Scope) (start : ℕ) → IsTop a scopes start start None
+top-start a scopes start = sym (or-none (top_around a scopes start))
+
+pub top-end : (a : ℕ) (scopes : List Scope) (start near : ℕ) (found : Option ℕ)
+    → IsTop a scopes start near found → near ≡ 0
+    → found ≡ top_around a scopes start
+top-end a scopes start near found h none =
+    sym (h ∙ ap (λ (n : ℕ). option_or (top_around a scopes n) found) none)
+
+pub top-more : (a : ℕ) (scopes : List Scope) (nears : List ℕ) (start near : ℕ) (found : Option ℕ)
+    (b : Bool) (e : ℕ)
+    → HaveParents scopes nears → near ≤ length scopes → 0 < near → IsTop a scopes start near found
+    → ((d : Scope) → b ≡ is_at Subprogram a (get_or scopes (near - 1) d))
+    → IsTop a scopes start (get_or nears (near - 1) e) (cond b (Some (near - 1)) found)
+top-more a scopes nears start zero found b e have le some h held = absurd (omega arith)
+top-more a scopes nears start (suc k) found b e have le some h held =
+    let k_is : suc k - 1 ≡ k = omega arith in
+    let P : ℕ → Type 0 = λ n. IsTop a scopes start (get_or nears n e) (cond b (Some n) found) in
+    let H : ℕ → Type 0 = λ n. (d : Scope) → b ≡ is_at Subprogram a (get_or scopes n d) in
+    let within : k < length nears = (let all : length nears ≡ length scopes = have.all in
+    omega arith) in
+    subst P (sym k_is)
+    (subst (λ (n : ℕ). IsTop a scopes start n (cond b (Some k) found))
+    (get_or_default nears k 0 e within) (by b (subst H k_is held)))
+  where
+    no_scope : Scope
+    no_scope =
+        record {
+          kind = Subprogram;
+          offset = 0;
+          number = 0;
+          «end» = 0;
+          ranges = [];
+          name = None;
+          linkage_name = None;
+          stmt_list = None;
+          call_file = None;
+          call_line = None;
+        }
+
+    split : (b : Bool) → ((d : Scope) → b ≡ is_at Subprogram a (get_or scopes k d))
+        → top_around a scopes start ≡ option_or
+        (option_or (top_around a scopes (get_or nears k 0)) (cond b (Some k) None)) found
+    split b held =
+        h
+        ∙ ap (λ (o : Option ℕ). option_or o found)
+        (top-split a scopes nears k no_scope have le
+        ∙ ap (λ (c : Bool). option_or (top_around a scopes (get_or nears k 0))
+        (cond c (Some k) None)) (sym (held no_scope)))
+
+    by : (b : Bool) → ((d : Scope) → b ≡ is_at Subprogram a (get_or scopes k d))
+        → IsTop a scopes start (get_or nears k 0) (cond b (Some k) found)
+    by true held = split true held ∙ or-some k (top_around a scopes (get_or nears k 0)) found
+    by false held = split false held ∙ ap (λ (o : Option ℕ). option_or o found)
+        (or-none (top_around a scopes (get_or nears k 0)))

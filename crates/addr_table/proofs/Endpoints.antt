@@ -1,0 +1,16 @@
+pub mod BuildLaws
+pub mod CursorTurns
+pub mod DigitCounts
+pub mod DigitLaws
+pub mod DigitPlaces
+pub mod EndDigits
+pub mod EndLaws
+pub mod EndListLaws
+pub mod EndTurns
+pub mod FlatPermutations
+pub mod MergeLaws
+pub mod RangeCountLaws
+pub mod RangeEnds
+pub mod RowEndLaws
+pub mod RowOrderLaws
+pub mod TakenLaws

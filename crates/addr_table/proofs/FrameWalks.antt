@@ -1,0 +1,5 @@
+pub mod FrameChains
+pub mod FrameLaws
+pub mod FrameTurns
+pub mod SiteLaws
+pub mod WalkLaws

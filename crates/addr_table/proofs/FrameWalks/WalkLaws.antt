@@ -1,0 +1,153 @@
+-- A walk over the scopes of a chain, from the innermost to the outermost.
+use Rattle.std.proofs.Common.{◌≡◌, ◌≢◌, ◌∙◌, ℕ, suc, ◌-◌, ◌<◌, ◌≤◌, List, [], ◌∷◌, ◌++◌, length}
+use Rattle.std.proofs.Common.{reverse, get_or, true, false, nat_eq, refl, sym, ap, subst, inl, inr}
+use Rattle.std.proofs.Common.{arith, append-nil}
+use Rattle.std.specs.Prelude.{Some, None, filter}
+use Rattle.std.proofs.lemmas.Bool.Decides.{nat_tests}
+use Rattle.std.proofs.lemmas.List.{reverse-append, get_or_default}
+use Rattle.dwarf_walk.specs.declared.scope_kind.ScopeKind.TheVariants.{Subprogram, Inlined}
+use Rattle.dwarf_entries.specs.Scopes.{Scope}
+use Rattle.addr_table.specs.Chains.{is_at}
+use Rattle.addr_table.specs.Private.Walks.{HaveParents, chain_around, top_around, EndsAt, IsInChain}
+use Rattle.addr_table.specs.Private.Walks.{nothing, outermost, inlined, outer_of, IsWalk}
+use Rattle.addr_table.proofs.Chains.ParentWalkLaws.{Outer, step-outer, step-top}
+
+-- ---- the next scope of the chain
+
+outer-low : (a : ℕ) (scopes : List Scope) (k p near top : ℕ) → Outer a scopes k p near top
+    → k < length scopes → p ≤ length scopes
+outer-low a scopes k p near top h lt = let le : p ≤ k = h.low in omega arith
+
+-- a scope that is not in the chain may be skipped
+pub record Passed (a : ℕ) (scopes : List Scope) (near p top : ℕ) : Type 0 where
+  pub within : p ≤ length scopes
+  pub chain : chain_around a scopes p ≡ chain_around a scopes near
+  pub ends : EndsAt a scopes p top
+
+pub pass : (a : ℕ) (scopes : List Scope) (nears : List ℕ) (near top e : ℕ)
+    → HaveParents scopes nears → near ≤ length scopes → 0 < near
+    → EndsAt a scopes near top → (near - 1) ≢ top
+    → ((d : Scope) → is_at Inlined a (get_or scopes (near - 1) d) ≡ false)
+    → Passed a scopes near (get_or nears (near - 1) e) top
+pass a scopes nears near top e have le some ends other out = elim ends [
+  | inl none ↦ absurd (omega arith)
+  | inr told ↦
+      (let k : near ≡ suc (near - 1) = omega arith in
+      let within : near - 1 < length nears =
+      (let all : length nears ≡ length scopes = have.all in omega arith) in
+      let o : Outer a scopes (near - 1) (get_or nears (near - 1) 0) near top =
+      step-outer a scopes nears (near - 1) near top have (omega arith) k told other in
+      subst (λ (p : ℕ). Passed a scopes near p top) (get_or_default nears (near - 1) 0 e within)
+      (passed (near - 1) (get_or nears (near - 1) 0) o (omega arith) out))
+]
+  where
+    no_scope : Scope
+    no_scope =
+        record {
+          kind = Subprogram;
+          offset = 0;
+          number = 0;
+          «end» = 0;
+          ranges = [];
+          name = None;
+          linkage_name = None;
+          stmt_list = None;
+          call_file = None;
+          call_line = None;
+        }
+
+    none_of : (s : Scope) → is_at Inlined a s ≡ false → filter (is_at Inlined a) (s ∷ []) ≡ []
+    none_of s h = rw h refl
+
+    passed : (k p : ℕ) → Outer a scopes k p near top → k < length scopes
+        → ((d : Scope) → is_at Inlined a (get_or scopes k d) ≡ false)
+        → Passed a scopes near p top
+    passed k p o lt out = record {
+      within = outer-low a scopes k p near top o lt;
+      chain =
+          sym (o.chain_is no_scope ∙ (ap (λ (zs : List Scope). chain_around a scopes p ++ zs)
+          (none_of (get_or scopes k no_scope) (out no_scope))
+          ∙ append-nil (chain_around a scopes p)));
+      ends = inr o.top_is;
+    }
+
+-- the next frame is of scope near - 1, and its enclosing scopes remain
+pub record Told (a : ℕ) (scopes : List Scope) (nears : List ℕ) (start near top : ℕ) : Type 0 where
+  pub walk : IsWalk scopes nears a (outer_of nears top (near - 1)) top
+  pub told : (d : Scope)
+      → reverse (chain_around a scopes start) ≡ get_or scopes (near - 1) d
+      ∷ reverse (chain_around a scopes (outer_of nears top (near - 1)))
+
+pub tell : (a : ℕ) (scopes : List Scope) (nears : List ℕ) (start near top : ℕ)
+    → HaveParents scopes nears → near ≤ length scopes
+    → near ≢ 0 → chain_around a scopes near ≡ chain_around a scopes start → EndsAt a scopes near top
+    → IsInChain a scopes near top → Told a scopes nears start near top
+tell a scopes nears start near top have le some chain ends told = by told
+  where
+    last_one : (k : ℕ) → near ≡ suc k → k ≡ top → Told a scopes nears start near top
+    last_one k is top_is = elim ends [
+      | inl none ↦ absurd (some none)
+      | inr there ↦
+          (let k_is : near - 1 ≡ k = omega arith in
+          let outer : outer_of nears top (near - 1) ≡ 0 = out (near - 1) top (k_is ∙ top_is) in
+          let there_k : top_around a scopes near ≡ Some k = there ∙ ap Some (sym top_is) in
+          record {
+            walk = rw outer (record { have = have; within = omega arith; ends = inl refl });
+            told =
+                λ d. rw (outer, k_is)
+                (ap (reverse {A = Scope})
+                (sym chain ∙ step-top a scopes nears k near d have (omega arith) is there_k));
+          })
+    ]
+      where
+        out : (n t : ℕ) → n ≡ t → outer_of nears t n ≡ 0
+        out n t e = let same : nat_eq n t ≡ true = grind (arith, nat_tests) in rw same refl
+
+    inner : (k : ℕ) → near ≡ suc k → k ≢ top
+        → ((d : Scope) → is_at Inlined a (get_or scopes k d) ≡ true)
+        → Told a scopes nears start near top
+    inner k is other held = elim ends [
+      | inl none ↦ absurd (some none)
+      | inr there ↦
+          (let k_is : near - 1 ≡ k = omega arith in
+          let o : Outer a scopes k (get_or nears k 0) near top =
+          step-outer a scopes nears k near top have (omega arith) is there other in
+          let outer : outer_of nears top (near - 1) ≡ get_or nears k 0 = out in
+          record {
+            walk =
+                rw outer
+                (record {
+                  have = have;
+                  within =
+                      outer-low a scopes k (get_or nears k 0) near top o (omega arith);
+                  ends =
+                      inr o.top_is;
+                });
+            told =
+                λ d. rw (outer, k_is)
+                (ap (reverse {A = Scope}) (sym chain ∙ (o.chain_is d
+                ∙ ap (λ (zs : List Scope). chain_around a scopes (get_or nears k 0) ++ zs)
+                (one_of (get_or scopes k d) (held d))))
+                ∙ reverse-append (chain_around a scopes (get_or nears k 0))
+                (get_or scopes k d ∷ []));
+          })
+    ]
+      where
+        one_of : (s : Scope) → is_at Inlined a s ≡ true → filter (is_at Inlined a) (s ∷ []) ≡ s ∷ []
+        one_of s h = rw h refl
+
+        out : outer_of nears top (near - 1) ≡ get_or nears k 0
+        out = let k_is : near - 1 ≡ k = omega arith in let same : nat_eq k top ≡ false =
+            grind (arith, nat_tests) in rw (k_is, same) refl
+
+    by : IsInChain a scopes near top → Told a scopes nears start near top
+    by (nothing e) = absurd (some e)
+    by (outermost is) = last_one top is refl
+    by (inlined k is other held) = inner k is other held
+
+-- if no frame is returned, none remains
+pub tell-none : (a : ℕ) (scopes : List Scope) (start near : ℕ) → near ≡ 0
+    → chain_around a scopes near ≡ chain_around a scopes start
+    → reverse (chain_around a scopes start) ≡ []
+tell-none a scopes start near none chain =
+    ap (reverse {A = Scope}) (sym chain ∙ ap (λ (n : ℕ). chain_around a scopes n) none)

@@ -1,0 +1,4 @@
+pub mod Lists
+pub mod PlaceLaws
+pub mod ScanLaws
+pub mod WordLaws

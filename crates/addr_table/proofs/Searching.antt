@@ -1,0 +1,5 @@
+pub mod BucketLaws
+pub mod SearchLaws
+pub mod SegmentLaws
+pub mod SegmentListLaws
+pub mod StepLaws

@@ -1,0 +1,8 @@
+pub mod BoundLaws
+pub mod Constant
+pub mod CountLaws
+pub mod KeyLaws
+pub mod SameScopes
+pub mod ScopeKeys
+pub mod SweepLaws
+pub mod SweepTurns

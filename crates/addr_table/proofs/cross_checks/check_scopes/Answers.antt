@@ -1,0 +1,40 @@
+use Rattle.std.proofs.Common.{◌∙◌, refl, sym, arith}
+use Rattle.addr_table.proofs.Decoding.CrossCheckLaws.{scopes-none, scopes-more, scopes-bad}
+use Rattle.addr_table.proofs.Decoding.CrossCheckLaws.{scopes-over}
+use Rattle.addr_table.proofs.Decoding.CrossCheckLaws.{OfUnit}
+use Rattle.addr_table.proofs.Decoding.CrossCheckLaws.{told-offset}
+use Rattle.addr_table.proofs.Chains.ChainWalks.{no_scope}
+use Rattle.addr_table.proofs.cross_checks.check_scopes.Goals as goal
+use Rattle.addr_table.proofs.cross_checks.check_scopes.Goals.{After-is_bad_scope}
+
+of_unit : (c : After-is_bad_scope) → OfUnit c.args.scopes.now.scopes c.args.first c.args.past
+    c.loop-number.number
+of_unit c = record {
+  low = c.loop-number.auto.number;
+  high = omega (arith, c.loop-number-test.true, c.min-number-end.ensures, c.count.ensures.count);
+}
+
+pub loop-number-init : goal.loop-number-init
+loop-number-init c = scopes-none _ _ _ _
+
+pub loop-number-preserved : goal.loop-number-preserved
+loop-number-preserved c =
+    let a = (goal.at.loop-number-preserved c).After-is_bad_scope in
+    scopes-more _ _ _ _ _ no_scope (of_unit a) c.loop-number.invariant
+    (sym (c.is_bad_scope.ensures _ (c.scope_at-scope.ensures no_scope)) ∙ c.if-is_bad_scope.false)
+
+pub returns-then-is_bad_scope : goal.returns-then-is_bad_scope
+returns-then-is_bad_scope c =
+    let a = (goal.at.returns-then-is_bad_scope c).After-is_bad_scope in
+    rw (c.told.ensures) (
+      refl,
+      scopes-bad _ _ _ _ _ _ no_scope (of_unit a) c.loop-number.invariant
+          (sym (c.is_bad_scope.ensures _ (c.scope_at-scope.ensures no_scope))
+          ∙ c.if-is_bad_scope.true)
+          (c.offset-at.ensures ∙ told-offset _ _ _ (c.scope_at-scope.ensures no_scope)),
+    )
+
+pub returns : goal.returns
+returns c =
+    scopes-over _ _ _ _ _ c.loop-number.invariant
+    (omega (arith, c.loop-number-test.false, c.min-number-end.ensures, c.count.ensures.count))

@@ -1,0 +1,104 @@
+//! Cross-checks between `.debug_info` and `.debug_line`.
+
+ghost use Rattle.std.specs.Prelude.{◌≡◌, ◌≤◌, ◌<◌, slice_range, length};
+ghost use Rattle.dwarf_bytes.specs.Items.{each};
+ghost use Rattle.dwarf_entries.specs.Scopes.{Scope as ScopeSeen};
+ghost use Rattle.dwarf_entries.specs.Order.{AreInOrder, TellsOf};
+ghost use Rattle.addr_table.specs.CrossChecks.{files_at, is_bad_root, is_bad_call, is_bad_scope};
+ghost use Rattle.addr_table.specs.CrossChecks.{check_scope, check_unit, cross_checks_of, RefusesAs};
+
+use crate::scopes::{count, scope_at};
+use dwarf_bytes::{Cause, LoadFault, Section};
+use dwarf_entries::{Root, Scope, ScopeKind, Scopes};
+use dwarf_lines::LineTables;
+
+/// Returns the number of files of the line program at `stmt_list`; 0 if there is no such program.
+#[tactic(auto, unfolding(crate::specs::Joins::files_at))]
+fn files_at(lines: &LineTables, stmt_list: Option<u64>) -> u64
+    ensures { result ≡ files_at lines.now stmt_list }
+{
+    match stmt_list {
+        Some(start) => match lines.program_at(start) {
+            Some(program) => lines.files(program),
+            None => 0,
+        },
+        None => 0,
+    }
+}
+
+/// Returns whether the `stmt_list` of a root is not the start of a line program.
+#[tactic(auto, unfolding(crate::specs::Joins::is_bad_root))]
+fn is_bad_root(lines: &LineTables, root: &Root) -> bool
+    ensures { result ≡ is_bad_root lines.now root.now }
+{
+    match root.stmt_list {
+        Some(start) => lines.program_at(start).is_none(),
+        None => false,
+    }
+}
+
+/// Returns whether `call_file` is not a file of the line program at `stmt_list`.
+fn is_bad_call(lines: &LineTables, call_file: Option<u64>, stmt_list: Option<u64>) -> bool
+    ensures { result ≡ is_bad_call lines.now call_file stmt_list }
+{
+    match call_file {
+        Some(file) => file >= files_at(lines, stmt_list),
+        None => false,
+    }
+}
+
+/// Returns whether a scope is an inlined subroutine with an invalid call file.
+fn is_bad_scope(lines: &LineTables, scopes: &Scopes, scope: &Scope) -> bool
+    ensures { (s : ScopeSeen) → TellsOf scopes.now.scopes scope.now s →
+        result ≡ is_bad_scope lines.now s }
+{
+    match scope.kind() {
+        ScopeKind::Subprogram => false,
+        ScopeKind::Inlined => is_bad_call(lines, scope.call_file(scopes), scope.stmt_list(scopes)),
+    }
+}
+
+/// Checks the scopes with indexes `first..past`.
+fn check_scopes(
+    lines: &LineTables,
+    scopes: &Scopes,
+    first: usize,
+    past: usize,
+) -> Result<(), LoadFault>
+    requires { AreInOrder scopes.now.scopes }
+    ensures { RefusesAs result
+        (each (λ _ s. check_scope lines.now s) (slice_range scopes.now.scopes first past)) }
+{
+    for number in first..past.min(count(scopes)) {
+        let scope = scope_at(scopes, number);
+        if is_bad_scope(lines, scopes, scope) {
+            let at = scope.offset() as u64;
+            return Err(LoadFault::told(Section::DebugInfo, Cause::CallFile, at));
+        }
+    }
+    Ok(())
+}
+
+/// Checks one unit: first its root, then its scopes.
+fn check_unit(lines: &LineTables, scopes: &Scopes, root: &Root) -> Result<(), LoadFault>
+    requires { AreInOrder scopes.now.scopes }
+    ensures { RefusesAs result (check_unit lines.now scopes.now.scopes root.now) }
+{
+    if is_bad_root(lines, root) {
+        let at = root.offset as u64;
+        return Err(LoadFault::told(Section::DebugInfo, Cause::StmtList, at));
+    }
+    check_scopes(lines, scopes, root.first, root.past)
+}
+
+/// Checks the references from entries to line programs, unit by unit: first the root, then its
+/// scopes.
+pub(crate) fn cross_check(lines: &LineTables, scopes: &Scopes) -> Result<(), LoadFault>
+    requires { AreInOrder scopes.now.scopes }
+    ensures { RefusesAs result (cross_checks_of lines.now scopes.now) }
+{
+    for root in scopes.roots() {
+        check_unit(lines, scopes, root)?;
+    }
+    Ok(())
+}

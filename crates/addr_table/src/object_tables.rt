@@ -1,0 +1,170 @@
+//! The strings, paths and lines of frames.
+
+ghost use Rattle.std.specs.Prelude.{◌≡◌, option_map, slice_get};
+ghost use Rattle.std.specs.Option.{option_and_then};
+ghost use Rattle.std.specs.List.{join_with_byte};
+ghost use Rattle.dwarf_bytes.specs.Elf.{layout};
+ghost use Rattle.dwarf_entries.specs.Order.{AreInOrder};
+ghost use Rattle.addr_table.specs.Frames.{text_section, text_bytes, file_path, row_site};
+ghost use Rattle.addr_table.specs.Private.Views.{site_view};
+ghost use Rattle.addr_table.specs.declared.object_tables.FrameSite.TheVariants.{Call};
+
+use crate::path::Path;
+use crate::scopes::{count, scope_at};
+use dwarf_bytes::{Layout, Section, text_at};
+use dwarf_entries::{Scopes, TextOffset};
+use dwarf_lines::{LineTables, ProgramNo};
+
+/// An object, with the tables in which its strings and files are looked up.
+#[derive(Clone, Copy)]
+pub struct ObjectTables<'a> {
+    pub bytes: &'a [u8],
+    pub sections: &'a Layout,
+    pub lines: &'a LineTables,
+    pub scopes: &'a Scopes,
+    pub ghost place_of: { sections.now ≡ layout bytes.now },
+}
+
+/// The site of a frame: the row of an address, or the call site of the scope with this index.
+#[derive(Clone, Copy)]
+pub enum FrameSite {
+    Row(Option<usize>),
+    Call(usize),
+}
+
+impl<'a> ObjectTables<'a> {
+    /// Returns the section that contains a string.
+    fn section(self, section: Section) -> &'a [u8]
+        ensures { result.now ≡ text_section self.entry.bytes.now section }
+    {
+        match section {
+            Section::DebugStr => self.sections.debug_str.of(self.bytes),
+            Section::DebugLineStr => self.sections.debug_line_str.of(self.bytes),
+            _ => self.sections.debug_info.of(self.bytes),
+        }
+    }
+
+    /// Returns the bytes of a string, up to its NUL.
+    fn text(self, text: TextOffset) -> &'a [u8]
+        ensures { result.now ≡ text_bytes self.entry.bytes.now text }
+    {
+        text_at(self.section(text.section), text.offset as u64).unwrap_or(&[])
+    }
+
+    /// Returns the name of the scope with an index.
+    pub fn name(self, number: usize) -> Option<&'a [u8]>
+        requires { AreInOrder self.scopes.now.scopes }
+        ensures { option_map (λ text. text.now) result
+            ≡ option_map (text_bytes self.entry.bytes.now)
+            (option_and_then (λ s. s.name) (slice_get self.entry.scopes.now.scopes number)) }
+    {
+        if number >= count(self.scopes) {
+            return None;
+        }
+        let text = scope_at(self.scopes, number).name()?;
+        Some(self.text(text))
+    }
+
+    /// Returns the linkage name of the scope with an index.
+    pub fn linkage(self, number: usize) -> Option<&'a [u8]>
+        requires { AreInOrder self.scopes.now.scopes }
+        ensures { option_map (λ text. text.now) result
+            ≡ option_map (text_bytes self.entry.bytes.now)
+            (option_and_then (λ s. s.linkage_name)
+            (slice_get self.entry.scopes.now.scopes number)) }
+    {
+        if number >= count(self.scopes) {
+            return None;
+        }
+        let text = scope_at(self.scopes, number).linkage_name()?;
+        Some(self.text(text))
+    }
+
+    /// Returns the path of a file of a line program.
+    fn file(self, program: ProgramNo, file: u64) -> Option<Path<'a>>
+        ensures { option_map (join_with_byte 47) result ≡ file_path self.entry.bytes.now
+            self.entry.lines.now program file }
+    {
+        let parts = self.lines.path(program, file)?;
+        let line = self.sections.debug_line.of(self.bytes);
+        let line_str = self.sections.debug_line_str.of(self.bytes);
+        let str = self.sections.debug_str.of(self.bytes);
+        Some(Path::new(line, line_str, str, parts))
+    }
+
+    /// Returns the path of the file of a row, given its index.
+    pub fn row_path(self, number: Option<usize>) -> Option<Path<'a>>
+        ensures { option_map (join_with_byte 47) result
+            ≡ (row_site self.entry.bytes.now self.entry.lines.now number).path }
+    {
+        let row = *self.lines.rows().get(number?)?;
+        self.file(row.program, row.file)
+    }
+
+    /// Returns the line of a row, given its index; 0 if it is unknown.
+    pub fn row_line(self, number: Option<usize>) -> u64
+        ensures { result ≡ (row_site self.entry.bytes.now self.entry.lines.now number).line }
+    {
+        let Some(number) = number else {
+            return 0;
+        };
+        match self.lines.rows().get(number) {
+            Some(row) => u64::from(row.line),
+            None => 0,
+        }
+    }
+
+    fn call_path(self, number: usize) -> Option<Path<'a>>
+        requires { AreInOrder self.scopes.now.scopes }
+        ensures { option_map (join_with_byte 47) result
+            ≡ (site_view self.entry.bytes.now self.entry.lines.now self.entry.scopes.now.scopes
+            (Call number)).path }
+    {
+        if number >= count(self.scopes) {
+            return None;
+        }
+        let scope = scope_at(self.scopes, number);
+        let start = scope.stmt_list(self.scopes)?;
+        let file = scope.call_file(self.scopes)?;
+        let program = self.lines.program_at(start)?;
+        self.file(program, file)
+    }
+
+    fn call_line(self, number: usize) -> u64
+        requires { AreInOrder self.scopes.now.scopes }
+        ensures { result ≡ (site_view self.entry.bytes.now self.entry.lines.now
+            self.entry.scopes.now.scopes (Call number)).line }
+    {
+        if number >= count(self.scopes) {
+            return 0;
+        }
+        scope_at(self.scopes, number)
+            .call_line(self.scopes)
+            .unwrap_or(0)
+    }
+
+    /// Returns the path of the source file of a frame.
+    pub fn path(self, site: FrameSite) -> Option<Path<'a>>
+        requires { AreInOrder self.scopes.now.scopes }
+        ensures { option_map (join_with_byte 47) result
+            ≡ (site_view self.entry.bytes.now self.entry.lines.now self.entry.scopes.now.scopes
+            site).path }
+    {
+        match site {
+            FrameSite::Row(number) => self.row_path(number),
+            FrameSite::Call(number) => self.call_path(number),
+        }
+    }
+
+    /// Returns the source line of a frame; 0 if it is unknown.
+    pub fn line(self, site: FrameSite) -> u64
+        requires { AreInOrder self.scopes.now.scopes }
+        ensures { result ≡ (site_view self.entry.bytes.now self.entry.lines.now
+            self.entry.scopes.now.scopes site).line }
+    {
+        match site {
+            FrameSite::Row(number) => self.row_line(number),
+            FrameSite::Call(number) => self.call_line(number),
+        }
+    }
+}
