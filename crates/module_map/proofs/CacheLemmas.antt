@@ -9,6 +9,7 @@ use Rattle.std.specs.Option.{option_map_or}
 use Rattle.std.specs.Map.{lookup, lookup_entry, remove_entry}
 use Rattle.lru.specs.LruCache.{LruCache, promoted, put_entries}
 use Rattle.lru.proofs.CallerLemmas.{Contains-lookup, Contains-put_entries, IsPut}
+use Rattle.module_map.specs.declared.cache.CacheKey.{CacheKey}
 use Rattle.module_map.specs.Private.Cached.{is_key}
 
 module _ {K V : Type 0} (test : K → Bool) where
@@ -55,29 +56,30 @@ both : (a b : Bool) → (a && b) ≡ true → (a ≡ true) × (b ≡ true)
 both true b h = (refl, h)
 both false b h = absurd (false≢true h)
 
-same_key : (x y : ℕ × ℕ) → is_key x y ≡ true → y ≡ x
-same_key x y h = let p = both (eqb x.0 y.0) (eqb x.1 y.1) h in
-    let p0 : x.0 ≡ y.0 = eqb-true x.0 y.0 p.0 in let p1 : x.1 ≡ y.1 = eqb-true x.1 y.1 p.1 in
-    sym (ap₂ (λ (a b : ℕ). (a, b)) p0 p1)
+same_key : (x y : CacheKey) → is_key x y ≡ true → y ≡ x
+same_key x y h = let p = both (eqb x.serial y.serial) (eqb x.link y.link) h in
+    let p0 : x.serial ≡ y.serial = eqb-true x.serial y.serial p.0 in
+    let p1 : x.link ≡ y.link = eqb-true x.link y.link p.1 in
+    sym (ap₂ (λ (a b : ℕ). record { serial = a; link = b }) p0 p1)
 
-module _ {V : Type 0} (key : ℕ × ℕ) where
+module _ {V : Type 0} (key : CacheKey) where
   -- the entry that a lookup finds is cached under exactly this key
-  pub found_key : (es : List ((ℕ × ℕ) × V)) (o : Option V) → o ≡ lookup (is_key key) es
+  pub found_key : (es : List (CacheKey × V)) (o : Option V) → o ≡ lookup (is_key key) es
       → IfSome o (λ v. Contains es (key, v))
   found_key es None h = tt
   found_key es (Some v) h =
       let it = Contains-lookup (is_key key) es v (sym h) in
       subst (λ k. Contains es (k, v)) (same_key key it.0 it.2) it.1
 
-  put_key : (c : LruCache (ℕ × ℕ) V) (v : V) (e : (ℕ × ℕ) × V) → IsPut is_key c key v e
+  put_key : (c : LruCache CacheKey V) (v : V) (e : CacheKey × V) → IsPut is_key c key v e
       → e ≡ (key, v)
   put_key c v e h = elim h.1 [
-    | inl same ↦ ap₂ (λ (k : ℕ × ℕ) (w : V). (k, w)) same h.0
-    | inr was ↦ ap₂ (λ (k : ℕ × ℕ) (w : V). (k, w)) (same_key key e.0 was.2) h.0
+    | inl same ↦ ap₂ (λ (k : CacheKey) (w : V). (k, w)) same h.0
+    | inr was ↦ ap₂ (λ (k : CacheKey) (w : V). (k, w)) (same_key key e.0 was.2) h.0
   ]
 
   -- each entry after a put was there before, or is the new one
-  pub put_or_was : (c : LruCache (ℕ × ℕ) V) (v : V) (e : (ℕ × ℕ) × V)
+  pub put_or_was : (c : LruCache CacheKey V) (v : V) (e : CacheKey × V)
       → Contains (put_entries is_key c key v) e
       → Contains c.entries e ⊎ (e ≡ (key, v))
   put_or_was c v e h = elim (Contains-put_entries is_key c key v e h) [

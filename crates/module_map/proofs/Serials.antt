@@ -5,6 +5,7 @@ use Rattle.std.proofs.Common.{refl, sym, ap, ◌∙◌, subst, arith}
 use Rattle.std.specs.Prelude.{Option, insert, remove, nat_le, if◌then◌else◌}
 use Rattle.std.proofs.lemmas.List.{length-append, length-take, length-drop}
 use Rattle.std.proofs.lemmas.List.Edits.{length-remove}
+use Rattle.module_map.specs.declared.cache.CacheKey.{CacheKey}
 use Rattle.module_map.specs.World.{most_modules}
 use Rattle.std.proofs.lemmas.List.Elements.{Contains-append_cases, Contains-get_or}
 use Rattle.lru.proofs.CallerLemmas.{Contains-take}
@@ -55,7 +56,7 @@ pub record Known (hs : List NumberedModule) (h : NumberedModule) : Type 0 where
   pub serial : was.serial ≡ h.serial
   pub bytes : was.loaded.bytes ≡ h.loaded.bytes
 
-pub sound_alike : (hs hs' : List NumberedModule) (loads : ℕ) (es : List ((ℕ × ℕ) × Option Place))
+pub sound_alike : (hs hs' : List NumberedModule) (loads : ℕ) (es : List (CacheKey × Option Place))
     → AreSound hs loads es
     → ((h : NumberedModule) → Contains hs' h → Known hs h) → length hs' ≤ length hs
     → AreSound hs' loads es
@@ -68,10 +69,10 @@ sound_alike hs hs' loads es sound known fewer = record {
       sym k.bytes ∙ sound.one k.was l.was k.there l.there (k.serial ∙ e ∙ sym l.serial) ∙ l.bytes;
   past = sound.past;
   right = λ e h c d s. let k = known h d in sound.right e k.was c k.there (k.serial ∙ s)
-      ∙ ap (λ (b : List ℕ). place_in b e.0.1) k.bytes;
+      ∙ ap (λ (b : List ℕ). place_in b e.0.link) k.bytes;
 }
 
-pub sound_remove : (hs : List NumberedModule) (loads : ℕ) (es : List ((ℕ × ℕ) × Option Place))
+pub sound_remove : (hs : List NumberedModule) (loads : ℕ) (es : List (CacheKey × Option Place))
     (at : ℕ) → AreSound hs loads es
     → AreSound (remove hs at) loads es
 sound_remove hs loads es at sound =
@@ -79,7 +80,7 @@ sound_remove hs loads es at sound =
     (λ h c. record { was = h; there = contains_remove hs at h c; serial = refl; bytes = refl })
     (length-remove_any hs at)
 
-pub sound_turned : (hs : List NumberedModule) (loads : ℕ) (es : List ((ℕ × ℕ) × Option Place))
+pub sound_turned : (hs : List NumberedModule) (loads : ℕ) (es : List (CacheKey × Option Place))
     (own at base : ℕ) (d : NumberedModule)
     → own < length hs → AreSound hs loads es
     → AreSound (relocated hs own at (rebased base (get_or hs own d))) loads es
@@ -108,7 +109,7 @@ sound_turned hs loads es own at base d lt sound =
     }
 
 -- a loaded module takes the next serial number, under which nothing is cached
-pub sound_insert : (hs : List NumberedModule) (loads : ℕ) (es : List ((ℕ × ℕ) × Option Place))
+pub sound_insert : (hs : List NumberedModule) (loads : ℕ) (es : List (CacheKey × Option Place))
     (at : ℕ) (h : NumberedModule)
     → h.serial ≡ loads → length hs < most_modules → AreSound hs loads es
     → AreSound (insert hs at h) (loads + 1) es
@@ -137,18 +138,18 @@ sound_insert hs loads es at h new capacity sound = record {
         absurd (omega arith)
     one g f (inr c) (inr d) e = ap (λ (x : NumberedModule). x.loaded.bytes) (c ∙ sym d)
 
-    right : (e : (ℕ × ℕ) × Option Place) (g : NumberedModule) → Contains es e
-        → Contains hs g ⊎ (g ≡ h) → g.serial ≡ e.0.0
-        → e.1 ≡ place_in g.loaded.bytes e.0.1
+    right : (e : CacheKey × Option Place) (g : NumberedModule) → Contains es e
+        → Contains hs g ⊎ (g ≡ h) → g.serial ≡ e.0.serial
+        → e.1 ≡ place_in g.loaded.bytes e.0.link
     right e g c (inl old) s = sound.right e g c old s
     right e g c (inr same) s = let p = sound.past e c in let q = serial_of g same in
         absurd (omega arith)
 
 -- an answer of a loaded module is cached
-pub sound_kept : (hs : List NumberedModule) (loads : ℕ) (es es' : List ((ℕ × ℕ) × Option Place))
+pub sound_kept : (hs : List NumberedModule) (loads : ℕ) (es es' : List (CacheKey × Option Place))
     (at : ℕ) (d : NumberedModule)
     → at < length hs → AreSound hs loads es
-    → ((e : (ℕ × ℕ) × Option Place) → Contains es' e
+    → ((e : CacheKey × Option Place) → Contains es' e
     → Contains es e ⊎ IsAnswerOf (get_or hs at d) e) → AreSound hs loads es'
 sound_kept hs loads es es' at d lt sound cached = record {
   few = sound.few;
@@ -161,13 +162,13 @@ sound_kept hs loads es es' at d lt sound cached = record {
     there : Contains hs (get_or hs at d)
     there = Contains-get_or hs at d lt
 
-    past : (e : (ℕ × ℕ) × Option Place) → Contains es e ⊎ IsAnswerOf (get_or hs at d) e
-        → e.0.0 < loads
+    past : (e : CacheKey × Option Place) → Contains es e ⊎ IsAnswerOf (get_or hs at d) e
+        → e.0.serial < loads
     past e (inl old) = sound.past e old
     past e (inr new) = subst (λ n. n < loads) new.0 (sound.below (get_or hs at d) there)
 
-    right : (e : (ℕ × ℕ) × Option Place) (h : NumberedModule) → Contains hs h → h.serial ≡ e.0.0
-        → Contains es e ⊎ IsAnswerOf (get_or hs at d) e → e.1 ≡ place_in h.loaded.bytes e.0.1
+    right : (e : CacheKey × Option Place) (h : NumberedModule) → Contains hs h → h.serial ≡ e.0.serial
+        → Contains es e ⊎ IsAnswerOf (get_or hs at d) e → e.1 ≡ place_in h.loaded.bytes e.0.link
     right e h k s (inl old) = sound.right e h old k s
-    right e h k s (inr new) = new.1 ∙ ap (λ (b : List ℕ). place_in b e.0.1)
+    right e h k s (inr new) = new.1 ∙ ap (λ (b : List ℕ). place_in b e.0.link)
         (sound.one (get_or hs at d) h there k (new.0 ∙ sym s))

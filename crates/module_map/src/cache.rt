@@ -10,11 +10,19 @@ use std::alloc::{AllocError, Global};
 use std::marker::Model;
 use std::num::NonZeroUsize;
 
-/// An LRU cache of at most `capacity` answers. The key is the serial number of a load and the link
-/// address.
+/// The key of a cached answer.
+#[derive(Clone, Copy, Debug, PartialEq, Eq, Hash)]
+pub struct CacheKey {
+    /// The serial number of a load.
+    pub serial: u64,
+    /// A link address.
+    pub link: u64,
+}
+
+/// An LRU cache of at most `capacity` answers.
 #[derive(Drop)]
 pub struct Cache {
-    answers: Option<LruCache<(u64, u64), Option<Place>>>,
+    answers: Option<LruCache<CacheKey, Option<Place>>>,
     capacity: usize,
 }
 
@@ -36,8 +44,8 @@ impl Model for Cache {
 
 /// Returns the cached answer for a key and makes it the most recently used one.
 fn recall(
-    answers: &mut LruCache<(u64, u64), Option<Place>>,
-    key: (u64, u64),
+    answers: &mut LruCache<CacheKey, Option<Place>>,
+    key: CacheKey,
 ) -> Option<Option<Place>>
     ensures value { result ≡ cached_under key answers.old.entries }
     ensures order { answers.new.entries ≡ after_lookup key answers.old.entries }
@@ -52,8 +60,8 @@ fn recall(
 
 /// Caches an answer if memory allows. If the cache is full, evicts the least recently used answer.
 fn remember(
-    answers: &mut LruCache<(u64, u64), Option<Place>>,
-    key: (u64, u64),
+    answers: &mut LruCache<CacheKey, Option<Place>>,
+    key: CacheKey,
     place: Option<Place>,
 )
     ensures kept { (answers.new.entries ≡ answers.old.entries) ⊎ (answers.new.entries ≡ with_answer
@@ -99,7 +107,7 @@ impl Cache {
     }
 
     /// Returns the cached answer for a key and makes it the most recently used one.
-    pub fn get(&mut self, key: (u64, u64)) -> Option<Option<Place>>
+    pub fn get(&mut self, key: CacheKey) -> Option<Option<Place>>
         ensures value { result ≡ cached_under key self.old.entries }
         ensures order { self.new.entries ≡ after_lookup key self.old.entries }
         ensures found { IfSome result (λ place. Contains self.old.entries (key, place)) }
@@ -117,7 +125,7 @@ impl Cache {
 
     /// Caches an answer if memory allows. If the cache is full, evicts the least recently used
     /// answer.
-    pub fn put(&mut self, key: (u64, u64), place: Option<Place>)
+    pub fn put(&mut self, key: CacheKey, place: Option<Place>)
         ensures kept { (self.new.entries ≡ self.old.entries)
             ⊎ (self.new.entries ≡ with_answer key place self.old) }
         ensures cached { (e : CacheEntry) → Contains self.new.entries e →

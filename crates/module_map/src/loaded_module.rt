@@ -7,6 +7,7 @@ ghost use Rattle.addr_table.specs.Steps.{counted, bits};
 ghost use Rattle.module_map.specs.World.{is_named, start_of, end_of, moved_to};
 ghost use Rattle.module_map.specs.Changes.{IsExtentOf};
 
+use crate::cache::CacheKey;
 use crate::faults::Extent;
 use addr_table::{Module, Place, Steps};
 use std::alloc::{AllocError, Global};
@@ -107,13 +108,16 @@ impl LoadedModule {
         self.name.as_str() == name
     }
 
-    /// Returns the cache key of an address: the serial number of the load and the link address.
-    pub fn key(&self, address: u64) -> (u64, u64)
+    /// Returns the cache key of an address.
+    pub fn key(&self, address: u64) -> CacheKey
         requires { start_of self.now.loaded ≤ address }
-        ensures serial { result.0 ≡ self.now.serial }
-        ensures link { result.1 ≡ address - self.now.loaded.base }
+        ensures serial { result.serial ≡ self.now.serial }
+        ensures link { result.link ≡ address - self.now.loaded.base }
     {
-        (self.serial, address - self.base)
+        CacheKey {
+            serial: self.serial,
+            link: address - self.base,
+        }
     }
 
     /// Returns the extent at another base, or `None` if its end would exceed 2^64-1.

@@ -2,6 +2,7 @@
 use Rattle.std.specs.Prelude.{◌≡◌, ℕ, ◌<◌, ◌≤◌, List, length, Contains, Option}
 use Rattle.addr_table.specs.Module.{place_in}
 use Rattle.addr_table.specs.declared.place.Place.{Place}
+use Rattle.module_map.specs.declared.cache.CacheKey.{CacheKey}
 use Rattle.module_map.specs.World.{Loaded, most_modules}
 
 -- a module and the serial number of its load, which is never reused
@@ -12,9 +13,9 @@ pub record NumberedModule : Type 0 where
 abbrev pub loaded_of : NumberedModule → Loaded
 loaded_of h = h.loaded
 
--- a serial number and a link address, and the place that was found there
+-- a key, and the place that was found for it
 abbrev pub CacheEntry : Type 0
-CacheEntry = (ℕ × ℕ) × Option Place
+CacheEntry = CacheKey × Option Place
 
 -- the entries of a cache, and its capacity
 pub record CacheEntries : Type 0 where
@@ -23,7 +24,7 @@ pub record CacheEntries : Type 0 where
 
 -- the entry is an answer of the module
 abbrev pub IsAnswerOf : NumberedModule → CacheEntry → Type 0
-IsAnswerOf h e = (h.serial ≡ e.0.0) × (e.1 ≡ place_in h.loaded.bytes e.0.1)
+IsAnswerOf h e = (h.serial ≡ e.0.serial) × (e.1 ≡ place_in h.loaded.bytes e.0.link)
 
 -- The number of modules is within the limit. A serial number is below the count of loads and
 -- identifies the bytes of one module. A value cached under it is an answer of that module.
@@ -33,6 +34,6 @@ pub record AreSound (held : List NumberedModule) (loads : ℕ) (entries : List C
   pub below : (h : NumberedModule) → Contains held h → h.serial < loads
   pub one : (h g : NumberedModule) → Contains held h → Contains held g →
       h.serial ≡ g.serial → h.loaded.bytes ≡ g.loaded.bytes
-  pub past : (e : CacheEntry) → Contains entries e → e.0.0 < loads
+  pub past : (e : CacheEntry) → Contains entries e → e.0.serial < loads
   pub right : (e : CacheEntry) (h : NumberedModule) → Contains entries e → Contains held h →
-      h.serial ≡ e.0.0 → e.1 ≡ place_in h.loaded.bytes e.0.1
+      h.serial ≡ e.0.serial → e.1 ≡ place_in h.loaded.bytes e.0.link

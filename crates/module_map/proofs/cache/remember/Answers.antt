@@ -2,12 +2,13 @@ use Rattle.std.proofs.Common.{◌≡◌, ◌⊎◌, inl, inr, ◌≤◌, ◌<◌
 use Rattle.std.proofs.Common.{Ok, Err, arith, sym}
 use Rattle.std.specs.Result.{OnOk, OnErr}
 use Rattle.lru.specs.LruCache.{LruCache, put_entries, lru_cache}
+use Rattle.module_map.specs.declared.cache.CacheKey.{CacheKey}
 use Rattle.module_map.specs.Private.Cached.{is_key}
 use Rattle.module_map.proofs.CacheLemmas.{put_or_was, Grows, Grows-put_entries}
 use Rattle.module_map.proofs.cache.remember.Goals as goal
 
 -- after a put that succeeded, or that ran out of memory
-module _ {V T E : Type 0} (c : LruCache (ℕ × ℕ) V) (key : ℕ × ℕ) (v : V) (new : LruCache (ℕ × ℕ) V)
+module _ {V T E : Type 0} (c : LruCache CacheKey V) (key : CacheKey) (v : V) (new : LruCache CacheKey V)
   where
     kept : (r : Result T E) → OnOk r (new ≡ lru_cache (put_entries is_key c key v) c.cap)
         → OnErr r (new ≡ c)
@@ -17,7 +18,7 @@ module _ {V T E : Type 0} (c : LruCache (ℕ × ℕ) V) (key : ℕ × ℕ) (v : 
 
     cached : (r : Result T E) → OnOk r (new ≡ lru_cache (put_entries is_key c key v) c.cap)
         → OnErr r (new ≡ c)
-        → (e : (ℕ × ℕ) × V) → Contains new.entries e → Contains c.entries e ⊎ (e ≡ (key, v))
+        → (e : CacheKey × V) → Contains new.entries e → Contains c.entries e ⊎ (e ≡ (key, v))
     cached (Ok x) ok err e h = put_or_was key c v e (subst (λ l. Contains l.entries e) ok h)
     cached (Err x) ok err e h = inl (subst (λ l. Contains l.entries e) err h)
 

@@ -2,6 +2,7 @@ use Rattle.std.proofs.Common.{◌≡◌, inr, sym, ap, subst, refl, ◌+◌, ◌
 use Rattle.std.proofs.Common.{length, Option}
 use Rattle.std.specs.Prelude.{Some, None, position}
 use Rattle.addr_table.specs.Module.{low_of, high_of}
+use Rattle.module_map.specs.declared.cache.CacheKey.{CacheKey}
 use Rattle.module_map.specs.World.{is_named}
 use Rattle.module_map.specs.Changes.{is_taken, is_full, place_fault, with_module}
 use Rattle.module_map.specs.declared.faults.MapFault.TheVariants.{Overlap}
@@ -16,7 +17,7 @@ use Rattle.module_map.proofs.Changing.{world_of}
 use Rattle.module_map.proofs.modules.Modules.add.Goals as goal
 
 -- the state after an insertion, as contracts see it
-abbrev map_with : List NumberedModule → ℕ → List ((ℕ × ℕ) × Option Place) → ℕ → Steps → ModuleMap
+abbrev map_with : List NumberedModule → ℕ → List (CacheKey × Option Place) → ℕ → Steps → ModuleMap
 map_with hs loads entries capacity steps =
     record {
       world = world_of hs (loads + 1);
