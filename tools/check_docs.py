@@ -90,7 +90,7 @@ def causes():
 def refusals():
     """Yields faults in the refusals of lines, loads, unloads and moves."""
     faults = source("command_loop", "commands.rt") + source("module_map", "faults.rt")
-    faults += source("answer_text", "faults.rt")
+    faults += source("io_streams", "faults.rt")
     words = re.findall(r'(?:BadLine|FetchFault|MapFault)::\w+(?:\(_\))? => "([a-z-]+)"', faults)
     explained = entries(part("REFUSALS"))
     if len(words) < LEAST_REFUSALS:

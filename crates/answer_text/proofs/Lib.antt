@@ -1,5 +1,4 @@
-pub mod DeviceLemmas
+pub mod WriteLemmas
 pub mod PendingLemmas
-pub mod NumeralLemmas
 pub mod PrintingLemmas
 pub mod PathLemmas

@@ -9,8 +9,8 @@ use Rattle.answer_text.specs.Printable.{is_control, printable}
 use Rattle.std.specs.List.{flat_map, list_all}
 use Rattle.std.specs.Io.KnownBytes.{Appends}
 use Rattle.std.proofs.lemmas.List.Concat.{flat_map_single}
-use Rattle.answer_text.proofs.DeviceLemmas.{appends_then}
-use Rattle.answer_text.specs.Devices.{Writes}
+use Rattle.io_streams.proofs.StreamLemmas.{appends_then}
+use Rattle.io_streams.specs.Streams.{Writes}
 use Rattle.answer_text.specs.Pending.{Put, Cut, Puts}
 
 -- an append after an append

@@ -10,7 +10,7 @@ use Rattle.answer_text.specs.Text.{frame_text, later_text, frames_text, nothing_
 use Rattle.answer_text.specs.Text.{name_of, after_name, heading_text}
 use Rattle.answer_text.specs.Text.{after_address, file_of, place_text}
 use Rattle.answer_text.specs.Numerals.{address_text}
-use Rattle.answer_text.specs.declared.options.Options.{Options}
+use Rattle.io_streams.specs.declared.options.Options.{Options}
 use Rattle.answer_text.proofs.PendingLemmas.{cut_more, puts_then, cut_as, put_as, puts_as}
 
 pub cut_known : (a b : Option (List ℕ)) (h : List ℕ) (t t' : Option (List ℕ)) (rest : List ℕ)

@@ -1,7 +1,7 @@
 -- Buffered output.
 use Rattle.std.specs.Prelude.{◌≡◌, ℕ, List, ◌++◌, Option, Result, Ok, Err}
 use Rattle.std.specs.Io.KnownBytes.{Appends}
-use Rattle.answer_text.specs.Devices.{IsBeginning}
+use Rattle.io_streams.specs.Streams.{IsBeginning}
 
 -- A string was appended to the buffer: everything is written except for the bytes in the new
 -- buffer.

@@ -7,7 +7,7 @@ use Rattle.addr_table.specs.Frames.{Frame}
 use Rattle.module_map.specs.Answers.{Answered}
 use Rattle.answer_text.specs.Printable.{known_text}
 use Rattle.answer_text.specs.Numerals.{address_text}
-use Rattle.answer_text.specs.declared.options.Options.{Options}
+use Rattle.io_streams.specs.declared.options.Options.{Options}
 
 -- ---- a frame
 

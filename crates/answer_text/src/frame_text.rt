@@ -2,18 +2,17 @@
 
 ghost use Rattle.std.specs.Prelude.{◌≡◌, ◌++◌, ◌∷◌, [], List, option_map};
 ghost use Rattle.std.specs.List.{join_with_byte};
-ghost use Rattle.answer_text.specs.Devices.{failures_after};
+ghost use Rattle.io_streams.specs.Streams.{failures_after};
 ghost use Rattle.answer_text.specs.Pending.{Puts};
 ghost use Rattle.answer_text.specs.Printable.{known_text};
 ghost use Rattle.answer_text.specs.Private.Paths.{text_told};
 ghost use Rattle.answer_text.specs.Text.{name_of, file_of, after_name, before_later, name_text};
 ghost use Rattle.answer_text.specs.Text.{place_text, frame_text, later_text};
 
-use crate::devices::{DeviceFault, Sink};
-use crate::options::Options;
 use crate::paths::{put_base_name, put_path};
 use crate::pending::Pending;
 use addr_table::{Frame, Path};
+use io_streams::{DeviceFault, Options, Sink};
 use itoa::Buffer;
 
 /// Returns the name to print: the linkage name if it is requested and present, else the name.

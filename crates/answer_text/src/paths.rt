@@ -2,16 +2,16 @@
 
 ghost use Rattle.std.specs.Prelude.{◌≡◌, List, ◌++◌, ◌∷◌, [], Some, flat_map, map};
 ghost use Rattle.std.specs.List.{after_last, join_with_byte};
-ghost use Rattle.answer_text.specs.Devices.{failures_after};
+ghost use Rattle.io_streams.specs.Streams.{failures_after};
 ghost use Rattle.answer_text.specs.Pending.{Puts};
 ghost use Rattle.answer_text.specs.Printable.{known_text};
 ghost use Rattle.answer_text.specs.Text.{base_name};
 ghost use Rattle.answer_text.specs.Private.Paths.{last_behind, slashed};
 
-use crate::devices::{DeviceFault, Sink};
 use crate::pending::Pending;
 use addr_table::Path;
 use bstr::ByteSlice;
+use io_streams::{DeviceFault, Sink};
 
 /// Returns the part of a path after its last slash, or all of it if it has no slash.
 fn base_name(path: &[u8]) -> &[u8]

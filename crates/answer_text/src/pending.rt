@@ -3,12 +3,12 @@
 ghost use Rattle.std.specs.Prelude.{◌≡◌, ℕ, ◌≤◌, ◌-◌, List, [], ◌∷◌, ◌++◌, length, map, flat_map};
 ghost use Rattle.std.specs.Prelude.{not, OnOk, ◌⊎◌};
 ghost use Rattle.std.specs.List.{list_all};
-ghost use Rattle.answer_text.specs.Devices.{Writes, failures_after};
+ghost use Rattle.io_streams.specs.Streams.{Writes, failures_after};
 ghost use Rattle.answer_text.specs.Pending.{Puts};
 ghost use Rattle.answer_text.specs.Printable.{is_control, printable, known_text};
 ghost use Rattle.answer_text.specs.Private.Paths.{text_told};
 
-use crate::devices::{DeviceFault, Sink};
+use io_streams::{DeviceFault, Sink};
 use std::marker::Model;
 
 /// The capacity of the buffer in bytes.

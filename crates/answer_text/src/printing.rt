@@ -1,18 +1,16 @@
 //! Formats and writes answers.
 
 ghost use Rattle.std.specs.Prelude.{◌≡◌, ◌++◌, ◌∷◌, [], List, IfErr, flat_map};
-ghost use Rattle.answer_text.specs.Devices.{Writes, failures_after};
+ghost use Rattle.io_streams.specs.Streams.{Writes, failures_after};
 ghost use Rattle.answer_text.specs.Pending.{Puts};
 ghost use Rattle.answer_text.specs.Text.{after_address, nothing_text, later_text, frames_text};
 ghost use Rattle.answer_text.specs.Text.{heading_text, answer_text};
 
-use crate::devices::{DeviceFault, Sink};
-use crate::faults::RunFault;
 use crate::frame_text::{put_frame, put_later, put_place};
 use crate::numerals::address_text;
-use crate::options::Options;
 use crate::pending::Pending;
 use addr_table::Frames;
+use io_streams::{DeviceFault, Options, RunFault, Sink};
 use module_map::Answer;
 
 fn after_address(options: &Options) -> &'static [u8]

@@ -4,7 +4,7 @@ use Rattle.std.proofs.Common.{get_or, drop, refl, sym, ap, ◌∙◌, arith, app
 use Rattle.std.specs.Prelude.{Option, None, Some, Result, Ok, Err}
 use Rattle.std.specs.Borrow.{Bor}
 use Rattle.command_line.specs.Settings.{numbers_of, number_then}
-use Rattle.answer_text.specs.Numbers.{number}
+use Rattle.command_line.specs.Numbers.{number}
 
 abbrev all_of : List ℕ → Result (List ℕ) (List ℕ)
 all_of l = Ok l

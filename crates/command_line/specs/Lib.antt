@@ -1,4 +1,5 @@
 pub mod CommandLine
+pub mod Numbers
 pub mod Settings
 pub mod Refusals
 pub mod Private

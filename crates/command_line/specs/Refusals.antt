@@ -5,7 +5,7 @@ use Rattle.clap.specs.Simple.{matches_of}
 use Rattle.clap.specs.Kinds.{IsAmong}
 use Rattle.clap.specs.Faults.{fault_of}
 use Rattle.clap.specs.Values.{kind_of}
-use Rattle.answer_text.specs.declared.options.Options.{Options}
+use Rattle.io_streams.specs.declared.options.Options.{Options}
 use Rattle.command_line.specs.CommandLine.{our_app}
 use Rattle.command_line.specs.Settings.{settings_of, told, IsCacheSize}
 use Rattle.command_line.specs.declared.faults.CliFault.{CliFault}

@@ -5,8 +5,8 @@ use Rattle.std.specs.Option.{option_map_or}
 use Rattle.std.specs.Str.Parse.{IsNumeral, without_leading_plus, digits_value}
 use Rattle.std.specs.Str.{bytes_eq}
 use Rattle.clap.specs.Walk.{Row, first_of, all_of}
-use Rattle.answer_text.specs.Numbers.{number}
-use Rattle.answer_text.specs.declared.options.Options.{Options}
+use Rattle.command_line.specs.Numbers.{number}
+use Rattle.io_streams.specs.declared.options.Options.{Options}
 
 pub record Settings : Type 0 where
   pub addresses : Bool

@@ -1,12 +1,15 @@
-//! Parses the command line: its options and its addresses.
+//! Parses the command line: its options, its addresses, and numbers as both the command line and
+//! commands have them.
 #![tactic(auto)]
 
 mod command;
 mod faults;
 mod given;
 mod help;
+mod numbers;
 mod settings;
 mod words;
 
 pub use faults::CliFault;
+pub use numbers::parse_number;
 pub use settings::options;

@@ -7,7 +7,7 @@ use crate::command::parse;
 use crate::faults::CliFault;
 use crate::given::{cache_size, is_set, text, words};
 use crate::words::addresses;
-use answer_text::Options;
+use io_streams::Options;
 use std::alloc::{AllocError, Global};
 
 /// Copies an optional string.

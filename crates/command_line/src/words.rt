@@ -5,7 +5,7 @@ ghost use Rattle.command_line.specs.Settings.{numbers_of};
 ghost use Rattle.command_line.specs.Private.Parsing.{IsBadWord, texts_of};
 
 use crate::faults::CliFault;
-use answer_text::parse_number;
+use crate::numbers::parse_number;
 use std::alloc::Global;
 
 /// Parses arguments as numbers. Returns the first argument that is not a number as the fault.

@@ -1,8 +1,8 @@
 //! Options and refusals of command lines.
 
-use answer_text::Options;
 use clap::error::ErrorKind;
 use command_line::{CliFault, options};
+use io_streams::Options;
 use std::process::Abort;
 use std::test::*;
 

@@ -23,7 +23,7 @@ use Rattle.command_loop.specs.declared.commands.BadLine.TheVariants.{Command, Fi
 use Rattle.command_loop.specs.Private.Commands.{cut_parts}
 use Rattle.command_loop.specs.Requests.{fields, load_of, unload_of, move_of, list_of, address_of}
 use Rattle.command_loop.specs.Requests.{checked_load, is_name_byte}
-use Rattle.answer_text.specs.Numbers.{number}
+use Rattle.command_line.specs.Numbers.{number}
 
 abbrev pub is_space : ℕ → Bool
 is_space byte = byte == 32

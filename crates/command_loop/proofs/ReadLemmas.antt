@@ -4,7 +4,7 @@ use Rattle.std.proofs.Common.{◌∷◌, ◌++◌, length, refl, sym, ◌∙◌,
 use Rattle.std.proofs.Common.{append-nil, length-append, arith}
 use Rattle.std.specs.Prelude.{filter, Option, None, Some, Result}
 use Rattle.std.proofs.lemmas.Bool.{ltb-true, lt-ltb}
-use Rattle.answer_text.specs.declared.options.Options.{Options}
+use Rattle.io_streams.specs.declared.options.Options.{Options}
 use Rattle.command_loop.proofs.LineLemmas.{lines_are, ended_at_feed, open_at_feed, ended_at_bytes}
 use Rattle.command_loop.proofs.LineLemmas.{open_at_bytes, ends_open, HasNoFeed}
 use Rattle.command_loop.specs.declared.commands.BadLine.{BadLine}

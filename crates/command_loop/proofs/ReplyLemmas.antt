@@ -9,7 +9,7 @@ use Rattle.module_map.specs.World.{Loaded, name_at}
 use Rattle.module_map.specs.declared.faults.Extent.{Extent}
 use Rattle.std.specs.Io.KnownBytes.{Appends}
 use Rattle.module_map.specs.Listing.{Listed, listed, item_listed}
-use Rattle.answer_text.specs.Devices.{IsBeginning, Writes}
+use Rattle.io_streams.specs.Streams.{IsBeginning, Writes}
 use Rattle.answer_text.specs.Pending.{Put, Cut}
 use Rattle.answer_text.proofs.PendingLemmas.{puts_then, writes_all}
 use Rattle.command_loop.specs.Text.{module_text, list_text}

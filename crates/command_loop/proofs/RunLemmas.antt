@@ -5,8 +5,8 @@ use Rattle.std.specs.Prelude.{Option, None, Some, Result, Ok, Err, OnOk, OnErr, 
 use Rattle.std.specs.Io.KnownBytes.{Consumes, IsAtEnd}
 use Rattle.std.proofs.lemmas.Bool.{false≢true, true≢false}
 use Rattle.module_map.specs.World.{World}
-use Rattle.answer_text.specs.Devices.{failures_after}
-use Rattle.answer_text.specs.declared.options.Options.{Options}
+use Rattle.io_streams.specs.Streams.{failures_after}
+use Rattle.io_streams.specs.declared.options.Options.{Options}
 use Rattle.command_loop.proofs.LineLemmas.{lines_are, ended_at_feed, open_at_feed}
 use Rattle.command_loop.proofs.ServedLemmas.{handled_none, handled_as}
 use Rattle.command_loop.specs.Lines.{has_bytes, lines, ended_lines, open_line}

@@ -5,11 +5,11 @@ use Rattle.std.proofs.lemmas.Bool.{true≢false, ne_eqb}
 use Rattle.std.specs.Prelude.{◌==◌, Option, Result, Ok, Err, OnOk}
 use Rattle.std.specs.Option.{option_to_list}
 use Rattle.std.specs.Io.KnownBytes.{Consumes}
-use Rattle.answer_text.specs.declared.options.Options.{Options}
+use Rattle.io_streams.specs.declared.options.Options.{Options}
 use Rattle.command_loop.proofs.ServedLemmas.{asked_then}
 use Rattle.command_loop.specs.declared.commands.BadLine.{BadLine}
-use Rattle.answer_text.specs.declared.faults.RunFault.{RunFault}
-use Rattle.answer_text.specs.declared.faults.RunFault.TheVariants.{Reading, Writing}
+use Rattle.io_streams.specs.declared.faults.RunFault.{RunFault}
+use Rattle.io_streams.specs.declared.faults.RunFault.TheVariants.{Reading, Writing}
 use Rattle.command_loop.specs.Lines.{lines, ended_lines}
 use Rattle.command_loop.specs.Requests.{Request, requests}
 use Rattle.command_loop.specs.Output.{Requests, Exchanges, ask_of, Answers, StoppedAt, ServedBy}

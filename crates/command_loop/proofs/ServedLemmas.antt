@@ -5,11 +5,11 @@ use Rattle.std.specs.Prelude.{zip, Option, Result, Ok, Err}
 use Rattle.std.proofs.Math.Seq.{drop-append_seam}
 use Rattle.std.specs.Io.KnownBytes.{Appends}
 use Rattle.module_map.specs.World.{World}
-use Rattle.answer_text.proofs.DeviceLemmas.{appends_then, appends_nothing, grows_then}
-use Rattle.answer_text.proofs.DeviceLemmas.{grows_nothing}
-use Rattle.answer_text.specs.Devices.{Grows, IsBeginning}
-use Rattle.answer_text.specs.declared.faults.FetchFault.{FetchFault}
-use Rattle.answer_text.specs.declared.options.Options.{Options}
+use Rattle.io_streams.proofs.StreamLemmas.{appends_then, appends_nothing, grows_then}
+use Rattle.io_streams.proofs.StreamLemmas.{grows_nothing}
+use Rattle.io_streams.specs.Streams.{Grows, IsBeginning}
+use Rattle.io_streams.specs.declared.faults.FetchFault.{FetchFault}
+use Rattle.io_streams.specs.declared.options.Options.{Options}
 use Rattle.command_loop.specs.declared.commands.BadLine.{BadLine}
 use Rattle.command_loop.specs.Requests.{Request}
 use Rattle.command_loop.specs.Requests.Request.{Load, Unload, Move, ListAll, Ask}

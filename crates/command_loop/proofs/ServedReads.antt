@@ -5,7 +5,7 @@ use Rattle.std.proofs.Common.{append_assoc, append-nil, length-take, arith}
 use Rattle.std.specs.Prelude.{Option, None, Some}
 use Rattle.std.proofs.lemmas.Bool.{eqb-true}
 use Rattle.std.proofs.lemmas.List.{get_or-take, take_all, length-drop}
-use Rattle.answer_text.specs.declared.options.Options.{Options}
+use Rattle.io_streams.specs.declared.options.Options.{Options}
 use Rattle.command_loop.proofs.LineLemmas.{HasNoFeed}
 use Rattle.bstr.specs.Find.{IsFirstByte, is_byte}
 use Rattle.command_loop.specs.Lines.{longer}

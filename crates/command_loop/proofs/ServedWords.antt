@@ -2,7 +2,7 @@
 use Rattle.std.proofs.Common.{◌≡◌, ℕ, ◌+◌, ◌<◌, ◌≤◌, zero, suc, List, [], ◌∷◌, ◌++◌, length, map}
 use Rattle.std.proofs.Common.{take, drop, get_or, take-append-drop, take-add, drop-cons, refl, sym}
 use Rattle.std.proofs.Common.{◌∙◌, ap, arith}
-use Rattle.answer_text.specs.declared.options.Options.{Options}
+use Rattle.io_streams.specs.declared.options.Options.{Options}
 use Rattle.command_loop.specs.Output.{ask_of}
 use Rattle.command_loop.specs.Private.Progress.{RunState, ServesRequest, FailsToReply}
 use Rattle.command_loop.specs.Private.Progress.{ServedInOrder, StopsAmong}

@@ -7,8 +7,8 @@ use Rattle.module_map.specs.declared.faults.Extent.{Extent}
 use Rattle.module_map.specs.World.{World, Loaded, no_modules, start_of, end_of, moved_to}
 use Rattle.module_map.specs.Changes.{load_fault, with_module, move_fault, IsMoved}
 use Rattle.module_map.specs.Answers.{asked}
-use Rattle.answer_text.specs.declared.faults.ExeFault.{ExeFault}
-use Rattle.answer_text.specs.declared.faults.ExeFault.TheVariants.{NotLoaded}
+use Rattle.io_streams.specs.declared.faults.ExeFault.{ExeFault}
+use Rattle.io_streams.specs.declared.faults.ExeFault.TheVariants.{NotLoaded}
 use Rattle.command_loop.specs.Output.{placed_exe}
 use Rattle.command_loop.specs.Replies.{answer_at, load_step, moved_step, move_step, met_name}
 use Rattle.command_loop.specs.Replies.Reply.{Refused, LoadedAt, MovedTo, Answered}

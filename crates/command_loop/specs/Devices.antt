@@ -1,8 +1,8 @@
 -- How a run changes the failure counts of its devices.
 use Rattle.std.specs.Prelude.{ℕ, Result, Ok, Err}
-use Rattle.answer_text.specs.Devices.{one_more}
-use Rattle.answer_text.specs.declared.faults.RunFault.{RunFault}
-use Rattle.answer_text.specs.declared.faults.RunFault.TheVariants.{Reading, Writing, Memory, Exe}
+use Rattle.io_streams.specs.Streams.{one_more}
+use Rattle.io_streams.specs.declared.faults.RunFault.{RunFault}
+use Rattle.io_streams.specs.declared.faults.RunFault.TheVariants.{Reading, Writing, Memory, Exe}
 
 -- a run ends at its first failed read or write
 abbrev pub read_failures_after : ℕ → Result (Unit {0}) RunFault → ℕ

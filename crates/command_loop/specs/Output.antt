@@ -7,14 +7,14 @@ use Rattle.std.specs.Io.KnownBytes.{Appends, Consumes, IsAtEnd}
 use Rattle.module_map.specs.World.{World, Loaded, no_modules}
 use Rattle.module_map.specs.Changes.{load_fault, with_module}
 use Rattle.module_map.specs.declared.faults.MapFault.{MapFault}
-use Rattle.answer_text.specs.Devices.{Grows, IsBeginning}
-use Rattle.answer_text.specs.declared.faults.FetchFault.{FetchFault}
-use Rattle.answer_text.specs.declared.options.Options.{Options}
+use Rattle.io_streams.specs.Streams.{Grows, IsBeginning}
+use Rattle.io_streams.specs.declared.faults.FetchFault.{FetchFault}
+use Rattle.io_streams.specs.declared.options.Options.{Options}
 use Rattle.command_loop.specs.declared.commands.BadLine.{BadLine}
-use Rattle.answer_text.specs.declared.faults.ExeFault.{ExeFault}
-use Rattle.answer_text.specs.declared.faults.ExeFault.TheVariants.{NotFetched, NotLoaded}
-use Rattle.answer_text.specs.declared.faults.RunFault.{RunFault}
-use Rattle.answer_text.specs.declared.faults.RunFault.TheVariants as fault
+use Rattle.io_streams.specs.declared.faults.ExeFault.{ExeFault}
+use Rattle.io_streams.specs.declared.faults.ExeFault.TheVariants.{NotFetched, NotLoaded}
+use Rattle.io_streams.specs.declared.faults.RunFault.{RunFault}
+use Rattle.io_streams.specs.declared.faults.RunFault.TheVariants as fault
 use Rattle.command_loop.specs.Lines.{lines}
 use Rattle.command_loop.specs.Requests.{Request, requests, parse}
 use Rattle.command_loop.specs.Requests.Request.{Ask}

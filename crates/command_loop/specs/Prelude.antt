@@ -10,11 +10,11 @@ pub use Rattle.module_map.specs.Answers.{asked, frames_at}
 pub use Rattle.module_map.specs.Counts.{TakesCompares, CachesAnswer, decoded_after}
 pub use Rattle.module_map.specs.Listing.{listing}
 pub use Rattle.module_map.specs.Words.{map_word}
-pub use Rattle.answer_text.specs.Devices.{DeviceState, one_more, failures_after, write_failures}
-pub use Rattle.answer_text.specs.Devices.{fetched_of, Grows, Writes}
-pub use Rattle.answer_text.specs.Numbers.{number}
+pub use Rattle.io_streams.specs.Streams.{DeviceState, one_more, failures_after, write_failures}
+pub use Rattle.io_streams.specs.Streams.{fetched_of, Grows, Writes}
+pub use Rattle.command_line.specs.Numbers.{number}
 pub use Rattle.answer_text.specs.Text.{answer_text}
-pub use Rattle.answer_text.specs.Words.{fetch_word}
+pub use Rattle.io_streams.specs.Words.{fetch_word}
 pub use Rattle.command_line.specs.Refusals.{AreOptions, IsRefused}
 pub use Rattle.command_loop.specs.Lines.{lines, ended_lines}
 pub use Rattle.command_loop.specs.Requests.{parse, requests}

@@ -12,7 +12,7 @@ use Rattle.module_map.specs.declared.faults.MapFault.TheVariants.{NoModule, Over
 use Rattle.command_loop.specs.Requests.{Request}
 use Rattle.command_loop.specs.Requests.Request.{Load, Unload, Move, ListAll, Ask}
 use Rattle.command_loop.specs.declared.commands.BadLine.{BadLine}
-use Rattle.answer_text.specs.declared.faults.FetchFault.{FetchFault}
+use Rattle.io_streams.specs.declared.faults.FetchFault.{FetchFault}
 
 pub data Reply : Type 0 where
   Unreadable : BadLine → Reply

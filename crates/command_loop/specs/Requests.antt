@@ -3,7 +3,7 @@ use Rattle.std.specs.Prelude.{ℕ, Bool, not, ◌&&◌, ◌||◌, List, [], ◌�
 use Rattle.std.specs.Prelude.{◌==◌, Option, None, Some, Result, Ok, Err, if◌then◌else◌, codes}
 use Rattle.std.specs.List.{slice_split, list_all, join_with_byte}
 use Rattle.std.specs.Char.{is_ascii_alphanumeric}
-use Rattle.answer_text.specs.Numbers.{number}
+use Rattle.command_line.specs.Numbers.{number}
 use Rattle.std.specs.Str.{is_utf8, bytes_eq}
 use Rattle.command_loop.specs.declared.commands.BadLine.{BadLine}
 use Rattle.command_loop.specs.declared.commands.BadLine.TheVariants.{LongLine, Command, Fields}

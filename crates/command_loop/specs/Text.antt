@@ -8,8 +8,8 @@ use Rattle.module_map.specs.declared.faults.MapFault.TheVariants as modules
 use Rattle.module_map.specs.Words.{map_word}
 use Rattle.answer_text.specs.Numerals.{address_text}
 use Rattle.answer_text.specs.Text.{answer_text}
-use Rattle.answer_text.specs.declared.options.Options.{Options}
-use Rattle.answer_text.specs.Words.{fetch_word}
+use Rattle.io_streams.specs.declared.options.Options.{Options}
+use Rattle.io_streams.specs.Words.{fetch_word}
 use Rattle.command_loop.specs.Replies.{Reply}
 use Rattle.command_loop.specs.Replies.Reply.{Unreadable, NotFetched, Refused, LoadedAt, Unloaded}
 use Rattle.command_loop.specs.Replies.Reply.{MovedTo, AllListed, Answered}

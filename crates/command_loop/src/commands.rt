@@ -7,12 +7,12 @@ ghost use Rattle.std.specs.List.{slice_split, list_all};
 ghost use Rattle.command_loop.specs.Requests.{parse, is_name, is_path, fields, load_of, unload_of};
 ghost use Rattle.command_loop.specs.Requests.{move_of, list_of, checked_load, checked_move};
 ghost use Rattle.command_loop.specs.Requests.{request_of_fields, address_of, is_name_byte};
-ghost use Rattle.answer_text.specs.Numbers.{number};
+ghost use Rattle.command_line.specs.Numbers.{number};
 ghost use Rattle.command_loop.specs.Private.Commands.{parsed, cut_parts};
 ghost use Rattle.command_loop.specs.Text.{line_word};
 
-use answer_text::parse_number;
 use bstr::ByteSlice;
+use command_line::parse_number;
 use thiserror::Error;
 
 /// The reason why a line is not a command.

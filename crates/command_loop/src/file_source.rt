@@ -2,7 +2,7 @@
 
 ghost use Rattle.std.specs.Prelude.{◌≤◌, ◌^◌, IfOk, vec_len, None};
 
-use answer_text::{FetchFault, Objects};
+use io_streams::{FetchFault, Objects};
 use std::alloc::Global;
 use std::fs;
 use std::io::Read;

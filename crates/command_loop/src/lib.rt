@@ -14,12 +14,13 @@ mod session;
 mod starting;
 mod words;
 
-pub use answer_text::{
-    Device, DeviceFault, ExeFault, Feed, FetchFault, Objects, Options, RunFault, Sink, print,
-};
+pub use answer_text::print;
 pub use command_line::{CliFault, options};
 pub use commands::{BadLine, Command, parse_line};
 pub use file_source::FileSource;
+pub use io_streams::{
+    Device, DeviceFault, ExeFault, Feed, FetchFault, Objects, Options, RunFault, Sink,
+};
 pub use module_map::{
     Answer, Asked, Extent, Frame, Frames, LoadFault, MapFault, Modules, Path, Site,
 };

@@ -2,10 +2,11 @@
 //! Faults are reported on standard error.
 
 use crate::running::run;
-use answer_text::{DeviceFault, Feed, Objects, RunFault, Sink, write_texts};
+use answer_text::write_texts;
 use arrayvec::ArrayString;
 use clap::Error;
 use command_line::{CliFault, options};
+use io_streams::{DeviceFault, Feed, Objects, RunFault, Sink};
 use std::alloc::Global;
 use std::fmt::Write;
 

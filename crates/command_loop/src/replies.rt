@@ -1,7 +1,7 @@
 //! Formats and writes replies.
 
 ghost use Rattle.std.specs.Prelude.{◌≡◌, ◌++◌, ◌∷◌, [], List, codes, flat_map, map};
-ghost use Rattle.answer_text.specs.Devices.{failures_after, Writes};
+ghost use Rattle.io_streams.specs.Streams.{failures_after, Writes};
 ghost use Rattle.answer_text.specs.Pending.{Puts};
 ghost use Rattle.module_map.specs.Listing.{Listed, listed};
 ghost use Rattle.command_loop.specs.Private.Serving.{reply_of, IsCurrent};
@@ -11,8 +11,9 @@ ghost use Rattle.command_loop.specs.Replies.{met_name};
 ghost use Rattle.module_map.specs.World.{name_at};
 
 use crate::serving::Done;
-use answer_text::{DeviceFault, Options, Pending, Sink, address_text, print, write_texts};
+use answer_text::{Pending, address_text, print, write_texts};
 use dwarf_bytes::LoadFault;
+use io_streams::{DeviceFault, Options, Sink};
 use itoa::Buffer;
 use module_map::{Extent, Listing, MapFault, Modules};
 

@@ -4,7 +4,7 @@ ghost use Rattle.std.specs.Prelude.{◌≡◌, ◌≢◌, ℕ, ◌≤◌, List, 
 ghost use Rattle.std.specs.Prelude.{IsErrOf};
 ghost use Rattle.std.specs.Prelude.{IfErr, IfOk};
 ghost use Rattle.std.specs.Io.KnownBytes.{Consumes, Keeps};
-ghost use Rattle.answer_text.specs.declared.faults.ExeFault.{ExeFault};
+ghost use Rattle.io_streams.specs.declared.faults.ExeFault.{ExeFault};
 ghost use Rattle.command_loop.specs.Lines.{lines, ended_lines};
 ghost use Rattle.command_loop.specs.Requests.{requests};
 ghost use Rattle.command_loop.specs.Devices.{read_failures_after, write_failures_after};
@@ -13,7 +13,7 @@ ghost use Rattle.command_loop.specs.Output.{Answers, Served, Stopped, Refused, e
 use crate::session::serve_input;
 use crate::starting::begin;
 use crate::words::serve_words;
-use answer_text::{Feed, Objects, Options, RunFault, Sink};
+use io_streams::{Feed, Objects, Options, RunFault, Sink};
 use module_map::Modules;
 use std::alloc::Global;
 

@@ -1,7 +1,7 @@
 //! Serves one request: performs it and writes the reply.
 
 ghost use Rattle.std.specs.Prelude.{◌≡◌, ℕ, List, [], ◌∷◌, Option, option_copied, MatchResult, Ok};
-ghost use Rattle.answer_text.specs.Devices.{failures_after, Writes};
+ghost use Rattle.io_streams.specs.Streams.{failures_after, Writes};
 ghost use Rattle.command_loop.specs.Output.{Exchanges};
 ghost use Rattle.command_loop.specs.Private.Commands.{parsed};
 ghost use Rattle.command_loop.specs.Requests.{parse_kept};
@@ -11,7 +11,7 @@ ghost use Rattle.command_loop.specs.Requests.Request.{Load, Unload, Move};
 
 use crate::commands::{BadLine, Command, parse_line};
 use crate::replies::write_reply;
-use answer_text::{DeviceFault, FetchFault, Objects, Options, Sink};
+use io_streams::{DeviceFault, FetchFault, Objects, Options, Sink};
 use module_map::{Asked, Extent, MapFault, Modules};
 
 /// The outcome of a request.

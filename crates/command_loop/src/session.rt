@@ -1,14 +1,14 @@
 //! Reads lines, and serves each one before more is read.
 
 ghost use Rattle.std.specs.Prelude.{◌≡◌, ℕ, ◌≤◌, List, [], ◌∷◌, ◌++◌, length, Option, OnOk, OnErr};
-ghost use Rattle.answer_text.specs.Devices.{failures_after};
+ghost use Rattle.io_streams.specs.Streams.{failures_after};
 ghost use Rattle.command_loop.specs.Devices.{read_failures_after, write_failures_after};
 ghost use Rattle.command_loop.specs.Private.Progress.{RunState, ReadsOn, StopsWithin, ReadsLines};
 
 use crate::line_buffer::LineBuffer;
 use crate::serving::serve;
-use answer_text::{DeviceFault, Feed, Objects, Options, RunFault, Sink};
 use bstr::ByteSlice;
+use io_streams::{DeviceFault, Feed, Objects, Options, RunFault, Sink};
 use module_map::Modules;
 
 /// The modules and the current line.

@@ -5,7 +5,7 @@ ghost use Rattle.module_map.specs.World.{no_modules};
 ghost use Rattle.command_loop.specs.Output.{IsRefused};
 ghost use Rattle.command_loop.specs.Private.Progress.{HasStarted};
 
-use answer_text::{ExeFault, Objects};
+use io_streams::{ExeFault, Objects};
 use module_map::Modules;
 
 /// Fetches an object from the source and loads it as `exe` at base 0.

@@ -1,13 +1,13 @@
 //! Answers the addresses of the command line.
 
 ghost use Rattle.std.specs.Prelude.{◌≡◌, OnOk, OnErr, List, ◌++◌, ◌∷◌, map};
-ghost use Rattle.answer_text.specs.Devices.{failures_after};
+ghost use Rattle.io_streams.specs.Streams.{failures_after};
 ghost use Rattle.command_loop.specs.Output.{ask_of, Requests};
 ghost use Rattle.command_loop.specs.Private.Progress.{RunState, ServedInOrder, StopsAmong};
 
 use crate::commands::Command;
 use crate::serving::serve_request;
-use answer_text::{DeviceFault, Objects, Options, Sink};
+use io_streams::{DeviceFault, Objects, Options, Sink};
 use module_map::Modules;
 
 /// Answers addresses in order.

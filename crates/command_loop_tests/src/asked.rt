@@ -1,9 +1,9 @@
 //! A source that reports the paths that it was asked for.
 
 ghost use Rattle.std.specs.Prelude.{map, Some, Err, string_bytes};
-ghost use Rattle.answer_text.specs.declared.faults.FetchFault.TheVariants.{File};
+ghost use Rattle.io_streams.specs.declared.faults.FetchFault.TheVariants.{File};
 
-use answer_text::{FetchFault, Objects};
+use io_streams::{FetchFault, Objects};
 use std::alloc::Global;
 use std::process::Abort;
 

@@ -2,7 +2,7 @@
 
 ghost use Rattle.std.specs.Prelude.{◌≡◌, ◌≤◌, Some, take, length};
 
-use answer_text::{DeviceFault, Feed, Sink};
+use io_streams::{DeviceFault, Feed, Sink};
 
 /// The maximum capacity of a `Paper` in bytes.
 const ROOM: usize = 16384;

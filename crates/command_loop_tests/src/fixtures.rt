@@ -2,8 +2,8 @@
 
 use crate::devices::{Paper, Script};
 use crate::shelf::Shelf;
-use answer_text::{Options, RunFault};
 use command_loop::run;
+use io_streams::{Options, RunFault};
 use std::alloc::Global;
 use std::process::Abort;
 use std::test::*;

@@ -3,8 +3,8 @@
 ghost use Rattle.std.specs.Prelude.{None};
 
 use crate::formats::{both_units, reserved_length, wide, wide_unit};
-use answer_text::{FetchFault, Objects};
 use dwarf_samples::*;
+use io_streams::{FetchFault, Objects};
 use std::alloc::{AllocError, Global};
 
 /// A source of the sample objects that counts the questions. It does not store them, so contracts

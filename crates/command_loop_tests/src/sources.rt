@@ -3,8 +3,8 @@
 use crate::asked::AskedPaths;
 use crate::devices::{Paper, Script};
 use crate::fixtures::*;
-use answer_text::Options;
 use command_loop::run;
+use io_streams::Options;
 use std::test::*;
 
 /// A `load` line that breaks no rule asks for its path once, in the order of the lines. Other lines

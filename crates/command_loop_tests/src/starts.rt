@@ -3,8 +3,8 @@
 use crate::devices::{Paper, Script};
 use crate::fixtures::*;
 use crate::shelf::Shelf;
-use answer_text::Options;
 use command_loop::program;
+use io_streams::Options;
 use std::alloc::{AllocError, Global};
 use std::test::*;
 

@@ -3,7 +3,7 @@
 
 ghost use Rattle.std.specs.Prelude.{None, length};
 
-use answer_text::{DeviceFault, Feed, Sink};
+use io_streams::{DeviceFault, Feed, Sink};
 use std::cell::Cell;
 
 /// A reader that returns one line at a time and checks whether each earlier line was answered.

@@ -4,11 +4,11 @@ use Rattle.std.specs.Prelude.{Err}
 use Rattle.std.specs.Option.{option_to_list}
 use Rattle.std.specs.Io.KnownBytes.{Appends, Consumes, IsAtEnd}
 use Rattle.module_map.specs.World.{World}
-use Rattle.answer_text.specs.Devices.{IsBeginning}
-use Rattle.answer_text.specs.declared.options.Options.{Options}
+use Rattle.io_streams.specs.Streams.{IsBeginning}
+use Rattle.io_streams.specs.declared.options.Options.{Options}
 use Rattle.command_loop.specs.declared.commands.BadLine.{BadLine}
-use Rattle.answer_text.specs.declared.faults.RunFault.{RunFault}
-use Rattle.answer_text.specs.declared.faults.RunFault.TheVariants.{Reading, Writing, Memory, Exe}
+use Rattle.io_streams.specs.declared.faults.RunFault.{RunFault}
+use Rattle.io_streams.specs.declared.faults.RunFault.TheVariants.{Reading, Writing, Memory, Exe}
 use Rattle.command_loop.specs.Requests.{Request, requests, parse}
 use Rattle.command_loop.specs.Lines.{lines, ended_lines, open_line, within_limit}
 use Rattle.command_loop.specs.Replies.{Outcome, step, question}

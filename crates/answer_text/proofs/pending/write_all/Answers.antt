@@ -1,8 +1,8 @@
 use Rattle.std.proofs.lemmas.List.{take_rest}
 use Rattle.std.proofs.Common.{ap, ◌∙◌, length-drop, length, arith}
 use Rattle.std.proofs.lemmas.Result.{err_from_is_err_and}
-use Rattle.answer_text.proofs.DeviceLemmas.{stops_at, goes_on, goes_nowhere, took_some}
-use Rattle.answer_text.specs.declared.devices.DeviceFault.{DeviceFault}
+use Rattle.answer_text.proofs.WriteLemmas.{stops_at, goes_on, goes_nowhere, took_some}
+use Rattle.io_streams.specs.declared.streams.DeviceFault.{DeviceFault}
 use Rattle.answer_text.proofs.pending.write_all.Goals as goal
 
 pub returns-in_err-count-clause-bytes : goal.returns-in_err-count-clause-bytes

@@ -1,5 +1,5 @@
 use Rattle.std.proofs.Common.{◌∙◌, sym, ap}
-use Rattle.answer_text.specs.Numbers.{number}
+use Rattle.command_line.specs.Numbers.{number}
 use Rattle.command_line.proofs.WordLemmas.{number_more, number_bad}
 use Rattle.command_line.proofs.words.numbers.Goals as goal
 

@@ -1,5 +1,5 @@
 use Rattle.std.proofs.Common.{refl, []}
-use Rattle.answer_text.proofs.DeviceLemmas.{grows_nothing}
+use Rattle.io_streams.proofs.StreamLemmas.{grows_nothing}
 use Rattle.command_loop.proofs.ServingLemmas.{asked_current, asked_reply}
 use Rattle.command_loop.proofs.serving.act.Goals as goal
 

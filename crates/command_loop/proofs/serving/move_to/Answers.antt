@@ -1,5 +1,5 @@
 use Rattle.std.proofs.Common.{refl, []}
-use Rattle.answer_text.proofs.DeviceLemmas.{grows_nothing}
+use Rattle.io_streams.proofs.StreamLemmas.{grows_nothing}
 use Rattle.command_loop.proofs.ServingLemmas.{moved_world, moved_reply}
 use Rattle.command_loop.proofs.serving.move_to.Goals as goal
 

@@ -1,9 +1,9 @@
-//! Readers and writers of std as the I/O streams of a run.
+//! Readers and writers of std as I/O streams.
 
 ghost use Rattle.std.specs.Prelude.{◌≡◌, ◌^◌, ◌-◌, None};
-ghost use Rattle.answer_text.specs.Devices.{DeviceState};
+ghost use Rattle.io_streams.specs.Streams.{DeviceState};
 
-use crate::devices::{DeviceFault, Feed, Sink};
+use crate::streams::{DeviceFault, Feed, Sink};
 use std::io::{Read, Write};
 use std::marker::Model;
 
@@ -17,7 +17,7 @@ pub struct Device<T: Drop> {
 }
 
 impl<T: Drop> Model for Device<T> {
-    ghost use Rattle.answer_text.specs.Devices.{DeviceState};
+    ghost use Rattle.io_streams.specs.Streams.{DeviceState};
 
     ghost Value = { DeviceState T };
 

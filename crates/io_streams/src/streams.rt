@@ -1,13 +1,13 @@
-//! The I/O streams of the command loop, and the source of its objects.
+//! The I/O streams of a run, and the source of its objects.
 
 ghost use Rattle.std.specs.Prelude.{◌≡◌, ◌≢◌, ℕ, ◌+◌, ◌-◌, ◌*◌, ◌<◌, ◌≤◌, ◌^◌, List, [], ◌∷◌};
 ghost use Rattle.std.specs.Prelude.{◌++◌, length, take, drop, Option, None, Some, Result, IfOk};
 ghost use Rattle.std.specs.Prelude.{OnErr, OnOk, IfErr, MatchResult, is_ok};
 ghost use Rattle.std.specs.Io.{ReadsAtMost, WritesAtMost};
 ghost use Rattle.std.specs.Io.KnownBytes.{ReadConsumes, WriteAppends, Keeps, Appends};
-ghost use Rattle.answer_text.specs.Devices.{one_more, failures_after, write_failures, Grows};
-ghost use Rattle.answer_text.specs.Devices.{fetched_of, Writes};
-ghost use Rattle.answer_text.specs.declared.faults.FetchFault.{FetchFault};
+ghost use Rattle.io_streams.specs.Streams.{one_more, failures_after, write_failures, Grows};
+ghost use Rattle.io_streams.specs.Streams.{fetched_of, Writes};
+ghost use Rattle.io_streams.specs.declared.faults.FetchFault.{FetchFault};
 
 use crate::faults::FetchFault;
 use thiserror::Error;

@@ -1,41 +1,12 @@
--- The bytes of a device over several calls.
+-- A string that is written in several pieces.
 use Rattle.std.proofs.Common.{◌≡◌, ◌≢◌, false, nat_eq, ℕ, ◌+◌, ◌-◌, List, [], ◌++◌, length, take}
-use Rattle.std.proofs.Common.{drop, refl, sym, ◌∙◌, ap, subst}
-use Rattle.std.proofs.Common.{append_assoc, append-nil, take-add}
+use Rattle.std.proofs.Common.{drop, refl, sym, ◌∙◌, ap, subst, append-nil, take-add}
 use Rattle.std.proofs.lemmas.List.{take-append-drop, take_rest}
 use Rattle.std.proofs.lemmas.Bool.{ne_eqb}
-use Rattle.std.specs.Prelude.{Option, None, Some, Ok}
+use Rattle.std.specs.Prelude.{Option, Ok}
 use Rattle.std.specs.Io.KnownBytes.{Appends, Keeps}
-use Rattle.answer_text.specs.Devices.{Grows, IsBeginning, write_failures}
-
-pub appends_kept : (a b c : Option (List ℕ)) (xs : List ℕ) → Appends a b xs → Keeps b c
-    → Appends a c xs
-appends_kept None b c xs h k = tt
-appends_kept (Some a) None c xs h k = absurd h
-appends_kept (Some a) (Some b) None xs h k = absurd k
-appends_kept (Some a) (Some b) (Some c) xs h k = k ∙ h
-
-pub appends_then : (a b c : Option (List ℕ)) (xs ys : List ℕ) → Appends a b xs → Appends b c ys
-    → Appends a c (xs ++ ys)
-appends_then None b c xs ys h k = tt
-appends_then (Some a) None c xs ys h k = absurd h
-appends_then (Some a) (Some b) None xs ys h k = absurd k
-appends_then (Some a) (Some b) (Some c) xs ys h k = k ∙ ap (λ z. z ++ ys) h ∙ append_assoc a xs ys
-
-pub appends_nothing : (a : Option (List ℕ)) → Appends a a []
-appends_nothing None = tt
-appends_nothing (Some a) = sym (append-nil a)
-
-pub grows_then : {X : Type 0} (a b c : Option (List X)) (xs ys : List X) → Grows a b xs
-    → Grows b c ys → Grows a c (xs ++ ys)
-grows_then None b c xs ys h k = tt
-grows_then (Some a) None c xs ys h k = absurd h
-grows_then (Some a) (Some b) None xs ys h k = absurd k
-grows_then (Some a) (Some b) (Some c) xs ys h k = k ∙ ap (λ z. z ++ ys) h ∙ append_assoc a xs ys
-
-pub grows_nothing : {X : Type 0} (a : Option (List X)) → Grows a a []
-grows_nothing None = tt
-grows_nothing (Some a) = sym (append-nil a)
+use Rattle.io_streams.specs.Streams.{IsBeginning, write_failures}
+use Rattle.io_streams.proofs.StreamLemmas.{appends_kept, appends_then}
 
 -- a prefix was written, and then no more
 pub stops_at : (a b c : Option (List ℕ)) (text : List ℕ) (n : ℕ) → Appends a b (take n text)
@@ -46,10 +17,6 @@ stops_at a b c text n h k = (
   (drop n text, take-append-drop n text),
   appends_kept a b c (take n text) h k,
 )
-
--- the bytes from n on, as the code borrows them
-pub rest_of : (text : List ℕ) (n : ℕ) → take (length text - n) (drop n text) ≡ drop n text
-rest_of text n = take_rest text n
 
 -- one more piece of a string
 pub goes_on : (a b c : Option (List ℕ)) (text : List ℕ) (n m : ℕ)

@@ -1,7 +1,7 @@
 -- The words of refusals.
 use Rattle.std.specs.Prelude.{ℕ, List, codes}
-use Rattle.answer_text.specs.declared.faults.FetchFault.{FetchFault}
-use Rattle.answer_text.specs.declared.faults.FetchFault.TheVariants.{File, TooLarge, Memory}
+use Rattle.io_streams.specs.declared.faults.FetchFault.{FetchFault}
+use Rattle.io_streams.specs.declared.faults.FetchFault.TheVariants.{File, TooLarge, Memory}
 
 abbrev pub fetch_word : FetchFault → List ℕ
 fetch_word File = codes "file"

@@ -1,6 +1,6 @@
 use Rattle.std.proofs.Common.{arith}
-use Rattle.answer_text.proofs.NumeralLemmas.{digit_fits}
-use Rattle.answer_text.proofs.numerals.parse_digits.Goals as goal
+use Rattle.command_line.proofs.NumberLemmas.{digit_fits}
+use Rattle.command_line.proofs.numbers.parse_digits.Goals as goal
 
 pub overflow_mul-value : goal.overflow_mul-value
 overflow_mul-value c = omega (

@@ -1,7 +1,7 @@
 //! The reasons why a source returns no bytes, and why a run ends early.
 
 ghost use Rattle.std.specs.Prelude.{◌≡◌};
-ghost use Rattle.answer_text.specs.Words.{fetch_word};
+ghost use Rattle.io_streams.specs.Words.{fetch_word};
 
 use module_map::MapFault;
 use thiserror::Error;
