@@ -3,13 +3,13 @@ use Rattle.std.proofs.Common.{◌≡◌, Bool, true, false, ℕ, zero, suc, ◌+
 use Rattle.std.proofs.Common.{inr, List, [], ◌∷◌, ◌++◌, length, map}
 use Rattle.std.proofs.Common.{take, drop, get_or, refl, sym, ◌∙◌, ap, subst, append_assoc}
 use Rattle.std.proofs.Common.{append-nil, add-one, arith}
-use Rattle.std.specs.Prelude.{Option, Result, Ok, Err, not, ◌&&◌}
+use Rattle.std.specs.Prelude.{Option, Result, Ok, Err, not, ◌&&◌, if◌then◌else◌}
 use Rattle.std.proofs.lemmas.Bool.{false≢true}
 use Rattle.answer_text.specs.Printable.{is_control, printable}
 use Rattle.std.specs.List.{flat_map, list_all}
 use Rattle.std.specs.Io.KnownBytes.{Appends}
 use Rattle.std.proofs.lemmas.List.Concat.{flat_map_single}
-use Rattle.io_streams.proofs.StreamLemmas.{appends_then}
+use Rattle.io_streams.proofs.StreamLemmas.{appends_then, appends_nothing}
 use Rattle.io_streams.specs.Streams.{Writes}
 use Rattle.answer_text.specs.Pending.{Put, Cut, Puts}
 
@@ -63,11 +63,36 @@ pub puts_after : {E : Type 0} (a b c : Option (List ℕ)) (h h' h'' y : List ℕ
 puts_after a b c h h' h'' y (Ok done) p q = put_then a b c h h' h'' [] y p q
 puts_after a b c h h' h'' y (Err fault) p q = put_cut a b c h h' [] y p q
 
--- if a string does not fit, the buffer is empty
-pub none_held : (len room : ℕ) (h : List ℕ) → (len ≤ 2048 - length h) ⊎ (h ≡ [])
-    → room ≡ 2048 - length h → room < len → h ≡ []
-none_held len room h (inl fits) is over = absurd (omega arith)
-none_held len room h (inr none) is over = none
+-- a string that fits
+pub put_held : (a : Option (List ℕ)) (h h' x : List ℕ) (fits : Bool) → fits ≡ true
+    → h' ≡ (if fits then h ++ x else h) → Put a a h h' x
+put_held a h h' x true e is = record { sent = []; kept = sym is; appended = appends_nothing a }
+put_held a h h' x false e is = absurd (false≢true e)
+
+-- a string that does not fit changes nothing
+pub same_held : (h h' x : List ℕ) (fits : Bool) → fits ≡ false
+    → h' ≡ (if fits then h ++ x else h) → h' ≡ h
+same_held h h' x true e is = absurd (false≢true (sym e))
+same_held h h' x false e is = is
+
+-- the buffer was written
+pub put_sent : (a b : Option (List ℕ)) (h h' h'' : List ℕ) → h' ≡ h → Appends a b h' → h'' ≡ []
+    → Put a b h h'' []
+put_sent a b h h' [] same w e =
+    record { sent = h; kept = refl; appended = subst (λ (z : List ℕ). Appends a b z) same w }
+put_sent a b h h' (y ∷ ys) same w e = cc
+
+-- only a prefix of the buffer was written
+pub cut_sent : {E : Type 0} (a b : Option (List ℕ)) (h h' x : List ℕ) (fault : E) → h' ≡ h
+    → Writes {E = E} a b (Err fault) h' → Cut a b h x
+cut_sent a b h h' x fault same w = record {
+  sent = w.0;
+  begins = (
+    w.1.0 ++ x,
+    sym (append_assoc w.0 w.1.0 x) ∙ ap (λ (z : List ℕ). z ++ x) (w.1.1 ∙ same),
+  );
+  appended = w.2;
+}
 
 -- a list of strings, split after one of them
 flat_map_cut : {X : Type 0} (f : X → List ℕ) (xs : List X) (i : ℕ) (d : X) → i < length xs

@@ -1,18 +1,19 @@
 //! Buffered output to a sink.
 
-ghost use Rattle.std.specs.Prelude.{◌≡◌, ℕ, ◌≤◌, ◌-◌, List, [], ◌∷◌, ◌++◌, length, map, flat_map};
-ghost use Rattle.std.specs.Prelude.{not, OnOk, ◌⊎◌};
+ghost use Rattle.std.specs.Prelude.{◌≡◌, ℕ, List, [], ◌∷◌, ◌++◌, map, flat_map, not, OnOk};
+ghost use Rattle.std.specs.Prelude.{if◌then◌else◌};
 ghost use Rattle.std.specs.List.{list_all};
 ghost use Rattle.io_streams.specs.Streams.{Writes, failures_after};
 ghost use Rattle.answer_text.specs.Pending.{Puts};
 ghost use Rattle.answer_text.specs.Printable.{is_control, printable, known_text};
 ghost use Rattle.answer_text.specs.Private.Paths.{text_told};
 
+use arrayvec::ArrayVec;
 use io_streams::{DeviceFault, Sink};
 use std::marker::Model;
 
 /// The capacity of the buffer in bytes.
-const ROOM: usize = 2048;
+const CAPACITY: usize = 2048;
 
 fn is_control(byte: u8) -> bool
     ensures { result ≡ is_control byte }
@@ -42,18 +43,15 @@ fn are_printable(text: &[u8]) -> bool
 /// A buffer of bytes that are not written yet.
 #[derive(Drop)]
 pub struct Pending {
-    bytes: [u8; 2048],
-    len: usize,
+    bytes: ArrayVec<u8, CAPACITY>,
 }
 
 impl Model for Pending {
-    ghost use Rattle.std.specs.Prelude.{ℕ, ◌≤◌, List, take};
+    ghost use Rattle.std.specs.Prelude.{ℕ, List};
 
     ghost Value = { List ℕ };
 
-    ghost view = { λ p. take p.len p.bytes };
-
-    ghost invariant = { λ p. p.len ≤ 2048 };
+    ghost view = { λ p. p.bytes.items };
 }
 
 /// Writes all of a string. A write that accepts no byte is a failure.
@@ -77,36 +75,15 @@ impl Pending {
         ensures { result ≡ [] }
     {
         Pending {
-            bytes: [0; 2048],
-            len: 0,
+            bytes: ArrayVec::new(),
         }
     }
 
-    fn room(&self) -> usize
-        ensures { result ≡ 2048 - length self.now }
+    /// Appends a string if it fits. Returns whether it does.
+    fn push(&mut self, text: &[u8]) -> bool
+        ensures { self.new ≡ (if result then self.old ++ text.now else self.old) }
     {
-        ROOM - self.len
-    }
-
-    fn as_slice(&self) -> &[u8]
-        ensures { result.now ≡ self.now }
-    {
-        &self.bytes[..self.len]
-    }
-
-    fn clear(&mut self)
-        ensures { self.new ≡ [] }
-    {
-        self.len = 0;
-    }
-
-    fn push_slice(&mut self, text: &[u8])
-        requires { length text.now ≤ 2048 - length self.old }
-        ensures { self.new ≡ self.old ++ text.now }
-    {
-        let end = self.len + text.len();
-        self.bytes[self.len..end].copy_from_slice(text);
-        self.len = end;
+        self.bytes.try_extend_from_slice(text).is_ok()
     }
 
     /// Writes the buffered bytes.
@@ -115,36 +92,26 @@ impl Pending {
         ensures empty { OnOk result (self.new ≡ []) }
         ensures failures { W.failures writer.new ≡ failures_after (W.failures writer.old) result }
     {
-        write_all(writer, self.as_slice())?;
-        self.clear();
+        write_all(writer, self.bytes.as_slice())?;
+        self.bytes.clear();
         Ok(())
     }
 
-    /// Writes the buffered bytes if `len` more bytes would not fit.
-    fn make_room<W: Sink>(&mut self, len: usize, writer: &mut W) -> Result<(), DeviceFault>
-        ensures bytes { Puts (W.written writer.old) (W.written writer.new) self.old self.new result
-            [] }
-        ensures room { OnOk result ((len ≤ 2048 - length self.new) ⊎ (self.new ≡ [])) }
-        ensures failures { W.failures writer.new ≡ failures_after (W.failures writer.old) result }
-    {
-        if len > self.room() {
-            self.send(writer)?;
-        }
-        Ok(())
-    }
-
-    /// Appends a string to the buffer.
+    /// Appends a string to the buffer. If it does not fit, the buffered bytes are written first. A
+    /// string that is longer than the buffer is written at once.
     pub fn put<W: Sink>(&mut self, text: &[u8], writer: &mut W) -> Result<(), DeviceFault>
         ensures bytes { Puts (W.written writer.old) (W.written writer.new) self.old self.new result
             text.now }
         ensures failures { W.failures writer.new ≡ failures_after (W.failures writer.old) result }
     {
-        self.make_room(text.len(), writer)?;
-        if text.len() > self.room() {
-            return write_all(writer, text);
+        if self.push(text) {
+            return Ok(());
         }
-        self.push_slice(text);
-        Ok(())
+        self.send(writer)?;
+        if self.push(text) {
+            return Ok(());
+        }
+        write_all(writer, text)
     }
 
     /// Appends several strings.
