@@ -9,7 +9,7 @@ use Rattle.command_loop.proofs.LineLemmas.{lines_are, ended_at_feed, open_at_fee
 use Rattle.command_loop.proofs.LineLemmas.{open_at_bytes, ends_open, HasNoFeed}
 use Rattle.command_loop.specs.declared.commands.BadLine.{BadLine}
 use Rattle.command_loop.specs.Lines.{has_bytes, lines, ended_lines, open_line, within_limit, longer}
-use Rattle.command_loop.specs.Requests.{Request, requests, parse, parse_kept}
+use Rattle.command_loop.specs.Requests.{Request, requests, parse, parse_buffered}
 use Rattle.command_loop.specs.Output.{Exchanges}
 use Rattle.command_loop.specs.Private.Progress.{RunState, ServesRequest, FailsToReply}
 use Rattle.command_loop.specs.Private.Progress.{ServedInOrder, ReadSoFar, StopsAtLine, ReadsOn}
@@ -45,18 +45,18 @@ empty_open (byte ∷ line) h = empty_open_at (nat_lt 4096 (length (byte ∷ line
     empty_open_at true byte line h = cc
     empty_open_at false byte line h = cc
 
-parsed_kept : (line : List ℕ) → parse_kept (within_limit line) ≡ parse line
+parse_buffered_is : (line : List ℕ) → parse_buffered (within_limit line) ≡ parse line
 unfolding parse
-parsed_kept line = at (nat_lt 4096 (length line)) line refl
+parse_buffered_is line = at (nat_lt 4096 (length line)) line refl
   where
     at : (v : Bool) (line : List ℕ) → nat_lt 4096 (length line) ≡ v
-        → parse_kept (cond v None (Some line)) ≡ parse line
+        → parse_buffered (cond v None (Some line)) ≡ parse line
     at true line h = rw h refl
     at false line h = refl
 
-longer_kept : (line bytes : List ℕ) → longer (within_limit line) bytes
+longer_within_limit : (line bytes : List ℕ) → longer (within_limit line) bytes
     ≡ within_limit (line ++ bytes)
-longer_kept line bytes = at (nat_lt 4096 (length line)) line bytes refl
+longer_within_limit line bytes = at (nat_lt 4096 (length line)) line bytes refl
   where
     at : (v : Bool) (line bytes : List ℕ) → nat_lt 4096 (length line) ≡ v
         → longer (cond v None (Some line)) bytes ≡ within_limit (line ++ bytes)
@@ -74,7 +74,7 @@ pub continues_bytes : (options : Options) (now : RunState) (held : Option (List 
 continues_bytes options now held bytes none start read r =
     further options start now now read bytes held (longer held bytes) [] r
     (ended_at_bytes read bytes none ∙ sym (append-nil (ended_lines read)))
-    (ap (λ (z : Option (List ℕ)). longer z bytes) r.holds ∙ longer_kept (open_line read) bytes
+    (ap (λ (z : Option (List ℕ)). longer z bytes) r.holds ∙ longer_within_limit (open_line read) bytes
     ∙ ap within_limit
     (sym (open_at_bytes read bytes none)))
     (handled_none options now now refl refl refl)
@@ -102,11 +102,11 @@ not_empty held (byte ∷ line) ne is e = cc
 -- the end of a line that was served
 pub continues_line : (options : Options) (now new : RunState) (held : Option (List ℕ))
     → (held ≡ Some [] → ⊥)
-    → ServesRequest options (parse_kept held) now new
+    → ServesRequest options (parse_buffered held) now new
     → ReadsOn options (10 ∷ []) now held new (Some [])
 continues_line options now new held ne s start read r =
     let line : List ℕ = open_line read in
-    let request : parse_kept held ≡ parse line = ap parse_kept r.holds ∙ parsed_kept line in
+    let request : parse_buffered held ≡ parse line = ap parse_buffered r.holds ∙ parse_buffered_is line in
     let P : Result Request BadLine → Type 0 = λ z. ServesRequest options z now new in
     further options start now new read (10 ∷ []) held (Some []) (line ∷ []) r
     (ended_at_feed read ∙ ap (λ (z : List (List ℕ)). ended_lines read ++ z)
@@ -117,14 +117,14 @@ continues_line options now new held ne s start read r =
 -- a line that ended, whose reply was not completely written
 pub breaks_line : (options : Options) (now new : RunState) (held : Option (List ℕ))
     → (held ≡ Some [] → ⊥)
-    → FailsToReply options (parse_kept held) now new
+    → FailsToReply options (parse_buffered held) now new
     → StopsWithin options (10 ∷ []) now held new.asked new.written
 breaks_line options now new held ne f start read r =
     let line : List ℕ = open_line read in
     let P : Result Request BadLine → Type 0 = λ z. FailsToReply options z now new in
     let Q : List ℕ → Type 0 = λ z. StopsAtLine options start z new.asked new.written in
     let failed : FailsToReply options (parse line) now new =
-    subst P (ap parse_kept r.holds ∙ parsed_kept line) f in
+    subst P (ap parse_buffered r.holds ∙ parse_buffered_is line) f in
     let all : lines read ≡ ended_lines read ++ line ∷ [] =
     lines_are read ∙ ap (λ (z : List (List ℕ)). ended_lines read ++ z)
     (has_some line (not_empty held line ne r.holds)) in

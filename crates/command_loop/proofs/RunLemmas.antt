@@ -12,8 +12,8 @@ use Rattle.command_loop.proofs.ServedLemmas.{handled_none, handled_as}
 use Rattle.command_loop.specs.Lines.{has_bytes, lines, ended_lines, open_line}
 use Rattle.command_loop.specs.Requests.{requests}
 use Rattle.command_loop.specs.Output.{Exchanges, EndsLine}
-use Rattle.command_loop.specs.Private.Progress.{RunState, ServedInOrder, ReadSoFar, StopsAtLine}
-use Rattle.command_loop.specs.Private.Progress.{ReadsOn, StopsWithin}
+use Rattle.command_loop.specs.Private.Progress.{RunState, state_of, ServedInOrder, ReadSoFar}
+use Rattle.command_loop.specs.Private.Progress.{StopsAtLine, ReadsOn, StopsWithin}
 
 pub on_err_at : {T E P : Type 0} (r : Result T E) → is_err r ≡ true → OnErr r P → P
 on_err_at (Ok x) e h = absurd (false≢true e)
@@ -103,7 +103,7 @@ pub ends_well : (options : Options) (start now new : RunState) (a b held held' :
     → ReadsOn options (10 ∷ []) now held new held' → (input : List ℕ) × Consumes a b input
     × IsAtEnd b
     × ((world : World) × ServedInOrder options start (requests (lines input))
-    (record { world = world; asked = new.asked; written = new.written }))
+    (state_of world new.asked new.written))
 ends_well options start now new a b held held' h end on =
     let r = on start h.0 h.2 in
     let same : ended_lines (h.0 ++ 10 ∷ []) ≡ lines h.0 = ended_at_feed h.0 ∙ sym (lines_are h.0) in

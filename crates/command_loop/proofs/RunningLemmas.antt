@@ -14,8 +14,9 @@ use Rattle.command_loop.specs.Lines.{lines, ended_lines}
 use Rattle.command_loop.specs.Requests.{Request, requests}
 use Rattle.command_loop.specs.Output.{Requests, Exchanges, ask_of, Answers, StoppedAt, ServedBy}
 use Rattle.command_loop.specs.Output.{StoppedBy, questions}
-use Rattle.command_loop.specs.Private.Progress.{RunState, ServedInOrder, StopsAtRequest, StopsAmong}
-use Rattle.command_loop.specs.Private.Progress.{ReadsLines, HasStarted}
+use Rattle.command_loop.specs.Private.Progress.{RunState, state_of, ServedInOrder}
+use Rattle.command_loop.specs.Private.Progress.{StopsAtRequest, StopsAmong, ReadsLines}
+use Rattle.command_loop.specs.Private.Progress.{HasStarted}
 
 pub answers_of : (options : Options) (exe : Option (List ℕ)) (asked : Exchanges)
     (start now : RunState) (rs : Requests)
@@ -70,7 +71,7 @@ lines_served options exe asked asked' written left left' start words (Ok done) e
       h.1,
       h.2,
       answers_of options exe asked start
-          (record { world = h.3.0; asked = asked'; written = written })
+          (state_of h.3.0 asked' written)
           (requests (lines h.0)) b h.3.1,
     )
 
@@ -90,7 +91,7 @@ lines_reading options exe asked asked' written left left' start words r e b h is
         k.0,
         k.1,
         answers_of options exe asked start
-            (record { world = k.2.0; asked = asked'; written = written })
+            (state_of k.2.0 asked' written)
             (requests (ended_lines k.0)) b k.2.1,
       ),
     )

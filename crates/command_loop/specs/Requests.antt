@@ -93,6 +93,6 @@ abbrev pub requests : List (List ℕ) → List (Result Request BadLine)
 requests lines = map parse lines
 
 -- the same for a line that is buffered only up to the limit
-abbrev pub parse_kept : Option (List ℕ) → Result Request BadLine
-parse_kept None = Err LongLine
-parse_kept (Some line) = parse line
+abbrev pub parse_buffered : Option (List ℕ) → Result Request BadLine
+parse_buffered None = Err LongLine
+parse_buffered (Some line) = parse line

@@ -70,9 +70,9 @@ pub fn run<R: Feed, W: Sink, O: Objects>(
     }
     let words: &[u64] = &options.words;
     if words.is_empty() {
-        return serve_input(&options, modules, reader, writer, source);
+        return serve_input(options, modules, reader, writer, source);
     }
-    if serve_words(&options, words, &mut modules, writer, source).is_err() {
+    if serve_words(options, words, &mut modules, writer, source).is_err() {
         return Err(RunFault::Writing);
     }
     Ok(())

@@ -4,8 +4,8 @@ ghost use Rattle.std.specs.Prelude.{◌≡◌, ℕ, List, [], ◌∷◌, Option,
 ghost use Rattle.io_streams.specs.Streams.{failures_after, Writes};
 ghost use Rattle.command_loop.specs.Output.{Exchanges};
 ghost use Rattle.command_loop.specs.Private.Commands.{parsed};
-ghost use Rattle.command_loop.specs.Requests.{parse_kept};
-ghost use Rattle.command_loop.specs.Private.Progress.{RunState, ServesRequest, FailsToReply};
+ghost use Rattle.command_loop.specs.Requests.{parse_buffered};
+ghost use Rattle.command_loop.specs.Private.Progress.{state_of, ServesRequest, FailsToReply};
 ghost use Rattle.command_loop.specs.Private.Serving.{Performs};
 ghost use Rattle.command_loop.specs.Requests.Request.{Load, Unload, Move};
 
@@ -68,8 +68,8 @@ fn move_to<'a>(name: &'a str, base: u64, modules: &mut Modules) -> Done<'a>
 }
 
 /// Parses a line. `None` is a line over the limit.
-fn request_of(line: Option<&[u8]>) -> Result<Command<'_>, BadLine>
-    ensures { parsed result ≡ parse_kept (option_copied line.entry) }
+pub fn parse_buffered(line: Option<&[u8]>) -> Result<Command<'_>, BadLine>
+    ensures { parsed result ≡ parse_buffered (option_copied line.entry) }
 {
     match line {
         None => Err(BadLine::LongLine),
@@ -109,66 +109,14 @@ pub fn serve_request<W: Sink, O: Objects>(
 ) -> Result<(), DeviceFault>
     ensures served { MatchResult result
         (λ _. ServesRequest options.now (parsed request.entry)
-        (record {
-          world = modules.old.world;
-          asked = O.asked source.old;
-          written = W.written writer.old;
-        })
-        (record {
-          world = modules.new.world;
-          asked = O.asked source.new;
-          written = W.written writer.new;
-        }))
+        (state_of modules.old.world (O.asked source.old) (W.written writer.old))
+        (state_of modules.new.world (O.asked source.new) (W.written writer.new)))
         (λ _. FailsToReply options.now (parsed request.entry)
-        (record {
-          world = modules.old.world;
-          asked = O.asked source.old;
-          written = W.written writer.old;
-        })
-        (record {
-          world = modules.new.world;
-          asked = O.asked source.new;
-          written = W.written writer.new;
-        })) }
+        (state_of modules.old.world (O.asked source.old) (W.written writer.old))
+        (state_of modules.new.world (O.asked source.new) (W.written writer.new))) }
     ensures failures { W.failures writer.new ≡ failures_after (W.failures writer.old) result }
 {
     let done = act(request, modules, source);
     write_reply(options, modules, &done, writer)?;
     writer.flush()
-}
-
-/// Serves a line. `None` is a line over the limit.
-pub fn serve<W: Sink, O: Objects>(
-    options: &Options,
-    line: Option<&[u8]>,
-    modules: &mut Modules,
-    writer: &mut W,
-    source: &mut O,
-) -> Result<(), DeviceFault>
-    ensures served { MatchResult result
-        (λ _. ServesRequest options.now (parse_kept (option_copied line.entry))
-        (record {
-          world = modules.old.world;
-          asked = O.asked source.old;
-          written = W.written writer.old;
-        })
-        (record {
-          world = modules.new.world;
-          asked = O.asked source.new;
-          written = W.written writer.new;
-        }))
-        (λ _. FailsToReply options.now (parse_kept (option_copied line.entry))
-        (record {
-          world = modules.old.world;
-          asked = O.asked source.old;
-          written = W.written writer.old;
-        })
-        (record {
-          world = modules.new.world;
-          asked = O.asked source.new;
-          written = W.written writer.new;
-        })) }
-    ensures failures { W.failures writer.new ≡ failures_after (W.failures writer.old) result }
-{
-    serve_request(options, request_of(line), modules, writer, source)
 }

@@ -3,10 +3,10 @@
 ghost use Rattle.std.specs.Prelude.{◌≡◌, ℕ, ◌≤◌, List, [], ◌∷◌, ◌++◌, length, Option, OnOk, OnErr};
 ghost use Rattle.io_streams.specs.Streams.{failures_after};
 ghost use Rattle.command_loop.specs.Devices.{read_failures_after, write_failures_after};
-ghost use Rattle.command_loop.specs.Private.Progress.{RunState, ReadsOn, StopsWithin, ReadsLines};
+ghost use Rattle.command_loop.specs.Private.Progress.{state_of, ReadsOn, StopsWithin, ReadsLines};
 
 use crate::line_buffer::LineBuffer;
-use crate::serving::serve;
+use crate::serving::{parse_buffered, serve_request};
 use bstr::ByteSlice;
 use io_streams::{DeviceFault, Feed, Objects, Options, RunFault, Sink};
 use module_map::Modules;
@@ -27,29 +27,20 @@ impl Session {
         source: &mut O,
     ) -> Result<(), DeviceFault>
         ensures goes_on { OnOk result (ReadsOn options.now (10 ∷ [])
-            (record {
-              world = self.old.modules.world;
-              asked = O.asked source.old;
-              written = W.written writer.old;
-            }) self.old.line
-            (record {
-              world = self.new.modules.world;
-              asked = O.asked source.new;
-              written = W.written writer.new;
-            }) self.new.line) }
+            (state_of self.old.modules.world (O.asked source.old) (W.written writer.old))
+            self.old.line
+            (state_of self.new.modules.world (O.asked source.new) (W.written writer.new))
+            self.new.line) }
         ensures breaks { OnErr result (StopsWithin options.now (10 ∷ [])
-            (record {
-              world = self.old.modules.world;
-              asked = O.asked source.old;
-              written = W.written writer.old;
-            }) self.old.line
-            (O.asked source.new) (W.written writer.new)) }
+            (state_of self.old.modules.world (O.asked source.old) (W.written writer.old))
+            self.old.line (O.asked source.new) (W.written writer.new)) }
         ensures failures { W.failures writer.new ≡ failures_after (W.failures writer.old) result }
     {
         if self.line.is_empty() {
             return Ok(());
         }
-        serve(options, self.line.text(), &mut self.modules, writer, source)?;
+        let request = parse_buffered(self.line.text());
+        serve_request(options, request, &mut self.modules, writer, source)?;
         self.line.clear();
         Ok(())
     }
@@ -63,23 +54,13 @@ impl Session {
         source: &mut O,
     ) -> Result<(), DeviceFault>
         ensures goes_on { OnOk result (ReadsOn options.now piece.now
-            (record {
-              world = self.old.modules.world;
-              asked = O.asked source.old;
-              written = W.written writer.old;
-            }) self.old.line
-            (record {
-              world = self.new.modules.world;
-              asked = O.asked source.new;
-              written = W.written writer.new;
-            }) self.new.line) }
+            (state_of self.old.modules.world (O.asked source.old) (W.written writer.old))
+            self.old.line
+            (state_of self.new.modules.world (O.asked source.new) (W.written writer.new))
+            self.new.line) }
         ensures breaks { OnErr result (StopsWithin options.now piece.now
-            (record {
-              world = self.old.modules.world;
-              asked = O.asked source.old;
-              written = W.written writer.old;
-            }) self.old.line
-            (O.asked source.new) (W.written writer.new)) }
+            (state_of self.old.modules.world (O.asked source.old) (W.written writer.old))
+            self.old.line (O.asked source.new) (W.written writer.new)) }
         ensures failures { W.failures writer.new ≡ failures_after (W.failures writer.old) result }
     {
         let mut rest = piece;
@@ -103,13 +84,8 @@ pub fn serve_input<R: Feed, W: Sink, O: Objects>(
     source: &mut O,
 ) -> Result<(), RunFault>
     ensures reads { ReadsLines options.now
-        (record {
-          world = modules.world;
-          asked = O.asked source.old;
-          written = W.written writer.old;
-        })
-        (R.left reader.old) (R.left reader.new) (O.asked source.new)
-        (W.written writer.new) result }
+        (state_of modules.world (O.asked source.old) (W.written writer.old))
+        (R.left reader.old) (R.left reader.new) (O.asked source.new) (W.written writer.new) result }
     ensures reader_failed { R.failures reader.new
         ≡ read_failures_after (R.failures reader.old) result }
     ensures writer_failed { W.failures writer.new

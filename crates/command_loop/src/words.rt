@@ -3,7 +3,7 @@
 ghost use Rattle.std.specs.Prelude.{◌≡◌, OnOk, OnErr, List, ◌++◌, ◌∷◌, map};
 ghost use Rattle.io_streams.specs.Streams.{failures_after};
 ghost use Rattle.command_loop.specs.Output.{ask_of, Requests};
-ghost use Rattle.command_loop.specs.Private.Progress.{RunState, ServedInOrder, StopsAmong};
+ghost use Rattle.command_loop.specs.Private.Progress.{state_of, ServedInOrder, StopsAmong};
 
 use crate::commands::Command;
 use crate::serving::serve_request;
@@ -20,20 +20,12 @@ pub fn serve_words<W: Sink, O: Objects>(
 ) -> Result<(), DeviceFault>
     ensures handled { OnOk result
         (ServedInOrder options.now
-        (record {
-          world = modules.old.world;
-          asked = O.asked source.old;
-          written = W.written
-              writer.old;
-        })
-        (map ask_of words.now) (record {
-          world = modules.new.world;
-          asked = O.asked source.new;
-          written = W.written writer.new;
-        })) }
+        (state_of modules.old.world (O.asked source.old) (W.written writer.old))
+        (map ask_of words.now)
+        (state_of modules.new.world (O.asked source.new) (W.written writer.new))) }
     ensures halts { OnErr result
-        (StopsAmong options.now (record
-        { world = modules.old.world; asked = O.asked source.old; written = W.written writer.old })
+        (StopsAmong options.now
+        (state_of modules.old.world (O.asked source.old) (W.written writer.old))
         (map ask_of words.now) (O.asked source.new) (W.written writer.new)) }
     ensures failures { W.failures writer.new ≡ failures_after (W.failures writer.old) result }
 {

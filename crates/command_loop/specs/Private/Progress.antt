@@ -22,6 +22,9 @@ pub record RunState : Type 0 where
   pub asked : Exchanges
   pub written : Option (List ℕ)
 
+abbrev pub state_of : World → Exchanges → Option (List ℕ) → RunState
+state_of world asked written = record { world = world; asked = asked; written = written }
+
 -- one request was served
 pub record ServesRequest (options : Options) (request : Result Request BadLine)
     (old new : RunState) : Type 0 where
@@ -97,11 +100,11 @@ abbrev pub ReadsLines : {a : Type 0} → Options → RunState → Option (List �
 ReadsLines options start left left' asked written (Ok done) =
     (input : List ℕ) × Consumes left left' input × IsAtEnd left'
     × ((world : World) × ServedInOrder options start (requests (lines input))
-    (record { world = world; asked = asked; written = written }))
+    (state_of world asked written))
 ReadsLines options start left left' asked written (Err Reading) =
     (read : List ℕ) × Consumes left left' read
     × ((world : World) × ServedInOrder options start (requests (ended_lines read))
-    (record { world = world; asked = asked; written = written }))
+    (state_of world asked written))
 ReadsLines options start left left' asked written (Err Writing) =
     (read past : List ℕ) × Consumes left left' (read ++ past) × (length past ≤ 4096)
     × EndsLine past left' × StopsAtLine options start read asked written

@@ -2,18 +2,14 @@ use Rattle.std.proofs.Common.{sym}
 use Rattle.command_loop.proofs.RunLemmas.{on_err_at, on_ok_at}
 use Rattle.command_loop.proofs.RunningLemmas.{lines_served, lines_reading, lines_writing, no_words}
 use Rattle.command_loop.proofs.RunningLemmas.{words_served_at, words_halted_at}
-use Rattle.command_loop.specs.Private.Progress.{RunState}
+use Rattle.command_loop.specs.Private.Progress.{RunState, state_of}
 use Rattle.command_loop.proofs.running.run.Goals as goal
 
 pub returns-then-is_empty-clause-served : goal.returns-then-is_empty-clause-served
 returns-then-is_empty-clause-served g c =
     let start : RunState =
-    record {
-      world = c.begin.new.modules.world;
-      asked = g.O.Objects.asked c.begin.new.source;
-      written = g.W.Sink.written
-          c.args.writer.now;
-    } in
+    state_of c.begin.new.modules.world (g.O.Objects.asked c.begin.new.source)
+    (g.W.Sink.written c.args.writer.now) in
     lines_served _ _ _ _ _ _ _ start _ _
     (no_words _ _ _ c.deref-words.ensures.value c.is_empty.ensures c.if-is_empty.true)
     c.in-Ok-begin.ensures c.serve_input.ensures.reads
@@ -21,12 +17,8 @@ returns-then-is_empty-clause-served g c =
 pub returns-then-is_empty-clause-reading : goal.returns-then-is_empty-clause-reading
 returns-then-is_empty-clause-reading g c =
     let start : RunState =
-    record {
-      world = c.begin.new.modules.world;
-      asked = g.O.Objects.asked c.begin.new.source;
-      written = g.W.Sink.written
-          c.args.writer.now;
-    } in
+    state_of c.begin.new.modules.world (g.O.Objects.asked c.begin.new.source)
+    (g.W.Sink.written c.args.writer.now) in
     lines_reading _ _ _ _ _ _ _ start _ _
     (no_words _ _ _ c.deref-words.ensures.value c.is_empty.ensures c.if-is_empty.true)
     c.in-Ok-begin.ensures c.serve_input.ensures.reads
@@ -34,12 +26,8 @@ returns-then-is_empty-clause-reading g c =
 pub returns-then-is_empty-clause-writing : goal.returns-then-is_empty-clause-writing
 returns-then-is_empty-clause-writing g c =
     let start : RunState =
-    record {
-      world = c.begin.new.modules.world;
-      asked = g.O.Objects.asked c.begin.new.source;
-      written = g.W.Sink.written
-          c.args.writer.now;
-    } in
+    state_of c.begin.new.modules.world (g.O.Objects.asked c.begin.new.source)
+    (g.W.Sink.written c.args.writer.now) in
     lines_writing _ _ _ _ _ _ _ start _ _
     (no_words _ _ _ c.deref-words.ensures.value c.is_empty.ensures c.if-is_empty.true)
     c.in-Ok-begin.ensures c.serve_input.ensures.reads
@@ -51,12 +39,8 @@ returns-then-is_empty-clause-unread g c = λ some. absurd
 pub returns-then-is_err-clause-writing : goal.returns-then-is_err-clause-writing
 returns-then-is_err-clause-writing g c =
     let start : RunState =
-    record {
-      world = c.begin.new.modules.world;
-      asked = g.O.Objects.asked c.begin.new.source;
-      written = g.W.Sink.written
-          c.args.writer.now;
-    } in
+    state_of c.begin.new.modules.world (g.O.Objects.asked c.begin.new.source)
+    (g.W.Sink.written c.args.writer.now) in
     λ _. words_halted_at _ _ _ _ _ _ start _ _ _ c.deref-words.ensures.value c.is_empty.ensures
     c.if-is_empty.false c.in-Ok-begin.ensures
     (on_err_at _ (sym c.if-is_err.ensures.value) c.serve_words.ensures.halts)
@@ -64,12 +48,8 @@ returns-then-is_err-clause-writing g c =
 pub returns-clause-served : goal.returns-clause-served
 returns-clause-served g c =
     let start : RunState =
-    record {
-      world = c.begin.new.modules.world;
-      asked = g.O.Objects.asked c.begin.new.source;
-      written = g.W.Sink.written
-          c.args.writer.now;
-    } in
+    state_of c.begin.new.modules.world (g.O.Objects.asked c.begin.new.source)
+    (g.W.Sink.written c.args.writer.now) in
     words_served_at _ _ _ _ start _ _ _ _ c.deref-words.ensures.value c.is_empty.ensures
     c.if-is_empty.false c.in-Ok-begin.ensures
     (on_ok_at _ (sym c.if-is_err.ensures.value) c.serve_words.ensures.handled)

@@ -1,22 +1,15 @@
 use Rattle.std.proofs.Common.{◌≡◌, length}
+use Rattle.command_loop.specs.Private.Progress.{state_of}
 use Rattle.command_loop.proofs.RunLemmas.{HasRead}
 use Rattle.command_loop.proofs.session.serve_input.Given as goal
 
 abbrev pub invariant-pieces : goal.invariant-pieces
 invariant-pieces g l =
-    HasRead l.options (record {
-      world = l.fn.modules.world;
-      asked = g.O.Objects.asked l.fn.source;
-      written =
-          g.W.Sink.written l.fn.writer;
-    })
+    HasRead l.options
+    (state_of l.fn.modules.world (g.O.Objects.asked l.fn.source) (g.W.Sink.written l.fn.writer))
     (g.R.Feed.left l.fn.reader) (g.R.Feed.left l.reader)
-    (record {
-      world = l.session.modules.world;
-      asked = g.O.Objects.asked l.source;
-      written =
-          g.W.Sink.written l.writer;
-    }) l.session.line
+    (state_of l.session.modules.world (g.O.Objects.asked l.source) (g.W.Sink.written l.writer))
+    l.session.line
     × (length l.piece ≡ 4096)
     × (g.R.Feed.failures l.reader ≡ g.R.Feed.failures l.fn.reader)
     × (g.W.Sink.failures l.writer ≡ g.W.Sink.failures l.fn.writer)
