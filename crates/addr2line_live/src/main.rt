@@ -15,14 +15,14 @@ fn main(rt: HostRuntime) -> ExitCode {
     match words(&rt) {
         Ok(words) => ExitCode::from(streams::serve(&rt, &words)),
         Err(fault) => {
-            let _ = tell(&rt, &fault);
+            let _ = report(&rt, &fault);
             ExitCode::from(2)
         }
     }
 }
 
 /// Reports on standard error why the arguments cannot be read.
-fn tell(rt: &HostRuntime, fault: &io::Error) -> io::Result<()> {
+fn report(rt: &HostRuntime, fault: &io::Error) -> io::Result<()> {
     if fault.kind() == io::ErrorKind::OutOfMemory {
         return eprintln!(rt; "addr2line_live: no memory");
     }

@@ -12,7 +12,7 @@ use Rattle.std.proofs.Math.Seq.{drop-append-add}
 use Rattle.bstr.specs.Find.{IsLastByte, is_byte}
 use Rattle.answer_text.specs.Printable.{printable, known_text}
 use Rattle.answer_text.specs.Text.{base_name}
-use Rattle.answer_text.specs.Private.Paths.{last_behind, slashed}
+use Rattle.answer_text.specs.Private.Paths.{last_or, after_slash}
 
 -- ---- the part after the last slash
 
@@ -25,16 +25,16 @@ prefix_before [] back = refl
 prefix_before (byte ∷ front) back = ap (λ (n : ℕ). cond (is_other byte) (1 + n) 0)
     (prefix_before front back)
 
-reversed : (part rest : List ℕ) → reverse (part ++ 47 ∷ rest) ≡ reverse rest ++ 47 ∷ reverse part
-reversed part rest =
+reverse_join : (part rest : List ℕ) → reverse (part ++ 47 ∷ rest) ≡ reverse rest ++ 47 ∷ reverse part
+reverse_join part rest =
     reverse-append part (47 ∷ rest) ∙ ap (λ (z : List ℕ). z ++ reverse part)
     (reverse-append (47 ∷ []) rest)
     ∙ append_assoc (reverse rest) (47 ∷ []) (reverse part)
 
-base_behind : (part rest : List ℕ) → base_name (part ++ 47 ∷ rest) ≡ base_name rest
-base_behind part rest =
+base_after : (part rest : List ℕ) → base_name (part ++ 47 ∷ rest) ≡ base_name rest
+base_after part rest =
     let same : suffix_len is_other (part ++ 47 ∷ rest) ≡ suffix_len is_other rest =
-    ap (prefix_len is_other) (reversed part rest) ∙ prefix_before (reverse rest) (reverse part) in
+    ap (prefix_len is_other) (reverse_join part rest) ∙ prefix_before (reverse rest) (reverse part) in
     let glued : part ++ 47 ∷ rest ≡ (part ++ 47 ∷ []) ++ rest =
     sym (append_assoc part (47 ∷ []) rest) in
     let far : length (part ++ 47 ∷ rest) - suffix_len is_other (part ++ 47 ∷ rest)
@@ -80,21 +80,21 @@ last_slash path at found =
     take_rest path (at + 1) ∙ ap (λ (n : ℕ). drop n path) (omega (arith, rest, found.0.high))
 
 -- it is in the last part
-base_of_behind : (parts : List (List ℕ)) (part : List ℕ)
-    → base_name (last_behind part parts) ≡ base_name (join_with_byte 47 (part ∷ parts))
-base_of_behind [] part = refl
-base_of_behind (next ∷ parts) part = base_of_behind parts next
-    ∙ sym (base_behind part (join_with_byte 47 (next ∷ parts)))
+base_of_parts : (parts : List (List ℕ)) (part : List ℕ)
+    → base_name (last_or part parts) ≡ base_name (join_with_byte 47 (part ∷ parts))
+base_of_parts [] part = refl
+base_of_parts (next ∷ parts) part = base_of_parts parts next
+    ∙ sym (base_after part (join_with_byte 47 (next ∷ parts)))
 
-pub base_of_last : (parts : List (List ℕ)) → base_name (last_behind [] parts)
+pub base_of_last : (parts : List (List ℕ)) → base_name (last_or [] parts)
     ≡ base_name (join_with_byte 47 parts)
 base_of_last [] = refl
-base_of_last (part ∷ parts) = base_of_behind parts part
+base_of_last (part ∷ parts) = base_of_parts parts part
 
 -- ---- parts joined by slashes
 
 pub printed_join : (part : List ℕ) (parts : List (List ℕ))
-    → map printable part ++ flat_map slashed parts
+    → map printable part ++ flat_map after_slash parts
     ≡ map printable (join_with_byte 47 (part ∷ parts))
 printed_join part [] = append-nil (map printable part)
 printed_join part (next ∷ parts) =
@@ -103,17 +103,17 @@ printed_join part (next ∷ parts) =
 
 -- a path whose first part is nonempty
 pub known_join : (part : List ℕ) (parts : List (List ℕ)) → part ≢ []
-    → map printable part ++ flat_map slashed parts
+    → map printable part ++ flat_map after_slash parts
     ≡ known_text (Some (join_with_byte 47 (part ∷ parts)))
 known_join [] parts ne = absurd (ne refl)
 known_join (byte ∷ bytes) [] ne = printed_join (byte ∷ bytes) []
 known_join (byte ∷ bytes) (next ∷ parts) ne = printed_join (byte ∷ bytes) (next ∷ parts)
 
 -- a path whose first part is empty
-pub known_behind : (part : List ℕ) (parts : List (List ℕ))
-    → slashed part ++ flat_map slashed parts
+pub known_after_empty : (part : List ℕ) (parts : List (List ℕ))
+    → after_slash part ++ flat_map after_slash parts
     ≡ known_text (Some (join_with_byte 47 ([] ∷ part ∷ parts)))
-known_behind part parts = ap (λ (z : List ℕ). 47 ∷ z) (printed_join part parts)
+known_after_empty part parts = ap (λ (z : List ℕ). 47 ∷ z) (printed_join part parts)
 
 -- ---- the remaining parts of a path
 
@@ -121,12 +121,12 @@ abbrev pub path_text : List (List ℕ) → List ℕ
 path_text parts = known_text (Some (join_with_byte 47 parts))
 
 pub first_known : (all rest : List (List ℕ)) (part : List ℕ) → all ≡ part ∷ rest → part ≢ []
-    → map printable part ++ flat_map slashed rest ≡ path_text all
+    → map printable part ++ flat_map after_slash rest ≡ path_text all
 first_known all rest part e ne = known_join part rest ne ∙ ap path_text (sym e)
 
 pub second_known : (all rest : List (List ℕ)) (part : List ℕ) → all ≡ part ∷ rest
-    → slashed part ++ flat_map slashed rest ≡ path_text ([] ∷ all)
-second_known all rest part e = known_behind part rest
+    → after_slash part ++ flat_map after_slash rest ≡ path_text ([] ∷ all)
+second_known all rest part e = known_after_empty part rest
     ∙ ap (λ (z : List (List ℕ)). path_text ([] ∷ z)) (sym e)
 
 pub nothing_first : (all rest : List (List ℕ)) (part : List ℕ) → all ≡ part ∷ rest → part ≡ []

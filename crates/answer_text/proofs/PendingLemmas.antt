@@ -18,9 +18,9 @@ pub put_then : (a b c : Option (List ℕ)) (h h' h'' x y : List ℕ) → Put a b
     → Put a c h h'' (x ++ y)
 put_then a b c h h' h'' x y p q = record {
   sent = p.sent ++ q.sent;
-  kept =
-      sym (append_assoc h x y) ∙ ap (λ (z : List ℕ). z ++ y) p.kept ∙ append_assoc p.sent h' y ∙ ap
-      (λ (z : List ℕ). p.sent ++ z) q.kept ∙ sym (append_assoc p.sent q.sent h'');
+  splits =
+      sym (append_assoc h x y) ∙ ap (λ (z : List ℕ). z ++ y) p.splits ∙ append_assoc p.sent h' y
+      ∙ ap (λ (z : List ℕ). p.sent ++ z) q.splits ∙ sym (append_assoc p.sent q.sent h'');
   appended = appends_then a b c p.sent q.sent p.appended q.appended;
 }
 
@@ -31,7 +31,8 @@ put_cut a b c h h' x y p q = record {
   begins = (
     q.begins.0,
     append_assoc p.sent q.sent q.begins.0 ∙ ap (λ (z : List ℕ). p.sent ++ z) q.begins.1 ∙ sym
-        (append_assoc p.sent h' y) ∙ ap (λ (z : List ℕ). z ++ y) (sym p.kept) ∙ append_assoc h x y,
+        (append_assoc p.sent h' y) ∙ ap (λ (z : List ℕ). z ++ y) (sym p.splits)
+        ∙ append_assoc h x y,
   );
   appended = appends_then a b c p.sent q.sent p.appended q.appended;
 }
@@ -52,7 +53,7 @@ cut_more a b h x y p = record {
 pub puts_through : {E : Type 0} (a b : Option (List ℕ)) (h x : List ℕ) (r : Result (Unit {0}) E)
     → h ≡ [] → Writes a b r x
     → Puts a b h h r x
-puts_through a b [] x (Ok done) e w = record { sent = x; kept = sym (append-nil x); appended = w }
+puts_through a b [] x (Ok done) e w = record { sent = x; splits = sym (append-nil x); appended = w }
 puts_through a b [] x (Err fault) e w = record { sent = w.0; begins = w.1; appended = w.2 }
 puts_through a b (y ∷ h) x r e w = cc
 
@@ -64,22 +65,22 @@ puts_after a b c h h' h'' y (Ok done) p q = put_then a b c h h' h'' [] y p q
 puts_after a b c h h' h'' y (Err fault) p q = put_cut a b c h h' [] y p q
 
 -- a string that fits
-pub put_held : (a : Option (List ℕ)) (h h' x : List ℕ) (fits : Bool) → fits ≡ true
+pub put_fitting : (a : Option (List ℕ)) (h h' x : List ℕ) (fits : Bool) → fits ≡ true
     → h' ≡ (if fits then h ++ x else h) → Put a a h h' x
-put_held a h h' x true e is = record { sent = []; kept = sym is; appended = appends_nothing a }
-put_held a h h' x false e is = absurd (false≢true e)
+put_fitting a h h' x true e is = record { sent = []; splits = sym is; appended = appends_nothing a }
+put_fitting a h h' x false e is = absurd (false≢true e)
 
 -- a string that does not fit changes nothing
-pub same_held : (h h' x : List ℕ) (fits : Bool) → fits ≡ false
+pub same_buffer : (h h' x : List ℕ) (fits : Bool) → fits ≡ false
     → h' ≡ (if fits then h ++ x else h) → h' ≡ h
-same_held h h' x true e is = absurd (false≢true (sym e))
-same_held h h' x false e is = is
+same_buffer h h' x true e is = absurd (false≢true (sym e))
+same_buffer h h' x false e is = is
 
 -- the buffer was written
 pub put_sent : (a b : Option (List ℕ)) (h h' h'' : List ℕ) → h' ≡ h → Appends a b h' → h'' ≡ []
     → Put a b h h'' []
 put_sent a b h h' [] same w e =
-    record { sent = h; kept = refl; appended = subst (λ (z : List ℕ). Appends a b z) same w }
+    record { sent = h; splits = refl; appended = subst (λ (z : List ℕ). Appends a b z) same w }
 put_sent a b h h' (y ∷ ys) same w e = cc
 
 -- only a prefix of the buffer was written
@@ -169,10 +170,10 @@ pub writes_all : {E : Type 0} (a b c : Option (List ℕ)) (h text : List ℕ) (r
     → Writes a c r text
 writes_all a b c h text (Ok done) p w =
     let P : List ℕ → Type 0 = λ z. Appends a c z in
-    subst P (sym p.kept) (appends_then a b c p.sent h p.appended w)
+    subst P (sym p.splits) (appends_then a b c p.sent h p.appended w)
 writes_all a b c h text (Err fault) p w = (
   p.sent ++ w.0,
-  (w.1.0, append_assoc p.sent w.0 w.1.0 ∙ ap (λ (z : List ℕ). p.sent ++ z) w.1.1 ∙ sym p.kept),
+  (w.1.0, append_assoc p.sent w.0 w.1.0 ∙ ap (λ (z : List ℕ). p.sent ++ z) w.1.1 ∙ sym p.splits),
   appends_then a b c
       p.sent w.0 p.appended w.2,
 )

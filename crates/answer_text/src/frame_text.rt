@@ -5,7 +5,7 @@ ghost use Rattle.std.specs.List.{join_with_byte};
 ghost use Rattle.io_streams.specs.Streams.{failures_after};
 ghost use Rattle.answer_text.specs.Pending.{Puts};
 ghost use Rattle.answer_text.specs.Printable.{known_text};
-ghost use Rattle.answer_text.specs.Private.Paths.{text_told};
+ghost use Rattle.answer_text.specs.Private.Paths.{borrowed_text};
 ghost use Rattle.answer_text.specs.Text.{name_of, file_of, after_name, before_later, name_text};
 ghost use Rattle.answer_text.specs.Text.{place_text, frame_text, later_text};
 
@@ -17,7 +17,7 @@ use itoa::Buffer;
 
 /// Returns the name to print: the linkage name if it is requested and present, else the name.
 fn printed_name<'a>(options: &Options, frame: &Frame<'a>) -> Option<&'a [u8]>
-    ensures { text_told result ≡ name_of options.now frame.now }
+    ensures { borrowed_text result ≡ name_of options.now frame.now }
 {
     if !options.linkage {
         return frame.name();

@@ -6,7 +6,7 @@ ghost use Rattle.io_streams.specs.Streams.{failures_after};
 ghost use Rattle.answer_text.specs.Pending.{Puts};
 ghost use Rattle.answer_text.specs.Printable.{known_text};
 ghost use Rattle.answer_text.specs.Text.{base_name};
-ghost use Rattle.answer_text.specs.Private.Paths.{last_behind, slashed};
+ghost use Rattle.answer_text.specs.Private.Paths.{last_or, after_slash};
 
 use crate::pending::Pending;
 use addr_table::Path;
@@ -25,7 +25,7 @@ fn base_name(path: &[u8]) -> &[u8]
 
 /// Returns the last part of a path; empty if the path has no parts.
 fn last_part<'a>(path: Path<'a>) -> &'a [u8]
-    ensures { result.now ≡ last_behind [] path.entry }
+    ensures { result.now ≡ last_or [] path.entry }
 {
     let mut last: &'a [u8] = b"";
     for part in path {
@@ -49,13 +49,13 @@ pub fn put_base_name<W: Sink>(
 }
 
 /// Appends a slash and a part.
-fn put_slashed<W: Sink>(
+fn put_after_slash<W: Sink>(
     part: &[u8],
     pending: &mut Pending,
     writer: &mut W,
 ) -> Result<(), DeviceFault>
     ensures bytes { Puts (W.written writer.old) (W.written writer.new) pending.old pending.new
-        result (slashed part.now) }
+        result (after_slash part.now) }
     ensures failures { W.failures writer.new ≡ failures_after (W.failures writer.old) result }
 {
     pending.put(b"/", writer)?;
@@ -69,17 +69,17 @@ fn put_rest<W: Sink>(
     writer: &mut W,
 ) -> Result<(), DeviceFault>
     ensures bytes { Puts (W.written writer.old) (W.written writer.new) pending.old pending.new
-        result (flat_map slashed path.entry) }
+        result (flat_map after_slash path.entry) }
     ensures failures { W.failures writer.new ≡ failures_after (W.failures writer.old) result }
 {
     for part in path {
-        put_slashed(part, pending, writer)?;
+        put_after_slash(part, pending, writer)?;
     }
     Ok(())
 }
 
 /// Appends the rest of a path whose first part is empty, or `??` if there is no rest.
-fn put_behind_nothing<W: Sink>(
+fn put_after_empty_part<W: Sink>(
     mut path: Path<'_>,
     pending: &mut Pending,
     writer: &mut W,
@@ -92,7 +92,7 @@ fn put_behind_nothing<W: Sink>(
     let Some(part) = path.next() else {
         return pending.put(b"??", writer);
     };
-    put_slashed(part, pending, writer)?;
+    put_after_slash(part, pending, writer)?;
     put_rest(path, pending, writer)
 }
 
@@ -111,7 +111,7 @@ pub fn put_path<W: Sink>(
         return pending.put(b"??", writer);
     };
     if part.is_empty() {
-        return put_behind_nothing(path, pending, writer);
+        return put_after_empty_part(path, pending, writer);
     }
     pending.put_printable(part, writer)?;
     put_rest(path, pending, writer)

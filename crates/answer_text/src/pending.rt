@@ -6,7 +6,7 @@ ghost use Rattle.std.specs.List.{list_all};
 ghost use Rattle.io_streams.specs.Streams.{Writes, failures_after};
 ghost use Rattle.answer_text.specs.Pending.{Puts};
 ghost use Rattle.answer_text.specs.Printable.{is_control, printable, known_text};
-ghost use Rattle.answer_text.specs.Private.Paths.{text_told};
+ghost use Rattle.answer_text.specs.Private.Paths.{borrowed_text};
 
 use arrayvec::ArrayVec;
 use io_streams::{DeviceFault, Sink};
@@ -158,7 +158,7 @@ impl Pending {
         writer: &mut W,
     ) -> Result<(), DeviceFault>
         ensures bytes { Puts (W.written writer.old) (W.written writer.new) self.old self.new result
-            (known_text (text_told text.entry)) }
+            (known_text (borrowed_text text.entry)) }
         ensures failures { W.failures writer.new ≡ failures_after (W.failures writer.old) result }
     {
         let Some(text) = text else {

@@ -25,15 +25,15 @@ unfolding our_app
 our_app_is = refl
 
 -- parsing with a command gives the result of any equal description
-pub parsed_as : (a b : App) (words : List (List ℕ)) (r : Result ArgMatches Error) → a ≡ b
+pub parse_of_equal : (a b : App) (words : List (List ℕ)) (r : Result ArgMatches Error) → a ≡ b
     → is_simple b ≡ true → is_simple_and_free b ≡ true
     → IfOk r (HasMatchesOf a words) → (is_simple_and_free a ≡ true → FailsBy (fault_of a words) r)
     → MatchResult r (λ m. (fault_of b words ≡ []) × (rows_of (found_of m) ≡ matches_of b words))
     (HasKind (fault_of b words))
-parsed_as a b words (Ok m) same simple free gives fails = record {
+parse_of_equal a b words (Ok m) same simple free gives fails = record {
   0 = sym (ap (λ (x : App). fault_of x words) same) ∙ fails (ap is_simple_and_free same ∙ free);
   1 = (gives (ap is_simple same ∙ simple)).0 ∙ ap (λ (x : App). matches_of x words) same;
 }
-parsed_as a b words (Err e) same simple free gives fails =
+parse_of_equal a b words (Err e) same simple free gives fails =
     subst (λ (x : App). HasKind (fault_of x words) e) same
     (fails (ap is_simple_and_free same ∙ free))

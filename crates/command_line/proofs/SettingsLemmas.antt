@@ -6,8 +6,8 @@ use Rattle.clap.specs.Simple.{matches_of}
 use Rattle.command_line.specs.CommandLine.{our_app}
 use Rattle.command_line.specs.Settings.{words_of, numbers_of}
 use Rattle.command_line.specs.Settings.{settings_of, settings_with}
-use Rattle.command_line.specs.Refusals.{IsTaken, IsRefused}
-use Rattle.command_line.specs.Private.Parsing.{IsBadWord, TellsOf, texts_of}
+use Rattle.command_line.specs.Refusals.{IsAccepted, IsRefused}
+use Rattle.command_line.specs.Private.Parsing.{IsBadWord, IsFaultOf, texts_of}
 use Rattle.std.specs.Prelude.{option_map, map, []}
 use Rattle.std.specs.Option.{option_map_or}
 use Rattle.std.specs.Borrow.{Bor}
@@ -26,20 +26,20 @@ module _ (words : List (List ℕ)) (rows : List Row) (are : rows ≡ matches_of 
 
 -- an address is invalid
 pub word_refused : (words : List (List ℕ)) (rows : List Row) (outcome : Result (List ℕ) (List ℕ))
-    (fault : CliFault) → IsBadWord outcome fault → IsTaken words
+    (fault : CliFault) → IsBadWord outcome fault → IsAccepted words
     → settings_of (matches_of our_app words) ≡ settings_with rows outcome → IsRefused words fault
-word_refused words rows outcome (Usage e) bad taken is = absurd bad
-word_refused words rows outcome (Address w) bad taken is =
-    record { 0 = taken; 1 = is ∙ ap (settings_with rows) bad }
-word_refused words rows outcome Memory bad taken is = tt
+word_refused words rows outcome (Usage e) bad accepted is = absurd bad
+word_refused words rows outcome (Address w) bad accepted is =
+    record { 0 = accepted; 1 = is ∙ ap (settings_with rows) bad }
+word_refused words rows outcome Memory bad accepted is = tt
 
 -- the parser refuses the arguments
 pub parser_refused : (words : List (List ℕ)) (error : Error) (fault : CliFault)
-    → HasKind (fault_of our_app words) error → TellsOf error fault → IsRefused words fault
-parser_refused words error (Usage same) (inl memory) told = absurd (told.1 (memory))
-parser_refused words error (Usage same) (inr kind) told = rw (told.0) kind
-parser_refused words error (Address w) kinds told = absurd told
-parser_refused words error Memory kinds told = tt
+    → HasKind (fault_of our_app words) error → IsFaultOf error fault → IsRefused words fault
+parser_refused words error (Usage same) (inl memory) is = absurd (is.1 (memory))
+parser_refused words error (Usage same) (inr kind) is = rw (is.0) kind
+parser_refused words error (Address w) kinds is = absurd is
+parser_refused words error Memory kinds is = tt
 
 -- the strings of optional references are the strings of the rows
 pub texts_are : (words : Option (Bor (List (Bor (List ℕ))))) (o : Option (List (List ℕ)))

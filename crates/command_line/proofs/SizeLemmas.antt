@@ -13,6 +13,7 @@ size_read E None size none read = absurd (some_is_not_none size (none refl))
 size_read E (Some t) size none read = λ numeral below. (read t refl).1
 
 pub size_not_read : (E : Type 0) (o : Option (List ℕ))
-    → ((t : List ℕ) → o ≡ Some t → (e : E) × ParsesUnsigned {E = E} 32 10 t (Err e)) → IsCacheSize o 1024
+    → ((t : List ℕ) → o ≡ Some t → (e : E) × ParsesUnsigned {E = E} 32 10 t (Err e))
+    → IsCacheSize o 1024
 size_not_read E None read = refl
 size_not_read E (Some t) read = λ numeral below. absurd ((read t refl).1 (numeral, below))

@@ -62,8 +62,8 @@ unfoldable pub settings_of : List Row → Result Settings (List ℕ)
 settings_of rows = settings_with rows (numbers_of (words_of rows))
 
 -- the settings that options describe
-abbrev pub told : Options → Settings
-told o = record {
+abbrev pub settings_in : Options → Settings
+settings_in o = record {
   addresses = o.addresses;
   functions = o.functions;
   inlines = o.inlines;

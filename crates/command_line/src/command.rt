@@ -8,7 +8,7 @@ ghost use Rattle.clap.specs.Kinds.{HasKind};
 ghost use Rattle.clap.specs.Faults.{fault_of};
 ghost use Rattle.command_line.specs.CommandLine.{flag_rule, exe_rule, cache_rule, linkage_rule};
 ghost use Rattle.command_line.specs.CommandLine.{words_rule, all_rules, our_app};
-ghost use Rattle.command_line.specs.Refusals.{IsTaken};
+ghost use Rattle.command_line.specs.Refusals.{IsAccepted};
 
 use crate::help::{ABOUT, COMMANDS};
 use clap::{Arg, ArgAction, ArgMatches, Command, Error};
@@ -103,7 +103,7 @@ fn command<'a>(alloc: Global) -> Result<Command<'a>, AllocError>
 /// Parses the arguments of a command line.
 pub fn parse<'a>(alloc: Global, words: &'a [String]) -> Result<ArgMatches<'a>, Error>
     ensures { MatchResult result
-        (λ m. IsTaken (map string_bytes words.entry.now)
+        (λ m. IsAccepted (map string_bytes words.entry.now)
         × (rows_of (found_of m) ≡ matches_of our_app (map string_bytes words.entry.now)))
         (HasKind (fault_of our_app (map string_bytes words.entry.now))) }
 {

@@ -1,7 +1,7 @@
 //! The reasons for refusing the arguments of a command line.
 
 ghost use Rattle.std.specs.Prelude.{◌≡◌};
-ghost use Rattle.command_line.specs.Private.Parsing.{TellsOf};
+ghost use Rattle.command_line.specs.Private.Parsing.{IsFaultOf};
 ghost use Rattle.command_line.specs.declared.faults.CliFault.TheVariants.{Memory};
 
 use clap::error::ErrorKind;
@@ -23,7 +23,7 @@ pub enum CliFault<'a> {
 }
 
 impl<'a> From<clap::Error> for CliFault<'a> {
-    ghost from_gives = { TellsOf };
+    ghost from_gives = { IsFaultOf };
 
     fn from(error: clap::Error) -> CliFault<'a> {
         if error.kind() == ErrorKind::OutOfMemory {

@@ -4,8 +4,8 @@
 
 mod command;
 mod faults;
-mod given;
 mod help;
+mod matches;
 mod numbers;
 mod settings;
 mod words;

@@ -5,13 +5,13 @@ ghost use Rattle.command_line.specs.Refusals.{AreOptions, IsRefused};
 
 use crate::command::parse;
 use crate::faults::CliFault;
-use crate::given::{cache_size, is_set, text, words};
+use crate::matches::{cache_size, is_set, text, words};
 use crate::words::addresses;
 use io_streams::Options;
 use std::alloc::{AllocError, Global};
 
 /// Copies an optional string.
-fn owned(alloc: Global, text: Option<&str>) -> Result<Option<String>, AllocError>
+fn copy_string(alloc: Global, text: Option<&str>) -> Result<Option<String>, AllocError>
     ensures { IfOk result (λ copy.
         option_map string_bytes copy ≡ option_map (λ t. t.now) text.entry) }
 {
@@ -29,7 +29,7 @@ pub fn options<'a>(alloc: Global, arguments: &'a [String]) -> Result<Options, Cl
 {
     let matches = parse(alloc, arguments)?;
     let addresses = addresses(alloc, words(&matches))?;
-    let exe = owned(alloc, text(&matches, "exe"))?;
+    let exe = copy_string(alloc, text(&matches, "exe"))?;
     Ok(Options {
         addresses: is_set(&matches, "addresses"),
         functions: is_set(&matches, "functions"),

@@ -65,9 +65,9 @@ no_nul_at false never = refl
 nul_at : (v : Bool) → v ≡ true → not v ≡ false
 nul_at v e = rw e refl
 
-pub negated : (a b : Bool) → a ≡ not b → b ≡ not a
-negated a true h = rw h refl
-negated a false h = rw h refl
+pub negate : (a b : Bool) → a ≡ not b → b ≡ not a
+negate a true h = rw h refl
+negate a false h = rw h refl
 
 pub finds_no_nul : (text : List ℕ) (found : Option ℕ) → IsFirstByte (is_byte 0) text found
     → not (is_some found) ≡ list_all is_no_nul text

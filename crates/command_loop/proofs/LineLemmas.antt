@@ -51,28 +51,28 @@ split_closes p (x ∷ xs) b yes_cut =
     ∙ close_step (p x) x (slice_split p xs) (has_first p xs)
 
 -- the last part with one more byte
-abbrev pub grown : List (List ℕ) → ℕ → List (List ℕ)
-grown parts b = all_but_last parts ++ (the_last parts ++ b ∷ []) ∷ []
+abbrev pub with_byte : List (List ℕ) → ℕ → List (List ℕ)
+with_byte parts b = all_but_last parts ++ (the_last parts ++ b ∷ []) ∷ []
 
 grow_at : (v : Bool) (x : ℕ) (part : List ℕ) (parts : List (List ℕ)) (b : ℕ)
-    → cond v ([] ∷ grown (part ∷ parts) b) (onto_first x (grown (part ∷ parts) b))
-    ≡ grown (cond v ([] ∷ part ∷ parts) (onto_first x (part ∷ parts))) b
+    → cond v ([] ∷ with_byte (part ∷ parts) b) (onto_first x (with_byte (part ∷ parts) b))
+    ≡ with_byte (cond v ([] ∷ part ∷ parts) (onto_first x (part ∷ parts))) b
 grow_at true x part parts b = refl
 grow_at false x part [] b = refl
 grow_at false x part (next ∷ parts) b = refl
 
 grow_step : (v : Bool) (x : ℕ) (parts : List (List ℕ)) (b : ℕ) → HasFirst parts
-    → cond v ([] ∷ grown parts b) (onto_first x (grown parts b))
-    ≡ grown (cond v ([] ∷ parts) (onto_first x parts)) b
+    → cond v ([] ∷ with_byte parts b) (onto_first x (with_byte parts b))
+    ≡ with_byte (cond v ([] ∷ parts) (onto_first x parts)) b
 grow_step v x parts b h =
     let P : List (List ℕ) → Type 0 =
-    λ z. cond v ([] ∷ grown z b) (onto_first x (grown z b))
-    ≡ grown (cond v ([] ∷ z) (onto_first x z)) b in
+    λ z. cond v ([] ∷ with_byte z b) (onto_first x (with_byte z b))
+    ≡ with_byte (cond v ([] ∷ z) (onto_first x z)) b in
     subst P (sym h.is) (grow_at v x h.first h.others b)
 
 -- any other byte is appended to the last part
 pub split_grows : (p : ℕ → Bool) (xs : List ℕ) (b : ℕ) → p b ≡ false → slice_split p (xs ++ b ∷ [])
-    ≡ grown (slice_split p xs) b
+    ≡ with_byte (slice_split p xs) b
 split_grows p [] b no_cut = rw no_cut refl
 split_grows p (x ∷ xs) b no_cut =
     ap (λ (z : List (List ℕ)). cond (p x) ([] ∷ z) (onto_first x z)) (split_grows p xs b no_cut)

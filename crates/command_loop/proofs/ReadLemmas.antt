@@ -14,17 +14,18 @@ use Rattle.command_loop.specs.Output.{Exchanges}
 use Rattle.command_loop.specs.Private.Progress.{RunState, ServesRequest, FailsToReply}
 use Rattle.command_loop.specs.Private.Progress.{ServedInOrder, ReadSoFar, StopsAtLine, ReadsOn}
 use Rattle.command_loop.specs.Private.Progress.{StopsWithin}
-use Rattle.command_loop.proofs.ServedLemmas.{map_append, handled_none, handled_one, handled_then}
-use Rattle.command_loop.proofs.ServedLemmas.{handled_as, halts}
+use Rattle.command_loop.proofs.RequestLemmas.{map_append, handled_none, handled_one, handled_then}
+use Rattle.command_loop.proofs.RequestLemmas.{handled_as, halts}
 
 -- more lines were served
-pub further : (options : Options) (start now new : RunState) (read more : List ℕ)
-    (held held' : Option (List ℕ)) (extra : List (List ℕ))
-    → ReadSoFar options start read now held → ended_lines (read ++ more) ≡ ended_lines read ++ extra
-    → held' ≡ within_limit (open_line (read ++ more))
+pub read_more : (options : Options) (start now new : RunState) (read more : List ℕ)
+    (buffer buffer' : Option (List ℕ)) (extra : List (List ℕ))
+    → ReadSoFar options start read now buffer
+    → ended_lines (read ++ more) ≡ ended_lines read ++ extra
+    → buffer' ≡ within_limit (open_line (read ++ more))
     → ServedInOrder options now (requests extra) new
-    → ReadSoFar options start (read ++ more) new held'
-further options start now new read more held held' extra r ends holds k =
+    → ReadSoFar options start (read ++ more) new buffer'
+read_more options start now new read more buffer buffer' extra r ends holds k =
     let all : requests (ended_lines read) ++ requests extra
     ≡ requests (ended_lines (read ++ more)) =
     sym (ap requests ends ∙ map_append parse (ended_lines read) extra) in
@@ -68,23 +69,25 @@ longer_within_limit line bytes = at (nat_lt 4096 (length line)) line bytes refl
     at false line bytes h = refl
 
 -- bytes without a line feed
-pub continues_bytes : (options : Options) (now : RunState) (held : Option (List ℕ)) (bytes : List ℕ)
+pub continues_bytes : (options : Options) (now : RunState) (buffer : Option (List ℕ))
+    (bytes : List ℕ)
     → HasNoFeed bytes
-    → ReadsOn options bytes now held now (longer held bytes)
-continues_bytes options now held bytes none start read r =
-    further options start now now read bytes held (longer held bytes) [] r
+    → ReadsOn options bytes now buffer now (longer buffer bytes)
+continues_bytes options now buffer bytes none start read r =
+    read_more options start now now read bytes buffer (longer buffer bytes) [] r
     (ended_at_bytes read bytes none ∙ sym (append-nil (ended_lines read)))
-    (ap (λ (z : Option (List ℕ)). longer z bytes) r.holds ∙ longer_within_limit (open_line read) bytes
-    ∙ ap within_limit
-    (sym (open_at_bytes read bytes none)))
+    (ap (λ (z : Option (List ℕ)). longer z bytes) r.holds
+    ∙ longer_within_limit (open_line read) bytes
+    ∙ ap within_limit (sym (open_at_bytes read bytes none)))
     (handled_none options now now refl refl refl)
 
 -- the end of an empty line
-pub continues_empty : (options : Options) (now : RunState) (held : Option (List ℕ)) → held ≡ Some []
-    → ReadsOn options (10 ∷ []) now held now held
-continues_empty options now held is_empty start read r =
+pub continues_empty : (options : Options) (now : RunState) (buffer : Option (List ℕ))
+    → buffer ≡ Some []
+    → ReadsOn options (10 ∷ []) now buffer now buffer
+continues_empty options now buffer is_empty start read r =
     let none_open : open_line read ≡ [] = empty_open (open_line read) (sym is_empty ∙ r.holds) in
-    further options start now now read (10 ∷ []) held held [] r
+    read_more options start now now read (10 ∷ []) buffer buffer [] r
     (ended_at_feed read ∙ ap (λ (z : List ℕ). ended_lines read ++ filter has_bytes (z ∷ []))
     none_open)
     (is_empty ∙ ap within_limit (sym (open_at_feed read)))
@@ -94,32 +97,33 @@ has_some : (line : List ℕ) → line ≢ [] → filter has_bytes (line ∷ []) 
 has_some [] ne = absurd (ne refl)
 has_some (byte ∷ line) ne = refl
 
-not_empty : (held : Option (List ℕ)) (line : List ℕ) → (held ≡ Some [] → ⊥)
-    → held ≡ within_limit line → line ≢ []
-not_empty held [] ne is e = ne is
-not_empty held (byte ∷ line) ne is e = cc
+not_empty : (buffer : Option (List ℕ)) (line : List ℕ) → (buffer ≡ Some [] → ⊥)
+    → buffer ≡ within_limit line → line ≢ []
+not_empty buffer [] ne is e = ne is
+not_empty buffer (byte ∷ line) ne is e = cc
 
 -- the end of a line that was served
-pub continues_line : (options : Options) (now new : RunState) (held : Option (List ℕ))
-    → (held ≡ Some [] → ⊥)
-    → ServesRequest options (parse_buffered held) now new
-    → ReadsOn options (10 ∷ []) now held new (Some [])
-continues_line options now new held ne s start read r =
+pub continues_line : (options : Options) (now new : RunState) (buffer : Option (List ℕ))
+    → (buffer ≡ Some [] → ⊥)
+    → ServesRequest options (parse_buffered buffer) now new
+    → ReadsOn options (10 ∷ []) now buffer new (Some [])
+continues_line options now new buffer ne s start read r =
     let line : List ℕ = open_line read in
-    let request : parse_buffered held ≡ parse line = ap parse_buffered r.holds ∙ parse_buffered_is line in
+    let request : parse_buffered buffer ≡ parse line =
+    ap parse_buffered r.holds ∙ parse_buffered_is line in
     let P : Result Request BadLine → Type 0 = λ z. ServesRequest options z now new in
-    further options start now new read (10 ∷ []) held (Some []) (line ∷ []) r
+    read_more options start now new read (10 ∷ []) buffer (Some []) (line ∷ []) r
     (ended_at_feed read ∙ ap (λ (z : List (List ℕ)). ended_lines read ++ z)
-    (has_some line (not_empty held line ne r.holds)))
+    (has_some line (not_empty buffer line ne r.holds)))
     (ap within_limit (sym (open_at_feed read)))
     (handled_one options (parse line) now new (subst P request s))
 
 -- a line that ended, whose reply was not completely written
-pub breaks_line : (options : Options) (now new : RunState) (held : Option (List ℕ))
-    → (held ≡ Some [] → ⊥)
-    → FailsToReply options (parse_buffered held) now new
-    → StopsWithin options (10 ∷ []) now held new.asked new.written
-breaks_line options now new held ne f start read r =
+pub breaks_line : (options : Options) (now new : RunState) (buffer : Option (List ℕ))
+    → (buffer ≡ Some [] → ⊥)
+    → FailsToReply options (parse_buffered buffer) now new
+    → StopsWithin options (10 ∷ []) now buffer new.asked new.written
+breaks_line options now new buffer ne f start read r =
     let line : List ℕ = open_line read in
     let P : Result Request BadLine → Type 0 = λ z. FailsToReply options z now new in
     let Q : List ℕ → Type 0 = λ z. StopsAtLine options start z new.asked new.written in
@@ -127,7 +131,7 @@ breaks_line options now new held ne f start read r =
     subst P (ap parse_buffered r.holds ∙ parse_buffered_is line) f in
     let all : lines read ≡ ended_lines read ++ line ∷ [] =
     lines_are read ∙ ap (λ (z : List (List ℕ)). ended_lines read ++ z)
-    (has_some line (not_empty held line ne r.holds)) in
+    (has_some line (not_empty buffer line ne r.holds)) in
     let open_end = ends_open read in
     let stopped : StopsAtLine options start read new.asked new.written = record {
       before = ended_lines read;

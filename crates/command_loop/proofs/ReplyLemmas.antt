@@ -43,11 +43,11 @@ list_writes {E} a b c d h h' h'' items all r e f p q w =
 -- ---- one module of the list
 
 -- the item at an index of the list has the name of the module there
-pub listed_name : (item : Option (Bor (List ℕ) × Extent × ℕ)) (modules : List Loaded) (place : ℕ)
-    → option_map item_listed item ≡ slice_get (map listed modules) place
-    → option_map_or (λ i. i.0.now) item [] ≡ name_at modules place
-listed_name item modules place e = at item (slice_get modules place)
-    (e ∙ slice_get-map listed modules place)
+pub listed_name : (item : Option (Bor (List ℕ) × Extent × ℕ)) (modules : List Loaded) (index : ℕ)
+    → option_map item_listed item ≡ slice_get (map listed modules) index
+    → option_map_or (λ i. i.0.now) item [] ≡ name_at modules index
+listed_name item modules index e = at item (slice_get modules index)
+    (e ∙ slice_get-map listed modules index)
   where
     at : (item : Option (Bor (List ℕ) × Extent × ℕ)) (m : Option Loaded)
         → option_map item_listed item ≡ option_map listed m

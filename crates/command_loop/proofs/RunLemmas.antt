@@ -1,140 +1,191 @@
--- A run from its first read to its end.
-use Rattle.std.proofs.Common.{◌≡◌, ℕ, ◌≤◌, true, false, List, [], ◌∷◌, ◌++◌, length, take, refl}
-use Rattle.std.proofs.Common.{sym, ◌∙◌, ap, subst, append_assoc, append-nil, length-append, arith}
-use Rattle.std.specs.Prelude.{Option, None, Some, Result, Ok, Err, OnOk, OnErr, is_err, filter}
-use Rattle.std.specs.Io.KnownBytes.{Consumes, IsAtEnd}
-use Rattle.std.proofs.lemmas.Bool.{false≢true, true≢false}
-use Rattle.module_map.specs.World.{World}
-use Rattle.io_streams.specs.Streams.{failures_after}
+-- A run from its start: the object of the command line, and then addresses or lines.
+use Rattle.std.proofs.Common.{◌≡◌, ℕ, Bool, true, false, List, [], ◌∷◌, ◌++◌, length, map, sym, ◌∙◌}
+use Rattle.std.proofs.Common.{ap, subst, refl, arith}
+use Rattle.std.proofs.lemmas.Bool.{true≢false, ne_eqb}
+use Rattle.std.specs.Prelude.{◌==◌, Option, Result, Ok, Err, OnOk}
+use Rattle.std.specs.Option.{option_to_list}
+use Rattle.std.specs.Io.KnownBytes.{Consumes}
 use Rattle.io_streams.specs.declared.options.Options.{Options}
-use Rattle.command_loop.proofs.LineLemmas.{lines_are, ended_at_feed, open_at_feed}
-use Rattle.command_loop.proofs.ServedLemmas.{handled_none, handled_as}
-use Rattle.command_loop.specs.Lines.{has_bytes, lines, ended_lines, open_line}
-use Rattle.command_loop.specs.Requests.{requests}
-use Rattle.command_loop.specs.Output.{Exchanges, EndsLine}
-use Rattle.command_loop.specs.Private.Progress.{RunState, state_of, ServedInOrder, ReadSoFar}
-use Rattle.command_loop.specs.Private.Progress.{StopsAtLine, ReadsOn, StopsWithin}
+use Rattle.command_loop.proofs.RequestLemmas.{asked_then}
+use Rattle.command_loop.specs.declared.commands.BadLine.{BadLine}
+use Rattle.io_streams.specs.declared.faults.RunFault.{RunFault}
+use Rattle.io_streams.specs.declared.faults.RunFault.TheVariants.{Reading, Writing}
+use Rattle.command_loop.specs.Lines.{lines, ended_lines}
+use Rattle.command_loop.specs.Requests.{Request, requests}
+use Rattle.command_loop.specs.Output.{Requests, Exchanges, ask_of, Answers, StoppedAt, ServedBy}
+use Rattle.command_loop.specs.Output.{StoppedBy, questions}
+use Rattle.command_loop.specs.Private.Progress.{RunState, state_of, ServedInOrder}
+use Rattle.command_loop.specs.Private.Progress.{StopsAtRequest, StopsAmong, ReadsLines}
+use Rattle.command_loop.specs.Private.Progress.{HasStarted}
 
-pub on_err_at : {T E P : Type 0} (r : Result T E) → is_err r ≡ true → OnErr r P → P
-on_err_at (Ok x) e h = absurd (false≢true e)
-on_err_at (Err x) e h = h
+pub answers_of : (options : Options) (exe : Option (List ℕ)) (asked : Exchanges)
+    (start now : RunState) (rs : Requests)
+    → HasStarted exe asked start.asked start.world → ServedInOrder options start rs now
+    → Answers options exe rs asked now.asked start.written now.written
+answers_of options exe asked start now rs b h = record {
+  first = b.first;
+  others = h.outcomes;
+  world = start.world;
+  starts = b.starts;
+  one = b.one;
+  answered = asked_then asked start.asked now.asked (option_to_list exe) (questions rs) b.first
+      h.outcomes b.answered h.answered;
+  replied = h.replied;
+}
 
-pub on_ok_at : {T E P : Type 0} (r : Result T E) → is_err r ≡ false → OnOk r P → P
-on_ok_at (Ok x) e h = h
-on_ok_at (Err x) e h = absurd (true≢false e)
+pub stop_of : (options : Options) (exe : Option (List ℕ)) (asked asked' : Exchanges)
+    (written : Option (List ℕ)) (start : RunState)
+    (before : Requests) (request : Result Request BadLine)
+    → HasStarted exe asked start.asked start.world
+    → StopsAtRequest options start before request asked' written
+    → StoppedAt options exe before request asked asked' start.written written
+stop_of options exe asked asked' written start before request b h = record {
+  first = b.first;
+  others = h.outcomes;
+  world = start.world;
+  starts = b.starts;
+  one = b.one;
+  answered =
+      asked_then asked start.asked asked' (option_to_list exe)
+      (questions (before ++ request ∷ [])) b.first h.outcomes b.answered h.answered;
+  part = h.part;
+  begins = h.begins;
+  replied = h.replied;
+}
 
-pub consumes_then : (a b c : Option (List ℕ)) (xs ys : List ℕ) → Consumes a b xs → Consumes b c ys
-    → Consumes a c (xs ++ ys)
-consumes_then None b c xs ys h k = tt
-consumes_then (Some a) None c xs ys h k = absurd h
-consumes_then (Some a) (Some b) None xs ys h k = absurd k
-consumes_then (Some a) (Some b) (Some c) xs ys h k = h ∙ ap (λ (z : List ℕ). xs ++ z) k
-    ∙ sym (append_assoc xs ys c)
+-- ---- lines
 
-pub consumes_nothing : (a : Option (List ℕ)) → Consumes a a []
-consumes_nothing None = tt
-consumes_nothing (Some a) = refl
-
--- the input so far, and the state after it
-abbrev pub HasRead : Options → RunState → Option (List ℕ) → Option (List ℕ) → RunState
-    → Option (List ℕ) → Type 0
-HasRead options start a b now held = (read : List ℕ) × Consumes a b read
-    × ReadSoFar options start read now held
-
-pub reads_nothing : (options : Options) (start now : RunState) (a : Option (List ℕ))
-    (held : Option (List ℕ)) → now.world ≡ start.world
-    → now.asked ≡ start.asked → now.written ≡ start.written
-    → held ≡ Some [] → HasRead options start a a now held
-unfolding ended_lines open_line
-reads_nothing options start now a held w q t h =
-    ([], consumes_nothing a, record { handled = handled_none options start now w q t; holds = h })
-
-pub reads_on : (options : Options) (start now new : RunState) (a b c held held' : Option (List ℕ))
-    (more : List ℕ)
-    → HasRead options start a b now held → Consumes b c more
-    → ReadsOn options more now held new held' → HasRead options start a c new held'
-reads_on options start now new a b c held held' more h k on =
-    (h.0 ++ more, consumes_then a b c h.0 more h.1 k, on start h.0 h.2)
-
--- the last read returns no bytes
-pub reads_no_more : (options : Options) (start now : RunState) (a b c held : Option (List ℕ))
-    (piece : List ℕ) (n : ℕ) → n ≡ 0
-    → HasRead options start a b now held → Consumes b c (take n piece)
-    → HasRead options start a c now held
-reads_no_more options start now a b c held piece n none h k =
-    let P : List ℕ → Type 0 = λ z. Consumes b c z in
-    let Q : List ℕ → Type 0 = λ z. Consumes a c z in (
+pub lines_served : (options : Options) (exe : Option (List ℕ)) (asked asked' : Exchanges)
+    (written left left' : Option (List ℕ))
+    (start : RunState) (words : Requests) (r : Result (Unit {0}) RunFault) → words ≡ []
+    → HasStarted exe asked start.asked start.world
+    → ReadsLines options start left left' asked' written r
+    → OnOk r (ServedBy words left left' (λ rs. Answers options exe rs asked asked' start.written
+    written))
+lines_served options exe asked asked' written left left' start words (Err why) e b h = tt
+lines_served options exe asked asked' written left left' start words (Ok done) e b h =
+    let P : Requests → Type 0 = λ z. ServedBy z left left'
+    (λ rs. Answers options exe rs asked asked' start.written written) in
+    subst P (sym e) (
       h.0,
-      subst Q (append-nil h.0) (consumes_then a b c h.0 [] h.1
-          (subst P (ap (λ (z : ℕ). take z piece) none) k)),
+      h.1,
       h.2,
+      answers_of options exe asked start
+          (state_of h.3.0 asked' written)
+          (requests (lines h.0)) b h.3.1,
     )
 
--- a stop within a piece
-pub reads_and_breaks : (options : Options) (start now : RunState) (asked : Exchanges)
-    (written : Option (List ℕ))
-    (a b c held : Option (List ℕ)) (piece : List ℕ) → HasRead options start a b now held
-    → Consumes b c piece
-    → length piece ≤ 4096 → StopsWithin options piece now held asked written
-    → (read past : List ℕ) × Consumes a c (read ++ past) × (length past ≤ 4096) × EndsLine past c
-    × StopsAtLine options start read asked written
-reads_and_breaks options start now asked written a b c held piece h k fits on =
-    let w = on start h.0 h.2 in
-    let P : List ℕ → Type 0 = λ z. Consumes a c z in (
-      h.0 ++ w.0,
-      w.1,
-      subst P (ap (λ (z : List ℕ). h.0 ++ z) w.2 ∙ sym (append_assoc h.0 w.0 w.1))
-          (consumes_then a b c h.0 piece h.1 k),
-      omega (arith, ap length w.2, length-append w.0 w.1),
-      (let E : List ℕ → Type 0 = λ z. EndsLine z c in subst E (sym w.3.1) refl),
-      w.4,
+pub lines_reading : (options : Options) (exe : Option (List ℕ)) (asked asked' : Exchanges)
+    (written left left' : Option (List ℕ))
+    (start : RunState) (words : Requests) (r : Result (Unit {0}) RunFault) → words ≡ []
+    → HasStarted exe asked start.asked start.world
+    → ReadsLines options start left left' asked' written r → r ≡ Err Reading
+    → (words ≡ []) × ((read : List ℕ) × Consumes left left' read
+    × Answers options exe (requests (ended_lines read)) asked asked' start.written written)
+lines_reading options exe asked asked' written left left' start words r e b h is =
+    let P : Result (Unit {0}) RunFault → Type 0 =
+    λ z. ReadsLines options start left left' asked' written z in
+    let k = subst P is h in (
+      e,
+      (
+        k.0,
+        k.1,
+        answers_of options exe asked start
+            (state_of k.2.0 asked' written)
+            (requests (ended_lines k.0)) b k.2.1,
+      ),
     )
 
--- a line feed at the end of input adds no line
-feed_at_end : (read : List ℕ) → lines (read ++ 10 ∷ []) ≡ lines read
-feed_at_end read =
-    lines_are (read ++ 10 ∷ []) ∙ ap (λ (z : List ℕ). ended_lines (read ++ 10 ∷ [])
-    ++ filter has_bytes (z ∷ [])) (open_at_feed read)
-    ∙ append-nil (ended_lines (read ++ 10 ∷ [])) ∙ ended_at_feed read ∙ sym (lines_are read)
-
-pub ends_well : (options : Options) (start now new : RunState) (a b held held' : Option (List ℕ))
-    → HasRead options start a b now held
-    → IsAtEnd b
-    → ReadsOn options (10 ∷ []) now held new held' → (input : List ℕ) × Consumes a b input
-    × IsAtEnd b
-    × ((world : World) × ServedInOrder options start (requests (lines input))
-    (state_of world new.asked new.written))
-ends_well options start now new a b held held' h end on =
-    let r = on start h.0 h.2 in
-    let same : ended_lines (h.0 ++ 10 ∷ []) ≡ lines h.0 = ended_at_feed h.0 ∙ sym (lines_are h.0) in
-    (h.0, h.1, end, (new.world, handled_as options start new _ _ (ap requests same) r.handled))
-
-nil_of_length : (xs : List ℕ) → length xs ≡ 0 → xs ≡ []
-nil_of_length [] e = refl
-nil_of_length (x ∷ xs) e = absurd (omega (arith, e))
-
--- a stop at the end of input
-pub ends_badly : (options : Options) (start now : RunState) (asked : Exchanges)
-    (written : Option (List ℕ)) (a b held : Option (List ℕ))
-    → HasRead options start a b now held → IsAtEnd b
-    → StopsWithin options (10 ∷ []) now held asked written
-    → (read past : List ℕ) × Consumes a b (read ++ past) × (length past ≤ 4096) × EndsLine past b
-    × StopsAtLine options start read asked written
-ends_badly options start now asked written a b held h end on =
-    let w = on start h.0 h.2 in
-    let none_more : w.0 ≡ [] = nil_of_length w.0
-    (omega (arith, ap length w.2, length-append w.0 w.1, ap length w.3.1)) in
-    let P : List ℕ → Type 0 = λ z. Consumes a b z in
-    let Q : List ℕ → Type 0 = λ z. StopsAtLine options start z asked written in (
-      h.0,
-      [],
-      subst P (sym (append-nil h.0)) h.1,
-      omega arith,
-      end,
-      subst Q (ap (λ (z : List ℕ). h.0 ++ z) none_more ∙ append-nil h.0) w.4,
+pub lines_writing : (options : Options) (exe : Option (List ℕ)) (asked asked' : Exchanges)
+    (written left left' : Option (List ℕ))
+    (start : RunState) (words : Requests) (r : Result (Unit {0}) RunFault) → words ≡ []
+    → HasStarted exe asked start.asked start.world
+    → ReadsLines options start left left' asked' written r → r ≡ Err Writing
+    → StoppedBy words left left' (λ before request. StoppedAt options exe before request asked
+    asked' start.written written)
+lines_writing options exe asked asked' written left left' start words r e b h is =
+    let P : Result (Unit {0}) RunFault → Type 0 =
+    λ z. ReadsLines options start left left' asked' written z in
+    let Q : Requests → Type 0 =
+    λ z. StoppedBy z left left' (λ before request. StoppedAt options exe before request asked asked'
+    start.written written) in
+    let k = subst P is h in
+    let s = k.5 in
+    subst Q (sym e) (
+      k.0,
+      k.1,
+      s.before,
+      s.line,
+      k.2,
+      k.3,
+      k.4,
+      s.ends,
+      stop_of options exe asked asked' written start
+          (requests s.before) _ b s.halts,
     )
 
-pub failures_at_ok : {T E : Type 0} (n : ℕ) (r : Result T E) → is_err r ≡ false
-    → failures_after n r ≡ n
-failures_at_ok n (Ok x) e = refl
-failures_at_ok n (Err x) e = absurd (true≢false e)
+-- ---- addresses of the command line
+
+no_word : (xs : List ℕ) → (length xs == 0) ≡ true → xs ≡ []
+no_word [] e = refl
+no_word (x ∷ xs) e = absurd (true≢false (sym e
+    ∙ ne_eqb (length (x ∷ xs)) 0 (λ h. omega (arith, h))))
+
+pub no_words : (items xs : List ℕ) (b : Bool) → xs ≡ items → b ≡ (length xs == 0) → b ≡ true
+    → map ask_of items ≡ []
+no_words items xs b same e f = ap (map ask_of) (sym same ∙ no_word xs (sym e ∙ f))
+
+pub some_words : (xs : List ℕ) (b : Bool) → b ≡ (length xs == 0) → b ≡ false → map ask_of xs ≡ []
+    → ⊥
+some_words [] b e f h = true≢false (sym e ∙ f)
+some_words (x ∷ xs) b e f h = cc
+
+pub words_served : (options : Options) (exe : Option (List ℕ)) (asked : Exchanges)
+    (left left' : Option (List ℕ)) (start now : RunState)
+    (words : Requests) → (words ≡ [] → ⊥)
+    → HasStarted exe asked start.asked start.world → ServedInOrder options start words now
+    → left' ≡ left
+    → ServedBy words left left' (λ rs. Answers options exe rs asked now.asked start.written
+    now.written)
+words_served options exe asked left left' start now [] ne b h same = absurd (ne refl)
+words_served options exe asked left left' start now (word ∷ words) ne b h same =
+    (answers_of options exe asked start now (word ∷ words) b h, same)
+
+pub words_stop : (options : Options) (exe : Option (List ℕ)) (asked asked' : Exchanges)
+    (written left left' : Option (List ℕ))
+    (start : RunState) (words : Requests) → (words ≡ [] → ⊥)
+    → HasStarted exe asked start.asked start.world → StopsAmong options start words asked' written
+    → left' ≡ left
+    → StoppedBy words left left' (λ before request. StoppedAt options exe before request asked
+    asked' start.written written)
+words_stop options exe asked asked' written left left' start [] ne b h same = absurd (ne refl)
+words_stop options exe asked asked' written left left' start (word ∷ words) ne b h same =
+    (h.0, h.1, h.2, h.3, stop_of options exe asked asked' written start h.0 h.2 b h.4, same)
+
+pub words_served_at : (options : Options) (exe : Option (List ℕ)) (asked : Exchanges)
+    (left : Option (List ℕ)) (start now : RunState)
+    (items xs : List ℕ) (b : Bool) → xs ≡ items → b ≡ (length xs == 0) → b ≡ false
+    → HasStarted exe asked start.asked start.world → ServedInOrder options start (map ask_of xs) now
+    → ServedBy (map ask_of items) left left
+    (λ rs. Answers options exe rs asked now.asked start.written now.written)
+words_served_at options exe asked left start now items xs b same e f starts h =
+    let P : List ℕ → Type 0 =
+    λ z. ServedBy (map ask_of z) left left
+    (λ rs. Answers options exe rs asked now.asked start.written now.written) in
+    subst P same (words_served options exe asked left left start now (map ask_of xs)
+    (some_words xs b e f) starts h refl)
+
+pub words_stop_at : (options : Options) (exe : Option (List ℕ)) (asked asked' : Exchanges)
+    (written left : Option (List ℕ))
+    (start : RunState) (items xs : List ℕ) (b : Bool) → xs ≡ items → b ≡ (length xs == 0)
+    → b ≡ false
+    → HasStarted exe asked start.asked start.world
+    → StopsAmong options start (map ask_of xs) asked' written
+    → StoppedBy (map ask_of items) left left
+    (λ before request. StoppedAt options exe before request asked asked' start.written written)
+words_stop_at options exe asked asked' written left start items xs b same e f starts h =
+    let P : List ℕ → Type 0 =
+    λ z. StoppedBy (map ask_of z) left left
+    (λ before request. StoppedAt options exe before request asked asked' start.written written) in
+    subst P same (words_stop options exe asked asked' written left left start (map ask_of xs)
+    (some_words xs b e f) starts h refl)

@@ -40,23 +40,23 @@ ask_of address = Ok (Ask address)
 abbrev pub asks : Options → Requests
 asks options = map ask_of options.words.items
 
-abbrev pub placed_exe : Loaded → Option MapFault → Result World ExeFault
-placed_exe m (Some why) = Err (NotLoaded why)
-placed_exe m None = Ok (with_module no_modules m)
+abbrev pub start_world_with : Loaded → Option MapFault → Result World ExeFault
+start_world_with m (Some why) = Err (NotLoaded why)
+start_world_with m None = Ok (with_module no_modules m)
 
 abbrev pub exe_module : List ℕ → Loaded
 exe_module bytes = record { name = codes "exe"; base = 0; bytes = bytes }
 
-abbrev pub fetched_exe : Result (List ℕ) FetchFault → Bool → Result World ExeFault
-fetched_exe (Err why) short = Err (NotFetched why)
-fetched_exe (Ok bytes) short =
-    placed_exe (exe_module bytes) (load_fault no_modules (exe_module bytes) short)
+abbrev pub start_world_of : Result (List ℕ) FetchFault → Bool → Result World ExeFault
+start_world_of (Err why) short = Err (NotFetched why)
+start_world_of (Ok bytes) short =
+    start_world_with (exe_module bytes) (load_fault no_modules (exe_module bytes) short)
 
 -- the world in which a run starts: without modules, or with the module of the first outcome
-abbrev pub started : Option (List ℕ) → List Outcome → Result World ExeFault
-started None outcomes = Ok no_modules
-started (Some path) [] = Ok no_modules
-started (Some path) (outcome ∷ outcomes) = fetched_exe outcome.fetched outcome.short
+abbrev pub start_world : Option (List ℕ) → List Outcome → Result World ExeFault
+start_world None outcomes = Ok no_modules
+start_world (Some path) [] = Ok no_modules
+start_world (Some path) (outcome ∷ outcomes) = start_world_of outcome.fetched outcome.short
 
 -- ---- requests in order
 
@@ -96,7 +96,7 @@ pub record Answers (options : Options) (exe : Option (List ℕ)) (requests : Req
   pub first : List Outcome
   pub others : List Outcome
   pub world : World
-  pub begun : started exe first ≡ Ok world
+  pub starts : start_world exe first ≡ Ok world
   pub one : length first ≡ length (option_to_list exe)
   pub answered : Asked asked asked' (option_to_list exe ++ questions requests) (first ++ others)
   pub replied : Appends written written' (replies options world requests others)
@@ -118,7 +118,7 @@ pub record StoppedAt (options : Options) (exe : Option (List ℕ)) (before : Req
   pub first : List Outcome
   pub others : List Outcome
   pub world : World
-  pub begun : started exe first ≡ Ok world
+  pub starts : start_world exe first ≡ Ok world
   pub one : length first ≡ length (option_to_list exe)
   pub answered : Asked asked asked' (option_to_list exe ++ questions (before ++ request ∷ []))
       (first ++ others)
@@ -143,8 +143,8 @@ pub record EndsWith (read : List ℕ) (before : List (List ℕ)) (line : List �
 -- piece of input
 abbrev pub StoppedBy : Requests → Option (List ℕ) → Option (List ℕ)
     → (Requests → Result Request BadLine → Type 0) → Type 0
-StoppedBy [] left left' P = (read past : List ℕ) × (before : List (List ℕ)) × (line : List ℕ)
-    × Consumes left left' (read ++ past) × (length past ≤ 4096) × EndsLine past left'
+StoppedBy [] left left' P = (read after : List ℕ) × (before : List (List ℕ)) × (line : List ℕ)
+    × Consumes left left' (read ++ after) × (length after ≤ 4096) × EndsLine after left'
     × EndsWith read before line × P (requests before) (parse line)
 StoppedBy (word ∷ words) left left' P = (before after : Requests)
     × (request : Result Request BadLine) × (word ∷ words ≡ before ++ request ∷ after)
@@ -160,7 +160,7 @@ Stopped options left left' asked asked' written written' =
 -- the object of the command line was refused for this reason, and the source was asked only for its
 -- path
 abbrev pub IsRefused : Option (List ℕ) → Exchanges → Exchanges → ExeFault → Type 0
-IsRefused exe asked asked' why = (outcome : Outcome) × (started exe (outcome ∷ []) ≡ Err why)
+IsRefused exe asked asked' why = (outcome : Outcome) × (start_world exe (outcome ∷ []) ≡ Err why)
     × Asked asked asked' (option_to_list exe) (outcome ∷ [])
 
 abbrev pub Refused : Option (List ℕ) → Option (List ℕ) → Option (List ℕ) → Exchanges → Exchanges

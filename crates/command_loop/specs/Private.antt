@@ -1,3 +1,3 @@
 pub mod Commands
 pub mod Progress
-pub mod Serving
+pub mod Outcomes

@@ -17,7 +17,7 @@ use Rattle.io_streams.specs.declared.faults.FetchFault.{FetchFault}
 pub data Reply : Type 0 where
   Unreadable : BadLine → Reply
   NotFetched : FetchFault → Reply
-  Refused : (fault : MapFault) (met : List ℕ) → Reply
+  Refused : (fault : MapFault) (overlap : List ℕ) → Reply
   LoadedAt : (name : List ℕ) (low high : ℕ) → Reply
   Unloaded : (name : List ℕ) → Reply
   MovedTo : (name : List ℕ) (low high : ℕ) → Reply
@@ -29,9 +29,9 @@ abbrev pub answer_at : World → ℕ → answers.Answered
 answer_at world address = record { address = address; frames = frames_at world address }
 
 -- the name of the module that a refused one would overlap
-abbrev pub met_name : World → MapFault → List ℕ
-met_name world (Overlap place) = name_at world.modules place
-met_name world fault = []
+abbrev pub overlap_name : World → MapFault → List ℕ
+overlap_name world (Overlap index) = name_at world.modules index
+overlap_name world fault = []
 
 -- the outcome of a load: the result of the source, and whether memory ran out after it
 pub record Outcome : Type 0 where
@@ -43,11 +43,12 @@ pub record Stepped : Type 0 where
   pub reply : Reply
   pub world : World
 
-abbrev pub refused : World → MapFault → Stepped
-refused world fault = record { reply = Refused fault (met_name world fault); world = world }
+abbrev pub refusal_step : World → MapFault → Stepped
+refusal_step world fault =
+    record { reply = Refused fault (overlap_name world fault); world = world }
 
 abbrev pub load_step : World → Loaded → Option MapFault → Stepped
-load_step world m (Some fault) = refused world fault
+load_step world m (Some fault) = refusal_step world fault
 load_step world m None =
     record { reply = LoadedAt m.name (start_of m) (end_of m); world = with_module world m }
 
@@ -61,11 +62,11 @@ fetched_step world name base (Ok bytes) short =
 abbrev pub unload_step : World → List ℕ → Stepped
 unload_step world name =
     if is_taken name world then record { reply = Unloaded name; world = without_module world name }
-    else refused world NoModule
+    else refusal_step world NoModule
 
 abbrev pub moved_step : World → List ℕ → Option MapFault → Option Loaded → ℕ → Stepped
-moved_step world name (Some fault) m base = refused world fault
-moved_step world name None None base = refused world NoModule
+moved_step world name (Some fault) m base = refusal_step world fault
+moved_step world name None None base = refusal_step world NoModule
 moved_step world name None (Some m) base =
     record {
       reply = MovedTo name (start_of (moved_to base m))
@@ -86,7 +87,7 @@ step world (Ok ListAll) outcomes =
 step world (Ok (Unload name)) outcomes = unload_step world name
 step world (Ok (Move name base)) outcomes =
     move_step world name (find (is_named name) world.modules) base
-step world (Ok (Load name base path)) [] = refused world Memory
+step world (Ok (Load name base path)) [] = refusal_step world Memory
 step world (Ok (Load name base path)) (outcome ∷ outcomes) =
     fetched_step world name base outcome.fetched outcome.short
 

@@ -31,20 +31,20 @@ object_text fault =
 
 -- why the modules are not changed, and the name of the module that one would overlap
 abbrev pub map_words : MapFault → List ℕ → List ℕ
-map_words (modules.Object fault) met = object_text fault
-map_words (modules.Overlap index) met = codes "overlap " ++ met
-map_words fault met = map_word fault
+map_words (modules.Object fault) overlap = object_text fault
+map_words (modules.Overlap index) overlap = codes "overlap " ++ overlap
+map_words fault overlap = map_word fault
 
-abbrev pub refused : List ℕ → List ℕ
-refused words = codes "refused " ++ words ++ 10 ∷ []
+abbrev pub refusal_text : List ℕ → List ℕ
+refusal_text words = codes "refused " ++ words ++ 10 ∷ []
 
 -- where a module was loaded, or moved to
-abbrev pub done_at : List ℕ → List ℕ → ℕ → ℕ → List ℕ
-done_at done name low high =
+abbrev pub extent_text : List ℕ → List ℕ → ℕ → ℕ → List ℕ
+extent_text done name low high =
     done ++ name ++ codes " " ++ address_text low ++ codes "-" ++ address_text high ++ 10 ∷ []
 
-abbrev pub unloaded : List ℕ → List ℕ
-unloaded name = codes "unloaded " ++ name ++ 10 ∷ []
+abbrev pub unload_text : List ℕ → List ℕ
+unload_text name = codes "unloaded " ++ name ++ 10 ∷ []
 
 abbrev pub module_text : Listed → List ℕ
 module_text m =
@@ -56,11 +56,11 @@ list_text modules = flat_map module_text modules ++ codes "end\n"
 
 -- the bytes of a reply; each of its lines ends with a line feed
 unfoldable pub text : Options → Reply → List ℕ
-text options (Unreadable bad) = refused (line_word bad)
-text options (NotFetched fault) = refused (fetch_word fault)
-text options (Refused fault met) = refused (map_words fault met)
-text options (LoadedAt name low high) = done_at (codes "loaded ") name low high
-text options (Unloaded name) = unloaded name
-text options (MovedTo name low high) = done_at (codes "moved ") name low high
+text options (Unreadable bad) = refusal_text (line_word bad)
+text options (NotFetched fault) = refusal_text (fetch_word fault)
+text options (Refused fault overlap) = refusal_text (map_words fault overlap)
+text options (LoadedAt name low high) = extent_text (codes "loaded ") name low high
+text options (Unloaded name) = unload_text name
+text options (MovedTo name low high) = extent_text (codes "moved ") name low high
 text options (AllListed modules) = list_text modules
 text options (Answered answer) = answer_text options answer

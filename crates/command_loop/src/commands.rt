@@ -8,7 +8,7 @@ ghost use Rattle.command_loop.specs.Requests.{parse, is_name, is_path, fields, l
 ghost use Rattle.command_loop.specs.Requests.{move_of, list_of, checked_load, checked_move};
 ghost use Rattle.command_loop.specs.Requests.{request_of_fields, address_of, is_name_byte};
 ghost use Rattle.command_line.specs.Numbers.{number};
-ghost use Rattle.command_loop.specs.Private.Commands.{parsed, cut_parts};
+ghost use Rattle.command_loop.specs.Private.Commands.{parse_result, cut_parts};
 ghost use Rattle.command_loop.specs.Text.{line_word};
 
 use bstr::ByteSlice;
@@ -122,7 +122,7 @@ fn parse_path(text: &[u8]) -> Option<&str>
 
 /// Checks the operands of a load in order: the name, the base, the path.
 fn check_load<'a>(name: &'a [u8], base: &[u8], path: &'a [u8]) -> Result<Command<'a>, BadLine>
-    ensures { parsed result ≡ checked_load name.entry.now (number base.now) path.entry.now }
+    ensures { parse_result result ≡ checked_load name.entry.now (number base.now) path.entry.now }
 {
     let Some(name) = parse_name(name) else {
         return Err(BadLine::Name);
@@ -139,7 +139,7 @@ fn check_load<'a>(name: &'a [u8], base: &[u8], path: &'a [u8]) -> Result<Command
 /// Parses the operands of a load: a name, a base, and a path, which is everything after the third
 /// space.
 fn parse_load<'a>(operands: Option<&'a [u8]>) -> Result<Command<'a>, BadLine>
-    ensures { parsed result ≡ load_of (cut_parts (option_copied operands.entry)) }
+    ensures { parse_result result ≡ load_of (cut_parts (option_copied operands.entry)) }
 {
     let Some(operands) = operands else {
         return Err(BadLine::Fields);
@@ -157,7 +157,7 @@ fn parse_load<'a>(operands: Option<&'a [u8]>) -> Result<Command<'a>, BadLine>
 
 /// Parses the operand of an unload: a name.
 fn parse_unload<'a>(operands: Option<&'a [u8]>) -> Result<Command<'a>, BadLine>
-    ensures { parsed result ≡ unload_of (cut_parts (option_copied operands.entry)) }
+    ensures { parse_result result ≡ unload_of (cut_parts (option_copied operands.entry)) }
 {
     let Some(operands) = operands else {
         return Err(BadLine::Fields);
@@ -174,7 +174,7 @@ fn parse_unload<'a>(operands: Option<&'a [u8]>) -> Result<Command<'a>, BadLine>
 
 /// Checks the operands of a move in order: the name, the base.
 fn check_move<'a>(name: &'a [u8], base: &[u8]) -> Result<Command<'a>, BadLine>
-    ensures { parsed result ≡ checked_move name.entry.now (number base.now) }
+    ensures { parse_result result ≡ checked_move name.entry.now (number base.now) }
 {
     let Some(name) = parse_name(name) else {
         return Err(BadLine::Name);
@@ -187,7 +187,7 @@ fn check_move<'a>(name: &'a [u8], base: &[u8]) -> Result<Command<'a>, BadLine>
 
 /// Parses the operands of a move: a name and a base.
 fn parse_move<'a>(operands: Option<&'a [u8]>) -> Result<Command<'a>, BadLine>
-    ensures { parsed result ≡ move_of (cut_parts (option_copied operands.entry)) }
+    ensures { parse_result result ≡ move_of (cut_parts (option_copied operands.entry)) }
 {
     let Some(operands) = operands else {
         return Err(BadLine::Fields);
@@ -205,7 +205,7 @@ fn parse_move<'a>(operands: Option<&'a [u8]>) -> Result<Command<'a>, BadLine>
 
 /// Checks that a list has no operands.
 fn parse_list<'a>(operands: Option<&'a [u8]>) -> Result<Command<'a>, BadLine>
-    ensures { parsed result ≡ list_of (cut_parts (option_copied operands.entry)) }
+    ensures { parse_result result ≡ list_of (cut_parts (option_copied operands.entry)) }
 {
     match operands {
         None => Ok(Command::List),
@@ -215,7 +215,7 @@ fn parse_list<'a>(operands: Option<&'a [u8]>) -> Result<Command<'a>, BadLine>
 
 /// Parses a line that is a single number.
 fn parse_address<'a>(word: &[u8], operands: Option<&'a [u8]>) -> Result<Command<'a>, BadLine>
-    ensures { parsed result ≡ address_of (number word.now)
+    ensures { parse_result result ≡ address_of (number word.now)
         (cut_parts (option_copied operands.entry)) }
 {
     let Some(address) = parse_number(word) else {
@@ -230,7 +230,7 @@ fn parse_address<'a>(word: &[u8], operands: Option<&'a [u8]>) -> Result<Command<
 /// Parses a line, or returns the first rule that it breaks.
 #[tactic(auto, unfolding(crate::specs::Requests::parse))]
 pub fn parse_line(line: &[u8]) -> Result<Command<'_>, BadLine>
-    ensures { parsed result ≡ parse line.now }
+    ensures { parse_result result ≡ parse line.now }
 {
     if line.len() > 4096 {
         return Err(BadLine::LongLine);

@@ -5,13 +5,13 @@
 
 mod commands;
 mod file_source;
+mod input;
 mod line_buffer;
+mod load_exe;
 mod programs;
 mod replies;
-mod running;
-mod serving;
-mod session;
-mod starting;
+mod request;
+mod run_loop;
 mod words;
 
 pub use answer_text::print;
@@ -25,4 +25,4 @@ pub use module_map::{
     Answer, Asked, Extent, Frame, Frames, LoadFault, MapFault, Modules, Path, Site,
 };
 pub use programs::program;
-pub use running::run;
+pub use run_loop::run;

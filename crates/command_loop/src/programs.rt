@@ -1,7 +1,7 @@
 //! The program over its I/O streams. It parses the arguments, runs, and returns the exit status.
 //! Faults are reported on standard error.
 
-use crate::running::run;
+use crate::run_loop::run;
 use answer_text::write_texts;
 use arrayvec::ArrayString;
 use clap::Error;
@@ -41,7 +41,12 @@ fn refuse<E: Sink>(texts: &[&[u8]], errors: &mut E) -> u8 {
 
 /// Writes help to standard output and returns status 0, or writes the fault of the arguments to
 /// standard error and returns status 2.
-fn tell<W: Sink, E: Sink>(alloc: Global, error: &Error, writer: &mut W, errors: &mut E) -> u8 {
+fn show_usage<W: Sink, E: Sink>(
+    alloc: Global,
+    error: &Error,
+    writer: &mut W,
+    errors: &mut E,
+) -> u8 {
     let Ok(text) = format!(in alloc; "{error}") else {
         return refuse(&[NAME, b"no memory\n"], errors);
     };
@@ -68,7 +73,7 @@ pub fn program<R: Feed, W: Sink, E: Sink, O: Objects>(
 ) -> u8 {
     let options = match options(alloc, words) {
         Ok(options) => options,
-        Err(CliFault::Usage(error)) => return tell(alloc, &error, writer, errors),
+        Err(CliFault::Usage(error)) => return show_usage(alloc, &error, writer, errors),
         Err(CliFault::Address(word)) => {
             return refuse(&[NAME, b"bad address ", word.as_bytes(), b"\n"], errors);
         }

@@ -4,13 +4,13 @@ ghost use Rattle.std.specs.Prelude.{◌≡◌, ◌++◌, ◌∷◌, [], List, co
 ghost use Rattle.io_streams.specs.Streams.{failures_after, Writes};
 ghost use Rattle.answer_text.specs.Pending.{Puts};
 ghost use Rattle.module_map.specs.Listing.{Listed, listed};
-ghost use Rattle.command_loop.specs.Private.Serving.{reply_of, IsCurrent};
-ghost use Rattle.command_loop.specs.Text.{map_words, object_text, refused};
-ghost use Rattle.command_loop.specs.Text.{done_at, unloaded, module_text, list_text, text};
-ghost use Rattle.command_loop.specs.Replies.{met_name};
+ghost use Rattle.command_loop.specs.Private.Outcomes.{reply_of, IsCurrent};
+ghost use Rattle.command_loop.specs.Text.{map_words, object_text, refusal_text};
+ghost use Rattle.command_loop.specs.Text.{extent_text, unload_text, module_text, list_text, text};
+ghost use Rattle.command_loop.specs.Replies.{overlap_name};
 ghost use Rattle.module_map.specs.World.{name_at};
 
-use crate::serving::Done;
+use crate::request::Done;
 use answer_text::{Pending, address_text, print, write_texts};
 use dwarf_bytes::LoadFault;
 use io_streams::{DeviceFault, Options, Sink};
@@ -20,7 +20,7 @@ use module_map::{Extent, Listing, MapFault, Modules};
 /// Writes a refusal with one word.
 pub fn write_refusal<W: Sink>(word: &str, writer: &mut W) -> Result<(), DeviceFault>
     ensures bytes { Writes (W.written writer.old) (W.written writer.new) result
-        (refused word.now) }
+        (refusal_text word.now) }
     ensures failures { W.failures writer.new ≡ failures_after (W.failures writer.old) result }
 {
     let texts: [&[u8]; 3] = [b"refused ", word.as_bytes(), b"\n"];
@@ -31,7 +31,7 @@ pub fn write_refusal<W: Sink>(word: &str, writer: &mut W) -> Result<(), DeviceFa
 /// the item that has the fault.
 pub fn write_object_refusal<W: Sink>(fault: &LoadFault, writer: &mut W) -> Result<(), DeviceFault>
     ensures bytes { Writes (W.written writer.old) (W.written writer.new) result
-        (refused (object_text fault.now)) }
+        (refusal_text (object_text fault.now)) }
     ensures failures { W.failures writer.new ≡ failures_after (W.failures writer.old) result }
 {
     let section = fault.section.name().as_bytes();
@@ -43,22 +43,22 @@ pub fn write_object_refusal<W: Sink>(fault: &LoadFault, writer: &mut W) -> Resul
 }
 
 /// Returns the name of the module at an index of the list; empty if there is none.
-fn name_at<'a>(modules: &'a Modules, place: usize) -> &'a str
-    ensures { result.now ≡ name_at modules.now.world.modules place }
+fn name_at<'a>(modules: &'a Modules, index: usize) -> &'a str
+    ensures { result.now ≡ name_at modules.now.world.modules index }
 {
-    match modules.list().nth(place) {
+    match modules.list().nth(index) {
         None => "",
         Some(listed) => listed.0,
     }
 }
 
 /// Writes the refusal of a module that would overlap another one.
-fn write_overlap<W: Sink>(met: &str, writer: &mut W) -> Result<(), DeviceFault>
+fn write_overlap<W: Sink>(name: &str, writer: &mut W) -> Result<(), DeviceFault>
     ensures bytes { Writes (W.written writer.old) (W.written writer.new) result
-        (refused (codes "overlap " ++ met.now)) }
+        (refusal_text (codes "overlap " ++ name.now)) }
     ensures failures { W.failures writer.new ≡ failures_after (W.failures writer.old) result }
 {
-    let texts: [&[u8]; 3] = [b"refused overlap ", met.as_bytes(), b"\n"];
+    let texts: [&[u8]; 3] = [b"refused overlap ", name.as_bytes(), b"\n"];
     write_texts(&texts, writer)
 }
 
@@ -69,7 +69,7 @@ fn write_map_refusal<W: Sink>(
     writer: &mut W,
 ) -> Result<(), DeviceFault>
     ensures bytes { Writes (W.written writer.old) (W.written writer.new) result
-        (refused (map_words fault (met_name modules.now.world fault))) }
+        (refusal_text (map_words fault (overlap_name modules.now.world fault))) }
     ensures failures { W.failures writer.new ≡ failures_after (W.failures writer.old) result }
 {
     match fault {
@@ -80,14 +80,14 @@ fn write_map_refusal<W: Sink>(
 }
 
 /// Writes where a module was loaded, or moved to.
-fn write_done_at<W: Sink>(
+fn write_extent<W: Sink>(
     done: &[u8],
     name: &str,
     extent: &Extent,
     writer: &mut W,
 ) -> Result<(), DeviceFault>
     ensures bytes { Writes (W.written writer.old) (W.written writer.new) result
-        (done_at done.now name.now extent.now.low extent.now.high) }
+        (extent_text done.now name.now extent.now.low extent.now.high) }
     ensures failures { W.failures writer.new ≡ failures_after (W.failures writer.old) result }
 {
     let low = address_text(extent.low);
@@ -99,7 +99,7 @@ fn write_done_at<W: Sink>(
 /// Writes that a module was unloaded.
 fn write_unloaded<W: Sink>(name: &str, writer: &mut W) -> Result<(), DeviceFault>
     ensures bytes { Writes (W.written writer.old) (W.written writer.new) result
-        (unloaded name.now) }
+        (unload_text name.now) }
     ensures failures { W.failures writer.new ≡ failures_after (W.failures writer.old) result }
 {
     let texts: [&[u8]; 3] = [b"unloaded ", name.as_bytes(), b"\n"];
@@ -186,9 +186,9 @@ pub fn write_reply<W: Sink>(
         Done::Unreadable(bad) => write_refusal(bad.word(), writer),
         Done::NotFetched(fault) => write_refusal(fault.word(), writer),
         Done::Refused(fault) => write_map_refusal(modules, *fault, writer),
-        Done::LoadedAt(name, extent) => write_done_at(b"loaded ", name, extent, writer),
+        Done::LoadedAt(name, extent) => write_extent(b"loaded ", name, extent, writer),
         Done::Unloaded(name) => write_unloaded(name, writer),
-        Done::MovedTo(name, extent) => write_done_at(b"moved ", name, extent, writer),
+        Done::MovedTo(name, extent) => write_extent(b"moved ", name, extent, writer),
         Done::Listed => write_list(modules, writer),
         Done::Asked(asked) => {
             match print(options, &modules.answer(*asked), writer) {

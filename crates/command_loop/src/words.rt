@@ -6,7 +6,7 @@ ghost use Rattle.command_loop.specs.Output.{ask_of, Requests};
 ghost use Rattle.command_loop.specs.Private.Progress.{state_of, ServedInOrder, StopsAmong};
 
 use crate::commands::Command;
-use crate::serving::serve_request;
+use crate::request::serve_request;
 use io_streams::{DeviceFault, Objects, Options, Sink};
 use module_map::Modules;
 

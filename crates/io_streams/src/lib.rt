@@ -1,5 +1,4 @@
-//! What a run is given: its I/O streams, its source of objects and its options. The faults that end it
-//! are here too.
+//! The I/O streams of a run, its source of objects, its options, and the faults that end it.
 #![tactic(auto)]
 
 mod device;

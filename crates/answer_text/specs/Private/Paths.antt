@@ -4,14 +4,14 @@ use Rattle.std.specs.Borrow.{Bor}
 use Rattle.answer_text.specs.Printable.{printable}
 
 -- the last of these parts, or the given part if there are none
-abbrev pub last_behind : List ℕ → List (List ℕ) → List ℕ
-last_behind part [] = part
-last_behind part (next ∷ parts) = last_behind next parts
+abbrev pub last_or : List ℕ → List (List ℕ) → List ℕ
+last_or part [] = part
+last_or part (next ∷ parts) = last_or next parts
 
 -- a slash and a part
-abbrev pub slashed : List ℕ → List ℕ
-slashed part = 47 ∷ map printable part
+abbrev pub after_slash : List ℕ → List ℕ
+after_slash part = 47 ∷ map printable part
 
 -- the borrowed bytes
-abbrev pub text_told : Option (Bor (List ℕ)) → Option (List ℕ)
-text_told text = option_map (λ t. t.now) text
+abbrev pub borrowed_text : Option (Bor (List ℕ)) → Option (List ℕ)
+borrowed_text text = option_map (λ t. t.now) text

@@ -15,10 +15,10 @@ IsBadWord outcome (Usage error) = ⊥
 IsBadWord outcome Memory = ⊤
 
 -- an error of the parser, which may be out of memory
-abbrev pub TellsOf : Error → CliFault → Type 0
-TellsOf error (Usage same) = (same ≡ error) × (kind_of error ≢ OutOfMemory)
-TellsOf error (Address word) = ⊥
-TellsOf error Memory = kind_of error ≡ OutOfMemory
+abbrev pub IsFaultOf : Error → CliFault → Type 0
+IsFaultOf error (Usage same) = (same ≡ error) × (kind_of error ≢ OutOfMemory)
+IsFaultOf error (Address word) = ⊥
+IsFaultOf error Memory = kind_of error ≡ OutOfMemory
 
 -- the strings of optional references
 abbrev pub texts_of : Option (Bor (List (Bor (List ℕ)))) → List (List ℕ)

@@ -14,9 +14,9 @@ request_of command.List = ListAll
 request_of (command.Ask address) = Ask address
 
 -- the request of a line, or the reason why there is none
-abbrev pub parsed : Result Command BadLine → Result Request BadLine
-parsed (Ok c) = Ok (request_of c)
-parsed (Err bad) = Err bad
+abbrev pub parse_result : Result Command BadLine → Result Request BadLine
+parse_result (Ok c) = Ok (request_of c)
+parse_result (Err bad) = Err bad
 
 -- the fields after a space, if there is one
 abbrev pub cut_parts : Option (List ℕ) → List (List ℕ)

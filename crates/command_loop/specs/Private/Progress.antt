@@ -13,7 +13,7 @@ use Rattle.command_loop.specs.Requests.{Request, requests, parse}
 use Rattle.command_loop.specs.Lines.{lines, ended_lines, open_line, within_limit}
 use Rattle.command_loop.specs.Replies.{Outcome, step, question}
 use Rattle.command_loop.specs.Text.{text}
-use Rattle.command_loop.specs.Output.{Requests, Exchanges, started, replies, world_after}
+use Rattle.command_loop.specs.Output.{Requests, Exchanges, start_world, replies, world_after}
 use Rattle.command_loop.specs.Output.{questions, Asked, EndsLine, EndsWith}
 
 -- the modules, the questions to the source, and the output, if contracts can name them
@@ -48,7 +48,7 @@ pub record ServedInOrder (options : Options) (start : RunState) (served : Reques
     (now : RunState) : Type 0 where
   pub outcomes : List Outcome
   pub answered : Asked start.asked now.asked (questions served) outcomes
-  pub stands : now.world ≡ world_after start.world served outcomes
+  pub world_is : now.world ≡ world_after start.world served outcomes
   pub replied : Appends start.written now.written (replies options start.world served outcomes)
 
 -- these requests were served, and then one more, with at most a prefix of its reply written
@@ -67,9 +67,9 @@ pub record StopsAtRequest (options : Options) (start : RunState) (before : Reque
 
 -- all ended lines of the input so far are served, and the rest is buffered
 pub record ReadSoFar (options : Options) (start : RunState) (read : List ℕ) (now : RunState)
-    (held : Option (List ℕ)) : Type 0 where
+    (buffer : Option (List ℕ)) : Type 0 where
   pub handled : ServedInOrder options start (requests (ended_lines read)) now
-  pub holds : held ≡ within_limit (open_line read)
+  pub holds : buffer ≡ within_limit (open_line read)
 
 -- The input so far ends with a line. All lines before it are served, and at most a prefix of its
 -- reply is written.
@@ -83,15 +83,15 @@ pub record StopsAtLine (options : Options) (start : RunState) (read : List ℕ) 
 -- from any state of a run, these bytes advance it to the new state
 abbrev pub ReadsOn : Options → List ℕ → RunState → Option (List ℕ) → RunState → Option (List ℕ)
     → Type 0
-ReadsOn options bytes old held new held' = (start : RunState) (read : List ℕ)
-    → ReadSoFar options start read old held → ReadSoFar options start (read ++ bytes) new held'
+ReadsOn options bytes old buffer new buffer' = (start : RunState) (read : List ℕ)
+    → ReadSoFar options start read old buffer → ReadSoFar options start (read ++ bytes) new buffer'
 
 -- from any state of a run, it stopped at a line that ends within these bytes
 abbrev pub StopsWithin : Options → List ℕ → RunState → Option (List ℕ) → Exchanges
     → Option (List ℕ) → Type 0
-StopsWithin options bytes old held asked written = (start : RunState) (read : List ℕ)
-    → ReadSoFar options start read old held →
-    (front past : List ℕ) × (bytes ≡ front ++ past) × ((rest : List ℕ) × (past ≡ 10 ∷ rest))
+StopsWithin options bytes old buffer asked written = (start : RunState) (read : List ℕ)
+    → ReadSoFar options start read old buffer →
+    (front after : List ℕ) × (bytes ≡ front ++ after) × ((rest : List ℕ) × (after ≡ 10 ∷ rest))
     × StopsAtLine options start (read ++ front) asked written
 
 -- how the lines of a reader are served from here on
@@ -106,8 +106,8 @@ ReadsLines options start left left' asked written (Err Reading) =
     × ((world : World) × ServedInOrder options start (requests (ended_lines read))
     (state_of world asked written))
 ReadsLines options start left left' asked written (Err Writing) =
-    (read past : List ℕ) × Consumes left left' (read ++ past) × (length past ≤ 4096)
-    × EndsLine past left' × StopsAtLine options start read asked written
+    (read after : List ℕ) × Consumes left left' (read ++ after) × (length after ≤ 4096)
+    × EndsLine after left' × StopsAtLine options start read asked written
 ReadsLines options start left left' asked written (Err Memory) = ⊥
 ReadsLines options start left left' asked written (Err (Exe why)) = ⊥
 
@@ -117,7 +117,7 @@ ReadsLines options start left left' asked written (Err (Exe why)) = ⊥
 pub record HasStarted (exe : Option (List ℕ)) (asked asked' : Exchanges)
     (world : World) : Type 0 where
   pub first : List Outcome
-  pub begun : started exe first ≡ Ok world
+  pub starts : start_world exe first ≡ Ok world
   pub one : length first ≡ length (option_to_list exe)
   pub answered : Asked asked asked' (option_to_list exe) first
 

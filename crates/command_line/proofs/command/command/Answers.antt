@@ -16,4 +16,5 @@ returns c = IfOk-weaker c.arg-9.result _ _
     (c.in_ok-arg.ensures.shape c.flag.ensures.local ∙ ap₂ with_rule c.new.ensures.app
     c.flag.ensures.rule)
     c.flag-2.ensures.rule) c.flag-3.ensures.rule) c.flag-4.ensures.rule) c.flag-5.ensures.rule)
-    c.linkage.ensures.rule) c.exe.ensures.rule) c.cache.ensures.rule) c.addresses.ensures.rule) c.arg-9.ensures
+    c.linkage.ensures.rule) c.exe.ensures.rule) c.cache.ensures.rule) c.addresses.ensures.rule)
+    c.arg-9.ensures

@@ -1,7 +1,7 @@
 use Rattle.std.proofs.Common.{◌≤◌, ◌∙◌, length, arith, refl}
 use Rattle.std.proofs.lemmas.Result.{err_from_is_err_and}
-use Rattle.command_loop.proofs.ServedLemmas.{handled_none}
-use Rattle.command_loop.proofs.ServedWords.{word_next, word_halts, words_all}
+use Rattle.command_loop.proofs.RequestLemmas.{handled_none}
+use Rattle.command_loop.proofs.AddressLemmas.{word_next, word_stops, words_all}
 use Rattle.command_loop.proofs.words.serve_words.Goals as goal
 
 pub loop-word-init : goal.loop-word-init
@@ -17,7 +17,7 @@ loop-word-preserved g c = (
 pub returns-in_err-serve_request-clause-halts : goal.returns-in_err-serve_request-clause-halts
 returns-in_err-serve_request-clause-halts g c =
     let p = err_from_is_err_and c.from_residual.result c.from_residual.ensures.1 in
-    rw (p.1) (word_halts _ _ _ _ _ _ c.loop-word-test.true c.loop-word.invariant.0
+    rw (p.1) (word_stops _ _ _ _ _ _ c.loop-word-test.true c.loop-word.invariant.0
     c.in_err-serve_request.ensures.served)
 
 pub returns-clause-handled : goal.returns-clause-handled
