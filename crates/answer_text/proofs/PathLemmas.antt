@@ -128,8 +128,3 @@ pub second_known : (all rest : List (List ℕ)) (part : List ℕ) → all ≡ pa
     → after_slash part ++ flat_map after_slash rest ≡ path_text ([] ∷ all)
 second_known all rest part e = known_after_empty part rest
     ∙ ap (λ (z : List (List ℕ)). path_text ([] ∷ z)) (sym e)
-
-pub nothing_first : (all rest : List (List ℕ)) (part : List ℕ) → all ≡ part ∷ rest → part ≡ []
-    → path_text ([] ∷ rest) ≡ path_text all
-nothing_first all rest part e none = ap (λ (z : List ℕ). path_text (z ∷ rest)) (sym none)
-    ∙ ap path_text (sym e)

@@ -178,19 +178,6 @@ writes_all a b c h text (Err fault) p w = (
       p.sent w.0 p.appended w.2,
 )
 
--- all of several strings were appended
-pub put_whole : {X : Type 0} (a b : Option (List ℕ)) (h h' : List ℕ) (f : X → List ℕ) (xs : List X)
-    (i : ℕ) → length xs ≤ i
-    → Put a b h h' (flat_map f (take i xs)) → Put a b h h' (flat_map f xs)
-put_whole a b h h' f xs i le p = let P : List ℕ → Type 0 = λ z. Put a b h h' z in
-    subst P (ap (flat_map f) (take_whole xs i le)) p
-  where
-    take_whole : {X : Type 0} (xs : List X) (i : ℕ) → length xs ≤ i → take i xs ≡ xs
-    take_whole [] zero le = refl
-    take_whole [] (suc i) le = refl
-    take_whole (x ∷ xs) zero le = absurd (omega arith)
-    take_whole (x ∷ xs) (suc i) le = ap (λ z. x ∷ z) (take_whole xs i (omega arith))
-
 -- a string without control characters
 pub all_printable : (text : List ℕ) → list_all (λ byte. not (is_control byte)) text ≡ true
     → text ≡ map printable text

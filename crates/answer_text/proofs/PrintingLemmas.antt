@@ -33,17 +33,6 @@ pub named_text : (options : Options) (frame : Frame) → options.functions ≡ t
     → known_text (name_of options frame) ++ after_name options ≡ name_text options frame
 named_text options frame e = rw e refl
 
-pub head_text : (options : Options) (address : ℕ) → options.addresses ≡ true
-    → address_text address ++ after_address options ≡ heading_text options address
-head_text options address e = rw e refl
-
--- the frames, from the innermost one on
-pub frames_begin : (options : Options) (frame : Frame) (frames : List Frame)
-    → frame_text options frame ++ (if options.inlines then flat_map (later_text options) frames else
-    [])
-    ≡ frames_text options (frame ∷ frames)
-frames_begin options frame frames = refl
-
 -- the first string replaced by an equal one, and the output after it
 pub cut_first : (a b : Option (List ℕ)) (h x y rest : List ℕ) → x ≡ y → Cut a b h x
     → Cut a b h (y ++ rest)
@@ -102,12 +91,6 @@ puts_all a b c h h' h'' options fs f rest r e on p q =
     ≡ frames_text options (f ∷ rest) = rw on refl in
     puts_as a c h h'' _ _ r (head ∙ ap (frames_text options) (sym e))
     (puts_then a b c h h' h'' (frame_text options f) (flat_map (later_text options) rest) r p q)
-
--- there are no frames
-pub puts_none : {E : Type 0} (a b : Option (List ℕ)) (h h' : List ℕ) (options : Options)
-    (fs : List Frame) (r : Result (Unit {0}) E)
-    → fs ≡ [] → Puts a b h h' r (nothing_text options) → Puts a b h h' r (frames_text options fs)
-puts_none a b h h' options fs r e p = puts_as a b h h' _ _ r (ap (frames_text options) (sym e)) p
 
 -- the items that were appended, and the remaining ones
 pub put_item : {X : Type 0} (a b c : Option (List ℕ)) (h h' h'' : List ℕ) (t : X → List ℕ)

@@ -33,14 +33,6 @@ word_refused words rows outcome (Address w) bad accepted is =
     record { 0 = accepted; 1 = is ∙ ap (settings_with rows) bad }
 word_refused words rows outcome Memory bad accepted is = tt
 
--- the parser refuses the arguments
-pub parser_refused : (words : List (List ℕ)) (error : Error) (fault : CliFault)
-    → HasKind (fault_of our_app words) error → IsFaultOf error fault → IsRefused words fault
-parser_refused words error (Usage same) (inl memory) is = absurd (is.1 (memory))
-parser_refused words error (Usage same) (inr kind) is = rw (is.0) kind
-parser_refused words error (Address w) kinds is = absurd is
-parser_refused words error Memory kinds is = tt
-
 -- the strings of optional references are the strings of the rows
 pub texts_are : (words : Option (Bor (List (Bor (List ℕ))))) (o : Option (List (List ℕ)))
     → option_map (λ ws. map (λ (w : Bor (List ℕ)). w.now) ws.now) words ≡ o

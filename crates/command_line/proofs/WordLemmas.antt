@@ -14,10 +14,6 @@ abbrev pub with_front : List ℕ → Result (List ℕ) (List ℕ) → Result (Li
 with_front front (Ok ns) = Ok (front ++ ns)
 with_front front (Err bad) = Err bad
 
-pub none_in_front : (o : Result (List ℕ) (List ℕ)) → with_front [] o ≡ o
-none_in_front (Ok ns) = refl
-none_in_front (Err bad) = refl
-
 one_more : (front : List ℕ) (n : ℕ) (word : List ℕ) (o : Result (List ℕ) (List ℕ))
     → with_front (front ++ n ∷ []) o ≡ with_front front (number_then word (Some n) o)
 one_more front n word (Ok ns) = ap (λ (l : List ℕ). all_of l) (append_assoc front (n ∷ []) ns)
@@ -56,13 +52,3 @@ module _ (words : List (Bor (List ℕ))) (i : ℕ) (d : Bor (List ℕ)) (front :
       (text_at words i d lt)
       ∙ ap (λ (o : Option ℕ). with_front front
       (number_then (get_or words i d).now o (numbers_of (drop (i + 1) (texts words))))) is
-
-  pub number_end : length words ≤ i → all ≡ Ok front
-  number_end le = sym so_far ∙ ap (λ (l : List (List ℕ)). with_front front (numbers_of l))
-      (past words i le) ∙ ap (λ (l : List ℕ). all_of l) (append-nil front)
-    where
-      past : (ws : List (Bor (List ℕ))) (i : ℕ) → length ws ≤ i → drop i (texts ws) ≡ []
-      past [] zero le = refl
-      past [] (suc i) le = refl
-      past (w ∷ ws) zero le = absurd (omega arith)
-      past (w ∷ ws) (suc i) le = past ws i (omega arith)

@@ -90,13 +90,6 @@ reads_and_breaks options start now asked written a b c buffer piece h k fits on 
       w.4,
     )
 
--- a line feed at the end of input adds no line
-feed_at_end : (read : List ℕ) → lines (read ++ 10 ∷ []) ≡ lines read
-feed_at_end read =
-    lines_are (read ++ 10 ∷ []) ∙ ap (λ (z : List ℕ). ended_lines (read ++ 10 ∷ [])
-    ++ filter has_bytes (z ∷ [])) (open_at_feed read)
-    ∙ append-nil (ended_lines (read ++ 10 ∷ [])) ∙ ended_at_feed read ∙ sym (lines_are read)
-
 pub ends_well : (options : Options) (start now new : RunState)
     (a b buffer buffer' : Option (List ℕ))
     → HasRead options start a b now buffer
