@@ -64,6 +64,7 @@ impl Session {
         ensures failures { W.failures writer.new ≡ failures_after (W.failures writer.old) result }
     {
         let mut rest = piece;
+        // Proofs name the loop by its label.
         'lines: while let Some(end) = rest.find_byte(b'\n') {
             self.line.extend(&rest[..end]);
             self.end_line(options, writer, source)?;
@@ -96,6 +97,7 @@ pub fn serve_input<R: Feed, W: Sink, O: Objects>(
         line: LineBuffer::new(),
     };
     let mut piece = [0u8; 4096];
+    // Proofs name the loop by its label.
     'pieces: loop {
         let Ok(count) = reader.read(&mut piece) else {
             return Err(RunFault::Reading);
