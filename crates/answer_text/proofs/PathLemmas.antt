@@ -19,14 +19,14 @@ use Rattle.answer_text.specs.Private.Paths.{last_or, after_slash}
 abbrev is_other : ℕ → Bool
 is_other byte = not (byte == 47)
 
-prefix_before : (front back : List ℕ) → prefix_len is_other (front ++ 47 ∷ back)
+prefix-before : (front back : List ℕ) → prefix_len is_other (front ++ 47 ∷ back)
     ≡ prefix_len is_other front
-prefix_before [] back = refl
-prefix_before (byte ∷ front) back = ap (λ (n : ℕ). cond (is_other byte) (1 + n) 0)
-    (prefix_before front back)
+prefix-before [] back = refl
+prefix-before (byte ∷ front) back = ap (λ (n : ℕ). cond (is_other byte) (1 + n) 0)
+    (prefix-before front back)
 
-reverse_join : (part rest : List ℕ) → reverse (part ++ 47 ∷ rest) ≡ reverse rest ++ 47 ∷ reverse part
-reverse_join part rest =
+reverse-join : (part rest : List ℕ) → reverse (part ++ 47 ∷ rest) ≡ reverse rest ++ 47 ∷ reverse part
+reverse-join part rest =
     reverse-append part (47 ∷ rest) ∙ ap (λ (z : List ℕ). z ++ reverse part)
     (reverse-append (47 ∷ []) rest)
     ∙ append_assoc (reverse rest) (47 ∷ []) (reverse part)
@@ -34,7 +34,7 @@ reverse_join part rest =
 base_after : (part rest : List ℕ) → base_name (part ++ 47 ∷ rest) ≡ base_name rest
 base_after part rest =
     let same : suffix_len is_other (part ++ 47 ∷ rest) ≡ suffix_len is_other rest =
-    ap (prefix_len is_other) (reverse_join part rest) ∙ prefix_before (reverse rest) (reverse part) in
+    ap (prefix_len is_other) (reverse-join part rest) ∙ prefix-before (reverse rest) (reverse part) in
     let glued : part ++ 47 ∷ rest ≡ (part ++ 47 ∷ []) ++ rest =
     sym (append_assoc part (47 ∷ []) rest) in
     let far : length (part ++ 47 ∷ rest) - suffix_len is_other (part ++ 47 ∷ rest)
@@ -50,81 +50,81 @@ base_after part rest =
     (length rest - suffix_len is_other rest)
 
 -- the test of the byte at an index, as its negation
-other_byte : (b : Bool) → (b ≡ true → ⊥) → not b ≡ true
-other_byte true never = absurd (never refl)
-other_byte false never = refl
+other-byte : (b : Bool) → (b ≡ true → ⊥) → not b ≡ true
+other-byte true never = absurd (never refl)
+other-byte false never = refl
 
-slash_byte : (b : Bool) → b ≡ true → not b ≡ false
-slash_byte b e = rw e refl
+slash-byte : (b : Bool) → b ≡ true → not b ≡ false
+slash-byte b e = rw e refl
 
 -- the base name of a path without a slash is the whole path
-pub no_slash : (path : List ℕ) → IsLastByte (is_byte 47) path None → path ≡ base_name path
-no_slash path nowhere =
+pub no-slash : (path : List ℕ) → IsLastByte (is_byte 47) path None → path ≡ base_name path
+no-slash path nowhere =
     let all : suffix_len is_other path ≡ length path - 0 =
     suffix_len_is is_other path 0 0 (omega arith)
-    (λ k low lt. other_byte (get_or path k 0 == 47) (nowhere k low lt))
+    (λ k low lt. other-byte (get_or path k 0 == 47) (nowhere k low lt))
     (λ (lt : 0 < 0). absurd (omega (arith, lt))) in
     let start : 0 ≡ length path - suffix_len is_other path = omega (arith, all) in
     ap (λ (n : ℕ). drop n path) start
 
 -- the part after the last slash
-pub last_slash : (path : List ℕ) (at : ℕ) → IsLastByte (is_byte 47) path (Some at)
+pub last-slash : (path : List ℕ) (at : ℕ) → IsLastByte (is_byte 47) path (Some at)
     → take (length path - (at + 1)) (drop (at + 1) path) ≡ base_name path
-last_slash path at found =
+last-slash path at found =
     let here : at ≡ at + 1 - 1 = omega arith in
     let rest : suffix_len is_other path ≡ length path - (at + 1) =
     suffix_len_is is_other path (at + 1) 0 (omega (arith, found.0.high))
-    (λ k low lt. other_byte (get_or path k 0 == 47) (found.0.after k low lt))
+    (λ k low lt. other-byte (get_or path k 0 == 47) (found.0.after k low lt))
     (λ lt. subst (λ (k : ℕ). is_other (get_or path k 0) ≡ false) here
-    (slash_byte (get_or path at 0 == 47) found.1)) in
+    (slash-byte (get_or path at 0 == 47) found.1)) in
     take_rest path (at + 1) ∙ ap (λ (n : ℕ). drop n path) (omega (arith, rest, found.0.high))
 
 -- it is in the last part
-base_of_parts : (parts : List (List ℕ)) (part : List ℕ)
+base-of-parts : (parts : List (List ℕ)) (part : List ℕ)
     → base_name (last_or part parts) ≡ base_name (join_with_byte 47 (part ∷ parts))
-base_of_parts [] part = refl
-base_of_parts (next ∷ parts) part = base_of_parts parts next
+base-of-parts [] part = refl
+base-of-parts (next ∷ parts) part = base-of-parts parts next
     ∙ sym (base_after part (join_with_byte 47 (next ∷ parts)))
 
-pub base_of_last : (parts : List (List ℕ)) → base_name (last_or [] parts)
+pub base-of-last : (parts : List (List ℕ)) → base_name (last_or [] parts)
     ≡ base_name (join_with_byte 47 parts)
-base_of_last [] = refl
-base_of_last (part ∷ parts) = base_of_parts parts part
+base-of-last [] = refl
+base-of-last (part ∷ parts) = base-of-parts parts part
 
 -- ---- parts joined by slashes
 
-pub printed_join : (part : List ℕ) (parts : List (List ℕ))
+pub printed-join : (part : List ℕ) (parts : List (List ℕ))
     → map printable part ++ flat_map after_slash parts
     ≡ map printable (join_with_byte 47 (part ∷ parts))
-printed_join part [] = append-nil (map printable part)
-printed_join part (next ∷ parts) =
-    ap (λ (z : List ℕ). map printable part ++ 47 ∷ z) (printed_join next parts)
+printed-join part [] = append-nil (map printable part)
+printed-join part (next ∷ parts) =
+    ap (λ (z : List ℕ). map printable part ++ 47 ∷ z) (printed-join next parts)
     ∙ sym (map-append printable part (47 ∷ join_with_byte 47 (next ∷ parts)))
 
 -- a path whose first part is nonempty
-pub known_join : (part : List ℕ) (parts : List (List ℕ)) → part ≢ []
+pub known-join : (part : List ℕ) (parts : List (List ℕ)) → part ≢ []
     → map printable part ++ flat_map after_slash parts
     ≡ known_text (Some (join_with_byte 47 (part ∷ parts)))
-known_join [] parts ne = absurd (ne refl)
-known_join (byte ∷ bytes) [] ne = printed_join (byte ∷ bytes) []
-known_join (byte ∷ bytes) (next ∷ parts) ne = printed_join (byte ∷ bytes) (next ∷ parts)
+known-join [] parts ne = absurd (ne refl)
+known-join (byte ∷ bytes) [] ne = printed-join (byte ∷ bytes) []
+known-join (byte ∷ bytes) (next ∷ parts) ne = printed-join (byte ∷ bytes) (next ∷ parts)
 
 -- a path whose first part is empty
-pub known_after_empty : (part : List ℕ) (parts : List (List ℕ))
+pub known-after-empty : (part : List ℕ) (parts : List (List ℕ))
     → after_slash part ++ flat_map after_slash parts
     ≡ known_text (Some (join_with_byte 47 ([] ∷ part ∷ parts)))
-known_after_empty part parts = ap (λ (z : List ℕ). 47 ∷ z) (printed_join part parts)
+known-after-empty part parts = ap (λ (z : List ℕ). 47 ∷ z) (printed-join part parts)
 
 -- ---- the remaining parts of a path
 
 abbrev pub path_text : List (List ℕ) → List ℕ
 path_text parts = known_text (Some (join_with_byte 47 parts))
 
-pub first_known : (all rest : List (List ℕ)) (part : List ℕ) → all ≡ part ∷ rest → part ≢ []
+pub first-known : (all rest : List (List ℕ)) (part : List ℕ) → all ≡ part ∷ rest → part ≢ []
     → map printable part ++ flat_map after_slash rest ≡ path_text all
-first_known all rest part e ne = known_join part rest ne ∙ ap path_text (sym e)
+first-known all rest part e ne = known-join part rest ne ∙ ap path_text (sym e)
 
-pub second_known : (all rest : List (List ℕ)) (part : List ℕ) → all ≡ part ∷ rest
+pub second-known : (all rest : List (List ℕ)) (part : List ℕ) → all ≡ part ∷ rest
     → after_slash part ++ flat_map after_slash rest ≡ path_text ([] ∷ all)
-second_known all rest part e = known_after_empty part rest
+second-known all rest part e = known-after-empty part rest
     ∙ ap (λ (z : List (List ℕ)). path_text ([] ∷ z)) (sym e)

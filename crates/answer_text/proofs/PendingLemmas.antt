@@ -14,9 +14,9 @@ use Rattle.io_streams.specs.Streams.{Writes}
 use Rattle.answer_text.specs.Pending.{Put, Cut, Puts}
 
 -- an append after an append
-pub put_then : (a b c : Option (List ℕ)) (h h' h'' x y : List ℕ) → Put a b h h' x → Put b c h' h'' y
+pub put-then : (a b c : Option (List ℕ)) (h h' h'' x y : List ℕ) → Put a b h h' x → Put b c h' h'' y
     → Put a c h h'' (x ++ y)
-put_then a b c h h' h'' x y p q = record {
+put-then a b c h h' h'' x y p q = record {
   sent = p.sent ++ q.sent;
   splits =
       sym (append_assoc h x y) ∙ ap (λ (z : List ℕ). z ++ y) p.splits ∙ append_assoc p.sent h' y
@@ -24,9 +24,9 @@ put_then a b c h h' h'' x y p q = record {
   appended = appends_then a b c p.sent q.sent p.appended q.appended;
 }
 
-pub put_cut : (a b c : Option (List ℕ)) (h h' x y : List ℕ) → Put a b h h' x → Cut b c h' y
+pub put-cut : (a b c : Option (List ℕ)) (h h' x y : List ℕ) → Put a b h h' x → Cut b c h' y
     → Cut a c h (x ++ y)
-put_cut a b c h h' x y p q = record {
+put-cut a b c h h' x y p q = record {
   sent = p.sent ++ q.sent;
   begins = (
     q.begins.0,
@@ -38,8 +38,8 @@ put_cut a b c h h' x y p q = record {
 }
 
 -- if only a prefix of a string was written, it is also a prefix of a longer string
-pub cut_more : (a b : Option (List ℕ)) (h x y : List ℕ) → Cut a b h x → Cut a b h (x ++ y)
-cut_more a b h x y p = record {
+pub cut-more : (a b : Option (List ℕ)) (h x y : List ℕ) → Cut a b h x → Cut a b h (x ++ y)
+cut-more a b h x y p = record {
   sent = p.sent;
   begins = (
     p.begins.0 ++ y,
@@ -50,43 +50,43 @@ cut_more a b h x y p = record {
 }
 
 -- a string was written while the buffer was empty
-pub puts_through : {E : Type 0} (a b : Option (List ℕ)) (h x : List ℕ) (r : Result (Unit {0}) E)
+pub puts-through : {E : Type 0} (a b : Option (List ℕ)) (h x : List ℕ) (r : Result (Unit {0}) E)
     → h ≡ [] → Writes a b r x
     → Puts a b h h r x
-puts_through a b [] x (Ok done) e w = record { sent = x; splits = sym (append-nil x); appended = w }
-puts_through a b [] x (Err fault) e w = record { sent = w.0; begins = w.1; appended = w.2 }
-puts_through a b (y ∷ h) x r e w = cc
+puts-through a b [] x (Ok done) e w = record { sent = x; splits = sym (append-nil x); appended = w }
+puts-through a b [] x (Err fault) e w = record { sent = w.0; begins = w.1; appended = w.2 }
+puts-through a b (y ∷ h) x r e w = cc
 
 -- after an append of nothing, a string is appended
-pub puts_after : {E : Type 0} (a b c : Option (List ℕ)) (h h' h'' y : List ℕ)
+pub puts-after : {E : Type 0} (a b c : Option (List ℕ)) (h h' h'' y : List ℕ)
     (r : Result (Unit {0}) E) → Put a b h h' []
     → Puts b c h' h'' r y → Puts a c h h'' r y
-puts_after a b c h h' h'' y (Ok done) p q = put_then a b c h h' h'' [] y p q
-puts_after a b c h h' h'' y (Err fault) p q = put_cut a b c h h' [] y p q
+puts-after a b c h h' h'' y (Ok done) p q = put-then a b c h h' h'' [] y p q
+puts-after a b c h h' h'' y (Err fault) p q = put-cut a b c h h' [] y p q
 
 -- a string that fits
-pub put_fitting : (a : Option (List ℕ)) (h h' x : List ℕ) (fits : Bool) → fits ≡ true
+pub put-fitting : (a : Option (List ℕ)) (h h' x : List ℕ) (fits : Bool) → fits ≡ true
     → h' ≡ (if fits then h ++ x else h) → Put a a h h' x
-put_fitting a h h' x true e is = record { sent = []; splits = sym is; appended = appends_nothing a }
-put_fitting a h h' x false e is = absurd (false≢true e)
+put-fitting a h h' x true e is = record { sent = []; splits = sym is; appended = appends_nothing a }
+put-fitting a h h' x false e is = absurd (false≢true e)
 
 -- a string that does not fit changes nothing
-pub same_buffer : (h h' x : List ℕ) (fits : Bool) → fits ≡ false
+pub same-buffer : (h h' x : List ℕ) (fits : Bool) → fits ≡ false
     → h' ≡ (if fits then h ++ x else h) → h' ≡ h
-same_buffer h h' x true e is = absurd (false≢true (sym e))
-same_buffer h h' x false e is = is
+same-buffer h h' x true e is = absurd (false≢true (sym e))
+same-buffer h h' x false e is = is
 
 -- the buffer was written
-pub put_sent : (a b : Option (List ℕ)) (h h' h'' : List ℕ) → h' ≡ h → Appends a b h' → h'' ≡ []
+pub put-sent : (a b : Option (List ℕ)) (h h' h'' : List ℕ) → h' ≡ h → Appends a b h' → h'' ≡ []
     → Put a b h h'' []
-put_sent a b h h' [] same w e =
+put-sent a b h h' [] same w e =
     record { sent = h; splits = refl; appended = subst (λ (z : List ℕ). Appends a b z) same w }
-put_sent a b h h' (y ∷ ys) same w e = cc
+put-sent a b h h' (y ∷ ys) same w e = cc
 
 -- only a prefix of the buffer was written
-pub cut_sent : {E : Type 0} (a b : Option (List ℕ)) (h h' x : List ℕ) (fault : E) → h' ≡ h
+pub cut-sent : {E : Type 0} (a b : Option (List ℕ)) (h h' x : List ℕ) (fault : E) → h' ≡ h
     → Writes {E = E} a b (Err fault) h' → Cut a b h x
-cut_sent a b h h' x fault same w = record {
+cut-sent a b h h' x fault same w = record {
   sent = w.0;
   begins = (
     w.1.0 ++ x,
@@ -96,34 +96,34 @@ cut_sent a b h h' x fault same w = record {
 }
 
 -- a list of strings, split after one of them
-flat_map_cut : {X : Type 0} (f : X → List ℕ) (xs : List X) (i : ℕ) (d : X) → i < length xs
+flat_map-cut : {X : Type 0} (f : X → List ℕ) (xs : List X) (i : ℕ) (d : X) → i < length xs
     → flat_map f xs ≡ (flat_map f (take i xs) ++ f (get_or xs i d)) ++ flat_map f (drop (suc i) xs)
-flat_map_cut f [] i d lt = absurd (omega arith)
-flat_map_cut f (x ∷ xs) zero d lt = refl
-flat_map_cut f (x ∷ xs) (suc i) d lt =
-    ap (λ (z : List ℕ). f x ++ z) (flat_map_cut f xs i d (omega arith))
+flat_map-cut f [] i d lt = absurd (omega arith)
+flat_map-cut f (x ∷ xs) zero d lt = refl
+flat_map-cut f (x ∷ xs) (suc i) d lt =
+    ap (λ (z : List ℕ). f x ++ z) (flat_map-cut f xs i d (omega arith))
     ∙ sym (append_assoc (f x) (flat_map f (take i xs) ++ f (get_or xs i d))
     (flat_map f (drop (suc i) xs)))
     ∙ ap (λ (z : List ℕ). z ++ flat_map f (drop (suc i) xs))
     (sym (append_assoc (f x) (flat_map f (take i xs)) (f (get_or xs i d))))
 
-flat_map_on : {X : Type 0} (f : X → List ℕ) (xs : List X) (i : ℕ) (d : X) → i < length xs
+flat_map-on : {X : Type 0} (f : X → List ℕ) (xs : List X) (i : ℕ) (d : X) → i < length xs
     → flat_map f (take (suc i) xs) ≡ flat_map f (take i xs) ++ f (get_or xs i d)
-flat_map_on f [] i d lt = absurd (omega arith)
-flat_map_on f (x ∷ xs) zero d lt = append-nil (f x)
-flat_map_on f (x ∷ xs) (suc i) d lt =
-    ap (λ (z : List ℕ). f x ++ z) (flat_map_on f xs i d (omega arith)) ∙ sym
+flat_map-on f [] i d lt = absurd (omega arith)
+flat_map-on f (x ∷ xs) zero d lt = append-nil (f x)
+flat_map-on f (x ∷ xs) (suc i) d lt =
+    ap (λ (z : List ℕ). f x ++ z) (flat_map-on f xs i d (omega arith)) ∙ sym
     (append_assoc (f x) (flat_map f (take i xs)) (f (get_or xs i d)))
 
 -- one more of several strings
-pub put_next : {X : Type 0} (a b c : Option (List ℕ)) (h h' h'' : List ℕ) (f : X → List ℕ)
+pub put-next : {X : Type 0} (a b c : Option (List ℕ)) (h h' h'' : List ℕ) (f : X → List ℕ)
     (xs : List X) (i : ℕ) (d : X) → i < length xs
     → Put a b h h' (flat_map f (take i xs)) → Put b c h' h'' (f (get_or xs i d))
     → Put a c h h'' (flat_map f (take (i + 1) xs))
-put_next a b c h h' h'' f xs i d lt p q =
+put-next a b c h h' h'' f xs i d lt p q =
     let P : List ℕ → Type 0 = λ z. Put a c h h'' z in
-    subst P (sym (ap (λ (n : ℕ). flat_map f (take n xs)) (add-one i) ∙ flat_map_on f xs i d lt))
-    (put_then a b c h h' h'' (flat_map f (take i xs)) (f (get_or xs i d)) p q)
+    subst P (sym (ap (λ (n : ℕ). flat_map f (take n xs)) (add-one i) ∙ flat_map-on f xs i d lt))
+    (put-then a b c h h' h'' (flat_map f (take i xs)) (f (get_or xs i d)) p q)
 
 -- the string at which the output stopped
 pub cut_at : {X : Type 0} (a b c : Option (List ℕ)) (h h' : List ℕ) (f : X → List ℕ) (xs : List X)
@@ -132,46 +132,46 @@ pub cut_at : {X : Type 0} (a b c : Option (List ℕ)) (h h' : List ℕ) (f : X �
     → Cut a c h (flat_map f xs)
 cut_at a b c h h' f xs i d lt p q =
     let P : List ℕ → Type 0 = λ z. Cut a c h z in
-    subst P (sym (flat_map_cut f xs i d lt))
-    (cut_more a c h (flat_map f (take i xs) ++ f (get_or xs i d)) (flat_map f (drop (suc i) xs))
-    (put_cut a b c h h' (flat_map f (take i xs)) (f (get_or xs i d)) p q))
+    subst P (sym (flat_map-cut f xs i d lt))
+    (cut-more a c h (flat_map f (take i xs) ++ f (get_or xs i d)) (flat_map f (drop (suc i) xs))
+    (put-cut a b c h h' (flat_map f (take i xs)) (f (get_or xs i d)) p q))
 
 -- the same, one byte at a time
-pub put_number : (a b c : Option (List ℕ)) (h h' h'' : List ℕ) (f : ℕ → ℕ) (xs : List ℕ) (i : ℕ)
+pub put-number : (a b c : Option (List ℕ)) (h h' h'' : List ℕ) (f : ℕ → ℕ) (xs : List ℕ) (i : ℕ)
     → i < length xs
     → Put a b h h' (map f (take i xs)) → Put b c h' h'' (f (get_or xs i 0) ∷ [])
     → Put a c h h'' (map f (take (i + 1) xs))
-put_number a b c h h' h'' f xs i lt p q =
+put-number a b c h h' h'' f xs i lt p q =
     let P : List ℕ → Type 0 = λ z. Put a b h h' z in
     let Q : List ℕ → Type 0 = λ z. Put a c h h'' z in
     subst Q (flat_map_single f (take (i + 1) xs))
-    (put_next a b c h h' h'' (λ x. f x ∷ []) xs i 0 lt
+    (put-next a b c h h' h'' (λ x. f x ∷ []) xs i 0 lt
     (subst P (sym (flat_map_single f (take i xs))) p) q)
 
-pub cut_at_number : (a b c : Option (List ℕ)) (h h' : List ℕ) (f : ℕ → ℕ) (xs : List ℕ) (i : ℕ)
+pub cut_at-number : (a b c : Option (List ℕ)) (h h' : List ℕ) (f : ℕ → ℕ) (xs : List ℕ) (i : ℕ)
     → i < length xs
     → Put a b h h' (map f (take i xs)) → Cut b c h' (f (get_or xs i 0) ∷ []) → Cut a c h (map f xs)
-cut_at_number a b c h h' f xs i lt p q =
+cut_at-number a b c h h' f xs i lt p q =
     let P : List ℕ → Type 0 = λ z. Put a b h h' z in
     let Q : List ℕ → Type 0 = λ z. Cut a c h z in
     subst Q (flat_map_single f xs)
     (cut_at a b c h h' (λ x. f x ∷ []) xs i 0 lt (subst P (sym (flat_map_single f (take i xs))) p)
     q)
 
-pub puts_then : {E : Type 0} (a b c : Option (List ℕ)) (h h' h'' x y : List ℕ)
+pub puts-then : {E : Type 0} (a b c : Option (List ℕ)) (h h' h'' x y : List ℕ)
     (r : Result (Unit {0}) E) → Put a b h h' x
     → Puts b c h' h'' r y → Puts a c h h'' r (x ++ y)
-puts_then a b c h h' h'' x y (Ok done) p q = put_then a b c h h' h'' x y p q
-puts_then a b c h h' h'' x y (Err fault) p q = put_cut a b c h h' x y p q
+puts-then a b c h h' h'' x y (Ok done) p q = put-then a b c h h' h'' x y p q
+puts-then a b c h h' h'' x y (Err fault) p q = put-cut a b c h h' x y p q
 
 -- a string was appended to an empty buffer, and then the buffer was written
-pub writes_all : {E : Type 0} (a b c : Option (List ℕ)) (h text : List ℕ) (r : Result (Unit {0}) E)
+pub writes-all : {E : Type 0} (a b c : Option (List ℕ)) (h text : List ℕ) (r : Result (Unit {0}) E)
     → Put a b [] h text → Writes b c r h
     → Writes a c r text
-writes_all a b c h text (Ok done) p w =
+writes-all a b c h text (Ok done) p w =
     let P : List ℕ → Type 0 = λ z. Appends a c z in
     subst P (sym p.splits) (appends_then a b c p.sent h p.appended w)
-writes_all a b c h text (Err fault) p w = (
+writes-all a b c h text (Err fault) p w = (
   p.sent ++ w.0,
   (w.1.0, append_assoc p.sent w.0 w.1.0 ∙ ap (λ (z : List ℕ). p.sent ++ z) w.1.1 ∙ sym p.splits),
   appends_then a b c
@@ -179,10 +179,10 @@ writes_all a b c h text (Err fault) p w = (
 )
 
 -- a string without control characters
-pub all_printable : (text : List ℕ) → list_all (λ byte. not (is_control byte)) text ≡ true
+pub all-printable : (text : List ℕ) → list_all (λ byte. not (is_control byte)) text ≡ true
     → text ≡ map printable text
-all_printable [] h = refl
-all_printable (byte ∷ text) h = at (is_control byte) refl h (all_printable text)
+all-printable [] h = refl
+all-printable (byte ∷ text) h = at (is_control byte) refl h (all-printable text)
   where
     at : (v : Bool) → is_control byte ≡ v → (not v && list_all (λ b. not (is_control b)) text)
         ≡ true
@@ -192,13 +192,13 @@ all_printable (byte ∷ text) h = at (is_control byte) refl h (all_printable tex
     at false e k rest = rw e (ap (λ (z : List ℕ). byte ∷ z) (rest k))
 
 -- a string replaced by an equal one
-pub cut_as : (a b : Option (List ℕ)) (h x y : List ℕ) → x ≡ y → Cut a b h x → Cut a b h y
-cut_as a b h x y e p = subst (λ (z : List ℕ). Cut a b h z) e p
+pub cut-as : (a b : Option (List ℕ)) (h x y : List ℕ) → x ≡ y → Cut a b h x → Cut a b h y
+cut-as a b h x y e p = subst (λ (z : List ℕ). Cut a b h z) e p
 
-pub put_as : (a b : Option (List ℕ)) (h h' x y : List ℕ) → x ≡ y → Put a b h h' x → Put a b h h' y
-put_as a b h h' x y e p = subst (λ (z : List ℕ). Put a b h h' z) e p
+pub put-as : (a b : Option (List ℕ)) (h h' x y : List ℕ) → x ≡ y → Put a b h h' x → Put a b h h' y
+put-as a b h h' x y e p = subst (λ (z : List ℕ). Put a b h h' z) e p
 
-pub puts_as : {E : Type 0} (a b : Option (List ℕ)) (h h' x y : List ℕ) (r : Result (Unit {0}) E)
+pub puts-as : {E : Type 0} (a b : Option (List ℕ)) (h h' x y : List ℕ) (r : Result (Unit {0}) E)
     → x ≡ y → Puts a b h h' r x
     → Puts a b h h' r y
-puts_as a b h h' x y r e p = subst (λ (z : List ℕ). Puts a b h h' r z) e p
+puts-as a b h h' x y r e p = subst (λ (z : List ℕ). Puts a b h h' r z) e p

@@ -11,98 +11,98 @@ use Rattle.answer_text.specs.Text.{name_of, after_name, heading_text}
 use Rattle.answer_text.specs.Text.{after_address, file_of, place_text}
 use Rattle.answer_text.specs.Numerals.{address_text}
 use Rattle.io_streams.specs.declared.options.Options.{Options}
-use Rattle.answer_text.proofs.PendingLemmas.{cut_more, puts_then, cut_as, put_as, puts_as}
+use Rattle.answer_text.proofs.PendingLemmas.{cut-more, puts-then, cut-as, put-as, puts-as}
 
-pub cut_known : (a b : Option (List ℕ)) (h : List ℕ) (t t' : Option (List ℕ)) (rest : List ℕ)
+pub cut-known : (a b : Option (List ℕ)) (h : List ℕ) (t t' : Option (List ℕ)) (rest : List ℕ)
     → t ≡ t' → Cut a b h (known_text t)
     → Cut a b h (known_text t' ++ rest)
-cut_known a b h t t' rest e p = subst (λ (x : Option (List ℕ)). Cut a b h (known_text x ++ rest)) e
-    (cut_more a b h (known_text t) rest p)
+cut-known a b h t t' rest e p = subst (λ (x : Option (List ℕ)). Cut a b h (known_text x ++ rest)) e
+    (cut-more a b h (known_text t) rest p)
 
-pub puts_known : {E : Type 0} (a b c : Option (List ℕ)) (h h' h'' : List ℕ) (t t' : Option (List ℕ))
+pub puts-known : {E : Type 0} (a b c : Option (List ℕ)) (h h' h'' : List ℕ) (t t' : Option (List ℕ))
     (y y' : List ℕ)
     (r : Result (Unit {0}) E) → t ≡ t' → y ≡ y'
     → Put a b h h' (known_text t) → Puts b c h' h'' r y → Puts a c h h'' r (known_text t' ++ y')
-puts_known {E} a b c h h' h'' t t' y y' r e f p q =
+puts-known {E} a b c h h' h'' t t' y y' r e f p q =
     subst (λ (x : Option (List ℕ)). Puts a c h h'' r (known_text x ++ y')) e
     (subst (λ (z : List ℕ). Puts a c h h'' r (known_text t ++ z)) f
-    (puts_then a b c h h' h'' (known_text t) y r p q))
+    (puts-then a b c h h' h'' (known_text t) y r p q))
 
 -- the name, if names are requested
-pub named_text : (options : Options) (frame : Frame) → options.functions ≡ true
+pub named-text : (options : Options) (frame : Frame) → options.functions ≡ true
     → known_text (name_of options frame) ++ after_name options ≡ name_text options frame
-named_text options frame e = rw e refl
+named-text options frame e = rw e refl
 
 -- the first string replaced by an equal one, and the output after it
-pub cut_first : (a b : Option (List ℕ)) (h x y rest : List ℕ) → x ≡ y → Cut a b h x
+pub cut-first : (a b : Option (List ℕ)) (h x y rest : List ℕ) → x ≡ y → Cut a b h x
     → Cut a b h (y ++ rest)
-cut_first a b h x y rest e p = cut_more a b h y rest (cut_as a b h x y e p)
+cut-first a b h x y rest e p = cut-more a b h y rest (cut-as a b h x y e p)
 
-pub puts_first : {E : Type 0} (a b c : Option (List ℕ)) (h h' h'' x y rest : List ℕ)
+pub puts-first : {E : Type 0} (a b c : Option (List ℕ)) (h h' h'' x y rest : List ℕ)
     (r : Result (Unit {0}) E) → x ≡ y → Put a b h h' x
     → Puts b c h' h'' r rest → Puts a c h h'' r (y ++ rest)
-puts_first a b c h h' h'' x y rest r e p q =
-    puts_then a b c h h' h'' y rest r (put_as a b h h' x y e p) q
+puts-first a b c h h' h'' x y rest r e p q =
+    puts-then a b c h h' h'' y rest r (put-as a b h h' x y e p) q
 
-pub cut_named : (a b : Option (List ℕ)) (h : List ℕ) (options : Options) (frame : Frame)
+pub cut-named : (a b : Option (List ℕ)) (h : List ℕ) (options : Options) (frame : Frame)
     (t : Option (List ℕ)) → options.functions ≡ true
     → t ≡ name_of options frame → Cut a b h (known_text t) → Cut a b h (name_text options frame)
-cut_named a b h options frame t on e p =
-    cut_as a b h _ _ (named_text options frame on)
-    (cut_known a b h t (name_of options frame) (after_name options) e p)
+cut-named a b h options frame t on e p =
+    cut-as a b h _ _ (named-text options frame on)
+    (cut-known a b h t (name_of options frame) (after_name options) e p)
 
-pub puts_named : {E : Type 0} (a b c : Option (List ℕ)) (h h' h'' : List ℕ) (options : Options)
+pub puts-named : {E : Type 0} (a b c : Option (List ℕ)) (h h' h'' : List ℕ) (options : Options)
     (frame : Frame) (t : Option (List ℕ))
     (y : List ℕ) (r : Result (Unit {0}) E) → options.functions ≡ true
     → t ≡ name_of options frame → y ≡ after_name options → Put a b h h' (known_text t)
     → Puts b c h' h'' r y
     → Puts a c h h'' r (name_text options frame)
-puts_named a b c h h' h'' options frame t y r on e f p q =
-    puts_as a c h h'' _ _ r (named_text options frame on)
-    (puts_known a b c h h' h'' t (name_of options frame) y (after_name options) r e f p q)
+puts-named a b c h h' h'' options frame t y r on e f p q =
+    puts-as a c h h'' _ _ r (named-text options frame on)
+    (puts-known a b c h h' h'' t (name_of options frame) y (after_name options) r e f p q)
 
 -- only the innermost frame, or also the others
-pub cut_frames : (a b : Option (List ℕ)) (h : List ℕ) (options : Options) (fs : List Frame)
+pub cut-frames : (a b : Option (List ℕ)) (h : List ℕ) (options : Options) (fs : List Frame)
     (f : Frame) (rest : List Frame)
     → fs ≡ f ∷ rest → Cut a b h (frame_text options f)
     → Cut a b h (frames_text options fs)
-cut_frames a b h options fs f rest e p =
-    cut_as a b h _ _ (ap (frames_text options) (sym e))
-    (cut_more a b h (frame_text options f)
+cut-frames a b h options fs f rest e p =
+    cut-as a b h _ _ (ap (frames_text options) (sym e))
+    (cut-more a b h (frame_text options f)
     (if options.inlines then flat_map (later_text options) rest else []) p)
 
-pub puts_one : {E : Type 0} (a b c : Option (List ℕ)) (h h' h'' : List ℕ) (options : Options)
+pub puts-one : {E : Type 0} (a b c : Option (List ℕ)) (h h' h'' : List ℕ) (options : Options)
     (fs : List Frame) (f : Frame)
     (rest : List Frame) (r : Result (Unit {0}) E) → fs ≡ f ∷ rest → options.inlines ≡ false
     → Put a b h h' (frame_text options f) → Puts b c h' h'' r []
     → Puts a c h h'' r (frames_text options fs)
-puts_one a b c h h' h'' options fs f rest r e off p q =
+puts-one a b c h h' h'' options fs f rest r e off p q =
     let head : frame_text options f ++ [] ≡ frames_text options (f ∷ rest) = rw off refl in
-    puts_as a c h h'' _ _ r (head ∙ ap (frames_text options) (sym e))
-    (puts_then a b c h h' h'' (frame_text options f) [] r p q)
+    puts-as a c h h'' _ _ r (head ∙ ap (frames_text options) (sym e))
+    (puts-then a b c h h' h'' (frame_text options f) [] r p q)
 
-pub puts_all : {E : Type 0} (a b c : Option (List ℕ)) (h h' h'' : List ℕ) (options : Options)
+pub puts-all : {E : Type 0} (a b c : Option (List ℕ)) (h h' h'' : List ℕ) (options : Options)
     (fs : List Frame) (f : Frame)
     (rest : List Frame) (r : Result (Unit {0}) E) → fs ≡ f ∷ rest → options.inlines ≡ true
     → Put a b h h' (frame_text options f) → Puts b c h' h'' r (flat_map (later_text options) rest)
     → Puts a c h h'' r (frames_text options fs)
-puts_all a b c h h' h'' options fs f rest r e on p q =
+puts-all a b c h h' h'' options fs f rest r e on p q =
     let head : frame_text options f ++ flat_map (later_text options) rest
     ≡ frames_text options (f ∷ rest) = rw on refl in
-    puts_as a c h h'' _ _ r (head ∙ ap (frames_text options) (sym e))
-    (puts_then a b c h h' h'' (frame_text options f) (flat_map (later_text options) rest) r p q)
+    puts-as a c h h'' _ _ r (head ∙ ap (frames_text options) (sym e))
+    (puts-then a b c h h' h'' (frame_text options f) (flat_map (later_text options) rest) r p q)
 
 -- the items that were appended, and the remaining ones
-pub put_item : {X : Type 0} (a b c : Option (List ℕ)) (h h' h'' : List ℕ) (t : X → List ℕ)
+pub put-item : {X : Type 0} (a b c : Option (List ℕ)) (h h' h'' : List ℕ) (t : X → List ℕ)
     (all done left rest : List X) (x : X)
     → all ≡ done ++ left → left ≡ x ∷ rest
     → Put a b h h' (flat_map t done) → Put b c h' h'' (t x) → (more : List X) × (all ≡ more ++ rest)
     × Put a c h h'' (flat_map t more)
-put_item a b c h h' h'' t all done left rest x e g p q = (
+put-item a b c h h' h'' t all done left rest x e g p q = (
   done ++ x ∷ [],
   e ∙ ap (λ z. done ++ z) g ∙ sym (append_assoc done (x ∷ []) rest),
-  put_as a c h h'' _ _ (sym (flat_map_then t done x))
-      (puts_then {E = Unit {0}} a b c h h' h'' (flat_map t done) (t x) (Ok tt) p q),
+  put-as a c h h'' _ _ (sym (flat_map_then t done x))
+      (puts-then {E = Unit {0}} a b c h h' h'' (flat_map t done) (t x) (Ok tt) p q),
 )
   where
     flat_map_then : {X : Type 0} (t : X → List ℕ) (done : List X) (x : X)
@@ -111,15 +111,15 @@ put_item a b c h h' h'' t all done left rest x e g p q = (
     flat_map_then t (y ∷ ys) x = ap (λ (z : List ℕ). t y ++ z) (flat_map_then t ys x)
         ∙ sym (append_assoc (t y) (flat_map t ys) (t x))
 
-pub cut_item : {X : Type 0} (a b c : Option (List ℕ)) (h h' : List ℕ) (t : X → List ℕ)
+pub cut-item : {X : Type 0} (a b c : Option (List ℕ)) (h h' : List ℕ) (t : X → List ℕ)
     (all done left rest : List X) (x : X)
     → all ≡ done ++ left → left ≡ x ∷ rest
     → Put a b h h' (flat_map t done) → Cut b c h' (t x) → Cut a c h (flat_map t all)
-cut_item a b c h h' t all done left rest x e g p q =
-    cut_as a c h _ _ (sym (ap (flat_map t) (e ∙ ap (λ z. done ++ z) g)
+cut-item a b c h h' t all done left rest x e g p q =
+    cut-as a c h _ _ (sym (ap (flat_map t) (e ∙ ap (λ z. done ++ z) g)
     ∙ flat_map_append t done (x ∷ rest)))
-    (puts_then {E = Unit {0}} a b c h h' [] (flat_map t done) (flat_map t (x ∷ rest)) (Err tt) p
-    (cut_more b c h' (t x) (flat_map t rest) q))
+    (puts-then {E = Unit {0}} a b c h h' [] (flat_map t done) (flat_map t (x ∷ rest)) (Err tt) p
+    (cut-more b c h' (t x) (flat_map t rest) q))
   where
     flat_map_append : {X : Type 0} (t : X → List ℕ) (xs ys : List X)
         → flat_map t (xs ++ ys) ≡ flat_map t xs ++ flat_map t ys
@@ -129,10 +129,10 @@ cut_item a b c h h' t all done left rest x e g p q =
         ∙ sym (append_assoc (t x) (flat_map t xs) (flat_map t ys))
 
 -- without names and inlined callers, the output is the position of the innermost frame
-pub site_text : (options : Options) (site : Site) (fs : List Frame) → options.functions ≡ false
+pub site-text : (options : Options) (site : Site) (fs : List Frame) → options.functions ≡ false
     → options.inlines ≡ false → site ≡ first_site fs
     → place_text options site.path site.line ≡ frames_text options fs
-site_text options site fs unnamed alone is =
+site-text options site fs unnamed alone is =
     ap (λ (s : Site). place_text options s.path s.line) is ∙ first fs
   where
     no_file : file_of options None ≡ None

@@ -9,10 +9,10 @@ use Rattle.io_streams.specs.Streams.{IsBeginning, write_failures}
 use Rattle.io_streams.proofs.StreamLemmas.{appends_kept, appends_then}
 
 -- a prefix was written, and then no more
-pub stops_at : (a b c : Option (List ℕ)) (text : List ℕ) (n : ℕ) → Appends a b (take n text)
+pub stops-at : (a b c : Option (List ℕ)) (text : List ℕ) (n : ℕ) → Appends a b (take n text)
     → Keeps b c
     → (part : List ℕ) × IsBeginning part text × Appends a c part
-stops_at a b c text n h k = (
+stops-at a b c text n h k = (
   take n text,
   (drop n text, take-append-drop n text),
   appends_kept a b c (take n text) h k,
@@ -30,10 +30,10 @@ goes_on a b c text n m h k =
     h k)
 
 -- a piece without bytes
-pub goes_nowhere : (a b c : Option (List ℕ)) (text bytes : List ℕ) (n m : ℕ) → m ≡ 0
+pub goes-nowhere : (a b c : Option (List ℕ)) (text bytes : List ℕ) (n m : ℕ) → m ≡ 0
     → Appends a b (take n text)
     → Appends b c (take m bytes) → (part : List ℕ) × IsBeginning part text × Appends a c part
-goes_nowhere a b c text bytes n m zero_is h k =
+goes-nowhere a b c text bytes n m zero_is h k =
     let nothing : take m bytes ≡ [] = ap (λ (z : ℕ). take z bytes) zero_is in
     let joined : take n text ++ take m bytes ≡ take n text =
     ap (λ (z : List ℕ). take n text ++ z) nothing ∙ append-nil (take n text) in
@@ -44,6 +44,6 @@ goes_nowhere a b c text bytes n m zero_is h k =
     )
 
 -- a write that accepted a byte did not fail
-pub took_some : (E : Type 0) (failures : ℕ) (bytes : List ℕ) (n : ℕ) → n ≢ 0
+pub took-some : (E : Type 0) (failures : ℕ) (bytes : List ℕ) (n : ℕ) → n ≢ 0
     → write_failures {E = E} failures bytes (Ok n) ≡ failures
-took_some E failures bytes n ne = let is_no : nat_eq n 0 ≡ false = ne_eqb n 0 ne in rw is_no refl
+took-some E failures bytes n ne = let is_no : nat_eq n 0 ≡ false = ne_eqb n 0 ne in rw is_no refl

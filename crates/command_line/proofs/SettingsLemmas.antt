@@ -25,18 +25,18 @@ module _ (words : List (List ℕ)) (rows : List Row) (are : rows ≡ matches_of 
   with_numbers outcome gives = ap settings_of (sym are) ∙ ap (settings_with rows) gives
 
 -- an address is invalid
-pub word_refused : (words : List (List ℕ)) (rows : List Row) (outcome : Result (List ℕ) (List ℕ))
+pub word-refused : (words : List (List ℕ)) (rows : List Row) (outcome : Result (List ℕ) (List ℕ))
     (fault : CliFault) → IsBadWord outcome fault → IsAccepted words
     → settings_of (matches_of our_app words) ≡ settings_with rows outcome → IsRefused words fault
-word_refused words rows outcome (Usage e) bad accepted is = absurd bad
-word_refused words rows outcome (Address w) bad accepted is =
+word-refused words rows outcome (Usage e) bad accepted is = absurd bad
+word-refused words rows outcome (Address w) bad accepted is =
     record { 0 = accepted; 1 = is ∙ ap (settings_with rows) bad }
-word_refused words rows outcome Memory bad accepted is = tt
+word-refused words rows outcome Memory bad accepted is = tt
 
 -- the strings of optional references are the strings of the rows
-pub texts_are : (words : Option (Bor (List (Bor (List ℕ))))) (o : Option (List (List ℕ)))
+pub texts-are : (words : Option (Bor (List (Bor (List ℕ))))) (o : Option (List (List ℕ)))
     → option_map (λ ws. map (λ (w : Bor (List ℕ)). w.now) ws.now) words ≡ o
     → texts_of words ≡ option_map_or (λ texts. texts) o []
-texts_are None o is = ap (λ (l : Option (List (List ℕ))). option_map_or (λ texts. texts) l []) is
-texts_are (Some ws) o is = ap (λ (l : Option (List (List ℕ))). option_map_or (λ texts. texts) l [])
+texts-are None o is = ap (λ (l : Option (List (List ℕ))). option_map_or (λ texts. texts) l []) is
+texts-are (Some ws) o is = ap (λ (l : Option (List (List ℕ))). option_map_or (λ texts. texts) l [])
     is

@@ -4,16 +4,16 @@ use Rattle.std.specs.Prelude.{Option, None, Some, Ok, Err}
 use Rattle.std.specs.Str.Parse.{ParsesUnsigned}
 use Rattle.command_line.specs.Settings.{IsCacheSize}
 
-some_is_not_none : (size : ℕ) → Some size ≡ None → ⊥
-some_is_not_none size e = cc
+some_is-not-none : (size : ℕ) → Some size ≡ None → ⊥
+some_is-not-none size e = cc
 
-pub size_read : (E : Type 0) (o : Option (List ℕ)) (size : ℕ) → (o ≡ None → Some size ≡ None)
+pub size-read : (E : Type 0) (o : Option (List ℕ)) (size : ℕ) → (o ≡ None → Some size ≡ None)
     → ((t : List ℕ) → o ≡ Some t → ParsesUnsigned {E = E} 32 10 t (Ok size)) → IsCacheSize o size
-size_read E None size none read = absurd (some_is_not_none size (none refl))
-size_read E (Some t) size none read = λ numeral below. (read t refl).1
+size-read E None size none read = absurd (some_is-not-none size (none refl))
+size-read E (Some t) size none read = λ numeral below. (read t refl).1
 
-pub size_not_read : (E : Type 0) (o : Option (List ℕ))
+pub size-not-read : (E : Type 0) (o : Option (List ℕ))
     → ((t : List ℕ) → o ≡ Some t → (e : E) × ParsesUnsigned {E = E} 32 10 t (Err e))
     → IsCacheSize o 1024
-size_not_read E None read = refl
-size_not_read E (Some t) read = λ numeral below. absurd ((read t refl).1 (numeral, below))
+size-not-read E None read = refl
+size-not-read E (Some t) read = λ numeral below. absurd ((read t refl).1 (numeral, below))

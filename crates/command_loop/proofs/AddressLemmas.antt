@@ -6,42 +6,42 @@ use Rattle.io_streams.specs.declared.options.Options.{Options}
 use Rattle.command_loop.specs.Output.{ask_of}
 use Rattle.command_loop.specs.Private.Progress.{RunState, ServesRequest, FailsToReply}
 use Rattle.command_loop.specs.Private.Progress.{ServedInOrder, StopsAmong}
-use Rattle.command_loop.proofs.RequestLemmas.{map_append, handled_one, handled_then, handled_as}
+use Rattle.command_loop.proofs.RequestLemmas.{map_append, handled-one, handled-then, handled-as}
 use Rattle.command_loop.proofs.RequestLemmas.{halts}
 
 -- a prefix that grows by one element
-pub take_next : {X : Type 0} (xs : List X) (i : ℕ) (d : X) → i < length xs
+pub take-next : {X : Type 0} (xs : List X) (i : ℕ) (d : X) → i < length xs
     → take i xs ++ get_or xs i d ∷ [] ≡ take (i + 1) xs
-take_next xs i d lt = ap (λ z. take i xs ++ z) (sym (ap (take 1) (drop-cons xs i d lt)))
+take-next xs i d lt = ap (λ z. take i xs ++ z) (sym (ap (take 1) (drop-cons xs i d lt)))
     ∙ sym (take-add i 1 xs)
 
-pub take_past : {X : Type 0} (n : ℕ) (xs : List X) → length xs ≤ n → take n xs ≡ xs
-take_past zero [] h = refl
-take_past (suc n) [] h = refl
-take_past zero (x ∷ xs) h = absurd (omega arith)
-take_past (suc n) (x ∷ xs) h = ap (λ z. x ∷ z) (take_past n xs (omega arith))
+pub take-past : {X : Type 0} (n : ℕ) (xs : List X) → length xs ≤ n → take n xs ≡ xs
+take-past zero [] h = refl
+take-past (suc n) [] h = refl
+take-past zero (x ∷ xs) h = absurd (omega arith)
+take-past (suc n) (x ∷ xs) h = ap (λ z. x ∷ z) (take-past n xs (omega arith))
 
 -- ---- addresses of the command line
 
-pub word_next : (options : Options) (start now new : RunState) (words : List ℕ) (i : ℕ)
+pub word-next : (options : Options) (start now new : RunState) (words : List ℕ) (i : ℕ)
     → i < length words
     → ServedInOrder options start (map ask_of (take i words)) now
     → ServesRequest options (ask_of (get_or words i 0)) now new
     → ServedInOrder options start (map ask_of (take (i + 1) words)) new
-word_next options start now new words i lt h s =
-    handled_as options start new _ _
+word-next options start now new words i lt h s =
+    handled-as options start new _ _
     (sym (map_append ask_of (take i words) (get_or words i 0 ∷ []))
-    ∙ ap (map ask_of) (take_next words i 0 lt))
-    (handled_then options start now new (map ask_of (take i words)) (ask_of (get_or words i 0) ∷ [])
+    ∙ ap (map ask_of) (take-next words i 0 lt))
+    (handled-then options start now new (map ask_of (take i words)) (ask_of (get_or words i 0) ∷ [])
     h
-    (handled_one options (ask_of (get_or words i 0)) now new s))
+    (handled-one options (ask_of (get_or words i 0)) now new s))
 
-pub word_stops : (options : Options) (start now new : RunState) (words : List ℕ) (i : ℕ)
+pub word-stops : (options : Options) (start now new : RunState) (words : List ℕ) (i : ℕ)
     → i < length words
     → ServedInOrder options start (map ask_of (take i words)) now
     → FailsToReply options (ask_of (get_or words i 0)) now new
     → StopsAmong options start (map ask_of words) new.asked new.written
-word_stops options start now new words i lt h f = (
+word-stops options start now new words i lt h f = (
   map ask_of (take i words),
   map ask_of (drop (suc i) words),
   ask_of (get_or words i 0),
@@ -51,9 +51,9 @@ word_stops options start now new words i lt h f = (
   halts options start now new (map ask_of (take i words)) (ask_of (get_or words i 0)) h f,
 )
 
-pub words_all : (options : Options) (start now : RunState) (words : List ℕ) (i : ℕ)
+pub words-all : (options : Options) (start now : RunState) (words : List ℕ) (i : ℕ)
     → length words ≤ i
     → ServedInOrder options start (map ask_of (take i words)) now
     → ServedInOrder options start (map ask_of words) now
-words_all options start now words i past h =
-    handled_as options start now _ _ (ap (map ask_of) (take_past i words past)) h
+words-all options start now words i past h =
+    handled-as options start now _ _ (ap (map ask_of) (take-past i words past)) h

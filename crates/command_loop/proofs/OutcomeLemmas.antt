@@ -13,88 +13,88 @@ use Rattle.command_loop.specs.Output.{start_world_with}
 use Rattle.command_loop.specs.Replies.{answer_at, load_step, moved_step, move_step, overlap_name}
 use Rattle.command_loop.specs.Replies.Reply.{Refused, LoadedAt, MovedTo, Answered}
 
-pub refused_world : (old new : World) (m : Loaded) (short : Bool) (fault : MapFault)
+pub refused-world : (old new : World) (m : Loaded) (short : Bool) (fault : MapFault)
     → load_fault old m short ≡ Some fault → new ≡ old
     → new ≡ (load_step old m (load_fault old m short)).world
-refused_world old new m short fault e same =
+refused-world old new m short fault e same =
     same ∙ sym (ap (λ (z : Option MapFault). (load_step old m z).world) e)
 
-pub refused_reply : (old new : World) (m : Loaded) (short : Bool) (fault : MapFault)
+pub refused-reply : (old new : World) (m : Loaded) (short : Bool) (fault : MapFault)
     → load_fault old m short ≡ Some fault → new ≡ old
     → Refused fault (overlap_name new fault) ≡ (load_step old m (load_fault old m short)).reply
-refused_reply old new m short fault e same =
+refused-reply old new m short fault e same =
     ap (λ (z : World). Refused fault (overlap_name z fault)) same
     ∙ sym (ap (λ (z : Option MapFault). (load_step old m z).reply) e)
 
-pub accepted_world : (old new : World) (m : Loaded) (short : Bool) → load_fault old m short ≡ None
+pub accepted-world : (old new : World) (m : Loaded) (short : Bool) → load_fault old m short ≡ None
     → new ≡ with_module old m
     → new ≡ (load_step old m (load_fault old m short)).world
-accepted_world old new m short e is = is
+accepted-world old new m short e is = is
     ∙ sym (ap (λ (z : Option MapFault). (load_step old m z).world) e)
 
-pub accepted_reply : (old : World) (m : Loaded) (short : Bool) (low high : ℕ)
+pub accepted-reply : (old : World) (m : Loaded) (short : Bool) (low high : ℕ)
     → load_fault old m short ≡ None → low ≡ start_of m
     → high ≡ end_of m
     → LoadedAt m.name low high ≡ (load_step old m (load_fault old m short)).reply
-accepted_reply old m short low high e l h =
+accepted-reply old m short low high e l h =
     ap (λ (z : ℕ). LoadedAt m.name z high) l ∙ ap (λ (z : ℕ). LoadedAt m.name (start_of m) z) h
     ∙ sym
     (ap (λ (z : Option MapFault). (load_step old m z).reply) e)
 
 -- a move that is done
-pub moved_world : (old new : World) (name : List ℕ) (m : Option Loaded) (base : ℕ) (extent : Extent)
+pub moved-world : (old new : World) (name : List ℕ) (m : Option Loaded) (base : ℕ) (extent : Extent)
     → move_fault m old base ≡ None
     → IsMoved old m base extent new
     → new ≡ (move_step old name m base).world
-moved_world old new name None base extent e is = absurd is
-moved_world old new name (Some m) base extent e is =
+moved-world old new name None base extent e is = absurd is
+moved-world old new name (Some m) base extent e is =
     is.1 ∙ sym (ap (λ (z : Option MapFault). (moved_step old name z (Some m) base).world) e)
 
-pub moved_reply : (old new : World) (name : List ℕ) (m : Option Loaded) (base : ℕ) (extent : Extent)
+pub moved-reply : (old new : World) (name : List ℕ) (m : Option Loaded) (base : ℕ) (extent : Extent)
     → move_fault m old base ≡ None
     → IsMoved old m base extent new
     → MovedTo name extent.low extent.high ≡ (move_step old name m base).reply
-moved_reply old new name None base extent e is = absurd is
-moved_reply old new name (Some m) base extent e is =
+moved-reply old new name None base extent e is = absurd is
+moved-reply old new name (Some m) base extent e is =
     ap (λ (z : ℕ). MovedTo name z extent.high) is.0.0
     ∙ ap (λ (z : ℕ). MovedTo name (start_of (moved_to base m)) z) is.0.1
     ∙ sym (ap (λ (z : Option MapFault). (moved_step old name z (Some m) base).reply) e)
 
 -- the result of an ask
-pub asked_address : (world : World) (address : ℕ) (result : found.Asked)
+pub asked-address : (world : World) (address : ℕ) (result : found.Asked)
     → result ≡ asked world address → result.address ≡ address
 unfolding asked
-asked_address world address result e = ap (λ (z : found.Asked). z.address) e
+asked-address world address result e = ap (λ (z : found.Asked). z.address) e
 
-pub asked_current : (old new : World) (address : ℕ) (result : found.Asked) → new ≡ old
+pub asked-current : (old new : World) (address : ℕ) (result : found.Asked) → new ≡ old
     → result ≡ asked old address
     → result ≡ asked new result.address
-asked_current old new address result same e =
+asked-current old new address result same e =
     e ∙ ap (λ (z : World). asked z address) (sym same)
-    ∙ ap (asked new) (sym (asked_address old address result e))
+    ∙ ap (asked new) (sym (asked-address old address result e))
 
-pub asked_reply : (old new : World) (address : ℕ) (result : found.Asked) → new ≡ old
+pub asked-reply : (old new : World) (address : ℕ) (result : found.Asked) → new ≡ old
     → result ≡ asked old address
     → Answered (answer_at new result.address) ≡ Answered (answer_at old address)
-asked_reply old new address result same e =
+asked-reply old new address result same e =
     ap (λ (z : World). Answered (answer_at z result.address)) same
     ∙ ap (λ (z : ℕ). Answered (answer_at old z))
-    (asked_address old address result e)
+    (asked-address old address result e)
 
 -- the object of the command line
 abbrev pub ok_world : World → Result World ExeFault
 ok_world world = Ok world
 
-pub exe_refused : (old : World) (m : Loaded) (short : Bool) (fault : MapFault) → old ≡ no_modules
+pub exe-refused : (old : World) (m : Loaded) (short : Bool) (fault : MapFault) → old ≡ no_modules
     → load_fault old m short ≡ Some fault
     → start_world_with m (load_fault no_modules m short) ≡ Err (NotLoaded fault)
-exe_refused old m short fault same e = ap (start_world_with m)
+exe-refused old m short fault same e = ap (start_world_with m)
     (ap (λ (z : World). load_fault z m short) (sym same) ∙ e)
 
-pub exe_loaded : (old new : World) (m : Loaded) (short : Bool) → old ≡ no_modules
+pub exe-loaded : (old new : World) (m : Loaded) (short : Bool) → old ≡ no_modules
     → load_fault old m short ≡ None
     → new ≡ with_module old m → start_world_with m (load_fault no_modules m short) ≡ Ok new
-exe_loaded old new m short same e is =
+exe-loaded old new m short same e is =
     ap (start_world_with m) (ap (λ (z : World). load_fault z m short) (sym same) ∙ e)
     ∙ ap (λ (z : World). ok_world (with_module z m)) (sym same) ∙ ap (λ (z : World). ok_world z)
     (sym is)

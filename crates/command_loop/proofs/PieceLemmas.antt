@@ -11,8 +11,8 @@ use Rattle.bstr.specs.Find.{IsFirstByte, is_byte}
 use Rattle.command_loop.specs.Lines.{longer}
 use Rattle.command_loop.specs.Output.{Exchanges}
 use Rattle.command_loop.specs.Private.Progress.{RunState, ReadSoFar, ReadsOn, StopsWithin}
-use Rattle.command_loop.proofs.ReadLemmas.{continues_bytes, breaks_then, breaks_before}
-use Rattle.command_loop.proofs.ReadLemmas.{continues_then}
+use Rattle.command_loop.proofs.ReadLemmas.{continues-bytes, breaks-then, breaks-before}
+use Rattle.command_loop.proofs.ReadLemmas.{continues-then}
 
 -- a piece that was processed up to some byte, and the rest of it
 pub record ServedTo (options : Options) (piece rest : List ℕ) (a : RunState) (ha : Option (List ℕ))
@@ -22,9 +22,9 @@ pub record ServedTo (options : Options) (piece rest : List ℕ) (a : RunState) (
   pub cut : piece ≡ front ++ rest
   pub reads : ReadsOn options front a ha b hb
 
-pub served_none : (options : Options) (piece : List ℕ) (a : RunState) (ha : Option (List ℕ))
+pub served-none : (options : Options) (piece : List ℕ) (a : RunState) (ha : Option (List ℕ))
     → ServedTo options piece piece a ha a ha
-served_none options piece a ha = record {
+served-none options piece a ha = record {
   front = [];
   cut = refl;
   reads = λ start read r. let P : List ℕ → Type 0 = λ z. ReadSoFar options start z a ha in
@@ -32,21 +32,21 @@ served_none options piece a ha = record {
 }
 
 -- the first line feed, as a search returns it
-pub no_feed : (bytes : List ℕ) (found : Option ℕ) → found ≡ None
+pub no-feed : (bytes : List ℕ) (found : Option ℕ) → found ≡ None
     → IsFirstByte (is_byte 10) bytes found → HasNoFeed bytes
-no_feed bytes None is nowhere k lt e = nowhere k (omega arith) lt (rw e refl)
-no_feed bytes (Some end) is first k lt e = cc
+no-feed bytes None is nowhere k lt e = nowhere k (omega arith) lt (rw e refl)
+no-feed bytes (Some end) is first k lt e = cc
 
 -- the bytes before a line feed, and the bytes after it
 pub record CutAtFeed (bytes : List ℕ) (end : ℕ) : Type 0 where
   pub none : HasNoFeed (take end bytes)
   pub cut : bytes ≡ take end bytes ++ 10 ∷ drop (end + 1) bytes
 
-pub cut_at_feed : (bytes : List ℕ) (found : Option ℕ) (end : ℕ) → found ≡ Some end
+pub cut_at-feed : (bytes : List ℕ) (found : Option ℕ) (end : ℕ) → found ≡ Some end
     → IsFirstByte (is_byte 10) bytes found
     → CutAtFeed bytes end
-cut_at_feed bytes None end is nowhere = cc
-cut_at_feed bytes (Some index) end is first =
+cut_at-feed bytes None end is nowhere = cc
+cut_at-feed bytes (Some index) end is first =
     let there : index ≡ end = some_is index end is in
     let P : ℕ → Type 0 = λ z. CutAtFeed bytes z in
     subst P there (at_place bytes index first.0.high (eqb-true (get_or bytes index 0) 10 first.1)
@@ -68,12 +68,12 @@ cut_at_feed bytes (Some index) end is first =
     }
 
 -- the lines of a piece, up to the next line feed
-pub serves_line : (options : Options) (piece rest : List ℕ) (end : ℕ) (a b c : RunState)
+pub serves-line : (options : Options) (piece rest : List ℕ) (end : ℕ) (a b c : RunState)
     (ha hb hc : Option (List ℕ))
     → CutAtFeed rest end → ServedTo options piece rest a ha b hb
     → ReadsOn options (10 ∷ []) b (longer hb (take end rest)) c hc
     → ServedTo options piece (take (length rest - (end + 1)) (drop (end + 1) rest)) a ha c hc
-serves_line options piece rest end a b c ha hb hc f s k =
+serves-line options piece rest end a b c ha hb hc f s k =
     let line : List ℕ = take end rest in
     let after : List ℕ = drop (end + 1) rest in
     let rest_is : take (length rest - (end + 1)) after ≡ after =
@@ -84,36 +84,36 @@ serves_line options piece rest end a b c ha hb hc f s k =
           (f.cut ∙ sym (append_assoc line (10 ∷ []) after))
           ∙ sym (append_assoc s.front (line ++ 10 ∷ []) after)
           ∙ ap (λ (z : List ℕ). (s.front ++ (line ++ 10 ∷ [])) ++ z) (sym rest_is);
-      reads = continues_then options a b c ha hb hc s.front (line ++ 10 ∷ []) s.reads
-          (continues_then options b b c hb (longer hb line) hc line (10 ∷ [])
-          (continues_bytes options b hb line f.none) k);
+      reads = continues-then options a b c ha hb hc s.front (line ++ 10 ∷ []) s.reads
+          (continues-then options b b c hb (longer hb line) hc line (10 ∷ [])
+          (continues-bytes options b hb line f.none) k);
     }
 
 -- a stop at the next line feed
-pub breaks_at_line : (options : Options) (piece rest : List ℕ) (end : ℕ) (a b : RunState)
+pub breaks-at-line : (options : Options) (piece rest : List ℕ) (end : ℕ) (a b : RunState)
     (ha hb : Option (List ℕ))
     (asked : Exchanges) (written : Option (List ℕ)) → CutAtFeed rest end
     → ServedTo options piece rest a ha b hb
     → StopsWithin options (10 ∷ []) b (longer hb (take end rest)) asked written
     → StopsWithin options piece a ha asked written
-breaks_at_line options piece rest end a b ha hb asked written f s k =
+breaks-at-line options piece rest end a b ha hb asked written f s k =
     let line : List ℕ = take end rest in
     let after : List ℕ = drop (end + 1) rest in
     let whole : (s.front ++ line) ++ (10 ∷ [] ++ after) ≡ piece =
     append_assoc s.front line (10 ∷ after)
     ∙ sym (s.cut ∙ ap (λ (z : List ℕ). s.front ++ z) f.cut) in
     let P : List ℕ → Type 0 = λ z. StopsWithin options z a ha asked written in
-    subst P whole (breaks_then options a b ha (longer hb line) asked written (s.front ++ line)
+    subst P whole (breaks-then options a b ha (longer hb line) asked written (s.front ++ line)
     (10 ∷ [] ++ after)
-    (continues_then options a b b ha hb (longer hb line) s.front line s.reads
-    (continues_bytes options b hb line f.none))
-    (breaks_before options b (longer hb line) asked written (10 ∷ []) after k))
+    (continues-then options a b b ha hb (longer hb line) s.front line s.reads
+    (continues-bytes options b hb line f.none))
+    (breaks-before options b (longer hb line) asked written (10 ∷ []) after k))
 
 -- the rest of a piece, without a line feed
-pub serves_rest : (options : Options) (piece rest : List ℕ) (a b : RunState)
+pub serves-rest : (options : Options) (piece rest : List ℕ) (a b : RunState)
     (ha hb : Option (List ℕ)) → HasNoFeed rest
     → ServedTo options piece rest a ha b hb → ReadsOn options piece a ha b (longer hb rest)
-serves_rest options piece rest a b ha hb none s =
+serves-rest options piece rest a b ha hb none s =
     let P : List ℕ → Type 0 = λ z. ReadsOn options z a ha b (longer hb rest) in
-    subst P (sym s.cut) (continues_then options a b b ha hb (longer hb rest) s.front rest s.reads
-    (continues_bytes options b hb rest none))
+    subst P (sym s.cut) (continues-then options a b b ha hb (longer hb rest) s.front rest s.reads
+    (continues-bytes options b hb rest none))

@@ -11,42 +11,42 @@ use Rattle.std.specs.Io.KnownBytes.{Appends}
 use Rattle.module_map.specs.Listing.{Listed, listed, item_listed}
 use Rattle.io_streams.specs.Streams.{IsBeginning, Writes}
 use Rattle.answer_text.specs.Pending.{Put, Cut}
-use Rattle.answer_text.proofs.PendingLemmas.{puts_then, writes_all}
+use Rattle.answer_text.proofs.PendingLemmas.{puts-then, writes-all}
 use Rattle.command_loop.specs.Text.{module_text, list_text}
 
-pub list_cut : (a b c : Option (List ℕ)) (h h' : List ℕ) (items all : List Listed) → h ≡ []
+pub list-cut : (a b c : Option (List ℕ)) (h h' : List ℕ) (items all : List Listed) → h ≡ []
     → items ≡ all
     → Put a b h h' (flat_map module_text items) → Cut b c h' (codes "end\n")
     → (part : List ℕ) × IsBeginning part (list_text all) × Appends a c part
-list_cut a b c h h' items all e f p q =
+list-cut a b c h h' items all e f p q =
     let k : Cut a c h (flat_map module_text items ++ codes "end\n") =
-    puts_then {E = Unit {0}} a b c h h' [] (flat_map module_text items) (codes "end\n") (Err tt) p
+    puts-then {E = Unit {0}} a b c h h' [] (flat_map module_text items) (codes "end\n") (Err tt) p
     q in
     let B : List ℕ → Type 0 = λ z. IsBeginning k.sent
     (z ++ (flat_map module_text items ++ codes "end\n")) in
     let C : List Listed → Type 0 = λ z. IsBeginning k.sent (list_text z) in
     (k.sent, subst C f (subst B e k.begins), k.appended)
 
-pub list_writes : {E : Type 0} (a b c d : Option (List ℕ)) (h h' h'' : List ℕ)
+pub list-writes : {E : Type 0} (a b c d : Option (List ℕ)) (h h' h'' : List ℕ)
     (items all : List Listed) (r : Result (Unit {0}) E)
     → h ≡ [] → items ≡ all
     → Put a b h h' (flat_map module_text items) → Put b c h' h'' (codes "end\n") → Writes c d r h''
     → Writes a d r (list_text all)
-list_writes {E} a b c d h h' h'' items all r e f p q w =
+list-writes {E} a b c d h h' h'' items all r e f p q w =
     let k : Put a c h h'' (flat_map module_text items ++ codes "end\n") =
-    puts_then {E = Unit {0}} a b c h h' h'' (flat_map module_text items) (codes "end\n") (Ok tt) p
+    puts-then {E = Unit {0}} a b c h h' h'' (flat_map module_text items) (codes "end\n") (Ok tt) p
     q in
     let B : List ℕ → Type 0 = λ z. Put a c z h'' (flat_map module_text items ++ codes "end\n") in
     let C : List Listed → Type 0 = λ z. Writes a d r (list_text z) in
-    subst C f (writes_all _ _ _ _ _ _ (subst B e k) w)
+    subst C f (writes-all _ _ _ _ _ _ (subst B e k) w)
 
 -- ---- one module of the list
 
 -- the item at an index of the list has the name of the module there
-pub listed_name : (item : Option (Bor (List ℕ) × Extent × ℕ)) (modules : List Loaded) (index : ℕ)
+pub listed-name : (item : Option (Bor (List ℕ) × Extent × ℕ)) (modules : List Loaded) (index : ℕ)
     → option_map item_listed item ≡ slice_get (map listed modules) index
     → option_map_or (λ i. i.0.now) item [] ≡ name_at modules index
-listed_name item modules index e = at item (slice_get modules index)
+listed-name item modules index e = at item (slice_get modules index)
     (e ∙ slice_get-map listed modules index)
   where
     at : (item : Option (Bor (List ℕ) × Extent × ℕ)) (m : Option Loaded)

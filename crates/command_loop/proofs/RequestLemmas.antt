@@ -24,38 +24,38 @@ pub map_append : {X Y : Type 0} (f : X → Y) (xs ys : List X) → map f (xs ++ 
 map_append f [] ys = refl
 map_append f (x ∷ xs) ys = ap (λ z. f x ∷ z) (map_append f xs ys)
 
-pub questions_append : (xs ys : List (Result Request BadLine)) → questions (xs ++ ys) ≡ questions xs
+pub questions-append : (xs ys : List (Result Request BadLine)) → questions (xs ++ ys) ≡ questions xs
     ++ questions ys
-questions_append [] ys = refl
-questions_append (x ∷ xs) ys =
-    ap (λ (z : List (List ℕ)). question x ++ z) (questions_append xs ys)
+questions-append [] ys = refl
+questions-append (x ∷ xs) ys =
+    ap (λ (z : List (List ℕ)). question x ++ z) (questions-append xs ys)
     ∙ sym (append_assoc (question x) (questions xs) (questions ys))
 
-pub zip_append : {X Y : Type 0} (xs xs' : List X) (ys ys' : List Y) → length ys ≡ length xs
+pub zip-append : {X Y : Type 0} (xs xs' : List X) (ys ys' : List Y) → length ys ≡ length xs
     → zip (xs ++ xs') (ys ++ ys') ≡ zip xs ys ++ zip xs' ys'
-zip_append [] xs' [] ys' e = refl
-zip_append [] xs' (y ∷ ys) ys' e = absurd (omega arith)
-zip_append (x ∷ xs) xs' [] ys' e = absurd (omega arith)
-zip_append (x ∷ xs) xs' (y ∷ ys) ys' e =
-    ap (λ z. (x, y) ∷ z) (zip_append xs xs' ys ys' (omega arith))
+zip-append [] xs' [] ys' e = refl
+zip-append [] xs' (y ∷ ys) ys' e = absurd (omega arith)
+zip-append (x ∷ xs) xs' [] ys' e = absurd (omega arith)
+zip-append (x ∷ xs) xs' (y ∷ ys) ys' e =
+    ap (λ z. (x, y) ∷ z) (zip-append xs xs' ys ys' (omega arith))
 
-pub map_length : {X Y : Type 0} (f : X → Y) (xs : List X) → length (map f xs) ≡ length xs
-map_length f [] = refl
-map_length f (x ∷ xs) = ap (λ n. suc n) (map_length f xs)
+pub map-length : {X Y : Type 0} (f : X → Y) (xs : List X) → length (map f xs) ≡ length xs
+map-length f [] = refl
+map-length f (x ∷ xs) = ap (λ n. suc n) (map-length f xs)
 
 abbrev pub fetches : List Outcome → List (Result (List ℕ) FetchFault)
 fetches outcomes = map (λ (outcome : Outcome). outcome.fetched) outcomes
 
 -- questions and results, followed by more of them
-pub asked_then : (a b c : Exchanges) (qs qs' : List (List ℕ)) (os os' : List Outcome)
+pub asked-then : (a b c : Exchanges) (qs qs' : List (List ℕ)) (os os' : List Outcome)
     → Asked a b qs os → Asked b c qs' os' → Asked a c (qs ++ qs') (os ++ os')
-asked_then a b c qs qs' os os' h k = record {
+asked-then a b c qs qs' os os' h k = record {
   each = length-append os os' ∙ ap (λ n. n + length os') h.each ∙ ap (λ n. length qs + n) k.each
       ∙ sym (length-append qs qs');
   asked =
       let joined : zip qs (fetches os) ++ zip qs' (fetches os')
       ≡ zip (qs ++ qs') (fetches (os ++ os')) =
-      sym (zip_append qs qs' (fetches os) (fetches os') (map_length _ os ∙ h.each))
+      sym (zip-append qs qs' (fetches os) (fetches os') (map-length _ os ∙ h.each))
       ∙ ap (zip (qs ++ qs')) (sym (map_append _ os os')) in
       let P : List (List ℕ × Result (List ℕ) FetchFault) → Type 0 = λ z. Grows a c z in
       subst P joined (grows_then a b c (zip qs (fetches os)) (zip qs' (fetches os')) h.asked
@@ -63,62 +63,62 @@ asked_then a b c qs qs' os os' h k = record {
 }
 
 -- the world after some requests, followed by others
-pub world_then : (rs ss : Requests) (world : World) (os os' : List Outcome)
+pub world-then : (rs ss : Requests) (world : World) (os os' : List Outcome)
     → length os ≡ length (questions rs)
     → world_after world (rs ++ ss) (os ++ os') ≡ world_after (world_after world rs os) ss os'
-world_then [] ss world [] os' e = refl
-world_then [] ss world (o ∷ os) os' e = absurd (omega arith)
-world_then (Err bad ∷ rs) ss world os os' e = world_then rs ss _ os os' e
-world_then (Ok (Ask a) ∷ rs) ss world os os' e = world_then rs ss _ os os' e
-world_then (Ok ListAll ∷ rs) ss world os os' e = world_then rs ss _ os os' e
-world_then (Ok (Unload n) ∷ rs) ss world os os' e = world_then rs ss _ os os' e
-world_then (Ok (Move n b) ∷ rs) ss world os os' e = world_then rs ss _ os os' e
-world_then (Ok (Load n b p) ∷ rs) ss world [] os' e = absurd (omega arith)
-world_then (Ok (Load n b p) ∷ rs) ss world (o ∷ os) os' e = world_then rs ss _ os os' (omega arith)
+world-then [] ss world [] os' e = refl
+world-then [] ss world (o ∷ os) os' e = absurd (omega arith)
+world-then (Err bad ∷ rs) ss world os os' e = world-then rs ss _ os os' e
+world-then (Ok (Ask a) ∷ rs) ss world os os' e = world-then rs ss _ os os' e
+world-then (Ok ListAll ∷ rs) ss world os os' e = world-then rs ss _ os os' e
+world-then (Ok (Unload n) ∷ rs) ss world os os' e = world-then rs ss _ os os' e
+world-then (Ok (Move n b) ∷ rs) ss world os os' e = world-then rs ss _ os os' e
+world-then (Ok (Load n b p) ∷ rs) ss world [] os' e = absurd (omega arith)
+world-then (Ok (Load n b p) ∷ rs) ss world (o ∷ os) os' e = world-then rs ss _ os os' (omega arith)
 
-push_text : (t a b c : List ℕ) → c ≡ a ++ b → t ++ c ≡ (t ++ a) ++ b
-push_text t a b c h = ap (λ (z : List ℕ). t ++ z) h ∙ sym (append_assoc t a b)
+push-text : (t a b c : List ℕ) → c ≡ a ++ b → t ++ c ≡ (t ++ a) ++ b
+push-text t a b c h = ap (λ (z : List ℕ). t ++ z) h ∙ sym (append_assoc t a b)
 
 -- the replies to some requests, followed by others
-pub replies_then : (options : Options) (rs ss : Requests) (world : World) (os os' : List Outcome)
+pub replies-then : (options : Options) (rs ss : Requests) (world : World) (os os' : List Outcome)
     → length os ≡ length (questions rs)
     → replies options world (rs ++ ss) (os ++ os') ≡ replies options world rs os
     ++ replies options (world_after world rs os) ss os'
-replies_then options [] ss world [] os' e = refl
-replies_then options [] ss world (o ∷ os) os' e = absurd (omega arith)
-replies_then options (Err bad ∷ rs) ss world os os' e =
+replies-then options [] ss world [] os' e = refl
+replies-then options [] ss world (o ∷ os) os' e = absurd (omega arith)
+replies-then options (Err bad ∷ rs) ss world os os' e =
     let next : World = (step world (Err bad) os).world in
-    push_text (text options (step world (Err bad) os).reply) (replies options next rs os)
-    (replies options (world_after next rs os) ss os') _ (replies_then options rs ss next os os' e)
-replies_then options (Ok (Ask a) ∷ rs) ss world os os' e =
+    push-text (text options (step world (Err bad) os).reply) (replies options next rs os)
+    (replies options (world_after next rs os) ss os') _ (replies-then options rs ss next os os' e)
+replies-then options (Ok (Ask a) ∷ rs) ss world os os' e =
     let next : World = (step world (Ok (Ask a)) os).world in
-    push_text (text options (step world (Ok (Ask a)) os).reply) (replies options next rs os)
-    (replies options (world_after next rs os) ss os') _ (replies_then options rs ss next os os' e)
-replies_then options (Ok ListAll ∷ rs) ss world os os' e =
+    push-text (text options (step world (Ok (Ask a)) os).reply) (replies options next rs os)
+    (replies options (world_after next rs os) ss os') _ (replies-then options rs ss next os os' e)
+replies-then options (Ok ListAll ∷ rs) ss world os os' e =
     let next : World = (step world (Ok ListAll) os).world in
-    push_text (text options (step world (Ok ListAll) os).reply) (replies options next rs os)
-    (replies options (world_after next rs os) ss os') _ (replies_then options rs ss next os os' e)
-replies_then options (Ok (Unload n) ∷ rs) ss world os os' e =
+    push-text (text options (step world (Ok ListAll) os).reply) (replies options next rs os)
+    (replies options (world_after next rs os) ss os') _ (replies-then options rs ss next os os' e)
+replies-then options (Ok (Unload n) ∷ rs) ss world os os' e =
     let next : World = (step world (Ok (Unload n)) os).world in
-    push_text (text options (step world (Ok (Unload n)) os).reply) (replies options next rs os)
-    (replies options (world_after next rs os) ss os') _ (replies_then options rs ss next os os' e)
-replies_then options (Ok (Move n b) ∷ rs) ss world os os' e =
+    push-text (text options (step world (Ok (Unload n)) os).reply) (replies options next rs os)
+    (replies options (world_after next rs os) ss os') _ (replies-then options rs ss next os os' e)
+replies-then options (Ok (Move n b) ∷ rs) ss world os os' e =
     let next : World = (step world (Ok (Move n b)) os).world in
-    push_text (text options (step world (Ok (Move n b)) os).reply) (replies options next rs os)
-    (replies options (world_after next rs os) ss os') _ (replies_then options rs ss next os os' e)
-replies_then options (Ok (Load n b p) ∷ rs) ss world [] os' e = absurd (omega arith)
-replies_then options (Ok (Load n b p) ∷ rs) ss world (o ∷ os) os' e =
+    push-text (text options (step world (Ok (Move n b)) os).reply) (replies options next rs os)
+    (replies options (world_after next rs os) ss os') _ (replies-then options rs ss next os os' e)
+replies-then options (Ok (Load n b p) ∷ rs) ss world [] os' e = absurd (omega arith)
+replies-then options (Ok (Load n b p) ∷ rs) ss world (o ∷ os) os' e =
     let next : World = (step world (Ok (Load n b p)) (o ∷ os)).world in
-    push_text (text options (step world (Ok (Load n b p)) (o ∷ os)).reply)
+    push-text (text options (step world (Ok (Load n b p)) (o ∷ os)).reply)
     (replies options next rs os)
     (replies options (world_after next rs os) ss os') _
-    (replies_then options rs ss next os os' (omega arith))
+    (replies-then options rs ss next os os' (omega arith))
 
 -- nothing was served yet
-pub handled_none : (options : Options) (start now : RunState) → now.world ≡ start.world
+pub handled-none : (options : Options) (start now : RunState) → now.world ≡ start.world
     → now.asked ≡ start.asked
     → now.written ≡ start.written → ServedInOrder options start [] now
-handled_none options start now w q t = record {
+handled-none options start now w q t = record {
   outcomes = [];
   answered =
       record {
@@ -131,10 +131,10 @@ handled_none options start now w q t = record {
       subst P (sym t) (appends_nothing start.written);
 }
 
-pub handled_one : (options : Options) (request : Result Request BadLine) (now new : RunState)
+pub handled-one : (options : Options) (request : Result Request BadLine) (now new : RunState)
     → ServesRequest options request now new
     → ServedInOrder options now (request ∷ []) new
-handled_one options request now new s =
+handled-one options request now new s =
     let A : List (List ℕ) → Type 0 = λ z. Asked now.asked new.asked z s.outcomes in
     let W : List ℕ → Type 0 = λ z. Appends now.written new.written z in
     record {
@@ -145,10 +145,10 @@ handled_one options request now new s =
           s.replied;
     }
 
-pub handled_then : (options : Options) (start now new : RunState) (rs ss : Requests)
+pub handled-then : (options : Options) (start now new : RunState) (rs ss : Requests)
     → ServedInOrder options start rs now
     → ServedInOrder options now ss new → ServedInOrder options start (rs ++ ss) new
-handled_then options start now new rs ss h k =
+handled-then options start now new rs ss h k =
     let fits : length h.outcomes ≡ length (questions rs) = h.answered.each in
     let P : List (List ℕ) → Type 0 = λ z. Asked start.asked new.asked z
     (h.outcomes ++ k.outcomes) in
@@ -158,43 +158,43 @@ handled_then options start now new rs ss h k =
     record {
       outcomes = h.outcomes ++ k.outcomes;
       answered =
-          subst P (sym (questions_append rs ss))
-          (asked_then start.asked now.asked new.asked (questions rs) (questions ss) h.outcomes
+          subst P (sym (questions-append rs ss))
+          (asked-then start.asked now.asked new.asked (questions rs) (questions ss) h.outcomes
           k.outcomes h.answered k.answered);
       world_is =
           k.world_is ∙ ap (λ (z : World). world_after z ss k.outcomes) h.world_is ∙ sym
-          (world_then rs ss start.world h.outcomes k.outcomes fits);
-      replied = subst R (sym (replies_then options rs ss start.world h.outcomes k.outcomes fits))
+          (world-then rs ss start.world h.outcomes k.outcomes fits);
+      replied = subst R (sym (replies-then options rs ss start.world h.outcomes k.outcomes fits))
           (appends_then start.written now.written new.written
           (replies options start.world rs h.outcomes)
           (replies options (world_after start.world rs h.outcomes) ss k.outcomes) h.replied
           (subst Q h.world_is k.replied));
     }
 
-pub handled_as : (options : Options) (start now : RunState) (rs ss : Requests) → rs ≡ ss
+pub handled-as : (options : Options) (start now : RunState) (rs ss : Requests) → rs ≡ ss
     → ServedInOrder options start rs now
     → ServedInOrder options start ss now
-handled_as options start now rs ss e h = subst (λ (z : Requests). ServedInOrder options start z now)
+handled-as options start now rs ss e h = subst (λ (z : Requests). ServedInOrder options start z now)
     e h
 
 -- outcomes that no request takes change nothing
-spare_world : (rs : Requests) (world : World) (os os' : List Outcome)
+spare-world : (rs : Requests) (world : World) (os os' : List Outcome)
     → length os ≡ length (questions rs)
     → world_after world rs (os ++ os') ≡ world_after world rs os
-spare_world rs world os os' e =
+spare-world rs world os os' e =
     ap (λ (z : Requests). world_after world z (os ++ os')) (sym (append-nil rs))
-    ∙ world_then rs [] world os os' e
+    ∙ world-then rs [] world os os' e
 
-spare_replies : (options : Options) (rs : Requests) (world : World) (os os' : List Outcome)
+spare-replies : (options : Options) (rs : Requests) (world : World) (os os' : List Outcome)
     → length os ≡ length (questions rs)
     → replies options world rs (os ++ os') ≡ replies options world rs os
-spare_replies options rs world os os' e =
+spare-replies options rs world os os' e =
     ap (λ (z : Requests). replies options world z (os ++ os')) (sym (append-nil rs))
-    ∙ replies_then options rs [] world os os' e
+    ∙ replies-then options rs [] world os os' e
     ∙ append-nil (replies options world rs os)
 
-drop_seam : (os os' : List Outcome) (n : ℕ) → length os ≡ n → drop n (os ++ os') ≡ os'
-drop_seam os os' n e = ap (λ (z : ℕ). drop z (os ++ os')) (sym e) ∙ drop-append_seam os os'
+drop-seam : (os os' : List Outcome) (n : ℕ) → length os ≡ n → drop n (os ++ os') ≡ os'
+drop-seam os os' n e = ap (λ (z : ℕ). drop z (os ++ os')) (sym e) ∙ drop-append_seam os os'
 
 -- a request whose reply was not completely written
 pub halts : (options : Options) (start now new : RunState) (rs : Requests)
@@ -204,18 +204,18 @@ pub halts : (options : Options) (start now new : RunState) (rs : Requests)
 halts options start now new rs request h f =
     let fits : length h.outcomes ≡ length (questions rs) = h.answered.each in
     let world_is : now.world ≡ world_after start.world rs (h.outcomes ++ f.outcomes) =
-    h.world_is ∙ sym (spare_world rs start.world h.outcomes f.outcomes fits) in
+    h.world_is ∙ sym (spare-world rs start.world h.outcomes f.outcomes fits) in
     let left_is : f.outcomes ≡ drop (length (questions rs)) (h.outcomes ++ f.outcomes) =
-    sym (drop_seam h.outcomes f.outcomes _ fits) in
+    sym (drop-seam h.outcomes f.outcomes _ fits) in
     record {
       outcomes = h.outcomes ++ f.outcomes;
       answered =
           let P : List (List ℕ) → Type 0 =
           λ z. Asked start.asked new.asked z (h.outcomes ++ f.outcomes) in
-          subst P (sym (questions_append rs (request ∷ [])
+          subst P (sym (questions-append rs (request ∷ [])
           ∙ ap (λ (z : List (List ℕ)). questions rs ++ z)
           (append-nil (question request))))
-          (asked_then start.asked now.asked new.asked (questions rs) (question request) h.outcomes
+          (asked-then start.asked now.asked new.asked (questions rs) (question request) h.outcomes
           f.outcomes h.answered f.answered);
       part = f.part;
       begins =
@@ -227,7 +227,7 @@ halts options start now new rs request h f =
           subst Q left_is (subst P world_is f.begins);
       replied =
           let P : List ℕ → Type 0 = λ z. Appends start.written new.written (z ++ f.part) in
-          subst P (sym (spare_replies options rs start.world h.outcomes f.outcomes fits))
+          subst P (sym (spare-replies options rs start.world h.outcomes f.outcomes fits))
           (appends_then start.written now.written new.written
           (replies options start.world rs h.outcomes) f.part h.replied f.replied);
     }

@@ -13,7 +13,7 @@ use Rattle.module_map.specs.declared.asked.Found.{Found}
 use Rattle.module_map.specs.Private.Serials.{NumberedModule}
 use Rattle.module_map.proofs.Worlds.{found_none, found_some}
 use Rattle.module_map.proofs.Changing.{world_of}
-use Rattle.module_map.proofs.Asking.{asked_none, asked_some, in_list}
+use Rattle.module_map.proofs.Asking.{asked-none, asked-some, in-list}
 
 -- the result of a lookup at an address, and the frames there
 record Finds (hs : List NumberedModule) (loads address : ℕ) (at : ℕ) : Type 0 where
@@ -38,16 +38,16 @@ finds : (hs : List NumberedModule) (loads address : ℕ) (o : Option ℕ)
     → FindsNone hs loads address ⊎ ((at : ℕ) × Finds hs loads address at)
 unfolding frames_at
 finds hs loads address None e = inl (record {
-  found = sym (ap (λ (x : Asked). x.found) (asked_none hs loads address e));
+  found = sym (ap (λ (x : Asked). x.found) (asked-none hs loads address e));
   frames = ap (λ (o : Option Loaded). frames_of o address) (found_none (holds address) hs e);
 })
 finds hs loads address (Some at) e = inr (
   at,
   record {
-    within = in_list (λ (h : NumberedModule). holds address h.loaded) hs at e;
+    within = in-list (λ (h : NumberedModule). holds address h.loaded) hs at e;
     found =
         λ d. sym (ap (λ (x : Asked). x.found)
-        (asked_some hs loads address at d
+        (asked-some hs loads address at d
         (place_in (get_or hs at d).loaded.bytes (address - (get_or hs at d).loaded.base)) e
         refl));
     frames = λ d. ap (λ (o : Option Loaded). frames_of o address)

@@ -56,8 +56,8 @@ both : (a b : Bool) → (a && b) ≡ true → (a ≡ true) × (b ≡ true)
 both true b h = (refl, h)
 both false b h = absurd (false≢true h)
 
-same_key : (x y : CacheKey) → is_key x y ≡ true → y ≡ x
-same_key x y h = let p = both (eqb x.serial y.serial) (eqb x.link y.link) h in
+same-key : (x y : CacheKey) → is_key x y ≡ true → y ≡ x
+same-key x y h = let p = both (eqb x.serial y.serial) (eqb x.link y.link) h in
     let p0 : x.serial ≡ y.serial = eqb-true x.serial y.serial p.0 in
     let p1 : x.link ≡ y.link = eqb-true x.link y.link p.1 in
     sym (ap₂ (λ (a b : ℕ). record { serial = a; link = b }) p0 p1)
@@ -69,13 +69,13 @@ module _ {V : Type 0} (key : CacheKey) where
   found_key es None h = tt
   found_key es (Some v) h =
       let it = Contains-lookup (is_key key) es v (sym h) in
-      subst (λ k. Contains es (k, v)) (same_key key it.0 it.2) it.1
+      subst (λ k. Contains es (k, v)) (same-key key it.0 it.2) it.1
 
   put_key : (c : LruCache CacheKey V) (v : V) (e : CacheKey × V) → IsPut is_key c key v e
       → e ≡ (key, v)
   put_key c v e h = elim h.1 [
     | inl same ↦ ap₂ (λ (k : CacheKey) (w : V). (k, w)) same h.0
-    | inr was ↦ ap₂ (λ (k : CacheKey) (w : V). (k, w)) (same_key key e.0 was.2) h.0
+    | inr was ↦ ap₂ (λ (k : CacheKey) (w : V). (k, w)) (same-key key e.0 was.2) h.0
   ]
 
   -- each entry after a put was there before, or is the new one

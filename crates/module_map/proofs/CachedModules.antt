@@ -12,9 +12,9 @@ use Rattle.module_map.specs.declared.faults.MapFault.TheVariants.{Range, Overlap
 use Rattle.module_map.specs.Counts.{ModuleMap}
 use Rattle.module_map.specs.Private.Serials.{NumberedModule, loaded_of}
 use Rattle.module_map.specs.Private.Rising.{IsClear, Overlaps, IsOnly, relocated, rebased}
-use Rattle.module_map.proofs.Names.{all_fail}
-use Rattle.module_map.proofs.Worlds.{any_is, placed_in, met_is, nothing_met, overlap_fault}
-use Rattle.module_map.proofs.Worlds.{no_place_fault}
+use Rattle.module_map.proofs.Names.{all-fail}
+use Rattle.module_map.proofs.Worlds.{any_is, placed-in, met_is, nothing_met, overlap-fault}
+use Rattle.module_map.proofs.Worlds.{no_place-fault}
 use Rattle.module_map.proofs.Changing.{world_of, named, moved_past, moved_over, moved_into}
 
 -- ---- adding a module
@@ -29,22 +29,22 @@ module _ (hs : List NumberedModule) (loads : ℕ) (m : Loaded)
       (end_of m) met
       → place_fault m (map loaded_of hs) ≡ Some (Overlap met)
   placed_over met lt is =
-      overlap_fault m (map loaded_of hs) met lt
+      overlap-fault m (map loaded_of hs) met lt
       (met_is hs (length hs) m none_itself
-      (λ k d k_lt o. all_fail (named m.name) hs new k d k_lt) met is)
+      (λ k d k_lt o. all-fail (named m.name) hs new k d k_lt) met is)
 
   pub placed_free : (at : ℕ) → end_of m < 2 ^ 64 → IsClear hs (length hs) (start_of m) (end_of m) at
       → place_fault m (map loaded_of hs) ≡ None
   placed_free at lt clear =
-      no_place_fault m (map loaded_of hs) lt
+      no_place-fault m (map loaded_of hs) lt
       (nothing_met hs (length hs) m none_itself
-      (λ k d k_lt o. all_fail (named m.name) hs new k d k_lt) at clear)
+      (λ k d k_lt o. all-fail (named m.name) hs new k d k_lt) at clear)
 
 -- no module has a name that is not taken
-pub free_name : (name : List ℕ) (hs : List NumberedModule) (loads : ℕ)
+pub free-name : (name : List ℕ) (hs : List NumberedModule) (loads : ℕ)
     → is_taken name (world_of hs loads) ≡ false
     → position (named name) hs ≡ None
-free_name name hs loads e = by (position (named name) hs) refl
+free-name name hs loads e = by (position (named name) hs) refl
   where
     by : (o : Option ℕ) → position (named name) hs ≡ o → o ≡ None
     by None q = refl
@@ -120,7 +120,7 @@ module _ (hs : List NumberedModule) (loads : ℕ) (m : Loaded) (len low high : �
   pub over_any : (met : ℕ) → end_of m < 2 ^ 64 → Overlaps hs len low high met
       → place_fault m (map loaded_of hs) ≡ Some (Overlap met)
   over_any met lt is =
-      placed_over hs loads m (free_name m.name hs loads free) met lt
+      placed_over hs loads m (free-name m.name hs loads free) met lt
       (subst (λ n. Overlaps hs n (start_of m) (end_of m) met) all
       (subst (λ a. Overlaps hs len a (end_of m) met) from
       (subst (λ b. Overlaps hs len low b met) to is)))
@@ -134,7 +134,7 @@ module _ (hs : List NumberedModule) (loads : ℕ) (m : Loaded) (len low high : �
 
   pub free_all : (at : ℕ) → end_of m < 2 ^ 64 → IsClear hs len low high at
       → place_fault m (map loaded_of hs) ≡ None
-  free_all at lt is = placed_free hs loads m (free_name m.name hs loads free) at lt
+  free_all at lt is = placed_free hs loads m (free-name m.name hs loads free) at lt
       (clear_all at is)
 
   pub kept_there : (hs' : List NumberedModule) (at serial : ℕ) (h : NumberedModule)
@@ -143,10 +143,10 @@ module _ (hs : List NumberedModule) (loads : ℕ) (m : Loaded) (len low high : �
       → map loaded_of hs' ≡ placed m (map loaded_of hs)
   kept_there hs' at serial h is order clear new =
       ap (map loaded_of) (new ∙ ap (insert hs at) is)
-      ∙ sym (placed_in hs at (record { serial = serial; loaded = m }) (clear_all at clear) order)
+      ∙ sym (placed-in hs at (record { serial = serial; loaded = m }) (clear_all at clear) order)
 
 -- the same state with an equal list of modules
-pub same_but_modules : (l l' : List Loaded) (loads cached capacity compares decoded : ℕ) → l ≡ l'
+pub same-but-modules : (l l' : List Loaded) (loads cached capacity compares decoded : ℕ) → l ≡ l'
     → ◌≡◌ {A = ModuleMap} (record {
       world = record { modules = l; loads = loads };
       cached = cached;
@@ -161,7 +161,7 @@ pub same_but_modules : (l l' : List Loaded) (loads cached capacity compares deco
       compares = compares;
       decoded = decoded;
     })
-same_but_modules l l' loads cached capacity compares decoded e =
+same-but-modules l l' loads cached capacity compares decoded e =
     ap (λ (z : List Loaded). let w : World = record { modules = z; loads = loads } in
     let m : ModuleMap = record {
       world = w;

@@ -12,9 +12,9 @@ use Rattle.module_map.specs.declared.faults.MapFault.TheVariants.{NoModule, Rang
 use Rattle.module_map.specs.Private.Serials.{NumberedModule, loaded_of}
 use Rattle.module_map.specs.Private.Rising.{IsClear, Overlaps, IsOther, IsOnly, relocated, rebased}
 use Rattle.module_map.proofs.Removals.{clear_removed}
-use Rattle.module_map.proofs.Worlds.{any_is, found_none, found_some, placed_in, without_is}
-use Rattle.module_map.proofs.Worlds.{not_named, is_its_name, met_is, nothing_met, range_fault}
-use Rattle.module_map.proofs.Worlds.{overlap_fault, no_place_fault}
+use Rattle.module_map.proofs.Worlds.{any_is, found_none, found_some, placed-in, without-is}
+use Rattle.module_map.proofs.Worlds.{not-named, is-its-name, met_is, nothing_met, range-fault}
+use Rattle.module_map.proofs.Worlds.{overlap-fault, no_place-fault}
 
 -- the world of sorted modules
 abbrev pub world_of : List NumberedModule → ℕ → World
@@ -34,7 +34,7 @@ module _ (hs : List NumberedModule) (loads : ℕ) (name : List ℕ) where
   unloaded hs' own e only is = (
     sym (any_is (is_named name) hs) ∙ ap is_some e,
     ap (λ (l : List Loaded). record { modules = l; loads = loads })
-        (ap (map loaded_of) is ∙ sym (without_is name hs own only)),
+        (ap (map loaded_of) is ∙ sym (without-is name hs own only)),
   )
 
   pub not_moved : (base : ℕ) → position (named name) hs ≡ None
@@ -52,11 +52,11 @@ module _ (hs : List NumberedModule) (loads : ℕ) (name : List ℕ) where
 
     its_name : (e : NumberedModule) → own < length hs → is_named m.name (get_or hs own e).loaded
         ≡ true
-    its_name e lt = is_its_name m.name (get_or hs own e) (only.here e ∙ sym (only.here d))
+    its_name e lt = is-its-name m.name (get_or hs own e) (only.here e ∙ sym (only.here d))
 
     other_names : (k : ℕ) (e : NumberedModule) → k < length hs → IsOther own k
         → is_named m.name (get_or hs k e).loaded ≡ false
-    other_names k e lt o = not_named m.name (get_or hs k e)
+    other_names k e lt o = not-named m.name (get_or hs k e)
         (λ same. only.others k e lt o (same ∙ only.here d))
 
     refused : (fault : MapFault) → place_fault m (map loaded_of hs) ≡ Some fault
@@ -69,12 +69,12 @@ module _ (hs : List NumberedModule) (loads : ℕ) (name : List ℕ) where
 
     pub moved_past : 2 ^ 64 ≤ end_of m → Moves (world_of hs loads) name base (Err Range)
         (world_of hs loads)
-    moved_past le = refused Range (range_fault m (map loaded_of hs) le)
+    moved_past le = refused Range (range-fault m (map loaded_of hs) le)
 
     pub moved_over : (met : ℕ) → end_of m < 2 ^ 64 → Overlaps hs own (start_of m) (end_of m) met
         → Moves (world_of hs loads) name base (Err (Overlap met)) (world_of hs loads)
     moved_over met lt is = refused (Overlap met)
-        (overlap_fault m (map loaded_of hs) met lt (met_is hs own m its_name other_names met is))
+        (overlap-fault m (map loaded_of hs) met lt (met_is hs own m its_name other_names met is))
 
     pub moved_into : (hs' : List NumberedModule) (at : ℕ) (extent : Extent) → end_of m < 2 ^ 64
         → start_of m < end_of m
@@ -83,7 +83,7 @@ module _ (hs : List NumberedModule) (loads : ℕ) (name : List ℕ) where
         → Moves (world_of hs loads) name base (Ok extent) (world_of hs' loads)
     moved_into hs' at extent lt order clear lies is = (
       ap (λ o. move_fault o (world_of hs loads) base) found
-          ∙ no_place_fault m (map loaded_of hs) lt
+          ∙ no_place-fault m (map loaded_of hs) lt
           (nothing_met hs own m its_name other_names at clear),
       subst (λ o. IsMoved (world_of hs loads) o base extent (world_of hs' loads)) (sym found) (
         lies,
@@ -98,7 +98,7 @@ module _ (hs : List NumberedModule) (loads : ℕ) (name : List ℕ) where
         there : placed m (without (get_or hs own d).loaded.name (map loaded_of hs))
             ≡ map loaded_of (relocated hs own at (rebased base (get_or hs own d)))
         there = ap (λ (n : List ℕ). placed m (without n (map loaded_of hs))) (only.here d)
-            ∙ ap (placed m) (without_is name hs own only)
-            ∙ placed_in (remove hs own) (if nat_le at own then at else at - 1)
+            ∙ ap (placed m) (without-is name hs own only)
+            ∙ placed-in (remove hs own) (if nat_le at own then at else at - 1)
             (rebased base (get_or hs own d))
             (clear_removed hs own (start_of m) (end_of m) at clear only.within) order

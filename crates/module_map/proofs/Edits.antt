@@ -61,17 +61,17 @@ rises xs ys at i j d a b lt = by a.side b.side
     by (inr p) (inl q) = absurd (omega arith)
     by (inr p) (inr q) = omega arith
 
-before_new : (xs ys : List NumberedModule) (at i : ℕ) (d : NumberedModule) (a : Old xs ys at i d)
+before-new : (xs ys : List NumberedModule) (at i : ℕ) (d : NumberedModule) (a : Old xs ys at i d)
     → i < at → a.place < at
-before_new xs ys at i d a lt = by a.side
+before-new xs ys at i d a lt = by a.side
   where
     by : ((i < at) × (a.place ≡ i)) ⊎ ((at < i) × (i ≡ a.place + 1)) → a.place < at
     by (inl p) = omega arith
     by (inr p) = absurd (omega arith)
 
-after_new : (xs ys : List NumberedModule) (at j : ℕ) (d : NumberedModule) (b : Old xs ys at j d)
+after-new : (xs ys : List NumberedModule) (at j : ℕ) (d : NumberedModule) (b : Old xs ys at j d)
     → at < j → at ≤ b.place
-after_new xs ys at j d b lt = by b.side
+after-new xs ys at j d b lt = by b.side
   where
     by : ((j < at) × (b.place ≡ j)) ⊎ ((at < j) × (j ≡ b.place + 1)) → at ≤ b.place
     by (inl p) = absurd (omega arith)
@@ -96,12 +96,12 @@ module _ (held : List NumberedModule) (at : ℕ) (h : NumberedModule) (rising : 
       let w = a.within in
       let e = b.0 in
       rw (a.same, b.1) (clear.before a.place d
-      (before_new held (insert held at h) at i d a (omega arith)) (inl w))
+      (before-new held (insert held at h) at i d a (omega arith)) (inl w))
   apart i j d lt (inr a) (inl b) =
       let w = b.within in
       let e = a.0 in
       rw (a.1, b.same) (clear.after b.place d
-      (after_new held (insert held at h) at j d b (omega arith)) w (inl w))
+      (after-new held (insert held at h) at j d b (omega arith)) w (inl w))
   apart i j d lt (inr a) (inr b) = let e = a.0 in let f = b.0 in absurd (omega arith)
 
   named : (i j : ℕ) (d : NumberedModule) → i < j → Place i d → Place j d

@@ -8,27 +8,27 @@ use Rattle.module_map.specs.Private.Rising.{AreRising, CountsStarted, IsClear, O
 use Rattle.module_map.specs.Private.Rising.{IsNext}
 use Rattle.module_map.proofs.Searches.{passed}
 
-pub other_of : (own k : ℕ) → k ≢ own → IsOther own k
-other_of own k ne = by (cases_lt k own) (cases_lt own k)
+pub other-of : (own k : ℕ) → k ≢ own → IsOther own k
+other-of own k ne = by (cases_lt k own) (cases_lt own k)
   where
     by : (k < own) ⊎ (own ≤ k) → (own < k) ⊎ (k ≤ own) → IsOther own k
     by (inl below) q = inl below
     by (inr from) (inl above) = inr above
     by (inr from) (inr to) = absurd (ne (omega arith))
 
-pub not_own : (own k : ℕ) → IsOther own k → k ≢ own
-not_own own k (inl below) = λ e. omega arith
-not_own own k (inr above) = λ e. omega arith
+pub not-own : (own k : ℕ) → IsOther own k → k ≢ own
+not-own own k (inl below) = λ e. omega arith
+not-own own k (inr above) = λ e. omega arith
 
-pub next_here : (own len from : ℕ) → (from ≢ own) ⊎ (len ≤ from) → IsNext own len from from
-next_here own len from side = record {
+pub next-here : (own len from : ℕ) → (from ≢ own) ⊎ (len ≤ from) → IsNext own len from from
+next-here own len from side = record {
   above = omega arith;
   least = λ k p q. absurd (omega arith);
   other = other side;
 }
   where
     other : (from ≢ own) ⊎ (len ≤ from) → from < len → IsOther own from
-    other (inl ne) lt = other_of own from ne
+    other (inl ne) lt = other-of own from ne
     other (inr end) lt = absurd (omega arith)
 
 pub next_past : (own len from : ℕ) → from ≡ own → IsNext own len from (from + 1)
@@ -47,7 +47,7 @@ module _ (held : List NumberedModule) (own low high n : ℕ) (rising : AreRising
       → Overlaps held own low high at
   met_last at last ne ends = record {
     within = let w = started.within in omega arith;
-    other = other_of own at ne;
+    other = other-of own at ne;
     begins = λ d. (let b = started.before at d last in omega arith);
     ends = ends;
     before = λ k d lt o. passed held low n rising started k d (omega arith);
@@ -82,7 +82,7 @@ module _ (held : List NumberedModule) (own low high n : ℕ) (rising : AreRising
         where
           by : (k < n) ⊎ (n ≤ k) → end_of (get_or held k d).loaded ≤ low
           by (inl before) = ended k d before o
-          by (inr from) = absurd (not_own own k o (is.least k from lt))
+          by (inr from) = absurd (not-own own k o (is.least k from lt))
 
       pub met_next : next < length held → ((d : NumberedModule)
           → start_of (get_or held next d).loaded < high)
@@ -100,7 +100,7 @@ module _ (held : List NumberedModule) (own low high n : ℕ) (rising : AreRising
       from_next k le o = by (cases_lt k next)
         where
           by : (k < next) ⊎ (next ≤ k) → next ≤ k
-          by (inl below) = absurd (not_own own k o (is.least k le below))
+          by (inl below) = absurd (not-own own k o (is.least k le below))
           by (inr from) = from
 
       pub clear_all : (next < length held → (d : NumberedModule)

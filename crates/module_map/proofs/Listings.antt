@@ -9,17 +9,17 @@ use Rattle.module_map.specs.declared.faults.Extent.{Extent}
 unwrap : {a b : Listed} → Some a ≡ Some b → a ≡ b
 unwrap e = cc
 
-pub listed_name : (modules : List Loaded) (place : ℕ) (item : Bor (List ℕ) × Extent × ℕ)
+pub listed-name : (modules : List Loaded) (place : ℕ) (item : Bor (List ℕ) × Extent × ℕ)
     → option_map item_listed (Some item) ≡ slice_get (map listed modules) place
     → item.0.now ≡ name_at modules place
-listed_name [] place item e = cc
-listed_name (m ∷ modules) zero item e = ap (λ (l : Listed). l.name) (unwrap e)
-listed_name (m ∷ modules) (suc place) item e = listed_name modules place item e
+listed-name [] place item e = cc
+listed-name (m ∷ modules) zero item e = ap (λ (l : Listed). l.name) (unwrap e)
+listed-name (m ∷ modules) (suc place) item e = listed-name modules place item e
 
-pub no_listed_name : (modules : List Loaded) (place : ℕ)
+pub no-listed-name : (modules : List Loaded) (place : ℕ)
     → (let none : Option (Bor (List ℕ) × Extent × ℕ) = None in option_map item_listed none)
     ≡ slice_get (map listed modules) place
     → [] ≡ name_at modules place
-no_listed_name [] place e = refl
-no_listed_name (m ∷ modules) zero e = cc
-no_listed_name (m ∷ modules) (suc place) e = no_listed_name modules place e
+no-listed-name [] place e = refl
+no-listed-name (m ∷ modules) zero e = cc
+no-listed-name (m ∷ modules) (suc place) e = no-listed-name modules place e

@@ -82,27 +82,27 @@ Adds old new m result = MatchResult result
     × (new ≡ record old { world = with_module old.world m }))
     (λ fault. ((fault ≡ Memory) ⊎ (place_fault m old.world.modules ≡ Some fault)) × (new ≡ old))
 
-pub added_by : (old new : ModuleMap) (m : Loaded) (result : Result Extent MapFault)
+pub added-by : (old new : ModuleMap) (m : Loaded) (result : Result Extent MapFault)
     → is_taken m.name old.world ≡ false
     → is_full old.world ≡ false → fault_of m.bytes ≡ None → Adds old new m result
     → SomeLoad old.world m result new.world
-added_by old new m (Ok extent) free capacity good k =
+added-by old new m (Ok extent) free capacity good k =
     subst (λ (w : World). SomeLoad old.world m (Ok extent) w)
     (sym (ap (λ (x : ModuleMap). x.world) k.2))
     (added old.world m free capacity extent good k.0 k.1)
-added_by old new m (Err fault) free capacity good k =
+added-by old new m (Err fault) free capacity good k =
     subst (λ (w : World). SomeLoad old.world m (Err fault) w)
     (sym (ap (λ (x : ModuleMap). x.world) k.1))
     (not_added old.world m free capacity fault good k.0)
 
 -- the same for an object that is given by its bytes
-pub added_bytes : (old new : ModuleMap) (name : List ℕ) (base : ℕ) (object bytes : List ℕ)
+pub added-bytes : (old new : ModuleMap) (name : List ℕ) (base : ℕ) (object bytes : List ℕ)
     (result : Result Extent MapFault)
     → is_taken name old.world ≡ false → is_full old.world ≡ false
     → object ≡ bytes → fault_of bytes ≡ None
     → Adds old new (record { name = name; base = base; bytes = object }) result
     → SomeLoad old.world (record { name = name; base = base; bytes = bytes }) result new.world
-added_bytes old new name base object bytes result free capacity same good k =
-    added_by old new (record { name = name; base = base; bytes = bytes }) result free capacity good
+added-bytes old new name base object bytes result free capacity same good k =
+    added-by old new (record { name = name; base = base; bytes = bytes }) result free capacity good
     (subst (λ (b : List ℕ). Adds old new (record { name = name; base = base; bytes = b })
     result) same k)

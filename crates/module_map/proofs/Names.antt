@@ -15,31 +15,31 @@ use Rattle.module_map.specs.Private.Serials.{NumberedModule}
 use Rattle.module_map.specs.Private.Rising.{AreRising, IsOther, IsOnly, relocated, rebased}
 use Rattle.module_map.proofs.Rotations.{remove-set, get_or-set_here}
 
-not_front : {X : Type 0} (p : X → Bool) (xs : List X) → position p xs ≡ None
+not-front : {X : Type 0} (p : X → Bool) (xs : List X) → position p xs ≡ None
     → length xs ≤ position_or_len p xs
-not_front p xs none = by (nat_lt (position_or_len p xs) (length xs)) refl
+not-front p xs none = by (nat_lt (position_or_len p xs) (length xs)) refl
   where
     by : (b : Bool) → nat_lt (position_or_len p xs) (length xs) ≡ b
         → length xs ≤ position_or_len p xs
     by true e = let bad = rw e at none in cc
     by false e = ltb-false (position_or_len p xs) (length xs) e
 
-pub all_fail : {X : Type 0} (p : X → Bool) (xs : List X) → position p xs ≡ None → (k : ℕ) (d : X)
+pub all-fail : {X : Type 0} (p : X → Bool) (xs : List X) → position p xs ≡ None → (k : ℕ) (d : X)
     → k < length xs
     → p (get_or xs k d) ≡ false
-all_fail p xs none k d lt =
-    let n = not_front p xs none in not_true (p (get_or xs k d))
+all-fail p xs none k d lt =
+    let n = not-front p xs none in not_true (p (get_or xs k d))
     (prefix_len_passes (λ x. not (p x)) xs k d (omega arith))
   where
     not_true : (b : Bool) → not b ≡ true → b ≡ false
     not_true true e = cc
     not_true false e = refl
 
-pub names_differ : (name : List ℕ) (held : List NumberedModule)
+pub names-differ : (name : List ℕ) (held : List NumberedModule)
     → position (λ (h : NumberedModule). is_named name h.loaded) held ≡ None
     → (k : ℕ) (d : NumberedModule) → k < length held → (get_or held k d).loaded.name ≢ name
-names_differ name held none k d lt = λ e. let f =
-    all_fail (λ (h : NumberedModule). is_named name h.loaded) held none k d lt in
+names-differ name held none k d lt = λ e. let f =
+    all-fail (λ (h : NumberedModule). is_named name h.loaded) held none k d lt in
     true≢false (sym ((bytes_eq-Decides (get_or held k d).loaded.name name).1 e) ∙ f)
 
 pub whole : {X : Type 0} (xs ys : List X) (n : ℕ) → length xs ≡ n → take n (xs ++ ys) ≡ xs
@@ -48,12 +48,12 @@ whole (x ∷ xs) ys zero e = absurd (omega arith)
 whole (x ∷ xs) ys (suc n) e = ap (λ l. x ∷ l) (whole xs ys n (omega arith))
 
 -- the same list, if the moved module is overwritten at its old index first
-pub turned_set : (held items xs : List NumberedModule) (own at base : ℕ) (h was d : NumberedModule)
+pub turned-set : (held items xs : List NumberedModule) (own at base : ℕ) (h was d : NumberedModule)
     → items ≡ held → own < length held
     → xs ≡ set items own h → h ≡ rebased base was → was ≡ get_or items own was
     → relocated xs own at (get_or xs own d)
     ≡ relocated held own at (rebased base (get_or held own d))
-turned_set held items xs own at base h was d same lt written is old =
+turned-set held items xs own at base h was d same lt written is old =
     let there : own < length items = subst (λ (l : List NumberedModule). own < length l) (sym same)
     lt in
     ap (λ (l : List NumberedModule). relocated l own at (get_or l own d)) written
@@ -64,11 +64,11 @@ turned_set held items xs own at base h was d same lt written is old =
     ∙ ap (λ (l : List NumberedModule). relocated l own at (rebased base (get_or l own d))) same
 
 -- the first module with a name is the only one
-pub only_named : (name : List ℕ) (held : List NumberedModule) → AreRising held → (o : Option ℕ)
+pub only-named : (name : List ℕ) (held : List NumberedModule) → AreRising held → (o : Option ℕ)
     → o ≡ position (λ (h : NumberedModule). is_named name h.loaded) held
     → IfSome o (IsOnly held name)
-only_named name held rising None e = tt
-only_named name held rising (Some own) e =
+only-named name held rising None e = tt
+only-named name held rising (Some own) e =
     record { within = within held own (sym e); here = here; others = others }
   where
     within : (hs : List NumberedModule) (i : ℕ)

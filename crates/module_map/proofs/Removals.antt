@@ -41,10 +41,10 @@ left xs at j d lt in' = by (cases_lt j at)
           side = inr (from, refl);
         }
 
-still_rises : (xs ys : List NumberedModule) (at i j : ℕ) (d : NumberedModule)
+still-rises : (xs ys : List NumberedModule) (at i j : ℕ) (d : NumberedModule)
     (a : Left xs ys at i d) (b : Left xs ys at j d) → i < j
     → a.place < b.place
-still_rises xs ys at i j d a b lt = by a.side b.side
+still-rises xs ys at i j d a b lt = by a.side b.side
   where
     by : ((i < at) × (a.place ≡ i)) ⊎ ((at ≤ i) × (a.place ≡ i + 1))
         → ((j < at) × (b.place ≡ j)) ⊎ ((at ≤ j) × (b.place ≡ j + 1))
@@ -54,18 +54,18 @@ still_rises xs ys at i j d a b lt = by a.side b.side
     by (inr p) (inl q) = absurd (omega arith)
     by (inr p) (inr q) = omega arith
 
-pub rising_remove : (held : List NumberedModule) (at : ℕ) → AreRising held → at < length held
+pub rising-remove : (held : List NumberedModule) (at : ℕ) → AreRising held → at < length held
     → AreRising (remove held at)
-rising_remove held at rising lt = record {
+rising-remove held at rising lt = record {
   apart = λ i j d below in'. let a = left held at i d lt (omega arith) in let b =
       left held at j d lt in' in
       rw (a.same, b.same) (rising.apart a.place b.place d
-      (still_rises held (remove held at) at i j d a b below) b.within);
+      (still-rises held (remove held at) at i j d a b below) b.within);
   sound = λ i d in'. let a = left held at i d lt in' in rw a.same (rising.sound a.place d a.within);
   names = λ i j d below in'. let a = left held at i d lt (omega arith) in let b =
       left held at j d lt in' in
       rw (a.same, b.same) (rising.names a.place b.place d
-      (still_rises held (remove held at) at i j d a b below) b.within);
+      (still-rises held (remove held at) at i j d a b below) b.within);
 }
 
 -- ---- moving
@@ -142,11 +142,11 @@ module _ (held : List NumberedModule) (own low high at : ℕ) (clear : IsClear h
       (if nat_le at own then at else at - 1)
   clear_removed = landing_cases (nat_le at own) refl
 
-pub others_named : (held : List NumberedModule) (own : ℕ) (rising : AreRising held)
+pub others-named : (held : List NumberedModule) (own : ℕ) (rising : AreRising held)
     (lt : own < length held) (k : ℕ) (d : NumberedModule)
     → k < length (remove held own)
     → (get_or (remove held own) k d).loaded.name ≢ (get_or held own d).loaded.name
-others_named held own rising lt k d in' = by (cases_lt k own)
+others-named held own rising lt k d in' = by (cases_lt k own)
   where
     by : (k < own) ⊎ (own ≤ k) → (get_or (remove held own) k d).loaded.name ≢
         (get_or held own d).loaded.name
@@ -156,17 +156,17 @@ others_named held own rising lt k d in' = by (cases_lt k own)
         rw (get_or-remove_above held own d k above lt)
         (λ e. rising.names own (k + 1) d (omega arith) (omega arith) (sym e))
 
-pub rising_turned : (held : List NumberedModule) (own at base : ℕ) (d : NumberedModule)
+pub rising-turned : (held : List NumberedModule) (own at base : ℕ) (d : NumberedModule)
     → AreRising held → own < length held
     → IsClear held own (start_of (moved_to base (get_or held own d).loaded))
     (end_of (moved_to base (get_or held own d).loaded)) at
     → AreRising (relocated held own at (rebased base (get_or held own d)))
-rising_turned held own at base d rising lt clear =
+rising-turned held own at base d rising lt clear =
     rising_insert (remove held own) (if nat_le at own then at else at - 1)
-    (rebased base (get_or held own d)) (rising_remove held own rising lt)
+    (rebased base (get_or held own d)) (rising-remove held own rising lt)
     (clear_removed held own (start_of (moved_to base (get_or held own d).loaded))
     (end_of (moved_to base (get_or held own d).loaded)) at clear lt)
     (let s = rising.sound own d lt in omega arith)
     (λ k e in'. let same = get_or_default held own e d lt in
     subst (λ (h : NumberedModule). (get_or (remove held own) k e).loaded.name ≢ h.loaded.name)
-    same (others_named held own rising lt k e in'))
+    same (others-named held own rising lt k e in'))

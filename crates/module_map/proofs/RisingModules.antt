@@ -22,9 +22,9 @@ count : (held : List NumberedModule) → length (map loaded_of held) ≡ length 
 count [] = refl
 count (h ∷ held) = ap suc (count held)
 
-pub rising_modules : (held : List NumberedModule) → AreRising held
+pub rising-modules : (held : List NumberedModule) → AreRising held
     → world.AreRising (map loaded_of held)
-rising_modules held rising = record {
+rising-modules held rising = record {
   nonempty = λ i d lt.
       rw (loaded_at held i d)
       (rising.sound i (numbered d) (omega (arith, lt, count held)));
@@ -40,19 +40,19 @@ held_by : (m : Loaded) (address : ℕ) → holds address m ≡ true
     → (start_of m ≤ address) × (address < end_of m)
 held_by m address h = grind (arith, nat_tests, h)
 
-not_both : (modules : List Loaded) (address i j : ℕ) (d : Loaded) → world.AreRising modules
+not-both : (modules : List Loaded) (address i j : ℕ) (d : Loaded) → world.AreRising modules
     → i < j → j < length modules → holds address (get_or modules i d) ≡ true
     → holds address (get_or modules j d) ≡ true → ⊥
-not_both modules address i j d rising lt within one other =
+not-both modules address i j d rising lt within one other =
     let first = held_by (get_or modules i d) address one in
     let second = held_by (get_or modules j d) address other in
     let apart = rising.apart i j d lt within in
     omega (arith, first.1, second.0, apart)
 
-pub hold_once : (modules : List Loaded) → world.AreRising modules → HoldOnce modules
-hold_once modules rising address i j d in_i in_j one other = by (cases_lt i j) (cases_lt j i)
+pub hold-once : (modules : List Loaded) → world.AreRising modules → HoldOnce modules
+hold-once modules rising address i j d in_i in_j one other = by (cases_lt i j) (cases_lt j i)
   where
     by : (i < j) ⊎ (j ≤ i) → (j < i) ⊎ (i ≤ j) → i ≡ j
-    by (inl lt) _ = absurd (not_both modules address i j d rising lt in_j one other)
-    by (inr above) (inl lt) = absurd (not_both modules address j i d rising lt in_i other one)
+    by (inl lt) _ = absurd (not-both modules address i j d rising lt in_j one other)
+    by (inr above) (inl lt) = absurd (not-both modules address j i d rising lt in_i other one)
     by (inr above) (inr below) = omega (arith, above, below)

@@ -5,11 +5,11 @@ use Rattle.std.specs.Prelude.{None, Some, position, nat_lt, nat_le, ◌&&◌}
 use Rattle.std.proofs.lemmas.Bool.{ltb-true, lt-ltb, le-leb, leb-true, cases_lt}
 use Rattle.addr_table.specs.Steps.{bits, counted}
 use Rattle.addr_table.specs.declared.steps.Steps.{Steps}
-use Rattle.addr_table.proofs.StepLaws.{counted_one}
+use Rattle.addr_table.proofs.StepLaws.{counted-one}
 use Rattle.module_map.specs.World.{start_of, end_of, holds}
 use Rattle.module_map.specs.Private.Serials.{NumberedModule}
 use Rattle.module_map.specs.Private.Rising.{AreRising, CountsStarted}
-use Rattle.module_map.proofs.BinarySearch.{Halved, halved_none, halved_more, halved_all}
+use Rattle.module_map.proofs.BinarySearch.{Halved, halved-none, halved-more, halved-all}
 use Rattle.module_map.proofs.Positions.{is_at, is_nowhere}
 
 -- the number is at least `low` and at most `high`
@@ -26,12 +26,12 @@ pub record Narrowed (held : List NumberedModule) (address low high : ℕ) (befor
   pub taken : now ≡ counted used before
   pub halved : Halved (length held) (high - low) used
 
-minus_zero : (n : ℕ) → n ≡ n - 0
-minus_zero n = omega arith
+minus-zero : (n : ℕ) → n ≡ n - 0
+minus-zero n = omega arith
 
-pub narrowed_none : (held : List NumberedModule) (address : ℕ) (steps : Steps)
+pub narrowed-none : (held : List NumberedModule) (address : ℕ) (steps : Steps)
     → Narrowed held address 0 (length held) steps steps
-narrowed_none held address steps = record {
+narrowed-none held address steps = record {
   order = omega arith;
   within = omega arith;
   begins = λ k d e. absurd (omega arith);
@@ -39,43 +39,43 @@ narrowed_none held address steps = record {
   used = 0;
   first = inl refl;
   taken = refl;
-  halved = subst (λ n. Halved (length held) n 0) (minus_zero (length held))
-      (halved_none (length held));
+  halved = subst (λ n. Halved (length held) n 0) (minus-zero (length held))
+      (halved-none (length held));
 }
 
-pub narrowed_up : (held : List NumberedModule) (address low high middle : ℕ)
+pub narrowed-up : (held : List NumberedModule) (address low high middle : ℕ)
     (before now then : Steps)
     → Narrowed held address low high before now → low < high
     → middle ≡ low + (high - low) / 2 → ((d : NumberedModule)
     → start_of (get_or held middle d).loaded ≤ address) → then ≡ counted 1 now
     → Narrowed held address (middle + 1) high before then
-narrowed_up held address low high middle before now then n some is begins taken = record {
+narrowed-up held address low high middle before now then n some is begins taken = record {
   order = let o = n.order in omega arith;
   within = n.within;
   begins = λ k d e. (let same : k ≡ middle = omega arith in rw same (begins d));
   later = n.later;
   used = n.used + 1;
   first = inr (omega arith);
-  taken = counted_one n.used before now then n.taken taken;
-  halved = halved_more (length held) (high - low) (high - (middle + 1)) n.used n.halved
+  taken = counted-one n.used before now then n.taken taken;
+  halved = halved-more (length held) (high - low) (high - (middle + 1)) n.used n.halved
       (omega arith) (let o = n.order in omega arith);
 }
 
-pub narrowed_down : (held : List NumberedModule) (address low high middle : ℕ)
+pub narrowed-down : (held : List NumberedModule) (address low high middle : ℕ)
     (before now then : Steps) → AreRising held
     → Narrowed held address low high before now → low < high
     → middle ≡ low + (high - low) / 2 → ((d : NumberedModule)
     → address < start_of (get_or held middle d).loaded) → then ≡ counted 1 now
     → Narrowed held address low middle before then
-narrowed_down held address low high middle before now then rising n some is begins taken = record {
+narrowed-down held address low high middle before now then rising n some is begins taken = record {
   order = let o = n.order in omega arith;
   within = let o = n.order in let w = n.within in omega arith;
   begins = n.begins;
   later = λ k d le lt. later k d le (cases_lt middle k) lt;
   used = n.used + 1;
   first = inr (omega arith);
-  taken = counted_one n.used before now then n.taken taken;
-  halved = halved_more (length held) (high - low) (middle - low) n.used n.halved (omega arith)
+  taken = counted-one n.used before now then n.taken taken;
+  halved = halved-more (length held) (high - low) (middle - low) n.used n.halved (omega arith)
       (let o = n.order in omega arith);
 }
   where
@@ -87,35 +87,35 @@ narrowed_down held address low high middle before now then rising n some is begi
         let b = begins d in let a = rising.apart middle k d past lt in let s =
         rising.sound middle d (omega arith) in omega arith
 
-pub narrowed_all : (held : List NumberedModule) (address low high : ℕ) (before now : Steps)
+pub narrowed-all : (held : List NumberedModule) (address low high : ℕ) (before now : Steps)
     → Narrowed held address low high before now
     → high ≤ low → CountsStarted held address low
-narrowed_all held address low high before now n end = record {
+narrowed-all held address low high before now n end = record {
   within = let o = n.order in let w = n.within in omega arith;
   before = n.begins;
   after = λ k d le in'. n.later k d (let o = n.order in omega arith) in';
 }
 
-pub narrowed_count : (held : List NumberedModule) (address low high : ℕ) (before now : Steps)
+pub narrowed-count : (held : List NumberedModule) (address low high : ℕ) (before now : Steps)
     → Narrowed held address low high before now
     → (n : ℕ) × (n ≤ bits (length held)) × ((low ≡ 0) ⊎ (1 ≤ n)) × (now ≡ counted n before)
-narrowed_count held address low high before now n =
-    (n.used, halved_all (length held) (high - low) n.used n.halved, n.first, n.taken)
+narrowed-count held address low high before now n =
+    (n.used, halved-all (length held) (high - low) n.used n.halved, n.first, n.taken)
 
 -- ---- the module that contains an address
 
-test_holds : (s e a : ℕ) → s ≤ a → a < e → (nat_le s a && nat_lt a e) ≡ true
-test_holds s e a p q = rw (le-leb s a p, lt-ltb a e q) refl
+test-holds : (s e a : ℕ) → s ≤ a → a < e → (nat_le s a && nat_lt a e) ≡ true
+test-holds s e a p q = rw (le-leb s a p, lt-ltb a e q) refl
 
-test_below : (s e a : ℕ) → a < s → (nat_le s a && nat_lt a e) ≡ false
-test_below s e a p = by (nat_le s a) refl
+test-below : (s e a : ℕ) → a < s → (nat_le s a && nat_lt a e) ≡ false
+test-below s e a p = by (nat_le s a) refl
   where
     by : (b : Bool) → nat_le s a ≡ b → (nat_le s a && nat_lt a e) ≡ false
     by true t = let le = leb-true s a t in absurd (omega arith)
     by false t = rw t refl
 
-test_past : (s e a : ℕ) → e ≤ a → (nat_le s a && nat_lt a e) ≡ false
-test_past s e a p = by (nat_le s a) (nat_lt a e) refl
+test-past : (s e a : ℕ) → e ≤ a → (nat_le s a && nat_lt a e) ≡ false
+test-past s e a p = by (nat_le s a) (nat_lt a e) refl
   where
     by : (b c : Bool) → nat_lt a e ≡ c → (b && c) ≡ false
     by b true t = let lt = ltb-true a e t in absurd (omega arith)
@@ -134,16 +134,16 @@ module _ (held : List NumberedModule) (address n : ℕ) (rising : AreRising held
   -- a module at another index does not contain the address
   others : (k : ℕ) (d : NumberedModule) → k < length held → (k + 1 < n) ⊎ (n ≤ k)
       → holds address (get_or held k d).loaded ≡ false
-  others k d lt (inl before) = test_past _ _ address (passed k d before)
-  others k d lt (inr after) = test_below _ _ address (started.after k d after lt)
+  others k d lt (inl before) = test-past _ _ address (passed k d before)
+  others k d lt (inr after) = test-below _ _ address (started.after k d after lt)
 
   pub held_here : (at : ℕ) → at + 1 ≡ n → ((d : NumberedModule)
       → address < end_of (get_or held at d).loaded)
       → position (λ h. holds address h.loaded) held ≡ Some at
   held_here at last ends = is_at (λ (h : NumberedModule). holds address h.loaded) held at
       (let w = started.within in omega arith)
-      (λ d. test_holds _ _ address (started.before at d last) (ends d))
-      (λ k d lt. test_past _ _ address (passed k d (omega arith)))
+      (λ d. test-holds _ _ address (started.before at d last) (ends d))
+      (λ k d lt. test-past _ _ address (passed k d (omega arith)))
 
   pub held_nowhere : ((at : ℕ) (d : NumberedModule) → at + 1 ≡ n
       → end_of (get_or held at d).loaded ≤ address)
@@ -157,4 +157,4 @@ module _ (held : List NumberedModule) (address n : ℕ) (rising : AreRising held
           → holds address (get_or held k d).loaded ≡ false
       at_place k d lt (inl before) from = others k d lt (inl before)
       at_place k d lt (inr to) (inr after) = others k d lt (inr after)
-      at_place k d lt (inr to) (inl last) = test_past _ _ address (past k d (omega arith))
+      at_place k d lt (inr to) (inl last) = test-past _ _ address (past k d (omega arith))

@@ -56,11 +56,11 @@ pub record Known (hs : List NumberedModule) (h : NumberedModule) : Type 0 where
   pub serial : was.serial ≡ h.serial
   pub bytes : was.loaded.bytes ≡ h.loaded.bytes
 
-pub sound_alike : (hs hs' : List NumberedModule) (loads : ℕ) (es : List (CacheKey × Option Place))
+pub sound-alike : (hs hs' : List NumberedModule) (loads : ℕ) (es : List (CacheKey × Option Place))
     → AreSound hs loads es
     → ((h : NumberedModule) → Contains hs' h → Known hs h) → length hs' ≤ length hs
     → AreSound hs' loads es
-sound_alike hs hs' loads es sound known fewer = record {
+sound-alike hs hs' loads es sound known fewer = record {
   few = let f = sound.few in omega arith;
   below = λ h c. let k = known h c in subst (λ n. n < loads) k.serial (sound.below k.was k.there);
   one =
@@ -72,20 +72,20 @@ sound_alike hs hs' loads es sound known fewer = record {
       ∙ ap (λ (b : List ℕ). place_in b e.0.link) k.bytes;
 }
 
-pub sound_remove : (hs : List NumberedModule) (loads : ℕ) (es : List (CacheKey × Option Place))
+pub sound-remove : (hs : List NumberedModule) (loads : ℕ) (es : List (CacheKey × Option Place))
     (at : ℕ) → AreSound hs loads es
     → AreSound (remove hs at) loads es
-sound_remove hs loads es at sound =
-    sound_alike hs (remove hs at) loads es sound
+sound-remove hs loads es at sound =
+    sound-alike hs (remove hs at) loads es sound
     (λ h c. record { was = h; there = contains_remove hs at h c; serial = refl; bytes = refl })
     (length-remove_any hs at)
 
-pub sound_turned : (hs : List NumberedModule) (loads : ℕ) (es : List (CacheKey × Option Place))
+pub sound-turned : (hs : List NumberedModule) (loads : ℕ) (es : List (CacheKey × Option Place))
     (own at base : ℕ) (d : NumberedModule)
     → own < length hs → AreSound hs loads es
     → AreSound (relocated hs own at (rebased base (get_or hs own d))) loads es
-sound_turned hs loads es own at base d lt sound =
-    sound_alike hs (relocated hs own at (rebased base (get_or hs own d))) loads es sound
+sound-turned hs loads es own at base d lt sound =
+    sound-alike hs (relocated hs own at (rebased base (get_or hs own d))) loads es sound
     (λ h c. by h (contains_insert (remove hs own) (if nat_le at own then at else at - 1)
     (rebased base (get_or hs own d)) h c))
     (fewer hs own (if nat_le at own then at else at - 1) (rebased base (get_or hs own d)) lt)
@@ -109,11 +109,11 @@ sound_turned hs loads es own at base d lt sound =
     }
 
 -- a loaded module takes the next serial number, under which nothing is cached
-pub sound_insert : (hs : List NumberedModule) (loads : ℕ) (es : List (CacheKey × Option Place))
+pub sound-insert : (hs : List NumberedModule) (loads : ℕ) (es : List (CacheKey × Option Place))
     (at : ℕ) (h : NumberedModule)
     → h.serial ≡ loads → length hs < most_modules → AreSound hs loads es
     → AreSound (insert hs at h) (loads + 1) es
-sound_insert hs loads es at h new capacity sound = record {
+sound-insert hs loads es at h new capacity sound = record {
   few = let n = length-insert_any hs at h in omega (arith, n);
   below = λ g c. below g (contains_insert hs at h g c);
   one = λ g f c d e. one g f (contains_insert hs at h g c) (contains_insert hs at h f d) e;
@@ -146,12 +146,12 @@ sound_insert hs loads es at h new capacity sound = record {
         absurd (omega arith)
 
 -- an answer of a loaded module is cached
-pub sound_kept : (hs : List NumberedModule) (loads : ℕ) (es es' : List (CacheKey × Option Place))
+pub sound-kept : (hs : List NumberedModule) (loads : ℕ) (es es' : List (CacheKey × Option Place))
     (at : ℕ) (d : NumberedModule)
     → at < length hs → AreSound hs loads es
     → ((e : CacheKey × Option Place) → Contains es' e
     → Contains es e ⊎ IsAnswerOf (get_or hs at d) e) → AreSound hs loads es'
-sound_kept hs loads es es' at d lt sound cached = record {
+sound-kept hs loads es es' at d lt sound cached = record {
   few = sound.few;
   below = sound.below;
   one = sound.one;

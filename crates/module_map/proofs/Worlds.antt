@@ -16,7 +16,7 @@ use Rattle.module_map.specs.declared.faults.MapFault.TheVariants.{Range, Overlap
 use Rattle.module_map.specs.Private.Serials.{NumberedModule, loaded_of}
 use Rattle.module_map.specs.Private.Rising.{IsClear, Overlaps, IsOther, IsOnly}
 use Rattle.module_map.proofs.Positions.{is_at, is_nowhere, position_of_map}
-use Rattle.module_map.proofs.Names.{all_fail}
+use Rattle.module_map.proofs.Names.{all-fail}
 
 module _ (p : Loaded → Bool) where
   abbrev at_held : NumberedModule → Bool
@@ -58,13 +58,13 @@ module _ (p : Loaded → Bool) where
       let first = before 0 (omega arith) in
       rw first (some_found hs i d (omega arith) here (λ k k_lt. before (suc k) (omega arith)))
 
-  in_list : (hs : List NumberedModule) (i : ℕ) → position at_held hs ≡ Some i → i < length hs
-  in_list [] i e = cc
-  in_list (h ∷ hs) i e = (position-Some at_held (h ∷ hs) i h e).0
+  in-list : (hs : List NumberedModule) (i : ℕ) → position at_held hs ≡ Some i → i < length hs
+  in-list [] i e = cc
+  in-list (h ∷ hs) i e = (position-Some at_held (h ∷ hs) i h e).0
 
   any_by : (hs : List NumberedModule) (o : Option ℕ) → position at_held hs ≡ o
       → is_some o ≡ list_any p (map loaded_of hs)
-  any_by hs None e = sym (none_any hs (all_fail at_held hs e))
+  any_by hs None e = sym (none_any hs (all-fail at_held hs e))
   any_by [] (Some i) e = cc
   any_by (h ∷ hs) (Some i) e = let at = position-Some at_held (h ∷ hs) i h e in
       sym (some_any (h ∷ hs) i h at.0 at.1)
@@ -75,7 +75,7 @@ module _ (p : Loaded → Bool) where
 
   pub found_none : (hs : List NumberedModule) → position at_held hs ≡ None
       → find p (map loaded_of hs) ≡ None
-  found_none hs e = none_found hs (all_fail at_held hs e)
+  found_none hs e = none_found hs (all-fail at_held hs e)
 
   pub found_some : (hs : List NumberedModule) (i : ℕ) (d : NumberedModule)
       → position at_held hs ≡ Some i
@@ -96,86 +96,86 @@ slice_get_past (h ∷ hs) (suc i) le = slice_get_past hs i (omega arith)
 
 -- ---- changes
 
-not_below : (a b : ℕ) → b ≤ a → nat_lt a b ≡ false
-not_below a b le = false_from_ne_true (nat_lt a b) (λ e. let lt = ltb-true a b e in omega arith)
+not-below : (a b : ℕ) → b ≤ a → nat_lt a b ≡ false
+not-below a b le = false_from_ne_true (nat_lt a b) (λ e. let lt = ltb-true a b e in omega arith)
 
-pub placed_at : (hs : List NumberedModule) (at : ℕ) (h : NumberedModule) → at ≤ length hs
+pub placed-at : (hs : List NumberedModule) (at : ℕ) (h : NumberedModule) → at ≤ length hs
     → ((k : ℕ) (d : NumberedModule) → k < at → start_of (get_or hs k d).loaded < start_of h.loaded)
     → ((d : NumberedModule) → at < length hs → start_of h.loaded ≤ start_of (get_or hs at d).loaded)
     → placed h.loaded (map loaded_of hs) ≡ map loaded_of (insert hs at h)
-placed_at [] zero h le before after = refl
-placed_at [] (suc at) h le before after = absurd (omega arith)
-placed_at (x ∷ xs) zero h le before after =
-    rw (not_below (start_of x.loaded) (start_of h.loaded) (after x (omega arith))) refl
-placed_at (x ∷ xs) (suc at) h le before after =
+placed-at [] zero h le before after = refl
+placed-at [] (suc at) h le before after = absurd (omega arith)
+placed-at (x ∷ xs) zero h le before after =
+    rw (not-below (start_of x.loaded) (start_of h.loaded) (after x (omega arith))) refl
+placed-at (x ∷ xs) (suc at) h le before after =
     rw (lt-ltb (start_of x.loaded) (start_of h.loaded) (before 0 x (omega arith)))
     (ap (λ (l : List Loaded). x.loaded ∷ l)
-    (placed_at xs at h (omega arith) (λ k d lt. before (suc k) d (omega arith))
+    (placed-at xs at h (omega arith) (λ k d lt. before (suc k) d (omega arith))
     (λ d lt. after d (omega arith))))
 
 -- inserting a module into a gap is inserting it in ascending order of address
-pub placed_in : (hs : List NumberedModule) (at : ℕ) (h : NumberedModule)
+pub placed-in : (hs : List NumberedModule) (at : ℕ) (h : NumberedModule)
     → IsClear hs (length hs) (start_of h.loaded) (end_of h.loaded) at
     → start_of h.loaded < end_of h.loaded
     → placed h.loaded (map loaded_of hs) ≡ map loaded_of (insert hs at h)
-placed_in hs at h clear order = let within = clear.within in placed_at hs at h within
+placed-in hs at h clear order = let within = clear.within in placed-at hs at h within
     (λ k d lt. clear.under k d lt (inl (omega arith)))
     (λ d lt. let a = clear.after at d (omega arith) lt (inl lt) in omega arith)
 
 -- all modules have other names
-keep_all : (name : List ℕ) (hs : List NumberedModule)
+keep-all : (name : List ℕ) (hs : List NumberedModule)
     → ((k : ℕ) (d : NumberedModule) → k < length hs → is_named name (get_or hs k d).loaded ≡ false)
     → without name (map loaded_of hs) ≡ map loaded_of hs
-keep_all name [] others = refl
-keep_all name (h ∷ hs) others =
+keep-all name [] others = refl
+keep-all name (h ∷ hs) others =
     let first = others 0 h (omega arith) in
     rw first (ap (λ (l : List Loaded). h.loaded ∷ l)
-    (keep_all name hs (λ k d lt. others (suc k) d (omega arith))))
+    (keep-all name hs (λ k d lt. others (suc k) d (omega arith))))
 
-drop_one : (name : List ℕ) (hs : List NumberedModule) (own : ℕ) → own < length hs
+drop-one : (name : List ℕ) (hs : List NumberedModule) (own : ℕ) → own < length hs
     → ((d : NumberedModule) → is_named name (get_or hs own d).loaded ≡ true)
     → ((k : ℕ) (d : NumberedModule) → k < length hs → IsOther own k
     → is_named name (get_or hs k d).loaded ≡ false) → without name (map loaded_of hs)
     ≡ map loaded_of (remove hs own)
-drop_one name [] own lt here others = absurd (omega arith)
-drop_one name (h ∷ hs) zero lt here others =
-    let first = here h in rw first (keep_all name hs
+drop-one name [] own lt here others = absurd (omega arith)
+drop-one name (h ∷ hs) zero lt here others =
+    let first = here h in rw first (keep-all name hs
     (λ k d k_lt. others (suc k) d (omega arith) (inr (omega arith))))
-drop_one name (h ∷ hs) (suc own) lt here others = let first =
+drop-one name (h ∷ hs) (suc own) lt here others = let first =
     others 0 h (omega arith) (inl (omega arith)) in
     rw first (ap (λ (l : List Loaded). h.loaded ∷ l)
-    (drop_one name hs own (omega arith) here
+    (drop-one name hs own (omega arith) here
     (λ k d k_lt o. others (suc k) d (omega arith) (up k o))))
   where
     up : (k : ℕ) → IsOther own k → IsOther (suc own) (suc k)
     up k (inl below) = inl (omega arith)
     up k (inr above) = inr (omega arith)
 
-pub not_named : (name : List ℕ) (h : NumberedModule) → h.loaded.name ≢ name
+pub not-named : (name : List ℕ) (h : NumberedModule) → h.loaded.name ≢ name
     → is_named name h.loaded ≡ false
-not_named name h ne = false_from_ne_true (bytes_eq h.loaded.name name)
+not-named name h ne = false_from_ne_true (bytes_eq h.loaded.name name)
     (λ e. ne ((bytes_eq-Decides h.loaded.name name).0 e))
 
-pub is_its_name : (name : List ℕ) (h : NumberedModule) → h.loaded.name ≡ name
+pub is-its-name : (name : List ℕ) (h : NumberedModule) → h.loaded.name ≡ name
     → is_named name h.loaded ≡ true
-is_its_name name h e = (bytes_eq-Decides h.loaded.name name).1 e
+is-its-name name h e = (bytes_eq-Decides h.loaded.name name).1 e
 
-pub without_is : (name : List ℕ) (hs : List NumberedModule) (own : ℕ) → IsOnly hs name own
+pub without-is : (name : List ℕ) (hs : List NumberedModule) (own : ℕ) → IsOnly hs name own
     → without name (map loaded_of hs) ≡ map loaded_of (remove hs own)
-without_is name hs own only =
-    drop_one name hs own only.within (λ d. is_its_name name (get_or hs own d) (only.here d))
-    (λ k d lt o. not_named name (get_or hs k d) (only.others k d lt o))
+without-is name hs own only =
+    drop-one name hs own only.within (λ d. is-its-name name (get_or hs own d) (only.here d))
+    (λ k d lt o. not-named name (get_or hs k d) (only.others k d lt o))
 
 -- ---- free addresses for a module
 
-meets_is : (low high s e : ℕ) → low < e → s < high → (nat_lt low e && nat_lt s high) ≡ true
-meets_is low high s e p q = rw (lt-ltb low e p, lt-ltb s high q) refl
+meets-is : (low high s e : ℕ) → low < e → s < high → (nat_lt low e && nat_lt s high) ≡ true
+meets-is low high s e p q = rw (lt-ltb low e p, lt-ltb s high q) refl
 
-meets_no : (low e : ℕ) (other : Bool) → e ≤ low → (nat_lt low e && other) ≡ false
-meets_no low e other le = rw (not_below low e le) refl
+meets-no : (low e : ℕ) (other : Bool) → e ≤ low → (nat_lt low e && other) ≡ false
+meets-no low e other le = rw (not-below low e le) refl
 
-meets_past : (high s : ℕ) (other : Bool) → high ≤ s → (other && nat_lt s high) ≡ false
-meets_past high s other le = rw (not_below s high le) (and_false other)
+meets-past : (high s : ℕ) (other : Bool) → high ≤ s → (other && nat_lt s high) ≡ false
+meets-past high s other le = rw (not-below s high le) (and_false other)
   where
     and_false : (b : Bool) → (b && false) ≡ false
     and_false true = refl
@@ -211,7 +211,7 @@ module _ (hs : List NumberedModule) (own : ℕ) (m : Loaded)
       (λ d. let named = others met d is.within is.other in let begins = is.begins d in let ends =
       is.ends d in rw (named, lt-ltb _ _ ends, lt-ltb _ _ begins) refl)
       (λ k d lt. let w = is.within in misses k d (omega arith)
-      (λ o. meets_no (start_of m) (end_of (get_or hs k d).loaded) _ (is.before k d lt o)))
+      (λ o. meets-no (start_of m) (end_of (get_or hs k d).loaded) _ (is.before k d lt o)))
 
   pub nothing_met : (at : ℕ) → IsClear hs own (start_of m) (end_of m) at
       → first_overlap m (map loaded_of hs) ≡ None
@@ -222,20 +222,20 @@ module _ (hs : List NumberedModule) (own : ℕ) (m : Loaded)
     where
       by : (k : ℕ) (d : NumberedModule) → k < length hs → IsOther own k → (k < at) ⊎ (at ≤ k)
           → meets m (get_or hs k d).loaded ≡ false
-      by k d lt o (inl below) = meets_no (start_of m) (end_of (get_or hs k d).loaded) _
+      by k d lt o (inl below) = meets-no (start_of m) (end_of (get_or hs k d).loaded) _
           (clear.before k d below o)
-      by k d lt o (inr from) = meets_past (end_of m) (start_of (get_or hs k d).loaded) _
+      by k d lt o (inr from) = meets-past (end_of m) (start_of (get_or hs k d).loaded) _
           (clear.after k d from lt o)
 
-pub range_fault : (m : Loaded) (others : List Loaded) → 2 ^ 64 ≤ end_of m
+pub range-fault : (m : Loaded) (others : List Loaded) → 2 ^ 64 ≤ end_of m
     → place_fault m others ≡ Some Range
-range_fault m others le = rw (lt-ltb (2 ^ 64 - 1) (end_of m) (omega arith)) refl
+range-fault m others le = rw (lt-ltb (2 ^ 64 - 1) (end_of m) (omega arith)) refl
 
-pub overlap_fault : (m : Loaded) (others : List Loaded) (met : ℕ) → end_of m < 2 ^ 64
+pub overlap-fault : (m : Loaded) (others : List Loaded) (met : ℕ) → end_of m < 2 ^ 64
     → first_overlap m others ≡ Some met
     → place_fault m others ≡ Some (Overlap met)
-overlap_fault m others met lt e = rw (not_below (2 ^ 64 - 1) (end_of m) (omega arith), e) refl
+overlap-fault m others met lt e = rw (not-below (2 ^ 64 - 1) (end_of m) (omega arith), e) refl
 
-pub no_place_fault : (m : Loaded) (others : List Loaded) → end_of m < 2 ^ 64
+pub no_place-fault : (m : Loaded) (others : List Loaded) → end_of m < 2 ^ 64
     → first_overlap m others ≡ None → place_fault m others ≡ None
-no_place_fault m others lt e = rw (not_below (2 ^ 64 - 1) (end_of m) (omega arith), e) refl
+no_place-fault m others lt e = rw (not-below (2 ^ 64 - 1) (end_of m) (omega arith), e) refl

@@ -43,10 +43,7 @@ impl Model for Cache {
 }
 
 /// Returns the cached answer for a key and makes it the most recently used one.
-fn recall(
-    answers: &mut LruCache<CacheKey, Option<Place>>,
-    key: CacheKey,
-) -> Option<Option<Place>>
+fn recall(answers: &mut LruCache<CacheKey, Option<Place>>, key: CacheKey) -> Option<Option<Place>>
     ensures value { result ≡ cached_under key answers.old.entries }
     ensures order { answers.new.entries ≡ after_lookup key answers.old.entries }
     ensures found { IfSome result (λ place. Contains answers.old.entries (key, place)) }
@@ -59,11 +56,7 @@ fn recall(
 }
 
 /// Caches an answer if memory allows. If the cache is full, evicts the least recently used answer.
-fn remember(
-    answers: &mut LruCache<CacheKey, Option<Place>>,
-    key: CacheKey,
-    place: Option<Place>,
-)
+fn remember(answers: &mut LruCache<CacheKey, Option<Place>>, key: CacheKey, place: Option<Place>)
     ensures kept { (answers.new.entries ≡ answers.old.entries) ⊎ (answers.new.entries ≡ with_answer
         key place (record { entries = answers.old.entries; capacity = answers.old.cap })) }
     ensures cached { (e : CacheEntry) → Contains answers.new.entries e →

@@ -62,8 +62,8 @@ keyed-more k i ends d lt = sum_by_more (one_of k) ends i d lt
 pub one_same : (a k : ℕ) → a ≡ k → one_if (a == k) ≡ 1
 one_same a k is = let t : (a == k) ≡ true = grind (arith, nat_tests) in rw t refl
 
-one_other : (a k : ℕ) → (k ≡ a → ⊥) → one_if (a == k) ≡ 0
-one_other a k not_is = let t : (a == k) ≡ false = grind (arith, nat_tests) in rw t refl
+one-other : (a k : ℕ) → (k ≡ a → ⊥) → one_if (a == k) ≡ 0
+one-other a k not_is = let t : (a == k) ≡ false = grind (arith, nat_tests) in rw t refl
 
 -- the balance after a range starts
 pub balance-open : (opens closes : List End) (p q : ℕ) (old new : ActiveSet) (e : End)
@@ -104,7 +104,7 @@ balance-open opens closes p q old new e b lt is within counts calls = record {
               let here : get_or new.counts k 0 ≡ get_or old.counts k 0 + 1 =
               ap (λ (cs : List ℕ). get_or cs k 0) counts ∙ there in omega arith
           | inr other ↦
-              let none : one_of k e ≡ 0 = one_other e.key k other in
+              let none : one_of k e ≡ 0 = one-other e.key k other in
               let here : get_or new.counts k 0 ≡ get_or old.counts k 0 =
               ap (λ (cs : List ℕ). get_or cs k 0) counts
               ∙ get_or-set_other old.counts e.key k (get_or old.counts e.key 0 + 1) 0 other in
@@ -153,7 +153,7 @@ balance-close opens closes p q old new e b lt is within some counts calls = reco
               let here : get_or new.counts k 0 + 1 ≡ get_or old.counts k 0 =
               ap (λ (cs : List ℕ). get_or cs k 0 + 1) counts ∙ there in omega arith
           | inr other ↦
-              let none : one_of k e ≡ 0 = one_other e.key k other in
+              let none : one_of k e ≡ 0 = one-other e.key k other in
               let here : get_or new.counts k 0 ≡ get_or old.counts k 0 =
               ap (λ (cs : List ℕ). get_or cs k 0) counts
               ∙ get_or-set_other old.counts e.key k (get_or old.counts e.key 0 - 1) 0 other in

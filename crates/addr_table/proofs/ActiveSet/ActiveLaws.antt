@@ -7,7 +7,7 @@ use Rattle.std.proofs.lemmas.Bool.Decides.{nat_tests}
 use Rattle.std.proofs.lemmas.List.{length-set, length-replicate, get_or-replicate, get_or_past}
 use Rattle.addr_table.specs.Private.Bits.{has, is_filled, Summarizes, IsFirstFrom, IsFirstIn}
 use Rattle.addr_table.specs.Private.Active.{IsIndexed}
-use Rattle.addr_table.proofs.ActiveSet.FirstBits.{not_filled}
+use Rattle.addr_table.proofs.ActiveSet.FirstBits.{not-filled}
 use Rattle.addr_table.proofs.ActiveSet.FilledLaws.{summary-set, summary-clear, summary-kept}
 use Rattle.addr_table.proofs.ActiveSet.FilledLaws.{filled-put}
 use Rattle.addr_table.proofs.ActiveSet.FilledLaws.{filled-zero, filled-kept, has-filled}
@@ -179,7 +179,7 @@ empty-summary n m = record { same = λ k. here k }
         let none : get_or (zeros_of n) k 0 ≡ 0 = zeros n k in
         let empty : get_or (zeros_of m) (k / 64) 0 ≡ 0 = zeros m (k / 64) in
         let f : is_filled (zeros_of m) (k / 64) ≡ false = ap (nat_lt 0) empty in
-        not_filled (zeros_of m) k f ∙ sym (ap (nat_lt 0) none)
+        not-filled (zeros_of m) k f ∙ sym (ap (nat_lt 0) none)
 
 pub indexed-new : (n w b g : ℕ) → n < 2 ^ 62 → w ≡ n / 64 + 1 → b ≡ w / 64 + 1 → g ≡ b / 64 + 1
     → IsIndexed (zeros_of n) (zeros_of w) (zeros_of b) (zeros_of g)

@@ -7,7 +7,7 @@ use Rattle.std.proofs.lemmas.Bool.{cases_eq, cases_lt, both_ways}
 use Rattle.std.proofs.lemmas.Bool.Decides.{nat_tests}
 use Rattle.std.proofs.lemmas.List.{get_or-set_same, get_or-set_other, get_or_past}
 use Rattle.addr_table.specs.Private.Bits.{has, is_filled, Summarizes}
-use Rattle.addr_table.proofs.ActiveSet.BitLaws.{filled_other, with_bit}
+use Rattle.addr_table.proofs.ActiveSet.BitLaws.{filled-other, with-bit}
 
 -- ---- the bitmap above after a number changes
 
@@ -33,37 +33,37 @@ summary-kept lower upper lower' h filled = record { same = λ k. h.same k ∙ sy
 
 -- ---- replacing a number of a list
 
-put_same : (x y w i : ℕ) → 0 < x → w ≡ i → nat_lt 0 x ≡ ((w == i) || nat_lt 0 y)
-put_same x y w i a b = grind (arith, nat_tests)
+put-same : (x y w i : ℕ) → 0 < x → w ≡ i → nat_lt 0 x ≡ ((w == i) || nat_lt 0 y)
+put-same x y w i a b = grind (arith, nat_tests)
 
-zero_same : (x y w i : ℕ) → x ≡ 0 → w ≡ i → nat_lt 0 x ≡ (not (w == i) && nat_lt 0 y)
-zero_same x y w i a b = grind (arith, nat_tests)
+zero-same : (x y w i : ℕ) → x ≡ 0 → w ≡ i → nat_lt 0 x ≡ (not (w == i) && nat_lt 0 y)
+zero-same x y w i a b = grind (arith, nat_tests)
 
-zero_other : (x y w i : ℕ) → x ≡ y → (w ≡ i → ⊥) → nat_lt 0 x ≡ (not (w == i) && nat_lt 0 y)
-zero_other x y w i a b = grind (arith, nat_tests)
+zero-other : (x y w i : ℕ) → x ≡ y → (w ≡ i → ⊥) → nat_lt 0 x ≡ (not (w == i) && nat_lt 0 y)
+zero-other x y w i a b = grind (arith, nat_tests)
 
 some_same : (x y : ℕ) → 0 < x → 0 < y → nat_lt 0 x ≡ nat_lt 0 y
 some_same x y a b = grind (arith, nat_tests)
 
-read_put : (xs : List ℕ) (i v w : ℕ) → i < length xs → w ≡ i → get_or (set xs i v) w 0 ≡ v
-read_put xs i v w lt same = let W : ℕ → Type 0 = λ u. get_or (set xs i v) u 0 ≡ v in
+read-put : (xs : List ℕ) (i v w : ℕ) → i < length xs → w ≡ i → get_or (set xs i v) w 0 ≡ v
+read-put xs i v w lt same = let W : ℕ → Type 0 = λ u. get_or (set xs i v) u 0 ≡ v in
     subst W (sym same) (get_or-set_same xs i v 0 lt)
 
 -- by a nonzero number
 pub filled-put : (xs : List ℕ) (i v w : ℕ) → i < length xs → 0 < v
     → is_filled (set xs i v) w ≡ ((w == i) || is_filled xs w)
 filled-put xs i v w lt some = elim (cases_eq w i) [
-  | inl same ↦ let here : get_or (set xs i v) w 0 ≡ v = read_put xs i v w lt same in
-      put_same _ (get_or xs w 0) w i (omega arith) same
-  | inr other ↦ filled_other _ _ w i (get_or-set_other xs i w v 0 other) other
+  | inl same ↦ let here : get_or (set xs i v) w 0 ≡ v = read-put xs i v w lt same in
+      put-same _ (get_or xs w 0) w i (omega arith) same
+  | inr other ↦ filled-other _ _ w i (get_or-set_other xs i w v 0 other) other
 ]
 
 -- by 0
 pub filled-zero : (xs : List ℕ) (i w : ℕ) → i < length xs
     → is_filled (set xs i 0) w ≡ (not (w == i) && is_filled xs w)
 filled-zero xs i w lt = elim (cases_eq w i) [
-  | inl same ↦ zero_same _ (get_or xs w 0) w i (read_put xs i 0 w lt same) same
-  | inr other ↦ zero_other _ _ w i (get_or-set_other xs i w 0 0 other) other
+  | inl same ↦ zero-same _ (get_or xs w 0) w i (read-put xs i 0 w lt same) same
+  | inr other ↦ zero-other _ _ w i (get_or-set_other xs i w 0 0 other) other
 ]
 
 -- a nonzero number by another
@@ -71,7 +71,7 @@ pub filled-kept : (xs : List ℕ) (i v w : ℕ) → i < length xs → 0 < v → 
     → is_filled (set xs i v) w ≡ is_filled xs w
 filled-kept xs i v w lt some old = elim (cases_eq w i) [
   | inl same ↦
-      let here : get_or (set xs i v) w 0 ≡ v = read_put xs i v w lt same in
+      let here : get_or (set xs i v) w 0 ≡ v = read-put xs i v w lt same in
       let there : get_or xs w 0 ≡ get_or xs i 0 = ap (λ u. get_or xs u 0) same in
       some_same _ _ (omega arith) (omega arith)
   | inr other ↦ ap (nat_lt 0) (get_or-set_other xs i w v 0 other)
@@ -81,7 +81,7 @@ filled-kept xs i v w lt some old = elim (cases_eq w i) [
 pub has-filled : (words : List ℕ) (k : ℕ) → has words k ≡ true → is_filled words (k / 64) ≡ true
 has-filled words k h =
     let one : bit_at (get_or words (k / 64) 0) (k % 64) ≡ 1 = grind (arith, nat_tests) in
-    let some : 0 < get_or words (k / 64) 0 = with_bit _ (k % 64) one in
+    let some : 0 < get_or words (k / 64) 0 = with-bit _ (k % 64) one in
     grind (arith, nat_tests)
 
 -- the index of a nonzero number is within the list

@@ -25,50 +25,50 @@ none_from word from i h le =
     let Z : ℕ → Type 0 = λ n. n / 2 ^ (i - from) % 2 ≡ 0 in
     subst P place (subst Q moved (subst Z (sym h) zero_there))
 
-pub moved_bit : (word from i : ℕ) → bit_at (word / 2 ^ from) i ≡ bit_at word (from + i)
-moved_bit word from i = ap (λ n. n % 2) (shr-shr word from i)
+pub moved-bit : (word from i : ℕ) → bit_at (word / 2 ^ from) i ≡ bit_at word (from + i)
+moved-bit word from i = ap (λ n. n % 2) (shr-shr word from i)
 
 -- ---- the first set bit at or after an index
 
 -- a word without set bits is 0
-pub empty_word : (word : ℕ) → word < 2 ^ 64 → ((i : ℕ) → i < 64 → bit_at word i ≡ 0) → word ≡ 0
-empty_word word fits none = same_from_bits_below 64 word 0 fits (omega arith)
+pub empty-word : (word : ℕ) → word < 2 ^ 64 → ((i : ℕ) → i < 64 → bit_at word i ≡ 0) → word ≡ 0
+empty-word word fits none = same_from_bits_below 64 word 0 fits (omega arith)
     (λ i lt. none i lt ∙ sym (bit_at-zero i))
 
-has_none : (x : ℕ) → x ≡ 0 → nat_eq x 1 ≡ false
-has_none x h = grind (arith, nat_tests)
+has-none : (x : ℕ) → x ≡ 0 → nat_eq x 1 ≡ false
+has-none x h = grind (arith, nat_tests)
 
 -- a word that is 0 has no set bit
-pub not_filled : (words : List ℕ) (k : ℕ) → is_filled words (k / 64) ≡ false → has words k ≡ false
-not_filled words k h =
+pub not-filled : (words : List ℕ) (k : ℕ) → is_filled words (k / 64) ≡ false → has words k ≡ false
+not-filled words k h =
     let empty : get_or words (k / 64) 0 ≡ 0 = grind (arith, nat_tests) in
-    has_none _ (ap (λ n. bit_at n (k % 64)) empty ∙ bit_at-zero (k % 64))
+    has-none _ (ap (λ n. bit_at n (k % 64)) empty ∙ bit_at-zero (k % 64))
 
-pub past_words : (words : List ℕ) (k : ℕ) → length words ≤ k / 64 → has words k ≡ false
-past_words words k h = has_none _ (ap (λ n. bit_at n (k % 64)) (get_or_past words (k / 64) 0 h)
+pub past-words : (words : List ℕ) (k : ℕ) → length words ≤ k / 64 → has words k ≡ false
+past-words words k h = has-none _ (ap (λ n. bit_at n (k % 64)) (get_or_past words (k / 64) 0 h)
     ∙ bit_at-zero (k % 64))
 
 -- neither the word itself nor a later word has a set bit
-pub climbed_none : (words : List ℕ) (from : ℕ) → IsFirstInWord words from None
+pub climbed-none : (words : List ℕ) (from : ℕ) → IsFirstInWord words from None
     → IsFirstFrom (is_filled words) (from / 64 + 1) None
     → IsFirstFrom (has words) from None
-climbed_none words from here above k le = elim (cases_eq (k / 64) (from / 64)) [
+climbed-none words from here above k le = elim (cases_eq (k / 64) (from / 64)) [
   | inl same ↦ here k le same
-  | inr other ↦ not_filled words k (above (k / 64) (omega arith))
+  | inr other ↦ not-filled words k (above (k / 64) (omega arith))
 ]
 
 -- .. or the first set bit is in the first later word that has one
-pub climbed_some : (words : List ℕ) (from w : ℕ) (first : Option ℕ) → IsFirstInWord words from None
+pub climbed-some : (words : List ℕ) (from w : ℕ) (first : Option ℕ) → IsFirstInWord words from None
     → IsFirstFrom (is_filled words) (from / 64 + 1) (Some w)
     → IsFirstInWord words (w * 64) first
     → (first ≡ None → w * 64 % 64 ≡ 0 → is_filled words (w * 64 / 64) ≡ false)
     → IsFirstFrom (has words) from first
-climbed_some words from w None here above found empty =
+climbed-some words from w None here above found empty =
     let word : w * 64 / 64 ≡ w = omega arith in
     let none : is_filled words (w * 64 / 64) ≡ false = empty refl (omega arith) in
     let W : ℕ → Type 0 = λ n. is_filled words n ≡ false in
     absurd (both_ways (is_filled words w) (subst W word none) above.1)
-climbed_some words from w (Some r) here above found empty =
+climbed-some words from w (Some r) here above found empty =
     let same : r / 64 ≡ w * 64 / 64 = found.1 in
     let le : from / 64 + 1 ≤ w = above.0 in (
       omega arith,
@@ -76,7 +76,7 @@ climbed_some words from w (Some r) here above found empty =
       λ k low high. elim (cases_eq (k / 64) (from / 64)) [
         | inl same ↦ here k low same
         | inr other ↦ elim (cases_lt (k / 64) w) [
-          | inl before ↦ not_filled words k (above.2 (k / 64) (omega arith) before)
+          | inl before ↦ not-filled words k (above.2 (k / 64) (omega arith) before)
           | inr after ↦ found.3 k (omega arith) high
         ]
       ],
@@ -84,24 +84,24 @@ climbed_some words from w (Some r) here above found empty =
 
 -- ---- the first set bit of a word at or after a bit
 
-pub first_bit : (word from : ℕ) → word < 2 ^ 64 → from < 64 → (word / 2 ^ from ≡ 0 → ⊥)
+pub first-bit : (word from : ℕ) → word < 2 ^ 64 → from < 64 → (word / 2 ^ from ≡ 0 → ⊥)
     → (from ≤ from + trailing_zeros w64 (word / 2 ^ from))
     × (from + trailing_zeros w64 (word / 2 ^ from) < 64) ×
     (bit_at word (from + trailing_zeros w64 (word / 2 ^ from)) ≡ 1)
     × ((i : ℕ) → from ≤ i → i < from + trailing_zeros w64 (word / 2 ^ from) → bit_at word i ≡ 0)
-first_bit word from fits lt some =
+first-bit word from fits lt some =
     let rest : ℕ = word / 2 ^ from in
     let less : word / 2 ^ from ≤ word = shr_le word from in
     let found = bit_at-trailing_zeros w64 (word / 2 ^ from) (omega arith) (omega arith) in
     let one : bit_at word (from + trailing_zeros w64 (word / 2 ^ from)) ≡ 1 =
-    sym (moved_bit word from (trailing_zeros w64 (word / 2 ^ from))) ∙ found.1 in (
+    sym (moved-bit word from (trailing_zeros w64 (word / 2 ^ from))) ∙ found.1 in (
       omega arith,
       within (from + trailing_zeros w64 (word / 2 ^ from)) one,
       one,
       λ i low high.
           let place : from + (i - from) ≡ i = omega arith in
           let P : ℕ → Type 0 = λ n. bit_at word n ≡ 0 in
-          subst P place (sym (moved_bit word from (i - from)) ∙ found.2 (i - from) (omega arith)),
+          subst P place (sym (moved-bit word from (i - from)) ∙ found.2 (i - from) (omega arith)),
     )
   where
     within : (t : ℕ) → bit_at word t ≡ 1 → t < 64
@@ -146,5 +146,5 @@ pub word-end : (words : List ℕ) (from w : ℕ) → NoneUpTo words from w → l
     → IsFirstFrom (has words) from None
 word-end words from w h le k low = elim (cases_lt (k / 64) w) [
   | inl before ↦ h k low before
-  | inr after ↦ past_words words k (omega arith)
+  | inr after ↦ past-words words k (omega arith)
 ]

@@ -35,8 +35,8 @@ find-some p (x ∷ xs) t h = cases (p x) h (find-some p xs t)
     cases true h rest = refl
     cases false h rest = rest h
 
-the_same : {X : Type 0} {x y : X} → Some x ≡ Some y → x ≡ y
-the_same e = cc
+the-same : {X : Type 0} {x y : X} → Some x ≡ Some y → x ≡ y
+the-same e = cc
 
 find-all : {X : Type 0} (P : X → Type 0) (p : X → Bool) (xs : List X) (t : X) → AllByRecursion P xs
     → find p xs ≡ Some t → P t
@@ -44,7 +44,7 @@ find-all P p [] t all h = cc
 find-all P p (x ∷ xs) t all h = cases (p x) h (find-all P p xs t all.1)
   where
     cases : (b : Bool) → cond b (Some x) (find p xs) ≡ Some t → (find p xs ≡ Some t → P t) → P t
-    cases true h rest = subst P (the_same h) all.0
+    cases true h rest = subst P (the-same h) all.0
     cases false h rest = rest h
 
 pub held-none : (a : ℕ) (xs : List Scope) → find (is_at Subprogram a) xs ≡ None
@@ -71,7 +71,7 @@ held-some a (s ∷ xs) t h = cases (is_at Subprogram a s) h (held-some a xs t)
     cases true h rest = (
       filter (is_at Inlined a) xs,
       ap (λ z. z ∷ filter (is_at Inlined a) xs)
-          (the_same h),
+          (the-same h),
     )
     cases false h rest = rest h
 
@@ -87,10 +87,10 @@ around-below a (suc k) scopes t h =
     (filtered-enclose k scopes) h in
     let le : t.number ≤ k = e.0 in omega arith
 
-pub found_more : (a : ℕ) (xs : List Scope) (s : Scope)
+pub found-more : (a : ℕ) (xs : List Scope) (s : Scope)
     → find (is_at Subprogram a) (xs ++ s ∷ []) ≡ option_or (find (is_at Subprogram a) xs)
     (cond (is_at Subprogram a s) (Some s) None)
-found_more a xs s = find-append (is_at Subprogram a) xs (s ∷ [])
+found-more a xs s = find-append (is_at Subprogram a) xs (s ∷ [])
 
 abbrev pub number_in : Option Scope → Option ℕ
 number_in = option_map (λ s. s.number)
@@ -116,7 +116,7 @@ step-top a scopes nears k near d have lt is top =
         (option_or (find (is_at Subprogram a) (around scopes (get_or nears k 0)))
         (cond (is_at Subprogram a (get_or scopes k d)) (Some (get_or scopes k d)) None)) ≡ Some k
     top_here =
-        sym (ap number_in (found_more a (around scopes (get_or nears k 0)) (get_or scopes k d)))
+        sym (ap number_in (found-more a (around scopes (get_or nears k 0)) (get_or scopes k d)))
         ∙ (sym (ap (λ (xs : List Scope). number_in (find (is_at Subprogram a) xs)) split)
         ∙ subst (λ (n : ℕ). top_around a scopes n ≡ Some k) is top)
 
@@ -131,7 +131,7 @@ step-top a scopes nears k near d have lt is top =
         ∙ (rw (find-none (is_at Subprogram a) (around scopes (get_or nears k 0)) f, t) refl)
     by None f false t h = cc
     by (Some u) f b t h =
-        let number : u.number ≡ k = the_same h in
+        let number : u.number ≡ k = the-same h in
         let below : u.number < get_or nears k 0 = around-below a (get_or nears k 0) scopes u f in
         let low : get_or nears k 0 ≤ k = parent.near_is in
         absurd (omega arith)
@@ -195,7 +195,7 @@ step-outer a scopes nears k near top have lt is told other = record {
             (cond (is_at Subprogram a (get_or scopes k d)) (Some (get_or scopes k d)) None))
             ≡ Some top
         top_here =
-            sym (ap number_in (found_more a (around scopes (get_or nears k 0)) (get_or scopes k d)))
+            sym (ap number_in (found-more a (around scopes (get_or nears k 0)) (get_or scopes k d)))
             ∙ (sym (ap (λ (xs : List Scope). number_in (find (is_at Subprogram a) xs)) split)
             ∙ subst (λ (n : ℕ). top_around a scopes n ≡ Some top) is told)
 
@@ -206,7 +206,7 @@ step-outer a scopes nears k near top have lt is told other = record {
             (held_among a (around scopes (get_or nears k 0) ++ get_or scopes k d ∷ [])
             ≡ held_among a (around scopes (get_or nears k 0))
             ++ filter (is_at Inlined a) (get_or scopes k d ∷ []))
-        by None f true h = absurd (other (sym there ∙ the_same h))
+        by None f true h = absurd (other (sym there ∙ the-same h))
         by None f false h = cc
         by (Some u) f b h = (
           h,

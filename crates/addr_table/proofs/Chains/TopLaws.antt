@@ -10,7 +10,7 @@ use Rattle.addr_table.specs.Chains.{is_at}
 use Rattle.addr_table.specs.Private.Parents.{around, IsParent}
 use Rattle.addr_table.specs.Private.Walks.{HaveParents, top_around}
 use Rattle.addr_table.proofs.Chains.ParentSearch.{number-there}
-use Rattle.addr_table.proofs.Chains.ParentWalkLaws.{found_more, number_in}
+use Rattle.addr_table.proofs.Chains.ParentWalkLaws.{found-more, number_in}
 
 -- ---- the outermost scope, found by following parents
 
@@ -23,9 +23,9 @@ or-some : {X : Type 0} (x : X) (o found : Option X) → option_or (option_or o (
 or-some x None found = refl
 or-some x (Some y) found = refl
 
-number_or : (o p : Option Scope) → number_in (option_or o p) ≡ option_or (number_in o) (number_in p)
-number_or None p = refl
-number_or (Some s) p = refl
+number-or : (o p : Option Scope) → number_in (option_or o p) ≡ option_or (number_in o) (number_in p)
+number-or None p = refl
+number-or (Some s) p = refl
 
 -- the outermost scope after one step to the parent
 top-split : (a : ℕ) (scopes : List Scope) (nears : List ℕ) (k : ℕ) (d : Scope)
@@ -34,8 +34,8 @@ top-split : (a : ℕ) (scopes : List Scope) (nears : List ℕ) (k : ℕ) (d : Sc
     (cond (is_at Subprogram a (get_or scopes k d)) (Some k) None)
 top-split a scopes nears k d have lt =
     ap (λ (xs : List Scope). number_in (find (is_at Subprogram a) xs)) (parent.around_is d)
-    ∙ (ap number_in (found_more a (around scopes (get_or nears k 0)) (get_or scopes k d))
-    ∙ (number_or (find (is_at Subprogram a) (around scopes (get_or nears k 0)))
+    ∙ (ap number_in (found-more a (around scopes (get_or nears k 0)) (get_or scopes k d))
+    ∙ (number-or (find (is_at Subprogram a) (around scopes (get_or nears k 0)))
     (cond (is_at Subprogram a (get_or scopes k d)) (Some (get_or scopes k d)) None)
     ∙ ap (option_or (top_around a scopes (get_or nears k 0)))
     (inside (is_at Subprogram a (get_or scopes k d)))))

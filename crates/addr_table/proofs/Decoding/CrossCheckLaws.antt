@@ -18,8 +18,8 @@ use Rattle.dwarf_lines.specs.Lines.{Lines}
 use Rattle.addr_table.specs.CrossChecks.{is_bad_root, is_bad_call, is_bad_scope, check_scope}
 use Rattle.addr_table.specs.CrossChecks.{check_unit}
 use Rattle.addr_table.specs.CrossChecks.{cross_checks_of, RefusesAs}
-use Rattle.addr_table.proofs.Decoding.EachTurns.{EachSoFar, each_none, each_more, each_bad}
-use Rattle.addr_table.proofs.Decoding.EachTurns.{each_over}
+use Rattle.addr_table.proofs.Decoding.EachTurns.{EachSoFar, each_none, each-more, each-bad}
+use Rattle.addr_table.proofs.Decoding.EachTurns.{each-over}
 
 -- the scopes of a unit before a number are valid
 abbrev pub ScopesSoFar : Lines → List Scope → ℕ → ℕ → ℕ → Type 0
@@ -70,7 +70,7 @@ scopes-more lines scopes first past number d of h good =
     let low : first ≤ number = of.low in
     let next : number + 1 - first ≡ number - first + 1 = omega arith in
     rw next
-    (each_more (check_scope lines) (slice_range scopes first past) (number - first)
+    (each-more (check_scope lines) (slice_range scopes first past) (number - first)
     (get_or scopes number d) tt h
     (inside scopes first past number of) (there scopes first past number d of) (rw good refl))
 
@@ -82,7 +82,7 @@ pub scopes-bad : (lines : Lines) (scopes : List Scope) (first past number at : �
     → each (λ _ s. check_scope lines s) (slice_range scopes first past) ≡ Err (causes.CallFile, at)
 scopes-bad lines scopes first past number at d of h bad is =
     rw is
-    (each_bad (check_scope lines) (slice_range scopes first past) (number - first)
+    (each-bad (check_scope lines) (slice_range scopes first past) (number - first)
     (get_or scopes number d)
     (causes.CallFile, (get_or scopes number d).offset) h (inside scopes first past number of)
     (there scopes first past number d of)
@@ -96,7 +96,7 @@ scopes-over lines scopes first past number h past_is =
     let len : length (slice_range scopes first past) ≡ min (past - first) (length scopes - first) =
     length-take (past - first) (drop first scopes)
     ∙ ap (min (past - first)) (length-drop first scopes) in
-    each_over (check_scope lines) (slice_range scopes first past) (number - first) h (omega arith)
+    each-over (check_scope lines) (slice_range scopes first past) (number - first) h (omega arith)
 
 -- a unit
 pub unit-bad : (lines : Lines) (scopes : List Scope) (root : Root) → is_bad_root lines root ≡ true
@@ -116,10 +116,10 @@ abbrev pub UnitsSoFar : Lines → List Scope → List Root → ℕ → Type 0
 UnitsSoFar lines scopes roots i = EachSoFar (check_unit lines scopes) roots i
 
 -- the root at an index
-root_there : (tree : Tree) (roots : List Root) (i : ℕ) (d : Root) → roots ≡ tree.roots
+root-there : (tree : Tree) (roots : List Root) (i : ℕ) (d : Root) → roots ≡ tree.roots
     → i < length roots
     → (i < length tree.roots) × (get_or roots i d ≡ get_or tree.roots i (get_or roots i d))
-root_there tree roots i d are lt = (
+root-there tree roots i d are lt = (
   subst (λ (rs : List Root). i < length rs) are lt,
   get_or_default roots i d (get_or roots i d) lt
       ∙ ap (λ (rs : List Root). get_or rs i (get_or roots i d)) are,
@@ -131,8 +131,8 @@ pub units-more : (lines : Lines) (tree : Tree) (roots : List Root) (i : ℕ) (d 
     → RefusesAs (Ok u) (check_unit lines tree.scopes (get_or roots i d))
     → UnitsSoFar lines tree.scopes tree.roots (i + 1)
 units-more lines tree roots i d u are h lt good =
-    let t = root_there tree roots i d are lt in
-    each_more (check_unit lines tree.scopes) tree.roots i (get_or roots i d) good.0 h t.0 t.1 good.1
+    let t = root-there tree roots i d are lt in
+    each-more (check_unit lines tree.scopes) tree.roots i (get_or roots i d) good.0 h t.0 t.1 good.1
 
 pub units-bad : (lines : Lines) (tree : Tree) (roots : List Root) (i : ℕ) (d : Root)
     (fault : LoadFault) → roots ≡ tree.roots
@@ -141,9 +141,9 @@ pub units-bad : (lines : Lines) (tree : Tree) (roots : List Root) (i : ℕ) (d :
     → RefusesAs (Err fault) (cross_checks_of lines tree)
 unfolding cross_checks_of
 units-bad lines tree roots i d fault are h lt bad =
-    let t = root_there tree roots i d are lt in (
+    let t = root-there tree roots i d are lt in (
       bad.0,
-      each_bad (check_unit lines tree.scopes) tree.roots i (get_or roots i d)
+      each-bad (check_unit lines tree.scopes) tree.roots i (get_or roots i d)
           (fault.cause, fault.at) h t.0 t.1 bad.1,
     )
 
@@ -152,7 +152,7 @@ pub units-over : (lines : Lines) (tree : Tree) (roots : List Root) (i : ℕ) →
     → RefusesAs (Ok tt) (cross_checks_of lines tree)
 unfolding cross_checks_of
 units-over lines tree roots i are h past =
-    each_over (check_unit lines tree.scopes) tree.roots i h
+    each-over (check_unit lines tree.scopes) tree.roots i h
     (subst (λ (rs : List Root). length rs ≤ i) are past)
 
 -- ---- the data of a scope of the program

@@ -22,13 +22,13 @@ use Rattle.addr_table.specs.Module.{IsWellFormed, fault_of}
 
 -- ---- the sections, at the offsets of the layout
 
-pub lines_read : (bytes line line_str str : List ℕ) (found : Layout) → found ≡ layout bytes
+pub lines-read : (bytes line line_str str : List ℕ) (found : Layout) → found ≡ layout bytes
     → line ≡ take found.debug_line.len (drop found.debug_line.place bytes)
     → line_str ≡ take found.debug_line_str.len (drop found.debug_line_str.place bytes)
     → str ≡ take found.debug_str.len (drop found.debug_str.place bytes)
     → record { line = line; line_str = line_str; str = str } ≡ line_sections bytes
 unfolding layout
-lines_read bytes line line_str str found is a b c =
+lines-read bytes line line_str str found is a b c =
     ap (λ (z : List ℕ). record { line = z; line_str = line_str; str = str }) a
     ∙ ap (λ (z : List ℕ). record {
       line =
@@ -70,7 +70,7 @@ lines-bad bytes s fault e is bad = rw (e, ap lines_in (sym is) ∙ bad) refl
 -- the results of decoding after the line programs, after the entries, and after the cross-checks
 pub record LinesRead (bytes : List ℕ) (lines : Lines) : Type 0 where
   pub elf : elf_fault bytes ≡ None
-  pub lines_are : lines_in (line_sections bytes) ≡ Ok lines
+  pub lines-are : lines_in (line_sections bytes) ≡ Ok lines
 
 pub record TreeRead (bytes : List ℕ) (lines : Lines) (tree : Tree) : Type 0 where
   pub behind : LinesRead bytes lines
@@ -79,36 +79,36 @@ pub record TreeRead (bytes : List ℕ) (lines : Lines) (tree : Tree) : Type 0 wh
 pub lines-good : (bytes : List ℕ) (s : LineSections) (lines : Lines) → elf_fault bytes ≡ None
     → s ≡ line_sections bytes
     → lines_in s ≡ Ok lines → LinesRead bytes lines
-lines-good bytes s lines e is good = record { elf = e; lines_are = ap lines_in (sym is) ∙ good }
+lines-good bytes s lines e is good = record { elf = e; lines-are = ap lines_in (sym is) ∙ good }
 
 pub tree-bad : (bytes : List ℕ) (lines : Lines) (s : Sections) (fault : LoadFault)
     → LinesRead bytes lines → s ≡ entry_sections bytes
     → tree_of s ≡ Err fault → fault_of bytes ≡ Some fault
 unfolding fault_of decoded
-tree-bad bytes lines s fault h is bad = rw (h.elf, h.lines_are, ap tree_of (sym is) ∙ bad) refl
+tree-bad bytes lines s fault h is bad = rw (h.elf, h.lines-are, ap tree_of (sym is) ∙ bad) refl
 
 pub tree-good : (bytes : List ℕ) (lines : Lines) (s : Sections) (tree : Tree)
     → LinesRead bytes lines → s ≡ entry_sections bytes
     → tree_of s ≡ Ok tree → TreeRead bytes lines tree
 tree-good bytes lines s tree h is good = record { behind = h; tree_is = ap tree_of (sym is) ∙ good }
 
-of_section : (fault : LoadFault) (section : Section) → fault.section ≡ section
+of-section : (fault : LoadFault) (section : Section) → fault.section ≡ section
     → record { section = section; cause = fault.cause; at = fault.at } ≡ fault
-of_section fault section is = rw (← is) refl
+of-section fault section is = rw (← is) refl
 
 pub joins-bad : (bytes : List ℕ) (lines : Lines) (tree : Tree) (fault : LoadFault)
     → TreeRead bytes lines tree
     → RefusesAs (Err fault) (cross_checks_of lines tree) → fault_of bytes ≡ Some fault
 unfolding fault_of decoded
 joins-bad bytes lines tree fault h bad =
-    rw (h.behind.elf, h.behind.lines_are, h.tree_is, bad.1)
-    (ap (λ (f : LoadFault). Some f) (of_section fault names.DebugInfo bad.0))
+    rw (h.behind.elf, h.behind.lines-are, h.tree_is, bad.1)
+    (ap (λ (f : LoadFault). Some f) (of-section fault names.DebugInfo bad.0))
 
 pub all-good : (bytes : List ℕ) (lines : Lines) (tree : Tree) → TreeRead bytes lines tree
     → RefusesAs (Ok tt) (cross_checks_of lines tree)
     → decoded bytes ≡ Ok (record { lines = lines; tree = tree })
 unfolding decoded
-all-good bytes lines tree h good = rw (h.behind.elf, h.behind.lines_are, h.tree_is, good.1) refl
+all-good bytes lines tree h good = rw (h.behind.elf, h.behind.lines-are, h.tree_is, good.1) refl
 
 pub well-formed : (bytes : List ℕ) (d : Decoded) → decoded bytes ≡ Ok d → IsWellFormed bytes
 unfolding IsWellFormed

@@ -18,8 +18,8 @@ use Rattle.addr_table.specs.Frames.{first_site}
 use Rattle.addr_table.proofs.FrameWalks.SiteLaws.{site-of-frames}
 use Rattle.addr_table.specs.Private.Walks.{HaveParents}
 use Rattle.addr_table.specs.Private.Kept.{IsDecoded}
-use Rattle.addr_table.proofs.Decoding.ExtentLaws.{elf-good, low_below_high}
-use Rattle.addr_table.proofs.Searching.SegmentListLaws.{place_among_cuts}
+use Rattle.addr_table.proofs.Decoding.ExtentLaws.{elf-good, low-below-high}
+use Rattle.addr_table.proofs.Searching.SegmentListLaws.{place_among-cuts}
 
 pub low_told : (bytes : List ℕ) (found : Layout) → found ≡ layout bytes → found.low ≡ low_of bytes
 unfolding low_of layout
@@ -37,7 +37,7 @@ pub place-told : (bytes : List ℕ) (sections : Layout) (lines : Lines) (tree : 
 unfolding place_in
 place-told bytes sections lines tree nears list calls link h =
     rw h.is_decoded (ap (λ (cs : List Segment). place_among cs link) h.cuts_are
-    ∙ place_among_cuts lines.rows tree.scopes link)
+    ∙ place_among-cuts lines.rows tree.scopes link)
 
 pub cuts-told : (bytes : List ℕ) (sections : Layout) (lines : Lines) (tree : Tree) (nears : List ℕ)
     (list : List Segment) (calls : ℕ)
@@ -74,11 +74,11 @@ place-scanned bytes sections lines tree nears list calls rows scopes row scope l
     scope_is ∙ ap (λ (ss : List Scope). scope_at ss link) scopes_are in
     rw (h.is_decoded, R, S) refl
 
-pub extent_told : (bytes : List ℕ) (sections : Layout) (lines : Lines) (tree : Tree)
+pub extent-told : (bytes : List ℕ) (sections : Layout) (lines : Lines) (tree : Tree)
     (nears : List ℕ) (list : List Segment) (calls : ℕ)
     → IsDecoded bytes sections lines tree nears list calls → low_of bytes < high_of bytes
-extent_told bytes sections lines tree nears list calls h =
-    low_below_high bytes (elf-good bytes _ h.is_decoded)
+extent-told bytes sections lines tree nears list calls h =
+    low-below-high bytes (elf-good bytes _ h.is_decoded)
 
 pub frames-told : (bytes : List ℕ) (sections : Layout) (lines : Lines) (tree : Tree)
     (nears : List ℕ) (list : List Segment) (calls : ℕ)

@@ -18,8 +18,8 @@ get-there [] i d lt = absurd (omega arith)
 get-there (x ∷ xs) zero d lt = refl
 get-there (x ∷ xs) (suc i) d lt = get-there xs i d (omega arith)
 
-the_same : {X : Type 0} {x y : X} → Some x ≡ Some y → x ≡ y
-the_same e = cc
+the-same : {X : Type 0} {x y : X} → Some x ≡ Some y → x ≡ y
+the-same e = cc
 
 pub told-item : (scopes : List Scope) (kept : List Kept) (i : ℕ) (r : Kept) → AreInOrder scopes
     → map own_of kept ≡ map own scopes
@@ -29,7 +29,7 @@ told-item scopes kept i r order same lt d =
     let t = tells-of scopes kept i (get_or kept i r) order same
     (get-there kept i r (omega arith)) in
     subst (λ (s : Scope). TellsOf scopes (get_or kept i r) s)
-    (the_same (sym t.1 ∙ get-there scopes i d lt)) t.2
+    (the-same (sym t.1 ∙ get-there scopes i d lt)) t.2
 
 pub end-item : (scopes : List Scope) (kept : List Kept) (i : ℕ) (r : Kept) (d : Scope)
     → map own_of kept ≡ map own scopes

@@ -17,7 +17,7 @@ use Rattle.addr_table.specs.declared.ends.End.{End}
 use Rattle.addr_table.specs.Segments.{ranges_of, ends_of}
 use Rattle.addr_table.specs.Private.Sweep.{Reach, reaches_of, open_of, close_of, AreEnds}
 use Rattle.addr_table.specs.Private.Sweep.{UpTo, Above, IsNext}
-use Rattle.addr_table.proofs.Scanning.Lists.{each_weaker}
+use Rattle.addr_table.proofs.Scanning.Lists.{each-weaker}
 use Rattle.addr_table.proofs.Searching.SegmentListLaws.{ends_rise, IsAmong}
 use Rattle.addr_table.proofs.Endpoints.RangeEnds.{above-next, ends-all, ends-among, first-next}
 use Rattle.addr_table.proofs.Endpoints.RangeEnds.{none-next}
@@ -90,13 +90,13 @@ each-end rows scopes opens closes h =
     (ends-among (ranges_of rows scopes))) in (
       All-permutation E (map open_of (reaches_of rows scopes)) opens h.opens_are
           (All-from_recursion E (map open_of (reaches_of rows scopes))
-          (mapped E open_of (reaches_of rows scopes) (each_weaker
+          (mapped E open_of (reaches_of rows scopes) (each-weaker
           (λ (r : Reach). R r.range) (λ (r : Reach). IsAmong r.range.from
           (ends_of (ranges_of rows scopes))) (λ r k. k.0)
           (reaches_of rows scopes) each))),
       All-permutation E (map close_of (reaches_of rows scopes)) closes h.closes_are
           (All-from_recursion E (map close_of (reaches_of rows scopes))
-          (mapped E close_of (reaches_of rows scopes) (each_weaker
+          (mapped E close_of (reaches_of rows scopes) (each-weaker
           (λ (r : Reach). R r.range) (λ (r : Reach). IsAmong r.range.to
           (ends_of (ranges_of rows scopes))) (λ r k. k.1)
           (reaches_of rows scopes) each))),

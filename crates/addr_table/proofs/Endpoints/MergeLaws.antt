@@ -17,7 +17,7 @@ use Rattle.addr_table.specs.Private.Merged.{merged_from, merged, ends_in, taken_
 use Rattle.addr_table.specs.Private.Merged.{IsHead, IsNextIn, Cursor}
 use Rattle.addr_table.specs.Private.Sweep.{Above}
 use Rattle.addr_table.proofs.ActiveSet.ActiveCounts.{rest-above}
-use Rattle.addr_table.proofs.Scanning.Lists.{each_weaker}
+use Rattle.addr_table.proofs.Scanning.Lists.{each-weaker}
 
 -- ---- the same endpoints
 
@@ -57,7 +57,7 @@ Rise (e ∷ ends) = From e.at ends × Rise ends
 
 further : (m n : ℕ) (ends : List End) → m ≤ n → From n ends → From m ends
 further m n ends le h =
-    each_weaker (λ (e : End). n ≤ e.at) (λ (e : End). m ≤ e.at) (λ e k. omega (arith, le, k)) ends h
+    each-weaker (λ (e : End). n ≤ e.at) (λ (e : End). m ≤ e.at) (λ e k. omega (arith, le, k)) ends h
 
 rise-of : (ends : List End) → IsNonDecreasingBy (λ (e : End). e.at) ends → Rise ends
 rise-of [] h = tt

@@ -13,8 +13,8 @@ use Rattle.addr_table.specs.Segments.{is_nonempty, row_ranges, scope_ranges, ran
 use Rattle.addr_table.specs.Segments.{ends_of}
 use Rattle.addr_table.specs.Private.Sweep.{Reach, key_of, row_reaches, reaches_in, scope_reaches}
 use Rattle.addr_table.specs.Private.Sweep.{reaches_of}
-use Rattle.addr_table.proofs.Scanning.Lists.{each_weaker}
-use Rattle.addr_table.proofs.Searching.SegmentListLaws.{Rise, RiseFrom, IsAmong, among_above}
+use Rattle.addr_table.proofs.Scanning.Lists.{each-weaker}
+use Rattle.addr_table.proofs.Searching.SegmentListLaws.{Rise, RiseFrom, IsAmong, among-above}
 
 -- ---- ascending numbers above one of them
 
@@ -57,7 +57,7 @@ above-next e f (x ∷ xs) h is lt gap = elim gap.0 [
           (ap (λ (zs : List ℕ). x ∷ zs) (all-above e x xs h (omega arith)
           ∙ sym (all-above f x xs h (omega arith)))
           ∙ ap (λ n. n ∷ filter (λ y. nat_lt f y) xs) (sym same))
-      | inr rest ↦ let far : x < f = among_above x f xs h rest in absurd (omega arith)
+      | inr rest ↦ let far : x < f = among-above x f xs h rest in absurd (omega arith)
     ]
 
 -- the first number
@@ -70,7 +70,7 @@ first-next f (x ∷ xs) h is all = elim is [
       let b : nat_lt f x ≡ false = grind (arith, nat_tests) in
       rw b (ap (λ (zs : List ℕ). x ∷ zs) (sym (all-above f x xs h (omega arith)))
       ∙ ap (λ n. n ∷ filter (λ y. nat_lt f y) xs) (sym same))
-  | inr rest ↦ let far : x < f = among_above x f xs h rest in let low : f ≤ x = all.0 in
+  | inr rest ↦ let far : x < f = among-above x f xs h rest in let low : f ≤ x = all.0 in
       absurd (omega arith)
 ]
 
@@ -113,7 +113,7 @@ ends-among (r ∷ rs) = (
     among-put r.from (with_end r.to (ends_of rs)),
     among-kept r.to r.from (with_end r.to (ends_of rs)) (among-put r.to (ends_of rs)),
   ),
-  each_weaker (λ (x : Range). IsAmong x.from (ends_of rs) × IsAmong x.to (ends_of rs))
+  each-weaker (λ (x : Range). IsAmong x.from (ends_of rs) × IsAmong x.to (ends_of rs))
       (λ (x : Range). IsAmong x.from (with_end r.from (with_end r.to (ends_of rs))) × IsAmong x.to
       (with_end r.from (with_end r.to (ends_of rs))))
       (λ x h. (

@@ -61,16 +61,16 @@ one_upto k a e = one_if ((e.key == k) && nat_le e.at a)
 abbrev pub one_of : ℕ → End → ℕ
 one_of k e = one_if (e.key == k)
 
-upto_low : (k a : ℕ) (e : End) → e.at ≤ a → one_of k e ≡ one_upto k a e
-upto_low k a e le = let yes_le : nat_le e.at a ≡ true = grind (arith, nat_tests) in
+upto-low : (k a : ℕ) (e : End) → e.at ≤ a → one_of k e ≡ one_upto k a e
+upto-low k a e le = let yes_le : nat_le e.at a ≡ true = grind (arith, nat_tests) in
     rw yes_le (both (e.key == k))
   where
     both : (b : Bool) → one_if b ≡ one_if (b && true)
     both true = refl
     both false = refl
 
-upto_high : (k a : ℕ) (e : End) → a < e.at → one_upto k a e ≡ 0
-upto_high k a e lt = let not_le : nat_le e.at a ≡ false = grind (arith, nat_tests) in
+upto-high : (k a : ℕ) (e : End) → a < e.at → one_upto k a e ≡ 0
+upto-high k a e lt = let not_le : nat_le e.at a ≡ false = grind (arith, nat_tests) in
     rw not_le (both (e.key == k))
   where
     both : (b : Bool) → one_if (b && false) ≡ 0
@@ -93,7 +93,7 @@ taken-low k a p ends h =
     each : (es : List End) → AllByRecursion (λ (e : End). e.at ≤ a) es
         → AllByRecursion (λ e. one_of k e ≡ one_upto k a e) es
     each [] h = tt
-    each (e ∷ es) h = (upto_low k a e h.0, each es h.1)
+    each (e ∷ es) h = (upto-low k a e h.0, each es h.1)
 
 pub taken-high : (k a p : ℕ) (ends : List End) → Above a (drop p ends)
     → sum_by (one_upto k a) ends ≤ keyed k (take p ends)
@@ -112,7 +112,7 @@ taken-high k a p ends h =
     each : (es : List End) → AllByRecursion (λ (e : End). a < e.at) es
         → AllByRecursion (λ e. one_upto k a e ≡ 0) es
     each [] h = tt
-    each (e ∷ es) h = (upto_high k a e h.0, each es h.1)
+    each (e ∷ es) h = (upto-high k a e h.0, each es h.1)
 
     fewer : (b c : Bool) → one_if (b && c) ≤ one_if b
     fewer true true = omega arith

@@ -63,12 +63,12 @@ chain-enclosing a scopes t order is = by
         not_so : last {X = Scope} [] ≡ Some t → ⊥
         not_so e = cc
     by (whole u last_is all) =
-        let same : u ≡ t = the_same (sym last_is ∙ is) in
+        let same : u ≡ t = the-same (sym last_is ∙ is) in
         let A : Scope → Type 0 = λ s. AllEnclose s.number (chain_of a scopes) in
         from (subst A same all)
       where
-        the_same : {X : Type 0} {x y : X} → Some x ≡ Some y → x ≡ y
-        the_same e = cc
+        the-same : {X : Type 0} {x y : X} → Some x ≡ Some y → x ≡ y
+        the-same e = cc
 
 -- ---- from the last scope to its parents
 

@@ -9,7 +9,7 @@ use Rattle.dwarf_entries.specs.Scopes.{Scope}
 use Rattle.dwarf_entries.specs.Order.{AreNumbered, EndsWithin, AreNested}
 use Rattle.addr_table.specs.Chains.{is_at, chain_below, chain_of, held_among}
 use Rattle.addr_table.specs.Places.{last}
-use Rattle.addr_table.proofs.Scanning.Lists.{each_weaker}
+use Rattle.addr_table.proofs.Scanning.Lists.{each-weaker}
 
 -- ---- a chain among fewer scopes
 
@@ -93,7 +93,7 @@ numbers-from m total [] h = tt
 numbers-from m total (s ∷ later) h =
     let a : s.number ≡ m = h.0 in (
       omega arith,
-      each_weaker (λ (t : Scope). suc m ≤ t.number) (λ (t : Scope). m ≤ t.number)
+      each-weaker (λ (t : Scope). suc m ≤ t.number) (λ (t : Scope). m ≤ t.number)
           (λ t le. omega arith) later
           (numbers-from (suc m) total later h.3),
     )

@@ -20,14 +20,14 @@ use Rattle.addr_table.proofs.Scanning.WordLaws.{row-is-first}
 
 -- ---- rows
 
-moved_nowhere : (o : Option ℕ) → o ≡ option_map (λ n. 0 + n) o
-moved_nowhere None = refl
-moved_nowhere (Some n) = ap Some (sym (zero-add n))
+moved-nowhere : (o : Option ℕ) → o ≡ option_map (λ n. 0 + n) o
+moved-nowhere None = refl
+moved-nowhere (Some n) = ap Some (sym (zero-add n))
 
-moved_twice : (k : ℕ) (o : Option ℕ) → option_map (λ n. k + n) (option_map suc o)
+moved-twice : (k : ℕ) (o : Option ℕ) → option_map (λ n. k + n) (option_map suc o)
     ≡ option_map (λ n. suc k + n) o
-moved_twice k None = refl
-moved_twice k (Some n) = ap Some (omega arith)
+moved-twice k None = refl
+moved-twice k (Some n) = ap Some (omega arith)
 
 -- the result of a search from a row on
 abbrev pub row_from : ℕ → List Row → ℕ → Option ℕ
@@ -43,7 +43,7 @@ row_here (x ∷ y ∷ rows) zero d e link lt = refl
 row_here (x ∷ y ∷ rows) (suc k) d e link lt = row_here (y ∷ rows) k d e link (omega arith)
 
 pub row-first : (rows : List Row) (link : ℕ) → row_from 0 rows link ≡ row_at rows link
-row-first rows link = sym (moved_nowhere (row_of rows link)) ∙ sym (row-is-first rows link)
+row-first rows link = sym (moved-nowhere (row_of rows link)) ∙ sym (row-is-first rows link)
 
 pub row-later : (rows : List Row) (next : ℕ) (d e : Row) (link : ℕ) (found : Option ℕ) → 1 ≤ next
     → next < length rows
@@ -60,7 +60,7 @@ row-later rows (suc k) d e link found ge lt h not_here =
     sym (subst C k_is not_here) in
     let step : row_from k rows link ≡ row_from (suc k) rows link =
     ap (option_map (λ n. k + n)) (row_here rows k d e link lt)
-    ∙ (rw beyond (moved_twice k (row_of (drop (suc k) rows) link))) in
+    ∙ (rw beyond (moved-twice k (row_of (drop (suc k) rows) link))) in
     subst F (sym next_is) (sym step ∙ subst F k_is h)
 
 pub row-none : (rows : List Row) (k : ℕ) (link : ℕ) (found : Option ℕ) → length rows ≤ suc k
@@ -129,13 +129,13 @@ IsScanned scopes a i last end = scan_left a last end (drop i scopes) ≡ scope_a
 pub scanned-none : (scopes : List Scope) (a : ℕ) → IsScanned scopes a 0 None 0
 scanned-none scopes a = left-of a 0 scopes ∙ chain-last (chain_of a scopes)
 
-scope_here : (scopes : List Scope) (a i : ℕ) (d : Scope) (last : Option ℕ) (end : ℕ) (b : Bool)
+scope-here : (scopes : List Scope) (a i : ℕ) (d : Scope) (last : Option ℕ) (end : ℕ) (b : Bool)
     → i < length scopes
     → b ≡ is_next last end a (get_or scopes i d)
     → scan_left a last end (drop i scopes) ≡ cond b
     (scan_left a (Some (get_or scopes i d).number) (get_or scopes i d).«end» (drop (i + 1) scopes))
     (scan_left a last end (drop (i + 1) scopes))
-scope_here scopes a i d last end b lt is =
+scope-here scopes a i d last end b lt is =
     ap (scan_left a last end) (drop_more scopes i d lt)
     ∙ ap (λ x. cond x (scan_left a (Some (get_or scopes i d).number) (get_or scopes i d).«end»
     (drop (i + 1) scopes))
@@ -148,14 +148,14 @@ pub scanned-taken : (scopes : List Scope) (a i : ℕ) (d : Scope) (last : Option
     → number ≡ (get_or scopes i d).number → past ≡ (get_or scopes i d).«end»
     → IsScanned scopes a (i + 1) (Some number) past
 scanned-taken scopes a i d last end number past lt h next number_is past_is =
-    rw (number_is, past_is) (sym (scope_here scopes a i d last end true lt next) ∙ h)
+    rw (number_is, past_is) (sym (scope-here scopes a i d last end true lt next) ∙ h)
 
 pub scanned-passed : (scopes : List Scope) (a i : ℕ) (d : Scope) (last : Option ℕ) (end : ℕ)
     → i < length scopes
     → IsScanned scopes a i last end → false ≡ is_next last end a (get_or scopes i d)
     → IsScanned scopes a (i + 1) last end
 scanned-passed scopes a i d last end lt h next =
-    sym (scope_here scopes a i d last end false lt next) ∙ h
+    sym (scope-here scopes a i d last end false lt next) ∙ h
 
 pub scanned-all : (scopes : List Scope) (a i : ℕ) (last : Option ℕ) (end : ℕ) → length scopes ≤ i
     → IsScanned scopes a i last end

@@ -14,7 +14,7 @@ use Rattle.dwarf_entries.specs.Scopes.{Scope}
 use Rattle.addr_table.specs.Rows.{Cover, holds, covers_from, row_at}
 use Rattle.dwarf_entries.specs.Order.{AreNumbered}
 use Rattle.addr_table.specs.Chains.{is_at, chain_below, chain_of, next_below, IsChainFrom, IsChain}
-use Rattle.addr_table.proofs.Scanning.Lists.{each_weaker, find_same, find_none}
+use Rattle.addr_table.proofs.Scanning.Lists.{each-weaker, find-same, find_none}
 
 -- ---- rows
 
@@ -65,13 +65,13 @@ first-from n (row ∷ next ∷ rows) a = cases row.«end»
     cases true later = later
     cases false later = held (nat_le row.address a) (nat_lt a next.address) later
 
-same_number : (o : Option ℕ) → option_map (λ k. 0 + k) o ≡ o
-same_number None = refl
-same_number (Some k) = ap Some (omega arith)
+same-number : (o : Option ℕ) → option_map (λ k. 0 + k) o ≡ o
+same-number None = refl
+same-number (Some k) = ap Some (omega arith)
 
 pub row-is-first : (rows : List Row) (a : ℕ) → row_at rows a ≡ row_of rows a
 unfolding row_at
-row-is-first rows a = first-from 0 rows a ∙ same_number (row_of rows a)
+row-is-first rows a = first-from 0 rows a ∙ same-number (row_of rows a)
 
 -- ---- chains
 
@@ -117,13 +117,13 @@ next-later a total front later x h =
     (find (λ t. nat_lt x.number t.number && nat_lt t.number x.«end» && is_at Inlined a t)
     later))
     (find_none (λ t. nat_lt x.number t.number && nat_lt t.number x.«end» && is_at Inlined a t)
-    (front ++ x ∷ []) (each_weaker
+    (front ++ x ∷ []) (each-weaker
     (λ t. t.number ≤ x.number) (λ t. (nat_lt x.number t.number && nat_lt t.number x.«end» && is_at
     Inlined a t) ≡ false)
     (λ t le. low t le) (front ++ x ∷ []) at.1))
-    ∙ find_same (λ t. nat_lt x.number t.number && nat_lt t.number x.«end» && is_at Inlined a t)
+    ∙ find-same (λ t. nat_lt x.number t.number && nat_lt t.number x.«end» && is_at Inlined a t)
     (below_test a x.«end») later
-    (each_weaker (λ t. x.number < t.number)
+    (each-weaker (λ t. x.number < t.number)
     (λ t. (nat_lt x.number t.number && nat_lt t.number x.«end» && is_at Inlined a t)
     ≡ below_test a x.«end» t) (λ t lt. high t lt)
     later at.2)

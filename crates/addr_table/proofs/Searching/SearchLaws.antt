@@ -13,7 +13,7 @@ use Rattle.addr_table.specs.Segments.{Segment, is_in, place_among, AreDisjoint}
 use Rattle.addr_table.specs.Places.{place_of}
 use Rattle.addr_table.specs.declared.steps.Steps.{Steps}
 use Rattle.addr_table.specs.Steps.{counted}
-use Rattle.addr_table.proofs.Searching.StepLaws.{counted_one, counted_decoded}
+use Rattle.addr_table.proofs.Searching.StepLaws.{counted-one, counted-decoded}
 use Rattle.addr_table.specs.Private.Segments.{CountsStarted}
 
 pub each_at : {X : Type 0} (P : X → Type 0) (xs : List X) (k : ℕ) (d : X) → AllByRecursion P xs
@@ -22,11 +22,11 @@ each_at P [] k d h lt = absurd (omega arith)
 each_at P (x ∷ xs) zero d h lt = h.0
 each_at P (x ∷ xs) (suc k) d h lt = each_at P xs k d h.1 (omega arith)
 
-pub nonempty_at : (list : List Segment) (k : ℕ) (d : Segment) → AreDisjoint list → k < length list
+pub nonempty-at : (list : List Segment) (k : ℕ) (d : Segment) → AreDisjoint list → k < length list
     → (get_or list k d).from < (get_or list k d).to
-nonempty_at [] k d h lt = absurd (omega arith)
-nonempty_at (c ∷ list) zero d h lt = h.0
-nonempty_at (c ∷ list) (suc k) d h lt = nonempty_at list k d h.2 (omega arith)
+nonempty-at [] k d h lt = absurd (omega arith)
+nonempty-at (c ∷ list) zero d h lt = h.0
+nonempty-at (c ∷ list) (suc k) d h lt = nonempty-at list k d h.2 (omega arith)
 
 pub found_at : (list : List Segment) (k : ℕ) (d : Segment) (a : ℕ) → AreDisjoint list
     → k < length list
@@ -64,7 +64,7 @@ none_at (c ∷ list) (suc (suc n)) d a h le before after =
     let within : n < length list = omega arith in
     let last : (get_or list n d).to ≤ a = before (suc n) (omega arith) in
     let past : c.to ≤ (get_or list n d).from = each_at (λ e. c.to ≤ e.from) list n d h.1 within in
-    let full : (get_or list n d).from < (get_or list n d).to = nonempty_at list n d h.2 within in
+    let full : (get_or list n d).from < (get_or list n d).to = nonempty-at list n d h.2 within in
     let out : (nat_le c.from a && nat_lt a c.to) ≡ false = grind (arith, nat_tests) in
     rw out (none_at list (suc n) d a h.2 (omega arith) (λ m is. before (suc m) (omega arith))
     (λ some. after (omega arith)))
@@ -78,14 +78,14 @@ pub record IsHalved (n s u : ℕ) : Type 0 where
 products : (t p : ℕ) → t * (p * 2) ≡ t * 2 * p
 products t p = omega arith
 
-pow_le : (k u : ℕ) → k ≤ u → 2 ^ k ≤ 2 ^ u
-pow_le k u le = elim (cases_lt k u) [
+pow-le : (k u : ℕ) → k ≤ u → 2 ^ k ≤ 2 ^ u
+pow-le k u le = elim (cases_lt k u) [
   | inl lt ↦ let less : 2 ^ k < 2 ^ u = pow_below k u lt in omega arith
   | inr ge ↦ let same : k ≡ u = omega arith in rw same (omega arith)
 ]
 
-pub not_halved : (n : ℕ) → IsHalved n n 0
-not_halved n = record {
+pub not-halved : (n : ℕ) → IsHalved n n 0
+not-halved n = record {
   left = omega arith;
   bits = λ k lt. omega arith;
   some = λ lt. absurd (omega (arith, lt));
@@ -109,7 +109,7 @@ halved n s t u h some le = record { left = left; bits = bits; some = λ _. omega
           let whole : s * 2 ^ u ≤ n = h.left in
           let one : 1 * 2 ^ u ≤ s * 2 ^ u =
           mul-le 1 (2 ^ u) s (2 ^ u) (omega arith) (omega arith) in
-          let powers : 2 ^ k ≤ 2 ^ u = pow_le k u past in
+          let powers : 2 ^ k ≤ 2 ^ u = pow-le k u past in
           absurd (omega arith)
     ]
 
@@ -155,13 +155,13 @@ abbrev pub Counted : ℕ → ℕ → Steps → Steps → Type 0
 Counted n s old new = (u : ℕ) × IsHalved n s u × (new ≡ counted u old)
 
 pub counted-none : (n : ℕ) (steps : Steps) → Counted n n steps steps
-counted-none n steps = (0, not_halved n, refl)
+counted-none n steps = (0, not-halved n, refl)
 
 pub counted-more : (n s t : ℕ) (old before after : Steps) → Counted n s old before → 0 < s
     → t * 2 ≤ s → after ≡ counted 1 before
     → Counted n t old after
 counted-more n s t old before after h some le one =
-    (h.0 + 1, halved n s t h.0 h.1 some le, counted_one h.0 old before after h.2 one)
+    (h.0 + 1, halved n s t h.0 h.1 some le, counted-one h.0 old before after h.2 one)
 
 -- the number of comparisons of a search among n segments: at least one if it returns more than 0
 abbrev pub Took : ℕ → ℕ → Steps → Steps → Type 0
@@ -175,28 +175,28 @@ counted-all n s old new none h =
 abbrev pub no_cut : Segment
 no_cut = record { from = 0; to = 0; row = None; scope = None }
 
-pub found_nothing : (list : List Segment) (a n : ℕ) → AreDisjoint list → CountsStarted list a n
+pub found-nothing : (list : List Segment) (a n : ℕ) → AreDisjoint list → CountsStarted list a n
     → ((m : ℕ) → m + 1 ≡ n → (get_or list m no_cut).to ≤ a) → place_among list a ≡ None
-found_nothing list a n h started past =
+found-nothing list a n h started past =
     ap (λ (found : Option Segment). option_and_then
     (λ segment. place_of segment.row segment.scope a) found)
     (none_at list n no_cut a h started.within past (started.after no_cut))
 
-pub found_place : (list : List Segment) (a n m : ℕ) (d : Segment) → AreDisjoint list
+pub found-place : (list : List Segment) (a n m : ℕ) (d : Segment) → AreDisjoint list
     → CountsStarted list a n
     → m + 1 ≡ n → a < (get_or list m d).to
     → place_among list a ≡ place_of (get_or list m d).row (get_or list m d).scope a
-found_place list a n m d h started is inside =
+found-place list a n m d h started is inside =
     let all : n ≤ length list = started.within in
     ap (λ (found : Option Segment). option_and_then
     (λ segment. place_of segment.row segment.scope a) found)
     (found_at list m d a h (omega arith) (started.before d m is) inside)
 
-pub segment_past : (segments : List Segment) (a n : ℕ) (seg e : Segment) (r : ℕ)
+pub segment-past : (segments : List Segment) (a n : ℕ) (seg e : Segment) (r : ℕ)
     → AreDisjoint segments → CountsStarted segments a n → 0 < n
     → r ≡ seg.to → seg ≡ get_or segments (n - 1) e → r ≤ a → place_among segments a ≡ None
-segment_past segments a n seg e r h started some to is past =
-    found_nothing segments a n h started (λ m last.
+segment-past segments a n seg e r h started some to is past =
+    found-nothing segments a n h started (λ m last.
     let same : m ≡ n - 1 = omega arith in
     let within : n ≤ length segments = started.within in
     let here : get_or segments (n - 1) no_cut ≡ seg =
@@ -206,13 +206,13 @@ segment_past segments a n seg e r h started some to is past =
     let R : ℕ → Type 0 = λ k. k ≤ a in
     subst P (sym same) (subst Q (sym here) (subst R to past)))
 
-pub segment_found : (segments : List Segment) (a n : ℕ) (seg e : Segment) (r : ℕ)
+pub segment-found : (segments : List Segment) (a n : ℕ) (seg e : Segment) (r : ℕ)
     (row scope : Option ℕ) (place_of : Option Place)
     → AreDisjoint segments → CountsStarted segments a n → 0 < n
     → r ≡ seg.to → row ≡ seg.row → scope ≡ seg.scope
     → seg ≡ get_or segments (n - 1) e → a < r
     → place_of ≡ place_of row scope a → place_of ≡ place_among segments a
-segment_found segments a n seg e r row scope place_of h started some to row_is scope_is is inside
+segment-found segments a n seg e r row scope place_of h started some to row_is scope_is is inside
     placed_is =
     let within : n ≤ length segments = started.within in
     let here : get_or segments (n - 1) no_cut ≡ seg =
@@ -222,7 +222,7 @@ segment_found segments a n seg e r row scope place_of h started some to row_is s
     placed_is ∙ ap (λ (o : Option ℕ). place_of o scope a) row_is
     ∙ ap (λ (o : Option ℕ). place_of seg.row o a) scope_is
     ∙ ap (λ (segment : Segment). place_of segment.row segment.scope a) (sym here)
-    ∙ sym (found_place segments a n (n - 1) no_cut h started (omega arith)
+    ∙ sym (found-place segments a n (n - 1) no_cut h started (omega arith)
     (subst Q (sym here) (subst R to inside)))
 
 -- the number of comparisons that find a place among segments
@@ -231,9 +231,9 @@ Finds segments result old new =
     (n : ℕ) × ((k : ℕ) → length segments < 2 ^ k → n ≤ k + 1) × IfSome result (λ _. 2 ≤ n)
     × (new ≡ counted n old)
 
-where_some : (n : ℕ) (result : Option Place) → 2 ≤ n → IfSome result (λ _. 2 ≤ n)
-where_some n None least = tt
-where_some n (Some place) least = least
+where-some : (n : ℕ) (result : Option Place) → 2 ≤ n → IfSome result (λ _. 2 ≤ n)
+where-some n None least = tt
+where-some n (Some place) least = least
 
 pub took-more : (segments : List Segment) (result : Option Place) (n : ℕ) (old middle new : Steps)
     → 0 < n → Took (length segments) n old middle → new ≡ counted 1 middle
@@ -241,8 +241,8 @@ pub took-more : (segments : List Segment) (result : Option Place) (n : ℕ) (old
 took-more segments result n old middle new some t one = (
   t.0 + 1,
   λ k lt. (let few : t.0 ≤ k = t.1 k lt in omega arith),
-  where_some (t.0 + 1) result (let least = t.2 some in omega (arith, least)),
-  counted_one t.0 old middle new t.3 one,
+  where-some (t.0 + 1) result (let least = t.2 some in omega (arith, least)),
+  counted-one t.0 old middle new t.3 one,
 )
 
 pub took-none : (segments : List Segment) (n : ℕ) (old new : Steps) → Took
@@ -253,4 +253,4 @@ took-none segments n old new t =
 
 pub took-decoded : (n r : ℕ) (old middle : Steps) → Took n r old middle
     → middle.decoded ≡ old.decoded
-took-decoded n r old middle t = ap (λ (s : Steps). s.decoded) t.3 ∙ counted_decoded t.0 old
+took-decoded n r old middle t = ap (λ (s : Steps). s.decoded) t.3 ∙ counted-decoded t.0 old

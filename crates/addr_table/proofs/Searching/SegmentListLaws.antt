@@ -16,8 +16,8 @@ use Rattle.addr_table.specs.Places.{scope_at, place_of, place_at}
 use Rattle.addr_table.specs.Segments.{ranges_of, with_end, ends_of, Segment, segment_of}
 use Rattle.addr_table.specs.Segments.{segments_between, segments_of}
 use Rattle.addr_table.specs.Segments.{is_in, place_among, AreDisjoint}
-use Rattle.addr_table.proofs.Scanning.Lists.{each_weaker, each_joined}
-use Rattle.addr_table.proofs.Sweeping.Constant.{IsApart, constant_between_ends, nothing_outside}
+use Rattle.addr_table.proofs.Scanning.Lists.{each-weaker, each-joined}
+use Rattle.addr_table.proofs.Sweeping.Constant.{IsApart, constant_between_ends, nothing-outside}
 
 -- ---- ascending numbers
 
@@ -30,9 +30,9 @@ abbrev pub Rise : List ℕ → Type 0
 Rise [] = Unit {0}
 Rise (e ∷ es) = RiseFrom e es
 
-pub with_end_from : (e x : ℕ) (ys : List ℕ) → e < x → RiseFrom e ys → RiseFrom e (with_end x ys)
-with_end_from e x [] lt h = (lt, tt)
-with_end_from e x (y ∷ ys) lt h = cases (nat_lt x y) (nat_eq x y) refl refl (with_end_from y x ys)
+pub with_end-from : (e x : ℕ) (ys : List ℕ) → e < x → RiseFrom e ys → RiseFrom e (with_end x ys)
+with_end-from e x [] lt h = (lt, tt)
+with_end-from e x (y ∷ ys) lt h = cases (nat_lt x y) (nat_eq x y) refl refl (with_end-from y x ys)
   where
     cases : (less same : Bool) → nat_lt x y ≡ less → nat_eq x y ≡ same
         → (y < x → RiseFrom y ys → RiseFrom y (with_end x ys))
@@ -43,83 +43,83 @@ with_end_from e x (y ∷ ys) lt h = cases (nat_lt x y) (nat_eq x y) refl refl (w
     cases false false is other further = let above : y < x = grind (arith, nat_tests) in
         (h.0, further above h.1)
 
-pub with_end_rise : (x : ℕ) (ys : List ℕ) → Rise ys → Rise (with_end x ys)
-with_end_rise x [] h = tt
-with_end_rise x (y ∷ ys) h = cases (nat_lt x y) (nat_eq x y) refl refl
+pub with_end-rise : (x : ℕ) (ys : List ℕ) → Rise ys → Rise (with_end x ys)
+with_end-rise x [] h = tt
+with_end-rise x (y ∷ ys) h = cases (nat_lt x y) (nat_eq x y) refl refl
   where
     cases : (less same : Bool) → nat_lt x y ≡ less → nat_eq x y ≡ same
         → Rise (cond less (x ∷ y ∷ ys) (cond same (y ∷ ys) (y ∷ with_end x ys)))
     cases true same is other = let above : x < y = grind (arith, nat_tests) in (above, h)
     cases false true is other = h
     cases false false is other = let above : y < x = grind (arith, nat_tests) in
-        with_end_from y x ys above h
+        with_end-from y x ys above h
 
 pub ends_rise : (rs : List Range) → Rise (ends_of rs)
 unfolding ends_of
 ends_rise [] = tt
-ends_rise (r ∷ rs) = with_end_rise r.from (with_end r.to (ends_of rs))
-    (with_end_rise r.to (ends_of rs) (ends_rise rs))
+ends_rise (r ∷ rs) = with_end-rise r.from (with_end r.to (ends_of rs))
+    (with_end-rise r.to (ends_of rs) (ends_rise rs))
 
 -- the number is in the list
 abbrev pub IsAmong : ℕ → List ℕ → Type 0
 IsAmong x [] = ⊥
 IsAmong x (y ∷ ys) = (x ≡ y) ⊎ IsAmong x ys
 
-pub each_among : (xs : List ℕ) → AllByRecursion (λ x. IsAmong x xs) xs
-each_among [] = tt
-each_among (x ∷ xs) = (
+pub each-among : (xs : List ℕ) → AllByRecursion (λ x. IsAmong x xs) xs
+each-among [] = tt
+each-among (x ∷ xs) = (
   inl refl,
-  each_weaker (λ y. IsAmong y xs) (λ y. IsAmong y (x ∷ xs))
-      (λ y h. inr h) xs (each_among xs),
+  each-weaker (λ y. IsAmong y xs) (λ y. IsAmong y (x ∷ xs))
+      (λ y h. inr h) xs (each-among xs),
 )
 
-pub among_above : (e x : ℕ) (ys : List ℕ) → RiseFrom e ys → IsAmong x ys → e < x
-among_above e x [] h is = absurd is
-among_above e x (y ∷ ys) h is = elim is [
+pub among-above : (e x : ℕ) (ys : List ℕ) → RiseFrom e ys → IsAmong x ys → e < x
+among-above e x [] h is = absurd is
+among-above e x (y ∷ ys) h is = elim is [
   | inl same ↦ let q : e < y = h.0 in omega arith
-  | inr later ↦ let far : y < x = among_above y x ys h.1 later in let q : e < y = h.0 in omega arith
+  | inr later ↦ let far : y < x = among-above y x ys h.1 later in let q : e < y = h.0 in omega arith
 ]
 
 -- the number is at most e, or in the list
 abbrev pub Splits : ℕ → List ℕ → ℕ → Type 0
 Splits e ends x = (x ≤ e) ⊎ IsAmong x ends
 
-pub splits_next : (e f : ℕ) (fs : List ℕ) → e < f → (x : ℕ) → Splits e (f ∷ fs) x → Splits f fs x
-splits_next e f fs lt x h = elim h [
+pub splits-next : (e f : ℕ) (fs : List ℕ) → e < f → (x : ℕ) → Splits e (f ∷ fs) x → Splits f fs x
+splits-next e f fs lt x h = elim h [
   | inl low ↦ inl (omega arith)
   | inr among ↦ elim among [ inl same ↦ inl (omega arith) | inr later ↦ inr later ]
 ]
 
-pub splits_apart : (e f a : ℕ) (fs : List ℕ) → RiseFrom e (f ∷ fs) → a < f → (x : ℕ)
+pub splits-apart : (e f a : ℕ) (fs : List ℕ) → RiseFrom e (f ∷ fs) → a < f → (x : ℕ)
     → Splits e (f ∷ fs) x → IsApart e a x
-splits_apart e f a fs rise lt x h = elim h [
+splits-apart e f a fs rise lt x h = elim h [
   | inl low ↦ inl low
   | inr among ↦
       elim among [
         | inl same ↦ inr (omega arith)
         | inr later ↦ let far : f < x =
-            among_above f x fs rise.1 later in inr (omega arith)
+            among-above f x fs rise.1 later in inr (omega arith)
       ]
 ]
 
 -- ---- segments that do not contain an address
 
-pub not_in_cut : (a e f : ℕ) (p : Option Place) (later : List Segment)
+pub not-in-cut : (a e f : ℕ) (p : Option Place) (later : List Segment)
     → (nat_le e a && nat_lt a f) ≡ false
     → find (is_in a) (segment_of e f p ++ later) ≡ find (is_in a) later
-not_in_cut a e f None later h = refl
-not_in_cut a e f (Some p) later h = rw h refl
+not-in-cut a e f None later h = refl
+not-in-cut a e f (Some p) later h = rw h refl
 
-pub cuts_above : (rows : List Row) (scopes : List Scope) (a f : ℕ) (fs : List ℕ) → a < f
+pub cuts-above : (rows : List Row) (scopes : List Scope) (a f : ℕ) (fs : List ℕ) → a < f
     → RiseFrom f fs
     → find (is_in a) (segments_between rows scopes (f ∷ fs)) ≡ None
-cuts_above rows scopes a f [] lt h = refl
-cuts_above rows scopes a f (g ∷ gs) lt h =
+cuts-above rows scopes a f [] lt h = refl
+cuts-above rows scopes a f (g ∷ gs) lt h =
     let out : (nat_le f a && nat_lt a g) ≡ false = grind (arith, nat_tests) in
     let q : f < g = h.0 in
     let further : a < g = omega arith in
-    not_in_cut a f g (place_at rows scopes f) (segments_between rows scopes (g ∷ gs)) out
-    ∙ cuts_above rows scopes a g gs further h.1
+    not-in-cut a f g (place_at rows scopes f) (segments_between rows scopes (g ∷ gs)) out
+    ∙ cuts-above rows scopes a g gs further h.1
 
 -- ---- the place of an address, among the segments
 
@@ -128,13 +128,13 @@ abbrev pub told_by : ℕ → Option Segment → Option Place
 told_by a found = option_and_then (λ segment. place_of segment.row segment.scope a) found
 
 -- if a segment contains the address and has its row and scope, the search gives its place
-pub in_cut : (a e f : ℕ) (row scope : Option ℕ) (later : List Segment)
+pub in-cut : (a e f : ℕ) (row scope : Option ℕ) (later : List Segment)
     → (nat_le e a && nat_lt a f) ≡ true → find (is_in a) later ≡ None
     → told_by a (find (is_in a) (segment_of e f (place_of row scope e) ++ later))
     ≡ place_of row scope a
-in_cut a e f None None later h none = rw none refl
-in_cut a e f None (Some scope) later h none = rw h refl
-in_cut a e f (Some row) scope later h none = rw h refl
+in-cut a e f None None later h none = rw none refl
+in-cut a e f None (Some scope) later h none = rw h refl
+in-cut a e f (Some row) scope later h none = rw h refl
 
 pub place_nowhere : (rows : List Row) (scopes : List Scope) (a : ℕ)
     → (row_at rows a ≡ None) × (chain_of a scopes ≡ [])
@@ -142,105 +142,105 @@ pub place_nowhere : (rows : List Row) (scopes : List Scope) (a : ℕ)
 unfolding place_at
 place_nowhere rows scopes a h = rw (h.0, h.1) refl
 
-pub place_in_cuts : (rows : List Row) (scopes : List Scope) (a e : ℕ) (ends : List ℕ)
+pub place_in-cuts : (rows : List Row) (scopes : List Scope) (a e : ℕ) (ends : List ℕ)
     → RiseFrom e ends → e ≤ a
     → AllByRecursion (Splits e ends) (ends_of (ranges_of rows scopes))
     → told_by a (find (is_in a) (segments_between rows scopes (e ∷ ends))) ≡ place_at rows scopes a
 unfolding place_at
-place_in_cuts rows scopes a e [] rise le splits =
+place_in-cuts rows scopes a e [] rise le splits =
     let below : AllByRecursion (λ x. x ≤ a) (ends_of (ranges_of rows scopes)) =
-    each_weaker (Splits e []) (λ x. x ≤ a)
+    each-weaker (Splits e []) (λ x. x ≤ a)
     (λ x h. elim h [ inl low ↦ omega arith | inr none ↦ absurd none ])
     (ends_of (ranges_of rows scopes)) splits in
-    sym (place_nowhere rows scopes a (nothing_outside rows scopes a (inr below)))
-place_in_cuts rows scopes a e (f ∷ fs) rise le splits = elim (cases_lt a f) [
+    sym (place_nowhere rows scopes a (nothing-outside rows scopes a (inr below)))
+place_in-cuts rows scopes a e (f ∷ fs) rise le splits = elim (cases_lt a f) [
   | inl lt ↦
       let held : (nat_le e a && nat_lt a f) ≡ true = grind (arith, nat_tests) in
       let same =
       constant_between_ends rows scopes e a le
-      (each_weaker (Splits e (f ∷ fs)) (IsApart e a) (splits_apart e f a fs rise lt)
+      (each-weaker (Splits e (f ∷ fs)) (IsApart e a) (splits-apart e f a fs rise lt)
       (ends_of (ranges_of rows scopes)) splits) in
-      in_cut a e f (row_at rows e) (scope_at scopes e) (segments_between rows scopes (f ∷ fs)) held
-      (cuts_above rows scopes a f fs lt rise.1)
+      in-cut a e f (row_at rows e) (scope_at scopes e) (segments_between rows scopes (f ∷ fs)) held
+      (cuts-above rows scopes a f fs lt rise.1)
       ∙ rw (same.0, same.1) refl
   | inr ge ↦
       let out : (nat_le e a && nat_lt a f) ≡ false = grind (arith, nat_tests) in
       let q : e < f = rise.0 in
-      ap (told_by a) (not_in_cut a e f (place_at rows scopes e) (segments_between rows scopes
+      ap (told_by a) (not-in-cut a e f (place_at rows scopes e) (segments_between rows scopes
       (f ∷ fs))
       out)
-      ∙ place_in_cuts rows scopes a f fs rise.1 ge
-      (each_weaker (Splits e (f ∷ fs)) (Splits f fs) (splits_next e f fs q)
+      ∙ place_in-cuts rows scopes a f fs rise.1 ge
+      (each-weaker (Splits e (f ∷ fs)) (Splits f fs) (splits-next e f fs q)
       (ends_of (ranges_of rows scopes)) splits)
 ]
 
 -- the theorem: the segments give the place of every address
-pub place_among_cuts : (rows : List Row) (scopes : List Scope) (a : ℕ)
+pub place_among-cuts : (rows : List Row) (scopes : List Scope) (a : ℕ)
     → place_among (segments_of rows scopes) a ≡ place_at rows scopes a
 unfolding segments_of
-place_among_cuts rows scopes a = by_ends (ends_of (ranges_of rows scopes)) refl
+place_among-cuts rows scopes a = by_ends (ends_of (ranges_of rows scopes)) refl
     (ends_rise (ranges_of rows scopes))
   where
     by_ends : (ends : List ℕ) → ends_of (ranges_of rows scopes) ≡ ends → Rise ends
         → told_by a (find (is_in a) (segments_between rows scopes ends)) ≡ place_at rows scopes a
     by_ends [] is rise =
         let none : AllByRecursion (λ x. a < x) (ends_of (ranges_of rows scopes)) = rw is tt in
-        sym (place_nowhere rows scopes a (nothing_outside rows scopes a (inl none)))
+        sym (place_nowhere rows scopes a (nothing-outside rows scopes a (inl none)))
     by_ends (e ∷ ends) is rise = elim (cases_lt a e) [
       | inl lt ↦
           let P : List ℕ → Type 0 = AllByRecursion (λ x. a < x) in
           let above : AllByRecursion (λ x. a < x) (e ∷ ends) = (
             lt,
-            each_weaker (λ x. IsAmong x ends) (λ x. a < x)
-                (λ x h. let far : e < x = among_above e x ends rise h in omega arith) ends
-                (each_among ends),
+            each-weaker (λ x. IsAmong x ends) (λ x. a < x)
+                (λ x h. let far : e < x = among-above e x ends rise h in omega arith) ends
+                (each-among ends),
           ) in
-          ap (told_by a) (cuts_above rows scopes a e ends lt rise)
+          ap (told_by a) (cuts-above rows scopes a e ends lt rise)
           ∙ sym (place_nowhere rows scopes a
-          (nothing_outside rows scopes a (inl (subst P (sym is) above))))
+          (nothing-outside rows scopes a (inl (subst P (sym is) above))))
       | inr ge ↦
           let P : List ℕ → Type 0 = AllByRecursion (Splits e ends) in
           let low : e ≤ e = omega arith in
           let splits : AllByRecursion (Splits e ends) (e ∷ ends) = (
             inl low,
-            each_weaker (λ x. IsAmong x ends) (Splits e ends) (λ x h. inr h) ends
-                (each_among ends),
+            each-weaker (λ x. IsAmong x ends) (Splits e ends) (λ x h. inr h) ends
+                (each-among ends),
           ) in
-          place_in_cuts rows scopes a e ends rise ge (subst P (sym is) splits)
+          place_in-cuts rows scopes a e ends rise ge (subst P (sym is) splits)
     ]
 
 -- ---- segments are in ascending order
 
-pub cuts_begin : (rows : List Row) (scopes : List Scope) (m e : ℕ) (ends : List ℕ) → m ≤ e
+pub cuts-begin : (rows : List Row) (scopes : List Scope) (m e : ℕ) (ends : List ℕ) → m ≤ e
     → RiseFrom e ends
     → AllByRecursion (λ c. m ≤ c.from) (segments_between rows scopes (e ∷ ends))
-cuts_begin rows scopes m e [] le rise = tt
-cuts_begin rows scopes m e (f ∷ fs) le rise =
+cuts-begin rows scopes m e [] le rise = tt
+cuts-begin rows scopes m e (f ∷ fs) le rise =
     let q : e < f = rise.0 in
     let further : m ≤ f = omega arith in
-    each_joined (λ (c : Segment). m ≤ c.from) (segment_of e f (place_at rows scopes e))
+    each-joined (λ (c : Segment). m ≤ c.from) (segment_of e f (place_at rows scopes e))
     (segments_between rows scopes (f ∷ fs))
-    (one (place_at rows scopes e)) (cuts_begin rows scopes m f fs further rise.1)
+    (one (place_at rows scopes e)) (cuts-begin rows scopes m f fs further rise.1)
   where
     one : (p : Option Place) → AllByRecursion (λ (c : Segment). m ≤ c.from) (segment_of e f p)
     one None = tt
     one (Some p) = (le, tt)
 
-pub cuts_disjoint : (rows : List Row) (scopes : List Scope) (ends : List ℕ) → Rise ends
+pub cuts-disjoint : (rows : List Row) (scopes : List Scope) (ends : List ℕ) → Rise ends
     → AreDisjoint (segments_between rows scopes ends)
-cuts_disjoint rows scopes [] rise = tt
-cuts_disjoint rows scopes (e ∷ []) rise = tt
-cuts_disjoint rows scopes (e ∷ f ∷ fs) rise =
-    one (place_at rows scopes e) (cuts_disjoint rows scopes (f ∷ fs) rise.1)
+cuts-disjoint rows scopes [] rise = tt
+cuts-disjoint rows scopes (e ∷ []) rise = tt
+cuts-disjoint rows scopes (e ∷ f ∷ fs) rise =
+    one (place_at rows scopes e) (cuts-disjoint rows scopes (f ∷ fs) rise.1)
   where
     one : (p : Option Place) → AreDisjoint (segments_between rows scopes (f ∷ fs))
         → AreDisjoint (segment_of e f p ++ segments_between rows scopes (f ∷ fs))
     one None later = later
     one (Some p) later = let same : f ≤ f = omega arith in
-        (rise.0, cuts_begin rows scopes f f fs same rise.1, later)
+        (rise.0, cuts-begin rows scopes f f fs same rise.1, later)
 
 pub cuts_are_disjoint : (rows : List Row) (scopes : List Scope) → AreDisjoint
     (segments_of rows scopes)
 unfolding segments_of
-cuts_are_disjoint rows scopes = cuts_disjoint rows scopes (ends_of (ranges_of rows scopes))
+cuts_are_disjoint rows scopes = cuts-disjoint rows scopes (ends_of (ranges_of rows scopes))
     (ends_rise (ranges_of rows scopes))

@@ -7,28 +7,28 @@ use Rattle.std.proofs.lemmas.Bool.{eqb-true}
 use Rattle.addr_table.specs.declared.steps.Steps.{Steps}
 use Rattle.addr_table.specs.Steps.{bits, digits_within, counted, one_more}
 
-digits_step : (fuel n : ℕ) (b : Bool) → eqb n 0 ≡ b → (n / 2) < 2 ^ digits_within fuel (n / 2)
+digits-step : (fuel n : ℕ) (b : Bool) → eqb n 0 ≡ b → (n / 2) < 2 ^ digits_within fuel (n / 2)
     → n < 2 ^ digits_within (suc fuel) n
-digits_step fuel n true e half = let none = eqb-true n 0 e in rw e (omega arith)
-digits_step fuel n false e half = let twice = two-pow-succ (digits_within fuel (n / 2)) in
+digits-step fuel n true e half = let none = eqb-true n 0 e in rw e (omega arith)
+digits-step fuel n false e half = let twice = two-pow-succ (digits_within fuel (n / 2)) in
     rw e (omega (arith, half, twice))
 
-half_fits : (fuel n : ℕ) → n ≤ suc fuel → n / 2 ≤ fuel
-half_fits fuel n le = omega arith
+half-fits : (fuel n : ℕ) → n ≤ suc fuel → n / 2 ≤ fuel
+half-fits fuel n le = omega arith
 
-digits_fit : (fuel n : ℕ) → n ≤ fuel → n < 2 ^ digits_within fuel n
-digits_fit zero n le = omega arith
-digits_fit (suc fuel) n le = digits_step fuel n (eqb n 0) refl
-    (digits_fit fuel (n / 2) (half_fits fuel n le))
+digits-fit : (fuel n : ℕ) → n ≤ fuel → n < 2 ^ digits_within fuel n
+digits-fit zero n le = omega arith
+digits-fit (suc fuel) n le = digits-step fuel n (eqb n 0) refl
+    (digits-fit fuel (n / 2) (half-fits fuel n le))
 
-pub below_bits : (n : ℕ) → n < 2 ^ bits n
+pub below-bits : (n : ℕ) → n < 2 ^ bits n
 unfolding bits
-below_bits n = digits_fit n n (omega arith)
+below-bits n = digits-fit n n (omega arith)
 
 -- ---- sums of comparisons
 
-pub counted_one : (n : ℕ) (s t u : Steps) → t ≡ counted n s → u ≡ one_more t → u ≡ counted (n + 1) s
-counted_one n s t u p q = rw add-one (q ∙ ap one_more p)
+pub counted-one : (n : ℕ) (s t u : Steps) → t ≡ counted n s → u ≡ one_more t → u ≡ counted (n + 1) s
+counted-one n s t u p q = rw add-one (q ∙ ap one_more p)
 
 pub counted_all : (n m : ℕ) (s t u : Steps) → t ≡ counted n s → u ≡ counted m t
     → u ≡ counted (n + m) s
@@ -36,6 +36,6 @@ counted_all n zero s t u p q = rw add-zero (q ∙ p)
 counted_all n (suc m) s t u p q = rw add-suc
     (q ∙ ap one_more (counted_all n m s t (counted m t) p refl))
 
-pub counted_decoded : (n : ℕ) (s : Steps) → (counted n s).decoded ≡ s.decoded
-counted_decoded zero s = refl
-counted_decoded (suc n) s = counted_decoded n s
+pub counted-decoded : (n : ℕ) (s : Steps) → (counted n s).decoded ≡ s.decoded
+counted-decoded zero s = refl
+counted-decoded (suc n) s = counted-decoded n s

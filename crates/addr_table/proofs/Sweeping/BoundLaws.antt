@@ -14,10 +14,10 @@ use Rattle.addr_table.specs.Rows.{Cover, covers_from}
 use Rattle.addr_table.specs.Places.{place_at}
 use Rattle.addr_table.specs.Segments.{is_nonempty, row_ranges, scope_ranges, ranges_of, with_end}
 use Rattle.addr_table.specs.Segments.{ends_of, segment_of, segments_between, segments_of}
-use Rattle.addr_table.proofs.Scanning.Lists.{each_weaker, each_joined}
-use Rattle.addr_table.proofs.Searching.SegmentListLaws.{Rise, RiseFrom, ends_rise, with_end_rise}
+use Rattle.addr_table.proofs.Scanning.Lists.{each-weaker, each-joined}
+use Rattle.addr_table.proofs.Searching.SegmentListLaws.{Rise, RiseFrom, ends_rise, with_end-rise}
 use Rattle.addr_table.proofs.Searching.SegmentListLaws.{IsAmong}
-use Rattle.addr_table.proofs.Searching.SegmentListLaws.{among_above, each_among}
+use Rattle.addr_table.proofs.Searching.SegmentListLaws.{among-above, each-among}
 use Rattle.addr_table.proofs.Endpoints.RangeEnds.{ends-all, among-put, among-kept}
 
 -- ---- an ascending list without duplicates is no longer than a list that contains its numbers
@@ -28,7 +28,7 @@ rising (x ∷ xs) = with_end x (rising xs)
 
 rising-rise : (xs : List ℕ) → Rise (rising xs)
 rising-rise [] = tt
-rising-rise (x ∷ xs) = with_end_rise x (rising xs) (rising-rise xs)
+rising-rise (x ∷ xs) = with_end-rise x (rising xs) (rising-rise xs)
 
 put-length : (x : ℕ) (ys : List ℕ) → length (with_end x ys) ≤ length ys + 1
 put-length x [] = omega arith
@@ -70,8 +70,8 @@ above-others y ys (x ∷ xs) up h = (
 )
 
 above-all : (x : ℕ) (xs : List ℕ) → RiseFrom x xs → AllByRecursion (λ y. x < y) xs
-above-all x xs h = each_weaker (λ y. IsAmong y xs) (λ y. x < y) (λ y a. among_above x y xs h a) xs
-    (each_among xs)
+above-all x xs h = each-weaker (λ y. IsAmong y xs) (λ y. x < y) (λ y a. among-above x y xs h a) xs
+    (each-among xs)
 
 pub fewer : (xs ys : List ℕ) → Rise xs → Rise ys → AllAmong xs ys → length xs ≤ length ys
 fewer [] ys a b h = omega arith
@@ -79,13 +79,13 @@ fewer (x ∷ xs) [] a b h = absurd h.0
 fewer (x ∷ xs) (y ∷ ys) a b h = elim h.0 [
   | inl same ↦
       let up : AllByRecursion (λ z. y < z) xs =
-      each_weaker (λ z. x < z) (λ z. y < z) (λ z lt. omega arith) xs (above-all x xs a) in
+      each-weaker (λ z. x < z) (λ z. y < z) (λ z lt. omega arith) xs (above-all x xs a) in
       let rest = fewer xs ys (tail x xs a) (tail y ys b) (above-others y ys xs up h.1) in
       omega arith
   | inr later ↦
-      let lt : y < x = among_above y x ys b later in
+      let lt : y < x = among-above y x ys b later in
       let up : AllByRecursion (λ z. y < z) xs =
-      each_weaker (λ z. x < z) (λ z. y < z) (λ z far. omega arith) xs (above-all x xs a) in
+      each-weaker (λ z. x < z) (λ z. y < z) (λ z far. omega arith) xs (above-all x xs a) in
       let rest = fewer (x ∷ xs) ys a (tail y ys b) (later, above-others y ys xs up h.1) in
       omega arith
 ]
@@ -103,7 +103,7 @@ BothAmong ends rs = AllByRecursion (λ (r : Range). IsAmong r.from ends × IsAmo
 
 more-among : (x : ℕ) (ends : List ℕ) (rs : List Range) → BothAmong ends rs → BothAmong (x ∷ ends) rs
 more-among x ends rs h =
-    each_weaker (λ (r : Range). IsAmong r.from ends × IsAmong r.to ends)
+    each-weaker (λ (r : Range). IsAmong r.from ends × IsAmong r.to ends)
     (λ (r : Range). IsAmong r.from (x ∷ ends) × IsAmong r.to (x ∷ ends)) (λ r k. (inr k.0, inr k.1))
     rs h
 
@@ -165,15 +165,15 @@ ends-few rows scopes =
     let A : ℕ → Type 0 = λ z. IsAmong z (rising (all_ends rows scopes)) in
     let L : ℕ → Type 0 = λ z. IsAmong z (all_ends rows scopes) in
     let whole : BothAmong (all_ends rows scopes) (row_ranges rows ++ scope_ranges scopes) =
-    each_joined (λ (r : Range). L r.from × L r.to) (row_ranges rows) (scope_ranges scopes)
-    (each_weaker (λ (r : Range). IsAmong r.from (addresses rows) × IsAmong r.to (addresses rows))
+    each-joined (λ (r : Range). L r.from × L r.to) (row_ranges rows) (scope_ranges scopes)
+    (each-weaker (λ (r : Range). IsAmong r.from (addresses rows) × IsAmong r.to (addresses rows))
     (λ (r : Range). L r.from × L r.to)
     (λ r k. (
       left-among r.from (addresses rows) (both_ends (scope_ranges scopes)) k.0,
       left-among r.to (addresses rows)
           (both_ends (scope_ranges scopes)) k.1,
     )) (row_ranges rows) (rows-among 0 rows))
-    (each_weaker (λ (r : Range). IsAmong r.from (both_ends (scope_ranges scopes))
+    (each-weaker (λ (r : Range). IsAmong r.from (both_ends (scope_ranges scopes))
     × IsAmong r.to (both_ends (scope_ranges scopes)))
     (λ (r : Range). L r.from × L r.to) (λ r k. (
       right-among r.from (addresses rows) (both_ends (scope_ranges scopes)) k.0,
@@ -183,7 +183,7 @@ ends-few rows scopes =
     let kept = kept-among (all_ends rows scopes) (row_ranges rows ++ scope_ranges scopes) whole in
     let all = ends-all L (ranges_of rows scopes) kept in
     let up : AllAmong (ends_of (ranges_of rows scopes)) (rising (all_ends rows scopes)) =
-    each_weaker L A (λ z h. rising-among z (all_ends rows scopes) h)
+    each-weaker L A (λ z h. rising-among z (all_ends rows scopes) h)
     (ends_of (ranges_of rows scopes)) all in
     let a =
     fewer (ends_of (ranges_of rows scopes)) (rising (all_ends rows scopes))

@@ -15,7 +15,7 @@ use Rattle.addr_table.specs.Segments.{is_nonempty}
 use Rattle.addr_table.specs.Private.Bits.{is_filled, IsFirstIn}
 use Rattle.addr_table.specs.Private.Sweep.{Reach, key_of, row_reaches, reaches_in, scope_reaches}
 use Rattle.addr_table.specs.Private.Sweep.{reaches_of, AreRowsActiveAt}
-use Rattle.addr_table.proofs.Sweeping.Constant.{holds_empty}
+use Rattle.addr_table.proofs.Sweeping.Constant.{holds-empty}
 use Rattle.addr_table.proofs.ActiveSet.FirstLaws.{RiseBy, passes_at, first-by, first-unique}
 use Rattle.addr_table.proofs.ActiveSet.FirstLaws.{first-same}
 
@@ -78,8 +78,8 @@ covers-rise n total (row ∷ next ∷ rows) le =
 abbrev pub held_by : ℕ → ℕ → Reach → Bool
 held_by k a r = (r.key == k) && holds a r.range
 
-empty_not_held : (k a : ℕ) (r : Reach) → is_nonempty r.range ≡ false → held_by k a r ≡ false
-empty_not_held k a r h = let none : holds a r.range ≡ false = holds_empty a r.range h in
+empty-not-held : (k a : ℕ) (r : Reach) → is_nonempty r.range ≡ false → held_by k a r ≡ false
+empty-not-held k a r h = let none : holds a r.range ≡ false = holds-empty a r.range h in
     rw none (never (r.key == k))
   where
     never : (b : Bool) → (b && false) ≡ false
@@ -94,12 +94,12 @@ unfolding reaches_of
 held-parts k a rows scopes =
     any-filter (held_by k a) (λ r. is_nonempty r.range)
     (row_reaches rows ++ scope_reaches (length rows) (length scopes) scopes)
-    (empty_not_held k a)
+    (empty-not-held k a)
     ∙ list_any-append (held_by k a) (row_reaches rows)
     (scope_reaches (length rows) (length scopes) scopes)
 
-other_keys : (a k : ℕ) (b : Bool) → (a ≡ k → ⊥) → ((a == k) && b) ≡ false
-other_keys a k b h = grind (arith, nat_tests)
+other-keys : (a k : ℕ) (b : Bool) → (a ≡ k → ⊥) → ((a == k) && b) ≡ false
+other-keys a k b h = grind (arith, nat_tests)
 
 -- the keys of rows are below the number of rows; the keys of scopes are not
 pub rows-none : (k a n total : ℕ) (covers : List Cover)
@@ -109,7 +109,7 @@ pub rows-none : (k a n total : ℕ) (covers : List Cover)
 rows-none k a n total [] h le = refl
 rows-none k a n total (c ∷ cs) h le =
     let lt : c.row < total = h.1 in
-    rw (other_keys c.row k (holds a c.range) (λ e. absurd (omega arith)))
+    rw (other-keys c.row k (holds a c.range) (λ e. absurd (omega arith)))
     (rows-none k a (c.row + 1) total cs h.2 le)
 
 one-none : (k a rows total : ℕ) (s : Scope) → k < rows
@@ -125,7 +125,7 @@ one-none k a rows total s lt =
     each : (rs : List Range) → list_any (λ r. (key_of rows total s.kind s.number == k) && holds a r)
         rs ≡ false
     each [] = refl
-    each (r ∷ rs) = rw (other_keys (key_of rows total s.kind s.number) k (holds a r) (far s.kind))
+    each (r ∷ rs) = rw (other-keys (key_of rows total s.kind s.number) k (holds a r) (far s.kind))
         (each rs)
 
 scopes-none : (k a rows total : ℕ) (scopes : List Scope) → k < rows

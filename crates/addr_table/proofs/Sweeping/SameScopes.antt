@@ -80,14 +80,14 @@ inlined-watched rows total n w is all lt =
     rw (low, high) (or_true (nat_le w.rows (rows + total + n)
     && nat_lt (rows + total + n) (w.rows + w.limit)))
 
-not_equal : (key k : ℕ) → (key ≡ k → ⊥) → (key == k) ≡ false
-not_equal key k h = grind (arith, nat_tests)
+not-equal : (key k : ℕ) → (key ≡ k → ⊥) → (key == k) ≡ false
+not-equal key k h = grind (arith, nat_tests)
 
 -- an unwatched key is not a watched one
-other_key : (w : WatchedScopes) (key k : ℕ) → is_watched w key ≡ false → is_watched w k ≡ true
+other-key : (w : WatchedScopes) (key k : ℕ) → is_watched w key ≡ false → is_watched w k ≡ true
     → (key == k) ≡ false
-other_key w key k not_watched watched =
-    not_equal key k (λ e. absurd (false≢true (sym not_watched ∙ ap (is_watched w) e ∙ watched)))
+other-key w key k not_watched watched =
+    not-equal key k (λ e. absurd (false≢true (sym not_watched ∙ ap (is_watched w) e ∙ watched)))
 
 no_end : End
 no_end = record { at = 0; key = 0 }
@@ -103,7 +103,7 @@ keyed-more w k ends p (suc n) watched fits h =
     let not_watched : is_watched w (get_or ends (p + n) no_end).key ≡ false =
     h (p + n) no_end (omega arith) (omega arith) in
     let other : ((get_or ends (p + n) no_end).key == k) ≡ false =
-    other_key w (get_or ends (p + n) no_end).key k not_watched watched in
+    other-key w (get_or ends (p + n) no_end).key k not_watched watched in
     let one : keyed k (take (p + n + 1) ends) ≡ keyed k (take (p + n) ends) =
     count_by_more_no (λ (e : End). e.key == k) ends (p + n) no_end (omega arith) other in
     ap (λ m. keyed k (take m ends)) same ∙ one

@@ -20,12 +20,12 @@ use Rattle.addr_table.proofs.Sweeping.KeyLaws.{rows-none}
 
 -- ---- the keys of scopes
 
-same_key : (x y n m : ℕ) → (x ≡ y → n ≡ m) → (n ≡ m → x ≡ y) → (x == y) ≡ (n == m)
-same_key x y n m f g = grind (arith, nat_tests)
+same-key : (x y n m : ℕ) → (x ≡ y → n ≡ m) → (n ≡ m → x ≡ y) → (x == y) ≡ (n == m)
+same-key x y n m f g = grind (arith, nat_tests)
 
-never_key : (x y : ℕ) (b : Bool) → (x ≡ y → ⊥) → (x == y) ≡ (b && false)
-never_key x y true h = grind (arith, nat_tests)
-never_key x y false h = grind (arith, nat_tests)
+never-key : (x y : ℕ) (b : Bool) → (x ≡ y → ⊥) → (x == y) ≡ (b && false)
+never-key x y true h = grind (arith, nat_tests)
+never-key x y false h = grind (arith, nat_tests)
 
 -- two scopes have the same key if they have the same kind and number
 scope-key : (rows total n : ℕ) (kind : ScopeKind) (s : Scope) → s.number < total → n < total
@@ -41,19 +41,19 @@ scope-key rows total n kind s lt below = by_kind s.kind kind
         → (key_of rows total own s.number == key_of rows total asked n)
         ≡ ((s.number == n) && is_kind asked own)
     by_kind Subprogram Subprogram =
-        same_key (rows + s.number) (rows + n) s.number n (λ e. omega arith) (λ e. omega arith)
+        same-key (rows + s.number) (rows + n) s.number n (λ e. omega arith) (λ e. omega arith)
         ∙ and_true (s.number == n)
-    by_kind Subprogram Inlined = never_key (rows + s.number) (rows + total + n) (s.number == n)
+    by_kind Subprogram Inlined = never-key (rows + s.number) (rows + total + n) (s.number == n)
         (λ e. absurd (omega arith))
-    by_kind Inlined Subprogram = never_key (rows + total + s.number) (rows + n) (s.number == n)
+    by_kind Inlined Subprogram = never-key (rows + total + s.number) (rows + n) (s.number == n)
         (λ e. absurd (omega arith))
     by_kind Inlined Inlined =
-        same_key (rows + total + s.number) (rows + total + n) s.number n (λ e. omega arith)
+        same-key (rows + total + s.number) (rows + total + n) s.number n (λ e. omega arith)
         (λ e. omega arith) ∙ and_true (s.number == n)
 
-and_assoc : (x y z : Bool) → ((x && y) && z) ≡ (x && (y && z))
-and_assoc true y z = refl
-and_assoc false y z = refl
+and-assoc : (x y z : Bool) → ((x && y) && z) ≡ (x && (y && z))
+and-assoc true y z = refl
+and-assoc false y z = refl
 
 scope-one : (rows total a n : ℕ) (kind : ScopeKind) (s : Scope) → s.number < total → n < total
     → list_any (held_by (key_of rows total kind n) a) (reaches_in rows total s)
@@ -63,7 +63,7 @@ scope-one rows total a n kind s lt below =
     (λ r. record { key = key_of rows total s.kind s.number; range = r }) s.ranges
     ∙ any-both (key_of rows total s.kind s.number == key_of rows total kind n) (holds a) s.ranges
     ∙ ap (λ b. b && list_any (holds a) s.ranges) (scope-key rows total n kind s lt below)
-    ∙ and_assoc (s.number == n) (is_kind kind s.kind) (list_any (holds a) s.ranges)
+    ∙ and-assoc (s.number == n) (is_kind kind s.kind) (list_any (holds a) s.ranges)
 
 -- each number is below the total
 abbrev pub NumbersBelow : ℕ → List Scope → Type 0

@@ -1,12 +1,12 @@
 use Rattle.std.proofs.lemmas.Result.{err_from_is_err_and}
-use Rattle.answer_text.proofs.PendingLemmas.{cut_more, puts_then}
+use Rattle.answer_text.proofs.PendingLemmas.{cut-more, puts-then}
 use Rattle.answer_text.proofs.frame_text.put_frame.Goals as goal
 
 pub returns-in_err-put_name-clause-bytes : goal.returns-in_err-put_name-clause-bytes
 returns-in_err-put_name-clause-bytes g c =
     let p = err_from_is_err_and c.from_residual.result c.from_residual.ensures.1 in
-    rw (p.1) (cut_more _ _ _ _ _ c.in_err-put_name.ensures.bytes)
+    rw (p.1) (cut-more _ _ _ _ _ c.in_err-put_name.ensures.bytes)
 
 pub returns-clause-bytes : goal.returns-clause-bytes
-returns-clause-bytes g c = puts_then _ _ _ _ _ _ _ _ _ c.in_ok-put_name.ensures.bytes
+returns-clause-bytes g c = puts-then _ _ _ _ _ _ _ _ _ c.in_ok-put_name.ensures.bytes
     (rw (c.path.ensures, c.line.ensures) at c.put_place.ensures.bytes)

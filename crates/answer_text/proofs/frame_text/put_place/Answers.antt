@@ -1,14 +1,14 @@
 use Rattle.std.proofs.lemmas.Result.{err_from_is_err_and}
-use Rattle.answer_text.proofs.PendingLemmas.{cut_more, puts_then}
+use Rattle.answer_text.proofs.PendingLemmas.{cut-more, puts-then}
 use Rattle.answer_text.proofs.frame_text.put_place.Goals as goal
 
 pub returns-in_err-put_file-clause-bytes : goal.returns-in_err-put_file-clause-bytes
 returns-in_err-put_file-clause-bytes g c =
     let p = err_from_is_err_and c.from_residual.result c.from_residual.ensures.1 in
-    rw (p.1) (cut_more _ _ _ _ _ c.in_err-put_file.ensures.bytes)
+    rw (p.1) (cut-more _ _ _ _ _ c.in_err-put_file.ensures.bytes)
 
 pub returns-clause-bytes : goal.returns-clause-bytes
 returns-clause-bytes g c =
     let h = rw (c.as_bytes-line.ensures.value, c.format.ensures.text) at
     c.put_all.ensures.bytes in
-    puts_then _ _ _ _ _ _ _ _ _ c.in_ok-put_file.ensures.bytes h
+    puts-then _ _ _ _ _ _ _ _ _ c.in_ok-put_file.ensures.bytes h

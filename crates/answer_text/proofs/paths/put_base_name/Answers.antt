@@ -2,12 +2,12 @@ use Rattle.std.proofs.Common.{◌∙◌, ap, List, ℕ}
 use Rattle.std.specs.Prelude.{Some}
 use Rattle.answer_text.specs.Printable.{known_text}
 use Rattle.answer_text.specs.Text.{base_name}
-use Rattle.answer_text.proofs.PathLemmas.{base_of_last}
-use Rattle.answer_text.proofs.PendingLemmas.{puts_as}
+use Rattle.answer_text.proofs.PathLemmas.{base-of-last}
+use Rattle.answer_text.proofs.PendingLemmas.{puts-as}
 use Rattle.answer_text.proofs.paths.put_base_name.Goals as goal
 
 pub returns-clause-bytes : goal.returns-clause-bytes
 returns-clause-bytes g c =
-    puts_as _ _ _ _ _ _ _ (ap (λ (z : List ℕ). known_text (Some z))
-    (c.base_name.ensures ∙ ap base_name c.last_part.ensures ∙ base_of_last c.args.path))
+    puts-as _ _ _ _ _ _ _ (ap (λ (z : List ℕ). known_text (Some z))
+    (c.base_name.ensures ∙ ap base_name c.last_part.ensures ∙ base-of-last c.args.path))
     c.put_known.ensures.bytes

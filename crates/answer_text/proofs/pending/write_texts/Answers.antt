@@ -1,6 +1,6 @@
-use Rattle.answer_text.proofs.PendingLemmas.{writes_all}
+use Rattle.answer_text.proofs.PendingLemmas.{writes-all}
 use Rattle.answer_text.proofs.pending.write_texts.Goals as goal
 
 pub returns-clause-bytes : goal.returns-clause-bytes
-returns-clause-bytes g c = writes_all _ _ _ _ _ _
+returns-clause-bytes g c = writes-all _ _ _ _ _ _
     (rw c.new-pending.ensures at c.in_ok-put_all.ensures.bytes) c.send.ensures.bytes

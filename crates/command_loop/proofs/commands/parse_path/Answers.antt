@@ -2,7 +2,7 @@ use Rattle.std.proofs.Common.{arith}
 use Rattle.std.proofs.lemmas.Bool.Decides.{nat_tests}
 use Rattle.std.proofs.lemmas.Str.{is_utf8-from_IsUtf8}
 use Rattle.command_loop.specs.Requests.{is_path}
-use Rattle.command_loop.proofs.FieldLemmas.{not_utf8}
+use Rattle.command_loop.proofs.FieldLemmas.{not-utf8}
 use Rattle.command_loop.proofs.commands.parse_path.Goals as goal
 
 pub returns-in-Ok : goal.returns-in-Ok
@@ -15,5 +15,5 @@ returns-in-Ok c = (
 
 pub returns-in-Err : goal.returns-in-Err
 unfolding is_path
-returns-in-Err c = let u = not_utf8 c.args.text.now c.in-Err.ensures.cases.0 in
+returns-in-Err c = let u = not-utf8 c.args.text.now c.in-Err.ensures.cases.0 in
     grind (arith, nat_tests, u)

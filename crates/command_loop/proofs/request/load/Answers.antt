@@ -1,7 +1,7 @@
 use Rattle.std.proofs.Common.{refl, false, [], ◌∷◌}
 use Rattle.std.specs.Prelude.{Ok, Err}
-use Rattle.command_loop.proofs.OutcomeLemmas.{refused_world, refused_reply, accepted_world}
-use Rattle.command_loop.proofs.OutcomeLemmas.{accepted_reply}
+use Rattle.command_loop.proofs.OutcomeLemmas.{refused-world, refused-reply, accepted-world}
+use Rattle.command_loop.proofs.OutcomeLemmas.{accepted-reply}
 use Rattle.command_loop.proofs.request.load.Goals as goal
 
 pub returns-in-Err : goal.returns-in-Err
@@ -19,8 +19,8 @@ returns-in-Err-load g c =
     record {
       outcomes = record { fetched = Ok c.in-Ok.bytes.items; short = h.0 } ∷ [];
       answered = record { each = refl; asked = c.in-Ok.ensures.asked };
-      steps = refused_world _ _ _ _ _ h.1.0 h.1.1;
-      replies = refused_reply _ _ _ _ _ h.1.0 h.1.1;
+      steps = refused-world _ _ _ _ _ h.1.0 h.1.1;
+      replies = refused-reply _ _ _ _ _ h.1.0 h.1.1;
       current = tt;
     }
 
@@ -30,7 +30,7 @@ returns-in-Ok-load g c =
     record {
       outcomes = record { fetched = Ok c.in-Ok.bytes.items; short = h.0 } ∷ [];
       answered = record { each = refl; asked = c.in-Ok.ensures.asked };
-      steps = accepted_world _ _ _ _ h.1.0 h.1.2;
-      replies = accepted_reply _ _ _ _ _ h.1.0 h.1.1.0 h.1.1.1;
+      steps = accepted-world _ _ _ _ h.1.0 h.1.2;
+      replies = accepted-reply _ _ _ _ _ h.1.0 h.1.1.0 h.1.1.1;
       current = tt;
     }

@@ -1,7 +1,7 @@
 use Rattle.std.proofs.Common.{sym}
 use Rattle.command_loop.proofs.InputLemmas.{on_err_at, on_ok_at}
-use Rattle.command_loop.proofs.RunLemmas.{lines_served, lines_reading, lines_writing, no_words}
-use Rattle.command_loop.proofs.RunLemmas.{words_served_at, words_stop_at}
+use Rattle.command_loop.proofs.RunLemmas.{lines-served, lines-reading, lines-writing, no_words}
+use Rattle.command_loop.proofs.RunLemmas.{words-served-at, words-stop-at}
 use Rattle.command_loop.specs.Private.Progress.{RunState, state_of}
 use Rattle.command_loop.proofs.run_loop.run.Goals as goal
 
@@ -10,7 +10,7 @@ returns-then-is_empty-clause-served g c =
     let start : RunState =
     state_of c.begin.new.modules.world (g.O.Objects.asked c.begin.new.source)
     (g.W.Sink.written c.args.writer.now) in
-    lines_served _ _ _ _ _ _ _ start _ _
+    lines-served _ _ _ _ _ _ _ start _ _
     (no_words _ _ _ c.deref-words.ensures.value c.is_empty.ensures c.if-is_empty.true)
     c.in-Ok-begin.ensures c.serve_input.ensures.reads
 
@@ -19,7 +19,7 @@ returns-then-is_empty-clause-reading g c =
     let start : RunState =
     state_of c.begin.new.modules.world (g.O.Objects.asked c.begin.new.source)
     (g.W.Sink.written c.args.writer.now) in
-    lines_reading _ _ _ _ _ _ _ start _ _
+    lines-reading _ _ _ _ _ _ _ start _ _
     (no_words _ _ _ c.deref-words.ensures.value c.is_empty.ensures c.if-is_empty.true)
     c.in-Ok-begin.ensures c.serve_input.ensures.reads
 
@@ -28,7 +28,7 @@ returns-then-is_empty-clause-writing g c =
     let start : RunState =
     state_of c.begin.new.modules.world (g.O.Objects.asked c.begin.new.source)
     (g.W.Sink.written c.args.writer.now) in
-    lines_writing _ _ _ _ _ _ _ start _ _
+    lines-writing _ _ _ _ _ _ _ start _ _
     (no_words _ _ _ c.deref-words.ensures.value c.is_empty.ensures c.if-is_empty.true)
     c.in-Ok-begin.ensures c.serve_input.ensures.reads
 
@@ -41,7 +41,7 @@ returns-then-is_err-clause-writing g c =
     let start : RunState =
     state_of c.begin.new.modules.world (g.O.Objects.asked c.begin.new.source)
     (g.W.Sink.written c.args.writer.now) in
-    λ _. words_stop_at _ _ _ _ _ _ start _ _ _ c.deref-words.ensures.value c.is_empty.ensures
+    λ _. words-stop-at _ _ _ _ _ _ start _ _ _ c.deref-words.ensures.value c.is_empty.ensures
     c.if-is_empty.false c.in-Ok-begin.ensures
     (on_err_at _ (sym c.if-is_err.ensures.value) c.serve_words.ensures.halts)
 
@@ -50,6 +50,6 @@ returns-clause-served g c =
     let start : RunState =
     state_of c.begin.new.modules.world (g.O.Objects.asked c.begin.new.source)
     (g.W.Sink.written c.args.writer.now) in
-    words_served_at _ _ _ _ start _ _ _ _ c.deref-words.ensures.value c.is_empty.ensures
+    words-served-at _ _ _ _ start _ _ _ _ c.deref-words.ensures.value c.is_empty.ensures
     c.if-is_empty.false c.in-Ok-begin.ensures
     (on_ok_at _ (sym c.if-is_err.ensures.value) c.serve_words.ensures.handled)

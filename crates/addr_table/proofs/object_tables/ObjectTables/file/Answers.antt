@@ -1,11 +1,11 @@
 use Rattle.std.proofs.Common.{sym, refl}
-use Rattle.addr_table.proofs.Decoding.DecodeLaws.{lines_read}
+use Rattle.addr_table.proofs.Decoding.DecodeLaws.{lines-read}
 use Rattle.addr_table.proofs.FrameWalks.FrameTurns.{path-read}
 use Rattle.addr_table.proofs.object_tables.ObjectTables.file.Goals as goal
 
 pub returns : goal.returns
 returns c =
-    let s = lines_read c.args.self.bytes.now _ _ _ _ c.args.self.place_of c.of-line.ensures
+    let s = lines-read c.args.self.bytes.now _ _ _ _ c.args.self.place_of c.of-line.ensures
     c.of-line_str.ensures c.of-str.ensures in
     path-read c.args.self.bytes.now c.args.self.lines.now c.args.program c.args.file _ _ _ s
     (c.new.ensures _ refl)

@@ -1,6 +1,6 @@
 use Rattle.std.proofs.Common.{◌∙◌}
 use Rattle.std.proofs.lemmas.Result.{err_from_is_err_and}
-use Rattle.answer_text.proofs.PendingLemmas.{put_next, cut_at}
+use Rattle.answer_text.proofs.PendingLemmas.{put-next, cut_at}
 use Rattle.answer_text.proofs.pending.Pending.put_all.Goals as goal
 
 pub returns-in_err-put-clause-bytes : goal.returns-in_err-put-clause-bytes
@@ -11,7 +11,7 @@ returns-in_err-put-clause-bytes g c =
 
 pub loop-text-preserved : goal.loop-text-preserved
 loop-text-preserved g c = (
-  put_next _ _ _ _ _ _ (λ text. text.now) _ _ _ c.loop-text-test.true c.loop-text.invariant.0
+  put-next _ _ _ _ _ _ (λ text. text.now) _ _ _ c.loop-text-test.true c.loop-text.invariant.0
       c.in_ok-put.ensures.bytes,
   c.in_ok-put.ensures.failures ∙ c.loop-text.invariant.1,
 )

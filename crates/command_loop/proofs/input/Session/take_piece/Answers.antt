@@ -1,15 +1,15 @@
 use Rattle.std.proofs.Common.{◌∙◌, refl}
 use Rattle.std.proofs.lemmas.Result.{err_from_is_err_and}
-use Rattle.command_loop.proofs.PieceLemmas.{served_none, cut_at_feed, no_feed, serves_line}
-use Rattle.command_loop.proofs.PieceLemmas.{breaks_at_line, serves_rest}
+use Rattle.command_loop.proofs.PieceLemmas.{served-none, cut_at-feed, no-feed, serves-line}
+use Rattle.command_loop.proofs.PieceLemmas.{breaks-at-line, serves-rest}
 use Rattle.command_loop.proofs.input.Session.take_piece.Goals as goal
 
 pub lines-init : goal.lines-init
-lines-init g c = (served_none _ _ _ _, refl)
+lines-init g c = (served-none _ _ _ _, refl)
 
 pub lines-preserved : goal.lines-preserved
 lines-preserved g c = (
-  serves_line _ _ _ _ _ _ _ _ _ _ (cut_at_feed _ _ _ c.in-Some.is c.find_byte.ensures)
+  serves-line _ _ _ _ _ _ _ _ _ _ (cut_at-feed _ _ _ c.in-Some.is c.find_byte.ensures)
       c.lines.invariant.0
       (rw c.extend.ensures at c.in_ok-end_line.ensures.goes_on),
   c.in_ok-end_line.ensures.failures ∙ c.lines.invariant.1,
@@ -19,11 +19,11 @@ pub returns-in_err-end_line-clause-breaks : goal.returns-in_err-end_line-clause-
 returns-in_err-end_line-clause-breaks g c =
     let p =
     err_from_is_err_and c.from_residual.result c.from_residual.ensures.1 in rw (p.1)
-    (breaks_at_line _ _ _ _ _ _ _ _ _ _ (cut_at_feed _ _ _ c.in-Some.is c.find_byte.ensures)
+    (breaks-at-line _ _ _ _ _ _ _ _ _ _ (cut_at-feed _ _ _ c.in-Some.is c.find_byte.ensures)
     c.lines.invariant.0
     (rw c.extend.ensures at c.in_err-end_line.ensures.breaks))
 
 pub returns-clause-goes_on : goal.returns-clause-goes_on
 returns-clause-goes_on g c =
-    rw c.extend-2.ensures (serves_rest _ _ _ _ _ _ _
-    (no_feed _ _ c.in_default.is c.find_byte.ensures) c.lines.invariant.0)
+    rw c.extend-2.ensures (serves-rest _ _ _ _ _ _ _
+    (no-feed _ _ c.in_default.is c.find_byte.ensures) c.lines.invariant.0)

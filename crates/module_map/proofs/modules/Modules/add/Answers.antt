@@ -10,8 +10,8 @@ use Rattle.addr_table.specs.declared.place.Place.{Place}
 use Rattle.addr_table.specs.declared.steps.Steps.{Steps}
 use Rattle.module_map.specs.Counts.{ModuleMap}
 use Rattle.module_map.specs.Private.Serials.{AreSound, NumberedModule}
-use Rattle.module_map.proofs.Serials.{sound_insert}
-use Rattle.module_map.proofs.CachedModules.{same_but_modules, room_left, free_name, over_any}
+use Rattle.module_map.proofs.Serials.{sound-insert}
+use Rattle.module_map.proofs.CachedModules.{same-but-modules, room_left, free-name, over_any}
 use Rattle.module_map.proofs.CachedModules.{free_all, kept_there}
 use Rattle.module_map.proofs.Changing.{world_of}
 use Rattle.module_map.proofs.modules.Modules.add.Goals as goal
@@ -51,12 +51,12 @@ insert-requires-clause-new c =
     c.requires.new in
     subst (λ (x : NumberedModule). position (λ h. is_named x.loaded.name h.loaded)
     c.self.inside.sorted ≡ None) (sym c.in-Ok-new.ensures)
-    (free_name c.args.name.now c.self.inside.sorted c.self.inside.loads free)
+    (free-name c.args.name.now c.self.inside.sorted c.self.inside.loads free)
 
 pub invariant_of-self-2 : goal.invariant_of-self-2
 invariant_of-self-2 c = let e = c.in-Ok-insert.ensures in
     subst (λ hs. AreSound hs (c.self.inside.loads + 1) c.self.inside.cache.entries) (sym e)
-    (sound_insert c.self.inside.sorted c.self.inside.loads _ c.in-Ok.at c.in-Ok-new.loaded
+    (sound-insert c.self.inside.sorted c.self.inside.loads _ c.in-Ok.at c.in-Ok-new.loaded
     (ap (λ h. h.serial) c.in-Ok-new.ensures)
     (room_left c.self.inside.sorted c.self.inside.loads
     (subst (λ v. is_full v.world ≡ false) (sym c.self.view_is) c.requires.loads))
@@ -91,7 +91,7 @@ returns c =
                 (record { name = c.args.name.now; base = c.args.base; bytes = c.args.object });
           })
           c.self.view_is
-          (same_but_modules _ _ (c.self.inside.loads + 1) _ _ _ _
+          (same-but-modules _ _ (c.self.inside.loads + 1) _ _ _ _
           (kept_there c.self.inside.sorted c.self.inside.loads
           (record { name = c.args.name.now; base = c.args.base; bytes = c.args.object }) _ _ _
           free c.len.ensures low high

@@ -2,10 +2,10 @@ use Rattle.std.proofs.Common.{◌∙◌, sym, ap, subst, refl, []}
 use Rattle.module_map.specs.Private.Serials.{NumberedModule}
 use Rattle.module_map.specs.Answers.{asked}
 use Rattle.module_map.specs.Counts.{TakesCompares}
-use Rattle.module_map.proofs.Serials.{sound_kept}
-use Rattle.module_map.proofs.Asking.{in_list, begins_by, asked_none, asked_some, takes_none}
-use Rattle.module_map.proofs.Asking.{takes_some}
-use Rattle.addr_table.proofs.StepLaws.{counted_decoded}
+use Rattle.module_map.proofs.Serials.{sound-kept}
+use Rattle.module_map.proofs.Asking.{in-list, begins-by, asked-none, asked-some, takes-none}
+use Rattle.module_map.proofs.Asking.{takes-some}
+use Rattle.addr_table.proofs.StepLaws.{counted-decoded}
 use Rattle.module_map.proofs.modules.Modules.ask.Goals as goal
 
 -- a placeholder entry for a clause about an index past the end
@@ -14,34 +14,34 @@ any_module = record { serial = 0; loaded = record { name = []; base = 0; bytes =
 
 pub returns-in_default-clause-found : goal.returns-in_default-clause-found
 returns-in_default-clause-found c = let n = c.in_default.ensures in
-    asked_none c.self.inside.sorted c.self.inside.loads c.args.address (sym n.place)
+    asked-none c.self.inside.sorted c.self.inside.loads c.args.address (sym n.place)
     ∙ ap (λ v. asked v.world c.args.address) c.self.view_is
 
 pub returns-in_default-clause-compares : goal.returns-in_default-clause-compares
 returns-in_default-clause-compares c = let n = c.in_default.ensures in
     subst (λ v. TakesCompares v.world c.args.address c.locate.new.steps.compares) c.self.view_is
-    (takes_none c.self.inside.sorted c.self.inside.loads c.args.address n.counted.0 _
+    (takes-none c.self.inside.sorted c.self.inside.loads c.args.address n.counted.0 _
     c.locate.new.steps (sym n.place) refl n.counted.3 n.counted.1)
 
 pub returns-in_default-clause-decoded : goal.returns-in_default-clause-decoded
 returns-in_default-clause-decoded c = let n = c.in_default.ensures in
-    ap (λ s. s.decoded) n.counted.3 ∙ counted_decoded n.counted.0 _
+    ap (λ s. s.decoded) n.counted.3 ∙ counted-decoded n.counted.0 _
     ∙ ap (λ v. v.decoded) c.self.view_is
 
 pub look_up-place-requires-clause-held : goal.look_up-place-requires-clause-held
-look_up-place-requires-clause-held c = begins_by c.self.inside.sorted c.args.address c.in-Some.at
+look_up-place-requires-clause-held c = begins-by c.self.inside.sorted c.args.address c.in-Some.at
     (sym c.in-Some.ensures.place)
 
 pub invariant_of-self-2 : goal.invariant_of-self-2
 invariant_of-self-2 c = let p = c.in-Some.ensures in
-    sound_kept c.self.inside.sorted c.self.inside.loads c.self.inside.cache.entries
+    sound-kept c.self.inside.sorted c.self.inside.loads c.self.inside.cache.entries
     c.look_up-place.new.cache.entries c.in-Some.at any_module
-    (in_list _ c.self.inside.sorted c.in-Some.at (sym p.place)) c.self.invariant
+    (in-list _ c.self.inside.sorted c.in-Some.at (sym p.place)) c.self.invariant
     (c.look_up-place.ensures.cached any_module)
 
 pub returns-clause-found : goal.returns-clause-found
 returns-clause-found c = let p = c.in-Some.ensures in
-    asked_some c.self.inside.sorted c.self.inside.loads c.args.address c.in-Some.at any_module
+    asked-some c.self.inside.sorted c.self.inside.loads c.args.address c.in-Some.at any_module
     c.look_up-place.result (sym p.place) (c.look_up-place.ensures.place any_module)
     ∙ ap (λ v. asked v.world c.args.address) c.self.view_is
 
@@ -49,12 +49,12 @@ pub returns-clause-compares : goal.returns-clause-compares
 returns-clause-compares c = let p = c.in-Some.ensures in let q = c.look_up-place.ensures.counted in
     subst (λ v. TakesCompares v.world c.args.address c.look_up-place.new.steps.compares)
     c.self.view_is
-    (takes_some c.self.inside.sorted c.self.inside.loads c.args.address c.in-Some.at p.counted.0 q.0
+    (takes-some c.self.inside.sorted c.self.inside.loads c.args.address c.in-Some.at p.counted.0 q.0
     any_module _ c.locate.new.steps c.look_up-place.new.steps (sym p.place) refl p.counted.3 q.2
     p.counted.1 p.counted.2 (q.1 any_module))
 
 pub returns-clause-decoded : goal.returns-clause-decoded
 returns-clause-decoded c = let p = c.in-Some.ensures in let q = c.look_up-place.ensures.counted in
-    ap (λ s. s.decoded) q.2 ∙ counted_decoded q.0 _ ∙ ap (λ s. s.decoded) p.counted.3
-    ∙ counted_decoded p.counted.0 _
+    ap (λ s. s.decoded) q.2 ∙ counted-decoded q.0 _ ∙ ap (λ s. s.decoded) p.counted.3
+    ∙ counted-decoded p.counted.0 _
     ∙ ap (λ v. v.decoded) c.self.view_is

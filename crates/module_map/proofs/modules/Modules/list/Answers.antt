@@ -1,6 +1,6 @@
 use Rattle.std.proofs.Common.{◌≡◌, ◌∙◌, List, [], ◌∷◌, map, refl, ap, suc, length, arith, subst}
 use Rattle.module_map.specs.World.{AreRising}
-use Rattle.module_map.proofs.RisingModules.{hold_once}
+use Rattle.module_map.proofs.RisingModules.{hold-once}
 use Rattle.module_map.specs.Private.Serials.{NumberedModule, loaded_of}
 use Rattle.module_map.specs.Listing.{Listed, listed}
 use Rattle.module_map.proofs.modules.Modules.list.Goals as goal
@@ -30,5 +30,5 @@ returns-clause-rising c =
     subst (λ v. AreRising v.world.modules) c.self.view_is c.list.ensures.rising
 
 pub returns-clause-one : goal.returns-clause-one
-returns-clause-one c = hold_once _
+returns-clause-one c = hold-once _
     (subst (λ v. AreRising v.world.modules) c.self.view_is c.list.ensures.rising)

@@ -1,6 +1,6 @@
 use Rattle.std.proofs.Common.{◌≡◌, sym, ap, subst, false}
 use Rattle.module_map.specs.Changes.{is_taken, is_full}
-use Rattle.module_map.proofs.Loading.{SomeLoad, name_taken, full, not_decoded, added_bytes}
+use Rattle.module_map.proofs.Loading.{SomeLoad, name_taken, full, not_decoded, added-bytes}
 use Rattle.addr_table.proofs.FaultLaws.{well-formed-faultless}
 use Rattle.module_map.proofs.modules.Modules.load.Goals as goal
 
@@ -19,7 +19,7 @@ returns-in-Ok-clause-step c =
     subst (λ v. SomeLoad v.world (record
     { name = c.args.name.now; base = c.args.base; bytes = c.args.bytes.items }) c.add.result
     c.add.new.self.world) c.self.view_is
-    (added_bytes _ c.add.new.self c.args.name.now c.args.base c.in-Ok.object c.args.bytes.items
+    (added-bytes _ c.add.new.self c.args.name.now c.args.base c.in-Ok.object c.args.bytes.items
     c.add.result free capacity c.in-Ok.ensures.ok.0
     (well-formed-faultless c.args.bytes.items c.in-Ok.ensures.ok.1) c.add.ensures)
 

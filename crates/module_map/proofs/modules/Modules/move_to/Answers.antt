@@ -3,7 +3,7 @@ use Rattle.std.specs.Prelude.{Ok, Err}
 use Rattle.module_map.specs.Private.Serials.{AreSound}
 use Rattle.module_map.specs.Changes.{Moves}
 use Rattle.module_map.specs.declared.faults.MapFault.TheVariants.{NoModule, Range, Overlap}
-use Rattle.module_map.proofs.Serials.{sound_turned}
+use Rattle.module_map.proofs.Serials.{sound-turned}
 use Rattle.module_map.proofs.Changing.{not_moved, world_of}
 use Rattle.module_map.proofs.CachedModules.{past_by, over_by, into_by, gap_by, fits_by}
 use Rattle.module_map.proofs.modules.Modules.move_to.Goals as goal
@@ -45,7 +45,7 @@ pub invariant_of-self : goal.invariant_of-self
 invariant_of-self c = let e = c.in-Some.ensures in
     subst (λ hs. AreSound hs c.self.inside.loads c.self.inside.cache.entries)
     (sym (c.relocate.ensures c.loaded_at.result.now))
-    (sound_turned c.self.inside.sorted c.self.inside.loads _ c.in-Some.own c.in-Ok.at c.args.base
+    (sound-turned c.self.inside.sorted c.self.inside.loads _ c.in-Some.own c.in-Ok.at c.args.base
     c.loaded_at.result.now e.only.within c.self.invariant)
 
 pub returns-in-Ok-clause-step : goal.returns-in-Ok-clause-step

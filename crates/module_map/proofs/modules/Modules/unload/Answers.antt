@@ -3,14 +3,14 @@ use Rattle.std.specs.Prelude.{Ok, Err}
 use Rattle.module_map.specs.Private.Serials.{AreSound}
 use Rattle.module_map.specs.Changes.{Unloads}
 use Rattle.module_map.specs.declared.faults.MapFault.TheVariants.{NoModule}
-use Rattle.module_map.proofs.Serials.{sound_remove}
+use Rattle.module_map.proofs.Serials.{sound-remove}
 use Rattle.module_map.proofs.Changing.{not_there, unloaded, world_of}
 use Rattle.module_map.proofs.modules.Modules.unload.Goals as goal
 
 pub invariant_of-self : goal.invariant_of-self
 invariant_of-self c =
     subst (λ hs. AreSound hs c.self.inside.loads c.self.inside.cache.entries) (sym c.remove.ensures)
-    (sound_remove _ _ _ c.in-Some.at c.self.invariant)
+    (sound-remove _ _ _ c.in-Some.at c.self.invariant)
 
 pub returns-in_default-clause-step : goal.returns-in_default-clause-step
 returns-in_default-clause-step c =

@@ -2,7 +2,7 @@ use Rattle.std.proofs.Common.{◌≡◌, ◌≤◌, ◌+◌, ◌-◌, ℕ, get_o
 use Rattle.module_map.specs.World.{end_of}
 use Rattle.module_map.specs.Private.Serials.{NumberedModule}
 use Rattle.module_map.specs.Private.Rising.{AreRising, IsNext, IsOther}
-use Rattle.module_map.proofs.Gaps.{met_last, met_next, clear_all, not_own}
+use Rattle.module_map.proofs.Gaps.{met_last, met_next, clear_all, not-own}
 use Rattle.module_map.proofs.sorted.SortedModules.free_index.Goals as goal
 use Rattle.module_map.proofs.sorted.SortedModules.free_index.Goals.{After-next_index-next}
 use Rattle.module_map.proofs.sorted.SortedModules.free_index.Goals.{else-started-gt0-via-then-started-gt0+then-started-own+else-end-extent}
@@ -20,7 +20,7 @@ last_ends c at d last other = let same : at ≡ c.started-count_started.result -
       | else-started-gt0-via-then-started-gt0+then-started-own+else-end-extent w ↦ let ends =
           w.if-end-extent.false in rw (same, ← w.end.ensures d) ends
       | else-started-gt0-via-then-started-gt0+else-started-own w ↦ let own = w.if-started-own.false in
-          absurd (not_own c.args.own at other (omega arith))
+          absurd (not-own c.args.own at other (omega arith))
       | else-started-gt0-via-else-started-gt0 w ↦ let none = w.if-started-gt0.false in
           absurd (omega arith)
     ]

@@ -1,6 +1,6 @@
 use Rattle.std.proofs.Common.{◌≡◌, ◌⊎◌, inl, inr, ◌≤◌, ◌+◌, ◌-◌, ℕ, sym, subst, ◌∙◌, arith}
 use Rattle.std.proofs.lemmas.Bool.{leb-true, leb-false}
-use Rattle.addr_table.proofs.StepLaws.{counted_one}
+use Rattle.addr_table.proofs.StepLaws.{counted-one}
 use Rattle.module_map.specs.Private.Rising.{AreRising}
 use Rattle.module_map.proofs.Searches.{held_here, held_nowhere}
 use Rattle.module_map.proofs.sorted.SortedModules.locate.Goals as goal
@@ -29,7 +29,7 @@ returns-then-reached-clause-counted c = let n = c.started-count_started.ensures.
   n.0 + 1,
   (let le = n.1 in omega (arith, le)),
   tt,
-  counted_one n.0 _ _ _ n.3 c.reached.ensures.counted,
+  counted-one n.0 _ _ _ n.3 c.reached.ensures.counted,
 )
 
 pub returns-clause-place : goal.returns-clause-place
@@ -45,7 +45,7 @@ returns-clause-counted c = let n = c.started-count_started.ensures.counted in (
   n.0 + 1,
   (let le = n.1 in omega (arith, le)),
   two n.0 n.2,
-  counted_one n.0 _ _ _ n.3 c.reached.ensures.counted,
+  counted-one n.0 _ _ _ n.3 c.reached.ensures.counted,
 )
   where
     two : (k : ℕ) → (c.started-count_started.result ≡ 0) ⊎ (1 ≤ k) → 2 ≤ k + 1
