@@ -2,8 +2,9 @@
 """Compares what addr2line_live reads from a distribution's objects with the output of others.
 
 compare_real.py PROGRAM MEASURE FOLDER [OBJECT..] compares the objects, or the installed ones that
-it finds (tools/real_objects.py). It downloads nothing. Decompressed copies are in FOLDER. For each
-object it prints the CPU time and the peak memory of a load, and compares
+it finds (tools/real_objects.py) and a Rust program that the installed rustc compiles
+(tools/rust_program.py). It downloads nothing. Decompressed copies and the program are in FOLDER.
+For each object it prints the CPU time and the peak memory of a load, and compares
 - all rows with objdump (tools/compare_rows.py),
 - all scopes with readelf and llvm-dwarfdump (tools/compare_scopes.py),
 - ten thousand answers with addr2line of binutils and llvm-symbolizer (tools/compare_replies.py).
@@ -19,8 +20,10 @@ TOOLS = Path(__file__).resolve().parent
 sys.path.insert(0, str(TOOLS.parent / "bench"))
 from compare_replies import compare
 from compare_rows import printed
-from real_objects import (ADVICE, RealObject, Skipped, installed, prepared, random_addresses,
-                          spans_of_rows, spans_of_scopes, with_debug)
+from debug_files import sections
+from real_objects import (ADVICE, RealObject, Skipped, in_code, installed, prepared,
+                          random_addresses, spans_of_rows, spans_of_scopes, with_debug)
+from rust_program import rust_program
 from usage import least_in_turns, usage
 
 ASKED = 10_000
@@ -49,10 +52,10 @@ def check_loads(program, path):
 
 
 def addresses(measure, path):
-    """Returns random addresses: half of them of rows, and half of ranges of scopes."""
+    """Returns random addresses of code: half of them of rows, and half of ranges of scopes."""
     rows = random_addresses(spans_of_rows(printed(measure, "rows", path)), ASKED // 2)
     scopes = random_addresses(spans_of_scopes(printed(measure, "scope-table", path)), ASKED // 2)
-    return list(dict.fromkeys(rows + scopes))
+    return in_code(dict.fromkeys(rows + scopes), sections(path))
 
 
 def compare_object(program, measure, path, table):
@@ -65,11 +68,16 @@ def compare_object(program, measure, path, table):
     return not any(statuses)
 
 
-def objects_of(paths):
-    """Returns the objects at the paths with their debug files, or the installed ones."""
-    if not paths:
+def objects_of(paths, folder):
+    """Returns the objects at the paths with their debug files, or the installed ones and the Rust
+    program."""
+    if paths:
+        return [with_debug(path) or RealObject(Path(path).name, Path(path)) for path in paths]
+    try:
+        return [*installed(), rust_program(folder)]
+    except Skipped as reason:
+        print(f"the Rust program: skipped: {reason}", flush=True)
         return installed()
-    return [with_debug(path) or RealObject(Path(path).name, Path(path)) for path in paths]
 
 
 def loaded(program, measure, name, original, folder):
@@ -89,10 +97,10 @@ def loaded(program, measure, name, original, folder):
 
 def main():
     program, measure, folder, *paths = sys.argv[1:]
-    objects = objects_of(paths)
+    Path(folder).mkdir(parents=True, exist_ok=True)
+    objects = objects_of(paths, folder)
     if not objects:
         raise SystemExit(ADVICE)
-    Path(folder).mkdir(parents=True, exist_ok=True)
     # All loads precede the comparisons, which make this process large: the peak memory of a
     # process is at least that of the process that started it.
     found = [loaded(program, measure, *item, folder) for item in objects]

@@ -28,7 +28,8 @@ FRAME = re.compile(
     r"(?P<name>.*?)(?: at | (?=\?\?:))(?P<file>.*):(?P<line>\d+|\?)$"
 )
 DISCRIMINATOR = re.compile(r" \(discriminator \d+\)$")
-COPY = re.compile(r"(\.(lto_priv|isra|constprop|part|cold)(\.\d+)?)+$")
+# Not the version of a symbol, such as @@GLIBC_2.2.5.
+COPY = re.compile(r"^([^@]*?)(\.(lto_priv|isra|constprop|part|cold|llvm)|\.\d+)+$")
 OPTIONS = ["-a", "-f", "-i", "-p", "-s"]
 UNKNOWN = [("??", "??", 0)]
 ARTIFICIAL = "<artificial>"
@@ -52,7 +53,7 @@ def replies(command, asked):
         if frame["address"]:
             frames = found[int(frame["address"], 16)] = []
         line = 0 if frame["line"] == "?" else int(frame["line"])
-        frames.append((COPY.sub("", frame["name"]), frame["file"], line))
+        frames.append((COPY.sub(r"\1", frame["name"]), frame["file"], line))
     return found
 
 

@@ -17,6 +17,7 @@ ADVICE = """No object with debug information is installed. Install packages such
     libc6-dbg or linux-image-VERSION-dbgsym (Ubuntu),
     glibc-debuginfo or kernel-debuginfo (Fedora),
 or name objects: make compare-real REAL_OBJECTS="/path/of/app /path/of/libapp.so.debug\""""
+EXECUTABLE = 4  # SHF_EXECINSTR among the flags of a section
 SEED = 1
 
 
@@ -103,3 +104,11 @@ def random_addresses(spans, count, seed=SEED):
         elif (place := choice.randrange(number + 1)) < count:
             chosen[place] = span
     return [choice.choice((start, choice.randrange(start, end))) for start, end in chosen]
+
+
+def in_code(addresses, found):
+    """Returns the addresses that are in the executable ones of the sections. Linkers leave dead
+    code at address 0, outside of all sections."""
+    spans = [range(row.address, row.address + row.size) for row in found.values()
+             if row.flags & EXECUTABLE]
+    return [address for address in addresses if any(address in span for span in spans)]

@@ -4,7 +4,7 @@ import unittest
 from pathlib import Path
 
 sys.path.insert(0, str(Path(__file__).resolve().parents[1]))
-from compare_replies import UNKNOWN, agree, is_padding, with_files
+from compare_replies import COPY, UNKNOWN, agree, is_padding, with_files
 
 INLINED = [("square", "a.c", 3), ("main", "a.c", 7)]
 SYMBOLS = {"C1": "0000000000001000", "C2": "0000000000001000", "D1": "0000000000002000"}
@@ -25,6 +25,13 @@ class Replies(unittest.TestCase):
         self.assertFalse(agree([("C1", "a.c", 3)], [("D1", "a.c", 3)], SYMBOLS))
         self.assertTrue(agree(UNKNOWN, [("symbol", "a.c", 0)], {}))
         self.assertFalse(agree(UNKNOWN, [("symbol", "a.c", 1)], {}))
+
+    def test_suffixes_of_copies(self):
+        """The suffixes of compilers are removed, and versions of symbols are not."""
+        for name in ("f", "f.145", "f.llvm.8735", "f.constprop.0.isra.1", "f.lto_priv.0.cold"):
+            self.assertEqual(COPY.sub(r"\1", name), "f")
+        for name in ("f@@GLIBC_2.2.5", "f.x", "??"):
+            self.assertEqual(COPY.sub(r"\1", name), name)
 
     def test_files_of_link_time_optimization(self):
         """The file `<artificial>` becomes that of the other reply, if there is one."""

@@ -10,7 +10,7 @@ from programs import PROGRAM, TOOLS, compiled, output_of
 
 sys.path.insert(0, str(TOOLS))
 from debug_files import COMPRESSED, sections
-from real_objects import (RealObject, Skipped, installed, prepared, random_addresses,
+from real_objects import (RealObject, Skipped, in_code, installed, prepared, random_addresses,
                           spans_of_rows, spans_of_scopes, with_debug)
 
 SOURCE = "int main(void) { return 0; }\n"
@@ -67,6 +67,15 @@ class Files(unittest.TestCase):
         self.assertEqual(prepared(packed, copy), copy)
         self.assertTrue(any(row.flags & COMPRESSED for row in sections(packed).values()))
         self.assertFalse(any(row.flags & COMPRESSED for row in sections(copy).values()))
+
+    def test_addresses_of_code(self):
+        """Addresses outside of the executable sections are dead code, also in a debug file."""
+        path, debug = self.stripped("app")
+        for found in (sections(path), sections(debug)):
+            text = found[".text"]
+            start, end = text.address, text.address + text.size
+            asked = [0, start, end - 1, found[".data"].address]
+            self.assertEqual(in_code(asked, found), [start, end - 1])
 
     def test_nothing_to_compare(self):
         """It fails if no object is compared."""
