@@ -31,6 +31,15 @@ def compiled(folder, name, source, *flags):
 
 
 def symbol(path, name):
+def separate(path):
+    """Moves the debug information of an object to a separate file and returns its path."""
+    debug = Path(f"{path}.debug")
+    output_of("objcopy", "--only-keep-debug", path, debug)
+    output_of("strip", "--strip-debug", path)
+    output_of("objcopy", f"--add-gnu-debuglink={debug}", path)
+    return debug
+
+
     """Returns the link address of a symbol."""
     told = [line.split() for line in output_of("nm", path).splitlines()]
     return next(int(words[0], 16) for words in told if words[-1] == name)

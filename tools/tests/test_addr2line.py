@@ -10,6 +10,7 @@ from pathlib import Path
 
 sys.path.insert(0, str(Path(__file__).resolve().parent))
 from programs import PROGRAM, TOOLS, compiled, instructions, output_of, symbol
+from test_symbolize_text import BLOCK
 
 sys.path.insert(0, str(TOOLS))
 from debug_files import sections
@@ -122,6 +123,20 @@ class Addr2line(unittest.TestCase):
         shutil.copy(debug, cache / "debuginfo")
         self.env["DEBUGINFOD_CACHE_PATH"] = str(cache.parent)
         self.assertEqual(self.run_tool("-e", stripped, "-f", start)[1], wanted)
+
+    @unittest.skipUnless(shutil.which("clang"), "clang is not installed")
+    def test_sanitizer_of_clang(self):
+        """The address sanitizer starts the drop-in as its symbolizer."""
+        path, source = self.folder / "block", self.folder / "block.c"
+        source.write_text(BLOCK)
+        words = ["clang", "-g", "-gdwarf-5", "-O1", "-fsanitize=address", "-o", path, source]
+        if subprocess.run(words, capture_output=True).returncode:
+            self.skipTest("clang has no address sanitizer")
+        self.env["ASAN_OPTIONS"] = f"external_symbolizer_path={TOOLS}/addr2line"
+        text = self.run_tool(program=path)[2]
+        frames = [rf" +#{number} 0x\w+ in {name} {source}:{number + 2}\n"
+                  for number, name in enumerate(("get", "use", "main"))]
+        self.assertRegex(text, "READ of size 4 .*\n" + "".join(frames))
 
     def test_refusals(self):
         """Refuses with status 1, like binutils."""

@@ -7,7 +7,7 @@ import unittest
 from pathlib import Path
 
 sys.path.insert(0, str(Path(__file__).resolve().parent))
-from programs import TOOLS, Live, compiled, instructions, output_of, symbol, tool
+from programs import TOOLS, Live, compiled, output_of, separate, symbol, tool
 
 sys.path.insert(0, str(TOOLS))
 from loaded_objects import PAGE, Mapping, Segment, base_of, objects_of
@@ -35,11 +35,6 @@ int main(void) {
 }
 """
 HOST_LINE = 5  # of `here`
-CRASH = """
-static inline __attribute__((always_inline)) int value(volatile int *p) { return *p; }
-__attribute__((noinline)) int run(int *p) { return value(p) + 1; }
-int main(int count, char **words) { return run(count > 5 ? &count : (int *)0); }
-"""
 FIRST = "\n\nint work(int x)\n{\n    return x * 3;\n}\n"  # `work` starts in line 4, at its brace
 SECOND = "int pad(int x) { return x; }\n\n\n\n\n\nint work(int x) {\n    return pad(x);\n}\n"  # 7
 
@@ -165,60 +160,15 @@ class LoadsOfProcess(unittest.TestCase):
             self.assertEqual(base_of(mapping, [segment]), base)
         self.assertIsNone(base_of(Mapping(base, base + PAGE, 4 * PAGE, "object"), [segment]))
 
-    def stripped(self, path):
-        """Moves the debug information of an object to a separate file and returns its path."""
-        debug = Path(f"{path}.debug")
-        output_of("objcopy", "--only-keep-debug", path, debug)
-        output_of("strip", "--strip-debug", path)
-        output_of("objcopy", f"--add-gnu-debuglink={debug}", path)
-        return debug
-
     def test_separate_debug_files(self):
         """A stripped program is loaded from its debug file, at its own base."""
         path = self.compile("host", HOST, "-O0")
-        debug = self.stripped(path)
+        debug = separate(path)
         host = Host(path)
         self.addCleanup(host.end)
         lines = tool("loads_of_process", "--debug", host.pid).splitlines()
         self.live.say(next(line for line in lines if line.endswith(f" {debug}")))
         self.assertEqual(self.live.say(f"{host.here:x}"), ["here", f"{path}.c:{HOST_LINE}"])
-
-    @unittest.skipUnless(shutil.which("gcore"), "gcore is not installed")
-    def test_a_core_file_of_gdb(self):
-        path, host = self.host()
-        done = subprocess.run(["gcore", "-o", f"{self.folder.name}/core", str(host.pid)],
-                              capture_output=True)
-        if done.returncode:
-            self.skipTest("gcore may not attach here")
-        core = f"{self.folder.name}/core.{host.pid}"
-        lines = {line.split(" ", 3)[3]: line
-                 for line in tool("loads_of_process", "--core", core).splitlines()}
-        self.assertEqual(lines[str(path)], loads(host.pid)[str(path)])
-
-    @unittest.skipUnless(Path("/proc/sys/kernel/core_pattern").read_text() == "core\n",
-                         "core files are not written to the working folder")
-    def test_a_crash_of_a_stripped_program(self):
-        """The core file leads to the lines of the frame of the crash, including inlined callers."""
-        path = self.compile("crash", CRASH, "-O1", "-fno-pie", "-no-pie")
-        stop = next(at for at, text in instructions(path, "run") if "(%" in text)
-        self.stripped(path)
-        run = f"ulimit -c unlimited; cd {self.folder.name}; exec {path}"
-        subprocess.run(["bash", "-c", run], capture_output=True)
-        cores = list(Path(self.folder.name).glob("core*"))
-        if not cores:
-            self.skipTest("no core file is written here")
-        live = Live("-f", "-i")
-        self.addCleanup(live.end)
-        for line in tool("loads_of_process", "--debug", "--core", cores[0]).splitlines():
-            live.say(line)
-        wanted = ["value", f"{path}.c:2", "run", f"{path}.c:3"]
-        self.assertEqual(live.say(f"{stop:x}"), wanted)
-        text = "no core\n"
-        (Path(self.folder.name) / "text").write_text(text)
-        done = subprocess.run([TOOLS / "loads_of_process", "--core", f"{self.folder.name}/text"],
-                              capture_output=True, text=True)
-        self.assertEqual(done.returncode, 1)
-        self.assertTrue(done.stderr.endswith(": not a 64-bit core file\n"))
 
     @unittest.skipUnless(shutil.which("eu-addr2line"), "eu-addr2line is not installed")
     def test_beside_eu_addr2line(self):
