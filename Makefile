@@ -46,6 +46,7 @@ help:
 	@echo '                  (hours; minutes for one crate)'
 	@echo 'make tools-test   tests tools/ and the clients in docs/PROTOCOL.md on real processes, and'
 	@echo '                  mark_dropped on sqlite3 and zlib if REAL_SOURCES=FOLDER has their sources'
+	@echo '                  (GIMLI_ADDR2LINE=PATH compares them with the addr2line of gimli)'
 	@echo 'make check-docs   compares the manual page and documents with the sources: options, refusals,'
 	@echo '                  causes, targets, the version; finds phrases that the documents avoid'
 	@echo 'make compare      compares the data read from objects with the output of other readers'

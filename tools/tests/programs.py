@@ -1,5 +1,6 @@
 """Helpers for the tests of the tools: the program, and objects that gcc compiles for a test."""
 import os
+import shutil
 import subprocess
 import sys
 from pathlib import Path
@@ -30,7 +31,6 @@ def compiled(folder, name, source, *flags):
     return path
 
 
-def symbol(path, name):
 def separate(path):
     """Moves the debug information of an object to a separate file and returns its path."""
     debug = Path(f"{path}.debug")
@@ -40,6 +40,7 @@ def separate(path):
     return debug
 
 
+def symbol(path, name):
     """Returns the link address of a symbol."""
     told = [line.split() for line in output_of("nm", path).splitlines()]
     return next(int(words[0], 16) for words in told if words[-1] == name)
@@ -55,6 +56,15 @@ def instructions(path, function):
 def tool(name, *arguments, text=""):
     """Returns the output of a tool."""
     return output_of(TOOLS / name, *arguments, text=text)
+
+
+def dwarfutil():
+    """Returns the name of an llvm-dwarfutil that reads DWARF 5, or None. Version 16 drops all lines
+    of DWARF 5."""
+    for name in ("llvm-dwarfutil", *(f"llvm-dwarfutil-{number}" for number in range(19, 30))):
+        if shutil.which(name) and "--linker" in output_of(name, "--help"):
+            return name
+    return None
 
 
 class Live(live.Live):

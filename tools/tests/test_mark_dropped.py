@@ -10,7 +10,7 @@ import unittest
 from pathlib import Path
 
 sys.path.insert(0, str(Path(__file__).resolve().parent))
-from programs import PROGRAM, TOOLS, Live, output_of, symbol, tool
+from programs import PROGRAM, TOOLS, Live, dwarfutil, output_of, symbol, tool
 
 sys.path.insert(0, str(TOOLS))
 from debug_files import sections
@@ -18,7 +18,7 @@ from loaded_objects import segments
 
 COMPILERS = [name for name in ("gcc", "clang") if shutil.which(name)]
 LINKERS = [name for name in ("bfd", "gold", "lld", "mold") if shutil.which(f"ld.{name}")]
-DWARFUTIL = next(filter(None, map(shutil.which, ("llvm-dwarfutil", "llvm-dwarfutil-19"))), None)
+DWARFUTIL = dwarfutil()
 FLAGS = ["-O2", "-g", "-gdwarf-5", "-ffunction-sections", "-Wl,--gc-sections"]
 WITHOUT = "-DWITHOUT_DROPPED"
 TOMBSTONE = 0xFFFFFFFFFFFFFFFF

@@ -4,6 +4,9 @@ REAL_SOURCES has the folders to search, separated by colons; out/sources if it i
 searched for sqlite3.c (the amalgamation, with sqlite3.h) and inflate.c (of zlib). On Debian,
 `apt-get source sqlite3 zlib` in out/sources downloads both. Then `./configure` and `make sqlite3.c`
 in the folder of sqlite3 write the amalgamation.
+
+The answers are compared with llvm-symbolizer, with llvm-dwarfutil 19 or later if it is installed,
+and with the addr2line of gimli at GIMLI_ADDR2LINE if it is set.
 """
 import os
 import re
@@ -14,13 +17,16 @@ import unittest
 from pathlib import Path
 
 sys.path.insert(0, str(Path(__file__).resolve().parent))
+from line_rows import by_address, has_addresses, live_and_dead, located, rows_of, sequences
 from programs import PROGRAM, TOOLS, TOP, output_of, tool
 from test_mark_dropped import COMPILERS, DWARFUTIL, FLAGS, LINKERS
 
 sys.path.insert(0, str(TOOLS))
-from compare_replies import OPTIONS, agree, last_parts, replies, values
+from compare_replies import OPTIONS, UNKNOWN, agree, last_parts, replies, values
 from debug_files import sections
 
+GIMLI = os.environ.get("GIMLI_ADDR2LINE")
+EMPTY = (0, "end", 0)  # of a sequence without rows
 FOLDERS = os.environ.get("REAL_SOURCES", f"{TOP}/out/sources").split(":")
 MOST_ADDRESSES = 50_000  # of one program
 LIMIT = 900  # seconds for one test
@@ -58,17 +64,32 @@ def addresses(path):
     return range(text.address, text.address + text.size, step)
 
 
-def functions(path):
-    """Returns the answers without the location of their first frame. Each starts with its
-    address."""
-    asked = "".join(f"{address:x}\n" for address in addresses(path))
-    shown = output_of(PROGRAM, "-a", "-f", "-i", "-p", "-e", path, text=asked)
-    return [re.sub(r" at .*", "", answer, count=1) for answer in re.split(r"\n(?=0x)", shown)]
+def answers(path, asked):
+    """Returns the frames of each address, as name, base name of the file, and line."""
+    return replies([PROGRAM, "-e", path, "--linkage", *OPTIONS], asked)
+
+
+def location(frames):
+    """Returns the file and the line of the first frame."""
+    return frames[0][1:]
 
 
 def ends(frames):
-    """Returns the location of the first frame, and the name of the last one."""
-    return frames[-1][0], frames[0][1:]
+    """Returns the name of the last frame, and the location of the first one."""
+    return frames[-1][0], location(frames)
+
+
+def functions(frames):
+    """Returns the frames without the location of the first one."""
+    return [frames[0][0], *frames[1:]]
+
+
+def agree_with_row(frames, row, live):
+    """Returns whether the first frame has the location of a row, or of another row of code at the
+    same address."""
+    if row is None:
+        return frames == UNKNOWN
+    return (row[0], *location(frames)) in live
 
 
 def expire(*_):
@@ -95,13 +116,12 @@ class Sources(unittest.TestCase):
             output_of(compiler, *words, "-c", "-o", objects[-1], file)
         return objects
 
-    def same_as_llvm_symbolizer(self, copy, linker):
+    def same_as_llvm_symbolizer(self, copy, linker, found):
         """llvm-symbolizer gets no .debug_aranges, because dead code in it is not marked. It also
         reports dead inlined calls, whose addresses are not marked if gold has linked. Then only the
         location and the name of the function are compared."""
         asked, reduced = list(addresses(copy)), self.folder / "reduced"
         output_of("objcopy", "--remove-section=.debug_aranges", copy, reduced)
-        found = replies([PROGRAM, "-e", copy, "--linkage", *OPTIONS], asked)
         style = ["--output-style=GNU", "--no-demangle", f"--obj={reduced}"]
         wanted = last_parts(replies(["llvm-symbolizer", *style, *OPTIONS], asked))
         symbols = values(copy)
@@ -110,16 +130,51 @@ class Sources(unittest.TestCase):
                   and not (linker == "gold" and ends(found[address]) == ends(wanted[address]))]
         self.assertEqual(differ[:5], [])
 
-    def same_as_dwarfutil(self, path, copy):
-        """llvm-dwarfutil retains rows of dead code, so their locations are not compared. The
-        program refuses its output if a unit refers to a table of addresses that was removed, as for
-        objects of gcc and for units that are dead code."""
+    def same_as_dwarfutil(self, path, found):
+        """llvm-dwarfutil retains rows of dead code. Its other rows have the location of each
+        address, and all functions agree. Only a row of dead code changes a location."""
+        asked, (live, dead) = addresses(path), map(rows_of, live_and_dead(path))
         collected = self.folder / "collected"
-        output_of(DWARFUTIL, "--garbage-collection", path, collected)
-        if output_of(PROGRAM, text=f"load app 0 {collected}\n").startswith("refused object"):
-            return
-        pairs = zip(functions(copy), functions(collected), strict=True)
-        self.assertEqual([pair for pair in pairs if pair[0] != pair[1]][:5], [])
+        for way in ("classic", "parallel"):
+            output_of(DWARFUTIL, "--garbage-collection", f"--linker={way}", path, collected)
+            rows = list(sequences(collected))
+            self.assertLessEqual(rows_of(rows), live | dead | {EMPTY})
+            kept = sorted((row for one in rows for row in one if row in live), key=by_address)
+            rest = located([kept], asked)
+            differ = [(hex(address), found[address], rest.get(address)) for address in asked
+                      if not agree_with_row(found[address], rest.get(address), live)]
+            self.assertEqual(differ[:5], [])
+            if self.is_refused(collected):
+                continue
+            all_rows, others = located(rows, asked), answers(collected, asked)
+            self.same(asked, found, others, functions)
+            differ = [address for address in asked
+                      if location(found[address]) != location(others[address])]
+            self.assertEqual({all_rows[address] for address in differ} - dead, set())
+
+    def is_refused(self, collected):
+        """Returns whether the program refuses an object. Then its unit has no table of addresses,
+        as for objects of gcc and for units that are dead code."""
+        reply = output_of(PROGRAM, text=f"load app 0 {collected}\n").rstrip()
+        refused = re.fullmatch(r"refused object \.debug_info (?:base|short) at (\d+)", reply)
+        self.assertTrue(refused or reply.startswith("loaded app "), reply)
+        self.assertFalse(refused and has_addresses(collected, int(refused[1])), reply)
+        return bool(refused)
+
+    def same_lines_as_gimli(self, path, copy, found):
+        """The addr2line of gimli reports the same line for each address of the copy. For the
+        original, it may report a line of dead code that covers the address."""
+        asked, dead = addresses(path), located(live_and_dead(path)[1], addresses(path))
+        for file, excepted in ((copy, {}), (path, dead)):
+            others = last_parts(replies([GIMLI, "-e", file, *OPTIONS], asked))
+            compared = [address for address in asked if address not in excepted]
+            self.same(compared, found, others, location)
+
+    def same(self, asked, found, others, part):
+        """Compares a part of the frames of each address with that of another reader."""
+        differ = [(hex(address), found[address], others.get(address)) for address in asked
+                  if part(found[address]) != part(others.get(address, UNKNOWN))]
+        self.assertEqual(differ[:5], [])
 
     def compare(self, files, main):
         """Compares the answers for each compiler and linker."""
@@ -132,10 +187,13 @@ class Sources(unittest.TestCase):
                     words = [*FLAGS, f"-fuse-ld={linker}", *objects, *LIBRARIES]
                     output_of(compiler, *words, "-o", path)
                     tool("mark_dropped", path, copy)
-                    has_changed = has_changed or functions(path) != functions(copy)
-                    self.same_as_llvm_symbolizer(copy, linker)
+                    found = answers(copy, addresses(copy))
+                    has_changed = has_changed or found != answers(path, addresses(path))
+                    self.same_as_llvm_symbolizer(copy, linker, found)
                     if DWARFUTIL:
-                        self.same_as_dwarfutil(path, copy)
+                        self.same_as_dwarfutil(path, found)
+                    if GIMLI:
+                        self.same_lines_as_gimli(path, copy, found)
         self.assertTrue(has_changed)
 
     @unittest.skipUnless(source("sqlite3.c"), "sqlite3.c is not in REAL_SOURCES")
