@@ -66,8 +66,8 @@ help:
 	@echo 'make growth       measures how the costs grow with the size of an object and the number of'
 	@echo '                  modules, and draws docs/growth.svg (two minutes, 1 GB in out/growth)'
 	@echo 'With ADDR2LINE_LIVE=PATH, a target that runs the program uses the built one at PATH, and does'
-	@echo 'not prove or build it. MEASURE=PATH (compare, compare-real, hostile, bench) and TESTS=PATH'
-	@echo '(memory) do the same for measure and for the tests of command_loop.'
+	@echo 'not prove or build it. MEASURE=PATH (compare, compare-real, hostile, bench, growth) and'
+	@echo 'TESTS=PATH (memory) do the same for measure and for the tests of command_loop.'
 
 # Runs the program on a stored object. The program is compiled without optimization or proof.
 try:
