@@ -1,10 +1,11 @@
 #!/usr/bin/env python3
 """Measures the time and the memory of readers and whole loads for adversarial objects.
 
-hostile.py MEASURE FOLDER [MEGABYTES] writes an object of each shape into FOLDER at a quarter, a
-half and the whole of its size, and reads each with `measure lines`, `scopes` or `module` (a whole
-load). The size is MEGABYTES, or a number of range items for objects whose scopes share lists. It
-prints a table, and fails if a cost exceeds its limit (tools/hostile_limits.py).
+hostile.py MEASURE FOLDER [MEGABYTES] writes an object of each shape at a quarter, a half and the
+whole of its size, and reads each with `measure lines`, `scopes` or `module` (a whole load). The
+objects are in a new folder in FOLDER, so runs at the same time do not disturb each other. The size
+is MEGABYTES, or a number of range items for objects whose scopes share lists. It prints a table,
+and fails if a cost exceeds its limit (tools/hostile_limits.py).
 
 Times are CPU seconds. They are compared with the load of an ordinary object, which alternates with
 the other reads. The least time of several turns counts: other work on the machine can slow a turn
@@ -14,6 +15,7 @@ import multiprocessing
 import os
 import subprocess
 import sys
+import tempfile
 from pathlib import Path
 
 from hostile_base import ordinary
@@ -83,10 +85,8 @@ def shown(command, build, limit, costs):
         f"{costs.memory / units:.1f} / {unit}", ", ".join(costs.exceeded(limit)))
 
 
-def main():
-    measure, folder = sys.argv[1], Path(sys.argv[2], "hostile")
-    megabytes = int(sys.argv[3]) if len(sys.argv) > 3 else BY_SIZE.whole // MEGABYTE
-    folder.mkdir(parents=True, exist_ok=True)
+def compare(measure, folder, megabytes):
+    """Measures each shape. Returns whether all costs are within their limits."""
     write(ordinary, BY_SIZE.whole, folder / "base")
     print(ROW.format(*COLUMNS), ROW.format(*["---"] * len(COLUMNS)), sep="\n", flush=True)
     failed = False
@@ -96,9 +96,14 @@ def main():
         costs = costs_of(measure, command, build, limit, size, folder)
         print(shown(command, build, limit, costs), flush=True)
         failed = failed or bool(costs.exceeded(limit))
-    for path in folder.iterdir():
-        path.unlink()
-    sys.exit(failed)
+    return not failed
+
+
+def main():
+    measure, parent = sys.argv[1:3]
+    megabytes = int(sys.argv[3]) if len(sys.argv) > 3 else BY_SIZE.whole // MEGABYTE
+    with tempfile.TemporaryDirectory(prefix="hostile.", dir=parent) as folder:
+        sys.exit(not compare(measure, Path(folder), megabytes))
 
 
 if __name__ == "__main__":

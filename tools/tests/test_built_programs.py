@@ -79,7 +79,7 @@ class BuiltPrograms(unittest.TestCase):
         given = self.stand_in("given", "echo stand-in; exit 3")
         status, errors, log = self.run_with("tools/hostile.sh", 1, MEASURE=given)
         self.assertEqual((status, len(log)), (1, 1), log)
-        self.assertRegex(log[0], r": given (lines|scopes|module) out/hostile/\w+$")
+        self.assertRegex(log[0], r": given (lines|scopes|module) \S*out/hostile\.\w+/\w+$")
         self.assertIn("stand-in", errors)
 
     def test_paths_of_targets(self):
