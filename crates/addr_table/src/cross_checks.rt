@@ -13,7 +13,7 @@ use dwarf_entries::{Root, Scope, ScopeKind, Scopes};
 use dwarf_lines::LineTables;
 
 /// Returns the number of files of the line program at `stmt_list`; 0 if there is no such program.
-#[tactic(auto, unfolding(crate::specs::Joins::files_at))]
+#[tactic(auto, unfolding(crate::specs::CrossChecks::files_at))]
 fn files_at(lines: &LineTables, stmt_list: Option<u64>) -> u64
     ensures { result ≡ files_at lines.now stmt_list }
 {
@@ -27,7 +27,7 @@ fn files_at(lines: &LineTables, stmt_list: Option<u64>) -> u64
 }
 
 /// Returns whether the `stmt_list` of a root is not the start of a line program.
-#[tactic(auto, unfolding(crate::specs::Joins::is_bad_root))]
+#[tactic(auto, unfolding(crate::specs::CrossChecks::is_bad_root))]
 fn is_bad_root(lines: &LineTables, root: &Root) -> bool
     ensures { result ≡ is_bad_root lines.now root.now }
 {

@@ -10,7 +10,7 @@ use Rattle.std.specs.List.{flat_map, list_all}
 use Rattle.std.specs.Io.KnownBytes.{Appends}
 use Rattle.std.proofs.lemmas.List.Concat.{flat_map_single}
 use Rattle.io_streams.proofs.StreamLemmas.{appends_then, appends_nothing}
-use Rattle.io_streams.specs.Streams.{Writes}
+use Rattle.io_streams.specs.Streams.{IsBeginning, Writes}
 use Rattle.answer_text.specs.Pending.{Put, Cut, Puts}
 
 -- an append after an append
@@ -84,9 +84,9 @@ put-sent a b h h' [] same w e =
 put-sent a b h h' (y ∷ ys) same w e = cc
 
 -- only a prefix of the buffer was written
-pub cut-sent : {E : Type 0} (a b : Option (List ℕ)) (h h' x : List ℕ) (fault : E) → h' ≡ h
-    → Writes {E = E} a b (Err fault) h' → Cut a b h x
-cut-sent a b h h' x fault same w = record {
+pub cut-sent : (a b : Option (List ℕ)) (h h' x : List ℕ) → h' ≡ h
+    → (part : List ℕ) × IsBeginning part h' × Appends a b part → Cut a b h x
+cut-sent a b h h' x same w = record {
   sent = w.0;
   begins = (
     w.1.0 ++ x,

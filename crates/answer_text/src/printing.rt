@@ -110,6 +110,21 @@ fn put_answer<W: Sink>(
     put_frames(options, answer.frames(), pending, writer)
 }
 
+/// Writes an answer through a buffer.
+fn write_answer<W: Sink>(
+    options: &Options,
+    answer: &Answer<'_>,
+    writer: &mut W,
+) -> Result<(), DeviceFault>
+    ensures bytes { Writes (W.written writer.old) (W.written writer.new) result
+        (answer_text options.now answer.now) }
+    ensures failures { W.failures writer.new ≡ failures_after (W.failures writer.old) result }
+{
+    let mut pending = Pending::new();
+    put_answer(options, answer, &mut pending, writer)?;
+    pending.send(writer)
+}
+
 /// Writes an answer, which ends with a line feed, without flushing. Allocates no memory. The only
 /// fault is `RunFault::Writing`; a prefix of the answer is written then.
 pub fn print<W: Sink>(
@@ -122,12 +137,8 @@ pub fn print<W: Sink>(
     ensures fault { IfErr result (λ fault. fault ≡ RunFault.Writing) }
     ensures failures { W.failures writer.new ≡ failures_after (W.failures writer.old) result }
 {
-    let mut pending = Pending::new();
-    if put_answer(options, answer, &mut pending, writer).is_err() {
-        return Err(RunFault::Writing);
+    match write_answer(options, answer, writer) {
+        Ok(()) => Ok(()),
+        Err(_) => Err(RunFault::Writing),
     }
-    if pending.send(writer).is_err() {
-        return Err(RunFault::Writing);
-    }
-    Ok(())
 }

@@ -5,7 +5,7 @@ use Rattle.std.specs.Prelude.{Option, None, Some, position}
 use Rattle.std.specs.Option.{option_map_or}
 use Rattle.addr_table.specs.Module.{place_in, frames_in, scan}
 use Rattle.addr_table.specs.declared.place.Place.{Place}
-use Rattle.addr_table.proofs.PlaceLaws.{scan-place}
+use Rattle.addr_table.proofs.Scanning.PlaceLaws.{scan-place}
 use Rattle.module_map.specs.World.{Loaded, holds}
 use Rattle.module_map.specs.Answers.{asked, frames_at, frames_of}
 use Rattle.module_map.specs.declared.asked.Asked.{Asked}

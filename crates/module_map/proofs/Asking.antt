@@ -19,7 +19,7 @@ use Rattle.module_map.specs.Private.Serials.{NumberedModule, loaded_of}
 use Rattle.module_map.proofs.Positions.{position_of_map}
 use Rattle.module_map.proofs.Worlds.{found_none, found_some, slice_get_map}
 use Rattle.module_map.proofs.Changing.{world_of}
-use Rattle.addr_table.proofs.StepLaws.{counted_all}
+use Rattle.addr_table.proofs.Searching.StepLaws.{counted_all}
 
 abbrev holding : ℕ → NumberedModule → Bool
 holding address h = holds address h.loaded

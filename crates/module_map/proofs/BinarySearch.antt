@@ -2,7 +2,7 @@
 use Rattle.std.proofs.Common.{◌≡◌, ℕ, zero, suc, ◌+◌, ◌^◌, ◌<◌, ◌≤◌, arith}
 use Rattle.std.proofs.Math.Nat.{two-pow-succ}
 use Rattle.addr_table.specs.Steps.{bits}
-use Rattle.addr_table.proofs.StepLaws.{below-bits}
+use Rattle.addr_table.proofs.Searching.StepLaws.{below-bits}
 
 -- after some steps in an interval of length whole, length left remains
 pub record Halved (whole left used : ℕ) : Type 0 where

@@ -5,7 +5,7 @@ use Rattle.std.specs.Prelude.{None, Some, position, nat_lt, nat_le, ◌&&◌}
 use Rattle.std.proofs.lemmas.Bool.{ltb-true, lt-ltb, le-leb, leb-true, cases_lt}
 use Rattle.addr_table.specs.Steps.{bits, counted}
 use Rattle.addr_table.specs.declared.steps.Steps.{Steps}
-use Rattle.addr_table.proofs.StepLaws.{counted-one}
+use Rattle.addr_table.proofs.Searching.StepLaws.{counted-one}
 use Rattle.module_map.specs.World.{start_of, end_of, holds}
 use Rattle.module_map.specs.Private.Serials.{NumberedModule}
 use Rattle.module_map.specs.Private.Rising.{AreRising, CountsStarted}

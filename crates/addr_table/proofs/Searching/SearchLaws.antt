@@ -207,12 +207,12 @@ segment-past segments a n seg e r h started some to is past =
     subst P (sym same) (subst Q (sym here) (subst R to past)))
 
 pub segment-found : (segments : List Segment) (a n : ℕ) (seg e : Segment) (r : ℕ)
-    (row scope : Option ℕ) (place_of : Option Place)
+    (row scope : Option ℕ) (placed : Option Place)
     → AreDisjoint segments → CountsStarted segments a n → 0 < n
     → r ≡ seg.to → row ≡ seg.row → scope ≡ seg.scope
     → seg ≡ get_or segments (n - 1) e → a < r
-    → place_of ≡ place_of row scope a → place_of ≡ place_among segments a
-segment-found segments a n seg e r row scope place_of h started some to row_is scope_is is inside
+    → placed ≡ place_of row scope a → placed ≡ place_among segments a
+segment-found segments a n seg e r row scope placed h started some to row_is scope_is is inside
     placed_is =
     let within : n ≤ length segments = started.within in
     let here : get_or segments (n - 1) no_cut ≡ seg =

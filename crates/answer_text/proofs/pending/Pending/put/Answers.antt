@@ -1,7 +1,7 @@
-use Rattle.std.proofs.Common.{◌∙◌}
+use Rattle.std.proofs.Common.{◌∙◌, []}
 use Rattle.std.proofs.lemmas.Result.{err_from_is_err_and}
 use Rattle.answer_text.proofs.PendingLemmas.{put-fitting, same-buffer, put-sent, cut-sent}
-use Rattle.answer_text.proofs.PendingLemmas.{puts-after, puts-through}
+use Rattle.answer_text.proofs.PendingLemmas.{put-then, puts-after, puts-through}
 use Rattle.answer_text.proofs.pending.Pending.put.Goals as goal
 
 pub returns-then-push-clause-bytes : goal.returns-then-push-clause-bytes
@@ -10,12 +10,12 @@ returns-then-push-clause-bytes g c = put-fitting _ _ _ _ _ c.if-push.true c.push
 pub returns-in_err-send-clause-bytes : goal.returns-in_err-send-clause-bytes
 returns-in_err-send-clause-bytes g c =
     let p = err_from_is_err_and c.from_residual.result c.from_residual.ensures.1 in
-    rw (p.1) (cut-sent _ _ _ _ _ _ (same-buffer _ _ _ _ c.if-push.false c.push.ensures)
+    rw (p.1) (cut-sent _ _ _ _ _ (same-buffer _ _ _ _ c.if-push.false c.push.ensures)
     c.in_err-send.ensures.bytes)
 
 pub returns-then-push-2-clause-bytes : goal.returns-then-push-2-clause-bytes
 returns-then-push-2-clause-bytes g c =
-    puts-after _ _ _ _ _ _ _ _
+    put-then _ _ _ _ _ _ [] c.args.text.now
     (put-sent _ _ _ _ _ (same-buffer _ _ _ _ c.if-push.false c.push.ensures)
     c.in_ok-send.ensures.bytes c.in_ok-send.ensures.empty)
     (put-fitting _ _ _ _ _ c.if-push-2.true c.push-2.ensures)

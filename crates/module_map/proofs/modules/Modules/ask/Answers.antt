@@ -5,7 +5,7 @@ use Rattle.module_map.specs.Counts.{TakesCompares}
 use Rattle.module_map.proofs.Serials.{sound-kept}
 use Rattle.module_map.proofs.Asking.{in-list, begins-by, asked-none, asked-some, takes-none}
 use Rattle.module_map.proofs.Asking.{takes-some}
-use Rattle.addr_table.proofs.StepLaws.{counted-decoded}
+use Rattle.addr_table.proofs.Searching.StepLaws.{counted-decoded}
 use Rattle.module_map.proofs.modules.Modules.ask.Goals as goal
 
 -- a placeholder entry for a clause about an index past the end

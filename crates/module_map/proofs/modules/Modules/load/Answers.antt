@@ -1,7 +1,7 @@
 use Rattle.std.proofs.Common.{◌≡◌, sym, ap, subst, false}
 use Rattle.module_map.specs.Changes.{is_taken, is_full}
 use Rattle.module_map.proofs.Loading.{SomeLoad, name_taken, full, not_decoded, added-bytes}
-use Rattle.addr_table.proofs.FaultLaws.{well-formed-faultless}
+use Rattle.addr_table.proofs.Decoding.FaultLaws.{well-formed-faultless}
 use Rattle.module_map.proofs.modules.Modules.load.Goals as goal
 
 pub returns-then-is_taken-clause-step : goal.returns-then-is_taken-clause-step

@@ -13,9 +13,9 @@ use Rattle.module_map.proofs.sorted.SortedModules.free_index.Goals.{else-next-le
 
 -- the last module that starts at or before the low end ends there or before, unless it is ignored
 last_ends : (c : After-next_index-next) (at : ℕ) (d : NumberedModule)
-    → at + 1 ≡ c.started-count_started.result → IsOther c.args.own at
+    → at + 1 ≡ c.count_started-started.result → IsOther c.args.own at
     → end_of (get_or c.args.self.now at d).loaded ≤ c.args.extent.low
-last_ends c at d last other = let same : at ≡ c.started-count_started.result - 1 = omega arith in
+last_ends c at d last other = let same : at ≡ c.count_started-started.result - 1 = omega arith in
     elim c.else-started-gt0.branch [
       | else-started-gt0-via-then-started-gt0+then-started-own+else-end-extent w ↦ let ends =
           w.if-end-extent.false in rw (same, ← w.end.ensures d) ends
@@ -26,13 +26,13 @@ last_ends c at d last other = let same : at ≡ c.started-count_started.result -
     ]
 
 next_is : (c : After-next_index-next) → IsNext c.args.own (length c.args.self.now)
-    c.started-count_started.result c.next_index-next.result
-next_is c = subst (λ n. IsNext c.args.own n c.started-count_started.result c.next_index-next.result)
+    c.count_started-started.result c.next_index-next.result
+next_is c = subst (λ n. IsNext c.args.own n c.count_started-started.result c.next_index-next.result)
     c.len-len.ensures c.next_index-next.ensures
 
 pub returns-then-end-extent : goal.returns-then-end-extent
 returns-then-end-extent c = let ends = c.if-end-extent.true in
-    met_last _ _ _ _ _ (subst AreRising c.self.view_is c.self.invariant) c.started-count_started.ensures.started
+    met_last _ _ _ _ _ (subst AreRising c.self.view_is c.self.invariant) c.count_started-started.ensures.started
     c.requires _ (omega (arith, c.if-started-gt0.true)) c.if-started-own.true
     (λ d. rw (← c.end.ensures d) ends)
 
@@ -40,14 +40,14 @@ pub returns-then-start-extent : goal.returns-then-start-extent
 returns-then-start-extent c =
     let a = (goal.at.returns-then-start-extent c).After-next_index-next in
     let begins = c.if-start-extent.true in
-    met_next _ _ _ _ _ (subst AreRising c.self.view_is c.self.invariant) c.started-count_started.ensures.started
+    met_next _ _ _ _ _ (subst AreRising c.self.view_is c.self.invariant) c.count_started-started.ensures.started
     c.requires (last_ends a) _ (next_is a) (omega arith) (λ d. rw (← c.start.ensures d) begins)
 
 pub returns : goal.returns
 returns c =
     let a = (goal.at.returns c).After-next_index-next in
     clear_all _ _ _ _ _ (subst AreRising c.self.view_is c.self.invariant)
-    c.started-count_started.ensures.started c.requires (last_ends a) _ (next_is a)
+    c.count_started-started.ensures.started c.requires (last_ends a) _ (next_is a)
     (λ lt d. elim c.else-next-len.branch [
       | else-next-len-via-then-next-len+else-start-extent w ↦ let from = w.if-start-extent.false in
           rw (← w.start.ensures d) from
