@@ -4,7 +4,7 @@ use Rattle.std.specs.Prelude.{◌≡◌, ℕ, List, Bool, false, not, ◌&&◌, 
 use Rattle.std.specs.Prelude.{is_none, slice_range}
 use Rattle.std.specs.Option.{option_map_or, option_and_then}
 use Rattle.dwarf_bytes.specs.Bind.{◌>>=◌}
-use Rattle.dwarf_bytes.specs.Items.{At, refuse_if, told_at, each}
+use Rattle.dwarf_bytes.specs.Items.{At, refuse_if, with_offset, each}
 use Rattle.dwarf_bytes.specs.declared.fault.Cause.TheVariants as causes
 use Rattle.dwarf_bytes.specs.declared.fault.Section.TheVariants as names
 use Rattle.dwarf_bytes.specs.declared.fault.LoadFault.{LoadFault}
@@ -34,10 +34,10 @@ unfoldable pub is_bad_scope : Lines → Scope → Bool
 is_bad_scope lines s = is_kind Inlined s.kind && is_bad_call lines s.call_file s.stmt_list
 
 abbrev pub check_root : Lines → Root → Result (Unit {0}) At
-check_root lines root = told_at root.offset (refuse_if (is_bad_root lines root) causes.StmtList)
+check_root lines root = with_offset root.offset (refuse_if (is_bad_root lines root) causes.StmtList)
 
 abbrev pub check_scope : Lines → Scope → Result (Unit {0}) At
-check_scope lines s = told_at s.offset (refuse_if (is_bad_scope lines s) causes.CallFile)
+check_scope lines s = with_offset s.offset (refuse_if (is_bad_scope lines s) causes.CallFile)
 
 -- checks a root, and then each scope of its unit
 abbrev pub check_unit : Lines → List Scope → Root → Result (List (Unit {0})) At

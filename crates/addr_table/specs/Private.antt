@@ -3,7 +3,7 @@ pub mod Bits
 pub mod Buckets
 pub mod Digits
 pub mod EndLists
-pub mod Kept
+pub mod Decoded
 pub mod Merged
 pub mod Parents
 pub mod RowOrder

@@ -3,7 +3,7 @@
 ghost use Rattle.std.specs.Prelude.{◌≡◌, ◌≤◌, ◌<◌, slice_range, length};
 ghost use Rattle.dwarf_bytes.specs.Items.{each};
 ghost use Rattle.dwarf_entries.specs.Scopes.{Scope as ScopeSeen};
-ghost use Rattle.dwarf_entries.specs.Order.{AreInOrder, TellsOf};
+ghost use Rattle.dwarf_entries.specs.Order.{AreInOrder, HasDataOf};
 ghost use Rattle.addr_table.specs.CrossChecks.{files_at, is_bad_root, is_bad_call, is_bad_scope};
 ghost use Rattle.addr_table.specs.CrossChecks.{check_scope, check_unit, cross_checks_of, RefusesAs};
 
@@ -49,7 +49,7 @@ fn is_bad_call(lines: &LineTables, call_file: Option<u64>, stmt_list: Option<u64
 
 /// Returns whether a scope is an inlined subroutine with an invalid call file.
 fn is_bad_scope(lines: &LineTables, scopes: &Scopes, scope: &Scope) -> bool
-    ensures { (s : ScopeSeen) → TellsOf scopes.now.scopes scope.now s →
+    ensures { (s : ScopeSeen) → HasDataOf scopes.now.scopes scope.now s →
         result ≡ is_bad_scope lines.now s }
 {
     match scope.kind() {
@@ -73,7 +73,7 @@ fn check_scopes(
         let scope = scope_at(scopes, number);
         if is_bad_scope(lines, scopes, scope) {
             let at = scope.offset() as u64;
-            return Err(LoadFault::told(Section::DebugInfo, Cause::CallFile, at));
+            return Err(LoadFault::at_item(Section::DebugInfo, Cause::CallFile, at));
         }
     }
     Ok(())
@@ -86,7 +86,7 @@ fn check_unit(lines: &LineTables, scopes: &Scopes, root: &Root) -> Result<(), Lo
 {
     if is_bad_root(lines, root) {
         let at = root.offset as u64;
-        return Err(LoadFault::told(Section::DebugInfo, Cause::StmtList, at));
+        return Err(LoadFault::at_item(Section::DebugInfo, Cause::StmtList, at));
     }
     check_scopes(lines, scopes, root.first, root.past)
 }

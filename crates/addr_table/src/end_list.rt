@@ -44,12 +44,12 @@ fn end_of(low: LowEnd) -> End
 }
 
 impl EndList {
-    /// Creates an empty list with capacity for `room` endpoints at addresses below 2^32.
-    pub(crate) fn new(alloc: Global, room: usize) -> Result<EndList, AllocError>
+    /// Creates an empty list with `capacity` for endpoints at addresses below 2^32.
+    pub(crate) fn new(alloc: Global, capacity: usize) -> Result<EndList, AllocError>
         ensures { IfOk result (λ list. list ≡ []) }
     {
         Ok(EndList {
-            low: Vec::with_capacity(alloc, room)?,
+            low: Vec::with_capacity(alloc, capacity)?,
             high: Vec::new(alloc),
         })
     }

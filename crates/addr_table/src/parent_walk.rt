@@ -56,7 +56,7 @@ pub(crate) fn next_in_chain(
     ensures chain { chain_around link scopes.now.scopes result
         ≡ chain_around link scopes.now.scopes near }
     ensures ends { EndsAt link scopes.now.scopes result top }
-    ensures told { IsInChain link scopes.now.scopes result top }
+    ensures returned { IsInChain link scopes.now.scopes result top }
 {
     let mut near = near;
     while near > 0 {

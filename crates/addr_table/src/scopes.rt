@@ -2,7 +2,7 @@
 
 ghost use Rattle.std.specs.Prelude.{◌≡◌, ◌<◌, ◌^◌, length, get_or};
 ghost use Rattle.dwarf_entries.specs.Scopes.{Scope as ScopeSeen};
-ghost use Rattle.dwarf_entries.specs.Order.{AreInOrder, TellsOf};
+ghost use Rattle.dwarf_entries.specs.Order.{AreInOrder, HasDataOf};
 
 use dwarf_entries::{Scope, Scopes};
 
@@ -18,7 +18,7 @@ pub(crate) fn count(scopes: &Scopes) -> usize
 pub(crate) fn scope_at(scopes: &Scopes, number: usize) -> &Scope
     requires order { AreInOrder scopes.now.scopes }
     requires within { number < length scopes.now.scopes }
-    ensures { (d : ScopeSeen) → TellsOf scopes.now.scopes result.now
+    ensures { (d : ScopeSeen) → HasDataOf scopes.now.scopes result.now
         (get_or scopes.now.scopes number d) }
 {
     &scopes.scopes()[number]

@@ -71,7 +71,7 @@ const ABBREV: [u8; 29] = [
 ];
 
 #[test]
-fn units_are_judged_one_after_the_other(rt: HostRuntime) {
+fn units_are_validated_in_order(rt: HostRuntime) {
     // a unit with an invalid call file, followed by a unit without a line program
     let mut info = Vec::new(rt.alloc());
     add_unit(&rt, &mut info, &[1, 0, 0, 0, 0, 2, b'f', 0, 3, 9, 0, 0]);
@@ -88,7 +88,7 @@ fn units_are_judged_one_after_the_other(rt: HostRuntime) {
 }
 
 #[test]
-fn a_call_file_of_a_subprogram_is_not_judged(rt: HostRuntime) {
+fn a_call_file_of_a_subprogram_is_not_checked(rt: HostRuntime) {
     let mut info = Vec::new(rt.alloc());
     add_unit(&rt, &mut info, &[1, 0, 0, 0, 0, 4, 9, 0]);
     let parts = Parts {
@@ -109,7 +109,11 @@ fn out_of_memory_is_the_only_other_answer(rt: HostRuntime) -> Result<(), Fail> {
     match Module::decode(rt.alloc(), bytes) {
         Ok(module) => are_equal(&rt, module.segments().list().len(), 4),
         Err((back, fault)) => {
-            are_equal(&rt, fault, LoadFault::told(Section::Elf, Cause::Memory, 0));
+            are_equal(
+                &rt,
+                fault,
+                LoadFault::at_item(Section::Elf, Cause::Memory, 0),
+            );
             are_equal(&rt, back.as_slice(), inlined().as_slice());
         }
     }

@@ -6,8 +6,8 @@ use std::process::Abort;
 use std::test::*;
 
 /// Checks that both values are equal.
-pub fn are_equal<T: Copy + Debug + PartialEq>(rt: &impl Abort, told: T, wanted: T) {
-    assert_eq!(rt; told, wanted);
+pub fn are_equal<T: Copy + Debug + PartialEq>(rt: &impl Abort, actual: T, wanted: T) {
+    assert_eq!(rt; actual, wanted);
 }
 
 /// Checks that a number is from `least` to `most`, inclusive.
@@ -175,8 +175,8 @@ fn is_frame(rt: &impl Abort, frame: Frame<'_>, expected: &Expected) {
     let (name, path, line) = *expected;
     are_equal(rt, (frame.name(), frame.line()), (name, line));
     are_equal(rt, frame.path().is_some(), path.is_some());
-    if let (Some(told), Some(path)) = (frame.path(), path) {
-        is_path(rt, told, path);
+    if let (Some(actual), Some(path)) = (frame.path(), path) {
+        is_path(rt, actual, path);
     }
 }
 
@@ -199,8 +199,8 @@ fn is_site(rt: &impl Abort, site: Site<'_>, expected: &[Expected]) {
         None => (None, 0),
     };
     are_equal(rt, (site.path.is_some(), site.line), (path.is_some(), line));
-    if let (Some(told), Some(path)) = (site.path, path) {
-        is_path(rt, told, path);
+    if let (Some(actual), Some(path)) = (site.path, path) {
+        is_path(rt, actual, path);
     }
 }
 
@@ -214,7 +214,7 @@ pub fn answers(rt: &impl Abort, module: &Module, link: u64, expected: &[Expected
 }
 
 /// Checks that the segments and a linear scan give the same place of an address.
-pub fn tells_the_same(rt: &impl Abort, module: &Module, link: u64) {
+pub fn agrees_with_scan(rt: &impl Abort, module: &Module, link: u64) {
     let scanned = module.scan().find(link, &mut Steps::default());
     let searched = module.segments().find(link, &mut Steps::default());
     are_equal(rt, (link, searched), (link, scanned));

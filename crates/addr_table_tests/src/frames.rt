@@ -73,7 +73,7 @@ fn two_ranges_of_a_scope_that_overlap(rt: HostRuntime) {
     answers(&rt, &module, 0x100c, &[(None, Some(b"/src/a.c"), 11)]);
     are_equal(&rt, linkage(&module, 0x1009), Some(b"gh".as_slice()));
     for link in 0xffe..0x1012 {
-        tells_the_same(&rt, &module, link);
+        agrees_with_scan(&rt, &module, link);
     }
 }
 

@@ -4,8 +4,6 @@
 #[cfg(test)]
 mod changed_bytes;
 #[cfg(test)]
-mod cuts;
-#[cfg(test)]
 mod faults;
 #[cfg(test)]
 mod fixtures;
@@ -19,3 +17,5 @@ mod plain_scan;
 mod samples;
 #[cfg(test)]
 mod segments;
+#[cfg(test)]
+mod truncated;

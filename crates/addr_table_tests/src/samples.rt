@@ -93,22 +93,22 @@ fn are_parts(rt: &impl Abort, path: Path<'_>) {
 }
 
 /// Checks that the segments and a linear scan of an object give the same place of each address.
-fn tell_the_same(rt: &(impl Abort + AllocGlobal), object: &[u8]) {
+fn agree_with_scan(rt: &(impl Abort + AllocGlobal), object: &[u8]) {
     let module = sample(rt, object);
     for link in 0xff0..0x1021 {
-        tells_the_same(rt, &module, link);
+        agrees_with_scan(rt, &module, link);
     }
-    tells_the_same(rt, &module, 0);
-    tells_the_same(rt, &module, u64::MAX);
+    agrees_with_scan(rt, &module, 0);
+    agrees_with_scan(rt, &module, u64::MAX);
 }
 
 #[test]
-fn segments_and_scan_tell_the_same_places(rt: HostRuntime) {
-    tell_the_same(&rt, inlined());
-    tell_the_same(&rt, two_sequences());
-    tell_the_same(&rt, &leaf_without_code());
-    tell_the_same(&rt, &dropped_main());
-    tell_the_same(&rt, &dropped_mid());
-    tell_the_same(&rt, &dropped_sequence());
-    tell_the_same(&rt, &without_entries());
+fn segments_and_scan_return_the_same_places(rt: HostRuntime) {
+    agree_with_scan(&rt, inlined());
+    agree_with_scan(&rt, two_sequences());
+    agree_with_scan(&rt, &leaf_without_code());
+    agree_with_scan(&rt, &dropped_main());
+    agree_with_scan(&rt, &dropped_mid());
+    agree_with_scan(&rt, &dropped_sequence());
+    agree_with_scan(&rt, &without_entries());
 }

@@ -10,7 +10,7 @@ use Rattle.std.proofs.lemmas.List.Sums.{suffix_len-le-length, suffix_len_is}
 use Rattle.std.proofs.lemmas.List.{take_rest}
 use Rattle.std.proofs.Math.Seq.{drop-append-add}
 use Rattle.bstr.specs.Find.{IsLastByte, is_byte}
-use Rattle.answer_text.specs.Printable.{printable, known_text}
+use Rattle.answer_text.specs.Printable.{printable, text_or_unknown}
 use Rattle.answer_text.specs.Text.{base_name}
 use Rattle.answer_text.specs.Private.Paths.{last_or, after_slash}
 
@@ -25,7 +25,8 @@ prefix-before [] back = refl
 prefix-before (byte ∷ front) back = ap (λ (n : ℕ). cond (is_other byte) (1 + n) 0)
     (prefix-before front back)
 
-reverse-join : (part rest : List ℕ) → reverse (part ++ 47 ∷ rest) ≡ reverse rest ++ 47 ∷ reverse part
+reverse-join : (part rest : List ℕ) → reverse (part ++ 47 ∷ rest) ≡ reverse rest ++ 47
+    ∷ reverse part
 reverse-join part rest =
     reverse-append part (47 ∷ rest) ∙ ap (λ (z : List ℕ). z ++ reverse part)
     (reverse-append (47 ∷ []) rest)
@@ -34,7 +35,8 @@ reverse-join part rest =
 base_after : (part rest : List ℕ) → base_name (part ++ 47 ∷ rest) ≡ base_name rest
 base_after part rest =
     let same : suffix_len is_other (part ++ 47 ∷ rest) ≡ suffix_len is_other rest =
-    ap (prefix_len is_other) (reverse-join part rest) ∙ prefix-before (reverse rest) (reverse part) in
+    ap (prefix_len is_other) (reverse-join part rest) ∙ prefix-before (reverse rest)
+    (reverse part) in
     let glued : part ++ 47 ∷ rest ≡ (part ++ 47 ∷ []) ++ rest =
     sym (append_assoc part (47 ∷ []) rest) in
     let far : length (part ++ 47 ∷ rest) - suffix_len is_other (part ++ 47 ∷ rest)
@@ -104,7 +106,7 @@ printed-join part (next ∷ parts) =
 -- a path whose first part is nonempty
 pub known-join : (part : List ℕ) (parts : List (List ℕ)) → part ≢ []
     → map printable part ++ flat_map after_slash parts
-    ≡ known_text (Some (join_with_byte 47 (part ∷ parts)))
+    ≡ text_or_unknown (Some (join_with_byte 47 (part ∷ parts)))
 known-join [] parts ne = absurd (ne refl)
 known-join (byte ∷ bytes) [] ne = printed-join (byte ∷ bytes) []
 known-join (byte ∷ bytes) (next ∷ parts) ne = printed-join (byte ∷ bytes) (next ∷ parts)
@@ -112,13 +114,13 @@ known-join (byte ∷ bytes) (next ∷ parts) ne = printed-join (byte ∷ bytes) 
 -- a path whose first part is empty
 pub known-after-empty : (part : List ℕ) (parts : List (List ℕ))
     → after_slash part ++ flat_map after_slash parts
-    ≡ known_text (Some (join_with_byte 47 ([] ∷ part ∷ parts)))
+    ≡ text_or_unknown (Some (join_with_byte 47 ([] ∷ part ∷ parts)))
 known-after-empty part parts = ap (λ (z : List ℕ). 47 ∷ z) (printed-join part parts)
 
 -- ---- the remaining parts of a path
 
 abbrev pub path_text : List (List ℕ) → List ℕ
-path_text parts = known_text (Some (join_with_byte 47 parts))
+path_text parts = text_or_unknown (Some (join_with_byte 47 parts))
 
 pub first-known : (all rest : List (List ℕ)) (part : List ℕ) → all ≡ part ∷ rest → part ≢ []
     → map printable part ++ flat_map after_slash rest ≡ path_text all

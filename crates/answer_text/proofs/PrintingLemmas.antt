@@ -5,7 +5,7 @@ use Rattle.std.proofs.lemmas.Fmt.{decimal_digit}
 use Rattle.std.specs.Prelude.{Option, None, Result, Ok, Err, flat_map, if◌then◌else◌}
 use Rattle.answer_text.specs.Pending.{Put, Cut, Puts}
 use Rattle.addr_table.specs.Frames.{Frame, Site, first_site}
-use Rattle.answer_text.specs.Printable.{known_text}
+use Rattle.answer_text.specs.Printable.{text_or_unknown}
 use Rattle.answer_text.specs.Text.{frame_text, later_text, frames_text, nothing_text, name_text}
 use Rattle.answer_text.specs.Text.{name_of, after_name, heading_text}
 use Rattle.answer_text.specs.Text.{after_address, file_of, place_text}
@@ -14,23 +14,25 @@ use Rattle.io_streams.specs.declared.options.Options.{Options}
 use Rattle.answer_text.proofs.PendingLemmas.{cut-more, puts-then, cut-as, put-as, puts-as}
 
 pub cut-known : (a b : Option (List ℕ)) (h : List ℕ) (t t' : Option (List ℕ)) (rest : List ℕ)
-    → t ≡ t' → Cut a b h (known_text t)
-    → Cut a b h (known_text t' ++ rest)
-cut-known a b h t t' rest e p = subst (λ (x : Option (List ℕ)). Cut a b h (known_text x ++ rest)) e
-    (cut-more a b h (known_text t) rest p)
+    → t ≡ t' → Cut a b h (text_or_unknown t)
+    → Cut a b h (text_or_unknown t' ++ rest)
+cut-known a b h t t' rest e p = subst (λ (x : Option (List ℕ)). Cut a b h (text_or_unknown x
+    ++ rest)) e
+    (cut-more a b h (text_or_unknown t) rest p)
 
 pub puts-known : {E : Type 0} (a b c : Option (List ℕ)) (h h' h'' : List ℕ) (t t' : Option (List ℕ))
     (y y' : List ℕ)
     (r : Result (Unit {0}) E) → t ≡ t' → y ≡ y'
-    → Put a b h h' (known_text t) → Puts b c h' h'' r y → Puts a c h h'' r (known_text t' ++ y')
+    → Put a b h h' (text_or_unknown t) → Puts b c h' h'' r y → Puts a c h h'' r (text_or_unknown t'
+    ++ y')
 puts-known {E} a b c h h' h'' t t' y y' r e f p q =
-    subst (λ (x : Option (List ℕ)). Puts a c h h'' r (known_text x ++ y')) e
-    (subst (λ (z : List ℕ). Puts a c h h'' r (known_text t ++ z)) f
-    (puts-then a b c h h' h'' (known_text t) y r p q))
+    subst (λ (x : Option (List ℕ)). Puts a c h h'' r (text_or_unknown x ++ y')) e
+    (subst (λ (z : List ℕ). Puts a c h h'' r (text_or_unknown t ++ z)) f
+    (puts-then a b c h h' h'' (text_or_unknown t) y r p q))
 
 -- the name, if names are requested
 pub named-text : (options : Options) (frame : Frame) → options.functions ≡ true
-    → known_text (name_of options frame) ++ after_name options ≡ name_text options frame
+    → text_or_unknown (name_of options frame) ++ after_name options ≡ name_text options frame
 named-text options frame e = rw e refl
 
 -- the first string replaced by an equal one, and the output after it
@@ -46,7 +48,8 @@ puts-first a b c h h' h'' x y rest r e p q =
 
 pub cut-named : (a b : Option (List ℕ)) (h : List ℕ) (options : Options) (frame : Frame)
     (t : Option (List ℕ)) → options.functions ≡ true
-    → t ≡ name_of options frame → Cut a b h (known_text t) → Cut a b h (name_text options frame)
+    → t ≡ name_of options frame → Cut a b h (text_or_unknown t)
+    → Cut a b h (name_text options frame)
 cut-named a b h options frame t on e p =
     cut-as a b h _ _ (named-text options frame on)
     (cut-known a b h t (name_of options frame) (after_name options) e p)
@@ -54,7 +57,7 @@ cut-named a b h options frame t on e p =
 pub puts-named : {E : Type 0} (a b c : Option (List ℕ)) (h h' h'' : List ℕ) (options : Options)
     (frame : Frame) (t : Option (List ℕ))
     (y : List ℕ) (r : Result (Unit {0}) E) → options.functions ≡ true
-    → t ≡ name_of options frame → y ≡ after_name options → Put a b h h' (known_text t)
+    → t ≡ name_of options frame → y ≡ after_name options → Put a b h h' (text_or_unknown t)
     → Puts b c h' h'' r y
     → Puts a c h h'' r (name_text options frame)
 puts-named a b c h h' h'' options frame t y r on e f p q =

@@ -5,7 +5,7 @@ use Rattle.std.specs.List.{after_last}
 use Rattle.std.specs.Option.{option_or}
 use Rattle.addr_table.specs.Frames.{Frame}
 use Rattle.module_map.specs.Answers.{Answered}
-use Rattle.answer_text.specs.Printable.{known_text}
+use Rattle.answer_text.specs.Printable.{text_or_unknown}
 use Rattle.answer_text.specs.Numerals.{address_text}
 use Rattle.io_streams.specs.declared.options.Options.{Options}
 
@@ -27,10 +27,11 @@ after_name options = if options.pretty then codes " at " else codes "\n"
 
 abbrev pub name_text : Options → Frame → List ℕ
 name_text options frame =
-    if options.functions then known_text (name_of options frame) ++ after_name options else []
+    if options.functions then text_or_unknown (name_of options frame) ++ after_name options else []
 
 abbrev pub place_text : Options → Option (List ℕ) → ℕ → List ℕ
-place_text options path line = known_text (file_of options path) ++ (58 ∷ decimal line ++ 10 ∷ [])
+place_text options path line = text_or_unknown (file_of options path) ++ (58 ∷ decimal line
+    ++ 10 ∷ [])
 
 abbrev pub frame_text : Options → Frame → List ℕ
 frame_text options frame = name_text options frame ++ place_text options frame.path frame.line

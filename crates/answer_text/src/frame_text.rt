@@ -4,7 +4,7 @@ ghost use Rattle.std.specs.Prelude.{◌≡◌, ◌++◌, ◌∷◌, [], List, op
 ghost use Rattle.std.specs.List.{join_with_byte};
 ghost use Rattle.io_streams.specs.Streams.{failures_after};
 ghost use Rattle.answer_text.specs.Pending.{Puts};
-ghost use Rattle.answer_text.specs.Printable.{known_text};
+ghost use Rattle.answer_text.specs.Printable.{text_or_unknown};
 ghost use Rattle.answer_text.specs.Private.Paths.{borrowed_text};
 ghost use Rattle.answer_text.specs.Text.{name_of, file_of, after_name, before_later, name_text};
 ghost use Rattle.answer_text.specs.Text.{place_text, frame_text, later_text};
@@ -58,7 +58,7 @@ fn put_name<W: Sink>(
     if !options.functions {
         return pending.put(b"", writer);
     }
-    pending.put_known(printed_name(options, frame), writer)?;
+    pending.put_or_unknown(printed_name(options, frame), writer)?;
     pending.put(after_name(options), writer)
 }
 
@@ -70,7 +70,7 @@ fn put_file<W: Sink>(
     writer: &mut W,
 ) -> Result<(), DeviceFault>
     ensures bytes { Puts (W.written writer.old) (W.written writer.new) pending.old pending.new
-        result (known_text (file_of options.now (option_map (join_with_byte 47) path.entry))) }
+        result (text_or_unknown (file_of options.now (option_map (join_with_byte 47) path.entry))) }
     ensures failures { W.failures writer.new ≡ failures_after (W.failures writer.old) result }
 {
     let Some(path) = path else {

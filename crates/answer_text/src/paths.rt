@@ -4,7 +4,7 @@ ghost use Rattle.std.specs.Prelude.{◌≡◌, List, ◌++◌, ◌∷◌, [], So
 ghost use Rattle.std.specs.List.{after_last, join_with_byte};
 ghost use Rattle.io_streams.specs.Streams.{failures_after};
 ghost use Rattle.answer_text.specs.Pending.{Puts};
-ghost use Rattle.answer_text.specs.Printable.{known_text};
+ghost use Rattle.answer_text.specs.Printable.{text_or_unknown};
 ghost use Rattle.answer_text.specs.Text.{base_name};
 ghost use Rattle.answer_text.specs.Private.Paths.{last_or, after_slash};
 
@@ -42,10 +42,10 @@ pub fn put_base_name<W: Sink>(
 ) -> Result<(), DeviceFault>
     ensures bytes { Puts (W.written writer.old) (W.written writer.new) pending.old pending.new
         result
-        (known_text (Some (base_name (join_with_byte 47 path.entry)))) }
+        (text_or_unknown (Some (base_name (join_with_byte 47 path.entry)))) }
     ensures failures { W.failures writer.new ≡ failures_after (W.failures writer.old) result }
 {
-    pending.put_known(Some(base_name(last_part(path))), writer)
+    pending.put_or_unknown(Some(base_name(last_part(path))), writer)
 }
 
 /// Appends a slash and a part.
@@ -86,7 +86,7 @@ fn put_after_empty_part<W: Sink>(
 ) -> Result<(), DeviceFault>
     ensures bytes { Puts (W.written writer.old) (W.written writer.new) pending.old pending.new
         result
-        (known_text (Some (join_with_byte 47 ([] ∷ path.entry)))) }
+        (text_or_unknown (Some (join_with_byte 47 ([] ∷ path.entry)))) }
     ensures failures { W.failures writer.new ≡ failures_after (W.failures writer.old) result }
 {
     let Some(part) = path.next() else {
@@ -104,7 +104,7 @@ pub fn put_path<W: Sink>(
 ) -> Result<(), DeviceFault>
     ensures bytes { Puts (W.written writer.old) (W.written writer.new) pending.old pending.new
         result
-        (known_text (Some (join_with_byte 47 path.entry))) }
+        (text_or_unknown (Some (join_with_byte 47 path.entry))) }
     ensures failures { W.failures writer.new ≡ failures_after (W.failures writer.old) result }
 {
     let Some(part) = path.next() else {

@@ -5,7 +5,7 @@ ghost use Rattle.std.specs.Prelude.{if◌then◌else◌};
 ghost use Rattle.std.specs.List.{list_all};
 ghost use Rattle.io_streams.specs.Streams.{Writes, failures_after};
 ghost use Rattle.answer_text.specs.Pending.{Puts};
-ghost use Rattle.answer_text.specs.Printable.{is_control, printable, known_text};
+ghost use Rattle.answer_text.specs.Printable.{is_control, printable, text_or_unknown};
 ghost use Rattle.answer_text.specs.Private.Paths.{borrowed_text};
 
 use arrayvec::ArrayVec;
@@ -152,13 +152,13 @@ impl Pending {
     }
 
     /// Appends a string, or `??` if it is missing or empty.
-    pub fn put_known<W: Sink>(
+    pub fn put_or_unknown<W: Sink>(
         &mut self,
         text: Option<&[u8]>,
         writer: &mut W,
     ) -> Result<(), DeviceFault>
         ensures bytes { Puts (W.written writer.old) (W.written writer.new) self.old self.new result
-            (known_text (borrowed_text text.entry)) }
+            (text_or_unknown (borrowed_text text.entry)) }
         ensures failures { W.failures writer.new ≡ failures_after (W.failures writer.old) result }
     {
         let Some(text) = text else {

@@ -116,7 +116,7 @@ pub ends-badly : (options : Options) (start now : RunState) (asked : Exchanges)
     × EndsLine after b × StopsAtLine options start read asked written
 ends-badly options start now asked written a b buffer h end on =
     let w = on start h.0 h.2 in
-    let none_more : w.0 ≡ [] = nil-of-length w.0
+    let none-more : w.0 ≡ [] = nil-of-length w.0
     (omega (arith, ap length w.2, length-append w.0 w.1, ap length w.3.1)) in
     let P : List ℕ → Type 0 = λ z. Consumes a b z in
     let Q : List ℕ → Type 0 = λ z. StopsAtLine options start z asked written in (
@@ -125,7 +125,7 @@ ends-badly options start now asked written a b buffer h end on =
       subst P (sym (append-nil h.0)) h.1,
       omega arith,
       end,
-      subst Q (ap (λ (z : List ℕ). h.0 ++ z) none_more ∙ append-nil h.0) w.4,
+      subst Q (ap (λ (z : List ℕ). h.0 ++ z) none-more ∙ append-nil h.0) w.4,
     )
 
 pub failures-at-ok : {T E : Type 0} (n : ℕ) (r : Result T E) → is_err r ≡ false

@@ -47,14 +47,14 @@ pub cut_at-feed : (bytes : List ℕ) (found : Option ℕ) (end : ℕ) → found 
     → CutAtFeed bytes end
 cut_at-feed bytes None end is nowhere = cc
 cut_at-feed bytes (Some index) end is first =
-    let there : index ≡ end = some_is index end is in
+    let there : index ≡ end = some-is index end is in
     let P : ℕ → Type 0 = λ z. CutAtFeed bytes z in
     subst P there (at_place bytes index first.0.high (eqb-true (get_or bytes index 0) 10 first.1)
     (λ k lt e.
     first.0.before k (omega arith) lt (rw e refl)))
   where
-    some_is : (a b : ℕ) → Some a ≡ Some b → a ≡ b
-    some_is a b e = cc
+    some-is : (a b : ℕ) → Some a ≡ Some b → a ≡ b
+    some-is a b e = cc
 
     at_place : (bytes : List ℕ) (index : ℕ) → index < length bytes → get_or bytes index 0 ≡ 10
         → ((k : ℕ) → k < index → get_or bytes k 0 ≢ 10) → CutAtFeed bytes index
@@ -76,14 +76,14 @@ pub serves-line : (options : Options) (piece rest : List ℕ) (end : ℕ) (a b c
 serves-line options piece rest end a b c ha hb hc f s k =
     let line : List ℕ = take end rest in
     let after : List ℕ = drop (end + 1) rest in
-    let rest_is : take (length rest - (end + 1)) after ≡ after =
+    let rest-is : take (length rest - (end + 1)) after ≡ after =
     take_all (length rest - (end + 1)) after (omega (arith, length-drop (end + 1) rest)) in
     record {
       front = s.front ++ (line ++ 10 ∷ []);
       cut = s.cut ∙ ap (λ (z : List ℕ). s.front ++ z)
           (f.cut ∙ sym (append_assoc line (10 ∷ []) after))
           ∙ sym (append_assoc s.front (line ++ 10 ∷ []) after)
-          ∙ ap (λ (z : List ℕ). (s.front ++ (line ++ 10 ∷ [])) ++ z) (sym rest_is);
+          ∙ ap (λ (z : List ℕ). (s.front ++ (line ++ 10 ∷ [])) ++ z) (sym rest-is);
       reads = continues-then options a b c ha hb hc s.front (line ++ 10 ∷ []) s.reads
           (continues-then options b b c hb (longer hb line) hc line (10 ∷ [])
           (continues-bytes options b hb line f.none) k);

@@ -30,19 +30,19 @@ block_in (Bytes b) = b
 block_in content = []
 
 -- The bytes encode the content in this layout.
-abbrev pub SpellsContent : ValueLayout → Format → List ℕ → Content → Type 0
-SpellsContent (layouts.Fixed width) format bytes (Number v) = IsFixed (byte_len width) bytes v
-SpellsContent layouts.Offset format bytes (Number v) = IsFixed (offset_len format) bytes v
-SpellsContent layouts.Present format bytes (Number v) = (bytes ≡ []) × (v ≡ 1)
-SpellsContent layouts.Signed format bytes (Signed v) = IsSleb bytes v
-SpellsContent layouts.Unsigned format bytes (Number v) = IsUleb bytes v
-SpellsContent layouts.Text format bytes (Bytes text) = IsText bytes text
-SpellsContent layouts.Sixteen format bytes (Bytes block) = (length bytes ≡ 16) × (block ≡ bytes)
-SpellsContent (layouts.Block width) format bytes (Bytes block) =
+abbrev pub EncodesContent : ValueLayout → Format → List ℕ → Content → Type 0
+EncodesContent (layouts.Fixed width) format bytes (Number v) = IsFixed (byte_len width) bytes v
+EncodesContent layouts.Offset format bytes (Number v) = IsFixed (offset_len format) bytes v
+EncodesContent layouts.Present format bytes (Number v) = (bytes ≡ []) × (v ≡ 1)
+EncodesContent layouts.Signed format bytes (Signed v) = IsSleb bytes v
+EncodesContent layouts.Unsigned format bytes (Number v) = IsUleb bytes v
+EncodesContent layouts.Text format bytes (Bytes text) = IsText bytes text
+EncodesContent layouts.Sixteen format bytes (Bytes block) = (length bytes ≡ 16) × (block ≡ bytes)
+EncodesContent (layouts.Block width) format bytes (Bytes block) =
     (len : List ℕ) × (bytes ≡ len ++ block) × IsFixed (byte_len width) len (length block)
-SpellsContent layouts.LongBlock format bytes (Bytes block) =
+EncodesContent layouts.LongBlock format bytes (Bytes block) =
     (len : List ℕ) × (bytes ≡ len ++ block) × IsUleb len (length block)
-SpellsContent layout format bytes content = ⊥
+EncodesContent layout format bytes content = ⊥
 
 -- converts the value of a read into a content
 abbrev pub read_as : {X : Type 0} → (X → Content) → Result (X × ℕ) ReadFault

@@ -29,20 +29,20 @@ refuse_if true cause = Err cause
 refuse_if false cause = Ok tt
 
 -- adds the offset of the item to a fault
-abbrev pub told_at : {X : Type 0} → ℕ → Result X Cause → Result X At
-told_at at (Ok x) = Ok x
-told_at at (Err cause) = Err (cause, at)
+abbrev pub with_offset : {X : Type 0} → ℕ → Result X Cause → Result X At
+with_offset at (Ok x) = Ok x
+with_offset at (Err cause) = Err (cause, at)
 
 -- removes the offset from a fault
-abbrev pub untold : {X : Type 0} → Result X At → Result X Cause
-untold (Ok x) = Ok x
-untold (Err e) = Err e.0
+abbrev pub without_offset : {X : Type 0} → Result X At → Result X Cause
+without_offset (Ok x) = Ok x
+without_offset (Err e) = Err e.0
 
 -- The items from an offset on, and the offset after them. n is a bound on the number of steps.
 unfoldable pub items_within : {X : Type 0} → ℕ → (List X → ℕ → Result (Next X) Cause) → List X → ℕ →
     Result (List X × ℕ) At
 items_within zero step before at = Err (causes.Short, at)
-items_within (suc n) step before at = told_at at (step before at) >>= λ next.
+items_within (suc n) step before at = with_offset at (step before at) >>= λ next.
     elim next [
       | End after ↦ Ok ([], after)
       | Item x after ↦ items_within n step (before ++ x ∷ []) after

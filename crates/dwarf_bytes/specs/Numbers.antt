@@ -1,7 +1,7 @@
 -- The encodings of numbers and strings in DWARF 5. A read takes bytes and an offset into them. It
 -- returns the value and the offset after it, or a fault.
-use Rattle.std.specs.Prelude.{All, ◌≢◌, FitsSigned, int_le, int_lt, ◌&&◌, ◌==◌, position}
-use Rattle.std.specs.Prelude.{◌⊎◌, option_map, Option, ◌≡◌, ℕ, ◌+◌, ◌*◌, ◌-◌, ◌%◌, ◌^◌, ◌<◌, ◌≤◌, ℤ, pos}
+use Rattle.std.specs.Prelude.{All, ◌≢◌, FitsSigned, int_le, int_lt, ◌&&◌, ◌==◌, position, ◌⊎◌}
+use Rattle.std.specs.Prelude.{option_map, Option, ◌≡◌, ℕ, ◌+◌, ◌*◌, ◌-◌, ◌%◌, ◌^◌, ◌<◌, ◌≤◌, ℤ, pos}
 use Rattle.std.specs.Prelude.{◌-ℤ◌, List, [], ◌∷◌, ◌++◌, length, take, drop, slice_index, Bool}
 use Rattle.std.specs.Prelude.{Result, Ok, Err, nat_lt, nat_le, if◌then◌else◌}
 use Rattle.std.specs.Option.{option_map_or}
@@ -84,8 +84,8 @@ pub record IsSleb (bytes : List ℕ) (value : ℤ) : Type 0 where
   pub fits : FitsSigned w64 value
 
 -- The bytes contain no LEB128 number if they are truncated: fewer than ten, all with bit 7 set; ..
-abbrev pub IsCutLeb : List ℕ → Type 0
-IsCutLeb bytes = (length bytes < 10) × All (λ byte. 128 ≤ byte) bytes
+abbrev pub IsTruncatedLeb : List ℕ → Type 0
+IsTruncatedLeb bytes = (length bytes < 10) × All (λ byte. 128 ≤ byte) bytes
 
 -- .. or if the first ten bytes have bit 7 set; ..
 abbrev pub IsEndlessLeb : List ℕ → Type 0
@@ -107,12 +107,12 @@ abbrev pub IsOverSleb : List ℕ → Type 0
 IsOverSleb front = ¬ (FitsSigned w64 (sleb_value front))
 
 -- the bytes at the offset start with an encoding of the value, and next is the offset after it
-pub record StandsAt {X : Type 0} (Spells : List ℕ → X → Type 0) (bytes : List ℕ) (at : ℕ)
+pub record IsEncodedAt {X : Type 0} (Encodes : List ℕ → X → Type 0) (bytes : List ℕ) (at : ℕ)
     (value : X)
     (next : ℕ) : Type 0 where
   pub front : List ℕ
   pub rest : List ℕ
-  pub spelled : Spells front value
+  pub encoded : Encodes front value
   pub parts : drop at bytes ≡ front ++ rest
   pub next_is : next ≡ at + length front
 
@@ -194,8 +194,8 @@ initial_length_at bytes at = do
 
 -- The bytes contain no initial length if they are truncated: fewer than four, or fewer than twelve
 -- that start with 0xffffffff; ..
-abbrev pub IsCutLength : List ℕ → Type 0
-IsCutLength bytes =
+abbrev pub IsTruncatedLength : List ℕ → Type 0
+IsTruncatedLength bytes =
     (length bytes < 4) ⊎ ((field 4 bytes 0 ≡ 0xffffffff) × (length bytes < 12))
 
 -- .. or if the first four bytes are reserved: at least 0xfffffff0, but not 0xffffffff.

@@ -15,9 +15,9 @@ abbrev pub memory_fault : LoadFault
 memory_fault = record { section = sections.Elf; cause = causes.Memory; at = 0 }
 
 -- the reported fault of an item with this cause
-abbrev pub told : Section → Cause → ℕ → LoadFault
-told section causes.Memory at = memory_fault
-told section cause at = record { section = section; cause = cause; at = at }
+abbrev pub at_item : Section → Cause → ℕ → LoadFault
+at_item section causes.Memory at = memory_fault
+at_item section cause at = record { section = section; cause = cause; at = at }
 
 -- converts the fault of an item into a fault of its section
 abbrev pub in_section : {X : Type 0} → Section → Result X At → Result X LoadFault

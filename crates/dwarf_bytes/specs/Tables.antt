@@ -34,10 +34,10 @@ is_length Dwarf32 section start = nat_lt (field 4 section start) 0xfffffff0
 is_length Dwarf64 section start = field 4 section start == 0xffffffff
 
 -- whether a length of the 64-bit format starts there and is truncated
-abbrev pub is_cut : Format → List ℕ → ℕ → Bool
-is_cut Dwarf32 section start =
+abbrev pub is_truncated : Format → List ℕ → ℕ → Bool
+is_truncated Dwarf32 section start =
     (field 4 section start == 0xffffffff) && nat_lt (length section) (start + 12)
-is_cut Dwarf64 section start = false
+is_truncated Dwarf64 section start = false
 
 -- the offsets of the header and of its version, and the end of the table
 abbrev pub head_start : TableKind → Format → ℕ → ℕ
@@ -68,7 +68,7 @@ head_tests kind format section base =
     let version = version_place kind format base in
     let end = table_end kind format section base in
     (nat_lt base (head_len kind format) || nat_lt (length section) base, causes.Base)
-    ∷ (is_cut format section (head_start kind format base), causes.Short)
+    ∷ (is_truncated format section (head_start kind format base), causes.Short)
     ∷ (not (is_length format section (head_start kind format base)), causes.Length)
     ∷ (nat_lt (length section) end || nat_lt end base, causes.Short)
     ∷ (not (field 2 section version == 5), causes.Version)

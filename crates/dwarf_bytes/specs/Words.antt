@@ -44,7 +44,7 @@ cause_word causes.AttrForm = codes "attr-form"
 cause_word causes.TwoRoots = codes "two-roots"
 cause_word causes.TreeOpen = codes "tree-open"
 cause_word causes.TooDeep = codes "too-deep"
-cause_word causes.Text = codes "string"
+cause_word causes.String = codes "string"
 cause_word causes.Index = codes "index"
 cause_word causes.Base = codes "base"
 cause_word causes.RangeBackwards = codes "range-backwards"
@@ -71,5 +71,5 @@ cause_word causes.RangeKind = codes "range-kind"
 abbrev pub cause_of : ReadFault → Cause
 cause_of Short = causes.Short
 cause_of Leb = causes.Leb
-cause_of Unterminated = causes.Text
+cause_of Unterminated = causes.String
 cause_of Length = causes.Length

@@ -31,7 +31,7 @@ impl From<ReadFault> for Cause {
         match fault {
             ReadFault::Short => Cause::Short,
             ReadFault::Leb => Cause::Leb,
-            ReadFault::Unterminated => Cause::Text,
+            ReadFault::Unterminated => Cause::String,
             ReadFault::Length => Cause::Length,
         }
     }

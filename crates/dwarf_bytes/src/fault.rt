@@ -1,7 +1,7 @@
 //! Faults: why bytes could not be decoded, and why an object is refused.
 
 ghost use Rattle.std.specs.Prelude.{◌≡◌};
-ghost use Rattle.dwarf_bytes.specs.Refusals.{told};
+ghost use Rattle.dwarf_bytes.specs.Refusals.{at_item};
 
 use thiserror::Error;
 
@@ -91,7 +91,7 @@ pub enum Cause {
     /// An entry is deeper than 256.
     TooDeep = 24,
     /// A string starts outside its section, or has no NUL.
-    Text = 25,
+    String = 25,
     /// An index is past the end of its table.
     Index = 26,
     /// A unit has an index but no base of the table, or a range list has offsets but no base
@@ -157,8 +157,8 @@ pub(crate) const MEMORY_FAULT: LoadFault = LoadFault {
 impl LoadFault {
     /// Returns the fault of an item of a section. Out of memory is not the fault of an item: it is
     /// reported as `elf` at offset 0.
-    pub fn told(section: Section, cause: Cause, at: u64) -> LoadFault
-        ensures { result ≡ told section cause at }
+    pub fn at_item(section: Section, cause: Cause, at: u64) -> LoadFault
+        ensures { result ≡ at_item section cause at }
     {
         if cause == Cause::Memory {
             return MEMORY_FAULT;

@@ -8,7 +8,7 @@ ghost use Rattle.dwarf_bytes.specs.Elf.{is_bad_section_table, section_header, na
 ghost use Rattle.dwarf_bytes.specs.Elf.{section_item, load_items, section_items, elf_fault, layout};
 ghost use Rattle.dwarf_bytes.specs.Elf.{low, high, AreInside};
 ghost use Rattle.dwarf_bytes.specs.declared.fault.Section.TheVariants as sections;
-ghost use Rattle.dwarf_bytes.specs.Private.Extents.{extended};
+ghost use Rattle.dwarf_bytes.specs.Private.Extents.{with_program_header};
 ghost use Rattle.dwarf_bytes.specs.Private.FoundSections.{layout_of, spans_before, wanted_tests};
 
 use crate::fault::{Cause, LoadFault, Section};
@@ -81,12 +81,12 @@ fn elf(cause: Cause, at: u64) -> LoadFault
 }
 
 /// Extends the address range by one program header, or returns the fault of the header.
-fn extended(
+fn with_program_header(
     extent: Option<(u64, u64)>,
     entry: &ProgramHeader,
 ) -> Result<Option<(u64, u64)>, LoadFault>
-    ensures { MatchResult result (λ after. extended extent entry.now ≡ Ok after)
-        (λ fault. extended extent entry.now ≡ Err fault) }
+    ensures { MatchResult result (λ after. with_program_header extent entry.now ≡ Ok after)
+        (λ fault. with_program_header extent entry.now ≡ Err fault) }
 {
     if !entry.is_load() {
         return Ok(extent);
@@ -112,7 +112,7 @@ fn extent(bytes: &[u8], header: &FileHeader) -> Result<(u64, u64), LoadFault>
     let mut extent = None;
     for k in 0..usize::from(header.phnum) {
         let entry = program_header(bytes, header.phoff as usize + 56 * k);
-        extent = extended(extent, &entry)?;
+        extent = with_program_header(extent, &entry)?;
     }
     extent.ok_or(elf(Cause::NoLoad, 0))
 }
@@ -184,7 +184,7 @@ fn with_section(
         (λ fault. item_fault sections.Elf (section_item bytes.now k) ≡ Some fault) }
 {
     let entry = nth_section(bytes, header, k);
-    let Ok(number) = section_names.wanted(u64::from(entry.name)) else {
+    let Ok(number) = section_names.wanted_index(u64::from(entry.name)) else {
         return Err(elf(Cause::Table, entry.at));
     };
     let Some(number) = number else {

@@ -4,7 +4,7 @@
 ghost use Rattle.std.specs.Prelude.{◌≡◌, ◌<◌, Ok, Err, MatchResult, IfOk, IfSome, position};
 ghost use Rattle.dwarf_bytes.specs.Numbers.{text_at};
 ghost use Rattle.dwarf_bytes.specs.Words.{section_name};
-ghost use Rattle.dwarf_bytes.specs.Private.SectionNames.{EndsTexts, IsNumberAt, begins_with};
+ghost use Rattle.dwarf_bytes.specs.Private.SectionNames.{EndsStrings, IsNumberAt, begins_with};
 
 use crate::fault::{ReadFault, Section};
 use bstr::ByteSlice;
@@ -32,13 +32,13 @@ pub(crate) struct SectionNames<'a> {
 
 impl<'a> Model for SectionNames<'a> {
     ghost use Rattle.std.specs.Prelude.{ℕ, List};
-    ghost use Rattle.dwarf_bytes.specs.Private.SectionNames.{EndsTexts};
+    ghost use Rattle.dwarf_bytes.specs.Private.SectionNames.{EndsStrings};
 
     ghost Value = { List ℕ };
 
     ghost view = { λ names. names.bytes.now };
 
-    ghost invariant = { λ names. EndsTexts names.bytes.now names.end };
+    ghost invariant = { λ names. EndsStrings names.bytes.now names.end };
 }
 
 impl<'a> SectionNames<'a> {
@@ -47,13 +47,13 @@ impl<'a> SectionNames<'a> {
     {
         SectionNames {
             bytes,
-            end: texts_end(bytes),
+            end: strings_end(bytes),
         }
     }
 
     /// Returns the index in `WANTED` of the section with the name at an offset. Returns a fault if
     /// the name has no NUL.
-    pub(crate) fn wanted(&self, offset: u64) -> Result<Option<usize>, ReadFault>
+    pub(crate) fn wanted_index(&self, offset: u64) -> Result<Option<usize>, ReadFault>
         ensures number { MatchResult result (λ number. IsNumberAt self.now offset number)
             (λ fault. text_at self.now offset ≡ Err fault) }
         ensures within { IfOk result (λ number. IfSome number (λ n. n < 8)) }
@@ -66,8 +66,8 @@ impl<'a> SectionNames<'a> {
 }
 
 /// Returns the offset after the last NUL, or 0 if there is none.
-fn texts_end(bytes: &[u8]) -> usize
-    ensures { EndsTexts bytes.now result }
+fn strings_end(bytes: &[u8]) -> usize
+    ensures { EndsStrings bytes.now result }
 {
     match bytes.rfind_byte(0) {
         Some(last) => last + 1,

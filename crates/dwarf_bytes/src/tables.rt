@@ -1,10 +1,10 @@
 //! The tables that a unit's base attributes point into.
 
-ghost use Rattle.std.specs.Prelude.{◌≡◌, MatchResult, Ok, Err, nat_lt, if◌then◌else◌};
-ghost use Rattle.std.specs.Prelude.{◌≤◌, ◌+◌, ◌*◌, length};
+ghost use Rattle.std.specs.Prelude.{◌≡◌, MatchResult, Ok, Err, nat_lt, if◌then◌else◌, ◌≤◌, ◌+◌};
+ghost use Rattle.std.specs.Prelude.{◌*◌, length};
 ghost use Rattle.dwarf_bytes.specs.declared.fault.Cause.TheVariants as causes;
-ghost use Rattle.dwarf_bytes.specs.Tables.{head_len, table_before, is_cut, is_length, unit_length};
-ghost use Rattle.dwarf_bytes.specs.Tables.{table_end, offset_count, item_count};
+ghost use Rattle.dwarf_bytes.specs.Tables.{head_len, table_before, is_truncated, is_length};
+ghost use Rattle.dwarf_bytes.specs.Tables.{unit_length, table_end, offset_count, item_count};
 ghost use Rattle.dwarf_bytes.specs.Numbers.{length_len, offset_len};
 
 use crate::fault::Cause;
@@ -55,7 +55,7 @@ impl TableHead {
             return Err(Cause::Base);
         }
         let start = (base - kind.head_len(format)) as usize;
-        if is_cut(section, start, format) {
+        if is_truncated(section, start, format) {
             return Err(Cause::Short);
         }
         if !is_length(section, start, format) {
@@ -114,9 +114,9 @@ fn items_up_to(
 }
 
 /// Whether a 64-bit initial length starts at `start` of a 32-bit unit and is truncated.
-fn is_cut(section: &[u8], start: usize, format: Format) -> bool
+fn is_truncated(section: &[u8], start: usize, format: Format) -> bool
     requires { start + length_len format + 4 ≤ length section.now }
-    ensures { result ≡ is_cut format section.now start }
+    ensures { result ≡ is_truncated format section.now start }
 {
     match format {
         Format::Dwarf32 => u32_at(section, start) == 0xffff_ffff && section.len() - start < 12,

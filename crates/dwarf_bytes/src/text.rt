@@ -34,7 +34,7 @@ pub(crate) fn text_front(bytes: &[u8]) -> Option<&[u8]>
 }
 
 /// Returns the string at an offset of a section, without its NUL.
-#[tactic(auto, unfolding(crate::specs::Numbers::text_at), using(crate::proofs::Texts::outside))]
+#[tactic(auto, unfolding(crate::specs::Numbers::text_at), using(crate::proofs::Nuls::outside))]
 pub fn text_at(section: &[u8], offset: u64) -> Result<&[u8], ReadFault>
     ensures { MatchResult result (λ text. text_at section.now offset ≡ Ok text.now)
         (λ fault. text_at section.now offset ≡ Err fault) }

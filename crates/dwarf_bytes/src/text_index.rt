@@ -64,7 +64,7 @@ fn first_nuls(alloc: Global, section: &[u8]) -> Result<Vec<Option<usize>>, Alloc
     let mut behind = None;
     while block > 0 {
         block -= 1;
-        behind = nul_near(section, block * BLOCK_LEN).or(behind);
+        behind = nul_in_block(section, block * BLOCK_LEN).or(behind);
         nuls.push(behind)?;
     }
     nuls.reverse();
@@ -72,7 +72,7 @@ fn first_nuls(alloc: Global, section: &[u8]) -> Result<Vec<Option<usize>>, Alloc
 }
 
 /// Returns the first NUL among the `BLOCK_LEN` bytes from `at` on.
-fn nul_near(section: &[u8], at: usize) -> Option<usize>
+fn nul_in_block(section: &[u8], at: usize) -> Option<usize>
     ensures { result ≡ option_map (λ n. at + n)
         (position (λ byte. byte == 0) (take BLOCK_LEN (drop at section.now))) }
 {
@@ -91,7 +91,7 @@ fn nul_from(section: &[u8], nuls: &[Option<usize>], at: usize) -> Option<usize>
     requires { AreNuls section.now nuls.now }
     ensures { result ≡ nul_from section.now at }
 {
-    match nul_near(section, at) {
+    match nul_in_block(section, at) {
         Some(nul) => Some(nul),
         None => nul_of(nuls, at / BLOCK_LEN + 1),
     }

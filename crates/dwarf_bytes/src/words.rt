@@ -63,7 +63,7 @@ impl Cause {
             Cause::TwoRoots => "two-roots",
             Cause::TreeOpen => "tree-open",
             Cause::TooDeep => "too-deep",
-            Cause::Text => "string",
+            Cause::String => "string",
             Cause::Index => "index",
             Cause::Base => "base",
             Cause::RangeBackwards => "range-backwards",

@@ -5,8 +5,8 @@ use std::process::Abort;
 use std::test::*;
 
 /// Checks that two values are equal.
-pub fn are_equal<T: Copy + Debug + PartialEq>(rt: &impl Abort, told: T, wanted: T) {
-    assert_eq!(rt; told, wanted);
+pub fn are_equal<T: Copy + Debug + PartialEq>(rt: &impl Abort, actual: T, wanted: T) {
+    assert_eq!(rt; actual, wanted);
 }
 
 /// Appends bytes.

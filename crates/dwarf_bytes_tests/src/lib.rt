@@ -12,8 +12,8 @@ mod names;
 #[cfg(test)]
 mod numbers;
 #[cfg(test)]
-mod tables;
+mod strings;
 #[cfg(test)]
-mod texts;
+mod tables;
 #[cfg(test)]
 mod values;

@@ -22,7 +22,7 @@ fn prints_read_faults(rt: HostRuntime) {
 
 #[test]
 fn prints_load_faults(rt: HostRuntime) {
-    let fault = LoadFault::told(Section::DebugStrOffsets, Cause::PcAndRanges, 54);
+    let fault = LoadFault::at_item(Section::DebugStrOffsets, Cause::PcAndRanges, 54);
     let Ok(text) = fault.to_string(rt.alloc()) else {
         panic!(rt; "out of memory");
     };
@@ -31,7 +31,7 @@ fn prints_load_faults(rt: HostRuntime) {
         text.as_str(),
         "object .debug_str_offsets pc-and-ranges at 54",
     );
-    let memory = LoadFault::told(Section::DebugInfo, Cause::Memory, 54);
+    let memory = LoadFault::at_item(Section::DebugInfo, Cause::Memory, 54);
     are_equal(&rt, (memory.section, memory.at), (Section::Elf, 0));
     are_equal(&rt, (Cause::NotElf as u8, Cause::RangeKind as u8), (1, 46));
 }

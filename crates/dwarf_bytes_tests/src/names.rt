@@ -90,7 +90,7 @@ fn walks_over_no_name(rt: HostRuntime) {
 }
 
 #[test]
-fn refuses_a_name_behind_the_last_nul(rt: HostRuntime) {
+fn refuses_a_name_after_the_last_nul(rt: HostRuntime) {
     let last_nul = NAME_LEN + 11;
     let object = long_names(&rt, last_nul);
     are_equal(&rt, Object::find(&object).err(), None);

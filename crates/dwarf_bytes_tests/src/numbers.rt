@@ -53,7 +53,7 @@ fn seeks_to_the_end_and_no_further(rt: HostRuntime) {
 
 /// A part ends `len` bytes after the cursor. Its offsets are relative to the start of the whole.
 #[test]
-fn parts_end_behind_the_cursor(rt: HostRuntime) {
+fn parts_end_after_the_cursor(rt: HostRuntime) {
     let cursor = at_one(&rt, &[1, 2, 3, 4]);
     let mut part = part_of(&rt, &cursor, 2);
     are_equal(&rt, part.place(), 1);

@@ -1,7 +1,7 @@
 -- The bases that the root of a unit defines for the whole unit: its tables and its low_pc (DWARF
 -- 5, 3.1.1, 7.26 to 7.28).
-use Rattle.std.specs.Prelude.{ℕ, ◌+◌, ◌*◌, List, [], ◌∷◌, Option, Some, None}
-use Rattle.std.specs.Prelude.{Result, Ok, Err, nat_le, ◌==◌, if◌then◌else◌}
+use Rattle.std.specs.Prelude.{ℕ, ◌+◌, ◌*◌, List, [], ◌∷◌, Option, Some, None, Result, Ok, Err}
+use Rattle.std.specs.Prelude.{nat_le, ◌==◌, if◌then◌else◌}
 use Rattle.dwarf_bytes.specs.declared.constants.TheConstants.{DW_AT_ADDR_BASE, DW_AT_LOW_PC}
 use Rattle.dwarf_bytes.specs.declared.constants.TheConstants.{DW_AT_RNGLISTS_BASE}
 use Rattle.dwarf_bytes.specs.declared.constants.TheConstants.{DW_AT_STR_OFFSETS_BASE, DW_FORM_ADDR}
@@ -12,7 +12,7 @@ use Rattle.dwarf_bytes.specs.declared.format.Format.{Format}
 use Rattle.dwarf_bytes.specs.declared.tables.TableKind.{TableKind}
 use Rattle.dwarf_bytes.specs.declared.tables.TableKind.TheVariants.{StrOffsets, Addr, RngLists}
 use Rattle.dwarf_bytes.specs.Bind.{◌>>=◌}
-use Rattle.dwarf_bytes.specs.Items.{At, reading, refuse_if, told_at}
+use Rattle.dwarf_bytes.specs.Items.{At, reading, refuse_if, with_offset}
 use Rattle.dwarf_bytes.specs.Numbers.{u64_at, offset_len, offset_at}
 use Rattle.dwarf_bytes.specs.Tables.{table_before}
 use Rattle.dwarf_units.specs.declared.unit_headers.UnitHeader.{UnitHeader}
@@ -88,5 +88,5 @@ pub record CompilationUnit : Type 0 where
 unfoldable pub unit_of : Sections → UnitHeader → List Die → Result CompilationUnit At
 unit_of sections header [] = Ok (record { header = header; dies = []; bases = no_bases })
 unit_of sections header (root ∷ dies) = do
-  bases ← told_at root.offset (bases_at sections header.format root)
+  bases ← with_offset root.offset (bases_at sections header.format root)
   Ok (record { header = header; dies = root ∷ dies; bases = bases })

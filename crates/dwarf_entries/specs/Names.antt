@@ -1,6 +1,6 @@
 -- References between entries (DWARF 5, 2.13 and 7.5.5) and the names of an entry (2.15, 3.3.8).
-use Rattle.std.specs.Prelude.{ℕ, zero, suc, ◌+◌, List, [], ◌∷◌, Option, Some, None, Result}
-use Rattle.std.specs.Prelude.{Ok, Err, ◌==◌, if◌then◌else◌, find, ok_or, option_map, map, flat_map}
+use Rattle.std.specs.Prelude.{ℕ, zero, suc, ◌+◌, List, [], ◌∷◌, Option, Some, None, Result, Ok, Err}
+use Rattle.std.specs.Prelude.{◌==◌, if◌then◌else◌, find, ok_or, option_map, map, flat_map}
 use Rattle.dwarf_bytes.specs.declared.constants.TheConstants.{
   DW_AT_LINKAGE_NAME,
   DW_AT_NAME,
@@ -18,7 +18,7 @@ use Rattle.dwarf_bytes.specs.Bind.{◌>>=◌}
 use Rattle.dwarf_bytes.specs.Items.{reading}
 use Rattle.dwarf_bytes.specs.Numbers.{text_at}
 use Rattle.dwarf_entries.specs.declared.bases.Table.{Table}
-use Rattle.dwarf_entries.specs.declared.paths.EntryNames.{EntryNames}
+use Rattle.dwarf_entries.specs.declared.origin_chains.EntryNames.{EntryNames}
 use Rattle.dwarf_entries.specs.declared.text_offset.TextOffset.{TextOffset}
 use Rattle.dwarf_units.specs.declared.attributes.AttributeValue.{AttributeValue}
 use Rattle.dwarf_units.specs.Entries.{Die, attribute}
@@ -47,22 +47,22 @@ target_of units unit reference =
     else member_at (members_of (unit ∷ [])) (unit.header.start + reference.number)
 
 -- The maximum number of references followed in an origin chain.
-abbrev pub hops_limit : ℕ
-hops_limit = 16
+abbrev pub references_limit : ℕ
+references_limit = 16
 
 -- The origin chain of an entry: the entry, its next entry, and so on, up to an entry without a
--- reference. At most `hops` references are followed.
-unfoldable pub path_within : ℕ → List CompilationUnit → Member → Result (List Member) Cause
-path_within zero units m =
+-- reference. At most `remaining` references are followed.
+unfoldable pub chain_within : ℕ → List CompilationUnit → Member → Result (List Member) Cause
+chain_within zero units m =
     elim (next_of (m.die)) [ None ↦ Ok (m ∷ []) | Some reference ↦ Err causes.OriginDepth ]
-path_within (suc hops) units m = elim (next_of (m.die)) [
+chain_within (suc remaining) units m = elim (next_of (m.die)) [
   | None ↦ Ok (m ∷ [])
   | Some reference ↦ target_of units m.unit reference
-      >>= λ next. path_within hops units next >>= λ rest. Ok (m ∷ rest)
+      >>= λ next. chain_within remaining units next >>= λ rest. Ok (m ∷ rest)
 ]
 
 abbrev pub path_of : List CompilationUnit → Member → Result (List Member) Cause
-path_of = path_within hops_limit
+path_of = chain_within references_limit
 
 -- The location of the string at an offset of a section, if it is terminated there.
 abbrev pub text_in : Section → List ℕ → ℕ → Result TextOffset Cause

@@ -1,14 +1,14 @@
 -- The address ranges of an entry (DWARF 5, 2.17 and 7.25).
-use Rattle.std.specs.Prelude.{ℕ, ◌+◌, ◌-◌, ◌^◌, List, [], ◌∷◌, length, Option, Some}
-use Rattle.std.specs.Prelude.{None, Result, Ok, Err, nat_lt, nat_le, ◌==◌, ◌||◌}
-use Rattle.std.specs.Prelude.{if◌then◌else◌, ok_or, option_to_list, flat_map, slice_get}
+use Rattle.std.specs.Prelude.{ℕ, ◌+◌, ◌-◌, ◌^◌, List, [], ◌∷◌, length, Option, Some, None, Result}
+use Rattle.std.specs.Prelude.{Ok, Err, nat_lt, nat_le, ◌==◌, ◌||◌, if◌then◌else◌, ok_or}
+use Rattle.std.specs.Prelude.{option_to_list, flat_map, slice_get}
 use Rattle.dwarf_bytes.specs.declared.constants.TheConstants.{DW_AT_HIGH_PC, DW_AT_LOW_PC}
 use Rattle.dwarf_bytes.specs.declared.constants.TheConstants.{DW_AT_RANGES, DW_FORM_RNGLISTX}
 use Rattle.dwarf_bytes.specs.declared.fault.Cause.{Cause}
 use Rattle.dwarf_bytes.specs.declared.fault.Cause.TheVariants as causes
 use Rattle.dwarf_bytes.specs.declared.tables.TableKind.TheVariants.{Addr, RngLists}
 use Rattle.dwarf_bytes.specs.Bind.{◌>>=◌}
-use Rattle.dwarf_bytes.specs.Items.{Next, Item, End, reading, refuse_if, untold, items_from}
+use Rattle.dwarf_bytes.specs.Items.{Next, Item, End, reading, refuse_if, without_offset, items_from}
 use Rattle.dwarf_bytes.specs.Numbers.{u8_at, u64_at, uleb_at}
 use Rattle.dwarf_entries.specs.declared.scope.Range.{Range}
 use Rattle.dwarf_entries.specs.declared.bases.Bases.{Bases}
@@ -31,25 +31,25 @@ use Rattle.dwarf_units.specs.Entries.{Die, attribute}
 use Rattle.dwarf_entries.specs.Bases.{item_at, address_of}
 
 -- The range from a start up to an end. It is None if they are equal.
-abbrev pub covered : ℕ × ℕ → Result (Option Range) Cause
-covered bounds = do
+abbrev pub range_between : ℕ × ℕ → Result (Option Range) Cause
+range_between bounds = do
   _ ← refuse_if (nat_le (2 ^ 64) bounds.0 || nat_le (2 ^ 64) bounds.1) causes.Overflow
   _ ← refuse_if (nat_lt bounds.1 bounds.0) causes.RangeBackwards
   Ok (if bounds.0 == bounds.1 then None else Some (record { from = bounds.0; to = bounds.1 }))
 
 -- The tombstone: the start address of discarded code. No code has this address. DWARF 5 does not
 -- define it; it is this project's own rule.
-abbrev pub dropped : ℕ
-dropped = 2 ^ 64 - 1
+abbrev pub tombstone : ℕ
+tombstone = 2 ^ 64 - 1
 
 -- The range between two bounds. It is None if the first is the tombstone.
-abbrev pub covered_from : ℕ × ℕ → Result (Option Range) Cause
-covered_from bounds = if bounds.0 == dropped then Ok None else covered bounds
+abbrev pub live_range : ℕ × ℕ → Result (Option Range) Cause
+live_range bounds = if bounds.0 == tombstone then Ok None else range_between bounds
 
 -- The range between two offsets from the current base. It is None if the base is the tombstone.
-abbrev pub covered_pair : ℕ → ℕ × ℕ → Result (Option Range) Cause
-covered_pair base offsets =
-    if base == dropped then Ok None else covered (base + offsets.0, base + offsets.1)
+abbrev pub live_range_from_base : ℕ → ℕ × ℕ → Result (Option Range) Cause
+live_range_from_base base offsets =
+    if base == tombstone then Ok None else range_between (base + offsets.0, base + offsets.1)
 
 -- The kinds by their codes, from DW_RLE_end_of_list to DW_RLE_start_length (7.25, table 7.30). The
 -- end of a list is None.
@@ -114,44 +114,45 @@ sets_base read = read >>= λ new. Ok (Base new.0, new.1)
 
 abbrev pub covers : {X : Type 0} → (X → Result (Option Range) Cause) → Result (X × ℕ) Cause
     → Result (RangeListEntry × ℕ) Cause
-covers judge read = read >>= λ operands. judge operands.0 >>= λ range. Ok (Covers range, operands.1)
+covers validate read = read >>= λ operands. validate operands.0
+    >>= λ range. Ok (Covers range, operands.1)
 
 -- The entry of a kind, with its operands at an offset. `base` is the current base.
 unfoldable pub entry_at : Sections → Bases → Option ℕ → RangeListKind → List ℕ → ℕ
     → Result (RangeListEntry × ℕ) Cause
 entry_at sections bases base BaseAddressx lists at = sets_base (index_at sections bases lists at)
 entry_at sections bases base StartxEndx lists at =
-    covers covered_from (start_and_end (index_at sections bases) lists at)
+    covers live_range (start_and_end (index_at sections bases) lists at)
 entry_at sections bases base StartxLength lists at =
-    covers covered_from (start_and_length (index_at sections bases) lists at)
+    covers live_range (start_and_length (index_at sections bases) lists at)
 entry_at sections bases base OffsetPair lists at =
-    covers (λ pair. covered_pair pair.0 pair.1) (offset_pair base lists at)
+    covers (λ pair. live_range_from_base pair.0 pair.1) (offset_pair base lists at)
 entry_at sections bases base BaseAddress lists at = sets_base (address_at lists at)
 entry_at sections bases base StartEnd lists at =
-    covers covered_from (start_and_end address_at lists at)
+    covers live_range (start_and_end address_at lists at)
 entry_at sections bases base StartLength lists at =
-    covers covered_from (start_and_length address_at lists at)
+    covers live_range (start_and_length address_at lists at)
 
--- The entry at an offset. `count` is the number of entries before it in the list, and `room` is
+-- The entry at an offset. `count` is the number of entries before it in the list, and `budget` is
 -- the maximum number of entries.
-abbrev pub listed_behind : ℕ → Sections → Bases → ℕ → Option ℕ → List ℕ → ℕ
+abbrev pub list_entry_of : ℕ → Sections → Bases → ℕ → Option ℕ → List ℕ → ℕ
     → Result (Next RangeListEntry) Cause
-listed_behind room sections bases count base lists at = do
+list_entry_of budget sections bases count base lists at = do
   number ← reading (u8_at lists at)
   kind ← kind_of number.0
   elim kind [
     | None ↦ Ok (End number.1)
     | Some kind ↦ (do
-      _ ← refuse_if (nat_le room count) causes.TooMany
+      _ ← refuse_if (nat_le budget count) causes.TooMany
       entry ← entry_at sections bases base kind lists number.1
       Ok (Item entry.0 entry.1))
   ]
 
 -- The same entry, given the entries before it.
-abbrev pub listed_at : ℕ → Sections → Bases → List ℕ → List RangeListEntry → ℕ
+abbrev pub list_entry_at : ℕ → Sections → Bases → List ℕ → List RangeListEntry → ℕ
     → Result (Next RangeListEntry) Cause
-listed_at room sections bases lists before at =
-    listed_behind room sections bases (length before) (base_after bases.low_pc before) lists at
+list_entry_at budget sections bases lists before at =
+    list_entry_of budget sections bases (length before) (base_after bases.low_pc before) lists at
 
 -- The ranges of a scope, and the number of items that they were read from.
 pub record Covering : Type 0 where
@@ -167,14 +168,15 @@ list_place sections bases value = if value.form == DW_FORM_RNGLISTX then (do
 
 -- The ranges of the range list at an offset.
 unfoldable pub list_at : ℕ → Sections → Bases → ℕ → Result Covering Cause
-list_at room sections bases place = do
-  all ← untold (items_from (length sections.debug_rnglists)
-      (listed_at room sections bases sections.debug_rnglists) [] place)
+list_at budget sections bases place = do
+  all ← without_offset (items_from (length sections.debug_rnglists)
+      (list_entry_at budget sections bases sections.debug_rnglists) [] place)
   Ok (record { ranges = flat_map ranges_in all.0; items = length all.0 })
 
 -- The ranges of the range list that an attribute refers to.
 abbrev pub list_of : ℕ → Sections → Bases → AttributeValue → Result Covering Cause
-list_of room sections bases value = list_place sections bases value >>= list_at room sections bases
+list_of budget sections bases value = list_place sections bases value
+    >>= list_at budget sections bases
 
 -- The end of a high_pc: an address, or a length added to the start.
 abbrev pub high_of : Sections → Bases → ℕ → AttributeValue → Result ℕ Cause
@@ -188,24 +190,24 @@ abbrev pub pair_range : Sections → Bases → AttributeValue → AttributeValue
 pair_range sections bases low high = do
   start ← address_of sections bases.addr low
   end ← high_of sections bases start high
-  covered_from (start, end)
+  live_range (start, end)
 
 -- The same range, if the budget has at least one item.
 abbrev pub pair_at : ℕ → Sections → Bases → AttributeValue → AttributeValue → Result Covering Cause
-pair_at room sections bases low high = do
-  _ ← refuse_if (room == 0) causes.TooMany
+pair_at budget sections bases low high = do
+  _ ← refuse_if (budget == 0) causes.TooMany
   range ← pair_range sections bases low high
   Ok (record { ranges = option_to_list range; items = 1 })
 
 -- The ranges of an entry, given its low_pc, high_pc and ranges.
 abbrev pub covers_by : ℕ → Sections → Bases → Option AttributeValue → Option AttributeValue
     → Option AttributeValue → Result Covering Cause
-covers_by room sections bases None None (Some ranges) = list_of room sections bases ranges
-covers_by room sections bases low high (Some ranges) = Err causes.PcAndRanges
-covers_by room sections bases None (Some high) None = Err causes.PcAndRanges
-covers_by room sections bases (Some low) (Some high) None = pair_at room sections bases low high
-covers_by room sections bases low None None = Ok (record { ranges = []; items = 0 })
+covers_by budget sections bases None None (Some ranges) = list_of budget sections bases ranges
+covers_by budget sections bases low high (Some ranges) = Err causes.PcAndRanges
+covers_by budget sections bases None (Some high) None = Err causes.PcAndRanges
+covers_by budget sections bases (Some low) (Some high) None = pair_at budget sections bases low high
+covers_by budget sections bases low None None = Ok (record { ranges = []; items = 0 })
 
 unfoldable pub covers_of : ℕ → Sections → Bases → Die → Result Covering Cause
-covers_of room sections bases die = covers_by room sections bases
+covers_of budget sections bases die = covers_by budget sections bases
     (attribute die DW_AT_LOW_PC) (attribute die DW_AT_HIGH_PC) (attribute die DW_AT_RANGES)

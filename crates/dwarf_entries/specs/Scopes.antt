@@ -1,26 +1,26 @@
 -- The subprograms and inlined subroutines of all units (DWARF 5, 3.3), and the faults of
 -- .debug_info.
-use Rattle.std.specs.Prelude.{ℕ, ◌+◌, ◌-◌, List, [], ◌∷◌, length, Option, Some, None, Result}
-use Rattle.std.specs.Prelude.{Ok, option_map, option_and_then, map}
-use Rattle.std.specs.Prelude.{flat_map, count_by, sum_by, slice_get, zip, take, drop}
+use Rattle.std.specs.Prelude.{ℕ, ◌+◌, ◌-◌, List, [], ◌∷◌, length, Option, Some, None, Result, Ok}
+use Rattle.std.specs.Prelude.{option_map, option_and_then, map, flat_map, count_by, sum_by}
+use Rattle.std.specs.Prelude.{slice_get, zip, take, drop}
 use Rattle.std.specs.Option.{option_map_or, unwrap_or}
-use Rattle.dwarf_bytes.specs.declared.constants.TheConstants.{DW_AT_CALL_FILE}
-use Rattle.dwarf_bytes.specs.declared.constants.TheConstants.{DW_AT_CALL_LINE, DW_AT_STMT_LIST}
+use Rattle.dwarf_bytes.specs.declared.constants.TheConstants.{DW_AT_CALL_FILE, DW_AT_CALL_LINE}
+use Rattle.dwarf_bytes.specs.declared.constants.TheConstants.{DW_AT_STMT_LIST}
 use Rattle.dwarf_bytes.specs.declared.fault.Cause.{Cause}
 use Rattle.dwarf_bytes.specs.declared.fault.Section.{Section}
 use Rattle.dwarf_bytes.specs.declared.fault.Section.TheVariants as names
 use Rattle.dwarf_bytes.specs.declared.fault.LoadFault.{LoadFault}
 use Rattle.dwarf_bytes.specs.Bind.{◌>>=◌}
-use Rattle.dwarf_bytes.specs.Items.{told_at, each}
+use Rattle.dwarf_bytes.specs.Items.{with_offset, each}
 use Rattle.dwarf_bytes.specs.Refusals.{in_section}
-use Rattle.dwarf_entries.specs.declared.paths.EntryNames.{EntryNames}
+use Rattle.dwarf_entries.specs.declared.origin_chains.EntryNames.{EntryNames}
 use Rattle.dwarf_entries.specs.declared.calls.CallSite.{CallSite}
 use Rattle.dwarf_entries.specs.declared.calls.Calls.{Calls}
 use Rattle.dwarf_entries.specs.declared.calls.Calls.TheVariants as calls
 use Rattle.dwarf_entries.specs.declared.scope_lists.ScopeLists.{ScopeLists}
 use Rattle.dwarf_entries.specs.declared.scope.Range.{Range}
 use Rattle.dwarf_entries.specs.declared.scope.Root.{Root}
-use Rattle.dwarf_entries.specs.declared.scope.Scope.{Scope as Kept}
+use Rattle.dwarf_entries.specs.declared.scope.Scope.{Scope as StoredScope}
 use Rattle.dwarf_entries.specs.declared.text_offset.TextOffset.{TextOffset}
 use Rattle.dwarf_units.specs.Units.{units_of, tables_of}
 use Rattle.dwarf_units.specs.Entries.{Die, below, entries_of}
@@ -63,7 +63,7 @@ abbrev pub root_stmt_list : List Root → ℕ → Option ℕ
 root_stmt_list roots number = option_and_then (λ r. r.stmt_list) (slice_get roots number)
 
 -- A scope of the program, given its ranges and its call site.
-abbrev pub scope_by_parts : List Root → CallSite → List Range → Kept → Scope
+abbrev pub scope_by_parts : List Root → CallSite → List Range → StoredScope → Scope
 scope_by_parts roots site ranges s = record {
   kind = s.kind;
   offset = s.offset;
@@ -78,12 +78,12 @@ scope_by_parts roots site ranges s = record {
 }
 
 -- The same scope, given the lists that scopes share.
-abbrev pub scope_of : List Root → List CallSite → List Range → Kept → Scope
+abbrev pub scope_of : List Root → List CallSite → List Range → StoredScope → Scope
 scope_of roots wide ranges s =
     scope_by_parts roots (call_site wide s.calls s.call_file s.call_line) ranges s
 
 -- The scopes of the program. Their ranges are consecutive in a list, from an index on.
-abbrev pub scopes_from : List Root → List CallSite → List Range → ℕ → List Kept → List Scope
+abbrev pub scopes_from : List Root → List CallSite → List Range → ℕ → List StoredScope → List Scope
 scopes_from roots wide ranges first [] = []
 scopes_from roots wide ranges first (s ∷ ss) =
     scope_of roots wide (take (s.ranges_end - first) (drop first ranges)) s
@@ -111,7 +111,7 @@ own s = record {
   linkage_name = s.linkage_name;
 }
 
-abbrev pub own_of : Kept → Own
+abbrev pub own_of : StoredScope → Own
 own_of s = own (scope_of [] [] [] s)
 
 -- The data of the scope at an index that is accessed through the list of scopes.
@@ -163,13 +163,13 @@ abbrev pub items_limit : ℕ
 items_limit = 4194304
 
 -- A scope, and the number of range items that it was read from.
-pub record Judged : Type 0 where
+pub record ParsedScope : Type 0 where
   pub scope : Scope
   pub items : ℕ
 
 -- The scope of a site, given the scopes before it: its names, then its ranges.
-abbrev pub scope_by : Result EntryNames Cause → Sections → List Judged → ScopeSite
-    → Result Judged Cause
+abbrev pub scope_by : Result EntryNames Cause → Sections → List ParsedScope → ScopeSite
+    → Result ParsedScope Cause
 scope_by found sections before p = do
   names ← found
   let die = p.member.die
@@ -190,8 +190,8 @@ scope_by found sections before p = do
     };
   })
 
-abbrev pub scope_at : Sections → List CompilationUnit → List Judged → ScopeSite
-    → Result Judged Cause
+abbrev pub scope_at : Sections → List CompilationUnit → List ParsedScope → ScopeSite
+    → Result ParsedScope Cause
 scope_at sections units before p = scope_by (names_of sections units p.member) sections before p
 
 -- Prepends the root of a unit, if the unit has one.
@@ -220,7 +220,7 @@ tree_of s = do
   dies ← in_section names.DebugInfo
       (each (λ _ p. entries_of s.debug_info p.0 p.1) (zip headers tables))
   units ← in_section names.DebugInfo (each (λ _ p. unit_of s p.0 p.1) (zip headers dies))
-  judged ← in_section names.DebugInfo (each
-      (λ before p. told_at p.member.die.offset (scope_at s units before p))
+  parsed ← in_section names.DebugInfo (each
+      (λ before p. with_offset p.member.die.offset (scope_at s units before p))
       (flat_map (λ unit. sites_in unit unit.dies) units))
-  Ok (record { roots = roots_from 0 units; scopes = map (λ j. j.scope) judged })
+  Ok (record { roots = roots_from 0 units; scopes = map (λ j. j.scope) parsed })

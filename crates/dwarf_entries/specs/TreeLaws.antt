@@ -1,6 +1,6 @@
 -- Theorems about the result for a whole object.
-use Rattle.std.specs.Prelude.{◌≡◌, ◌≢◌, ℕ, ◌+◌, ◌<◌, ◌≤◌, ◌^◌, List, [], ◌∷◌, length}
-use Rattle.std.specs.Prelude.{take, drop, Some, Result, Ok, All, slice_get, zip}
+use Rattle.std.specs.Prelude.{◌≡◌, ◌≢◌, ℕ, ◌+◌, ◌<◌, ◌≤◌, ◌^◌, List, [], ◌∷◌, length, take, drop}
+use Rattle.std.specs.Prelude.{Some, Result, Ok, All, slice_get, zip}
 use Rattle.std.specs.List.Sorted.{IsStrictlyIncreasing}
 use Rattle.dwarf_bytes.specs.declared.fault.LoadFault.{LoadFault}
 use Rattle.dwarf_bytes.specs.declared.fault.Section.{Section}
@@ -11,7 +11,7 @@ use Rattle.dwarf_bytes.specs.Refusals.{in_section}
 use Rattle.dwarf_forms.specs.Declarations.{Declaration}
 use Rattle.dwarf_units.specs.declared.unit_headers.UnitHeader.{UnitHeader}
 use Rattle.dwarf_units.specs.Units.{unit_at, units_of, tables_of}
-use Rattle.dwarf_units.specs.Entries.{Standing, Die, node_at, entries_of}
+use Rattle.dwarf_units.specs.Entries.{LocatedNode, Die, node_at, entries_of}
 use Rattle.dwarf_entries.specs.declared.scope.Range.{Range}
 use Rattle.dwarf_entries.specs.declared.scope.Root.{Root}
 use Rattle.dwarf_entries.specs.declared.text_offset.TextOffset.{TextOffset}
@@ -25,8 +25,8 @@ abbrev pub RiseBelow : ℕ → List ℕ → Type 0
 RiseBelow end offsets = IsStrictlyIncreasing offsets × All (λ offset. offset < end) offsets
 
 -- A range is nonempty, and its addresses have 64 bits.
-abbrev pub HoldsAddresses : Range → Type 0
-HoldsAddresses range = (range.from < range.to) × (range.to < 2 ^ 64)
+abbrev pub IsValidRange : Range → Type 0
+IsValidRange range = (range.from < range.to) × (range.to < 2 ^ 64)
 
 -- The roots partition the numbers up to an end, in order. The numbers of each root start where the
 -- numbers of the previous root end.
@@ -82,13 +82,13 @@ abbrev pub IsTextOf : Sections → TextOffset → Type 0
 IsTextOf s text = IsTextAt (section_bytes s text.section) text.offset
 
 -- Units are contiguous in .debug_info, from an offset up to its end, as their headers describe.
-abbrev pub StandEndToEnd : List ℕ → ℕ → List UnitHeader → Type 0
-StandEndToEnd info at [] = at ≡ length info
-StandEndToEnd info at (header ∷ headers) =
+abbrev pub AreContiguous : List ℕ → ℕ → List UnitHeader → Type 0
+AreContiguous info at [] = at ≡ length info
+AreContiguous info at (header ∷ headers) =
     (unit_at info at ≡ Ok header) × (header.start ≡ at) × (at < header.end)
-    × StandEndToEnd info header.end headers
+    × AreContiguous info header.end headers
 
 -- The entries and null entries of a unit are contiguous, from its first entry up to its end.
-abbrev pub FillsUnit : List ℕ → UnitHeader → List Declaration → List Standing → Type 0
+abbrev pub FillsUnit : List ℕ → UnitHeader → List Declaration → List LocatedNode → Type 0
 FillsUnit info header table all =
     Lists (node_at header.format table (take header.end info)) [] header.first all header.end

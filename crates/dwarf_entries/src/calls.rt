@@ -1,10 +1,10 @@
 //! Compact storage of the file and line of a call (DWARF 5, 3.3.8.1).
 
-ghost use Rattle.std.specs.Prelude.{◌≡◌, ◌<◌, ◌++◌, ◌^◌, ℕ, List, length, IfOk, IfSome};
-ghost use Rattle.std.specs.Prelude.{IsSome, SomeIff};
+ghost use Rattle.std.specs.Prelude.{◌≡◌, ◌<◌, ◌++◌, ◌^◌, ℕ, List, length, IfOk, IfSome, IsSome};
+ghost use Rattle.std.specs.Prelude.{SomeIff};
 ghost use Rattle.dwarf_entries.specs.declared.calls.CallSite.{CallSite as Site};
 ghost use Rattle.dwarf_entries.specs.Scopes.{call_site};
-ghost use Rattle.dwarf_entries.specs.Private.Shared.{IsHeldIn, IsNarrow};
+ghost use Rattle.dwarf_entries.specs.Private.Shared.{IsInList, IsNarrow};
 
 use dwarf_walk::narrow;
 use std::alloc::AllocError;
@@ -50,9 +50,9 @@ impl CallSite {
     /// number of more than 32 bits is appended to `wide`, and its index there is returned as the
     /// file.
     pub(crate) fn pack(self, wide: &mut Vec<CallSite>) -> Result<(Calls, u32, u32), AllocError>
-        ensures told { IfOk result (λ parts. call_site wide.new.items parts.0 parts.1 parts.2
+        ensures described { IfOk result (λ parts. call_site wide.new.items parts.0 parts.1 parts.2
             ≡ self) }
-        ensures held { IfOk result (λ parts. IsHeldIn (length wide.new.items) parts.0 parts.1) }
+        ensures in_list { IfOk result (λ parts. IsInList (length wide.new.items) parts.0 parts.1) }
         ensures added { IfOk result (λ parts. (more : List Site)
             × (wide.new.items ≡ wide.old.items ++ more)) }
         ensures few { IsNarrow self.file → IsNarrow self.line
@@ -68,9 +68,9 @@ impl CallSite {
 
     /// Packs a call site, or returns `None` if one of its numbers has more than 32 bits.
     fn narrow_parts(self) -> Option<(Calls, u32, u32)>
-        ensures told { IfSome result (λ parts. (wide : List Site)
+        ensures described { IfSome result (λ parts. (wide : List Site)
             → call_site wide parts.0 parts.1 parts.2 ≡ self) }
-        ensures held { IfSome result (λ parts. (many : ℕ) → IsHeldIn many parts.0 parts.1) }
+        ensures in_list { IfSome result (λ parts. (many : ℕ) → IsInList many parts.0 parts.1) }
         ensures some { IsNarrow self.file → IsNarrow self.line → IsSome result }
     {
         match (self.file, self.line) {

@@ -6,15 +6,15 @@ ghost use Rattle.dwarf_units.specs.declared.attributes.AttributeValue.{Attribute
 ghost use Rattle.dwarf_walk.specs.Sections.{Sections as SectionBytes, sections_of};
 ghost use Rattle.dwarf_entries.specs.Bases.{CompilationUnit};
 ghost use Rattle.dwarf_entries.specs.Names.{Member, names_of};
-ghost use Rattle.dwarf_entries.specs.Private.Walked.{AreReadIn, AreMarked};
-ghost use Rattle.dwarf_walk.specs.Private.Again.{IsReaderOf};
-ghost use Rattle.dwarf_entries.specs.Private.KnownNames.{AreKnownOf, names_behind};
-ghost use Rattle.dwarf_entries.specs.Private.Members.{AreKept, IsMember};
-ghost use Rattle.dwarf_entries.specs.Private.Texts.{AreTexts};
+ghost use Rattle.dwarf_entries.specs.Private.EntryOffsets.{AreReadIn, IsBitmapOf};
+ghost use Rattle.dwarf_walk.specs.Private.Rereading.{IsReaderOf};
+ghost use Rattle.dwarf_entries.specs.Private.NameCache.{IsCacheOf, target_names};
+ghost use Rattle.dwarf_entries.specs.Private.Members.{AreStoredAs, IsMember};
+ghost use Rattle.dwarf_entries.specs.Private.StringSections.{AreStringSections};
 
-use crate::known_names::KnownNames;
-use crate::paths::{EntryNames, HOPS_LIMIT, UnitEntry, entry_again, path_names};
-use crate::references::place_named;
+use crate::name_cache::NameCache;
+use crate::origin_chains::{EntryNames, REFERENCES_LIMIT, UnitEntry, chain_names, reread_entry};
+use crate::references::target_place;
 use crate::unit_scopes::Units;
 use dwarf_bytes::Cause;
 use dwarf_units::AttributeValue;
@@ -27,70 +27,70 @@ impl<'a> Units<'a> {
     pub(crate) fn names(
         self,
         reader: &mut EntryReader<'_>,
-        known: &mut KnownNames,
+        cache: &mut NameCache,
         start: UnitEntry,
     ) -> Result<EntryNames, Cause>
-        requires { AreTexts (sections_of self.sections.now) self.texts.now }
-        ensures names { (us : List CompilationUnit) → AreKept self.entry.units.now us
-            → AreMarked self.entry.marks.now us
+        requires { AreStringSections (sections_of self.sections.now) self.strings.now }
+        ensures names { (us : List CompilationUnit) → AreStoredAs self.entry.units.now us
+            → IsBitmapOf self.entry.bitmap.now us
             → self.entry.bases.now ≡ map (λ u. u.bases) us
             → AreReadIn (sections_of self.entry.sections.now) us
             → IsReaderOf (sections_of self.entry.sections.now) reader.old
-            → AreKnownOf (sections_of self.entry.sections.now) us known.old
+            → IsCacheOf (sections_of self.entry.sections.now) us cache.old
             → (m : Member) → IsMember us start.unit start.entry m → Gives (λ names. names) result
             (names_of (sections_of self.entry.sections.now) us m) }
-        ensures known { (us : List CompilationUnit) → AreKept self.entry.units.now us
-            → AreMarked self.entry.marks.now us
+        ensures cache { (us : List CompilationUnit) → AreStoredAs self.entry.units.now us
+            → IsBitmapOf self.entry.bitmap.now us
             → self.entry.bases.now ≡ map (λ u. u.bases) us
             → AreReadIn (sections_of self.entry.sections.now) us
             → IsReaderOf (sections_of self.entry.sections.now) reader.old
-            → AreKnownOf (sections_of self.entry.sections.now) us known.old
-            → AreKnownOf (sections_of self.entry.sections.now) us known.new }
+            → IsCacheOf (sections_of self.entry.sections.now) us cache.old
+            → IsCacheOf (sections_of self.entry.sections.now) us cache.new }
         ensures reader { (s : SectionBytes) → IsReaderOf s reader.old → IsReaderOf s reader.new }
     {
         if let Some(reference) = reference_to_names(&start.entry) {
-            return self.names_behind(reader, known, start.unit, reference);
+            return self.target_names(reader, cache, start.unit, reference);
         }
-        path_names(self, reader, start, HOPS_LIMIT)
+        chain_names(self, reader, start, REFERENCES_LIMIT)
     }
 
     /// Returns the names of the target of a reference in a unit. A cached result is returned
     /// without a look at the bitmap, because only offsets of entries are cached.
-    fn names_behind(
+    fn target_names(
         self,
         reader: &mut EntryReader<'_>,
-        known: &mut KnownNames,
+        cache: &mut NameCache,
         unit: usize,
         reference: AttributeValue,
     ) -> Result<EntryNames, Cause>
-        requires { AreTexts (sections_of self.sections.now) self.texts.now }
-        ensures names { (us : List CompilationUnit) → AreKept self.entry.units.now us
-            → AreMarked self.entry.marks.now us
+        requires { AreStringSections (sections_of self.sections.now) self.strings.now }
+        ensures names { (us : List CompilationUnit) → AreStoredAs self.entry.units.now us
+            → IsBitmapOf self.entry.bitmap.now us
             → self.entry.bases.now ≡ map (λ u. u.bases) us
             → AreReadIn (sections_of self.entry.sections.now) us
             → IsReaderOf (sections_of self.entry.sections.now) reader.old
-            → AreKnownOf (sections_of self.entry.sections.now) us known.old
+            → IsCacheOf (sections_of self.entry.sections.now) us cache.old
             → (u : CompilationUnit) → slice_get us unit ≡ Some u → Gives (λ names. names) result
-            (names_behind (sections_of self.entry.sections.now) us u reference) }
-        ensures known { (us : List CompilationUnit) → AreKept self.entry.units.now us
-            → AreMarked self.entry.marks.now us
+            (target_names (sections_of self.entry.sections.now) us u reference) }
+        ensures cache { (us : List CompilationUnit) → AreStoredAs self.entry.units.now us
+            → IsBitmapOf self.entry.bitmap.now us
             → self.entry.bases.now ≡ map (λ u. u.bases) us
             → AreReadIn (sections_of self.entry.sections.now) us
             → IsReaderOf (sections_of self.entry.sections.now) reader.old
-            → AreKnownOf (sections_of self.entry.sections.now) us known.old
-            → AreKnownOf (sections_of self.entry.sections.now) us known.new }
+            → IsCacheOf (sections_of self.entry.sections.now) us cache.old
+            → IsCacheOf (sections_of self.entry.sections.now) us cache.new }
         ensures reader { (s : SectionBytes) → IsReaderOf s reader.old → IsReaderOf s reader.new }
     {
-        let place = place_named(self.units, unit, reference).ok_or(Cause::Reference)?;
-        if let Some(names) = known.get(place) {
+        let place = target_place(self.units, unit, reference).ok_or(Cause::Reference)?;
+        if let Some(names) = cache.get(place) {
             return Ok(names);
         }
-        if !self.marks.is_marked(place.offset) {
+        if !self.bitmap.has_entry(place.offset) {
             return Err(Cause::Reference);
         }
-        let next = entry_again(self.units, self.marks, reader, place)?;
-        let names = path_names(self, reader, next, HOPS_LIMIT - 1)?;
-        known.put(place, names)?;
+        let next = reread_entry(self.units, self.bitmap, reader, place)?;
+        let names = chain_names(self, reader, next, REFERENCES_LIMIT - 1)?;
+        cache.put(place, names)?;
         Ok(names)
     }
 }

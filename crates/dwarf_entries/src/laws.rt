@@ -1,24 +1,24 @@
 //! Theorems about all units and their entries.
 
-ghost use Rattle.std.specs.Prelude.{◌≡◌, ◌<◌, ◌+◌, ◌↔◌, ℕ, List, [], ◌∷◌, ◌++◌, Option};
-ghost use Rattle.std.specs.Prelude.{Some, Ok, true, map, take, drop, count_by, slice_get};
+ghost use Rattle.std.specs.Prelude.{◌≡◌, ◌<◌, ◌+◌, ◌↔◌, ℕ, List, [], ◌∷◌, ◌++◌, Option, Some, Ok};
+ghost use Rattle.std.specs.Prelude.{true, map, take, drop, count_by, slice_get};
 ghost use Rattle.dwarf_entries.specs.declared.scope.Range.{Range};
 ghost use Rattle.dwarf_entries.specs.declared.range_entries.RangeListEntry.{RangeListEntry};
 ghost use Rattle.dwarf_entries.specs.declared.range_entries.RangeListEntry.TheVariants.{Base};
 ghost use Rattle.dwarf_entries.specs.declared.range_entries.RangeListEntry.TheVariants.{Covers};
 ghost use Rattle.dwarf_units.specs.Entries.{Die, below, IsBelow};
 ghost use Rattle.dwarf_entries.specs.Ranges.{base_after};
-ghost use Rattle.dwarf_entries.specs.declared.scope.Scope.{Scope as Kept};
+ghost use Rattle.dwarf_entries.specs.declared.scope.Scope.{Scope as StoredScope};
 ghost use Rattle.dwarf_walk.specs.ScopeEntries.{is_scope};
 ghost use Rattle.dwarf_entries.specs.Scopes.{own, own_of, Scope, Tree, tree_of};
 ghost use Rattle.dwarf_walk.specs.Sections.{Sections};
-ghost use Rattle.dwarf_entries.specs.Order.{AreInOrder, TellsOf};
+ghost use Rattle.dwarf_entries.specs.Order.{AreInOrder, HasDataOf};
 
 pub use crate::tree_laws::{
-    ends_are_of_what_is_below, entries_are_listed, names_are_texts, offsets_rise,
-    ranges_are_nonempty, roots_part_scopes, scopes_are_entries, units_are_listed,
+    ends_follow_descendants, entries_are_contiguous, names_are_strings, offsets_rise,
+    ranges_are_nonempty, roots_partition_scopes, scopes_are_entries, units_are_contiguous,
 };
-pub use dwarf_units::laws::{entries_stand_at_counted_depths, offsets_of_entries_rise};
+pub use dwarf_units::laws::{entries_are_at_counted_depths, offsets_of_entries_rise};
 
 /// One scope of a unit is below another if and only if its number is greater than the other's
 /// number and less than the other's end. The number of a scope is the number of scopes before it.
@@ -44,14 +44,14 @@ pub fn base_is_of_last_base_entry()
 
 /// The number of each scope of an object is its index, and its end is within the list. A scope
 /// that starts inside another one also ends inside it.
-pub fn scopes_stand_in_order()
+pub fn scopes_are_in_order()
     ensures { (s : Sections) (tree : Tree) → tree_of s ≡ Ok tree → AreInOrder tree.scopes }
 {}
 
 /// If scopes are in order, the scope that the program stores at an index returns all data of the
 /// scope at that index.
-pub fn scopes_tell_of_their_places()
-    ensures { (scopes : List Scope) (kept : List Kept) (place : ℕ) (k : Kept)
-        → AreInOrder scopes → map own_of kept ≡ map own scopes → slice_get kept place ≡ Some k
-        → (s : Scope) × (slice_get scopes place ≡ Some s) × TellsOf scopes k s }
+pub fn scopes_have_their_data()
+    ensures { (scopes : List Scope) (stored : List StoredScope) (place : ℕ) (k : StoredScope)
+        → AreInOrder scopes → map own_of stored ≡ map own scopes → slice_get stored place ≡ Some k
+        → (s : Scope) × (slice_get scopes place ≡ Some s) × HasDataOf scopes k s }
 {}

@@ -4,11 +4,11 @@
 mod bases;
 mod calls;
 mod entry_names;
-mod known_names;
 pub mod laws;
+mod name_cache;
 mod names;
+mod origin_chains;
 mod passes;
-mod paths;
 mod range_entries;
 mod ranges;
 mod references;
@@ -16,8 +16,8 @@ mod roots;
 mod scope;
 mod scope_lists;
 mod scopes;
+mod string_sections;
 mod text_offset;
-mod texts;
 mod tree_laws;
 mod unit_scopes;
 

@@ -3,11 +3,11 @@
 ghost use Rattle.std.specs.Prelude.{◌≡◌};
 ghost use Rattle.dwarf_entries.specs.Names.{text_in, text_of};
 ghost use Rattle.dwarf_walk.specs.Sections.{sections_of};
-ghost use Rattle.dwarf_entries.specs.Private.Texts.{AreTexts};
+ghost use Rattle.dwarf_entries.specs.Private.StringSections.{AreStringSections};
 
 use crate::bases::{Table, item_at};
+use crate::string_sections::{StringSection, StringSections};
 use crate::text_offset::TextOffset;
-use crate::texts::{TextSection, Texts};
 use dwarf_bytes::constants::{DW_FORM_LINE_STRP, DW_FORM_STRING, DW_FORM_STRP};
 use dwarf_bytes::{Cause, Section, TableKind};
 use dwarf_units::AttributeValue;
@@ -19,18 +19,18 @@ use dwarf_walk::Sections;
 #[inline(always)]
 pub(crate) fn text_of(
     sections: &Sections<'_>,
-    texts: &Texts<'_>,
+    strings: &StringSections<'_>,
     str_offsets: Option<Table>,
     value: AttributeValue,
 ) -> Result<TextOffset, Cause>
-    requires { AreTexts (sections_of sections.now) texts.now }
+    requires { AreStringSections (sections_of sections.now) strings.now }
     ensures { result ≡ text_of (sections_of sections.now) str_offsets value }
 {
     let number = value.number;
     match value.form {
-        DW_FORM_STRING => text_in(Section::DebugInfo, &texts.info, number),
-        DW_FORM_STRP => text_in(Section::DebugStr, &texts.str, number),
-        DW_FORM_LINE_STRP => text_in(Section::DebugLineStr, &texts.line_str, number),
+        DW_FORM_STRING => text_in(Section::DebugInfo, &strings.info, number),
+        DW_FORM_STRP => text_in(Section::DebugStr, &strings.str, number),
+        DW_FORM_LINE_STRP => text_in(Section::DebugLineStr, &strings.line_str, number),
         _ => {
             let offset = item_at(
                 TableKind::StrOffsets,
@@ -38,7 +38,7 @@ pub(crate) fn text_of(
                 str_offsets,
                 number,
             )?;
-            text_in(Section::DebugStr, &texts.str, offset)
+            text_in(Section::DebugStr, &strings.str, offset)
         }
     }
 }
@@ -46,7 +46,7 @@ pub(crate) fn text_of(
 /// Returns the string at an offset of a section. Fails if no NUL follows.
 // Inlined: called for each name.
 #[inline(always)]
-fn text_in(name: Section, section: &TextSection<'_>, offset: u64) -> Result<TextOffset, Cause>
+fn text_in(name: Section, section: &StringSection<'_>, offset: u64) -> Result<TextOffset, Cause>
     ensures { result ≡ text_in name section.now offset }
 {
     let offset = section.text_at(offset)?;

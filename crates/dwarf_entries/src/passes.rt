@@ -8,43 +8,43 @@ ghost use Rattle.dwarf_units.specs.declared.unit_headers.UnitHeader.{UnitHeader}
 ghost use Rattle.dwarf_units.specs.Entries.{Die};
 ghost use Rattle.dwarf_walk.specs.Sections.{sections_of};
 ghost use Rattle.dwarf_units.specs.Units.{tables_of};
-ghost use Rattle.dwarf_walk.specs.Private.Kept.{kept_of};
-ghost use Rattle.dwarf_walk.specs.Private.Marks.{AddsMarks};
-ghost use Rattle.dwarf_entries.specs.Private.Walked.{all_offsets};
-ghost use Rattle.dwarf_entries.specs.Private.Passes.{all_entries, all_kept};
-ghost use Rattle.dwarf_entries.specs.Private.Passes.{kept_units, bases_in, all_bases};
+ghost use Rattle.dwarf_walk.specs.Private.Stored.{stored_of};
+ghost use Rattle.dwarf_walk.specs.Private.EntryBitmap.{AddsOffsets};
+ghost use Rattle.dwarf_entries.specs.Private.EntryOffsets.{all_offsets};
+ghost use Rattle.dwarf_entries.specs.Private.Passes.{all_entries, all_stored, stored_units};
+ghost use Rattle.dwarf_entries.specs.Private.Passes.{bases_in, all_bases};
 
 use crate::bases::Bases;
 use crate::roots::bases;
 use dwarf_bytes::{LoadFault, Section};
 use dwarf_units::{Tables, UnitHeader};
-use dwarf_walk::{Marks, Sections, UnitEntries, entries};
+use dwarf_walk::{EntryBitmap, Sections, UnitEntries, entries};
 use std::alloc::Global;
 
-/// Parses the entries of all units, whose tables are valid. Sets the bit of each entry in `marks`.
+/// Parses the entries of all units, whose tables are valid. Sets the bit of each entry in `bitmap`.
 pub(crate) fn all_entries(
     alloc: Global,
     sections: &Sections<'_>,
     headers: &[UnitHeader],
     tables: &mut Tables<'_>,
-    marks: &mut Marks,
+    bitmap: &mut EntryBitmap,
 ) -> Result<Vec<UnitEntries>, LoadFault>
     requires { tables.old.section ≡ sections.now.debug_abbrev.now }
     ensures section { tables.new.section ≡ tables.old.section }
     ensures decodes { (all : List (List Declaration))
         → tables_of sections.now.debug_abbrev.now headers.now ≡ Ok all
-        → Decodes (λ units. map kept_of units.items) result (in_section names.DebugInfo
-        (all_kept sections.now.debug_info.now headers.now all)) }
-    ensures marks { OnOk result ((all : List (List Declaration)) (dies : List (List Die))
+        → Decodes (λ units. map stored_of units.items) result (in_section names.DebugInfo
+        (all_stored sections.now.debug_info.now headers.now all)) }
+    ensures bitmap { OnOk result ((all : List (List Declaration)) (dies : List (List Die))
         → tables_of sections.now.debug_abbrev.now headers.now ≡ Ok all
         → all_entries sections.now.debug_info.now headers.now all ≡ Ok dies
-        → AddsMarks marks.old marks.new (all_offsets dies)) }
+        → AddsOffsets bitmap.old bitmap.new (all_offsets dies)) }
 {
     let mut units = Vec::new(alloc);
     for header in headers {
         let number = tables.number_of(alloc, header)?;
         let table = tables.table(number);
-        let unit = entries(alloc, sections.debug_info, *header, &table, marks)?;
+        let unit = entries(alloc, sections.debug_info, *header, &table, bitmap)?;
         units.push(unit)?;
     }
     Ok(units)
@@ -57,7 +57,7 @@ pub(crate) fn all_bases(
     units: &[UnitEntries],
 ) -> Result<Vec<Bases>, LoadFault>
     ensures { (headers : List UnitHeader) (dies : List (List Die))
-        → map kept_of units.now ≡ kept_units headers dies
+        → map stored_of units.now ≡ stored_units headers dies
         → Decodes (λ all. all.items) result (in_section names.DebugInfo (all_bases
         (sections_of sections.now) headers dies)) }
 {
@@ -82,7 +82,7 @@ fn unit_bases(sections: &Sections<'_>, unit: &UnitEntries) -> Result<Bases, Load
         }),
         Some(root) => match bases(sections, unit.header.format, root) {
             Ok(bases) => Ok(bases),
-            Err(cause) => Err(LoadFault::told(Section::DebugInfo, cause, root.offset as u64)),
+            Err(cause) => Err(LoadFault::at_item(Section::DebugInfo, cause, root.offset as u64)),
         },
     }
 }

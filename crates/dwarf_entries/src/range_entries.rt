@@ -2,8 +2,9 @@
 
 ghost use Rattle.std.specs.Prelude.{◌≡◌, ◌<◌, IsSome, IfOk};
 ghost use Rattle.dwarf_bytes.specs.Refusals.{ReadsField, ReadsNext};
-ghost use Rattle.dwarf_entries.specs.Ranges.{kind_of, covered, covered_from, covered_pair};
-ghost use Rattle.dwarf_entries.specs.Ranges.{index_at, entry_at, listed_behind};
+ghost use Rattle.dwarf_entries.specs.Ranges.{kind_of, range_between, live_range};
+ghost use Rattle.dwarf_entries.specs.Ranges.{live_range_from_base, index_at, entry_at};
+ghost use Rattle.dwarf_entries.specs.Ranges.{list_entry_of};
 ghost use Rattle.dwarf_walk.specs.Sections.{sections_of};
 
 use crate::bases::{Bases, item_at};
@@ -55,8 +56,8 @@ pub(crate) enum RangeListEntry {
 
 /// Returns the range from `start` up to `end` (exclusive), or `None` if they are equal. Fails if
 /// the range is backwards or does not fit into 64 bits.
-fn covered(start: u128, end: u128) -> Result<Option<Range>, Cause>
-    ensures { result ≡ covered (start, end) }
+fn range_between(start: u128, end: u128) -> Result<Option<Range>, Cause>
+    ensures { result ≡ range_between (start, end) }
 {
     let (Ok(from), Ok(to)) = (u64::try_from(start), u64::try_from(end)) else {
         return Err(Cause::Overflow);
@@ -71,28 +72,32 @@ fn covered(start: u128, end: u128) -> Result<Option<Range>, Cause>
 }
 
 /// Returns the range from `start` up to `end`, or `None` if `start` is the tombstone.
-pub(crate) fn covered_from(start: u128, end: u128) -> Result<Option<Range>, Cause>
-    ensures { result ≡ covered_from (start, end) }
+pub(crate) fn live_range(start: u128, end: u128) -> Result<Option<Range>, Cause>
+    ensures { result ≡ live_range (start, end) }
 {
     if start == u128::from(DROPPED) {
         return Ok(None);
     }
-    covered(start, end)
+    range_between(start, end)
 }
 
 /// Returns the range between two offsets from a base, or `None` if the base is the tombstone.
-fn covered_pair(base: u64, start: u64, end: u64) -> Result<Option<Range>, Cause>
-    ensures { result ≡ covered_pair base (start, end) }
+fn live_range_from_base(base: u64, start: u64, end: u64) -> Result<Option<Range>, Cause>
+    ensures { result ≡ live_range_from_base base (start, end) }
 {
     if base == DROPPED {
         return Ok(None);
     }
     let base = u128::from(base);
-    covered(base + u128::from(start), base + u128::from(end))
+    range_between(base + u128::from(start), base + u128::from(end))
 }
 
 /// Reads an index of `.debug_addr` at the cursor and returns its address.
-fn indexed(sections: &Sections<'_>, bases: &Bases, cursor: &mut Cursor) -> Result<u64, Cause>
+fn address_at_index(
+    sections: &Sections<'_>,
+    bases: &Bases,
+    cursor: &mut Cursor,
+) -> Result<u64, Cause>
     ensures { ReadsField (λ address. address) result (index_at
         (sections_of sections.now) bases.now) cursor.old cursor.new }
 {
@@ -114,23 +119,23 @@ fn entry(
 {
     let (start, end) = match kind {
         RangeListKind::BaseAddressx => {
-            return Ok(RangeListEntry::Base(indexed(sections, bases, cursor)?));
+            return Ok(RangeListEntry::Base(address_at_index(sections, bases, cursor)?));
         }
         RangeListKind::BaseAddress => return Ok(RangeListEntry::Base(cursor.u64()?)),
         RangeListKind::StartxEndx => {
-            let start = indexed(sections, bases, cursor)?;
-            let end = indexed(sections, bases, cursor)?;
+            let start = address_at_index(sections, bases, cursor)?;
+            let end = address_at_index(sections, bases, cursor)?;
             (u128::from(start), u128::from(end))
         }
         RangeListKind::StartxLength => {
-            let start = u128::from(indexed(sections, bases, cursor)?);
+            let start = u128::from(address_at_index(sections, bases, cursor)?);
             (start, start + u128::from(cursor.uleb()?))
         }
         RangeListKind::OffsetPair => {
             let start = cursor.uleb()?;
             let end = cursor.uleb()?;
             let base = base.ok_or(Cause::Base)?;
-            return Ok(RangeListEntry::Covers(covered_pair(base, start, end)?));
+            return Ok(RangeListEntry::Covers(live_range_from_base(base, start, end)?));
         }
         RangeListKind::StartEnd => {
             let start = u128::from(cursor.u64()?);
@@ -141,27 +146,27 @@ fn entry(
             (start, start + u128::from(cursor.uleb()?))
         }
     };
-    Ok(RangeListEntry::Covers(covered_from(start, end)?))
+    Ok(RangeListEntry::Covers(live_range(start, end)?))
 }
 
 /// Reads the entry at the cursor, or returns `None` at the end of the list. `count` is the number
-/// of entries before it, `room` the maximum number of entries, and `base` the current base.
+/// of entries before it, `budget` the maximum number of entries, and `base` the current base.
 pub(crate) fn next_entry(
-    room: u64,
+    budget: u64,
     count: u64,
     base: Option<u64>,
     sections: &Sections<'_>,
     bases: &Bases,
     cursor: &mut Cursor,
 ) -> Result<Option<RangeListEntry>, Cause>
-    ensures reads { ReadsNext result (listed_behind room
+    ensures reads { ReadsNext result (list_entry_of budget
         (sections_of sections.now) bases.now count base) cursor.old cursor.new }
-    ensures room { IfOk result (λ next. IsSome next → count < room) }
+    ensures budget { IfOk result (λ next. IsSome next → count < budget) }
 {
     let Some(kind) = RangeListKind::of(cursor.u8()?)? else {
         return Ok(None);
     };
-    if count >= room {
+    if count >= budget {
         return Err(Cause::TooMany);
     }
     Ok(Some(entry(kind, base, sections, bases, cursor)?))

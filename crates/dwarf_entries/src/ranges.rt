@@ -1,13 +1,13 @@
 //! The address ranges of a scope (DWARF 5, 2.17 and 7.25).
 
 ghost use Rattle.std.specs.Prelude.{◌≡◌};
-ghost use Rattle.dwarf_entries.specs.Ranges.{list_place, list_at, list_of, high_of};
-ghost use Rattle.dwarf_entries.specs.Ranges.{pair_range, pair_at, covers_by};
+ghost use Rattle.dwarf_entries.specs.Ranges.{list_place, list_at, list_of, high_of, pair_range};
+ghost use Rattle.dwarf_entries.specs.Ranges.{pair_at, covers_by};
 ghost use Rattle.dwarf_entries.specs.Private.Shared.{AddsRanges};
 ghost use Rattle.dwarf_walk.specs.Sections.{sections_of};
 
 use crate::bases::{Bases, address_of, item_at};
-use crate::range_entries::{RangeListEntry, covered_from, next_entry};
+use crate::range_entries::{RangeListEntry, live_range, next_entry};
 use crate::scope::Range;
 use dwarf_bytes::constants::DW_FORM_RNGLISTX;
 use dwarf_bytes::{Cause, Cursor, TableKind};
@@ -15,45 +15,45 @@ use dwarf_units::{AttributeValue, is_address};
 use dwarf_walk::{ScopeEntry, Sections};
 
 /// Appends the ranges of a scope, given by its low_pc, high_pc and ranges, to `all`. Returns the
-/// number of range items that were read, which is at most `room`. Fails if the attributes
+/// number of range items that were read, which is at most `budget`. Fails if the attributes
 /// contradict each other.
 pub(crate) fn covers(
-    room: u64,
+    budget: u64,
     sections: &Sections<'_>,
     bases: &Bases,
     entry: &ScopeEntry,
     all: &mut Vec<Range>,
 ) -> Result<u64, Cause>
-    ensures { AddsRanges result all.old.items all.new.items (covers_by room
+    ensures { AddsRanges result all.old.items all.new.items (covers_by budget
         (sections_of sections.now) bases.now entry.now.low_pc entry.now.high_pc entry.now.ranges) }
 {
     match (entry.low_pc, entry.high_pc, entry.ranges) {
-        (None, None, Some(ranges)) => listed(room, sections, bases, ranges, all),
+        (None, None, Some(ranges)) => add_list_of(budget, sections, bases, ranges, all),
         (_, _, Some(_)) | (None, Some(_), None) => Err(Cause::PcAndRanges),
         (Some(low_pc), Some(high_pc), None) => {
-            paired(room, sections, bases, low_pc, high_pc, all)
+            add_pair(budget, sections, bases, low_pc, high_pc, all)
         }
         (_, None, None) => Ok(0),
     }
 }
 
 /// Appends the ranges of the range list that an attribute refers to.
-#[tactic(auto, using(crate::proofs::RangeTurns::list_outside))]
-fn listed(
-    room: u64,
+#[tactic(auto, using(crate::proofs::RangeLists::RangeTurns::list_outside))]
+fn add_list_of(
+    budget: u64,
     sections: &Sections<'_>,
     bases: &Bases,
     value: AttributeValue,
     all: &mut Vec<Range>,
 ) -> Result<u64, Cause>
-    ensures { AddsRanges result all.old.items all.new.items (list_of room
+    ensures { AddsRanges result all.old.items all.new.items (list_of budget
         (sections_of sections.now) bases.now value) }
 {
     let place = list_place(sections, bases, value)?;
     if place > sections.debug_rnglists.len() as u128 {
         return Err(Cause::Short);
     }
-    list(room, sections, bases, place as u64, all)
+    add_list(budget, sections, bases, place as u64, all)
 }
 
 /// Returns the offset in `.debug_rnglists` of the range list that an attribute refers to.
@@ -70,23 +70,23 @@ fn list_place(sections: &Sections<'_>, bases: &Bases, value: AttributeValue) -> 
     Ok(u128::from(table.base) + u128::from(offset))
 }
 
-/// Appends the ranges of the range list at an offset of `.debug_rnglists`. Reads at most `room`
+/// Appends the ranges of the range list at an offset of `.debug_rnglists`. Reads at most `budget`
 /// entries.
-pub(crate) fn list(
-    room: u64,
+pub(crate) fn add_list(
+    budget: u64,
     sections: &Sections<'_>,
     bases: &Bases,
     place: u64,
     all: &mut Vec<Range>,
 ) -> Result<u64, Cause>
-    ensures { AddsRanges result all.old.items all.new.items (list_at room
+    ensures { AddsRanges result all.old.items all.new.items (list_at budget
         (sections_of sections.now) bases.now place) }
 {
     let mut cursor = Cursor::new(sections.debug_rnglists);
     cursor.seek(place as usize)?;
     let mut items = 0;
     let mut base = bases.low_pc;
-    while let Some(entry) = next_entry(room, items, base, sections, bases, &mut cursor)? {
+    while let Some(entry) = next_entry(budget, items, base, sections, bases, &mut cursor)? {
         items += 1;
         match entry {
             RangeListEntry::Base(new) => base = Some(new),
@@ -126,22 +126,22 @@ pub(crate) fn pair(
 {
     let start = address_of(sections, bases.addr, low_pc)?;
     let end = high(sections, bases, start, high_pc)?;
-    covered_from(u128::from(start), end)
+    live_range(u128::from(start), end)
 }
 
 /// Appends the range of a low_pc and high_pc, if the budget has at least one item.
-fn paired(
-    room: u64,
+fn add_pair(
+    budget: u64,
     sections: &Sections<'_>,
     bases: &Bases,
     low_pc: AttributeValue,
     high_pc: AttributeValue,
     all: &mut Vec<Range>,
 ) -> Result<u64, Cause>
-    ensures { AddsRanges result all.old.items all.new.items (pair_at room
+    ensures { AddsRanges result all.old.items all.new.items (pair_at budget
         (sections_of sections.now) bases.now low_pc high_pc) }
 {
-    if room == 0 {
+    if budget == 0 {
         return Err(Cause::TooMany);
     }
     if let Some(range) = pair(sections, bases, low_pc, high_pc)? {

@@ -1,16 +1,17 @@
 //! Resolution of references to entries (DWARF 5, 2.13 and 7.5.5).
 
-ghost use Rattle.std.specs.Prelude.{◌≡◌, ◌<◌, ◌≤◌, ◌⊎◌, List, Some, IfSome};
-ghost use Rattle.std.specs.Prelude.{MatchOption, length, slice_get};
+ghost use Rattle.std.specs.Prelude.{◌≡◌, ◌<◌, ◌≤◌, ◌⊎◌, List, Some, IfSome, MatchOption, length};
+ghost use Rattle.std.specs.Prelude.{slice_get};
 ghost use Rattle.std.specs.List.Sorted.{IsNonDecreasingBy, IsPartitionPoint};
 ghost use Rattle.dwarf_entries.specs.Bases.{CompilationUnit};
 ghost use Rattle.dwarf_entries.specs.Names.{target_of};
-ghost use Rattle.dwarf_entries.specs.Private.Walked.{AreMarked};
-ghost use Rattle.dwarf_entries.specs.Private.Members.{AreKept, Finds, LeadsTo, IsWithin, member_in};
+ghost use Rattle.dwarf_entries.specs.Private.EntryOffsets.{IsBitmapOf};
+ghost use Rattle.dwarf_entries.specs.Private.Members.{AreStoredAs, Finds, LeadsTo, IsWithin};
+ghost use Rattle.dwarf_entries.specs.Private.Members.{member_in};
 
 use dwarf_bytes::constants::DW_FORM_REF_ADDR;
 use dwarf_units::{AttributeValue, UnitHeader};
-use dwarf_walk::{Marks, UnitEntries};
+use dwarf_walk::{EntryBitmap, UnitEntries};
 
 /// The offset of an entry in `.debug_info`, with the index of its unit.
 #[derive(Clone, Copy)]
@@ -22,16 +23,16 @@ pub(crate) struct UnitPlace {
 /// Resolves a reference in a unit, or returns `None` if no entry is at its target.
 pub(crate) fn target(
     units: &[UnitEntries],
-    marks: &Marks,
+    bitmap: &EntryBitmap,
     unit: usize,
     reference: AttributeValue,
 ) -> Option<UnitPlace>
-    ensures { (us : List CompilationUnit) → AreKept units.now us → AreMarked marks.now us
+    ensures { (us : List CompilationUnit) → AreStoredAs units.now us → IsBitmapOf bitmap.now us
         → (u : CompilationUnit) → slice_get us unit ≡ Some u
         → Finds us result (target_of us u reference) }
 {
-    let place = place_named(units, unit, reference)?;
-    if marks.is_marked(place.offset) {
+    let place = target_place(units, unit, reference)?;
+    if bitmap.has_entry(place.offset) {
         return Some(place);
     }
     None
@@ -40,15 +41,15 @@ pub(crate) fn target(
 /// Resolves a reference in a unit without a look at the bitmap of entries. A DW_FORM_ref_addr is
 /// relative to the start of `.debug_info`, and all other forms are relative to the first byte of
 /// the unit. Returns `None` if the target is not within its unit.
-pub(crate) fn place_named(
+pub(crate) fn target_place(
     units: &[UnitEntries],
     unit: usize,
     reference: AttributeValue,
 ) -> Option<UnitPlace>
-    ensures leads { (us : List CompilationUnit) → AreKept units.now us
+    ensures leads { (us : List CompilationUnit) → AreStoredAs units.now us
         → (u : CompilationUnit) → slice_get us unit ≡ Some u
         → LeadsTo us result (target_of us u reference) }
-    ensures within { (us : List CompilationUnit) → AreKept units.now us
+    ensures within { (us : List CompilationUnit) → AreStoredAs units.now us
         → IfSome result (IsWithin us) }
 {
     let number = u128::from(reference.number);
@@ -61,13 +62,13 @@ pub(crate) fn place_named(
 
 /// Returns an offset of the section as a place, if it is in the unit at an index.
 fn place_in(units: &[UnitEntries], unit: usize, offset: u128) -> Option<UnitPlace>
-    ensures leads { (us : List CompilationUnit) → AreKept units.now us
+    ensures leads { (us : List CompilationUnit) → AreStoredAs units.now us
         → LeadsTo us result (member_in us unit offset) }
-    ensures within { (us : List CompilationUnit) → AreKept units.now us
+    ensures within { (us : List CompilationUnit) → AreStoredAs units.now us
         → IfSome result (IsWithin us) }
 {
-    let kept = units.get(unit)?;
-    let offset = place_within(&kept.header, offset)?;
+    let stored = units.get(unit)?;
+    let offset = place_within(&stored.header, offset)?;
     Some(UnitPlace { unit, offset })
 }
 

@@ -1,8 +1,8 @@
 //! The data of subprograms and inlined subroutines (DWARF 5, 3.3).
 
 ghost use Rattle.std.specs.Prelude.{◌≡◌, IfOk};
-ghost use Rattle.dwarf_entries.specs.Scopes.{own_of, ranges_at, stmt_list_at};
-ghost use Rattle.dwarf_entries.specs.Scopes.{call_file_at, call_line_at};
+ghost use Rattle.dwarf_entries.specs.Scopes.{own_of, ranges_at, stmt_list_at, call_file_at};
+ghost use Rattle.dwarf_entries.specs.Scopes.{call_line_at};
 ghost use Rattle.dwarf_entries.specs.Private.Shared.{Packs};
 
 use crate::calls::{CallSite, Calls};
@@ -72,23 +72,23 @@ impl Scope {
     /// is the list of call sites that need 64 bits. Any other number of 2^32 or more is reported
     /// as an allocation failure.
     pub(crate) fn of(
-        told: ScopeFacts,
+        facts: ScopeFacts,
         ranges_end: usize,
         wide: &mut Vec<CallSite>,
     ) -> Result<Scope, AllocError>
-        ensures { IfOk result (Packs told ranges_end wide.old.items wide.new.items) }
+        ensures { IfOk result (Packs facts ranges_end wide.old.items wide.new.items) }
     {
-        let (name_section, name_offset) = text_parts(told.name).ok_or(AllocError)?;
-        let (linkage_name_section, linkage_name_offset) = text_parts(told.linkage_name).ok_or(
+        let (name_section, name_offset) = text_parts(facts.name).ok_or(AllocError)?;
+        let (linkage_name_section, linkage_name_offset) = text_parts(facts.linkage_name).ok_or(
             AllocError,
         )?;
-        let (calls, call_file, call_line) = told.site.pack(wide)?;
+        let (calls, call_file, call_line) = facts.site.pack(wide)?;
         Ok(Scope {
-            offset: narrow(told.offset)?,
-            number: narrow(told.number)?,
-            end: narrow(told.end)?,
+            offset: narrow(facts.offset)?,
+            number: narrow(facts.number)?,
+            end: narrow(facts.end)?,
             ranges_end: narrow(ranges_end)?,
-            root: narrow(told.root)?,
+            root: narrow(facts.root)?,
             name_offset,
             linkage_name_offset,
             call_file,
@@ -96,7 +96,7 @@ impl Scope {
             name_section,
             linkage_name_section,
             calls,
-            kind: told.kind,
+            kind: facts.kind,
         })
     }
 

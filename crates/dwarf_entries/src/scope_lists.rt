@@ -1,7 +1,7 @@
 //! The scopes of an object, with the lists that they share.
 
-ghost use Rattle.std.specs.Prelude.{◌≡◌, ◌≤◌, ◌-◌, ℕ, [], List, length, take, drop};
-ghost use Rattle.std.specs.Prelude.{vec_capacity, IfOk};
+ghost use Rattle.std.specs.Prelude.{◌≡◌, ◌≤◌, ◌-◌, ℕ, [], List, length, take, drop, vec_capacity};
+ghost use Rattle.std.specs.Prelude.{IfOk};
 ghost use Rattle.dwarf_entries.specs.declared.scope.Root.{Root};
 ghost use Rattle.dwarf_entries.specs.Scopes.{scopes_of, ranges_at};
 ghost use Rattle.dwarf_entries.specs.Private.Shared.{ranges_start, IsPushed};
@@ -26,7 +26,7 @@ impl ScopeLists {
         ensures scopes { IfOk result (λ lists. lists.scopes.items ≡ []) }
         ensures ranges { IfOk result (λ lists. lists.ranges.items ≡ []) }
         ensures wide { IfOk result (λ lists. lists.wide.items ≡ []) }
-        ensures room { IfOk result (λ lists. count ≤ vec_capacity lists.scopes) }
+        ensures budget { IfOk result (λ lists. count ≤ vec_capacity lists.scopes) }
     {
         Ok(ScopeLists {
             scopes: Vec::with_capacity(alloc, count)?,

@@ -4,23 +4,23 @@ ghost use Rattle.std.specs.Prelude.{◌≡◌, ◌<◌, ◌^◌, map, List};
 ghost use Rattle.dwarf_bytes.specs.Refusals.{Decodes, Builds};
 ghost use Rattle.dwarf_walk.specs.Sections.{sections_of};
 ghost use Rattle.dwarf_entries.specs.Bases.{CompilationUnit};
-ghost use Rattle.dwarf_entries.specs.Scopes.{own, own_of, ranges_at, stmt_list_at};
-ghost use Rattle.dwarf_entries.specs.Scopes.{call_file_at, call_line_at, roots_from, tree_of};
-ghost use Rattle.dwarf_entries.specs.Private.Texts.{AreTexts};
-ghost use Rattle.dwarf_walk.specs.Private.Again.{IsReaderOf};
-ghost use Rattle.dwarf_entries.specs.Private.Passes.{kept_unit_of, TablesRead, tree_with};
-ghost use Rattle.dwarf_walk.specs.Private.Kept.{kept_of};
-ghost use Rattle.dwarf_entries.specs.Private.Walked.{scope_count};
+ghost use Rattle.dwarf_entries.specs.Scopes.{own, own_of, ranges_at, stmt_list_at, call_file_at};
+ghost use Rattle.dwarf_entries.specs.Scopes.{call_line_at, roots_from, tree_of};
+ghost use Rattle.dwarf_entries.specs.Private.StringSections.{AreStringSections};
+ghost use Rattle.dwarf_walk.specs.Private.Rereading.{IsReaderOf};
+ghost use Rattle.dwarf_entries.specs.Private.Passes.{stored_unit_of, TablesRead, tree_with};
+ghost use Rattle.dwarf_walk.specs.Private.Stored.{stored_of};
+ghost use Rattle.dwarf_entries.specs.Private.EntryOffsets.{scope_count};
 
 use crate::calls::CallSite;
 use crate::passes::{all_bases, all_entries};
 use crate::scope::{Range, Root, Scope};
 use crate::scope_lists::ScopeLists;
-use crate::texts::Texts;
+use crate::string_sections::StringSections;
 use crate::unit_scopes::Units;
 use dwarf_bytes::LoadFault;
 use dwarf_units::{Tables, UnitHeader, units};
-use dwarf_walk::{EntryReader, Marks, Sections, UnitEntries};
+use dwarf_walk::{EntryBitmap, EntryReader, Sections, UnitEntries};
 use std::alloc::{AllocError, Global};
 use std::marker::Model;
 
@@ -49,39 +49,39 @@ impl Scopes {
     {
         bound_places(alloc, sections)?;
         let headers = units(alloc, sections.debug_info)?;
-        let tables = Tables::judge(alloc, sections.debug_abbrev, headers.as_slice())?;
+        let tables = Tables::validate(alloc, sections.debug_abbrev, headers.as_slice())?;
         let mut reader = EntryReader::new(alloc, sections, tables);
-        let texts = Texts::of(sections);
-        Scopes::read_with(alloc, sections, &texts, headers.as_slice(), &mut reader)
+        let strings = StringSections::of(sections);
+        Scopes::read_with(alloc, sections, &strings, headers.as_slice(), &mut reader)
     }
 
     /// Parses entries, roots and scopes. The abbreviation tables must be valid.
     fn read_with(
         alloc: Global,
         sections: &Sections<'_>,
-        texts: &Texts<'_>,
+        strings: &StringSections<'_>,
         headers: &[UnitHeader],
         reader: &mut EntryReader<'_>,
     ) -> Result<Scopes, LoadFault>
-        requires texts { AreTexts (sections_of sections.now) texts.now }
+        requires strings { AreStringSections (sections_of sections.now) strings.now }
         requires tables { TablesRead (sections_of sections.now) headers.now }
         requires reader { IsReaderOf (sections_of sections.now) reader.old }
         ensures { (read : TablesRead (sections_of sections.now) headers.now)
             → Decodes (λ scopes. scopes) result (tree_with
             (sections_of sections.now) headers.now read.tables) }
     {
-        let mut marks = Marks::new(alloc);
-        let kept = all_entries(alloc, sections, headers, &mut reader.tables, &mut marks)?;
-        let bases = all_bases(alloc, sections, kept.as_slice())?;
+        let mut bitmap = EntryBitmap::new(alloc);
+        let stored = all_entries(alloc, sections, headers, &mut reader.tables, &mut bitmap)?;
+        let bases = all_bases(alloc, sections, stored.as_slice())?;
         let units = Units {
             sections,
-            texts,
-            units: kept.as_slice(),
-            marks: &marks,
+            strings,
+            units: stored.as_slice(),
+            bitmap: &bitmap,
             bases: bases.as_slice(),
         };
         let lists = units.scopes(alloc, reader)?;
-        let roots = roots(alloc, kept.as_slice())?;
+        let roots = roots(alloc, stored.as_slice())?;
         Ok(Scopes { roots, lists })
     }
 
@@ -133,12 +133,15 @@ impl Scopes {
 /// Fails with an allocation failure if a section has 2^32 bytes or more, because scopes are stored
 /// with 32-bit offsets. The failure is caused by an allocation that is too large for any machine.
 fn bound_places(alloc: Global, sections: &Sections<'_>) -> Result<(), AllocError> {
-    let texts = [
+    let strings = [
         sections.debug_info,
         sections.debug_str,
         sections.debug_line_str,
     ];
-    if texts.iter().all(|bytes| u32::try_from(bytes.len()).is_ok()) {
+    if strings
+        .iter()
+        .all(|bytes| u32::try_from(bytes.len()).is_ok())
+    {
         return Ok(());
     }
     let _: Vec<u8> = Vec::with_capacity(alloc, usize::MAX)?;
@@ -149,7 +152,7 @@ fn bound_places(alloc: Global, sections: &Sections<'_>) -> Result<(), AllocError
 fn roots(alloc: Global, units: &[UnitEntries]) -> Result<Vec<Root>, LoadFault>
     requires { scope_count units.now < 2 ^ 63 }
     ensures { (us : List CompilationUnit)
-        → map kept_of units.now ≡ map kept_unit_of us
+        → map stored_of units.now ≡ map stored_unit_of us
         → Builds (λ roots. roots.items) result (roots_from 0 us) }
 {
     let mut roots = Vec::new(alloc);

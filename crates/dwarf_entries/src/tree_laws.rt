@@ -1,20 +1,20 @@
 //! Theorems about the result for a whole object.
 
-ghost use Rattle.std.specs.Prelude.{◌≡◌, ◌<◌, ◌≤◌, ◌↔◌, ℕ, List, Some, Ok, true, IfSome};
-ghost use Rattle.std.specs.Prelude.{All, Contains, map, length, slice_get, sum_by};
+ghost use Rattle.std.specs.Prelude.{◌≡◌, ◌<◌, ◌≤◌, ◌↔◌, ℕ, List, Some, Ok, true, IfSome, All};
+ghost use Rattle.std.specs.Prelude.{Contains, map, length, slice_get, sum_by};
 ghost use Rattle.std.specs.List.{filter_map};
 ghost use Rattle.dwarf_forms.specs.Declarations.{Declaration};
 ghost use Rattle.dwarf_units.specs.declared.unit_headers.UnitHeader.{UnitHeader};
 ghost use Rattle.dwarf_units.specs.Units.{headers_of, units_of};
-ghost use Rattle.dwarf_units.specs.Entries.{Standing, Die, IsBelow, die_of, entries_of};
+ghost use Rattle.dwarf_units.specs.Entries.{LocatedNode, Die, IsBelow, die_of, entries_of};
 ghost use Rattle.dwarf_entries.specs.declared.scope.Root.{Root};
 ghost use Rattle.dwarf_entries.specs.Bases.{CompilationUnit};
 ghost use Rattle.dwarf_entries.specs.Scopes.{Scope, Tree, items_limit, roots_from, tree_of};
 ghost use Rattle.dwarf_walk.specs.ScopeEntries.{is_scope};
 ghost use Rattle.dwarf_walk.specs.Sections.{Sections};
-ghost use Rattle.dwarf_entries.specs.TreeLaws.{RiseBelow, HoldsAddresses, ArePartsFrom, IsOfUnit};
-ghost use Rattle.dwarf_entries.specs.TreeLaws.{units_read, IsEntry, IsTextOf};
-ghost use Rattle.dwarf_entries.specs.TreeLaws.{StandEndToEnd, FillsUnit};
+ghost use Rattle.dwarf_entries.specs.TreeLaws.{RiseBelow, IsValidRange, ArePartsFrom, IsOfUnit};
+ghost use Rattle.dwarf_entries.specs.TreeLaws.{units_read, IsEntry, IsTextOf, AreContiguous};
+ghost use Rattle.dwarf_entries.specs.TreeLaws.{FillsUnit};
 
 /// The offsets of the scopes are strictly increasing, and so are the offsets of the roots. All are
 /// within `.debug_info`.
@@ -29,14 +29,14 @@ pub fn offsets_rise()
 /// on range items.
 pub fn ranges_are_nonempty()
     ensures ranges { (s : Sections) (tree : Tree) → tree_of s ≡ Ok tree
-        → All (λ (scope : Scope). All HoldsAddresses scope.ranges) tree.scopes }
+        → All (λ (scope : Scope). All IsValidRange scope.ranges) tree.scopes }
     ensures count { (s : Sections) (tree : Tree) → tree_of s ≡ Ok tree
         → sum_by (λ (scope : Scope). length scope.ranges) tree.scopes ≤ items_limit }
 {}
 
 /// The roots partition the numbers of the scopes, in order and without gaps. A scope belongs to
 /// the unit of the root that contains its number.
-pub fn roots_part_scopes()
+pub fn roots_partition_scopes()
     ensures parts { (s : Sections) (tree : Tree) → tree_of s ≡ Ok tree
         → ArePartsFrom 0 (length tree.scopes) tree.roots }
     ensures scopes { (s : Sections) (tree : Tree) (root : Root) (scope : Scope)
@@ -61,7 +61,7 @@ pub fn scopes_are_entries()
 
 /// One scope is below another in the same unit if and only if its number is greater than the
 /// other's number and less than the other's end.
-pub fn ends_are_of_what_is_below()
+pub fn ends_follow_descendants()
     ensures { (s : Sections) (tree : Tree) (units : List CompilationUnit) (outer inner : Scope)
         (i j p q : ℕ) → tree_of s ≡ Ok tree → units_read s ≡ Ok units
         → Contains tree.scopes outer → Contains tree.scopes inner
@@ -71,7 +71,7 @@ pub fn ends_are_of_what_is_below()
 {}
 
 /// The names of a scope are NUL-terminated strings in their sections.
-pub fn names_are_texts()
+pub fn names_are_strings()
     ensures names { (s : Sections) (tree : Tree) → tree_of s ≡ Ok tree
         → All (λ (scope : Scope). IfSome scope.name (IsTextOf s)) tree.scopes }
     ensures linkage_names { (s : Sections) (tree : Tree) → tree_of s ≡ Ok tree
@@ -79,17 +79,18 @@ pub fn names_are_texts()
 {}
 
 /// The units are contiguous in `.debug_info`, as their headers describe.
-pub fn units_are_listed()
+pub fn units_are_contiguous()
     ensures { (info : List ℕ) (headers : List UnitHeader) → headers_of info ≡ Ok headers
-        → StandEndToEnd info 0 headers }
+        → AreContiguous info 0 headers }
 {}
 
 /// The entries and null entries of a unit are contiguous, from its first entry up to the end of
 /// the unit. The entries of the unit are those that are not null.
-pub fn entries_are_listed()
+pub fn entries_are_contiguous()
     ensures { (info : List ℕ) (headers : List UnitHeader) (header : UnitHeader)
         (table : List Declaration) (dies : List Die)
         → units_of info ≡ Ok headers → Contains headers header
         → entries_of info header table ≡ Ok dies
-        → (all : List Standing) × FillsUnit info header table all × (filter_map die_of all ≡ dies) }
+        → (all : List LocatedNode) × FillsUnit info header table all × (filter_map die_of all
+        ≡ dies) }
 {}

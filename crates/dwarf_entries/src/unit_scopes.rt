@@ -1,32 +1,32 @@
 //! The pass over the scopes of all units (DWARF 5, 3.3), which resolves their names and then their
 //! ranges.
 
-ghost use Rattle.std.specs.Prelude.{◌≡◌, ◌≤◌, ◌<◌, ◌+◌, ◌^◌, List, Some};
-ghost use Rattle.std.specs.Prelude.{◌-◌, length, min, slice_get, IfOk, OnOk};
+ghost use Rattle.std.specs.Prelude.{◌≡◌, ◌≤◌, ◌<◌, ◌+◌, ◌^◌, List, Some, ◌-◌, length, min};
+ghost use Rattle.std.specs.Prelude.{slice_get, IfOk, OnOk};
 ghost use Rattle.dwarf_bytes.specs.declared.fault.Section.TheVariants as names;
 ghost use Rattle.dwarf_bytes.specs.Refusals.{Decodes, in_section};
 ghost use Rattle.dwarf_walk.specs.Sections.{Sections as SectionBytes, sections_of};
-ghost use Rattle.dwarf_entries.specs.Private.Texts.{AreTexts};
+ghost use Rattle.dwarf_entries.specs.Private.StringSections.{AreStringSections};
 ghost use Rattle.dwarf_entries.specs.Bases.{CompilationUnit};
-ghost use Rattle.dwarf_entries.specs.Scopes.{Judged, ScopeSite, scope_at};
-ghost use Rattle.dwarf_entries.specs.Scopes.{sites_in, roots_from, scopes_of};
-ghost use Rattle.dwarf_entries.specs.Private.Passes.{AreUnits, IsRootOf, IsScopeSite, AreJudged};
+ghost use Rattle.dwarf_entries.specs.Scopes.{ParsedScope, ScopeSite, scope_at, sites_in};
+ghost use Rattle.dwarf_entries.specs.Scopes.{roots_from, scopes_of};
+ghost use Rattle.dwarf_entries.specs.Private.Passes.{AreUnits, IsRootOf, IsScopeSite, AreParsed};
 ghost use Rattle.dwarf_entries.specs.Private.Passes.{AddsScopes, scope_facts, all_scopes};
-ghost use Rattle.dwarf_entries.specs.Private.Walked.{scope_count, AreMarked, AreReadIn};
-ghost use Rattle.dwarf_walk.specs.Private.Again.{IsReaderOf};
-ghost use Rattle.dwarf_entries.specs.Private.KnownNames.{AreKnownOf};
+ghost use Rattle.dwarf_entries.specs.Private.EntryOffsets.{scope_count, IsBitmapOf, AreReadIn};
+ghost use Rattle.dwarf_walk.specs.Private.Rereading.{IsReaderOf};
+ghost use Rattle.dwarf_entries.specs.Private.NameCache.{IsCacheOf};
 ghost use Rattle.dwarf_entries.specs.Private.Shared.{AddsFacts};
 
 use crate::bases::Bases;
 use crate::calls::CallSite;
-use crate::known_names::KnownNames;
-use crate::paths::{EntryNames, UnitEntry};
+use crate::name_cache::NameCache;
+use crate::origin_chains::{EntryNames, UnitEntry};
 use crate::ranges::covers;
 use crate::scope::{Range, ScopeFacts};
 use crate::scope_lists::ScopeLists;
-use crate::texts::Texts;
+use crate::string_sections::StringSections;
 use dwarf_bytes::{Cause, LoadFault, Section};
-use dwarf_walk::{EntryReader, Marks, ScopeEntry, Sections, UnitEntries};
+use dwarf_walk::{EntryBitmap, EntryReader, ScopeEntry, Sections, UnitEntries};
 use std::alloc::Global;
 
 /// The maximum number of range items that are read for an object.
@@ -36,9 +36,9 @@ const ITEMS_LIMIT: u64 = 4_194_304;
 #[derive(Clone, Copy)]
 pub(crate) struct Units<'a> {
     pub(crate) sections: &'a Sections<'a>,
-    pub(crate) texts: &'a Texts<'a>,
+    pub(crate) strings: &'a StringSections<'a>,
     pub(crate) units: &'a [UnitEntries],
-    pub(crate) marks: &'a Marks,
+    pub(crate) bitmap: &'a EntryBitmap,
     pub(crate) bases: &'a [Bases],
 }
 
@@ -54,37 +54,37 @@ pub(crate) struct ScopeNumbers {
 
 impl<'a> Units<'a> {
     /// Resolves the names and ranges of a scope. Returns its data and the number of range items
-    /// that were read, which is at most `room`. Appends its ranges to `ranges`.
+    /// that were read, which is at most `budget`. Appends its ranges to `ranges`.
     fn scope(
         self,
         reader: &mut EntryReader<'_>,
-        known: &mut KnownNames,
+        cache: &mut NameCache,
         numbers: ScopeNumbers,
         entry: &ScopeEntry,
-        room: u64,
+        budget: u64,
         ranges: &mut Vec<Range>,
     ) -> Result<(ScopeFacts, u64), Cause>
-        requires texts { AreTexts (sections_of self.sections.now) self.texts.now }
+        requires strings { AreStringSections (sections_of self.sections.now) self.strings.now }
         requires unit { (numbers.unit < length self.units.now)
             × (numbers.unit < length self.bases.now) }
         requires end { numbers.number + numbers.inside + 1 < 2 ^ 64 }
-        ensures judged { (us : List CompilationUnit) (before : List Judged)
+        ensures parsed { (us : List CompilationUnit) (before : List ParsedScope)
             (p : ScopeSite) → AreUnits self.entry.units.now self.entry.bases.now us
-            → AreMarked self.entry.marks.now us
-            → IsScopeSite us numbers entry.now room before p
+            → IsBitmapOf self.entry.bitmap.now us
+            → IsScopeSite us numbers entry.now budget before p
             → AreReadIn (sections_of self.entry.sections.now) us
             → IsReaderOf (sections_of self.entry.sections.now) reader.old
-            → AreKnownOf (sections_of self.entry.sections.now) us known.old
+            → IsCacheOf (sections_of self.entry.sections.now) us cache.old
             → AddsFacts (roots_from 0 us) result ranges.old.items ranges.new.items (scope_at
             (sections_of self.entry.sections.now) us before p) }
-        ensures room { IfOk result (λ found. found.1 ≤ room) }
-        ensures known { OnOk result ((us : List CompilationUnit)
+        ensures budget { IfOk result (λ found. found.1 ≤ budget) }
+        ensures cache { OnOk result ((us : List CompilationUnit)
             → AreUnits self.entry.units.now self.entry.bases.now us
-            → AreMarked self.entry.marks.now us
+            → IsBitmapOf self.entry.bitmap.now us
             → AreReadIn (sections_of self.entry.sections.now) us
             → IsReaderOf (sections_of self.entry.sections.now) reader.old
-            → AreKnownOf (sections_of self.entry.sections.now) us known.old
-            → AreKnownOf (sections_of self.entry.sections.now) us known.new) }
+            → IsCacheOf (sections_of self.entry.sections.now) us cache.old
+            → IsCacheOf (sections_of self.entry.sections.now) us cache.new) }
         ensures reader { (s : SectionBytes) → IsReaderOf s reader.old → IsReaderOf s reader.new }
     {
         let unit = numbers.unit;
@@ -92,8 +92,8 @@ impl<'a> Units<'a> {
             unit,
             entry: entry.entry,
         };
-        let names = self.names(reader, known, start)?;
-        let items = covers(room, self.sections, &self.bases[unit], entry, ranges)?;
+        let names = self.names(reader, cache, start)?;
+        let items = covers(budget, self.sections, &self.bases[unit], entry, ranges)?;
         Ok((facts(numbers, entry, names), items))
     }
 
@@ -102,39 +102,39 @@ impl<'a> Units<'a> {
     fn unit_scopes(
         self,
         reader: &mut EntryReader<'_>,
-        known: &mut KnownNames,
+        cache: &mut NameCache,
         unit: usize,
         root: usize,
         left: &mut u64,
         lists: &mut ScopeLists,
     ) -> Result<(), LoadFault>
-        requires texts { AreTexts (sections_of self.sections.now) self.texts.now }
+        requires strings { AreStringSections (sections_of self.sections.now) self.strings.now }
         requires unit { (unit < length self.units.now) × (unit < length self.bases.now) }
         ensures scopes { (us : List CompilationUnit) (u : CompilationUnit)
-            (before : List Judged)
+            (before : List ParsedScope)
             → AreUnits self.entry.units.now self.entry.bases.now us
-            → AreMarked self.entry.marks.now us
+            → IsBitmapOf self.entry.bitmap.now us
             → AreReadIn (sections_of self.entry.sections.now) us
             → IsReaderOf (sections_of self.entry.sections.now) reader.old
-            → AreKnownOf (sections_of self.entry.sections.now) us known.old
+            → IsCacheOf (sections_of self.entry.sections.now) us cache.old
             → slice_get us unit ≡ Some u → IsRootOf us root u
-            → AreJudged (roots_from 0 us) before lists.old left.old
+            → AreParsed (roots_from 0 us) before lists.old left.old
             → AddsScopes result (sections_of self.entry.sections.now) us
             (sites_in u u.dies) before lists.new left.new }
-        ensures known { OnOk result ((us : List CompilationUnit)
+        ensures cache { OnOk result ((us : List CompilationUnit)
             → AreUnits self.entry.units.now self.entry.bases.now us
-            → AreMarked self.entry.marks.now us
+            → IsBitmapOf self.entry.bitmap.now us
             → AreReadIn (sections_of self.entry.sections.now) us
             → IsReaderOf (sections_of self.entry.sections.now) reader.old
-            → AreKnownOf (sections_of self.entry.sections.now) us known.old
-            → AreKnownOf (sections_of self.entry.sections.now) us known.new) }
+            → IsCacheOf (sections_of self.entry.sections.now) us cache.old
+            → IsCacheOf (sections_of self.entry.sections.now) us cache.new) }
         ensures reader { (s : SectionBytes) → IsReaderOf s reader.old → IsReaderOf s reader.new }
     {
-        let kept = &self.units[unit];
-        for place in kept.scopes.as_slice() {
+        let stored = &self.units[unit];
+        for place in stored.scopes.as_slice() {
             let at = u64::from(place.offset);
-            let entry = match reader.scope(&kept.header, place.offset as usize) {
-                Err(cause) => return Err(LoadFault::told(Section::DebugInfo, cause, at)),
+            let entry = match reader.scope(&stored.header, place.offset as usize) {
+                Err(cause) => return Err(LoadFault::at_item(Section::DebugInfo, cause, at)),
                 Ok(entry) => entry,
             };
             let numbers = ScopeNumbers {
@@ -143,8 +143,8 @@ impl<'a> Units<'a> {
                 number: lists.scopes.len(),
                 inside: place.inside as usize,
             };
-            match self.scope(reader, known, numbers, &entry, *left, &mut lists.ranges) {
-                Err(cause) => return Err(LoadFault::told(Section::DebugInfo, cause, at)),
+            match self.scope(reader, cache, numbers, &entry, *left, &mut lists.ranges) {
+                Err(cause) => return Err(LoadFault::at_item(Section::DebugInfo, cause, at)),
                 Ok((facts, items)) => {
                     *left -= items;
                     lists.push(facts)?;
@@ -160,11 +160,11 @@ impl<'a> Units<'a> {
         alloc: Global,
         reader: &mut EntryReader<'_>,
     ) -> Result<ScopeLists, LoadFault>
-        requires texts { AreTexts (sections_of self.sections.now) self.texts.now }
+        requires strings { AreStringSections (sections_of self.sections.now) self.strings.now }
         requires bases { length self.bases.now ≡ length self.units.now }
         ensures scopes { (us : List CompilationUnit)
             → AreUnits self.entry.units.now self.entry.bases.now us
-            → AreMarked self.entry.marks.now us
+            → IsBitmapOf self.entry.bitmap.now us
             → AreReadIn (sections_of self.entry.sections.now) us
             → IsReaderOf (sections_of self.entry.sections.now) reader.old
             → Decodes (λ lists. scopes_of (roots_from 0 us) lists) result (in_section
@@ -172,11 +172,11 @@ impl<'a> Units<'a> {
         ensures reader { (s : SectionBytes) → IsReaderOf s reader.old → IsReaderOf s reader.new }
     {
         let mut left = ITEMS_LIMIT;
-        let mut known = KnownNames::new(alloc);
+        let mut cache = NameCache::new(alloc);
         let mut root = 0;
         let mut lists = ScopeLists::new(alloc, scope_count(self.units))?;
         for unit in 0..self.units.len() {
-            self.unit_scopes(reader, &mut known, unit, root, &mut left, &mut lists)?;
+            self.unit_scopes(reader, &mut cache, unit, root, &mut left, &mut lists)?;
             if self.units[unit].root.is_some() {
                 root += 1;
             }

@@ -9,8 +9,8 @@ use std::process::Abort;
 use std::test::*;
 
 /// Checks that two values are equal.
-pub fn are_equal<T: Copy + Debug + PartialEq>(rt: &impl Abort, told: T, wanted: T) {
-    assert_eq!(rt; told, wanted);
+pub fn are_equal<T: Copy + Debug + PartialEq>(rt: &impl Abort, actual: T, wanted: T) {
+    assert_eq!(rt; actual, wanted);
 }
 
 /// Reads the scopes of these sections.
@@ -66,7 +66,7 @@ pub fn covers_or_is_refused(
 ) {
     match Scopes::read(rt.alloc(), sections) {
         Ok(read) => are_equal(rt, only_ranges(&read), wanted.ok()),
-        Err(told) => are_equal(rt, Some(told), wanted.err()),
+        Err(actual) => are_equal(rt, Some(actual), wanted.err()),
     }
 }
 
@@ -87,7 +87,7 @@ pub fn is_named_or_refused(
 ) {
     match Scopes::read(rt.alloc(), sections) {
         Ok(read) => are_equal(rt, only_name(&read), wanted.ok()),
-        Err(told) => are_equal(rt, Some(told), wanted.err()),
+        Err(actual) => are_equal(rt, Some(actual), wanted.err()),
     }
 }
 
@@ -111,9 +111,9 @@ pub struct Row {
 }
 
 /// Checks the number, the kind, the offset and the end of a scope.
-fn stands_at(rt: &impl Abort, scope: &Scope, number: usize, row: &Row) {
-    let told = (scope.number(), scope.kind(), scope.offset(), scope.end());
-    are_equal(rt, told, (number, row.kind, row.offset, row.end));
+fn is_at(rt: &impl Abort, scope: &Scope, number: usize, row: &Row) {
+    let actual = (scope.number(), scope.kind(), scope.offset(), scope.end());
+    are_equal(rt, actual, (number, row.kind, row.offset, row.end));
 }
 
 /// Checks that a scope has at most one range, and a name without a linkage name.
@@ -141,7 +141,7 @@ fn is_called(rt: &impl Abort, read: &Scopes, scope: &Scope, call: Option<(u64, u
 pub fn are_scopes(rt: &impl Abort, read: &Scopes, stmt_list: Option<u64>, rows: &[Row]) {
     are_equal(rt, read.scopes().len(), rows.len());
     for (number, (scope, row)) in read.scopes().iter().zip(rows).enumerate() {
-        stands_at(rt, scope, number, row);
+        is_at(rt, scope, number, row);
         is_named(rt, read, scope, row);
         is_called(rt, read, scope, row.call);
         are_equal(rt, (number, scope.stmt_list(read)), (number, stmt_list));

@@ -48,7 +48,7 @@ fn refused_headers(rt: HostRuntime) {
 
 /// A byte after the unit is a truncated unit.
 #[test]
-fn a_byte_behind_a_unit(rt: HostRuntime) {
+fn a_byte_after_a_unit(rt: HostRuntime) {
     let mut info = unit(&rt, &[2]);
     put(&rt, &mut info, &[0]);
     is_refused(&rt, &sections(&info, &TREES), Cause::Short, 13);

@@ -2,8 +2,6 @@
 #![tactic(auto)]
 
 #[cfg(test)]
-mod again;
-#[cfg(test)]
 mod attributes;
 #[cfg(test)]
 mod bases;
@@ -11,10 +9,6 @@ mod bases;
 mod checks;
 #[cfg(test)]
 mod codes;
-#[cfg(test)]
-mod cuts;
-#[cfg(test)]
-mod dropped;
 #[cfg(test)]
 mod fixtures;
 #[cfg(test)]
@@ -42,10 +36,16 @@ mod ranges;
 #[cfg(test)]
 mod references;
 #[cfg(test)]
+mod rereading;
+#[cfg(test)]
 mod samples;
 #[cfg(test)]
 mod shared;
 #[cfg(test)]
-mod texts;
+mod strings;
+#[cfg(test)]
+mod tombstones;
+#[cfg(test)]
+mod truncated;
 #[cfg(test)]
 mod units;

@@ -66,7 +66,7 @@ fn are_named(rt: &(impl Abort + AllocGlobal), tag: u8, names: &[Option<TextOffse
 }
 
 #[test]
-fn long_entries_are_told_each_time(rt: HostRuntime) {
+fn long_entries_are_returned_each_time(rt: HostRuntime) {
     let first = text(Section::DebugInfo, 14);
     let second = text(Section::DebugInfo, 350);
     let names = [

@@ -89,7 +89,7 @@ fn has_name(rt: &(impl Abort + AllocGlobal), form: u8, values: &[u8], wanted: Op
     let object = OneScope::new(rt, root, (&declared, values));
     let wanted = match wanted {
         Some(_) => Ok(wanted),
-        None => Err(fault(Cause::Text, 17)),
+        None => Err(fault(Cause::String, 17)),
     };
     is_named_or_refused(rt, &with_texts(object.sections()), wanted);
 }

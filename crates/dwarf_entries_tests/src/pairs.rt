@@ -100,7 +100,7 @@ fn faults_of_pairs(rt: HostRuntime) {
         (&[0x12, 0x0b, 0x55, 0x17], [&[1], &list], Cause::PcAndRanges),
         (&[0x11, 0x29, 0x55, 0x17], [&[2], &list], Cause::PcAndRanges),
         // an invalid name, which is reported before the ranges
-        (&[0x03, 0x0e, 0x12, 0x0b], [&list, &[1]], Cause::Text),
+        (&[0x03, 0x0e, 0x12, 0x0b], [&list, &[1]], Cause::String),
     ];
     for (declared, values, cause) in pairs {
         pair(&rt, declared, values, Err(cause));

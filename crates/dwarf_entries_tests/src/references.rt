@@ -43,7 +43,7 @@ fn one_hop_too_many(rt: HostRuntime) {
 
 /// A reference that exceeds the limit is not resolved, so it may be invalid.
 #[test]
-fn a_bad_reference_behind_the_last_hop(rt: HostRuntime) {
+fn an_invalid_reference_after_the_last_one_allowed(rt: HostRuntime) {
     let mut info = linked(&rt, 17);
     are_equal(&rt, (info.len(), info.get(94)), (102, Some(&98)));
     if let Some(byte) = info.get_mut(94) {

@@ -1,7 +1,7 @@
 //! The sample objects.
 
-use crate::cuts::cut_at;
 use crate::fixtures::*;
+use crate::truncated::cut_at;
 use dwarf_bytes::{Cause, LoadFault, Section};
 use dwarf_entries::{Range, Root, Scope, ScopeKind, Scopes, TextOffset};
 use dwarf_samples::{
@@ -81,15 +81,15 @@ fn scopes_of_another_object(rt: HostRuntime) {
         panic!(rt; "no scope");
     };
     let call = (Some(1), Some(5));
-    tells(&rt, leaf, &read, Some(range(0x1004, 0x1008)), Some(0), call);
+    has_data(&rt, leaf, &read, Some(range(0x1004, 0x1008)), Some(0), call);
     let other = scopes_of(&rt, &sections_of(&rt, &bare));
-    tells(&rt, leaf, &other, None, Some(0), call);
+    has_data(&rt, leaf, &other, None, Some(0), call);
     let none = scopes_of(&rt, &sections(&[], &[]));
-    tells(&rt, leaf, &none, None, None, (None, None));
+    has_data(&rt, leaf, &none, None, None, (None, None));
 }
 
 /// Checks the shared data of a scope: its range, its line program and its call.
-fn tells(
+fn has_data(
     rt: &impl Abort,
     scope: &Scope,
     of: &Scopes,
@@ -127,7 +127,7 @@ fn scopes_of_dropped_code(rt: HostRuntime) {
 }
 
 #[test]
-fn a_call_file_is_not_judged(rt: HostRuntime) {
+fn a_call_file_is_not_checked(rt: HostRuntime) {
     let mut rows = rows();
     rows[3].call = Some((2, 20));
     has(&rt, &call_file_outside(), &rows);

@@ -102,12 +102,12 @@ fn entries_at_the_greatest_depth(rt: HostRuntime) {
     are_equal(&rt, read.roots(), [root(12, 0, 257)].as_slice());
     are_equal(&rt, read.scopes().len(), 257);
     for (number, scope) in read.scopes().iter().enumerate() {
-        stands_at(&rt, scope, number);
+        is_at(&rt, scope, number);
     }
 }
 
 /// Checks the number and the offset of a scope, and that it ends after the last of 257 scopes.
-fn stands_at(rt: &impl Abort, scope: &Scope, number: usize) {
+fn is_at(rt: &impl Abort, scope: &Scope, number: usize) {
     are_equal(rt, (scope.number(), scope.end()), (number, 257));
     are_equal(rt, Some(scope.offset()), number.checked_add(12));
 }

@@ -20,18 +20,18 @@ pub find_none : (xs : List ℕ) (code : ℕ) → ((i : ℕ) (d : ℕ) → slice_
     → find (λ other. other == code) xs ≡ None
 find_none [] code h = refl
 find_none (x ∷ xs) code h =
-    let test : (x == code) ≡ false = apart_test x code (h 0 x refl) in
+    let test : (x == code) ≡ false = apart-test x code (h 0 x refl) in
     rw test (find_none xs code (λ i d at. h (suc i) d at))
   where
-    apart_test : (a b : ℕ) → a ≢ b → (a == b) ≡ false
-    apart_test a b h = grind arith
+    apart-test : (a b : ℕ) → a ≢ b → (a == b) ≡ false
+    apart-test a b h = grind arith
 
 -- a code that is neither at index code - 1 nor where the map says is not in the list
-pub find_nowhere : (xs : List ℕ) (moved : BTreeMap ℕ ℕ) (code : ℕ) → AreCodes xs moved
+pub find-nowhere : (xs : List ℕ) (moved : BTreeMap ℕ ℕ) (code : ℕ) → AreCodes xs moved
     → ((d : ℕ) → slice_get xs (code - 1) ≡ Some d → d ≢ code)
     → ((i : ℕ) → get nat_cmp moved code ≡ Some i → (d : ℕ) → slice_get xs i ≡ Some d → d ≢ code)
     → find (λ other. other == code) xs ≡ None
-find_nowhere xs moved code indexed own by_map = find_none xs code nowhere
+find-nowhere xs moved code indexed own by_map = find_none xs code nowhere
   where
     nowhere : (i : ℕ) (d : ℕ) → slice_get xs i ≡ Some d → d ≢ code
     nowhere i d at is = by_place (indexed.found i d at)
@@ -53,11 +53,11 @@ lacks xs code none i d at is =
     test)
 
 -- an entry of the map for a code that the list lacks does not affect the list
-pub index_kept : (xs : List ℕ) (moved next : BTreeMap ℕ ℕ) (code : ℕ)
+pub index-kept : (xs : List ℕ) (moved next : BTreeMap ℕ ℕ) (code : ℕ)
     → list_any (λ other. other == code) xs ≡ false
     → ((q : ℕ) → q ≢ code → get nat_cmp next q ≡ get nat_cmp moved q) → AreCodes xs moved
     → AreCodes xs next
-index_kept xs moved next code none others indexed = record {
+index-kept xs moved next code none others indexed = record {
   once = indexed.once;
   found = λ i d at. by_place i d (lacks xs code none i d at) (indexed.found i d at);
 }
@@ -68,11 +68,11 @@ index_kept xs moved next code none others indexed = record {
     by_place i d apart (inr there) = inr (others d apart ∙ there)
 
 -- a code is appended whose index is code - 1 or is in the map
-pub index_push : (xs : List ℕ) (moved : BTreeMap ℕ ℕ) (y : ℕ) → list_any (λ other. other == y) xs
+pub index-push : (xs : List ℕ) (moved : BTreeMap ℕ ℕ) (y : ℕ) → list_any (λ other. other == y) xs
     ≡ false
     → (y ≡ length xs + 1) ⊎ (get nat_cmp moved y ≡ Some (length xs)) → AreCodes xs moved
     → AreCodes (xs ++ y ∷ []) moved
-index_push xs moved y none place indexed = record {
+index-push xs moved y none place indexed = record {
   once = all_pairs_push (λ a b. a ≢ b) xs y indexed.once
       (λ k d within. lacks xs y none k (get_or xs k d) (slice_get-get_or xs k d within));
   found = found_at xs (λ i. i) indexed.found place;
@@ -115,12 +115,12 @@ position-none {X = X} p xs none = by_test (nat_lt (position_or_len p xs) (length
     by_test false past = refl
 
 -- an index at which the code is found is its index
-pub place_is : (xs : List ℕ) (i code : ℕ) → AllPairs (λ a b. a ≢ b) xs → is_code_at xs i code ≡ true
+pub place-is : (xs : List ℕ) (i code : ℕ) → AllPairs (λ a b. a ≢ b) xs → is_code_at xs i code ≡ true
     → position (λ other. other == code) xs ≡ Some i
-place_is xs i code once here = by_declaration (slice_get xs i) refl here
+place-is xs i code once here = by_declaration (slice_get xs i) refl here
   where
-    apart_test : (a b : ℕ) → a ≢ b → (a == b) ≡ false
-    apart_test a b h = grind arith
+    apart-test : (a b : ℕ) → a ≢ b → (a == b) ≡ false
+    apart-test a b h = grind arith
 
     by_declaration : (found : Option ℕ) → slice_get xs i ≡ found
         → option_map_or (λ other. other == code) found false ≡ true
@@ -132,53 +132,53 @@ place_is xs i code once here = by_declaration (slice_get xs i) refl here
         let code_is : (get_or xs i d) ≡ code = ap (λ (e : ℕ). e) value ∙ eqb-true d code here in
         let first : position_or_len (λ (other : ℕ). other == code) xs ≡ i =
         position_or_len_is (λ (other : ℕ). other == code) xs i d (omega (arith, within))
-        (λ k lt. apart_test (get_or xs k d) code
+        (λ k lt. apart-test (get_or xs k d) code
         (λ same. once k i d lt within (same ∙ sym code_is)))
         (λ _. eq-eqb (get_or xs i d) code code_is) in
         subst (λ (k : ℕ). cond (nat_lt k (length xs)) (Some k) None ≡ Some i) (sym first)
         (rw (lt-ltb i (length xs) within) refl)
 
 -- an index with another code, or past the end
-has_not : (xs : List ℕ) (i code : ℕ) → is_code_at xs i code ≡ false → (d : ℕ)
+has-not : (xs : List ℕ) (i code : ℕ) → is_code_at xs i code ≡ false → (d : ℕ)
     → slice_get xs i ≡ Some d → d ≢ code
-has_not xs i code none d at =
+has-not xs i code none d at =
     let test : (d == code) ≡ false = subst
     (λ (found : Option ℕ). option_map_or (λ (other : ℕ). other == code) found false ≡ false) at
     none in
     λ same. eqb-false d code test same
 
 -- the same with variables for the list
-pub place_here : (xs seen now : List ℕ) (i code : ℕ) → seen ≡ xs → xs ≡ now
+pub place-here : (xs seen now : List ℕ) (i code : ℕ) → seen ≡ xs → xs ≡ now
     → AllPairs (λ a b. a ≢ b) xs → is_code_at seen i code ≡ true
     → Some i ≡ position (λ other. other == code) now
-place_here xs seen now i code same view once here =
+place-here xs seen now i code same view once here =
     let there : is_code_at xs i code ≡ true =
     subst (λ (ys : List ℕ). is_code_at ys i code ≡ true) same here in
     subst (λ (ys : List ℕ). Some i ≡ position (λ (other : ℕ). other == code) ys) view
-    (sym (place_is xs i code once there))
+    (sym (place-is xs i code once there))
 
-pub place_nowhere : (xs seen now : List ℕ) (moved : BTreeMap ℕ ℕ) (own code : ℕ) → seen ≡ xs
+pub place-nowhere : (xs seen now : List ℕ) (moved : BTreeMap ℕ ℕ) (own code : ℕ) → seen ≡ xs
     → xs ≡ now → AreCodes xs moved → own ≡ code - 1 → is_code_at seen own code ≡ false
     → ((i : ℕ) → get nat_cmp moved code ≡ Some i → is_code_at xs i code ≡ false)
     → None ≡ position (λ other. other == code) now
-place_nowhere xs seen now moved own code same view indexed own_is not_own not_there =
+place-nowhere xs seen now moved own code same view indexed own_is not_own not_there =
     let here : is_code_at xs (code - 1) code ≡ false =
     subst (λ (k : ℕ). is_code_at xs k code ≡ false) own_is
     (subst (λ (ys : List ℕ). is_code_at ys own code ≡ false) same not_own) in
-    let none = find_nowhere xs moved code indexed (λ d at. has_not xs (code - 1) code here d at)
-    (λ i is d at. has_not xs i code (not_there i is) d at) in
+    let none = find-nowhere xs moved code indexed (λ d at. has-not xs (code - 1) code here d at)
+    (λ i is d at. has-not xs i code (not_there i is) d at) in
     subst (λ (ys : List ℕ). None ≡ position (λ (other : ℕ). other == code) ys) view
     (sym (position-none (λ (other : ℕ). other == code) xs none))
 
-pub place_moved : (xs seen again now : List ℕ) (moved : BTreeMap ℕ ℕ) (own code place : ℕ)
+pub place-moved : (xs seen again now : List ℕ) (moved : BTreeMap ℕ ℕ) (own code place : ℕ)
     → seen ≡ xs → again ≡ xs → xs ≡ now → AreCodes xs moved → own ≡ code - 1
     → is_code_at seen own code ≡ false
     → get nat_cmp moved code ≡ Some place → is_code_at again place code ≡ false
     → None ≡ position (λ other. other == code) now
-place_moved xs seen again now moved own code place same same_again view indexed own_is not_own there
+place-moved xs seen again now moved own code place same same_again view indexed own_is not_own there
     not_there =
     let none : is_code_at xs place code ≡ false =
     subst (λ (ys : List ℕ). is_code_at ys place code ≡ false) same_again not_there in
-    place_nowhere xs seen now moved own code same view indexed own_is not_own
+    place-nowhere xs seen now moved own code same view indexed own_is not_own
     (λ i is. subst (λ (k : ℕ). is_code_at xs k code ≡ false)
     (same_Some place i (sym there ∙ is)) none)

@@ -15,50 +15,50 @@ use Rattle.dwarf_bytes.specs.Items.{Item, End}
 use Rattle.dwarf_forms.specs.declared.declaration.Head.{Head}
 use Rattle.dwarf_forms.specs.Declarations.{Declaration}
 use Rattle.dwarf_forms.specs.Tables.{head_at}
-use Rattle.dwarf_forms.specs.Private.Codes.{AreCodes, head_behind}
-use Rattle.dwarf_forms.proofs.Codes.{PutsPlace, others_stay}
-use Rattle.dwarf_forms.proofs.CodeLaws.{index_kept, index_push, place_is}
+use Rattle.dwarf_forms.specs.Private.Codes.{AreCodes, head_after}
+use Rattle.dwarf_forms.proofs.Codes.{PutsPlace, others-stay}
+use Rattle.dwarf_forms.proofs.CodeLaws.{index-kept, index-push, place-is}
 
 -- ---- the map while the table grows
 
-pub indexed_same : (xs after : List ℕ) (moved : BTreeMap ℕ ℕ) → after ≡ xs → AreCodes xs moved
+pub indexed-same : (xs after : List ℕ) (moved : BTreeMap ℕ ℕ) → after ≡ xs → AreCodes xs moved
     → AreCodes after moved
-indexed_same xs after moved same indexed =
+indexed-same xs after moved same indexed =
     subst (λ (ys : List ℕ). AreCodes ys moved) (sym same) indexed
 
-pub indexed_unpushed : (xs now after : List ℕ) (moved next : BTreeMap ℕ ℕ) (code given place : ℕ)
+pub indexed-unpushed : (xs now after : List ℕ) (moved next : BTreeMap ℕ ℕ) (code given place : ℕ)
     → xs ≡ now → after ≡ xs → list_any (λ other. other == code) now ≡ false → given ≡ code
     → PutsPlace moved next given place → AreCodes xs moved → AreCodes after next
-indexed_unpushed xs now after moved next code given place view same none code_is puts indexed =
+indexed-unpushed xs now after moved next code given place view same none code_is puts indexed =
     let fresh : list_any (λ (other : ℕ). other == code) xs ≡ false = rw view none in
     let here : PutsPlace moved next code place =
     subst (λ (k : ℕ). PutsPlace moved next k place) code_is puts in
-    indexed_same xs after next same (index_kept xs moved next code fresh
-    (others_stay moved next code place here) indexed)
+    indexed-same xs after next same (index-kept xs moved next code fresh
+    (others-stay moved next code place here) indexed)
 
-pub indexed_pushed : (xs now after : List ℕ) (moved next : BTreeMap ℕ ℕ) (y : ℕ) (given place : ℕ)
+pub indexed-pushed : (xs now after : List ℕ) (moved next : BTreeMap ℕ ℕ) (y : ℕ) (given place : ℕ)
     → xs ≡ now → after ≡ xs ++ y ∷ [] → list_any (λ other. other == y) now ≡ false
     → given ≡ y → place ≡ length xs → PutsPlace moved next given place
     → get nat_cmp next given ≡ Some place → AreCodes xs moved → AreCodes after next
-indexed_pushed xs now after moved next y given place view same none code_is place_is puts there
+indexed-pushed xs now after moved next y given place view same none code_is place-is puts there
     indexed =
     let fresh : list_any (λ (other : ℕ). other == y) xs ≡ false = rw view none in
     let here : PutsPlace moved next y place =
     subst (λ (k : ℕ). PutsPlace moved next k place) code_is puts in
     let at : get nat_cmp next y ≡ Some (length xs) =
     ap (λ (k : ℕ). get nat_cmp next k) (sym code_is) ∙ there
-    ∙ ap (λ (k : ℕ). Some k) place_is in
-    indexed_same (xs ++ y ∷ []) after next same
-    (index_push xs next y fresh (inr at)
-    (index_kept xs moved next y fresh (others_stay moved next y place here) indexed))
+    ∙ ap (λ (k : ℕ). Some k) place-is in
+    indexed-same (xs ++ y ∷ []) after next same
+    (index-push xs next y fresh (inr at)
+    (index-kept xs moved next y fresh (others-stay moved next y place here) indexed))
 
-pub indexed_own : (xs now after : List ℕ) (moved : BTreeMap ℕ ℕ) (y : ℕ) (given place : ℕ)
+pub indexed-own : (xs now after : List ℕ) (moved : BTreeMap ℕ ℕ) (y : ℕ) (given place : ℕ)
     → xs ≡ now → after ≡ xs ++ y ∷ [] → list_any (λ other. other == y) now ≡ false
     → given ≡ y → place ≡ length xs → given ≡ place + 1 → AreCodes xs moved → AreCodes after moved
-indexed_own xs now after moved y given place view same none code_is place_is own indexed =
+indexed-own xs now after moved y given place view same none code_is place-is own indexed =
     let fresh : list_any (λ (other : ℕ). other == y) xs ≡ false = rw view none in
-    indexed_same (xs ++ y ∷ []) after moved same
-    (index_push xs moved y fresh (inl (omega (arith, code_is, place_is, own))) indexed)
+    indexed-same (xs ++ y ∷ []) after moved same
+    (index-push xs moved y fresh (inl (omega (arith, code_is, place-is, own))) indexed)
 
 -- ---- codes of declarations
 
@@ -103,22 +103,27 @@ is_some-position p xs = by_test (nat_lt (position_or_len p xs) (length xs)) ∙ 
     by_test false = refl
 
 -- the read of a declaration's head only depends on the codes of the declarations before it
-pub head-is : (room : ℕ) (section : List ℕ) (before : List Declaration) (at : ℕ)
-    → head_behind room section (map (λ (d : Declaration). d.code) before) at
-    ≡ head_at room section before at
-head-is room section before at = simp (any-map, length-map)
+pub head-is : (budget : ℕ) (section : List ℕ) (before : List Declaration) (at : ℕ)
+    → head_after budget section (map (λ (d : Declaration). d.code) before) at
+    ≡ head_at budget section before at
+head-is budget section before at = simp (any-map, length-map)
 
 abbrev code_of : Declaration → ℕ
 code_of d = d.code
 
 -- .. with variables for the codes
-pub reads-head : (room : ℕ) (codes : List ℕ) (xs before : List Declaration) (found : Result (Option Head) Cause) (old new : Position) → codes ≡ map code_of xs → xs ≡ before → ReadsNext found (λ bytes. head_behind room bytes codes) old new → ReadsNext found (λ bytes. head_at room bytes before) old new
-reads-head room codes xs before found old new are seen read = by_result found read
+pub reads-head : (budget : ℕ) (codes : List ℕ) (xs before : List Declaration)
+    (found : Result (Option Head) Cause) (old new : Position) → codes ≡ map code_of xs → xs ≡ before
+    → ReadsNext found (λ bytes. head_after budget bytes codes) old new → ReadsNext found
+    (λ bytes. head_at budget bytes before) old new
+reads-head budget codes xs before found old new are seen read = by_result found read
   where
-    same : head_behind room old.bytes codes old.place ≡ head_at room old.bytes before old.place
-    same = ap (λ (cs : List ℕ). head_behind room old.bytes cs old.place) (are ∙ ap (map code_of) seen) ∙ head-is room old.bytes before old.place
+    same : head_after budget old.bytes codes old.place ≡ head_at budget old.bytes before old.place
+    same = ap (λ (cs : List ℕ). head_after budget old.bytes cs old.place) (are
+        ∙ ap (map code_of) seen) ∙ head-is budget old.bytes before old.place
 
-    by_result : (r : Result (Option Head) Cause) → ReadsNext r (λ bytes. head_behind room bytes codes) old new → ReadsNext r (λ bytes. head_at room bytes before) old new
+    by_result : (r : Result (Option Head) Cause) → ReadsNext r (λ bytes. head_after budget bytes
+        codes) old new → ReadsNext r (λ bytes. head_at budget bytes before) old new
     by_result (Ok (Some head)) h = (sym same ∙ h.0, h.1)
     by_result (Ok None) h = (sym same ∙ h.0, h.1)
     by_result (Err cause) h = sym same ∙ h

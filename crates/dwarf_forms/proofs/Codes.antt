@@ -38,9 +38,9 @@ abbrev pub PutsPlace : BTreeMap ℕ ℕ → BTreeMap ℕ ℕ → ℕ → ℕ →
 PutsPlace moved next code place = (q : ℕ)
     → get nat_cmp next q ≡ cond (is_at (nat_cmp code) q) (Some place) (get nat_cmp moved q)
 
-pub others_stay : (moved next : BTreeMap ℕ ℕ) (code place : ℕ) → PutsPlace moved next code place
+pub others-stay : (moved next : BTreeMap ℕ ℕ) (code place : ℕ) → PutsPlace moved next code place
     → (q : ℕ) → q ≢ code → get nat_cmp next q ≡ get nat_cmp moved q
-others_stay moved next code place puts q apart =
+others-stay moved next code place puts q apart =
     puts q ∙ rw (not_at code q (λ e. apart (sym e))) refl
   where
     not_at : (a b : ℕ) → a ≢ b → is_at (nat_cmp a) b ≡ false

@@ -23,7 +23,7 @@ at-front (x ∷ xs) ys zero z at = at
 at-front (x ∷ xs) ys (suc i) z at = at-front xs ys i z at
 
 -- weakens a property of a result
-pub if_ok : {X E : Type 0} (P Q : X → Type 0) (r : Result X E) → IfOk r P → ((x : X) → P x → Q x)
+pub if-ok : {X E : Type 0} (P Q : X → Type 0) (r : Result X E) → IfOk r P → ((x : X) → P x → Q x)
     → IfOk r Q
-if_ok P Q (Ok x) h f = f x h
-if_ok P Q (Err e) h f = tt
+if-ok P Q (Ok x) h f = f x h
+if-ok P Q (Err e) h f = tt

@@ -6,14 +6,15 @@ use Rattle.std.specs.List.{list_any}
 use Rattle.std.proofs.lemmas.List.Folds.{list_any-append}
 use Rattle.dwarf_bytes.specs.declared.fault.Cause.{Cause}
 use Rattle.dwarf_bytes.specs.declared.fault.Cause.TheVariants as causes
-use Rattle.dwarf_bytes.specs.Items.{At, Item, Lists, refuse_if, untold, items_from}
-use Rattle.dwarf_bytes.proofs.ItemLaws.{put_front, with_front, items_from-step, items_from-Lists}
-use Rattle.dwarf_bytes.proofs.Moves.{same_ok}
-use Rattle.dwarf_bytes.proofs.Turns.{SoFar}
+use Rattle.dwarf_bytes.specs.Items.{At, Item, Lists, refuse_if, without_offset, items_from}
+use Rattle.dwarf_bytes.proofs.Items.ItemLaws.{put_front, with_front, items_from-step}
+use Rattle.dwarf_bytes.proofs.Items.ItemLaws.{items_from-Lists}
+use Rattle.dwarf_bytes.proofs.Numbers.Moves.{same-ok}
+use Rattle.dwarf_bytes.proofs.Items.Turns.{SoFar}
 use Rattle.dwarf_forms.specs.declared.attribute.AttributeSpecification.{AttributeSpecification}
 use Rattle.dwarf_forms.specs.Tables.{attribute_at, attributes_at, shares_name}
-use Rattle.dwarf_forms.proofs.Moves.{attribute_at-advances, attributes_at-lists, attributes_ok}
-use Rattle.dwarf_forms.proofs.Moves.{attributes_err}
+use Rattle.dwarf_forms.proofs.Moves.{attribute_at-advances, attributes_at-lists, attributes-ok}
+use Rattle.dwarf_forms.proofs.Moves.{attributes-err}
 use Rattle.dwarf_forms.proofs.JoinedLaws.{named, attribute-again, attribute-new, end-again}
 use Rattle.dwarf_forms.proofs.JoinedLaws.{attribute-twice, either, shares-cons, shares-none}
 
@@ -69,7 +70,7 @@ attributes-behind section at x xs next read =
     lists-fewer section (x ∷ []) [] listed.0 xs next listed.2 in (
       listed.0,
       listed.1,
-      attributes_ok section listed.0 (xs, next)
+      attributes-ok section listed.0 (xs, next)
           (items_from-Lists (length section) (attribute_at section) (attribute_at-advances section)
           []
           listed.0 xs next rest),
@@ -79,22 +80,24 @@ attributes-behind section at x xs next read =
 pub lists-twice : (section : List ℕ) (own before : List AttributeSpecification) (at : ℕ)
     (xs : List AttributeSpecification) (next : ℕ) → Lists (attribute_at section) before at xs next
     → shares_name own xs ≡ true
-    → untold (items_from (length section) (attribute_at section) (own ++ before) at)
+    → without_offset (items_from (length section) (attribute_at section) (own ++ before) at)
     ≡ Err causes.AttrTwice
 lists-twice section own before at [] next listed shared = cc (shared, shares-none own)
 lists-twice section own before at (x ∷ xs) next listed shared =
     by_name (λ more. lists-twice section own (before ++ x ∷ []) listed.0 xs next listed.2 more)
     (list_any (named x.name) own) refl
   where
-    told : {X : Type 0} (x : X) (r : Result (List X × ℕ) At) → untold r ≡ Err causes.AttrTwice
-        → untold (put_front x r) ≡ Err causes.AttrTwice
-    told x (Ok others) h = cc
-    told x (Err e) h = h
+    resolved : {X : Type 0} (x : X) (r : Result (List X × ℕ) At) → without_offset r
+        ≡ Err causes.AttrTwice
+        → without_offset (put_front x r) ≡ Err causes.AttrTwice
+    resolved x (Ok others) h = cc
+    resolved x (Err e) h = h
 
     by_name : (shares_name own xs ≡ true
-        → untold (items_from (length section) (attribute_at section) (own ++ (before ++ x ∷ []))
+        → without_offset (items_from (length section) (attribute_at section) (own
+        ++ (before ++ x ∷ []))
         listed.0) ≡ Err causes.AttrTwice) → (b : Bool) → list_any (named x.name) own ≡ b
-        → untold (items_from (length section) (attribute_at section) (own ++ before) at)
+        → without_offset (items_from (length section) (attribute_at section) (own ++ before) at)
         ≡ Err causes.AttrTwice
     by_name rest true is =
         let twice : list_any (named x.name) (own ++ before) ≡ true =
@@ -116,16 +119,17 @@ lists-twice section own before at (x ∷ xs) next listed shared =
               (own ++ before) at,
           attribute-again section before (own ++ before) at x listed.0 listed.1 new,
           append_assoc own before (x ∷ []),
-        ) (told x (items_from (length section) (attribute_at section) (own ++ (before ++ x ∷ []))
+        ) (resolved x (items_from (length section) (attribute_at section) (own
+        ++ (before ++ x ∷ []))
         listed.0) (rest more))
 
 -- the result of reading a list after other attributes
-pub attributes_joined : (section : List ℕ) (own : List AttributeSpecification) (at : ℕ)
+pub attributes-joined : (section : List ℕ) (own : List AttributeSpecification) (at : ℕ)
     (rest : List AttributeSpecification) (next : ℕ) → attributes_at section at ≡ Ok (rest, next)
-    → untold (items_from (length section) (attribute_at section) own at)
+    → without_offset (items_from (length section) (attribute_at section) own at)
     ≡ (if shares_name own rest then Err causes.AttrTwice else Ok (rest, next))
-attributes_joined section own at rest next read =
-    subst (λ (ys : List AttributeSpecification). untold
+attributes-joined section own at rest next read =
+    subst (λ (ys : List AttributeSpecification). without_offset
     (items_from (length section) (attribute_at section) ys at)
     ≡ (if shares_name own rest then Err causes.AttrTwice else Ok (rest, next))) (append-nil own)
     (by_test (shares_name own rest) refl)
@@ -134,7 +138,7 @@ attributes_joined section own at rest next read =
     listed = attributes_at-lists section at (rest, next) read
 
     by_test : (b : Bool) → shares_name own rest ≡ b
-        → untold (items_from (length section) (attribute_at section) (own ++ []) at)
+        → without_offset (items_from (length section) (attribute_at section) (own ++ []) at)
         ≡ (if b then Err causes.AttrTwice else Ok (rest, next))
     by_test true shared = lists-twice section own [] at rest next listed shared
     by_test false apart = rw (items_from-Lists (length section) (attribute_at section)
@@ -145,14 +149,16 @@ attributes_joined section own at rest next read =
 pub joined-ok : (section : List ℕ) (own : List AttributeSpecification) (at : ℕ)
     (rest : List AttributeSpecification) (next : ℕ) → attributes_at section at ≡ Ok (rest, next)
     → Ok tt ≡ refuse_if (shares_name own rest) causes.AttrTwice
-    → untold (items_from (length section) (attribute_at section) own at) ≡ Ok (rest, next)
+    → without_offset (items_from (length section) (attribute_at section) own at) ≡ Ok (rest, next)
 joined-ok section own at rest next read passed =
-    by_test (shares_name own rest) (attributes_joined section own at rest next read) passed
+    by_test (shares_name own rest) (attributes-joined section own at rest next read) passed
   where
-    by_test : (b : Bool) → untold (items_from (length section) (attribute_at section) own at)
+    by_test : (b : Bool) → without_offset (items_from (length section) (attribute_at section) own
+        at)
         ≡ (if b then Err causes.AttrTwice else Ok (rest, next))
         → Ok tt ≡ refuse_if b causes.AttrTwice
-        → untold (items_from (length section) (attribute_at section) own at) ≡ Ok (rest, next)
+        → without_offset (items_from (length section) (attribute_at section) own at)
+        ≡ Ok (rest, next)
     by_test true is h = cc
     by_test false is h = is
 
@@ -160,14 +166,15 @@ pub joined-err : (section : List ℕ) (own : List AttributeSpecification) (at : 
     (rest : List AttributeSpecification) (next : ℕ) (cause : Cause)
     → attributes_at section at ≡ Ok (rest, next)
     → Err cause ≡ refuse_if (shares_name own rest) causes.AttrTwice
-    → untold (items_from (length section) (attribute_at section) own at) ≡ Err cause
+    → without_offset (items_from (length section) (attribute_at section) own at) ≡ Err cause
 joined-err section own at rest next cause read refused =
-    by_test (shares_name own rest) (attributes_joined section own at rest next read) refused
+    by_test (shares_name own rest) (attributes-joined section own at rest next read) refused
   where
-    by_test : (b : Bool) → untold (items_from (length section) (attribute_at section) own at)
+    by_test : (b : Bool) → without_offset (items_from (length section) (attribute_at section) own
+        at)
         ≡ (if b then Err causes.AttrTwice else Ok (rest, next))
         → Err cause ≡ refuse_if b causes.AttrTwice
-        → untold (items_from (length section) (attribute_at section) own at) ≡ Err cause
+        → without_offset (items_from (length section) (attribute_at section) own at) ≡ Err cause
     by_test true is h = is ∙ sym_cause h
       where
         sym_cause : Err cause ≡ refuse_if true causes.AttrTwice
@@ -178,33 +185,33 @@ joined-err section own at rest next cause read refused =
 
 -- ---- the list from its first offset on, if its rest after the attributes read so far is memoized
 
-pub so_far-joined : (section : List ℕ) (first : ℕ) (own : List AttributeSpecification) (at : ℕ)
+pub so-far-joined : (section : List ℕ) (first : ℕ) (own : List AttributeSpecification) (at : ℕ)
     (rest : List AttributeSpecification) (next : ℕ)
     → SoFar (length section) (attribute_at section) first own at
-    → untold (items_from (length section) (attribute_at section) own at) ≡ Ok (rest, next)
+    → without_offset (items_from (length section) (attribute_at section) own at) ≡ Ok (rest, next)
     → attributes_at section first ≡ Ok (own ++ rest, next)
-so_far-joined section first own at rest next so_far joined =
+so-far-joined section first own at rest next so_far joined =
     by_read (items_from (length section) (attribute_at section) own at) so_far joined
   where
     by_read : (r : Result (List AttributeSpecification × ℕ) At)
         → with_front own r ≡ items_from (length section) (attribute_at section) [] first
-        → untold r ≡ Ok (rest, next) → attributes_at section first ≡ Ok (own ++ rest, next)
+        → without_offset r ≡ Ok (rest, next) → attributes_at section first ≡ Ok (own ++ rest, next)
     by_read (Ok found) is h =
-        attributes_ok section first (own ++ rest, next)
+        attributes-ok section first (own ++ rest, next)
         (sym is ∙ ap (λ (p : List AttributeSpecification × ℕ).
         (let f : List AttributeSpecification × ℕ → Result (List AttributeSpecification × ℕ) At =
-        λ z. Ok z in f (own ++ p.0, p.1))) (same_ok found (rest, next) h))
+        λ z. Ok z in f (own ++ p.0, p.1))) (same-ok found (rest, next) h))
     by_read (Err e) is h = cc
 
-pub so_far-refused : (section : List ℕ) (first : ℕ) (own : List AttributeSpecification) (at : ℕ)
+pub so-far-refused : (section : List ℕ) (first : ℕ) (own : List AttributeSpecification) (at : ℕ)
     (cause : Cause) → SoFar (length section) (attribute_at section) first own at
-    → untold (items_from (length section) (attribute_at section) own at) ≡ Err cause
+    → without_offset (items_from (length section) (attribute_at section) own at) ≡ Err cause
     → attributes_at section first ≡ Err cause
-so_far-refused section first own at cause so_far refused =
+so-far-refused section first own at cause so_far refused =
     by_read (items_from (length section) (attribute_at section) own at) so_far refused
   where
     by_read : (r : Result (List AttributeSpecification × ℕ) At)
         → with_front own r ≡ items_from (length section) (attribute_at section) [] first
-        → untold r ≡ Err cause → attributes_at section first ≡ Err cause
+        → without_offset r ≡ Err cause → attributes_at section first ≡ Err cause
     by_read (Ok found) is h = cc
-    by_read (Err e) is h = attributes_err section first e (sym is) ∙ h
+    by_read (Err e) is h = attributes-err section first e (sym is) ∙ h

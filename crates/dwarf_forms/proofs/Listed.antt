@@ -9,19 +9,19 @@ use Rattle.std.proofs.lemmas.List.Quantifiers.{all_pairs_push}
 use Rattle.std.proofs.lemmas.List.Folds.{list_any_at, list_any_none}
 use Rattle.std.proofs.lemmas.Bool.{false≢true}
 use Rattle.dwarf_bytes.specs.declared.fault.Cause.{Cause}
-use Rattle.dwarf_bytes.specs.Numbers.{StandsAt}
+use Rattle.dwarf_bytes.specs.Numbers.{IsEncodedAt}
 use Rattle.dwarf_bytes.specs.Items.{Next, Item, End, Lists}
-use Rattle.dwarf_forms.specs.Declarations.{SpellsEach}
-use Rattle.dwarf_forms.proofs.Stretches.{Stretch, stretch_of, stands_from, joined, first_part}
-use Rattle.dwarf_forms.proofs.Stretches.{second_part, respelled}
+use Rattle.dwarf_forms.specs.Declarations.{EncodesEach}
+use Rattle.dwarf_forms.proofs.Stretches.{Stretch, stretch-of, stands-from, joined, first-part}
+use Rattle.dwarf_forms.proofs.Stretches.{second-part, respelled}
 
 -- the encoded elements, followed by the encoded end
-pub record SpellsAll {X : Type 0} (spells : List ℕ → X → Type 0) (ends : List ℕ → Type 0)
+pub record EncodesAll {X : Type 0} (encodes : List ℕ → X → Type 0) (ends : List ℕ → Type 0)
     (bytes : List ℕ) (xs : List X) : Type 0 where
   pub items : List ℕ
   pub end : List ℕ
   pub whole : bytes ≡ items ++ end
-  pub items_are : SpellsEach spells items xs
+  pub items_are : EncodesEach encodes items xs
   pub ends_it : ends end
 
 -- each element is valid after the ones before it
@@ -30,83 +30,83 @@ GoodEach good before [] = Unit {0}
 GoodEach good before (x ∷ xs) = good before x × GoodEach good (before ++ x ∷ []) xs
 
 abbrev pub EndStands : (List ℕ → Type 0) → List ℕ → ℕ → ℕ → Type 0
-EndStands ends bytes at next = StandsAt (λ b (u : Unit {0}). ends b) bytes at tt next
+EndStands ends bytes at next = IsEncodedAt (λ b (u : Unit {0}). ends b) bytes at tt next
 
 -- if a step returns an item, the item is valid and an encoding of it is at the offset
-pub record IsSpelled {X : Type 0} (spells : List ℕ → X → Type 0) (ends : List ℕ → Type 0)
+pub record IsSpelled {X : Type 0} (encodes : List ℕ → X → Type 0) (ends : List ℕ → Type 0)
     (good : List X → X → Type 0) (bytes : List ℕ) (step : List X → ℕ → Result (Next X) Cause) : Type
     0 where
   pub item : (before : List X) (at : ℕ) (x : X) (next : ℕ) → step before at ≡ Ok (Item x next)
-      → StandsAt spells bytes at x next × good before x
+      → IsEncodedAt encodes bytes at x next × good before x
   pub end : (before : List X) (at next : ℕ) → step before at ≡ Ok (End next)
       → EndStands ends bytes at next
 
 -- if an encoding of a valid item is at the offset, the step returns the item
-pub record IsRead {X : Type 0} (spells : List ℕ → X → Type 0) (ends : List ℕ → Type 0)
+pub record IsRead {X : Type 0} (encodes : List ℕ → X → Type 0) (ends : List ℕ → Type 0)
     (good : List X → X → Type 0) (bytes : List ℕ) (step : List X → ℕ → Result (Next X) Cause) : Type
     0 where
-  pub item : (before : List X) (at : ℕ) (x : X) (next : ℕ) → StandsAt spells bytes at x next
+  pub item : (before : List X) (at : ℕ) (x : X) (next : ℕ) → IsEncodedAt encodes bytes at x next
       → good before x → step before at ≡ Ok (Item x next)
   pub end : (before : List X) (at next : ℕ) → EndStands ends bytes at next
       → step before at ≡ Ok (End next)
 
-pub spelled_list : {X : Type 0} (spells : List ℕ → X → Type 0) (ends : List ℕ → Type 0)
+pub spelled-list : {X : Type 0} (encodes : List ℕ → X → Type 0) (ends : List ℕ → Type 0)
     (good : List X → X → Type 0) (bytes : List ℕ) (step : List X → ℕ → Result (Next X) Cause)
-    → IsSpelled spells ends good bytes step
+    → IsSpelled encodes ends good bytes step
     → (before : List X) (at : ℕ) (xs : List X) (next : ℕ) → Lists step before at xs next
-    → StandsAt (SpellsAll spells ends) bytes at xs next × GoodEach good before xs
-spelled_list spells ends good bytes step spelled before at [] next h =
-    let end = spelled.end before at next h in (
-      stands_from (SpellsAll spells ends) bytes at [] next end.front end.rest
-          (stretch_of (λ b (u : Unit {0}). ends b) bytes at tt next end)
+    → IsEncodedAt (EncodesAll encodes ends) bytes at xs next × GoodEach good before xs
+spelled-list encodes ends good bytes step encoded before at [] next h =
+    let end = encoded.end before at next h in (
+      stands-from (EncodesAll encodes ends) bytes at [] next end.front end.rest
+          (stretch-of (λ b (u : Unit {0}). ends b) bytes at tt next end)
           (record {
             items = [];
             end = end.front;
             whole = refl;
             items_are = refl;
             ends_it =
-                end.spelled;
+                end.encoded;
           }),
       tt,
     )
-spelled_list spells ends good bytes step spelled before at (x ∷ xs) next h =
-    let here = spelled.item before at x h.0 h.1 in
-    let others = spelled_list spells ends good bytes step spelled (before ++ x ∷ []) h.0 xs next
+spelled-list encodes ends good bytes step encoded before at (x ∷ xs) next h =
+    let here = encoded.item before at x h.0 h.1 in
+    let others = spelled-list encodes ends good bytes step encoded (before ++ x ∷ []) h.0 xs next
     h.2 in
     let all = joined bytes at here.0.front others.0.front h.0 next here.0.rest others.0.rest
-    (stretch_of spells bytes at x h.0 here.0)
-    (stretch_of (SpellsAll spells ends) bytes h.0 xs next others.0) in (
-      stands_from (SpellsAll spells ends) bytes at (x ∷ xs) next (here.0.front ++ others.0.front)
+    (stretch-of encodes bytes at x h.0 here.0)
+    (stretch-of (EncodesAll encodes ends) bytes h.0 xs next others.0) in (
+      stands-from (EncodesAll encodes ends) bytes at (x ∷ xs) next (here.0.front ++ others.0.front)
           others.0.rest all
           (record {
-            items = here.0.front ++ others.0.spelled.items;
-            end = others.0.spelled.end;
-            whole = ap (λ (b : List ℕ). here.0.front ++ b) others.0.spelled.whole
-                ∙ sym (append_assoc here.0.front others.0.spelled.items others.0.spelled.end);
+            items = here.0.front ++ others.0.encoded.items;
+            end = others.0.encoded.end;
+            whole = ap (λ (b : List ℕ). here.0.front ++ b) others.0.encoded.whole
+                ∙ sym (append_assoc here.0.front others.0.encoded.items others.0.encoded.end);
             items_are = (
               here.0.front,
-              others.0.spelled.items,
+              others.0.encoded.items,
               refl,
-              here.0.spelled,
-              others.0.spelled.items_are,
+              here.0.encoded,
+              others.0.encoded.items_are,
             );
-            ends_it = others.0.spelled.ends_it;
+            ends_it = others.0.encoded.ends_it;
           }),
       (here.1, others.1),
     )
 
-pub read_list : {X : Type 0} (spells : List ℕ → X → Type 0) (ends : List ℕ → Type 0)
+pub read-list : {X : Type 0} (encodes : List ℕ → X → Type 0) (ends : List ℕ → Type 0)
     (good : List X → X → Type 0) (bytes : List ℕ) (step : List X → ℕ → Result (Next X) Cause)
-    → IsRead spells ends good bytes step
+    → IsRead encodes ends good bytes step
     → (before : List X) (at : ℕ) (xs : List X) (next : ℕ) (items end rest : List ℕ)
-    → Stretch bytes at (items ++ end) next rest → SpellsEach spells items xs → ends end
+    → Stretch bytes at (items ++ end) next rest → EncodesEach encodes items xs → ends end
     → GoodEach good before xs → Lists step before at xs next
-read_list spells ends good bytes step read before at [] next items end rest s none ends_it
+read-list encodes ends good bytes step read before at [] next items end rest s none ends_it
     good_each =
     let same : items ++ end ≡ end = ap (λ (b : List ℕ). b ++ end) none in
-    read.end before at next (stands_from (λ b (u : Unit {0}). ends b) bytes at tt next end rest
+    read.end before at next (stands-from (λ b (u : Unit {0}). ends b) bytes at tt next end rest
     (respelled bytes at (items ++ end) end next rest same s) ends_it)
-read_list spells ends good bytes step read before at (x ∷ xs) next items end rest s some ends_it
+read-list encodes ends good bytes step read before at (x ∷ xs) next items end rest s some ends_it
     good_each =
     let front = some.0 in
     let others = some.1 in
@@ -115,13 +115,13 @@ read_list spells ends good bytes step read before at (x ∷ xs) next items end r
     let regrouped = respelled bytes at (items ++ end) (front ++ (others ++ end)) next rest whole
     s in
     let mid = at + length front in
-    let here = stands_from spells bytes at x mid front ((others ++ end) ++ rest)
-    (first_part bytes at front (others ++ end) next rest regrouped) some.3 in (
+    let here = stands-from encodes bytes at x mid front ((others ++ end) ++ rest)
+    (first-part bytes at front (others ++ end) next rest regrouped) some.3 in (
       mid,
       read.item before at x mid here good_each.0,
-      read_list spells ends good bytes step read
+      read-list encodes ends good bytes step read
           (before ++ x ∷ []) mid xs next others end rest
-          (second_part bytes at front (others ++ end) next rest regrouped) some.4 ends_it
+          (second-part bytes at front (others ++ end) next rest regrouped) some.4 ends_it
           good_each.1,
     )
 
@@ -153,16 +153,16 @@ apart {X = X} key before x none k d h same =
     false≢true (sym none ∙ list_any_at (λ (y : X). key y == key x) before k d h
     (eq-eqb (key (get_or before k d)) (key x) same))
 
-pub all_new : {X : Type 0} (P : X → Type 0) (key : X → ℕ) (before xs : List X) → All P before
+pub all-new : {X : Type 0} (P : X → Type 0) (key : X → ℕ) (before xs : List X) → All P before
     → AllPairs (λ x y. key x ≢ key y) before → GoodEach (IsNew P key) before xs
     → All P (before ++ xs) × AllPairs (λ x y. key x ≢ key y) (before ++ xs)
-all_new {X = X} P key before [] all pairs good =
+all-new {X = X} P key before [] all pairs good =
     let same : before ≡ before ++ [] = sym (append-nil before) in (
       subst (λ (ys : List X). All P ys) same all,
       subst (λ (ys : List X). AllPairs (λ x y. key x ≢ key y) ys) same pairs,
     )
-all_new {X = X} P key before (x ∷ xs) all pairs good =
-    let next = all_new P key (before ++ x ∷ []) xs (All-push P before x all good.0.0)
+all-new {X = X} P key before (x ∷ xs) all pairs good =
+    let next = all-new P key (before ++ x ∷ []) xs (All-push P before x all good.0.0)
     (all_pairs_push (λ x y. key x ≢ key y) before x pairs (apart key before x good.0.1))
     good.1 in
     let same : (before ++ x ∷ []) ++ xs ≡ before ++ (x ∷ xs) = append_assoc before (x ∷ []) xs in (
@@ -181,11 +181,11 @@ get_or-front [] xs k d h = absurd (omega arith)
 get_or-front (y ∷ before) xs zero d h = refl
 get_or-front (y ∷ before) xs (suc k) d h = get_or-front before xs k d (omega arith)
 
-pub new_each : {X : Type 0} (P : X → Type 0) (key : X → ℕ) (before xs : List X)
+pub new-each : {X : Type 0} (P : X → Type 0) (key : X → ℕ) (before xs : List X)
     → All P (before ++ xs) → AllPairs (λ x y. key x ≢ key y) (before ++ xs)
     → GoodEach (IsNew P key) before xs
-new_each P key before [] all pairs = tt
-new_each {X = X} P key before (x ∷ xs) all pairs =
+new-each P key before [] all pairs = tt
+new-each {X = X} P key before (x ∷ xs) all pairs =
     let size : length (before ++ x ∷ xs) ≡ length before + suc (length xs) =
     length-append before (x ∷ xs) in
     let here : P x = subst P (get_or-first before xs x x)
@@ -198,28 +198,28 @@ new_each {X = X} P key before (x ∷ xs) all pairs =
     let same : before ++ (x ∷ xs) ≡ (before ++ x ∷ []) ++ xs =
     sym (append_assoc before (x ∷ []) xs) in (
       (here, list_any_none (λ (y : X). key y == key x) before unlike),
-      new_each P key (before ++ x ∷ []) xs (subst (λ (ys : List X). All P ys) same all)
+      new-each P key (before ++ x ∷ []) xs (subst (λ (ys : List X). All P ys) same all)
           (subst (λ (ys : List X). AllPairs (λ x y. key x ≢ key y) ys) same pairs),
     )
   where
     not_same : (a b : ℕ) → a ≢ b → (a == b) ≡ false
     not_same a b h = grind arith
 
--- fewer than room elements precede the element
+-- fewer than `budget` elements precede the element
 abbrev pub HasRoom : {X : Type 0} → ℕ → List X → X → Type 0
-HasRoom room before x = length before < room
+HasRoom budget before x = length before < budget
 
-pub all_room : {X : Type 0} (room : ℕ) (before xs : List X) → length before ≤ room
-    → GoodEach (HasRoom room) before xs → length before + length xs ≤ room
-all_room room before [] le good = omega arith
-all_room room before (x ∷ xs) le good =
+pub all-room : {X : Type 0} (budget : ℕ) (before xs : List X) → length before ≤ budget
+    → GoodEach (HasRoom budget) before xs → length before + length xs ≤ budget
+all-room budget before [] le good = omega arith
+all-room budget before (x ∷ xs) le good =
     let size = length-append before (x ∷ []) in
-    let next = all_room room (before ++ x ∷ []) xs (omega (arith, size, good.0)) good.1 in
+    let next = all-room budget (before ++ x ∷ []) xs (omega (arith, size, good.0)) good.1 in
     omega (arith, size, next)
 
-pub room_each : {X : Type 0} (room : ℕ) (before xs : List X) → length before + length xs ≤ room
-    → GoodEach (HasRoom room) before xs
-room_each room before [] le = tt
-room_each room before (x ∷ xs) le =
+pub room-each : {X : Type 0} (budget : ℕ) (before xs : List X) → length before + length xs ≤ budget
+    → GoodEach (HasRoom budget) before xs
+room-each budget before [] le = tt
+room-each budget before (x ∷ xs) le =
     let size = length-append before (x ∷ []) in
-    (omega arith, room_each room (before ++ x ∷ []) xs (omega (arith, size)))
+    (omega arith, room-each budget (before ++ x ∷ []) xs (omega (arith, size)))

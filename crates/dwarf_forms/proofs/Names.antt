@@ -13,7 +13,7 @@ use Rattle.std.proofs.lemmas.List.{drop_all, length-append, drop-append-le}
 use Rattle.std.proofs.lemmas.List.Folds.{list_any-append}
 use Rattle.std.proofs.lemmas.List.{take_all}
 use Rattle.dwarf_forms.specs.declared.attribute.AttributeSpecification.{AttributeSpecification}
-use Rattle.dwarf_forms.specs.Private.Index.{HoldsNames}
+use Rattle.dwarf_forms.specs.Private.Index.{ContainsNames}
 
 abbrev named : ℕ → AttributeSpecification → Bool
 named name attribute = attribute.name == name
@@ -27,61 +27,61 @@ front_is xs n = by_length (cases_lt (length xs) n)
     by_length (inr many) = let front : min (length xs) n ≡ n = omega arith in rw front refl
 
 -- a name is one of the first n, or a later one
-pub named_parts : (xs : List AttributeSpecification) (n name : ℕ)
+pub named-parts : (xs : List AttributeSpecification) (n name : ℕ)
     → list_any (named name) xs ≡ (list_any (named name) (take n xs) || list_any (named name)
     (drop n xs))
-named_parts xs n name = ap (λ (ys : List AttributeSpecification). list_any (named name) ys)
+named-parts xs n name = ap (λ (ys : List AttributeSpecification). list_any (named name) ys)
     (sym (take-append-drop n xs)) ∙ list_any-append (named name) (take n xs) (drop n xs)
 
 -- A name that is one of the first few, and one that is not.
-pub named_first : (xs front : List AttributeSpecification) (n name : ℕ)
+pub named-first : (xs front : List AttributeSpecification) (n name : ℕ)
     → front ≡ take (min (length xs) n) xs → list_any (named name) front ≡ true
     → list_any (named name) xs ≡ true
-named_first xs front n name is first = named_parts xs n name ∙ rw (← front_is xs n, ← is, first)
+named-first xs front n name is first = named-parts xs n name ∙ rw (← front_is xs n, ← is, first)
     refl
 
-pub named_later : (xs front : List AttributeSpecification) (later : BTreeSet ℕ) (n name : ℕ)
-    → front ≡ take (min (length xs) n) xs → HoldsNames later (drop n xs)
+pub named-later : (xs front : List AttributeSpecification) (later : BTreeSet ℕ) (n name : ℕ)
+    → front ≡ take (min (length xs) n) xs → ContainsNames later (drop n xs)
     → list_any (named name) front ≡ false
     → contains nat_cmp later name ≡ list_any (named name) xs
-named_later xs front later n name is held first =
-    held name ∙ sym (named_parts xs n name ∙ rw (← front_is xs n, ← is, first) refl)
+named-later xs front later n name is held first =
+    held name ∙ sym (named-parts xs n name ∙ rw (← front_is xs n, ← is, first) refl)
 
 -- ---- the set of the later names while the list grows
 
 -- a list of at most n names has no later ones
-pub held_few : (xs : List AttributeSpecification) (y : AttributeSpecification) (later : BTreeSet ℕ)
-    (n : ℕ) → length xs < n → HoldsNames later (drop n xs)
-    → HoldsNames later (drop n (xs ++ y ∷ []))
-held_few xs y later n few held name =
+pub held-few : (xs : List AttributeSpecification) (y : AttributeSpecification) (later : BTreeSet ℕ)
+    (n : ℕ) → length xs < n → ContainsNames later (drop n xs)
+    → ContainsNames later (drop n (xs ++ y ∷ []))
+held-few xs y later n few held name =
     let none : drop n xs ≡ [] = drop_all n xs (omega arith) in
-    let none_more : drop n (xs ++ y ∷ []) ≡ [] =
+    let none-more : drop n (xs ++ y ∷ []) ≡ [] =
     drop_all n (xs ++ y ∷ []) (omega (arith, length-append xs (y ∷ []))) in
     held name ∙ ap (λ (ys : List AttributeSpecification). list_any (named name) ys)
-    (none ∙ sym none_more)
+    (none ∙ sym none-more)
 
 -- a name after the first n is inserted into the set
 pub held_more : (xs : List AttributeSpecification) (y : AttributeSpecification)
     (later next : BTreeSet ℕ) (n : ℕ) → n ≤ length xs
     → ((q : ℕ) → contains nat_cmp next q ≡ cond (is_at (nat_cmp y.name) q) true
-    (contains nat_cmp later q)) → HoldsNames later (drop n xs)
-    → HoldsNames next (drop n (xs ++ y ∷ []))
+    (contains nat_cmp later q)) → ContainsNames later (drop n xs)
+    → ContainsNames next (drop n (xs ++ y ∷ []))
 held_more xs y later next n many updates held name =
     let more : drop n (xs ++ y ∷ []) ≡ drop n xs ++ y ∷ [] = drop-append-le n xs (y ∷ []) many in
     let any : list_any (named name) (drop n (xs ++ y ∷ []))
     ≡ (list_any (named name) (drop n xs) || ((y.name == name) || false)) =
     ap (λ (ys : List AttributeSpecification). list_any (named name) ys) more
     ∙ list_any-append (named name) (drop n xs) (y ∷ []) in
-    updates name ∙ (rw (held name) (by_tests (is_at (nat_cmp y.name) name) (y.name == name)
+    updates name ∙ (rw (held name) (by-tests (is_at (nat_cmp y.name) name) (y.name == name)
     (list_any (named name) (drop n xs)) (at_is y.name name)) ∙ sym any)
   where
-    by_tests : (a b c : Bool) → a ≡ b → cond a true c ≡ (c || (b || false))
-    by_tests true true true h = refl
-    by_tests true true false h = refl
-    by_tests true false c h = cc
-    by_tests false true c h = cc
-    by_tests false false true h = refl
-    by_tests false false false h = refl
+    by-tests : (a b c : Bool) → a ≡ b → cond a true c ≡ (c || (b || false))
+    by-tests true true true h = refl
+    by-tests true true false h = refl
+    by-tests true false c h = cc
+    by-tests false true c h = cc
+    by-tests false false true h = refl
+    by-tests false false false h = refl
 
     at_is : (a b : ℕ) → is_at (nat_cmp a) b ≡ (a == b)
     at_is a b = grind (arith, common_steps)

@@ -4,10 +4,10 @@ use Rattle.std.proofs.Common.{length, drop, get_or, refl, ap, sym, ◌∙◌, su
 use Rattle.std.specs.Prelude.{Ok}
 use Rattle.std.proofs.lemmas.List.{get_or-drop, length-drop, drop-append-le, drop_all}
 use Rattle.dwarf_bytes.specs.Items.{Item}
-use Rattle.dwarf_bytes.proofs.Moves.{same_ok}
+use Rattle.dwarf_bytes.proofs.Numbers.Moves.{same-ok}
 use Rattle.dwarf_forms.specs.declared.attribute.AttributeSpecification.{AttributeSpecification}
 use Rattle.dwarf_forms.specs.Tables.{attribute_at, attributes_at}
-use Rattle.dwarf_forms.specs.Private.Shared.{StandAt, place_behind, place_after, places_from}
+use Rattle.dwarf_forms.specs.Private.Shared.{AreReadAt, offset_after, place_after, places_from}
 use Rattle.dwarf_forms.proofs.JoinedLaws.{attribute-again}
 use Rattle.dwarf_forms.proofs.JoinedLists.{attributes-behind}
 
@@ -15,32 +15,32 @@ use Rattle.dwarf_forms.proofs.JoinedLists.{attributes-behind}
 
 pub behind-is : (section : List ℕ) (before : List AttributeSpecification) (at : ℕ)
     (x : AttributeSpecification) (after : ℕ) → attribute_at section before at ≡ Ok (Item x after)
-    → place_behind section at ≡ after
+    → offset_after section at ≡ after
 behind-is section before at x after is =
     rw (attribute-again section before [] at x after is refl) refl
 
 pub place_after-push : (section : List ℕ) (n at : ℕ) → place_after section at (suc n)
-    ≡ place_behind section (place_after section at n)
+    ≡ offset_after section (place_after section at n)
 place_after-push section zero at = refl
-place_after-push section (suc n) at = place_after-push section n (place_behind section at)
+place_after-push section (suc n) at = place_after-push section n (offset_after section at)
 
 pub places_from-push : (section : List ℕ) (n at : ℕ) → places_from section at (suc n)
     ≡ places_from section at n ++ place_after section at n ∷ []
 places_from-push section zero at = refl
 places_from-push section (suc n) at = ap (λ (ps : List ℕ). at ∷ ps)
-    (places_from-push section n (place_behind section at))
+    (places_from-push section n (offset_after section at))
 
 pub places_from-length : (section : List ℕ) (n at : ℕ) → length (places_from section at n) ≡ n
 places_from-length section zero at = refl
 places_from-length section (suc n) at = ap suc
-    (places_from-length section n (place_behind section at))
+    (places_from-length section n (offset_after section at))
 
 places_from-at : (section : List ℕ) (n at i d : ℕ) → i < n → get_or (places_from section at n) i d
     ≡ place_after section at i
 places_from-at section zero at i d lt = absurd (omega (arith, lt))
 places_from-at section (suc n) at zero d lt = refl
 places_from-at section (suc n) at (suc i) d lt =
-    places_from-at section n (place_behind section at) i d (omega (arith, lt))
+    places_from-at section n (offset_after section at) i d (omega (arith, lt))
 
 -- the read from the offset after n attributes gives the rest of the list
 pub after-stands : (section : List ℕ) (n at : ℕ) (xs : List AttributeSpecification) (after : ℕ)
@@ -50,8 +50,8 @@ after-stands section zero at xs after read le = read
 after-stands section (suc n) at [] after read le = absurd (omega (arith, le))
 after-stands section (suc n) at (x ∷ xs) after read le =
     let behind = attributes-behind section at x xs after read in
-    let mid : place_behind section at ≡ behind.0 = behind-is section [] at x behind.0 behind.1 in
-    after-stands section n (place_behind section at) xs after
+    let mid : offset_after section at ≡ behind.0 = behind-is section [] at x behind.0 behind.1 in
+    after-stands section n (offset_after section at) xs after
     (subst (λ (k : ℕ). attributes_at section k ≡ Ok (xs, after)) (sym mid) behind.2)
     (omega (arith, le))
 
@@ -66,7 +66,7 @@ drop-both (suc n) i (suc m) (x ∷ xs) is = drop-both n i m xs (omega (arith, is
 pub places-stand : (section : List ℕ) (first few : ℕ) (own rest : List AttributeSpecification)
     (after : ℕ) (places : List ℕ) → attributes_at section first ≡ Ok (own ++ rest, after)
     → places ≡ drop few (places_from section first (length own))
-    → StandAt section places (drop few own) rest after
+    → AreReadAt section places (drop few own) rest after
 places-stand section first few own rest after places read are i d lt =
     let len : length places ≡ length own - few =
     ap length are ∙ (length-drop few (places_from section first (length own))
@@ -134,13 +134,13 @@ after-more section first own x at after is read =
     length-append own (x ∷ []) ∙ omega arith in
     sym (ap (λ (n : ℕ). place_after section first n) len
     ∙ (place_after-push section (length own) first
-    ∙ (ap (λ (k : ℕ). place_behind section k) (sym is) ∙ behind-is section own at x after
+    ∙ (ap (λ (k : ℕ). offset_after section k) (sym is) ∙ behind-is section own at x after
     read)))
 
 -- the attributes of a list are at different offsets
 pub stand-apart : (section : List ℕ) (places : List ℕ)
     (attributes rest : List AttributeSpecification) (after i k d : ℕ)
-    → StandAt section places attributes rest after → length places ≡ length attributes → i < k
+    → AreReadAt section places attributes rest after → length places ≡ length attributes → i < k
     → k < length places → get_or places k d ≢ get_or places i d
 stand-apart section places attributes rest after i k d stand lengths before within same =
     let read : Ok (drop k attributes ++ rest, after) ≡ Ok (drop i attributes ++ rest, after) =
@@ -148,7 +148,7 @@ stand-apart section places attributes rest after i k d stand lengths before with
     ∙ stand i d (omega (arith, before, within))) in
     let lists : drop k attributes ++ rest ≡ drop i attributes ++ rest =
     ap (λ (r : List AttributeSpecification × ℕ). r.0)
-    (same_ok (drop k attributes ++ rest, after) (drop i attributes ++ rest, after) read) in
+    (same-ok (drop k attributes ++ rest, after) (drop i attributes ++ rest, after) read) in
     omega (
       arith,
       before,

@@ -106,11 +106,11 @@ few-bits old mid new name some few one =
 abbrev pub HasMore : List Branch → List Branch → ℕ → ℕ → ℕ → Type 0
 HasMore old new set more name = (x : ℕ) → is_in new more x ≡ ((x == name) || is_in old set x)
 
-apart_test : (a b : ℕ) → a ≢ b → (a == b) ≡ false
-apart_test a b h = grind arith
+apart-test : (a b : ℕ) → a ≢ b → (a == b) ≡ false
+apart-test a b h = grind arith
 
-same_test : (a : ℕ) → (a == a) ≡ true
-same_test a = grind arith
+same-test : (a : ℕ) → (a == a) ≡ true
+same-test a = grind arith
 
 -- a name without more bits
 pub more-ends : (old new : List Branch) (set more name : ℕ) (b ended : Branch)
@@ -134,7 +134,7 @@ more-ends old new set more name b ended there lt within none last is ends stay x
         is_in-more old set (suc n) (omega arith)
         ∙ ap (λ (c : Branch). is_in old (side c (suc n % 2)) (suc n / 2)) (sym there) in
         let apart : (suc n == name) ≡ false =
-        apart_test (suc n) name (λ e. absurd (omega (arith, e, none))) in
+        apart-test (suc n) name (λ e. absurd (omega (arith, e, none))) in
         way ∙ (stay.same (side b (suc n % 2)) (suc n / 2)
         (side-within (length old) (suc n % 2) b within)
         ∙ (sym old_way ∙ sym (ap (λ (t : Bool). t || is_in old set (suc n)) apart)))
@@ -158,9 +158,9 @@ more-bits old mid new set behind more name b turned there within some last is in
       where
         by_test : (t : Bool) → (a == b) ≡ t → (a / 2 == b / 2) ≡ t
         by_test true same = let one : a ≡ b = eqb-true a b same in
-            ap (λ (k : ℕ). k / 2 == b / 2) one ∙ same_test (b / 2)
+            ap (λ (k : ℕ). k / 2 == b / 2) one ∙ same-test (b / 2)
         by_test false apart = let two : a ≢ b = eqb-false a b apart in
-            apart_test (a / 2) (b / 2) (λ h. two (omega (arith, h, e)))
+            apart-test (a / 2) (b / 2) (λ h. two (omega (arith, h, e)))
 
     by_side : (n : ℕ) → (t : Bool) → (suc n % 2 == name % 2) ≡ t
         → is_in new (side turned (suc n % 2)) (suc n / 2)
@@ -180,7 +180,7 @@ more-bits old mid new set behind more name b turned there within some last is in
         others (suc n % 2) (omega arith) bit in
         let lt : side b (suc n % 2) < length old = side-within (length old) (suc n % 2) b within in
         let apart : (suc n == name) ≡ false =
-        apart_test (suc n) name (λ e. bit (ap (λ (k : ℕ). k % 2) e)) in
+        apart-test (suc n) name (λ e. bit (ap (λ (k : ℕ). k % 2) e)) in
         ap (λ (s : ℕ). is_in new s (suc n / 2)) to
         ∙ (second.same (side b (suc n % 2)) (suc n / 2) (omega (arith, lt, first.longer))
         ∙ (first.same (side b (suc n % 2)) (suc n / 2) lt
@@ -189,7 +189,7 @@ more-bits old mid new set behind more name b turned there within some last is in
     by_bits : (x : ℕ) → is_in new more x ≡ ((x == name) || is_in old set x)
     by_bits zero =
         let apart : (0 == name) ≡ false =
-        apart_test 0 name (λ e. absurd (omega (arith, e, some))) in
+        apart-test 0 name (λ e. absurd (omega (arith, e, some))) in
         is_in-zero new more ∙ (ap (λ (c : Branch). c.ends) here
         ∙ (ends ∙ (ap (λ (c : Branch). c.ends) there
         ∙ (sym (is_in-zero old set) ∙ sym (ap (λ (t : Bool). t || is_in old set 0) apart)))))

@@ -7,30 +7,31 @@ use Rattle.std.proofs.lemmas.List.{drop_more}
 use Rattle.std.proofs.lemmas.List.Folds.{list_any-append}
 use Rattle.std.proofs.lemmas.Option.{slice_get_within}
 use Rattle.dwarf_forms.specs.declared.attribute.AttributeSpecification.{AttributeSpecification}
-use Rattle.dwarf_forms.specs.declared.known_lists.KnownAttribute.{KnownAttribute}
+use Rattle.dwarf_forms.specs.declared.memoized_lists.MemoizedAttribute.{MemoizedAttribute}
 use Rattle.dwarf_forms.specs.declared.shared.Stretch.{Stretch}
 use Rattle.dwarf_forms.specs.declared.shared.TheConstants.{UNSHARED}
 use Rattle.dwarf_forms.specs.Tables.{attributes_at}
-use Rattle.dwarf_forms.specs.Private.Known.{Grows, IsKnown, IsPut, IsUnknown, KnownPlaces}
-use Rattle.dwarf_forms.specs.Private.Known.{is_known_at, rest_attributes}
-use Rattle.dwarf_forms.specs.Private.Shared.{IsStretch, StandAt, places_from}
-use Rattle.dwarf_forms.proofs.KnownListLaws.{from-last}
-use Rattle.dwarf_forms.proofs.KnownLaws.{known-at}
+use Rattle.dwarf_forms.specs.Private.Memoized.{Grows, IsMemoized, IsPut, IsNotMemoized}
+use Rattle.dwarf_forms.specs.Private.Memoized.{MemoizedAttributes, is_memoized_at, rest_attributes}
+use Rattle.dwarf_forms.specs.Private.Shared.{IsStretch, AreReadAt, places_from}
+use Rattle.dwarf_forms.proofs.MemoListLaws.{from-last}
+use Rattle.dwarf_forms.proofs.MemoLaws.{memoized-at}
 use Rattle.dwarf_forms.proofs.PlaceLaws.{stand-apart, places-length, places-stand}
 
 -- ---- the attributes that were read
 
-pub stretch-is : (lists : KnownPlaces) (bytes : List ℕ) (first after : ℕ) (stretch : Stretch)
+pub stretch-is : (lists : MemoizedAttributes) (bytes : List ℕ) (first after : ℕ) (stretch : Stretch)
     → bytes ≡ lists.section → attributes_at bytes first
-    ≡ Ok (stretch.attributes.items ++ rest_attributes lists.known stretch.rest, after)
+    ≡ Ok (stretch.attributes.items ++ rest_attributes lists.memoized stretch.rest, after)
     → stretch.places.items ≡ drop UNSHARED
     (places_from bytes first (length stretch.attributes.items))
-    → IsKnown lists.known stretch.rest → IfSome stretch.rest
+    → IsMemoized lists.memoized stretch.rest → IfSome stretch.rest
     (λ _. UNSHARED ≤ length stretch.attributes.items)
-    → All (IsUnknown lists.known) stretch.places.items → IsStretch lists first stretch after
+    → All (IsNotMemoized lists.memoized) stretch.places.items → IsStretch lists first stretch after
 stretch-is lists bytes first after stretch same read places rest behind unknown = record {
   read = subst (λ (b : List ℕ). attributes_at b first
-      ≡ Ok (stretch.attributes.items ++ rest_attributes lists.known stretch.rest, after)) same read;
+      ≡ Ok (stretch.attributes.items ++ rest_attributes lists.memoized stretch.rest, after))
+      same read;
   places = subst (λ (b : List ℕ). stretch.places.items
       ≡ drop UNSHARED (places_from b first (length stretch.attributes.items))) same places;
   rest = rest;
@@ -38,35 +39,36 @@ stretch-is lists bytes first after stretch same read places rest behind unknown 
   unknown = unknown;
 }
 
-pub known-number : (known : List KnownAttribute) (number place : ℕ) → is_known_at known number place
-    ≡ true → number < length known
-known-number known number place is = let found = known-at known number place is in
-    slice_get_within known number found.0 found.1
+pub memoized-number : (memoized : List MemoizedAttribute) (number place : ℕ)
+    → is_memoized_at memoized number place
+    ≡ true → number < length memoized
+memoized-number memoized number place is = let found = memoized-at memoized number place is in
+    slice_get_within memoized number found.0 found.1
 
-pub stretch-lengths : (lists : KnownPlaces) (first after : ℕ) (stretch : Stretch)
+pub stretch-lengths : (lists : MemoizedAttributes) (first after : ℕ) (stretch : Stretch)
     → IsStretch lists first stretch after
     → length stretch.places.items ≡ length (drop UNSHARED stretch.attributes.items)
 stretch-lengths lists first after stretch is =
     places-length lists.section first UNSHARED stretch.attributes.items stretch.places.items
     is.places
 
-pub stretch-stand : (lists : KnownPlaces) (first after : ℕ) (stretch : Stretch)
+pub stretch-stand : (lists : MemoizedAttributes) (first after : ℕ) (stretch : Stretch)
     → IsStretch lists first stretch after
-    → StandAt lists.section stretch.places.items (drop UNSHARED stretch.attributes.items)
-    (rest_attributes lists.known stretch.rest) after
+    → AreReadAt lists.section stretch.places.items (drop UNSHARED stretch.attributes.items)
+    (rest_attributes lists.memoized stretch.rest) after
 stretch-stand lists first after stretch is =
     places-stand lists.section first UNSHARED stretch.attributes.items
-    (rest_attributes lists.known stretch.rest) after stretch.places.items is.read is.places
+    (rest_attributes lists.memoized stretch.rest) after stretch.places.items is.read is.places
 
 -- if the lookup of an offset finds nothing, no memoized attribute is there
-pub unknown-place : (known : List KnownAttribute) (found : Option ℕ) (count place : ℕ)
-    → IfNone found (UNSHARED ≤ count → IsUnknown known place)
-    → ((number : ℕ) → found ≡ Some number → ⊥) → UNSHARED ≤ count → IsUnknown known place
-unknown-place known None count place unknown none many = unknown many
-unknown-place known (Some number) count place unknown none many = absurd (none number refl)
+pub unknown-place : (memoized : List MemoizedAttribute) (found : Option ℕ) (count place : ℕ)
+    → IfNone found (UNSHARED ≤ count → IsNotMemoized memoized place)
+    → ((number : ℕ) → found ≡ Some number → ⊥) → UNSHARED ≤ count → IsNotMemoized memoized place
+unknown-place memoized None count place unknown none many = unknown many
+unknown-place memoized (Some number) count place unknown none many = absurd (none number refl)
 
 -- the first attributes and the rest are the whole list
-pub shared-whole : (old new : List KnownAttribute) (attributes own : List AttributeSpecification)
+pub shared-whole : (old new : List MemoizedAttribute) (attributes own : List AttributeSpecification)
     (rest next : Option ℕ) (n : ℕ) → own ≡ take n attributes
     → rest_attributes new next ≡ drop n attributes ++ rest_attributes old rest
     → attributes ++ rest_attributes old rest ≡ own ++ rest_attributes new next
@@ -79,11 +81,12 @@ shared-whole old new attributes own rest next n first behind =
 
 -- ---- more memoized attributes
 
-pub grows-put : (old now new : KnownPlaces) (number place : ℕ) (attribute : AttributeSpecification)
+pub grows-put : (old now new : MemoizedAttributes) (number place : ℕ)
+    (attribute : AttributeSpecification)
     (next : Option ℕ) (after : ℕ) → Grows old now → new.section ≡ now.section
-    → IsPut now.known new.known number place attribute next after → Grows old new
+    → IsPut now.memoized new.memoized number place attribute next after → Grows old new
 grows-put old now new number place attribute next after grown section put =
-    let last : KnownAttribute = record {
+    let last : MemoizedAttribute = record {
       place = place;
       attribute = attribute;
       next = next;
@@ -94,45 +97,54 @@ grows-put old now new number place attribute next after grown section put =
     record {
       section = section ∙ grown.section;
       more = grown.more ++ last ∷ [];
-      known = put.known ∙ (ap (λ (ks : List KnownAttribute). ks ++ last ∷ []) grown.known
-          ∙ append_assoc old.known grown.more (last ∷ []));
+      memoized = put.memoized ∙ (ap (λ (ks : List MemoizedAttribute). ks ++ last
+          ∷ []) grown.memoized
+          ∙ append_assoc old.memoized grown.more (last ∷ []));
     }
 
 -- ---- attributes that are memoized, the last of them first
 
-pub record PutFrom (old now : KnownPlaces) (attributes : List AttributeSpecification)
+pub record PutFrom (old now : MemoizedAttributes) (attributes : List AttributeSpecification)
     (places : List ℕ) (rest : List AttributeSpecification) (next : Option ℕ) (left : ℕ) : Type 0
   where
     pub few : left ≤ length places
-    pub list : rest_attributes now.known next ≡ drop left attributes ++ rest
-    pub known : IsKnown now.known next
-    pub unknown : (i d : ℕ) → i < left → IsUnknown now.known (get_or places i d)
+    pub list : rest_attributes now.memoized next ≡ drop left attributes ++ rest
+    pub memoized : IsMemoized now.memoized next
+    pub unknown : (i d : ℕ) → i < left → IsNotMemoized now.memoized (get_or places i d)
     pub grows : Grows old now
 
-unknown-put : (known : List KnownAttribute) (k : KnownAttribute) (place : ℕ) → IsUnknown known place
-    → k.place ≢ place → IsUnknown (known ++ k ∷ []) place
-unknown-put known k place unknown apart =
-    list_any-append (λ (z : KnownAttribute). z.place == place) known (k ∷ [])
+unknown-put : (memoized : List MemoizedAttribute) (k : MemoizedAttribute) (place : ℕ)
+    → IsNotMemoized memoized place
+    → k.place ≢ place → IsNotMemoized (memoized ++ k ∷ []) place
+unknown-put memoized k place unknown apart =
+    list_any-append (λ (z : MemoizedAttribute). z.place == place) memoized (k ∷ [])
     ∙ rw (unknown, unlike k.place place apart) refl
   where
     unlike : (a b : ℕ) → a ≢ b → (a == b) ≡ false
     unlike a b h = grind arith
 
 -- one more attribute is memoized
-pub put-turn : (old now new : KnownPlaces) (attributes : List AttributeSpecification)
+pub put-turn : (old now new : MemoizedAttributes) (attributes : List AttributeSpecification)
     (places : List ℕ) (rest : List AttributeSpecification) (next : Option ℕ)
     (left k number d after : ℕ) (e : AttributeSpecification)
     → PutFrom old now attributes places rest next left → length places ≡ length attributes
-    → StandAt old.section places attributes rest after → left ≡ k + 1
-    → new.section ≡ now.section → IsPut now.known new.known number (get_or places k d)
+    → AreReadAt old.section places attributes rest after → left ≡ k + 1
+    → new.section ≡ now.section → IsPut now.memoized new.memoized number (get_or places k d)
     (get_or attributes k e) next after → PutFrom old new attributes places rest (Some number) k
 put-turn old now new attributes places rest next left k number d after e so_far lengths stand is
     section put = record {
       few = omega (arith, within);
       list = list_is;
-      known = omega (arith, put.last, ap length put.known, length-append now.known (last ∷ []));
-      unknown = λ i f lt. subst (λ (ks : List KnownAttribute). IsUnknown ks (get_or places i f))
-          (sym put.known) (unknown-put now.known last (get_or places i f)
+      memoized = omega (
+        arith,
+        put.last,
+        ap length put.memoized,
+        length-append now.memoized
+            (last ∷ []),
+      );
+      unknown = λ i f lt. subst (λ (ks : List MemoizedAttribute). IsNotMemoized ks
+          (get_or places i f))
+          (sym put.memoized) (unknown-put now.memoized last (get_or places i f)
           (so_far.unknown i f (omega (arith, lt, is)))
           (λ same. stand-apart old.section places attributes rest after i k d stand lengths lt
           within
@@ -141,7 +153,7 @@ put-turn old now new attributes places rest next left k number d after e so_far 
           so_far.grows section put;
     }
   where
-    last : KnownAttribute
+    last : MemoizedAttribute
     last = record {
       place = get_or places k d;
       attribute = get_or attributes k e;
@@ -165,9 +177,11 @@ put-turn old now new attributes places rest next left k number d after e so_far 
     behind = drop_more attributes k e (omega (arith, within, lengths))
         ∙ ap (λ (n : ℕ). x ∷ drop n attributes) (sym is)
 
-    list_is : rest_attributes new.known (Some number) ≡ drop k attributes ++ rest
+    list_is : rest_attributes new.memoized (Some number) ≡ drop k attributes ++ rest
     list_is =
-        ap (λ (n : ℕ). rest_attributes new.known (Some n)) put.last
-        ∙ (ap (λ (ks : List KnownAttribute). rest_attributes ks (Some (length now.known))) put.known
-        ∙ (from-last now.known last ∙ (ap (λ (ys : List AttributeSpecification). x ∷ ys) so_far.list
+        ap (λ (n : ℕ). rest_attributes new.memoized (Some n)) put.last
+        ∙ (ap (λ (ks : List MemoizedAttribute). rest_attributes ks (Some (length now.memoized)))
+        put.memoized
+        ∙ (from-last now.memoized last ∙ (ap (λ (ys : List AttributeSpecification). x
+        ∷ ys) so_far.list
         ∙ ap (λ (ys : List AttributeSpecification). ys ++ rest) (sym behind))))

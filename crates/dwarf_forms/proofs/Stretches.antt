@@ -5,8 +5,8 @@ use Rattle.std.proofs.Common.{length-take, length-drop, take-append-drop}
 use Rattle.std.specs.Prelude.{Ok, nat_lt}
 use Rattle.std.proofs.lemmas.List.{take_at, drop_at, drop-drop}
 use Rattle.std.proofs.lemmas.Bool.{le-ltb}
-use Rattle.dwarf_bytes.specs.Numbers.{StandsAt, block_at, fixed_at, little_endian}
-use Rattle.dwarf_bytes.proofs.Moves.{fixed_at-moves}
+use Rattle.dwarf_bytes.specs.Numbers.{IsEncodedAt, block_at, fixed_at, little_endian}
+use Rattle.dwarf_bytes.proofs.Numbers.Moves.{fixed_at-moves}
 
 -- the range from one offset to another, and the bytes after it
 pub record Stretch (bytes : List ℕ) (at : ℕ) (stretch : List ℕ) (next : ℕ) (rest : List ℕ) : Type 0
@@ -14,15 +14,15 @@ pub record Stretch (bytes : List ℕ) (at : ℕ) (stretch : List ℕ) (next : �
     pub parts : drop at bytes ≡ stretch ++ rest
     pub next_is : next ≡ at + length stretch
 
-pub stretch_of : {X : Type 0} (Spells : List ℕ → X → Type 0) (bytes : List ℕ) (at : ℕ) (value : X)
-    (next : ℕ) (s : StandsAt Spells bytes at value next) → Stretch bytes at s.front next s.rest
-stretch_of Spells bytes at value next s = record { parts = s.parts; next_is = s.next_is }
+pub stretch-of : {X : Type 0} (Encodes : List ℕ → X → Type 0) (bytes : List ℕ) (at : ℕ) (value : X)
+    (next : ℕ) (s : IsEncodedAt Encodes bytes at value next) → Stretch bytes at s.front next s.rest
+stretch-of Encodes bytes at value next s = record { parts = s.parts; next_is = s.next_is }
 
-pub stands_from : {X : Type 0} (Spells : List ℕ → X → Type 0) (bytes : List ℕ) (at : ℕ) (value : X)
-    (next : ℕ) (front rest : List ℕ) → Stretch bytes at front next rest → Spells front value
-    → StandsAt Spells bytes at value next
-stands_from Spells bytes at value next front rest s spelled =
-    record { front = front; rest = rest; spelled = spelled; parts = s.parts; next_is = s.next_is }
+pub stands-from : {X : Type 0} (Encodes : List ℕ → X → Type 0) (bytes : List ℕ) (at : ℕ) (value : X)
+    (next : ℕ) (front rest : List ℕ) → Stretch bytes at front next rest → Encodes front value
+    → IsEncodedAt Encodes bytes at value next
+stands-from Encodes bytes at value next front rest s encoded =
+    record { front = front; rest = rest; encoded = encoded; parts = s.parts; next_is = s.next_is }
 
 -- the bytes after a range start at its end
 pub behind : (bytes : List ℕ) (at : ℕ) (stretch : List ℕ) (next : ℕ) (rest : List ℕ)
@@ -43,15 +43,15 @@ joined bytes at a b mid next r rest s t = record {
 }
 
 -- a range of two parts consists of two ranges
-pub first_part : (bytes : List ℕ) (at : ℕ) (a b : List ℕ) (next : ℕ) (rest : List ℕ)
+pub first-part : (bytes : List ℕ) (at : ℕ) (a b : List ℕ) (next : ℕ) (rest : List ℕ)
     → Stretch bytes at (a ++ b) next rest → Stretch bytes at a (at + length a) (b ++ rest)
-first_part bytes at a b next rest s = record
+first-part bytes at a b next rest s = record
     { parts = s.parts ∙ append_assoc a b rest; next_is = refl }
 
-pub second_part : (bytes : List ℕ) (at : ℕ) (a b : List ℕ) (next : ℕ) (rest : List ℕ)
+pub second-part : (bytes : List ℕ) (at : ℕ) (a b : List ℕ) (next : ℕ) (rest : List ℕ)
     → Stretch bytes at (a ++ b) next rest → Stretch bytes (at + length a) b next rest
-second_part bytes at a b next rest s = record {
-  parts = behind bytes at a (at + length a) (b ++ rest) (first_part bytes at a b next rest s);
+second-part bytes at a b next rest s = record {
+  parts = behind bytes at a (at + length a) (b ++ rest) (first-part bytes at a b next rest s);
   next_is = omega (arith, s.next_is, length-append a b);
 }
 
@@ -72,28 +72,28 @@ within bytes at stretch next rest s some =
 
 -- ---- fields
 
-pub block_again : (n : ℕ) (bytes : List ℕ) (at : ℕ) (block : List ℕ) (next : ℕ) (rest : List ℕ)
+pub block-again : (n : ℕ) (bytes : List ℕ) (at : ℕ) (block : List ℕ) (next : ℕ) (rest : List ℕ)
     → Stretch bytes at block next rest → length block ≡ n → at + n ≤ length bytes
     → block_at n bytes at ≡ Ok (block, next)
 unfolding block_at
-block_again n bytes at block next rest s len fits =
+block-again n bytes at block next rest s len fits =
     let test : nat_lt (length bytes) (at + n) ≡ false = le-ltb (length bytes) (at + n) fits in
     let front : take n (drop at bytes) ≡ block = ap (λ (b : List ℕ). take n b) s.parts
     ∙ take_at block rest n len in
     let place : at + n ≡ next = omega (arith, s.next_is, len) in
     rw (test, front, place) refl
 
-pub fixed_again : (n : ℕ) (bytes : List ℕ) (at : ℕ) (block : List ℕ) (next : ℕ) (rest : List ℕ)
+pub fixed-again : (n : ℕ) (bytes : List ℕ) (at : ℕ) (block : List ℕ) (next : ℕ) (rest : List ℕ)
     → Stretch bytes at block next rest → length block ≡ n → at + n ≤ length bytes
     → fixed_at n bytes at ≡ Ok (little_endian block, next)
 unfolding fixed_at
-fixed_again n bytes at block next rest s len fits =
-    rw (block_again n bytes at block next rest s len fits) refl
+fixed-again n bytes at block next rest s len fits =
+    rw (block-again n bytes at block next rest s len fits) refl
 
-pub fixed_stands : (n : ℕ) (bytes : List ℕ) (at : ℕ) (read : ℕ × ℕ) → fixed_at n bytes at ≡ Ok read
+pub fixed-stands : (n : ℕ) (bytes : List ℕ) (at : ℕ) (read : ℕ × ℕ) → fixed_at n bytes at ≡ Ok read
     → (block : List ℕ) × Stretch bytes at block read.1 (drop n (drop at bytes)) × (length block ≡ n)
     × (read.0 ≡ little_endian block)
-fixed_stands n bytes at read h =
+fixed-stands n bytes at read h =
     let moved = fixed_at-moves n bytes at read h in
     let value : read.0 ≡ little_endian (take n (drop at bytes)) = ap (λ (r : ℕ × ℕ). r.0) moved.1 in
     let place : read.1 ≡ at + n = ap (λ (r : ℕ × ℕ). r.1) moved.1 in

@@ -14,34 +14,36 @@ use Rattle.dwarf_bytes.specs.declared.fault.LoadFault.{LoadFault}
 use Rattle.dwarf_bytes.specs.Bind.{◌>>=◌}
 use Rattle.dwarf_bytes.specs.Numbers.{uleb_at, leb_front}
 use Rattle.dwarf_bytes.specs.Position.{Position}
-use Rattle.dwarf_bytes.specs.Refusals.{Fails, memory_fault, told, in_section}
+use Rattle.dwarf_bytes.specs.Refusals.{Fails, memory_fault, at_item, in_section}
 use Rattle.dwarf_bytes.specs.Items.{Next, Item, End, reading, items_from}
-use Rattle.dwarf_bytes.proofs.Advance.{after_bind, after_test, chosen}
+use Rattle.dwarf_bytes.proofs.Numbers.Advance.{after-bind, after-test, chosen}
 use Rattle.dwarf_forms.specs.declared.declaration.Head.{Head}
 use Rattle.dwarf_forms.specs.Declarations.{Declaration}
 use Rattle.dwarf_forms.specs.Tables.{attributes_at, head_at, declaration_at, table_at}
 use Rattle.dwarf_forms.specs.Tables.{declarations_of}
 use Rattle.dwarf_forms.specs.Private.TableSteps.{ExtendsTable}
 use Rattle.dwarf_forms.proofs.Moves.{declaration_at-advances}
-use Rattle.dwarf_bytes.proofs.Turns.{SoFar, so_far-none, so_far-item, so_far-end, so_far-fault}
+use Rattle.dwarf_bytes.proofs.Items.Turns.{SoFar, so-far-none, so-far-item, so-far-end}
+use Rattle.dwarf_bytes.proofs.Items.Turns.{so-far-fault}
 
--- a declaration is read only if fewer than room precede it
-head_at-room : (room : ℕ) (section : List ℕ) (before : List Declaration) (at : ℕ) (head : Head)
-    (after : ℕ) → head_at room section before at ≡ Ok (Item head after) → length before < room
-head_at-room room section before at head after h =
-    let P : Type 0 = length before < room in
-    after_bind (reading (uleb_at section at)) _ (Item head after) h P (λ code _ h1.
+-- a declaration is read only if fewer than `budget` precede it
+head_at-budget : (budget : ℕ) (section : List ℕ) (before : List Declaration) (at : ℕ) (head : Head)
+    (after : ℕ) → head_at budget section before at ≡ Ok (Item head after) → length before < budget
+head_at-budget budget section before at head after h =
+    let P : Type 0 = length before < budget in
+    after-bind (reading (uleb_at section at)) _ (Item head after) h P (λ code _ h1.
     chosen (code.0 == 0) _ _ (Ok (Item head after)) h1 P (λ _ is. cc) (λ _ h2.
-    after_test (nat_le room (length before)) causes.TooMany _ (Item head after) h2 P
-    (λ fits _. leb-false room (length before) fits)))
+    after-test (nat_le budget (length before)) causes.TooMany _ (Item head after) h2 P
+    (λ fits _. leb-false budget (length before) fits)))
 
-pub declaration_at-room : (room : ℕ) (section : List ℕ) (before : List Declaration) (at : ℕ)
-    (x : Declaration) (after : ℕ) → declaration_at room section before at ≡ Ok (Item x after)
-    → length before < room
-declaration_at-room room section before at x after h =
-    after_bind (head_at room section before at) _ (Item x after) h (length before < room) by_head
+pub declaration_at-budget : (budget : ℕ) (section : List ℕ) (before : List Declaration) (at : ℕ)
+    (x : Declaration) (after : ℕ) → declaration_at budget section before at ≡ Ok (Item x after)
+    → length before < budget
+declaration_at-budget budget section before at x after h =
+    after-bind (head_at budget section before at) _ (Item x after) h (length before
+    < budget) by_head
   where
-    by_head : (next : Next Head) → head_at room section before at ≡ Ok next
+    by_head : (next : Next Head) → head_at budget section before at ≡ Ok next
         → (elim next as (λ _. Result (Next Declaration) Cause) [
           | End end ↦ Ok (End end)
           | Item head mid ↦ attributes_at section mid
@@ -53,31 +55,31 @@ declaration_at-room room section before at x after h =
                     attributes.0;
               })
               attributes.1)
-        ]) ≡ Ok (Item x after) → length before < room
+        ]) ≡ Ok (Item x after) → length before < budget
     by_head (End end) is h = cc
-    by_head (Item head mid) is h = head_at-room room section before at head mid is
+    by_head (Item head mid) is h = head_at-budget budget section before at head mid is
 
 -- the effect of an iteration that reads a declaration
-pub record Turn (room first : ℕ) (bytes : List ℕ) (after : List Declaration)
+pub record Turn (budget first : ℕ) (bytes : List ℕ) (after : List Declaration)
     (old new : Position) : Type 0 where
   pub bytes_stay : new.bytes ≡ bytes
   pub moves : old.place < new.place
   pub within : new.place ≤ length bytes
-  pub few : length after ≤ room
-  pub read : SoFar (length bytes) (declaration_at room bytes) first after new.place
+  pub few : length after ≤ budget
+  pub read : SoFar (length bytes) (declaration_at budget bytes) first after new.place
 
-pub turn_item : (room first : ℕ) (bytes : List ℕ) (before after : List Declaration)
+pub turn-item : (budget first : ℕ) (bytes : List ℕ) (before after : List Declaration)
     (old new : Position) (found : Bool) → old.bytes ≡ bytes
-    → SoFar (length bytes) (declaration_at room bytes) first before old.place
-    → ExtendsTable (Ok found) room before after old new → found ≡ true
-    → Turn room first bytes after old new
-turn_item room first bytes before after old new false same so_far step is = cc
-turn_item room first bytes before after old new true same so_far step is =
-    let here : declaration_at room bytes before old.place ≡ Ok (Item step.0 new.place) =
-    subst (λ (b : List ℕ). declaration_at room b before old.place ≡ Ok (Item step.0 new.place))
+    → SoFar (length bytes) (declaration_at budget bytes) first before old.place
+    → ExtendsTable (Ok found) budget before after old new → found ≡ true
+    → Turn budget first bytes after old new
+turn-item budget first bytes before after old new false same so_far step is = cc
+turn-item budget first bytes before after old new true same so_far step is =
+    let here : declaration_at budget bytes before old.place ≡ Ok (Item step.0 new.place) =
+    subst (λ (b : List ℕ). declaration_at budget b before old.place ≡ Ok (Item step.0 new.place))
     same step.1 in
-    let moved = declaration_at-advances room bytes before old.place step.0 new.place here in
-    let fits = declaration_at-room room bytes before old.place step.0 new.place here in
+    let moved = declaration_at-advances budget bytes before old.place step.0 new.place here in
+    let fits = declaration_at-budget budget bytes before old.place step.0 new.place here in
     let longer : length after ≡ length before + 1 =
     ap length step.2 ∙ length-append before (step.0 ∷ []) in
     record {
@@ -85,60 +87,62 @@ turn_item room first bytes before after old new true same so_far step is =
       moves = moved.0;
       within = moved.1;
       few = omega (arith, fits, longer);
-      read = subst (λ (xs : List Declaration). SoFar (length bytes) (declaration_at room bytes)
+      read = subst (λ (xs : List Declaration). SoFar (length bytes) (declaration_at budget bytes)
           first xs new.place) (sym step.2)
-          (so_far-item (length bytes) (declaration_at room bytes)
-          (declaration_at-advances room bytes) first before old.place step.0 new.place so_far
+          (so-far-item (length bytes) (declaration_at budget bytes)
+          (declaration_at-advances budget bytes) first before old.place step.0 new.place so_far
           here);
     }
 
-pub turn_end : (room first : ℕ) (bytes : List ℕ) (before after : List Declaration)
+pub turn_end : (budget first : ℕ) (bytes : List ℕ) (before after : List Declaration)
     (old new : Position) (found : Bool) → old.bytes ≡ bytes
-    → SoFar (length bytes) (declaration_at room bytes) first before old.place
-    → ExtendsTable (Ok found) room before after old new → found ≡ false
-    → in_section sections.DebugAbbrev (declarations_of room bytes first) ≡ Ok after
+    → SoFar (length bytes) (declaration_at budget bytes) first before old.place
+    → ExtendsTable (Ok found) budget before after old new → found ≡ false
+    → in_section sections.DebugAbbrev (declarations_of budget bytes first) ≡ Ok after
 unfolding table_at
-turn_end room first bytes before after old new true same so_far step is = cc
-turn_end room first bytes before after old new false same so_far step is =
-    let here : declaration_at room bytes before old.place ≡ Ok (End new.place) =
-    subst (λ (b : List ℕ). declaration_at room b before old.place ≡ Ok (End new.place)) same
+turn_end budget first bytes before after old new true same so_far step is = cc
+turn_end budget first bytes before after old new false same so_far step is =
+    let here : declaration_at budget bytes before old.place ≡ Ok (End new.place) =
+    subst (λ (b : List ℕ). declaration_at budget b before old.place ≡ Ok (End new.place)) same
     step.0 in
-    rw (so_far-end (length bytes) (declaration_at room bytes) (declaration_at-advances room bytes)
+    rw (so-far-end (length bytes) (declaration_at budget bytes) (declaration_at-advances
+    budget bytes)
     first before old.place new.place so_far here)
     (ap (λ (xs : List Declaration). Ok xs) (sym step.1))
 
 -- the reported fault is out of memory, or has the cause and the offset
-told_cases : (section : Section) (cause : Cause) (at : ℕ) → (told section cause at ≡ memory_fault)
-    ⊎ (told section cause at ≡ record { section = section; cause = cause; at = at })
-told_cases section causes.Memory at = inl refl
-told_cases section cause at = inr refl
+at_item_cases : (section : Section) (cause : Cause) (at : ℕ) → (at_item section cause at
+    ≡ memory_fault)
+    ⊎ (at_item section cause at ≡ record { section = section; cause = cause; at = at })
+at_item_cases section causes.Memory at = inl refl
+at_item_cases section cause at = inr refl
 
-pub turn_fault : (room first : ℕ) (bytes : List ℕ) (before : List Declaration) (old : Position)
+pub turn-fault : (budget first : ℕ) (bytes : List ℕ) (before : List Declaration) (old : Position)
     (cause : Cause) (place : ℕ) (fault : LoadFault) → old.bytes ≡ bytes
-    → SoFar (length bytes) (declaration_at room bytes) first before old.place
-    → Fails cause (declaration_at room old.bytes before old.place) → place ≡ old.place
-    → fault ≡ told sections.DebugAbbrev cause place
-    → (fault ≡ memory_fault) ⊎ (in_section sections.DebugAbbrev (declarations_of room bytes first)
+    → SoFar (length bytes) (declaration_at budget bytes) first before old.place
+    → Fails cause (declaration_at budget old.bytes before old.place) → place ≡ old.place
+    → fault ≡ at_item sections.DebugAbbrev cause place
+    → (fault ≡ memory_fault) ⊎ (in_section sections.DebugAbbrev (declarations_of budget bytes first)
     ≡ Err fault)
 unfolding table_at
-turn_fault room first bytes before old cause place fault same so_far (inl memory) at is =
-    inl (is ∙ ap (λ (c : Cause). told sections.DebugAbbrev c place) memory)
-turn_fault room first bytes before old cause place fault same so_far (inr bad) at is =
-    by_cause (told_cases sections.DebugAbbrev cause place)
+turn-fault budget first bytes before old cause place fault same so_far (inl memory) at is =
+    inl (is ∙ ap (λ (c : Cause). at_item sections.DebugAbbrev c place) memory)
+turn-fault budget first bytes before old cause place fault same so_far (inr bad) at is =
+    by-cause (at_item_cases sections.DebugAbbrev cause place)
   where
-    here : declaration_at room bytes before old.place ≡ Err cause
-    here = subst (λ (b : List ℕ). declaration_at room b before old.place ≡ Err cause) same bad
+    here : declaration_at budget bytes before old.place ≡ Err cause
+    here = subst (λ (b : List ℕ). declaration_at budget b before old.place ≡ Err cause) same bad
 
-    by_cause : (told sections.DebugAbbrev cause place ≡ memory_fault)
-        ⊎ (told sections.DebugAbbrev cause place
+    by-cause : (at_item sections.DebugAbbrev cause place ≡ memory_fault)
+        ⊎ (at_item sections.DebugAbbrev cause place
         ≡ record { section = sections.DebugAbbrev; cause = cause; at = place })
         → (fault ≡ memory_fault) ⊎ (in_section sections.DebugAbbrev
-        (items_from (length bytes) (declaration_at room bytes) [] first >>= λ table. Ok table.0)
+        (items_from (length bytes) (declaration_at budget bytes) [] first >>= λ table. Ok table.0)
         ≡ Err fault)
-    by_cause (inl memory) = inl (is ∙ memory)
-    by_cause (inr itself) =
-        inr (rw (so_far-fault (length bytes) (declaration_at room bytes)
-        (declaration_at-advances room bytes) first before old.place cause so_far here)
+    by-cause (inl memory) = inl (is ∙ memory)
+    by-cause (inr itself) =
+        inr (rw (so-far-fault (length bytes) (declaration_at budget bytes)
+        (declaration_at-advances budget bytes) first before old.place cause so_far here)
         (ap (λ (f : LoadFault). Err f) (sym
         (is ∙ itself ∙ ap (λ (k : ℕ). record
         { section = sections.DebugAbbrev; cause = cause; at = k }) at))))
@@ -149,14 +153,15 @@ uleb_at-outside : (bytes : List ℕ) (at : ℕ) → length bytes ≤ at → uleb
 unfolding uleb_at leb_front
 uleb_at-outside bytes at h = rw (drop_all at bytes h) refl
 
-pub outside : (room : ℕ) (bytes : List ℕ) (offset : ℕ) → length bytes ≤ offset
-    → declarations_of room bytes offset ≡ Err (causes.Short, offset)
+pub outside : (budget : ℕ) (bytes : List ℕ) (offset : ℕ) → length bytes ≤ offset
+    → declarations_of budget bytes offset ≡ Err (causes.Short, offset)
 unfolding table_at
-outside room bytes offset h =
-    let none : declaration_at room bytes [] offset ≡ Err causes.Short =
+outside budget bytes offset h =
+    let none : declaration_at budget bytes [] offset ≡ Err causes.Short =
     rw (uleb_at-outside bytes offset h) refl in
-    rw (so_far-fault (length bytes) (declaration_at room bytes) (declaration_at-advances room bytes)
-    offset [] offset causes.Short (so_far-none (length bytes) (declaration_at room bytes)
+    rw (so-far-fault (length bytes) (declaration_at budget bytes) (declaration_at-advances
+    budget bytes)
+    offset [] offset causes.Short (so-far-none (length bytes) (declaration_at budget bytes)
     offset) none) refl
 
 -- a seek fails only past the end

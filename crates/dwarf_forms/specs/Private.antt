@@ -1,7 +1,7 @@
 pub mod Index
 pub mod TableSteps
 pub mod NameSets
-pub mod Known
+pub mod Memoized
 pub mod Shared
 pub mod Codes
 pub mod SharedTables

@@ -1,11 +1,12 @@
 -- The read of an abbreviation table (DWARF 5, 7.5.3), up to its first fault.
-use Rattle.std.specs.Prelude.{ℕ, ℤ, List, [], length, Option, Some, None, is_none, Result, Ok}
-use Rattle.std.specs.Prelude.{Bool, nat_lt, nat_le, ◌==◌, ◌||◌, ◌&&◌, if◌then◌else◌}
+use Rattle.std.specs.Prelude.{ℕ, ℤ, List, [], length, Option, Some, None, is_none, Result, Ok, Bool}
+use Rattle.std.specs.Prelude.{nat_lt, nat_le, ◌==◌, ◌||◌, ◌&&◌, if◌then◌else◌}
 use Rattle.std.specs.List.{list_any}
 use Rattle.dwarf_bytes.specs.declared.fault.Cause.{Cause}
 use Rattle.dwarf_bytes.specs.declared.fault.Cause.TheVariants as causes
 use Rattle.dwarf_bytes.specs.Bind.{◌>>=◌}
-use Rattle.dwarf_bytes.specs.Items.{Next, Item, End, At, reading, refuse_if, untold, items_from}
+use Rattle.dwarf_bytes.specs.Items.{Next, Item, End, At, reading, refuse_if, without_offset}
+use Rattle.dwarf_bytes.specs.Items.{items_from}
 use Rattle.dwarf_bytes.specs.Numbers.{u8_at, uleb_at, sleb_at}
 use Rattle.dwarf_bytes.specs.Forms.{form_of}
 use Rattle.dwarf_forms.specs.declared.attribute.AttributeSpecification.{AttributeSpecification}
@@ -33,7 +34,7 @@ attribute_at section before at = do
 
 -- the attributes of a declaration
 unfoldable pub attributes_at : List ℕ → ℕ → Result (List AttributeSpecification × ℕ) Cause
-attributes_at section at = untold (items_from (length section) (attribute_at section) [] at)
+attributes_at section at = without_offset (items_from (length section) (attribute_at section) [] at)
 
 -- whether an attribute of the first list has the name of one of the second
 abbrev pub shares_name : List AttributeSpecification → List AttributeSpecification → Bool
@@ -41,12 +42,12 @@ shares_name own rest =
     list_any (λ attribute. list_any (λ other. other.name == attribute.name) rest) own
 
 -- the fields of a declaration before its attributes, after the declarations before it in its table;
--- room is the maximum number of declarations of the table
+-- `budget` is the maximum number of declarations of the table
 abbrev pub head_at : ℕ → List ℕ → List Declaration → ℕ → Result (Next Head) Cause
-head_at room section before at = do
+head_at budget section before at = do
   code ← reading (uleb_at section at)
   if code.0 == 0 then Ok (End code.1) else do
-    _ ← refuse_if (nat_le room (length before)) causes.TooMany
+    _ ← refuse_if (nat_le budget (length before)) causes.TooMany
     _ ← refuse_if (list_any (λ declaration. declaration.code == code.0) before) causes.AbbrevTwice
     tag ← reading (uleb_at section code.1)
     children ← reading (u8_at section tag.1)
@@ -55,7 +56,7 @@ head_at room section before at = do
 
 -- the declaration at an offset
 abbrev pub declaration_at : ℕ → List ℕ → List Declaration → ℕ → Result (Next Declaration) Cause
-declaration_at room section before at = head_at room section before at >>= λ next. elim next [
+declaration_at budget section before at = head_at budget section before at >>= λ next. elim next [
   | End after ↦ Ok (End after)
   | Item head after ↦ attributes_at section after >>= λ attributes.
       Ok (Item (record {
@@ -66,10 +67,11 @@ declaration_at room section before at = head_at room section before at >>= λ ne
       }) attributes.1)
 ]
 
--- the table at an offset with at most room declarations, and the offset after it
+-- the table at an offset with at most `budget` declarations, and the offset after it
 unfoldable pub table_at : ℕ → List ℕ → ℕ → Result (List Declaration × ℕ) At
-table_at room section offset = items_from (length section) (declaration_at room section) [] offset
+table_at budget section offset = items_from (length section) (declaration_at budget section)
+    [] offset
 
 -- the declarations of the table, without the offset
 abbrev pub declarations_of : ℕ → List ℕ → ℕ → Result (List Declaration) At
-declarations_of room section offset = table_at room section offset >>= λ table. Ok table.0
+declarations_of budget section offset = table_at budget section offset >>= λ table. Ok table.0

@@ -1,27 +1,27 @@
 //! Abbreviation tables whose attribute lists share suffixes (DWARF 5, 7.5.3).
 
-ghost use Rattle.std.specs.Prelude.{◌≡◌, ◌+◌, ◌≤◌, ◌==◌, ◌∷◌, ◌++◌, [], false, length, map};
-ghost use Rattle.std.specs.Prelude.{IfOk, IfSome, OnOk, OnErr, position};
+ghost use Rattle.std.specs.Prelude.{◌≡◌, ◌+◌, ◌≤◌, ◌==◌, ◌∷◌, ◌++◌, [], false, length, map, IfOk};
+ghost use Rattle.std.specs.Prelude.{IfSome, OnOk, OnErr, position};
 ghost use Rattle.std.specs.List.{list_any};
 ghost use Rattle.dwarf_bytes.specs.declared.fault.Section.TheVariants as sections;
 ghost use Rattle.dwarf_bytes.specs.Refusals.{Decodes, in_section, ReadsNext};
 ghost use Rattle.dwarf_forms.specs.Tables.{declarations_of};
-ghost use Rattle.dwarf_forms.specs.Private.Codes.{head_behind};
-ghost use Rattle.dwarf_forms.specs.Private.Known.{Grows};
-ghost use Rattle.dwarf_forms.specs.Private.SharedTables.{AreTold, tell};
+ghost use Rattle.dwarf_forms.specs.Private.Codes.{head_after};
+ghost use Rattle.dwarf_forms.specs.Private.Memoized.{Grows};
+ghost use Rattle.dwarf_forms.specs.Private.SharedTables.{AreShared, full_declarations};
 ghost use Rattle.dwarf_forms.specs.Private.TableSteps.{ExtendsTable};
 
 use crate::abbreviation_declaration::AbbreviationDeclaration;
 use crate::code_index::CodeIndex;
 use crate::declaration::Head;
-use crate::known_lists::KnownLists;
+use crate::memoized_lists::MemoizedLists;
 use crate::shared::shared_attributes;
 use dwarf_bytes::{Cause, Cursor, LoadFault, Section};
 use std::alloc::{AllocError, Global};
 use std::marker::Model;
 
 /// The declarations of one table of `.debug_abbrev`, in order, without duplicate codes. Shared
-/// suffixes of their attribute lists are stored in the `KnownLists` of the section.
+/// suffixes of their attribute lists are stored in the `MemoizedLists` of the section.
 #[derive(Drop)]
 pub struct AbbreviationTable {
     declarations: Vec<AbbreviationDeclaration>,
@@ -46,20 +46,21 @@ impl AbbreviationTable {
     /// suffixes of attribute lists are not re-read, and new ones are memoized in `lists`.
     pub fn read(
         alloc: Global,
-        lists: &mut KnownLists<'_>,
+        lists: &mut MemoizedLists<'_>,
         offset: u64,
         left: &mut u64,
     ) -> Result<AbbreviationTable, LoadFault>
-        ensures decodes { Decodes (tell lists.new.known) result (in_section sections.DebugAbbrev
+        ensures decodes { Decodes (full_declarations lists.new.memoized) result
+            (in_section sections.DebugAbbrev
             (declarations_of left.old lists.old.section offset)) }
         ensures counted { IfOk result (λ table. left.new + length table ≡ left.old) }
         ensures unchanged { OnErr result (left.new ≡ left.old) }
-        ensures known { IfOk result (AreTold lists.new.known) }
+        ensures memoized { IfOk result (AreShared lists.new.memoized) }
         ensures grows { Grows lists.old lists.new }
     {
         let mut cursor = Cursor::new(lists.section());
         if cursor.seek(offset as usize).is_err() {
-            return Err(LoadFault::told(Section::DebugAbbrev, Cause::Short, offset));
+            return Err(LoadFault::at_item(Section::DebugAbbrev, Cause::Short, offset));
         }
         let table = declarations(alloc, lists, *left, &mut cursor)?;
         *left -= table.len() as u64;
@@ -97,7 +98,7 @@ impl AbbreviationTable {
 
     /// Appends a declaration.
     fn push(&mut self, declaration: AbbreviationDeclaration) -> Result<(), AllocError>
-        requires { list_any (λ known. known.code == declaration.code) self.old ≡ false }
+        requires { list_any (λ other. other.code == declaration.code) self.old ≡ false }
         ensures ok { OnOk result (self.new ≡ self.old ++ declaration ∷ []) }
         ensures err { OnErr result (self.new ≡ self.old) }
     {
@@ -115,18 +116,18 @@ impl AbbreviationTable {
     fn extend(
         &mut self,
         alloc: Global,
-        lists: &mut KnownLists<'_>,
-        room: u64,
+        lists: &mut MemoizedLists<'_>,
+        budget: u64,
         cursor: &mut Cursor,
     ) -> Result<bool, Cause>
         requires bytes { cursor.old.bytes ≡ lists.old.section }
-        requires told { AreTold lists.old.known self.old }
-        ensures table { ExtendsTable result room (tell lists.new.known self.old)
-            (tell lists.new.known self.new) cursor.old cursor.new }
-        ensures told { OnOk result (AreTold lists.new.known self.new) }
+        requires resolved { AreShared lists.old.memoized self.old }
+        ensures table { ExtendsTable result budget (full_declarations lists.new.memoized self.old)
+            (full_declarations lists.new.memoized self.new) cursor.old cursor.new }
+        ensures resolved { OnOk result (AreShared lists.new.memoized self.new) }
         ensures grows { Grows lists.old lists.new }
     {
-        let Some(head) = self.next_head(room, cursor)? else {
+        let Some(head) = self.next_head(budget, cursor)? else {
             return Ok(false);
         };
         let list = shared_attributes(alloc, lists, cursor)?;
@@ -135,37 +136,38 @@ impl AbbreviationTable {
     }
 
     /// Reads the next declaration up to its attributes, or returns `None` at the code 0.
-    fn next_head(&self, room: u64, cursor: &mut Cursor) -> Result<Option<Head>, Cause>
-        ensures reads { ReadsNext result (λ bytes. head_behind room bytes
+    fn next_head(&self, budget: u64, cursor: &mut Cursor) -> Result<Option<Head>, Cause>
+        ensures reads { ReadsNext result (λ bytes. head_after budget bytes
             (map (λ declaration. declaration.code) self.now)) cursor.old cursor.new }
         ensures fresh { IfOk result (λ next. IfSome next (λ head.
             list_any (λ declaration. declaration.code == head.code) self.now ≡ false)) }
     {
-        Head::next(&self.codes, room, cursor)
+        Head::next(&self.codes, budget, cursor)
     }
 }
 
-/// Parses the table at the cursor, with at most `room` declarations.
+/// Parses the table at the cursor, with at most `budget` declarations.
 fn declarations(
     alloc: Global,
-    lists: &mut KnownLists<'_>,
-    room: u64,
+    lists: &mut MemoizedLists<'_>,
+    budget: u64,
     cursor: &mut Cursor,
 ) -> Result<AbbreviationTable, LoadFault>
     requires { cursor.old.bytes ≡ lists.old.section }
-    ensures decodes { Decodes (tell lists.new.known) result (in_section sections.DebugAbbrev
-        (declarations_of room cursor.old.bytes cursor.old.place)) }
-    ensures few { IfOk result (λ table. length table ≤ room) }
-    ensures known { IfOk result (AreTold lists.new.known) }
+    ensures decodes { Decodes (full_declarations lists.new.memoized) result
+        (in_section sections.DebugAbbrev
+        (declarations_of budget cursor.old.bytes cursor.old.place)) }
+    ensures few { IfOk result (λ table. length table ≤ budget) }
+    ensures memoized { IfOk result (AreShared lists.new.memoized) }
     ensures grows { Grows lists.old lists.new }
 {
     let mut table = AbbreviationTable::new(alloc);
     loop {
         let at = cursor.place() as u64;
-        match table.extend(alloc, lists, room, cursor) {
+        match table.extend(alloc, lists, budget, cursor) {
             Ok(true) => {}
             Ok(false) => return Ok(table),
-            Err(cause) => return Err(LoadFault::told(Section::DebugAbbrev, cause, at)),
+            Err(cause) => return Err(LoadFault::at_item(Section::DebugAbbrev, cause, at)),
         }
     }
 }

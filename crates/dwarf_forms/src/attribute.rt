@@ -3,10 +3,10 @@
 ghost use Rattle.std.specs.Prelude.{◌≡◌, ◌==◌, ◌&&◌, ◌||◌, [], length, drop, is_none};
 ghost use Rattle.std.specs.List.{list_any};
 ghost use Rattle.dwarf_bytes.specs.Forms.{form_of};
-ghost use Rattle.dwarf_bytes.specs.Items.{items_from, untold};
+ghost use Rattle.dwarf_bytes.specs.Items.{items_from, without_offset};
 ghost use Rattle.dwarf_bytes.specs.Refusals.{ReadsField, ReadsItems, ReadsNext};
 ghost use Rattle.dwarf_forms.specs.Tables.{constant_at, attribute_at, attributes_at};
-ghost use Rattle.dwarf_forms.specs.Private.Index.{HoldsNames};
+ghost use Rattle.dwarf_forms.specs.Private.Index.{ContainsNames};
 
 use dwarf_bytes::constants::DW_FORM_IMPLICIT_CONST;
 use dwarf_bytes::{Cause, Cursor, Form};
@@ -49,7 +49,7 @@ pub(crate) fn next_attribute(
     later: &BTreeSet<u64>,
     cursor: &mut Cursor,
 ) -> Result<Option<AttributeSpecification>, Cause>
-    requires { HoldsNames later.now (drop FEW before.now) }
+    requires { ContainsNames later.now (drop FEW before.now) }
     ensures { ReadsNext result (λ bytes. attribute_at bytes before.now) cursor.old cursor.new }
 {
     let name = cursor.uleb()?;
@@ -85,7 +85,7 @@ fn is_refused(name: u64, form: u64) -> bool
 
 /// Whether one of the attributes has the name.
 fn is_named(before: &[AttributeSpecification], later: &BTreeSet<u64>, name: u64) -> bool
-    requires { HoldsNames later.now (drop FEW before.now) }
+    requires { ContainsNames later.now (drop FEW before.now) }
     ensures { result ≡ list_any (λ attribute. attribute.name == name) before.now }
 {
     has_name(&before[..before.len().min(FEW)], name) || later.contains(&name)

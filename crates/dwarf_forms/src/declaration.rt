@@ -3,7 +3,7 @@
 ghost use Rattle.std.specs.Prelude.{◌≡◌, ◌==◌, false, IfOk, IfSome};
 ghost use Rattle.std.specs.List.{list_any};
 ghost use Rattle.dwarf_bytes.specs.Refusals.{ReadsNext};
-ghost use Rattle.dwarf_forms.specs.Private.Codes.{head_behind};
+ghost use Rattle.dwarf_forms.specs.Private.Codes.{head_after};
 
 use crate::attribute::AttributeSpecification;
 use crate::code_index::CodeIndex;
@@ -20,14 +20,14 @@ pub(crate) struct Head {
 
 impl Head {
     /// Reads the next declaration up to its attributes, or returns `None` at the code 0. `codes`
-    /// are the codes of the declarations before it, and `room` is the maximum number of
+    /// are the codes of the declarations before it, and `budget` is the maximum number of
     /// declarations.
     pub(crate) fn next(
         codes: &CodeIndex,
-        room: u64,
+        budget: u64,
         cursor: &mut Cursor,
     ) -> Result<Option<Head>, Cause>
-        ensures reads { ReadsNext result (λ bytes. head_behind room bytes codes.now)
+        ensures reads { ReadsNext result (λ bytes. head_after budget bytes codes.now)
             cursor.old cursor.new }
         ensures fresh { IfOk result (λ next. IfSome next (λ head.
             list_any (λ other. other == head.code) codes.now ≡ false)) }
@@ -36,7 +36,7 @@ impl Head {
         if code == 0 {
             return Ok(None);
         }
-        if codes.len() as u64 >= room {
+        if codes.len() as u64 >= budget {
             return Err(Cause::TooMany);
         }
         if codes.has(code) {

@@ -3,8 +3,8 @@
 ghost use Rattle.std.specs.Prelude.{◌≡◌, ◌==◌, ◌||◌, ◌<◌, ◌≤◌, ◌+◌, ◌%◌, ◌^◌, ◌≢◌, ◌∷◌, ◌++◌, []};
 ghost use Rattle.std.specs.Prelude.{ℕ, IfOk, OnErr, OkIff, length};
 ghost use Rattle.std.specs.Int.Digits.{digits_of};
-ghost use Rattle.dwarf_forms.specs.Private.NameSets.{IsWithin, SetsStay};
-ghost use Rattle.dwarf_forms.specs.Private.NameSets.{branch_at, is_in, no_names, side};
+ghost use Rattle.dwarf_forms.specs.Private.NameSets.{IsWithin, SetsStay, branch_at, is_in};
+ghost use Rattle.dwarf_forms.specs.Private.NameSets.{no_names, side};
 
 use std::alloc::{AllocError, Global};
 use std::marker::Model;

@@ -1,12 +1,12 @@
 //! Attribute lists of declarations, with memoized suffixes (DWARF 5, 7.5.3).
 
 ghost use Rattle.std.specs.Prelude.{◌≡◌, ◌++◌, ◌≤◌, All, IfNone, IfOk, IfSome, length, true};
-ghost use Rattle.dwarf_forms.specs.Private.Known.{Grows, IsKnown, IsUnknown, is_known_at};
-ghost use Rattle.dwarf_forms.specs.Private.Known.{rest_attributes};
-ghost use Rattle.dwarf_forms.specs.Private.Shared.{IsShared, ReadsShared, ReadsStretch, StandAt};
+ghost use Rattle.dwarf_forms.specs.Private.Memoized.{Grows, IsMemoized, IsNotMemoized};
+ghost use Rattle.dwarf_forms.specs.Private.Memoized.{is_memoized_at, rest_attributes};
+ghost use Rattle.dwarf_forms.specs.Private.Shared.{IsShared, ReadsShared, ReadsStretch, AreReadAt};
 
 use crate::attribute::{AttributeSpecification, FEW, next_attribute};
-use crate::known_lists::KnownLists;
+use crate::memoized_lists::MemoizedLists;
 use dwarf_bytes::{Cause, Cursor};
 use std::alloc::{AllocError, Global};
 use std::collections::BTreeSet;
@@ -61,12 +61,12 @@ pub(crate) struct Stretch {
 /// first `UNSHARED` are memoized, and are read only if they were not memoized before.
 pub(crate) fn shared_attributes(
     alloc: Global,
-    lists: &mut KnownLists<'_>,
+    lists: &mut MemoizedLists<'_>,
     cursor: &mut Cursor,
 ) -> Result<SharedList, Cause>
     requires { cursor.old.bytes ≡ lists.old.section }
-    ensures reads { ReadsShared result lists.new.known cursor.old cursor.new }
-    ensures list { IfOk result (IsShared lists.new.known) }
+    ensures reads { ReadsShared result lists.new.memoized cursor.old cursor.new }
+    ensures list { IfOk result (IsShared lists.new.memoized) }
     ensures grows { Grows lists.old lists.new }
 {
     let Stretch {
@@ -90,7 +90,7 @@ pub(crate) fn shared_attributes(
 /// first `UNSHARED`.
 fn next_stretch(
     alloc: Global,
-    lists: &KnownLists<'_>,
+    lists: &MemoizedLists<'_>,
     cursor: &mut Cursor,
 ) -> Result<Stretch, Cause>
     requires { cursor.old.bytes ≡ lists.now.section }
@@ -101,7 +101,7 @@ fn next_stretch(
     let mut later = BTreeSet::new(alloc);
     loop {
         let place = cursor.place();
-        let rest = known_behind(lists, attributes.len(), place);
+        let rest = memoized_at(lists, attributes.len(), place);
         if let Some(number) = rest {
             lists.join(number, &attributes, cursor)?;
             return Ok(Stretch {
@@ -129,9 +129,9 @@ fn next_stretch(
 
 /// Returns the index of the memoized attribute at offset `place`, if at least `UNSHARED` attributes
 /// of the list precede it.
-fn known_behind(lists: &KnownLists<'_>, count: usize, place: usize) -> Option<usize>
-    ensures none { IfNone result (UNSHARED ≤ count → IsUnknown lists.now.known place) }
-    ensures some { IfSome result (λ number. is_known_at lists.now.known number place ≡ true) }
+fn memoized_at(lists: &MemoizedLists<'_>, count: usize, place: usize) -> Option<usize>
+    ensures none { IfNone result (UNSHARED ≤ count → IsNotMemoized lists.now.memoized place) }
+    ensures some { IfSome result (λ number. is_memoized_at lists.now.memoized number place ≡ true) }
     ensures behind { IfSome result (λ _. UNSHARED ≤ count) }
 {
     if count < UNSHARED {
@@ -142,20 +142,20 @@ fn known_behind(lists: &KnownLists<'_>, count: usize, place: usize) -> Option<us
 
 /// Memoizes attributes at their offsets, followed by `rest`. Returns the index of the first.
 fn put_all(
-    lists: &mut KnownLists<'_>,
+    lists: &mut MemoizedLists<'_>,
     attributes: &[AttributeSpecification],
     places: &[usize],
     rest: Option<usize>,
     after: usize,
 ) -> Result<Option<usize>, AllocError>
     requires lengths { length places.now ≡ length attributes.now }
-    requires rest { IsKnown lists.old.known rest }
-    requires stand { StandAt lists.old.section places.now attributes.now
-        (rest_attributes lists.old.known rest) after }
-    requires unknown { All (IsUnknown lists.old.known) places.now }
-    ensures list { IfOk result (λ first. rest_attributes lists.new.known first
-        ≡ attributes.now ++ rest_attributes lists.old.known rest) }
-    ensures known { IfOk result (IsKnown lists.new.known) }
+    requires rest { IsMemoized lists.old.memoized rest }
+    requires stand { AreReadAt lists.old.section places.now attributes.now
+        (rest_attributes lists.old.memoized rest) after }
+    requires unknown { All (IsNotMemoized lists.old.memoized) places.now }
+    ensures list { IfOk result (λ first. rest_attributes lists.new.memoized first
+        ≡ attributes.now ++ rest_attributes lists.old.memoized rest) }
+    ensures memoized { IfOk result (IsMemoized lists.new.memoized) }
     ensures grows { Grows lists.old lists.new }
 {
     let mut next = rest;

@@ -1,7 +1,7 @@
 //! Abbreviation tables (DWARF 5, 7.5.3).
 
-ghost use Rattle.std.specs.Prelude.{◌≡◌, ◌+◌, ◌≤◌, ◌==◌, [], ◌∷◌, ◌++◌, false, length};
-ghost use Rattle.std.specs.Prelude.{IfOk, OnOk, OnErr};
+ghost use Rattle.std.specs.Prelude.{◌≡◌, ◌+◌, ◌≤◌, ◌==◌, [], ◌∷◌, ◌++◌, false, length, IfOk, OnOk};
+ghost use Rattle.std.specs.Prelude.{OnErr};
 ghost use Rattle.std.specs.List.{list_any};
 ghost use Rattle.dwarf_bytes.specs.declared.fault.Section.TheVariants as sections;
 ghost use Rattle.dwarf_bytes.specs.Refusals.{Decodes, in_section, ReadsNext};
@@ -50,7 +50,7 @@ impl Abbrevs {
     {
         let mut cursor = Cursor::new(section);
         if cursor.seek(offset as usize).is_err() {
-            return Err(LoadFault::told(Section::DebugAbbrev, Cause::Short, offset));
+            return Err(LoadFault::at_item(Section::DebugAbbrev, Cause::Short, offset));
         }
         let table = declarations(alloc, *left, &mut cursor)?;
         *left -= table.len() as u64;
@@ -96,10 +96,10 @@ impl Abbrevs {
 
     /// Reads the next declaration and appends it. Returns `false` at the code 0 that ends the
     /// table.
-    fn extend(&mut self, alloc: Global, room: u64, cursor: &mut Cursor) -> Result<bool, Cause>
-        ensures { ExtendsTable result room self.old self.new cursor.old cursor.new }
+    fn extend(&mut self, alloc: Global, budget: u64, cursor: &mut Cursor) -> Result<bool, Cause>
+        ensures { ExtendsTable result budget self.old self.new cursor.old cursor.new }
     {
-        let Some(head) = self.next_head(room, cursor)? else {
+        let Some(head) = self.next_head(budget, cursor)? else {
             return Ok(false);
         };
         let attributes = attributes(alloc, cursor)?;
@@ -108,26 +108,26 @@ impl Abbrevs {
     }
 
     /// Reads the next declaration up to its attributes, or returns `None` at the code 0.
-    fn next_head(&self, room: u64, cursor: &mut Cursor) -> Result<Option<Head>, Cause>
-        ensures { ReadsNext result (λ bytes. head_at room bytes self.now) cursor.old cursor.new }
+    fn next_head(&self, budget: u64, cursor: &mut Cursor) -> Result<Option<Head>, Cause>
+        ensures { ReadsNext result (λ bytes. head_at budget bytes self.now) cursor.old cursor.new }
     {
-        Head::next(&self.codes, room, cursor)
+        Head::next(&self.codes, budget, cursor)
     }
 }
 
-/// Parses the table at the cursor, with at most `room` declarations.
-fn declarations(alloc: Global, room: u64, cursor: &mut Cursor) -> Result<Abbrevs, LoadFault>
+/// Parses the table at the cursor, with at most `budget` declarations.
+fn declarations(alloc: Global, budget: u64, cursor: &mut Cursor) -> Result<Abbrevs, LoadFault>
     ensures decodes { Decodes (λ table. table) result (in_section sections.DebugAbbrev
-        (declarations_of room cursor.old.bytes cursor.old.place)) }
-    ensures few { IfOk result (λ table. length table ≤ room) }
+        (declarations_of budget cursor.old.bytes cursor.old.place)) }
+    ensures few { IfOk result (λ table. length table ≤ budget) }
 {
     let mut table = Abbrevs::new(alloc);
     loop {
         let at = cursor.place() as u64;
-        match table.extend(alloc, room, cursor) {
+        match table.extend(alloc, budget, cursor) {
             Ok(true) => {}
             Ok(false) => return Ok(table),
-            Err(cause) => return Err(LoadFault::told(Section::DebugAbbrev, cause, at)),
+            Err(cause) => return Err(LoadFault::at_item(Section::DebugAbbrev, cause, at)),
         }
     }
 }

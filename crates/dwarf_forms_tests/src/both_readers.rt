@@ -2,15 +2,16 @@
 
 use crate::checks::are_equal;
 use dwarf_forms::{
-    AbbreviationDeclaration, AbbreviationTable, Abbrevs, AttributeSpecification, Decl, KnownLists,
+    AbbreviationDeclaration, AbbreviationTable, Abbrevs, AttributeSpecification, Decl,
+    MemoizedLists,
 };
 use dwarf_samples::inlined;
 use std::process::Abort;
 use std::test::*;
 
 /// Returns the lists of a section, without a memoized attribute.
-pub fn lists_of<'a>(rt: &(impl Abort + AllocGlobal), section: &'a [u8]) -> KnownLists<'a> {
-    match KnownLists::new(rt.alloc(), section) {
+pub fn lists_of<'a>(rt: &(impl Abort + AllocGlobal), section: &'a [u8]) -> MemoizedLists<'a> {
+    match MemoizedLists::new(rt.alloc(), section) {
         Ok(lists) => lists,
         Err(_) => panic!(rt; "out of memory"),
     }
@@ -41,7 +42,7 @@ fn own_attributes(
 /// Returns the attributes of a declaration, in order: its own, and then the memoized ones.
 pub fn attributes_of(
     rt: &(impl Abort + AllocGlobal),
-    lists: &KnownLists<'_>,
+    lists: &MemoizedLists<'_>,
     declaration: &AbbreviationDeclaration,
 ) -> Vec<AttributeSpecification> {
     let mut attributes = own_attributes(rt, declaration);
@@ -61,7 +62,7 @@ pub fn attributes_of(
 fn is_same(
     rt: &(impl Abort + AllocGlobal),
     decl: &Decl,
-    lists: &KnownLists<'_>,
+    lists: &MemoizedLists<'_>,
     shared: &AbbreviationDeclaration,
 ) {
     let head = (shared.code(), shared.tag(), shared.children());
@@ -74,7 +75,7 @@ fn is_same(
 fn are_same(
     rt: &(impl Abort + AllocGlobal),
     alone: &Abbrevs,
-    lists: &KnownLists<'_>,
+    lists: &MemoizedLists<'_>,
     shared: &AbbreviationTable,
 ) {
     are_equal(rt, alone.decls().len(), shared.declarations().len());

@@ -2,7 +2,7 @@
 
 use crate::both_readers::{add, attributes_of, lists_of};
 use crate::checks::{are_equal, put};
-use dwarf_forms::{AbbreviationTable, AttributeSpecification, KnownLists, UNSHARED};
+use dwarf_forms::{AbbreviationTable, AttributeSpecification, MemoizedLists, UNSHARED};
 use std::process::Abort;
 use std::test::*;
 
@@ -36,7 +36,7 @@ fn attributes_from(rt: &(impl Abort + AllocGlobal), first: u64) -> Vec<Attribute
 /// them that the declaration stores itself.
 fn first_of(
     rt: &(impl Abort + AllocGlobal),
-    lists: &mut KnownLists<'_>,
+    lists: &mut MemoizedLists<'_>,
     offset: u64,
 ) -> (Vec<AttributeSpecification>, usize) {
     let mut left = 1;
@@ -54,7 +54,7 @@ fn first_of(
 /// checks the number of attributes that it stores itself and the number that are then memoized.
 fn is_shared(
     rt: &(impl Abort + AllocGlobal),
-    lists: &mut KnownLists<'_>,
+    lists: &mut MemoizedLists<'_>,
     offset: u64,
     first: u64,
     own: usize,

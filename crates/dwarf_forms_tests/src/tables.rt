@@ -74,7 +74,7 @@ fn declarations_of_a_unit(rt: HostRuntime) {
 
 /// The offsets of the sample's declarations: a fault in one of them is reported there.
 #[test]
-fn faults_stand_at_declarations(rt: HostRuntime) {
+fn faults_are_at_declarations(rt: HostRuntime) {
     for (place, at) in [(2, 0), (11, 9), (22, 20), (37, 35)] {
         let mut object = *inlined();
         object[120 + place] = 2;

@@ -45,8 +45,8 @@ layout_of form = direct (form_of form)
 
 -- The form of a field suits its content type: a string for a path, an unsigned number for a
 -- directory index, and any form with a known layout for other content types (our choice).
-abbrev pub has_good_form : EntryTable → Field → Bool
-has_good_form table field =
+abbrev pub has_valid_form : EntryTable → Field → Bool
+has_valid_form table field =
     if is_path field then is_text_form field.form
     else if is_index table field then is_index_form field.form
     else is_some (layout_of field.form)
@@ -56,4 +56,4 @@ abbrev pub is_format : EntryTable → List Field → Bool
 is_format table fields =
     (count_by is_path fields == 1)
     && nat_le (count_by (is_index table) fields) 1
-    && list_all (has_good_form table) fields
+    && list_all (has_valid_form table) fields

@@ -1,6 +1,6 @@
 pub mod Sections
 pub mod Instructions
-pub mod Spelling
+pub mod Encodings
 pub mod Matrix
 pub mod Machine
 pub mod Formats
@@ -9,6 +9,6 @@ pub mod Headers
 pub mod Programs
 pub mod Paths
 pub mod Lines
-pub mod ProgramSpelling
-pub mod HeaderSpelling
+pub mod ProgramEncoding
+pub mod HeaderEncodings
 pub mod Private

@@ -14,7 +14,7 @@ use Rattle.dwarf_lines.specs.declared.instruction.Instruction.TheVariants.{Fixed
 use Rattle.dwarf_lines.specs.declared.instruction.Instruction.TheVariants.{SetAddress, EndSequence}
 use Rattle.dwarf_lines.specs.declared.instruction.Instruction.TheVariants.{Special, Skipped}
 use Rattle.dwarf_lines.specs.Instructions.{Encoding}
-use Rattle.dwarf_lines.specs.Matrix.{address_part, is_mark, line_row, end_row}
+use Rattle.dwarf_lines.specs.Matrix.{address_part, is_tombstone, line_row, end_row}
 
 -- the registers that become columns of rows, the address of the last row of the sequence (0 if
 -- none), whether the sequence has a row, and whether it is dead
@@ -24,41 +24,53 @@ pub record Machine : Type 0 where
   pub line : ℤ
   pub previous : ℕ
   pub has_row : Bool
-  pub dead : Bool
+  pub at_tombstone : Bool
 
 -- the registers at the start of each sequence
 abbrev pub at_start : Machine
 at_start =
-    record { address = 0; file = 1; line = pos 1; previous = 0; has_row = false; dead = false }
+    record {
+      address = 0;
+      file = 1;
+      line = pos 1;
+      previous = 0;
+      has_row = false;
+      at_tombstone = false;
+    }
 
-abbrev pub advanced : ℕ → Machine → Machine
-advanced addresses m = record m { address = m.address + addresses }
+abbrev pub after_advance : ℕ → Machine → Machine
+after_advance addresses m = record m { address = m.address + addresses }
 
-abbrev pub moved : ℤ → Machine → Machine
-moved lines m = record m { line = m.line +ℤ lines }
+abbrev pub after_line_change : ℤ → Machine → Machine
+after_line_change lines m = record m { line = m.line +ℤ lines }
 
 -- the registers after a row is appended
-abbrev pub told : Machine → Machine
-told m = record m { previous = m.address; has_row = true }
+abbrev pub after_row : Machine → Machine
+after_row m = record m { previous = m.address; has_row = true }
 
 -- the registers after an address is set; before the first row of the sequence, this determines
 -- whether the sequence is dead
-abbrev pub placed : ℕ → Machine → Machine
-placed address m =
-    record m { address = address; dead = if m.has_row then m.dead else is_mark address }
+abbrev pub after_set_address : ℕ → Machine → Machine
+after_set_address address m =
+    record m {
+      address = address;
+      at_tombstone = if m.has_row then m.at_tombstone else is_tombstone
+          address;
+    }
 
 -- The effect of an instruction on the registers (6.2.5.1 to 6.2.5.3).
 abbrev pub step : Encoding → Machine → Instruction → Machine
-step e m Copy = told m
-step e m (AdvancePc n) = advanced (e.minimum_length * n) m
-step e m (AdvanceLine change) = moved change m
+step e m Copy = after_row m
+step e m (AdvancePc n) = after_advance (e.minimum_length * n) m
+step e m (AdvanceLine change) = after_line_change change m
 step e m (SetFile file) = record m { file = file }
-step e m ConstAddPc = advanced (address_part e (255 - e.opcode_base)) m
-step e m (FixedAdvancePc n) = advanced n m
-step e m (SetAddress address) = placed address m
+step e m ConstAddPc = after_advance (address_part e (255 - e.opcode_base)) m
+step e m (FixedAdvancePc n) = after_advance n m
+step e m (SetAddress address) = after_set_address address m
 step e m EndSequence = at_start
-step e m (Special adjusted) = told (moved (e.line_base +ℤ pos (adjusted % e.line_range))
-    (advanced (address_part e adjusted) m))
+step e m (Special adjusted) = after_row (after_line_change (e.line_base +ℤ pos
+    (adjusted % e.line_range))
+    (after_advance (address_part e adjusted) m))
 step e m Skipped = m
 
 -- the row of the registers; previous is the address of the row before it
@@ -75,7 +87,7 @@ appended_live e o m _ = Ok []
 -- The rows that an instruction appends: at most one, or the first fault of the row. In a dead
 -- sequence no row is appended.
 abbrev pub appended : Encoding → Origin → Machine → Instruction → Result (List Row) Cause
-appended e o m i = if m.dead then Ok [] else appended_live e o m i
+appended e o m i = if m.at_tombstone then Ok [] else appended_live e o m i
 
 -- the rows appended while the instructions are executed in order, or the first fault
 unfoldable pub rows_by : Encoding → Origin → Machine → List Instruction → Result (List Row) Cause

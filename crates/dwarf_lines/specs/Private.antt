@@ -1,3 +1,3 @@
 pub mod Registers
 pub mod Readers
-pub mod Kept
+pub mod Stored

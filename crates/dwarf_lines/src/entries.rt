@@ -94,7 +94,7 @@ pub fn path(
 }
 
 /// Skips a value with a form.
-pub fn pass_over(format: Format, form: u64, cursor: &mut Cursor) -> Result<(), Cause>
+pub fn skip_value(format: Format, form: u64, cursor: &mut Cursor) -> Result<(), Cause>
     ensures { ReadsPlace result (after_value format form) cursor.old cursor.new }
 {
     let Some(layout) = layout_of(form) else {

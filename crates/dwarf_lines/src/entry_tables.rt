@@ -6,20 +6,20 @@ ghost use Rattle.dwarf_lines.specs.Formats.{is_format};
 ghost use Rattle.dwarf_lines.specs.Private.Readers.{field_by, fields_by, entry_by, entries_by};
 ghost use Rattle.dwarf_lines.specs.Private.Readers.{table_by};
 
-use crate::entries::{Entry, IndexedSections, directory_index, pass_over, path};
+use crate::entries::{Entry, IndexedSections, directory_index, path, skip_value};
 use crate::formats::{EntryTable, Field, fields_with_bytes, format};
 use dwarf_bytes::{Cause, Cursor, Format};
 use std::alloc::Global;
 
 /// The context of an entry: its sections, its format and its table.
 #[derive(Clone, Copy, Debug, Drop)]
-pub struct EntryReader<'a> {
+pub struct FileTableReader<'a> {
     pub sections: IndexedSections<'a>,
     pub format: Format,
     pub table: EntryTable,
 }
 
-impl EntryReader<'_> {
+impl FileTableReader<'_> {
     /// Reads one field into the entry.
     #[tactic(auto, unfolding(crate::specs::Entries::field_at))]
     fn with_field(&self, field: Field, entry: Entry, cursor: &mut Cursor) -> Result<Entry, Cause>
@@ -34,7 +34,7 @@ impl EntryReader<'_> {
             let directory = directory_index(field.form, cursor)?;
             return Ok(Entry { directory, ..entry });
         }
-        pass_over(self.format, field.form, cursor)?;
+        skip_value(self.format, field.form, cursor)?;
         Ok(entry)
     }
 

@@ -5,7 +5,7 @@ ghost use Rattle.std.specs.List.{list_all};
 ghost use Rattle.dwarf_bytes.specs.Refusals.{ReadsField, ReadsItems};
 ghost use Rattle.dwarf_lines.specs.Entries.{format_at, repeated_at};
 ghost use Rattle.dwarf_lines.specs.Formats.{is_path, is_index, is_text_form, is_index_form};
-ghost use Rattle.dwarf_lines.specs.Formats.{layout_of, has_good_form, is_format};
+ghost use Rattle.dwarf_lines.specs.Formats.{layout_of, has_valid_form, is_format};
 ghost use Rattle.dwarf_lines.specs.Private.Readers.{has_bytes};
 
 use dwarf_bytes::constants::{
@@ -89,8 +89,8 @@ impl EntryTable {
         }
     }
 
-    fn has_good_form(self, field: Field) -> bool
-        ensures { result ≡ has_good_form self field }
+    fn has_valid_form(self, field: Field) -> bool
+        ensures { result ≡ has_valid_form self field }
     {
         if field.is_path() {
             field.has_text_form()
@@ -107,7 +107,7 @@ impl EntryTable {
     {
         count_of_paths(fields) == 1
             && self.count_of_indexes(fields) <= 1
-            && self.has_good_forms(fields)
+            && self.has_valid_forms(fields)
     }
 
     fn count_of_indexes(self, fields: &[Field]) -> usize
@@ -116,10 +116,10 @@ impl EntryTable {
         fields.iter().filter(|field| self.is_index(**field)).count()
     }
 
-    fn has_good_forms(self, fields: &[Field]) -> bool
-        ensures { result ≡ list_all (has_good_form self) fields.now }
+    fn has_valid_forms(self, fields: &[Field]) -> bool
+        ensures { result ≡ list_all (has_valid_form self) fields.now }
     {
-        fields.iter().all(|field| self.has_good_form(*field))
+        fields.iter().all(|field| self.has_valid_form(*field))
     }
 }
 

@@ -27,7 +27,7 @@ impl Model for LineTables {
     ghost use Rattle.std.specs.Prelude.{map};
     ghost use Rattle.std.specs.List.Sorted.{IsStrictlyIncreasing};
     ghost use Rattle.dwarf_lines.specs.Lines.{Lines};
-    ghost use Rattle.dwarf_lines.specs.Private.Kept.{tables_in};
+    ghost use Rattle.dwarf_lines.specs.Private.Stored.{tables_in};
 
     ghost Value = { Lines };
 
@@ -67,7 +67,7 @@ impl LineTables {
     }
 
     /// Returns the program that starts at an offset of `.debug_line`.
-    #[tactic(auto, using(crate::proofs::Positions::position_of_map))]
+    #[tactic(auto, using(crate::proofs::Lists::Positions::position_of_map))]
     pub fn program_at(&self, offset: u64) -> Option<ProgramNo>
         ensures { result ≡ program_at self.now offset }
     {
@@ -108,7 +108,7 @@ fn read_programs(alloc: Global, sections: IndexedSections) -> Result<LineTables,
         match add_program(alloc, sections, place, &mut rows, &mut programs) {
             Ok(past) => place = past,
             Err(cause) => {
-                return Err(LoadFault::told(Section::DebugLine, cause, place as u64));
+                return Err(LoadFault::at_item(Section::DebugLine, cause, place as u64));
             }
         }
     }

@@ -1,8 +1,7 @@
 //! The parts of a file path.
 
 ghost use Rattle.std.specs.Prelude.{◌≡◌, ◌<◌, ◌≤◌, ◌+◌, ◌++◌, [], length, filter, nat_lt};
-ghost use Rattle.dwarf_lines.specs.Paths.{part_if_any};
-ghost use Rattle.dwarf_lines.specs.Paths.{texts_of, nonempty_parts};
+ghost use Rattle.dwarf_lines.specs.Paths.{part_if_any, texts_of, nonempty_parts};
 
 use crate::entries::PathText;
 use dwarf_bytes::{Section, Span, Text};

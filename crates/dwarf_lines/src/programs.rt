@@ -4,11 +4,11 @@ ghost use Rattle.std.specs.Prelude.{◌≡◌, ◌≤◌, ◌<◌, length, IfOk,
 ghost use Rattle.dwarf_lines.specs.Private.Readers.{sections_of};
 ghost use Rattle.dwarf_lines.specs.Headers.{header_at};
 ghost use Rattle.dwarf_lines.specs.Programs.{program_at_place};
-ghost use Rattle.dwarf_lines.specs.Private.Kept.{header_in, AddsProgram};
+ghost use Rattle.dwarf_lines.specs.Private.Stored.{header_in, AddsProgram};
 ghost use Rattle.dwarf_bytes.specs.Refusals.{Gives};
 
 use crate::entries::{Entry, IndexedSections};
-use crate::entry_tables::EntryReader;
+use crate::entry_tables::FileTableReader;
 use crate::formats::EntryTable;
 use crate::line_encoding::LineEncoding;
 use crate::matrix::add_rows;
@@ -55,13 +55,13 @@ fn header<'a>(
     let mut cursor = Cursor::new(bytes);
     cursor.seek(bounds.fields)?;
     let opcodes = LineEncoding::read(bytes, &mut cursor)?;
-    let reader = EntryReader {
+    let reader = FileTableReader {
         sections,
         format: bounds.format,
         table: EntryTable::Directories,
     };
     let directories = reader.table(alloc, &mut cursor)?;
-    let reader = EntryReader {
+    let reader = FileTableReader {
         table: EntryTable::Files(directories.len() as u64),
         ..reader
     };

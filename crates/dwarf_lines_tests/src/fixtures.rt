@@ -11,13 +11,13 @@ use std::process::Abort;
 use std::test::*;
 
 /// Checks that two values are equal.
-pub fn are_equal<T: Copy + Debug + PartialEq>(rt: &impl Abort, told: T, wanted: T) {
-    assert_eq!(rt; told, wanted);
+pub fn are_equal<T: Copy + Debug + PartialEq>(rt: &impl Abort, actual: T, wanted: T) {
+    assert_eq!(rt; actual, wanted);
 }
 
 /// Checks that two slices have the same bytes.
-pub fn are_same_bytes(rt: &impl Abort, told: &[u8], wanted: &[u8]) {
-    assert_eq!(rt; told, wanted);
+pub fn are_same_bytes(rt: &impl Abort, actual: &[u8], wanted: &[u8]) {
+    assert_eq!(rt; actual, wanted);
 }
 
 /// Appends bytes.

@@ -38,8 +38,8 @@ fn each_changed_byte_has_its_cause(rt: HostRuntime) {
         if let Some(changed) = line.get_mut(place) {
             *changed = byte;
         }
-        let told = fault_of(&rt, &line);
-        are_equal(&rt, (place, told), (place, Some(fault(cause, 0))));
+        let actual = fault_of(&rt, &line);
+        are_equal(&rt, (place, actual), (place, Some(fault(cause, 0))));
     }
 }
 
@@ -68,7 +68,7 @@ fn a_path_has_up_to_three_parts(rt: HostRuntime) {
 }
 
 #[test]
-fn paths_stand_in_other_sections(rt: HostRuntime) {
+fn paths_are_in_other_sections(rt: HostRuntime) {
     let line = with_offsets(&rt);
     let sections = [line.as_slice(), b"/src\0", b"??\0x.c\0"];
     has_path(&rt, &read_sections(&rt, sections), sections, 0, b"/src/x.c");
@@ -78,7 +78,7 @@ fn paths_stand_in_other_sections(rt: HostRuntime) {
 fn a_path_without_a_nul_is_a_fault(rt: HostRuntime) {
     let line = with_offsets(&rt);
     let read = LineTables::read(rt.alloc(), line.as_slice(), b"/src\0", b"??\0x.c");
-    are_equal(&rt, read.err(), Some(fault(Cause::Text, 0)));
+    are_equal(&rt, read.err(), Some(fault(Cause::String, 0)));
 }
 
 #[test]
@@ -96,7 +96,7 @@ fn second_has_fault(rt: &(impl Abort + AllocGlobal), second: &[u8], cause: Cause
 }
 
 #[test]
-fn the_first_bad_program_is_told(rt: HostRuntime) {
+fn the_first_invalid_program_is_reported(rt: HostRuntime) {
     let mut bad = one_sequence();
     bad[44] = 1;
     let mut second = copy(&rt, &bad);
@@ -110,7 +110,7 @@ fn the_first_bad_program_is_told(rt: HostRuntime) {
 fn a_cut_section_is_short(rt: HostRuntime) {
     let line = one_sequence();
     for len in 1..75 {
-        let told = fault_of(&rt, &line[..len]);
-        are_equal(&rt, (len, told), (len, Some(fault(Cause::Short, 0))));
+        let actual = fault_of(&rt, &line[..len]);
+        are_equal(&rt, (len, actual), (len, Some(fault(Cause::Short, 0))));
     }
 }

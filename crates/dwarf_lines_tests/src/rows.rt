@@ -72,7 +72,7 @@ fn programs_start_where_the_last_one_ends(rt: HostRuntime) {
 }
 
 #[test]
-fn sums_are_judged_where_a_row_is_made(rt: HostRuntime) {
+fn sums_are_checked_when_a_row_is_built(rt: HostRuntime) {
     // advance_line -5, advance_line 5, set_address 2^64 - 1, advance_pc 1, set_address 7, copy, end
     have_rows(
         &rt,
@@ -126,8 +126,8 @@ fn changed_bytes_of_a_program_of_the_64_bit_format(rt: HostRuntime) {
         if let Some(changed) = line.get_mut(place) {
             *changed = byte;
         }
-        let told = fault_of(&rt, &line);
-        are_equal(&rt, (place, told), (place, Some(fault(cause, 0))));
+        let actual = fault_of(&rt, &line);
+        are_equal(&rt, (place, actual), (place, Some(fault(cause, 0))));
     }
 }
 
@@ -157,7 +157,7 @@ fn a_dead_sequence_has_no_rows(rt: HostRuntime) {
 }
 
 #[test]
-fn the_mark_behind_a_row_is_an_address(rt: HostRuntime) {
+fn the_tombstone_after_a_row_is_an_address(rt: HostRuntime) {
     have_rows(
         &rt,
         &[1, 0, 9, 2, 255, 255, 255, 255, 255, 255, 255, 255, 0, 1, 1],

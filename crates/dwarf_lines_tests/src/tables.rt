@@ -90,7 +90,7 @@ fn many_paths_in_one_long_text(rt: HostRuntime) {
     let mut text = Vec::new(rt.alloc());
     put_many(&rt, &mut text, 1_000_000, b"d");
     let cut = LineTables::read(rt.alloc(), line.as_slice(), text.as_slice(), &[]);
-    are_equal(&rt, cut.err(), Some(fault(Cause::Text, 0)));
+    are_equal(&rt, cut.err(), Some(fault(Cause::String, 0)));
     put(&rt, &mut text, &[0]);
     let tables = read_sections(&rt, [&line, &text, &[]]);
     let long = Text {
@@ -109,7 +109,7 @@ fn many_paths_in_one_long_text(rt: HostRuntime) {
 }
 
 #[test]
-fn fields_without_bytes_tell_nothing(rt: HostRuntime) {
+fn fields_without_bytes_add_nothing(rt: HostRuntime) {
     let line = with_flags(&rt);
     let tables = read(&rt, &line);
     let directory = Text {

@@ -17,8 +17,8 @@ use Rattle.dwarf_bytes.specs.Forms.{form_of, byte_len}
 use Rattle.dwarf_bytes.specs.Contents.{Content, Number, Signed, Bytes, read_as, content_at}
 use Rattle.dwarf_bytes.specs.Numbers.{block_at, fixed_at, uleb_at, sleb_at, cstr_at, text_front}
 use Rattle.dwarf_bytes.specs.Numbers.{offset_at}
-use Rattle.dwarf_bytes.proofs.Advance.{after_bind, uleb_at-moves, sleb_at-moves}
-use Rattle.dwarf_bytes.proofs.Moves.{same_ok, block_at-moves, fixed_at-moves}
+use Rattle.dwarf_bytes.proofs.Numbers.Advance.{after-bind, uleb_at-moves, sleb_at-moves}
+use Rattle.dwarf_bytes.proofs.Numbers.Moves.{same-ok, block_at-moves, fixed_at-moves}
 use Rattle.dwarf_forms.specs.declared.values.ValueFault.{ValueFault}
 use Rattle.dwarf_forms.specs.declared.values.ValueFault.TheVariants as values
 use Rattle.dwarf_forms.specs.Values.{Value, reading_value as of_value, direct_at, value_at}
@@ -65,7 +65,7 @@ cstr-stays bytes at x h = by_position (position (λ b. b == 0) (drop at bytes)) 
         let found = position-Some (λ b. b == 0) (drop at bytes) n 0 is in
         let text : List ℕ = take n (drop at bytes) in
         let place : at + length text + 1 ≡ x.1 =
-        ap (λ (r : List ℕ × ℕ). r.1) (same_ok (text, at + length text + 1) x h) in
+        ap (λ (r : List ℕ × ℕ). r.1) (same-ok (text, at + length text + 1) x h) in
         let len : length text ≡ length (take n (drop at bytes)) = refl in (
           omega (arith, place),
           omega (
@@ -83,15 +83,15 @@ as-stays : {X : Type 0} (bytes : List ℕ) (at : ℕ) (content : X → Content)
     → ((y : X × ℕ) → read ≡ Ok y → StaysWithin bytes at y.1) → read_as content read ≡ Ok x
     → StaysWithin bytes at x.1
 as-stays bytes at content read x stays h =
-    after_bind read (λ y. Ok (content y.0, y.1)) x h (StaysWithin bytes at x.1) (λ y y_is last.
-    let place : y.1 ≡ x.1 = ap (λ (r : Content × ℕ). r.1) (same_ok (content y.0, y.1) x last) in
+    after-bind read (λ y. Ok (content y.0, y.1)) x h (StaysWithin bytes at x.1) (λ y y_is last.
+    let place : y.1 ≡ x.1 = ap (λ (r : Content × ℕ). r.1) (same-ok (content y.0, y.1) x last) in
     subst (λ (k : ℕ). StaysWithin bytes at k) place (stays y y_is))
 
 counted-stays : (bytes : List ℕ) (at : ℕ) (read : Result (ℕ × ℕ) ReadFault) (x : Content × ℕ)
     → ((y : ℕ × ℕ) → read ≡ Ok y → StaysWithin bytes at y.1)
     → (read >>= λ len. read_as Bytes (block_at len.0 bytes len.1)) ≡ Ok x → StaysWithin bytes at x.1
 counted-stays bytes at read x stays h =
-    after_bind read (λ len. read_as Bytes (block_at len.0 bytes len.1)) x h
+    after-bind read (λ len. read_as Bytes (block_at len.0 bytes len.1)) x h
     (StaysWithin bytes at x.1) (λ len len_is last.
     let first = stays len len_is in
     let second = as-stays bytes len.1 Bytes (block_at len.0 bytes len.1) x
@@ -113,7 +113,7 @@ content-stays layouts.Offset format bytes at x le h =
     as-stays bytes at Number (offset_at format bytes at) x
     (λ y is. offset-stays format bytes at y is) h
 content-stays layouts.Present format bytes at x le h =
-    let place : at ≡ x.1 = ap (λ (r : Content × ℕ). r.1) (same_ok (Number 1, at) x h) in
+    let place : at ≡ x.1 = ap (λ (r : Content × ℕ). r.1) (same-ok (Number 1, at) x h) in
     (omega (arith, place), omega (arith, place, le))
 content-stays layouts.Signed format bytes at x le h =
     as-stays bytes at Signed (sleb_at bytes at) x (λ y is. sleb-stays bytes at y is) h
@@ -129,9 +129,9 @@ content-stays (layouts.Block width) format bytes at x le h =
 content-stays layouts.LongBlock format bytes at x le h =
     counted-stays bytes at (uleb_at bytes at) x (λ y is. uleb-stays bytes at y is) h
 
-of_value-ok : {A : Type 0} (r : Result A ReadFault) (x : A) → of_value r ≡ Ok x → r ≡ Ok x
-of_value-ok (Ok y) x h = cc
-of_value-ok (Err e) x h = cc
+of-value-ok : {A : Type 0} (r : Result A ReadFault) (x : A) → of_value r ≡ Ok x → r ≡ Ok x
+of-value-ok (Ok y) x h = cc
+of-value-ok (Err e) x h = cc
 
 direct-stays : (form : ℕ) (format : Format) (bytes : List ℕ) (at : ℕ) (x : Value × ℕ)
     → at ≤ length bytes → direct_at form format bytes at ≡ Ok x → StaysWithin bytes at x.1
@@ -147,13 +147,13 @@ direct-stays form format bytes at x le h = by_form (form_of form) h
     ]) ≡ Ok x → StaysWithin bytes at x.1
     by_form None h = cc
     by_form (Some (Direct layout)) h =
-        after_bind (of_value (content_at layout format bytes at)) _ x h (StaysWithin bytes at x.1)
+        after-bind (of_value (content_at layout format bytes at)) _ x h (StaysWithin bytes at x.1)
         (λ read read_is last.
         let place : read.1 ≡ x.1 = ap (λ (r : Value × ℕ). r.1)
-        (same_ok (record { form = form; content = read.0 }, read.1) x last) in
+        (same-ok (record { form = form; content = read.0 }, read.1) x last) in
         subst (λ (k : ℕ). StaysWithin bytes at k) place
         (content-stays layout format bytes at read le
-        (of_value-ok (content_at layout format bytes at) read read_is)))
+        (of-value-ok (content_at layout format bytes at) read read_is)))
     by_form (Some ImplicitConst) h = cc
     by_form (Some Indirect) h = cc
 
@@ -180,11 +180,11 @@ value-stays form format constant bytes at x le h = by_form (form_of form) consta
     by_form (Some ImplicitConst) None h = cc
     by_form (Some ImplicitConst) (Some c) h =
         let place : at ≡ x.1 = ap (λ (r : Value × ℕ). r.1)
-        (same_ok (record { form = form; content = Signed c }, at) x h) in
+        (same-ok (record { form = form; content = Signed c }, at) x h) in
         (omega (arith, place), omega (arith, place, le))
     by_form (Some Indirect) constant h =
-        after_bind (of_value (uleb_at bytes at)) _ x h (StaysWithin bytes at x.1)
+        after-bind (of_value (uleb_at bytes at)) _ x h (StaysWithin bytes at x.1)
         (λ inner inner_is last.
-        let first = uleb-stays bytes at inner (of_value-ok (uleb_at bytes at) inner inner_is) in
+        let first = uleb-stays bytes at inner (of-value-ok (uleb_at bytes at) inner inner_is) in
         let second = direct-stays inner.0 format bytes inner.1 x first.1 last in
         (omega (arith, first.0, second.0), second.1))

@@ -6,13 +6,13 @@ use Rattle.std.specs.List.{filter_map}
 use Rattle.std.specs.List.Sorted.{IsStrictlyIncreasing}
 use Rattle.dwarf_bytes.specs.declared.fault.Cause.TheVariants as causes
 use Rattle.dwarf_bytes.specs.declared.format.Format.{Format}
-use Rattle.dwarf_bytes.specs.Items.{Lists, refuse_if, told_at, items_from}
-use Rattle.dwarf_bytes.proofs.Advance.{after_bind}
-use Rattle.dwarf_bytes.proofs.ItemLaws.{Lists-within, Lists-each}
+use Rattle.dwarf_bytes.specs.Items.{Lists, refuse_if, with_offset, items_from}
+use Rattle.dwarf_bytes.proofs.Numbers.Advance.{after-bind}
+use Rattle.dwarf_bytes.proofs.Items.ItemLaws.{Lists-within, Lists-each}
 use Rattle.dwarf_forms.specs.Declarations.{Declaration}
-use Rattle.dwarf_bytes.proofs.Moves.{same_ok}
+use Rattle.dwarf_bytes.proofs.Numbers.Moves.{same-ok}
 use Rattle.dwarf_units.specs.declared.unit_headers.UnitHeader.{UnitHeader}
-use Rattle.dwarf_units.specs.Entries.{Node, Entry, Null, Standing, Die, AreDepths, depth_after}
+use Rattle.dwarf_units.specs.Entries.{Node, Entry, Null, LocatedNode, Die, AreDepths, depth_after}
 use Rattle.dwarf_units.specs.Entries.{node_at, die_of, entries_of}
 use Rattle.dwarf_units.specs.Private.Rising.{RiseWithin}
 use Rattle.dwarf_units.proofs.NodeLaws.{node_at-facts}
@@ -21,7 +21,7 @@ use Rattle.dwarf_units.proofs.NodeLaws.{node_at-facts}
 
 -- The depths of the nodes of a unit are the counted depths.
 pub nodes-AreDepths : (format : Format) (table : List Declaration) (unit : List ℕ) (end at : ℕ)
-    (all : List Standing) (after : ℕ) → items_from end (node_at format table unit) [] at
+    (all : List LocatedNode) (after : ℕ) → items_from end (node_at format table unit) [] at
     ≡ Ok (all, after) → AreDepths all
 nodes-AreDepths format table unit end at all after h i d within =
     Lists-each (λ before x. x.depth ≡ depth_after before) (node_at format table unit)
@@ -31,7 +31,7 @@ nodes-AreDepths format table unit end at all after h i d within =
 
 -- The offsets of the listed entries are increasing, up to any end at or after the end of the unit.
 pub listed-rise : (format : Format) (table : List Declaration) (unit : List ℕ) (end : ℕ)
-    → length unit ≤ end → (before : List Standing) (at : ℕ) (all : List Standing) (after : ℕ)
+    → length unit ≤ end → (before : List LocatedNode) (at : ℕ) (all : List LocatedNode) (after : ℕ)
     → Lists (node_at format table unit) before at all after
     → (from : ℕ) → from ≤ at → at ≤ end → RiseWithin from end (filter_map die_of all)
 listed-rise format table unit end size before at [] after h from le within =
@@ -51,26 +51,27 @@ listed-rise format table unit end size before at (x ∷ all) after h from le wit
     by_node offset depth Null is lt rest = rest from (omega (arith, le, lt))
 
 -- The entries of a unit are the nodes of its listing that are not null.
-pub listed_in : (info : List ℕ) (header : UnitHeader) (table : List Declaration) (dies : List Die)
+pub listed-in : (info : List ℕ) (header : UnitHeader) (table : List Declaration) (dies : List Die)
     (P : Type 0) → entries_of info header table ≡ Ok dies
-    → ((all : List Standing) (after : ℕ)
+    → ((all : List LocatedNode) (after : ℕ)
     → Lists (node_at header.format table (take header.end info)) [] header.first all after
     → filter_map die_of all ≡ dies → P) → P
 unfolding entries_of
-listed_in info header table dies P h next =
-    after_bind (items_from header.end (node_at header.format table (take header.end info)) []
+listed-in info header table dies P h next =
+    after-bind (items_from header.end (node_at header.format table (take header.end info)) []
     header.first) _ dies h P (λ all all_is h1.
-    after_bind (told_at header.start (refuse_if (nat_lt 0 (depth_after all.0)) causes.TreeOpen)) _
+    after-bind (with_offset header.start (refuse_if (nat_lt 0 (depth_after all.0)) causes.TreeOpen))
+    _
     dies h1 P (λ _ _ last.
     next all.0 all.1 (Lists-within _ (node_at header.format table (take header.end info)) []
-    header.first all.0 all.1 all_is) (same_ok (filter_map die_of all.0) dies last)))
+    header.first all.0 all.1 all_is) (same-ok (filter_map die_of all.0) dies last)))
 
 -- The offsets of the entries of a unit are increasing, from the start of the unit up to its end.
 pub entries-rise : (info : List ℕ) (header : UnitHeader) (table : List Declaration)
     (dies : List Die) → entries_of info header table ≡ Ok dies → header.start ≤ header.first
     → header.first ≤ header.end → RiseWithin header.start header.end dies
 entries-rise info header table dies h front back =
-    listed_in info header table dies (RiseWithin header.start header.end dies) h
+    listed-in info header table dies (RiseWithin header.start header.end dies) h
     (λ all after listed same.
     let size = length-take header.end info in
     subst (λ (ds : List Die). RiseWithin header.start header.end ds) same
@@ -91,7 +92,7 @@ pub offsets-rise : (info : List ℕ) (header : UnitHeader) (table : List Declara
     (dies : List Die) → entries_of info header table ≡ Ok dies
     → IsStrictlyIncreasing (map (λ (die : Die). die.offset) dies)
 offsets-rise info header table dies h =
-    listed_in info header table dies (IsStrictlyIncreasing (map (λ (die : Die). die.offset) dies)) h
+    listed-in info header table dies (IsStrictlyIncreasing (map (λ (die : Die). die.offset) dies)) h
     (λ all after listed same.
     let unit : List ℕ = take header.end info in
     subst (λ (ds : List Die). IsStrictlyIncreasing (map (λ (die : Die). die.offset) ds)) same

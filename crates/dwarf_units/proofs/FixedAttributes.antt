@@ -22,8 +22,8 @@ use Rattle.dwarf_units.specs.declared.attributes.Attribute.{Attribute}
 use Rattle.dwarf_units.specs.Attributes.{accepts, is_negative_count, number_of}
 use Rattle.dwarf_units.specs.Entries.{reading_value, is_direct, attribute_at}
 use Rattle.dwarf_units.specs.Private.Plans.{layout_len, constant_len, fixed_len}
-use Rattle.dwarf_units.proofs.PlainLaws.{not_indirect, direct_chain}
-use Rattle.dwarf_units.proofs.PlainReads.{none_behind}
+use Rattle.dwarf_units.proofs.FixedSizeLaws.{not-indirect, direct-chain}
+use Rattle.dwarf_units.proofs.FixedSizeReads.{none_after}
 use Rattle.dwarf_units.proofs.FixedReads.{ReadsFixed, block-fixed, same_some, value-fixed}
 use Rattle.dwarf_units.proofs.FixedReads.{constant-fixed}
 
@@ -43,7 +43,7 @@ attribute-fixed : (format : Format) (s : AttributeSpecification) (n : ℕ) (byte
     → ReadsFixed (λ v. is_negative_count s.name v.content ≡ false) causes.Short n bytes at
     (reading_value (value_at s.form format s.constant bytes at))
     → ReadsFixed (λ _. Unit {0}) causes.Short n bytes at (attribute_at format s bytes at)
-attribute-fixed format s n bytes at plain fine read =
+attribute-fixed format s n bytes at fixed_size fine read =
     let make : ℕ → Value × ℕ → Attribute =
     λ form value. record {
       name = s.name;
@@ -58,8 +58,8 @@ attribute-fixed format s n bytes at plain fine read =
     >>= λ inner. refuse_if (not (is_direct (form_of inner.0))) causes.Form >>= λ _. Ok inner in
     subst (λ (r : Result (Attribute × ℕ) Cause). ReadsFixed (λ _. Unit {0}) causes.Short n bytes at
     r)
-    (sym (direct_chain (s.form == DW_FORM_INDIRECT) inner s.form at (λ form. accepts s.name form)
-    rest plain fine))
+    (sym (direct-chain (s.form == DW_FORM_INDIRECT) inner s.form at (λ form. accepts s.name form)
+    rest fixed_size fine))
     (judged-fixed n bytes at s.name (make s.form)
     (reading_value (value_at s.form format s.constant bytes at)) read)
 
@@ -86,7 +86,7 @@ fixed-attribute format s n bytes at h le =
     by_constant fine is (Some c) there false test h =
         subst (λ (k : ℕ). ReadsFixed (λ _. Unit {0}) causes.Short k bytes at
         (attribute_at format s bytes at)) (same_some 0 n h)
-        (attribute-fixed format s 0 bytes at (not_indirect s.form ImplicitConst is (λ e. cc)) fine
+        (attribute-fixed format s 0 bytes at (not-indirect s.form ImplicitConst is (λ e. cc)) fine
         (constant-fixed s.name s.form s.constant c format bytes at is there test le))
 
     by_form : (b : Bool) → accepts s.name s.form ≡ b → (found : Option Form)
@@ -100,7 +100,7 @@ fixed-attribute format s n bytes at h le =
     by_form false fine found is h = cc
     by_form true fine None is h = cc
     by_form true fine (Some (Direct layout)) is h =
-        attribute-fixed format s n bytes at (not_indirect s.form (Direct layout) is (λ e. cc)) fine
+        attribute-fixed format s n bytes at (not-indirect s.form (Direct layout) is (λ e. cc)) fine
         (value-fixed s.name s.form layout format s.constant n bytes at is h le)
     by_form true fine (Some ImplicitConst) is h =
         by_constant fine is s.constant refl _ refl (constant_again s.constant h)
@@ -124,7 +124,7 @@ fixed-attribute format s n bytes at h le =
 pub same-place : {X Y : Type 0} (Good : X → Type 0) (Fine : Y → Type 0) (n : ℕ) (bytes : List ℕ)
     (at : ℕ) (r : Result (X × ℕ) Cause) (q : Result (Y × ℕ) Cause)
     → ReadsFixed Good causes.Short n bytes at r → ReadsFixed Fine causes.Short n bytes at q
-    → (r >>= none_behind) ≡ (q >>= none_behind)
+    → (r >>= none_after) ≡ (q >>= none_after)
 same-place Good Fine n bytes at (Ok x) (Ok y) h g = ap (λ (k : ℕ). Ok ([], k)) (h.1 ∙ sym g.1)
 same-place Good Fine n bytes at (Ok x) (Err e) h g = absurd (omega (arith, h.2, g.1))
 same-place Good Fine n bytes at (Err e) (Ok y) h g = absurd (omega (arith, h.1, g.2))

@@ -24,7 +24,7 @@ use Rattle.dwarf_forms.specs.Values.{Value, reading_value as of_value, direct_at
 use Rattle.dwarf_units.specs.Attributes.{is_negative, is_negative_count}
 use Rattle.dwarf_units.specs.Entries.{reading_value}
 use Rattle.dwarf_units.specs.Private.Plans.{layout_len}
-use Rattle.dwarf_units.proofs.PlainLaws.{never_count}
+use Rattle.dwarf_units.proofs.FixedSizeLaws.{never-count}
 
 -- ---- reads of a fixed size
 
@@ -98,11 +98,11 @@ content-fixed layouts.Sixteen format n bytes at len le =
 content-fixed (layouts.Block width) format n bytes at len le = cc
 content-fixed layouts.LongBlock format n bytes at len le = cc
 
-of_value-fixed : {X : Type 0} (Good : X → Type 0) (n : ℕ) (bytes : List ℕ) (at : ℕ)
+of-value-fixed : {X : Type 0} (Good : X → Type 0) (n : ℕ) (bytes : List ℕ) (at : ℕ)
     (r : Result (X × ℕ) ReadFault) → ReadsFixed Good faults.Short n bytes at r
     → ReadsFixed Good (values.Read faults.Short) n bytes at (of_value r)
-of_value-fixed Good n bytes at (Ok x) h = h
-of_value-fixed Good n bytes at (Err e) h = (ap (λ (f : ReadFault). values.Read f) h.0, h.1)
+of-value-fixed Good n bytes at (Ok x) h = h
+of-value-fixed Good n bytes at (Err e) h = (ap (λ (f : ReadFault). values.Read f) h.0, h.1)
 
 reading_value-fixed : {X : Type 0} (Good : X → Type 0) (n : ℕ) (bytes : List ℕ) (at : ℕ)
     (r : Result (X × ℕ) ValueFault) → ReadsFixed Good (values.Read faults.Short) n bytes at r
@@ -135,8 +135,8 @@ direct-fixed name form layout format n bytes at is len le =
     (mapped-fixed {Y = Value} (λ c. is_negative c ≡ false)
     (λ v. is_negative_count name v.content ≡ false) (values.Read faults.Short) n bytes at
     (of_value (content_at layout format bytes at)) (λ c. record { form = form; content = c })
-    (of_value-fixed (λ c. is_negative c ≡ false) n bytes at (content_at layout format bytes at)
-    (content-fixed layout format n bytes at len le)) (λ c h. never_count name c h))
+    (of-value-fixed (λ c. is_negative c ≡ false) n bytes at (content_at layout format bytes at)
+    (content-fixed layout format n bytes at len le)) (λ c h. never-count name c h))
 
 pub value-fixed : (name form : ℕ) (layout : ValueLayout) (format : Format) (constant : Option ℤ)
     (n : ℕ)

@@ -15,23 +15,25 @@ use Rattle.dwarf_forms.specs.declared.attribute.AttributeSpecification.{Attribut
 use Rattle.dwarf_units.specs.declared.steps.AttributeStep.{AttributeStep}
 use Rattle.dwarf_units.specs.declared.steps.AttributeStep.TheVariants.{Skip, Pass, Keep}
 use Rattle.dwarf_units.specs.declared.used_name.UsedName.{UsedName}
-use Rattle.dwarf_units.specs.Private.Plans.{step_before, step_at, steps_at, kept_at, skip_limit}
-use Rattle.dwarf_units.specs.Private.Plans.{in_front}
-use Rattle.dwarf_units.proofs.PlainReads.{none_behind}
+use Rattle.dwarf_units.specs.Private.Plans.{step_before, step_at, steps_at, stored_at, skip_limit}
+use Rattle.dwarf_units.specs.Private.Plans.{prepend_attributes}
+use Rattle.dwarf_units.proofs.FixedSizeReads.{none_after}
 use Rattle.dwarf_units.proofs.FixedReads.{ReadsFixed}
 use Rattle.dwarf_units.proofs.FixedAttributes.{skip-fixed}
 use Rattle.dwarf_units.proofs.PlanSteps.{keep-within, keep-past}
 
 -- ---- running the steps of a declaration in order
 
-pub in_front-none : {X : Type 0} (r : Result (List X × ℕ) Cause) → in_front [] r ≡ r
-in_front-none (Ok rest) = refl
-in_front-none (Err e) = refl
+pub prepend_attributes-none : {X : Type 0} (r : Result (List X × ℕ) Cause) → prepend_attributes [] r
+    ≡ r
+prepend_attributes-none (Ok rest) = refl
+prepend_attributes-none (Err e) = refl
 
-pub in_front-twice : {X : Type 0} (xs ys : List X) (r : Result (List X × ℕ) Cause)
-    → in_front xs (in_front ys r) ≡ in_front (xs ++ ys) r
-in_front-twice xs ys (Ok rest) = ap (λ all. Ok (all, rest.1)) (sym (append_assoc xs ys rest.0))
-in_front-twice xs ys (Err e) = refl
+pub prepend_attributes-twice : {X : Type 0} (xs ys : List X) (r : Result (List X × ℕ) Cause)
+    → prepend_attributes xs (prepend_attributes ys r) ≡ prepend_attributes (xs ++ ys) r
+prepend_attributes-twice xs ys (Ok rest) = ap (λ all. Ok (all, rest.1))
+    (sym (append_assoc xs ys rest.0))
+prepend_attributes-twice xs ys (Err e) = refl
 
 -- A step that skips bytes, if enough bytes remain.
 pub skip-within : (format : Format) (n : ℕ) (bytes : List ℕ) (at : ℕ) → at + n ≤ length bytes
@@ -39,7 +41,7 @@ pub skip-within : (format : Format) (n : ℕ) (bytes : List ℕ) (at : ℕ) → 
 skip-within format n bytes at le = by_read (reading (block_at n bytes at)) (skip-fixed n bytes at)
   where
     by_read : (r : Result (List ℕ × ℕ) Cause) → ReadsFixed (λ _. Unit {0}) causes.Short n bytes at r
-        → (r >>= none_behind) ≡ Ok ([], at + n)
+        → (r >>= none_after) ≡ Ok ([], at + n)
     by_read (Ok block) h = ap (λ (k : ℕ). Ok ([], k)) h.1
     by_read (Err e) h = absurd (omega (arith, h.1, le))
 
@@ -48,25 +50,25 @@ skip-past : (format : Format) (n : ℕ) (bytes : List ℕ) (at : ℕ) → length
 skip-past format n bytes at lt = by_read (reading (block_at n bytes at)) (skip-fixed n bytes at)
   where
     by_read : (r : Result (List ℕ × ℕ) Cause) → ReadsFixed (λ _. Unit {0}) causes.Short n bytes at r
-        → (r >>= none_behind) ≡ Err causes.Short
+        → (r >>= none_after) ≡ Err causes.Short
     by_read (Ok block) h = absurd (omega (arith, h.2, lt))
     by_read (Err e) h = ap (λ (c : Cause). Err c) h.0
 
 -- Skipping n + m bytes at once is the same as skipping n bytes and then m bytes.
-joined-is : (format : Format) (n m : ℕ) (steps : List AttributeStep) (bytes : List ℕ) (at : ℕ)
+merged_step-is : (format : Format) (n m : ℕ) (steps : List AttributeStep) (bytes : List ℕ) (at : ℕ)
     → steps_at format (Skip (n + m) ∷ steps) bytes at
-    ≡ (step_at format (Skip n) bytes at >>= λ first. in_front first.0
+    ≡ (step_at format (Skip n) bytes at >>= λ first. prepend_attributes first.0
     (steps_at format (Skip m ∷ steps) bytes first.1))
 unfolding steps_at
-joined-is format n m steps bytes at = by_both (cases_lt (length bytes) (at + (n + m)))
+merged_step-is format n m steps bytes at = by_both (cases_lt (length bytes) (at + (n + m)))
     (cases_lt (length bytes) (at + n))
   where
     by_both : (length bytes < at + (n + m)) ⊎ (at + (n + m) ≤ length bytes)
         → (length bytes < at + n) ⊎ (at + n ≤ length bytes)
-        → (step_at format (Skip (n + m)) bytes at >>= λ first. in_front first.0
+        → (step_at format (Skip (n + m)) bytes at >>= λ first. prepend_attributes first.0
         (steps_at format steps bytes first.1))
-        ≡ (step_at format (Skip n) bytes at >>= λ first. in_front first.0
-        (step_at format (Skip m) bytes first.1 >>= λ first. in_front first.0
+        ≡ (step_at format (Skip n) bytes at >>= λ first. prepend_attributes first.0
+        (step_at format (Skip m) bytes first.1 >>= λ first. prepend_attributes first.0
         (steps_at format steps bytes first.1)))
     by_both (inl lt) (inl short) = rw (
       skip-past format (n + m) bytes at lt,
@@ -87,24 +89,26 @@ joined-is format n m steps bytes at = by_both (cases_lt (length bytes) (at + (n 
           skip-within format m bytes (at + n) (omega (arith, le)),
           place,
         )
-        (sym (in_front-none (in_front [] (steps_at format steps bytes (at + n + m)))))
+        (sym (prepend_attributes-none (prepend_attributes [] (steps_at format steps bytes
+        (at + n + m)))))
 
 -- The same holds for a step that skips bytes and stores the attribute after them.
-joined-keep : (format : Format) (n m : ℕ) (name : UsedName) (s : AttributeSpecification)
+merged_step-keep : (format : Format) (n m : ℕ) (name : UsedName) (s : AttributeSpecification)
     (layout : Option ValueLayout) (steps : List AttributeStep) (bytes : List ℕ) (at : ℕ)
     → steps_at format (Keep (n + m) name s layout ∷ steps) bytes at
-    ≡ (step_at format (Skip n) bytes at >>= λ first. in_front first.0
+    ≡ (step_at format (Skip n) bytes at >>= λ first. prepend_attributes first.0
     (steps_at format (Keep m name s layout ∷ steps) bytes first.1))
 unfolding steps_at
-joined-keep format n m name s layout steps bytes at =
+merged_step-keep format n m name s layout steps bytes at =
     by_both (cases_lt (length bytes) (at + (n + m))) (cases_lt (length bytes) (at + n))
   where
     by_both : (length bytes < at + (n + m)) ⊎ (at + (n + m) ≤ length bytes)
         → (length bytes < at + n) ⊎ (at + n ≤ length bytes)
-        → (step_at format (Keep (n + m) name s layout) bytes at >>= λ first. in_front first.0
+        → (step_at format (Keep (n + m) name s layout) bytes at
+        >>= λ first. prepend_attributes first.0
         (steps_at format steps bytes first.1))
-        ≡ (step_at format (Skip n) bytes at >>= λ first. in_front first.0
-        (step_at format (Keep m name s layout) bytes first.1 >>= λ first. in_front first.0
+        ≡ (step_at format (Skip n) bytes at >>= λ first. prepend_attributes first.0
+        (step_at format (Keep m name s layout) bytes first.1 >>= λ first. prepend_attributes first.0
         (steps_at format steps bytes first.1)))
     by_both (inl lt) (inl short) = rw (
       keep-past format (n + m) name s layout bytes at lt,
@@ -126,13 +130,13 @@ joined-keep format n m name s layout steps bytes at =
               (omega (arith, le)),
           place,
         )
-        (sym (in_front-none (kept_at format name s layout bytes (at + n + m)
-        >>= λ first. in_front first.0 (steps_at format steps bytes first.1))))
+        (sym (prepend_attributes-none (stored_at format name s layout bytes (at + n + m)
+        >>= λ first. prepend_attributes first.0 (steps_at format steps bytes first.1))))
 
 pub before-is : (format : Format) (step : AttributeStep) (steps : List AttributeStep)
     (bytes : List ℕ)
     (at : ℕ) → steps_at format (step_before step steps) bytes at
-    ≡ (step_at format step bytes at >>= λ first. in_front first.0
+    ≡ (step_at format step bytes at >>= λ first. prepend_attributes first.0
     (steps_at format steps bytes first.1))
 unfolding steps_at
 before-is format step [] bytes at = refl
@@ -141,9 +145,9 @@ before-is format (Skip n) (Skip m ∷ steps) bytes at = by_test (nat_le (n + m) 
     by_test : (b : Bool) → steps_at format
         (option_map_or (λ both. both ∷ steps) (cond b (Some (Skip (n + m))) None)
         (Skip n ∷ Skip m ∷ steps)) bytes at
-        ≡ (step_at format (Skip n) bytes at >>= λ first. in_front first.0
+        ≡ (step_at format (Skip n) bytes at >>= λ first. prepend_attributes first.0
         (steps_at format (Skip m ∷ steps) bytes first.1))
-    by_test true = joined-is format n m steps bytes at
+    by_test true = merged_step-is format n m steps bytes at
     by_test false = refl
 before-is format (Skip n) (Pass t layout ∷ steps) bytes at = refl
 before-is format (Skip n) (Keep m used t layout ∷ steps) bytes at =
@@ -152,9 +156,9 @@ before-is format (Skip n) (Keep m used t layout ∷ steps) bytes at =
     by_test : (b : Bool) → steps_at format
         (option_map_or (λ both. both ∷ steps) (cond b (Some (Keep (n + m) used t layout)) None)
         (Skip n ∷ Keep m used t layout ∷ steps)) bytes at
-        ≡ (step_at format (Skip n) bytes at >>= λ first. in_front first.0
+        ≡ (step_at format (Skip n) bytes at >>= λ first. prepend_attributes first.0
         (steps_at format (Keep m used t layout ∷ steps) bytes first.1))
-    by_test true = joined-keep format n m used t layout steps bytes at
+    by_test true = merged_step-keep format n m used t layout steps bytes at
     by_test false = refl
 before-is format (Pass s layout) (next ∷ steps) bytes at = refl
 before-is format (Keep n used s layout) (next ∷ steps) bytes at = refl

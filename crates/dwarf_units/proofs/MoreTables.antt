@@ -10,31 +10,32 @@ use Rattle.dwarf_bytes.specs.declared.format.Format.{Format}
 use Rattle.dwarf_units.specs.declared.numbers.Numbers.{Numbers}
 use Rattle.dwarf_units.specs.Private.Numbers.{number_at}
 use Rattle.dwarf_units.specs.Private.Plans.{Table, table_size}
-use Rattle.dwarf_units.specs.Private.Tables.{StandsIn, IsAt, AreElsewhere, AreKept, KeptTables}
-use Rattle.dwarf_units.specs.Private.Tables.{with_table, size_limit}
+use Rattle.dwarf_units.specs.Private.Tables.{IsParsedFrom, IsAt, AreElsewhere, AreCached}
+use Rattle.dwarf_units.specs.Private.Tables.{CachedTables, with_table, size_limit}
 use Rattle.dwarf_bytes.specs.declared.fault.Section.TheVariants as sections
 use Rattle.dwarf_bytes.specs.Items.{At}
 use Rattle.dwarf_bytes.specs.Refusals.{in_section}
 use Rattle.dwarf_forms.specs.Declarations.{Declaration}
 use Rattle.dwarf_forms.specs.Tables.{declarations_of}
 use Rattle.dwarf_units.specs.Units.{declarations_limit}
-use Rattle.dwarf_units.proofs.TableLaws.{in_section_ok, table_again, table_few, known_stands}
-use Rattle.dwarf_units.proofs.TableLaws.{stand_behind}
-use Rattle.dwarf_units.proofs.KeptLaws.{Sets, with_here, AreFound, found_short, found_push}
-use Rattle.dwarf_units.proofs.KeptLaws.{take_all}
+use Rattle.dwarf_units.proofs.TableLaws.{in_section-ok, table-again, table-few, known-stands}
+use Rattle.dwarf_units.proofs.TableLaws.{stand-behind}
+use Rattle.dwarf_units.proofs.StoredLaws.{Sets, with-here, AreFound, found-short, found-push}
+use Rattle.dwarf_units.proofs.StoredLaws.{take_all}
 
 -- The invariant holds after a permanent table is added.
-pub kept_all : (section : List ℕ) (tables after : List Table) (kept room now size : ℕ)
+pub kept-all : (section : List ℕ) (tables after : List Table) (kept budget now size : ℕ)
     (numbers next : Numbers) (table : Table) → AreElsewhere table.format table.offset tables
-    → Sets numbers next table.format table.offset kept → StandsIn section table
-    → after ≡ take kept tables ++ table ∷ [] → size ≡ table_size table → size ≤ room
-    → now ≡ length after → AreKept section tables kept room numbers
-    → AreKept section after now (room - size) next
-kept_all section tables after kept room now size numbers next table elsewhere sets stands is size_is
+    → Sets numbers next table.format table.offset kept → IsParsedFrom section table
+    → after ≡ take kept tables ++ table ∷ [] → size ≡ table_size table → size ≤ budget
+    → now ≡ length after → AreCached section tables kept budget numbers
+    → AreCached section after now (budget - size) next
+kept-all section tables after kept budget now size numbers next table elsewhere sets stands
+    is size_is
     fits now_is all =
     let before : List Table = take kept tables in
     let here : number_at next table.format table.offset ≡ Some (length before) =
-    sets table.format table.offset ∙ (with_here numbers table.format table.offset kept
+    sets table.format table.offset ∙ (with-here numbers table.format table.offset kept
     ∙ ap (λ (k : ℕ). Some k) (sym (length-take-le kept tables all.within))) in
     let whole : take now after ≡ after =
     subst (λ (k : ℕ). take k after ≡ after) (sym now_is) (take_all after) in
@@ -42,12 +43,12 @@ kept_all section tables after kept room now size numbers next table elsewhere se
     ap (λ (ts : List Table). sum_by table_size ts) is
     ∙ sum_by_push table_size (take kept tables) table in
     record {
-      stand = stand_behind section tables after kept table all.stand stands is;
+      stand = stand-behind section tables after kept table all.stand stands is;
       found = subst (λ (ts : List Table). AreFound next ts) (sym is)
-          (found_push before next table here
-          (found_short tables kept numbers next table.format table.offset kept all.within elsewhere
+          (found-push before next table here
+          (found-short tables kept numbers next table.format table.offset kept all.within elsewhere
           sets all.found));
-      counted = ap (λ (ts : List Table). room - size + sum_by table_size ts) whole
+      counted = ap (λ (ts : List Table). budget - size + sum_by table_size ts) whole
           ∙ omega (arith, sum, size_is, fits, all.counted);
       within = omega (arith, now_is);
       one = omega (arith, now_is);
@@ -55,15 +56,15 @@ kept_all section tables after kept room now size numbers next table elsewhere se
     }
 
 -- The contents of the cache after a permanent table is added.
-pub with_all : (before : KeptTables) (section : List ℕ) (tables after : List Table)
-    (kept room now size : ℕ) (numbers : Numbers) (table : Table)
-    → (let seen : KeptTables = record { section = section; tables = tables; kept = kept } in
+pub with-all : (before : CachedTables) (section : List ℕ) (tables after : List Table)
+    (kept budget now size : ℕ) (numbers : Numbers) (table : Table)
+    → (let seen : CachedTables = record { section = section; tables = tables; kept = kept } in
     seen ≡ before)
-    → after ≡ take kept tables ++ table ∷ [] → size ≡ table_size table → size ≤ room
-    → now ≡ length after → AreKept section tables kept room numbers
-    → (let seen : KeptTables = record { section = section; tables = after; kept = now } in
+    → after ≡ take kept tables ++ table ∷ [] → size ≡ table_size table → size ≤ budget
+    → now ≡ length after → AreCached section tables kept budget numbers
+    → (let seen : CachedTables = record { section = section; tables = after; kept = now } in
     seen ≡ with_table before table)
-with_all before section tables after kept room now size numbers table view is size_is fits now_is
+with-all before section tables after kept budget now size numbers table view is size_is fits now_is
     all =
     let sum : sum_by table_size (take kept tables ++ table ∷ [])
     ≡ sum_by table_size (take kept tables) + table_size table =
@@ -75,15 +76,15 @@ with_all before section tables after kept room now size numbers table view is si
     le_true : (a b : ℕ) → a ≤ b → nat_le a b ≡ true
     le_true a b h = grind (arith, common_steps)
 
-pub with_more : (before : KeptTables) (section : List ℕ) (tables after : List Table)
-    (kept room size : ℕ) (numbers : Numbers) (table : Table)
-    → (let seen : KeptTables = record { section = section; tables = tables; kept = kept } in
+pub with_more : (before : CachedTables) (section : List ℕ) (tables after : List Table)
+    (kept budget size : ℕ) (numbers : Numbers) (table : Table)
+    → (let seen : CachedTables = record { section = section; tables = tables; kept = kept } in
     seen ≡ before)
-    → after ≡ take kept tables ++ table ∷ [] → size ≡ table_size table → room < size
-    → AreKept section tables kept room numbers
-    → (let seen : KeptTables = record { section = section; tables = after; kept = kept } in
+    → after ≡ take kept tables ++ table ∷ [] → size ≡ table_size table → budget < size
+    → AreCached section tables kept budget numbers
+    → (let seen : CachedTables = record { section = section; tables = after; kept = kept } in
     seen ≡ with_table before table)
-with_more before section tables after kept room size numbers table view is size_is past all =
+with_more before section tables after kept budget size numbers table view is size_is past all =
     let sum : sum_by table_size (take kept tables ++ table ∷ [])
     ≡ sum_by table_size (take kept tables) + table_size table =
     sum_by_push table_size (take kept tables) table in
@@ -95,46 +96,48 @@ with_more before section tables after kept room size numbers table view is size_
     le_false a b h = grind (arith, common_steps)
 
 -- A cached table with more declarations than the remaining budget cannot be read.
-pub known_too_long : {X : Type 0} (section : List ℕ) (tables : List Table) (number len : ℕ)
-    (known d : Table) (offset left : ℕ) (read : List Declaration) → All (StandsIn section) tables
-    → slice_get tables number ≡ Some known
-    → known.offset ≡ offset → in_section sections.DebugAbbrev (declarations_of left section offset)
+pub known-too-long : {X : Type 0} (section : List ℕ) (tables : List Table) (number len : ℕ)
+    (memoized d : Table) (offset left : ℕ) (read : List Declaration)
+    → All (IsParsedFrom section) tables
+    → slice_get tables number ≡ Some memoized
+    → memoized.offset ≡ offset → in_section sections.DebugAbbrev (declarations_of left
+    section offset)
     ≡ Ok read → left ≤ declarations_limit → len ≡ length (get_or tables number d).declarations
     → left < len → X
-known_too_long section tables number len known d offset left read all at same is_read few len_is
+known-too-long section tables number len memoized d offset left read all at same is_read few len_is
     past =
     let ok : declarations_of left section offset ≡ Ok read =
-    in_section_ok sections.DebugAbbrev (declarations_of left section offset) read is_read in
-    let short : length read ≤ left = table_few left section offset read ok in
+    in_section-ok sections.DebugAbbrev (declarations_of left section offset) read is_read in
+    let short : length read ≤ left = table-few left section offset read ok in
     let again : declarations_of declarations_limit section offset ≡ Ok read =
-    table_again left declarations_limit section offset read ok (omega (arith, short, few)) in
-    let stands : declarations_of declarations_limit section offset ≡ Ok known.declarations =
-    known_stands section tables number known offset all at same in
-    let lens : length known.declarations ≡ length read =
-    ap (λ (ds : List Declaration). length ds) (same_ok (sym stands ∙ again)) in
-    let one : length (get_or tables number d).declarations ≡ length known.declarations =
+    table-again left declarations_limit section offset read ok (omega (arith, short, few)) in
+    let stands : declarations_of declarations_limit section offset ≡ Ok memoized.declarations =
+    known-stands section tables number memoized offset all at same in
+    let lens : length memoized.declarations ≡ length read =
+    ap (λ (ds : List Declaration). length ds) (same-ok (sym stands ∙ again)) in
+    let one : length (get_or tables number d).declarations ≡ length memoized.declarations =
     ap (λ (t : Table). length t.declarations)
-    (get_or_from_slice_get tables number known d at) in
+    (get_or_from_slice_get tables number memoized d at) in
     absurd (omega (arith, short, past, lens, len_is, one))
   where
-    same_ok : {x y : List Declaration} → (let f : List Declaration → Result (List Declaration) At =
+    same-ok : {x y : List Declaration} → (let f : List Declaration → Result (List Declaration) At =
         λ z. Ok z in f x ≡ f y) → x ≡ y
-    same_ok h = cc
+    same-ok h = cc
 
 -- If no cached table is at an offset and format, none is at those of the table that was parsed
 -- there.
-pub elsewhere_as : (table : Table) (format : Format) (offset : ℕ) (tables : List Table)
+pub elsewhere-as : (table : Table) (format : Format) (offset : ℕ) (tables : List Table)
     → table.offset ≡ offset → table.format ≡ format → AreElsewhere format offset tables
     → AreElsewhere table.format table.offset tables
-elsewhere_as table format offset tables place form elsewhere i t at is =
+elsewhere-as table format offset tables place form elsewhere i t at is =
     elsewhere i t at (is.0 ∙ place, is.1 ∙ form)
 
 -- Each table has only one index.
-pub known_once : (numbers : Numbers) (tables : List Table) (view : KeptTables) (format : Format)
+pub known-once : (numbers : Numbers) (tables : List Table) (view : CachedTables) (format : Format)
     (offset i j : ℕ) → tables ≡ view.tables → AreFound numbers tables
     → (t : Table) → slice_get view.tables i ≡ Some t → IsAt format offset t → (u : Table)
     → slice_get view.tables j ≡ Some u → IsAt format offset u → i ≡ j
-known_once numbers tables view format offset i j same found t at is u at_other is_other =
+known-once numbers tables view format offset i j same found t at is u at_other is_other =
     same_Some i j (sym (number_of t i at is) ∙ number_of u j at_other is_other)
   where
     number_of : (t : Table) (i : ℕ) → slice_get view.tables i ≡ Some t → IsAt format offset t

@@ -5,42 +5,44 @@ use Rattle.std.specs.List.{list_any}
 use Rattle.dwarf_bytes.specs.declared.fault.Cause.{Cause}
 use Rattle.dwarf_bytes.specs.declared.format.Format.{Format}
 use Rattle.dwarf_bytes.specs.Items.{Next, Item}
-use Rattle.dwarf_bytes.proofs.Advance.{MovesOn, after_bind, chosen}
+use Rattle.dwarf_bytes.proofs.Numbers.Advance.{MovesOn, after-bind, chosen}
 use Rattle.dwarf_forms.specs.Declarations.{Declaration}
-use Rattle.dwarf_bytes.proofs.Moves.{same_item}
-use Rattle.dwarf_units.specs.Entries.{Node, Standing, depth_after, is_root, node_behind, node_at}
-use Rattle.dwarf_units.proofs.EntryAdvances.{node_behind-moves}
+use Rattle.dwarf_bytes.proofs.Numbers.Moves.{same-item}
+use Rattle.dwarf_units.specs.Entries.{Node, LocatedNode, depth_after, is_root, node_at_depth}
+use Rattle.dwarf_units.specs.Entries.{node_at}
+use Rattle.dwarf_units.proofs.EntryAdvances.{node_at_depth-moves}
 
 -- A node that is read at an offset has this offset, the depth after the nodes before it, and at
 -- least one byte.
-pub record NodeFacts (unit : List ℕ) (before : List Standing) (at : ℕ) (x : Standing)
+pub record NodeFacts (unit : List ℕ) (before : List LocatedNode) (at : ℕ) (x : LocatedNode)
     (after : ℕ) : Type 0 where
   pub offset_is : x.offset ≡ at
   pub depth_is : x.depth ≡ depth_after before
   pub moves : MovesOn unit at after
 
-facts_of : (unit : List ℕ) (before : List Standing) (at : ℕ) (node : Node) (mid : ℕ) (x : Standing)
+facts_of : (unit : List ℕ) (before : List LocatedNode) (at : ℕ) (node : Node) (mid : ℕ)
+    (x : LocatedNode)
     (after : ℕ) → MovesOn unit at mid
-    → (let f : Next Standing → Result (Next Standing) Cause = λ z. Ok z in
+    → (let f : Next LocatedNode → Result (Next LocatedNode) Cause = λ z. Ok z in
     f (Item (record { offset = at; depth = depth_after before; node = node }) mid)
     ≡ f (Item x after)) → NodeFacts unit before at x after
 facts_of unit before at node mid x after moved h =
-    let same = same_item (record { offset = at; depth = depth_after before; node = node }) x mid
+    let same = same-item (record { offset = at; depth = depth_after before; node = node }) x mid
     after h in
     record {
-      offset_is = sym (ap (λ (s : Standing). s.offset) same.0);
-      depth_is = sym (ap (λ (s : Standing). s.depth) same.0);
+      offset_is = sym (ap (λ (s : LocatedNode). s.offset) same.0);
+      depth_is = sym (ap (λ (s : LocatedNode). s.depth) same.0);
       moves = subst (λ (k : ℕ). MovesOn unit at k) same.1 moved;
     }
 
 pub node_at-facts : (format : Format) (table : List Declaration) (unit : List ℕ)
-    (before : List Standing) (at : ℕ) (x : Standing) (after : ℕ)
+    (before : List LocatedNode) (at : ℕ) (x : LocatedNode) (after : ℕ)
     → node_at format table unit before at ≡ Ok (Item x after) → NodeFacts unit before at x after
 node_at-facts format table unit before at x after h =
     let P : Type 0 = NodeFacts unit before at x after in
     chosen (nat_le (length unit) at) _ _ (Ok (Item x after)) h P (λ _ is. cc) (λ _ h1.
-    after_bind (node_behind format table (depth_after before) (list_any is_root before) unit at) _
+    after-bind (node_at_depth format table (depth_after before) (list_any is_root before) unit at) _
     (Item x after) h1 P (λ node node_is last.
     facts_of unit before at node.0 node.1 x after
-    (node_behind-moves format table (depth_after before) (list_any is_root before) unit at node
+    (node_at_depth-moves format table (depth_after before) (list_any is_root before) unit at node
     node_is) last))

@@ -7,18 +7,19 @@ use Rattle.dwarf_bytes.specs.declared.fault.Cause.{Cause}
 use Rattle.dwarf_bytes.specs.declared.fault.Cause.TheVariants as causes
 use Rattle.dwarf_bytes.specs.declared.format.Format.{Format}
 use Rattle.dwarf_bytes.specs.Bind.{◌>>=◌}
-use Rattle.dwarf_bytes.proofs.Advance.{after_bind, after_test}
-use Rattle.dwarf_bytes.proofs.Moves.{same_ok}
+use Rattle.dwarf_bytes.proofs.Numbers.Advance.{after-bind, after-test}
+use Rattle.dwarf_bytes.proofs.Numbers.Moves.{same-ok}
 use Rattle.dwarf_forms.specs.declared.attribute.AttributeSpecification.{AttributeSpecification}
 use Rattle.dwarf_forms.specs.Values.{value_at}
 use Rattle.dwarf_units.specs.declared.attributes.Attribute.{Attribute}
 use Rattle.dwarf_units.specs.Attributes.{is_used, accepts, is_negative_count, number_of}
 use Rattle.dwarf_units.specs.Entries.{reading_value, form_at, attribute_at, attributes_at}
-use Rattle.dwarf_units.specs.Private.Plans.{kept_attributes, kept_attributes_at, step_of, steps_of}
-use Rattle.dwarf_units.specs.Private.Plans.{step_at, steps_at, in_front}
+use Rattle.dwarf_units.specs.Private.Plans.{stored_attributes, stored_attributes_at, step_of}
+use Rattle.dwarf_units.specs.Private.Plans.{steps_of, step_at, steps_at, prepend_attributes}
 use Rattle.dwarf_units.proofs.EntryAdvances.{attribute-stays}
 use Rattle.dwarf_units.proofs.PlanSteps.{step-is}
-use Rattle.dwarf_units.proofs.JoinedSteps.{in_front-none, in_front-twice, before-is}
+use Rattle.dwarf_units.proofs.JoinedSteps.{prepend_attributes-none, prepend_attributes-twice}
+use Rattle.dwarf_units.proofs.JoinedSteps.{before-is}
 
 -- ---- the attributes that are stored
 
@@ -26,13 +27,13 @@ attribute-name : (format : Format) (s : AttributeSpecification) (bytes : List �
     (x : Attribute × ℕ) → attribute_at format s bytes at ≡ Ok x → x.0.name ≡ s.name
 attribute-name format s bytes at x h =
     let P : Type 0 = x.0.name ≡ s.name in
-    after_bind (form_at s.form bytes at) _ x h P (λ form form_is h1.
-    after_test (not (accepts s.name form.0)) causes.AttrForm _ x h1 P (λ _ h2.
-    after_bind (reading_value (value_at form.0 format s.constant bytes form.1)) _ x h2 P
+    after-bind (form_at s.form bytes at) _ x h P (λ form form_is h1.
+    after-test (not (accepts s.name form.0)) causes.AttrForm _ x h1 P (λ _ h2.
+    after-bind (reading_value (value_at form.0 format s.constant bytes form.1)) _ x h2 P
     (λ value value_is h3.
-    after_test (is_negative_count s.name value.0.content) causes.AttrForm _ x h3 P (λ _ last.
+    after-test (is_negative_count s.name value.0.content) causes.AttrForm _ x h3 P (λ _ last.
     sym (ap (λ (r : Attribute × ℕ). r.0.name)
-    (same_ok (
+    (same-ok (
       record {
         name = s.name;
         value =
@@ -48,13 +49,13 @@ filter-cons p x xs true h = rw h refl
 filter-cons p x xs false h = rw h refl
 
 kept-cons : (keep : Bool) (name : ℕ) (a : Attribute) (rest : List Attribute) → a.name ≡ name
-    → cond (keep && is_used name) (a ∷ []) [] ++ kept_attributes keep rest
-    ≡ kept_attributes keep (a ∷ rest)
+    → cond (keep && is_used name) (a ∷ []) [] ++ stored_attributes keep rest
+    ≡ stored_attributes keep (a ∷ rest)
 kept-cons true name a rest h = filter-cons (λ (b : Attribute). is_used b.name) a rest (is_used name)
     (ap is_used h)
 kept-cons false name a rest h = refl
 
-kept-none : (keep : Bool) → kept_attributes keep [] ≡ []
+kept-none : (keep : Bool) → stored_attributes keep [] ≡ []
 kept-none true = refl
 kept-none false = refl
 
@@ -65,12 +66,12 @@ kept_one keeps a = Ok (cond keeps (a.0 ∷ []) [], a.1)
 abbrev behind : Attribute → List Attribute × ℕ → Result (List Attribute × ℕ) Cause
 behind a rest = Ok (a ∷ rest.0, rest.1)
 
-abbrev kept_all : Bool → List Attribute × ℕ → Result (List Attribute × ℕ) Cause
-kept_all keep all = Ok (kept_attributes keep all.0, all.1)
+abbrev kept-all : Bool → List Attribute × ℕ → Result (List Attribute × ℕ) Cause
+kept-all keep all = Ok (stored_attributes keep all.0, all.1)
 
 pub kept-is : (keep : Bool) (format : Format) (declared : List AttributeSpecification)
     (bytes : List ℕ) (at : ℕ) → at ≤ length bytes
-    → steps_at format (steps_of keep format declared) bytes at ≡ kept_attributes_at keep format
+    → steps_at format (steps_of keep format declared) bytes at ≡ stored_attributes_at keep format
     declared bytes at
 unfolding steps_at steps_of attributes_at
 kept-is keep format [] bytes at le = ap (λ (all : List Attribute). Ok (all, at))
@@ -82,19 +83,20 @@ kept-is keep format (s ∷ ss) bytes at le =
     (attribute_at format s bytes at) refl)
   where
     by_rest : (a : Attribute) → a.name ≡ s.name → (rest : Result (List Attribute × ℕ) Cause)
-        → in_front (cond (keep && is_used s.name) (a ∷ []) []) (rest >>= kept_all keep)
-        ≡ ((rest >>= behind a) >>= kept_all keep)
+        → prepend_attributes (cond (keep && is_used s.name) (a ∷ []) []) (rest >>= kept-all keep)
+        ≡ ((rest >>= behind a) >>= kept-all keep)
     by_rest a named (Ok rest) = ap (λ (all : List Attribute). Ok (all, rest.1))
         (kept-cons keep s.name a rest.0 named)
     by_rest a named (Err e) = refl
 
     by_first : ((place : ℕ) → place ≤ length bytes
-        → steps_at format (steps_of keep format ss) bytes place ≡ kept_attributes_at keep format ss
+        → steps_at format (steps_of keep format ss) bytes place ≡ stored_attributes_at keep
+        format ss
         bytes place) → (first : Result (Attribute × ℕ) Cause) → attribute_at format s bytes at
         ≡ first
-        → ((first >>= kept_one (keep && is_used s.name)) >>= λ first. in_front first.0
+        → ((first >>= kept_one (keep && is_used s.name)) >>= λ first. prepend_attributes first.0
         (steps_at format (steps_of keep format ss) bytes first.1))
-        ≡ ((first >>= λ a. attributes_at format ss bytes a.1 >>= behind a.0) >>= kept_all keep)
+        ≡ ((first >>= λ a. attributes_at format ss bytes a.1 >>= behind a.0) >>= kept-all keep)
     by_first rest (Ok a) is =
         rw (rest a.1 (attribute-stays format s bytes at a le is).1)
         (by_rest a.0 (attribute-name format s bytes at a is) (attributes_at format ss bytes a.1))
@@ -103,37 +105,40 @@ kept-is keep format (s ∷ ss) bytes at le =
 -- The steps of two concatenated lists of attributes.
 pub steps-both : (keep : Bool) (format : Format) (xs ys : List AttributeSpecification)
     (bytes : List ℕ) (at : ℕ) → steps_at format (steps_of keep format (xs ++ ys)) bytes at
-    ≡ (steps_at format (steps_of keep format xs) bytes at >>= λ first. in_front first.0
+    ≡ (steps_at format (steps_of keep format xs) bytes at >>= λ first. prepend_attributes first.0
     (steps_at format (steps_of keep format ys) bytes first.1))
 unfolding steps_at steps_of
 steps-both keep format [] ys bytes at = sym
-    (in_front-none (steps_at format (steps_of keep format ys) bytes at))
+    (prepend_attributes-none (steps_at format (steps_of keep format ys) bytes at))
 steps-both keep format (x ∷ xs) ys bytes at =
     before-is format (step_of keep format x) (steps_of keep format (xs ++ ys)) bytes at
     ∙ (by_first (λ place. steps-both keep format xs ys bytes place)
     (step_at format (step_of keep format x) bytes at)
-    ∙ ap (λ (r : Result (List Attribute × ℕ) Cause). r >>= λ first. in_front first.0
+    ∙ ap (λ (r : Result (List Attribute × ℕ) Cause). r >>= λ first. prepend_attributes first.0
     (steps_at format (steps_of keep format ys) bytes first.1))
     (sym (before-is format (step_of keep format x) (steps_of keep format xs) bytes at)))
   where
     by_rest : (kept : List Attribute) (rest : Result (List Attribute × ℕ) Cause)
-        → in_front kept (rest >>= λ next. in_front next.0
+        → prepend_attributes kept (rest >>= λ next. prepend_attributes next.0
         (steps_at format (steps_of keep format ys) bytes next.1))
-        ≡ (in_front kept rest >>= λ next. in_front next.0
+        ≡ (prepend_attributes kept rest >>= λ next. prepend_attributes next.0
         (steps_at format (steps_of keep format ys) bytes next.1))
-    by_rest kept (Ok rest) = in_front-twice kept rest.0
+    by_rest kept (Ok rest) = prepend_attributes-twice kept rest.0
         (steps_at format (steps_of keep format ys) bytes rest.1)
     by_rest kept (Err e) = refl
 
     by_first : ((place : ℕ) → steps_at format (steps_of keep format (xs ++ ys)) bytes place
-        ≡ (steps_at format (steps_of keep format xs) bytes place >>= λ first. in_front first.0
+        ≡ (steps_at format (steps_of keep format xs) bytes place
+        >>= λ first. prepend_attributes first.0
         (steps_at format (steps_of keep format ys) bytes first.1)))
         → (first : Result (List Attribute × ℕ) Cause)
-        → (first >>= λ first. in_front first.0
+        → (first >>= λ first. prepend_attributes first.0
         (steps_at format (steps_of keep format (xs ++ ys)) bytes first.1))
-        ≡ ((first >>= λ first. in_front first.0
+        ≡ ((first >>= λ first. prepend_attributes first.0
         (steps_at format (steps_of keep format xs) bytes first.1))
-        >>= λ next. in_front next.0 (steps_at format (steps_of keep format ys) bytes next.1))
-    by_first rest (Ok first) = ap (λ (r : Result (List Attribute × ℕ) Cause). in_front first.0 r)
+        >>= λ next. prepend_attributes next.0 (steps_at format (steps_of keep format ys)
+        bytes next.1))
+    by_first rest (Ok first) = ap (λ (r : Result (List Attribute × ℕ) Cause). prepend_attributes
+        first.0 r)
         (rest first.1) ∙ by_rest first.0 (steps_at format (steps_of keep format xs) bytes first.1)
     by_first rest (Err e) = refl

@@ -9,13 +9,13 @@ use Rattle.dwarf_bytes.specs.declared.format.Format.{Format}
 use Rattle.dwarf_bytes.specs.Bind.{◌>>=◌}
 use Rattle.dwarf_bytes.specs.Position.{Position}
 use Rattle.dwarf_bytes.specs.Refusals.{Fails}
-use Rattle.dwarf_bytes.proofs.Moves.{same_ok}
+use Rattle.dwarf_bytes.proofs.Numbers.Moves.{same-ok}
 use Rattle.dwarf_forms.specs.declared.attribute.AttributeSpecification.{AttributeSpecification}
 use Rattle.dwarf_units.specs.declared.attributes.Attribute.{Attribute}
 use Rattle.dwarf_units.specs.declared.steps.AttributeStep.{AttributeStep}
-use Rattle.dwarf_units.specs.Private.Plans.{step_at, steps_at, in_front, step_of, step_before}
-use Rattle.dwarf_units.specs.Private.Plans.{steps_of, Fills}
-use Rattle.dwarf_units.specs.Private.Used.{Used, used_among, with_used, used_behind}
+use Rattle.dwarf_units.specs.Private.Plans.{step_at, steps_at, prepend_attributes, step_of}
+use Rattle.dwarf_units.specs.Private.Plans.{step_before, steps_of, Fills}
+use Rattle.dwarf_units.specs.Private.Used.{Used, used_among, with_used, used_after}
 use Rattle.dwarf_units.specs.Private.Used.{used_attributes_at}
 use Rattle.dwarf_units.proofs.PlanLaws.{kept-is, steps-both}
 use Rattle.dwarf_units.proofs.UsedLaws.{among-behind, with-none, with-twice}
@@ -24,11 +24,11 @@ use Rattle.dwarf_units.proofs.UsedLaws.{among-behind, with-none, with-twice}
 -- result.
 abbrev pub KeptSoFar : Format → List AttributeStep → List ℕ → Used → ℕ → Result (Used × ℕ) Cause
     → Type 0
-KeptSoFar format left bytes used place whole = used_behind used (steps_at format left bytes place)
+KeptSoFar format left bytes used place whole = used_after used (steps_at format left bytes place)
     ≡ whole
 
 used-twice : (used : Used) (xs : List Attribute) (r : Result (List Attribute × ℕ) Cause)
-    → used_behind used (in_front xs r) ≡ used_behind (with_used used xs) r
+    → used_after used (prepend_attributes xs r) ≡ used_after (with_used used xs) r
 used-twice used xs (Ok rest) = ap (λ all. Ok (all, rest.1)) (sym (with-twice used xs rest.0))
 used-twice used xs (Err e) = refl
 
@@ -37,64 +37,66 @@ pub kept-more : (format : Format) (step : AttributeStep) (left behind : List Att
     (bytes : List ℕ) (used kept : Used) (old new : Position) (whole : Result (Used × ℕ) Cause)
     → left ≡ step ∷ behind → old.bytes ≡ bytes
     → KeptSoFar format left bytes used old.place whole
-    → used_behind used (step_at format step old.bytes old.place) ≡ Ok (kept, new.place)
+    → used_after used (step_at format step old.bytes old.place) ≡ Ok (kept, new.place)
     → KeptSoFar format behind bytes kept new.place whole
 unfolding steps_at
 kept-more format step left behind bytes used kept old new whole parts same so_far read =
-    sym (by_step (step_at format step bytes old.place) here)
-    ∙ (ap (λ (l : List AttributeStep). used_behind used (steps_at format l bytes old.place))
+    sym (by-step (step_at format step bytes old.place) here)
+    ∙ (ap (λ (l : List AttributeStep). used_after used (steps_at format l bytes old.place))
     (sym parts) ∙ so_far)
   where
-    here : used_behind used (step_at format step bytes old.place) ≡ Ok (kept, new.place)
-    here = subst (λ (b : List ℕ). used_behind used (step_at format step b old.place)
+    here : used_after used (step_at format step bytes old.place) ≡ Ok (kept, new.place)
+    here = subst (λ (b : List ℕ). used_after used (step_at format step b old.place)
         ≡ Ok (kept, new.place)) same read
 
-    by_step : (r : Result (List Attribute × ℕ) Cause) → used_behind used r ≡ Ok (kept, new.place)
-        → used_behind used (r >>= λ first. in_front first.0 (steps_at format behind bytes first.1))
-        ≡ used_behind kept (steps_at format behind bytes new.place)
-    by_step (Ok step) is =
-        let both = same_ok (with_used used step.0, step.1) (kept, new.place) is in
+    by-step : (r : Result (List Attribute × ℕ) Cause) → used_after used r ≡ Ok (kept, new.place)
+        → used_after used (r >>= λ first. prepend_attributes first.0 (steps_at format behind bytes
+        first.1))
+        ≡ used_after kept (steps_at format behind bytes new.place)
+    by-step (Ok step) is =
+        let both = same-ok (with_used used step.0, step.1) (kept, new.place) is in
         let all : with_used used step.0 ≡ kept = ap (λ (x : Used × ℕ). x.0) both in
         let place : step.1 ≡ new.place = ap (λ (x : Used × ℕ). x.1) both in
         rw (← all, ← place) (used-twice used step.0 (steps_at format behind bytes step.1))
-    by_step (Err e) is = cc
+    by-step (Err e) is = cc
 
 -- The whole read fails if a step fails or memory runs out.
 pub kept-fault : (format : Format) (step : AttributeStep) (left behind : List AttributeStep)
     (bytes : List ℕ) (used : Used) (old : Position) (cause : Cause)
     (whole : Result (Used × ℕ) Cause) → left ≡ step ∷ behind → old.bytes ≡ bytes
     → KeptSoFar format left bytes used old.place whole
-    → Fails cause (used_behind used (step_at format step old.bytes old.place)) → Fails cause whole
+    → Fails cause (used_after used (step_at format step old.bytes old.place)) → Fails cause whole
 unfolding steps_at
 kept-fault format step left behind bytes used old cause whole parts same so_far (inl memory) =
     inl memory
 kept-fault format step left behind bytes used old cause whole parts same so_far (inr read) =
-    inr (sym so_far ∙ (ap (λ (l : List AttributeStep). used_behind used
-    (steps_at format l bytes old.place)) parts ∙ by_step (step_at format step bytes old.place)
+    inr (sym so_far ∙ (ap (λ (l : List AttributeStep). used_after used
+    (steps_at format l bytes old.place)) parts ∙ by-step (step_at format step bytes old.place)
     here))
   where
-    here : used_behind used (step_at format step bytes old.place) ≡ Err cause
-    here = subst (λ (b : List ℕ). used_behind used (step_at format step b old.place) ≡ Err cause)
+    here : used_after used (step_at format step bytes old.place) ≡ Err cause
+    here = subst (λ (b : List ℕ). used_after used (step_at format step b old.place) ≡ Err cause)
         same read
 
-    by_step : (r : Result (List Attribute × ℕ) Cause) → used_behind used r ≡ Err cause
-        → used_behind used (r >>= λ first. in_front first.0 (steps_at format behind bytes first.1))
+    by-step : (r : Result (List Attribute × ℕ) Cause) → used_after used r ≡ Err cause
+        → used_after used (r >>= λ first. prepend_attributes first.0 (steps_at format behind bytes
+        first.1))
         ≡ Err cause
-    by_step (Ok step) is = cc
-    by_step (Err e) is = is
+    by-step (Ok step) is = cc
+    by-step (Err e) is = is
 
 pub kept-end : (format : Format) (left : List AttributeStep) (bytes : List ℕ) (used : Used)
     (place : ℕ) (whole : Result (Used × ℕ) Cause) → left ≡ []
     → KeptSoFar format left bytes used place whole → whole ≡ Ok (used, place)
 unfolding steps_at
 kept-end format left bytes used place whole none so_far =
-    sym so_far ∙ (ap (λ (l : List AttributeStep). used_behind used (steps_at format l bytes place))
+    sym so_far ∙ (ap (λ (l : List AttributeStep). used_after used (steps_at format l bytes place))
     none ∙ ap (λ (all : Used). Ok (all, place)) (with-none used))
 
 -- ---- unshared attributes and the attributes after them
 
 -- Attributes that are added to an empty set are all of the result.
-used-first : (r : Result (List Attribute × ℕ) Cause) → used_behind (used_among []) r
+used-first : (r : Result (List Attribute × ℕ) Cause) → used_after (used_among []) r
     ≡ (r >>= λ kept. Ok (used_among kept.0, kept.1))
 used-first (Ok kept) = ap (λ all. Ok (all, kept.1)) (among-behind [] kept.0)
 used-first (Err e) = refl
@@ -102,32 +104,32 @@ used-first (Err e) = refl
 -- The unshared attributes, completed by the shared ones.
 both-is : (keep : Bool) (format : Format) (own rest : List AttributeSpecification) (bytes : List ℕ)
     (first : ℕ) (here : Result (Used × ℕ) Cause) → first ≤ length bytes
-    → used_behind (used_among []) (steps_at format (steps_of keep format own) bytes first) ≡ here
+    → used_after (used_among []) (steps_at format (steps_of keep format own) bytes first) ≡ here
     → used_attributes_at keep format (own ++ rest) bytes first
-    ≡ (here >>= λ next. used_behind next.0
+    ≡ (here >>= λ next. used_after next.0
     (steps_at format (steps_of keep format rest) bytes next.1))
 both-is keep format own rest bytes first here within is =
     ap (λ (r : Result (List Attribute × ℕ) Cause). r >>= λ kept. Ok (used_among kept.0, kept.1))
     (sym (kept-is keep format (own ++ rest) bytes first within)
     ∙ steps-both keep format own rest bytes first)
     ∙ (by_own (steps_at format (steps_of keep format own) bytes first)
-    ∙ ap (λ (r : Result (Used × ℕ) Cause). r >>= λ next. used_behind next.0
+    ∙ ap (λ (r : Result (Used × ℕ) Cause). r >>= λ next. used_after next.0
     (steps_at format (steps_of keep format rest) bytes next.1)) is)
   where
     behind : ℕ → Result (List Attribute × ℕ) Cause
     behind place = steps_at format (steps_of keep format rest) bytes place
 
     by_own : (r : Result (List Attribute × ℕ) Cause)
-        → ((r >>= λ next. in_front next.0 (behind next.1))
+        → ((r >>= λ next. prepend_attributes next.0 (behind next.1))
         >>= λ kept. Ok (used_among kept.0, kept.1))
-        ≡ (used_behind (used_among []) r >>= λ next. used_behind next.0 (behind next.1))
-    by_own (Ok next) = sym (used-first (in_front next.0 (behind next.1)))
+        ≡ (used_after (used_among []) r >>= λ next. used_after next.0 (behind next.1))
+    by_own (Ok next) = sym (used-first (prepend_attributes next.0 (behind next.1)))
         ∙ used-twice (used_among []) next.0 (behind next.1)
     by_own (Err e) = refl
 
 pub own-fault : (keep : Bool) (format : Format) (own rest : List AttributeSpecification)
     (bytes : List ℕ) (first : ℕ) (cause : Cause) → first ≤ length bytes
-    → Fails cause (used_behind (used_among [])
+    → Fails cause (used_after (used_among [])
     (steps_at format (steps_of keep format own) bytes first))
     → Fails cause (used_attributes_at keep format (own ++ rest) bytes first)
 own-fault keep format own rest bytes first cause within (inl memory) = inl memory
@@ -138,14 +140,14 @@ own-fault keep format own rest bytes first cause within (inr here) =
 -- declaration.
 pub read-both : (keep : Bool) (format : Format) (own rest : List AttributeSpecification)
     (old mid new : Position) (kept used : Used) (result : Result (Unit {0}) Cause)
-    → old.place ≤ length old.bytes → used_behind (used_among [])
+    → old.place ≤ length old.bytes → used_after (used_among [])
     (steps_at format (steps_of keep format own) old.bytes old.place) ≡ Ok (kept, mid.place)
     → mid.bytes ≡ old.bytes → Fills result used
-    (λ bytes at. used_behind kept (steps_at format (steps_of keep format rest) bytes at)) mid
+    (λ bytes at. used_after kept (steps_at format (steps_of keep format rest) bytes at)) mid
     new → Fills result used (used_attributes_at keep format (own ++ rest)) old new
 read-both keep format own rest old mid new kept used (Ok u) within here same behind = (
   both-is keep format own rest old.bytes old.place (Ok (kept, mid.place)) within here
-      ∙ subst (λ (b : List ℕ). used_behind kept
+      ∙ subst (λ (b : List ℕ). used_after kept
       (steps_at format (steps_of keep format rest) b mid.place) ≡ Ok (used, new.place)) same
       behind.0,
   behind.1 ∙ same,
@@ -154,7 +156,7 @@ read-both keep format own rest old mid new kept used (Err cause) within here sam
     inl memory
 read-both keep format own rest old mid new kept used (Err cause) within here same (inr behind) =
     inr (both-is keep format own rest old.bytes old.place (Ok (kept, mid.place)) within here
-    ∙ subst (λ (b : List ℕ). used_behind kept
+    ∙ subst (λ (b : List ℕ). used_after kept
     (steps_at format (steps_of keep format rest) b mid.place) ≡ Err cause) same behind)
 
 -- ---- the steps of a declaration, built from its last attribute

@@ -10,31 +10,32 @@ use Rattle.std.proofs.lemmas.List.{length-map, take_all}
 use Rattle.std.proofs.lemmas.List.Folds.{fold-map}
 use Rattle.std.proofs.lemmas.Option.{slice_get-map}
 use Rattle.dwarf_forms.specs.declared.attribute.AttributeSpecification.{AttributeSpecification}
-use Rattle.dwarf_forms.specs.declared.known_lists.KnownAttribute.{KnownAttribute}
+use Rattle.dwarf_forms.specs.declared.memoized_lists.MemoizedAttribute.{MemoizedAttribute}
 use Rattle.dwarf_forms.specs.declared.shared.TheConstants.{UNSHARED}
 use Rattle.dwarf_forms.specs.Declarations.{Declaration}
-use Rattle.dwarf_forms.specs.Private.Known.{rest_attributes}
+use Rattle.dwarf_forms.specs.Private.Memoized.{rest_attributes}
 use Rattle.dwarf_forms.specs.Private.Shared.{IsShared, SharedAttributes, all_of}
-use Rattle.dwarf_forms.specs.Private.SharedTables.{AreTold, SharedDeclaration, tell, told}
+use Rattle.dwarf_forms.specs.Private.SharedTables.{AreShared, SharedDeclaration, full_declarations}
+use Rattle.dwarf_forms.specs.Private.SharedTables.{full_declaration}
 use Rattle.dwarf_forms.proofs.Codes.{find-place}
-use Rattle.dwarf_forms.proofs.SharedTableLaws.{told-grows, told-stays}
+use Rattle.dwarf_forms.proofs.SharedTableLaws.{resolved-grows, resolved-stays}
 use Rattle.dwarf_units.specs.Entries.{declaration_of}
 use Rattle.dwarf_units.specs.Private.Heads.{Head, head_in}
 use Rattle.dwarf_units.specs.Private.Links.{IsLinked, LinkedPlaces, LinksGrow}
 use Rattle.dwarf_units.specs.Private.Plans.{Planned, Table, own_attributes, plan_len, plan_of}
 use Rattle.dwarf_units.specs.Private.Plans.{table_size}
-use Rattle.dwarf_units.specs.Private.SharedTables.{IsReadable, SharedTable, own_size, told_table}
-use Rattle.dwarf_units.specs.Private.SharedTables.{told_tables}
+use Rattle.dwarf_units.specs.Private.SharedTables.{IsReadable, SharedTable, own_size, full_table}
+use Rattle.dwarf_units.specs.Private.SharedTables.{full_tables}
 
 -- The declaration of a code and its plan, by their common index.
-pub planned_at : {D : Type 0} (p : D → Bool) (plan_for : D → Planned) (table : List D)
+pub planned-at : {D : Type 0} (p : D → Bool) (plan_for : D → Planned) (table : List D)
     (plans : List Planned) (place : ℕ) (declaration : D) (plan : Planned)
     → position p table ≡ Some place → plans ≡ map plan_for table
     → slice_get table place ≡ Some declaration → slice_get plans place ≡ Some plan
     → (find p table ≡ Some declaration) × (plan ≡ plan_for declaration)
-planned_at p plan_for table plans place declaration plan at are here planned = (
+planned-at p plan_for table plans place declaration plan at are here declaration_and_plan = (
   find-place p table (Some place) at ∙ here,
-  same_some (sym planned ∙ (ap (λ (ps : List Planned). slice_get ps place) are
+  same_some (sym declaration_and_plan ∙ (ap (λ (ps : List Planned). slice_get ps place) are
       ∙ (slice_get-map plan_for table place ∙ ap (λ d. option_map plan_for d) here))),
 )
   where
@@ -43,44 +44,49 @@ planned_at p plan_for table plans place declaration plan at are here planned = (
     same_some h = cc
 
 -- The same declaration, with all attributes.
-pub found_told : (known : List KnownAttribute) (code : ℕ) (ds : List SharedDeclaration)
+pub found-full : (memoized : List MemoizedAttribute) (code : ℕ) (ds : List SharedDeclaration)
     (found : Option SharedDeclaration) → find (λ d. d.code == code) ds ≡ found
-    → find (λ d. d.code == code) (tell known ds) ≡ option_map (told known) found
-found_told known code ds found is = find-told ds ∙ ap (λ o. option_map (told known) o) is
+    → find (λ d. d.code == code) (full_declarations memoized ds)
+    ≡ option_map (full_declaration memoized) found
+found-full memoized code ds found is = find-resolved ds
+    ∙ ap (λ o. option_map (full_declaration memoized) o) is
   where
-    find-told : (ds : List SharedDeclaration)
-        → find (λ (d : Declaration). d.code == code) (tell known ds)
-        ≡ option_map (told known) (find (λ d. d.code == code) ds)
-    find-told [] = refl
-    find-told (d ∷ ds) = by_test (d.code == code) (find-told ds)
+    find-resolved : (ds : List SharedDeclaration)
+        → find (λ (d : Declaration). d.code == code) (full_declarations memoized ds)
+        ≡ option_map (full_declaration memoized) (find (λ d. d.code == code) ds)
+    find-resolved [] = refl
+    find-resolved (d ∷ ds) = by_test (d.code == code) (find-resolved ds)
       where
-        by_test : (b : Bool) → find (λ (d : Declaration). d.code == code) (tell known ds)
-            ≡ option_map (told known) (find (λ d. d.code == code) ds)
-            → cond b (Some (told known d))
-            (find (λ (d : Declaration). d.code == code) (tell known ds))
-            ≡ option_map (told known) (cond b (Some d) (find (λ d. d.code == code) ds))
+        by_test : (b : Bool) → find (λ (d : Declaration). d.code == code)
+            (full_declarations memoized ds)
+            ≡ option_map (full_declaration memoized) (find (λ d. d.code == code) ds)
+            → cond b (Some (full_declaration memoized d))
+            (find (λ (d : Declaration). d.code == code) (full_declarations memoized ds))
+            ≡ option_map (full_declaration memoized) (cond b (Some d)
+            (find (λ d. d.code == code) ds))
         by_test true rest = refl
         by_test false rest = rest
 
 abbrev heads_by : Table → Option Declaration → Option Head
 heads_by table found = option_map (head_in table) found
 
-pub head_found : (known : List KnownAttribute) (shared : SharedTable) (table : Table) (code : ℕ)
-    (found : Option SharedDeclaration) → told_table known shared ≡ table
+pub head-found : (memoized : List MemoizedAttribute) (shared : SharedTable) (table : Table)
+    (code : ℕ)
+    (found : Option SharedDeclaration) → full_table memoized shared ≡ table
     → find (λ d. d.code == code) shared.declarations ≡ found
-    → heads_by (told_table known shared) (option_map (told known) found)
+    → heads_by (full_table memoized shared) (option_map (full_declaration memoized) found)
     ≡ option_map (head_in table) (declaration_of table.declarations code)
-head_found known shared table code found view is =
-    ap (heads_by (told_table known shared))
-    (sym (found_told known code shared.declarations found is))
+head-found memoized shared table code found view is =
+    ap (heads_by (full_table memoized shared))
+    (sym (found-full memoized code shared.declarations found is))
     ∙ ap (λ (t : Table). heads_by t (declaration_of t.declarations code)) view
 
 -- A property of every element is a property of the element that is found.
-pub all_found : {D : Type 0} (P : D → Type 0) (p : D → Bool) (xs : List D) (x : D) → All P xs
+pub all-found : {D : Type 0} (P : D → Type 0) (p : D → Bool) (xs : List D) (x : D) → All P xs
     → find p xs ≡ Some x → P x
-all_found P p [] x all is = cc
-all_found P p (y ∷ ys) x all is = by_test
-    (λ rest. all_found P p ys x (λ k d lt. all (suc k) d (omega (arith, lt))) rest) (p y) is
+all-found P p [] x all is = cc
+all-found P p (y ∷ ys) x all is = by_test
+    (λ rest. all-found P p ys x (λ k d lt. all (suc k) d (omega (arith, lt))) rest) (p y) is
   where
     same_some : {D : Type 0} (a b : D) → (let f : D → Option D = λ t. Some t in f a ≡ f b) → a ≡ b
     same_some a b h = cc
@@ -92,12 +98,13 @@ all_found P p (y ∷ ys) x all is = by_test
 -- ---- the size of a table
 
 -- The size is computed from the declarations and plans.
-pub size_sum : (inner table : SharedTable) (ds : List SharedDeclaration) (plans : List Planned)
+pub size-sum : (inner table : SharedTable) (ds : List SharedDeclaration) (plans : List Planned)
     (len attributes steps : ℕ) → inner ≡ table → ds ≡ inner.declarations
     → plans ≡ map (λ d. plan_of inner.format d.list.own) inner.declarations
     → len ≡ length table.declarations → attributes ≡ sum_by (λ d. length d.list.own) ds
     → steps ≡ sum_by plan_len plans → len + attributes + steps ≡ own_size table
-size_sum inner table ds plans len attributes steps view same planned len_is attributes_are
+size-sum inner table ds plans len attributes steps view same declaration_and_plan len_is
+    attributes_are
     steps_are =
     let a : attributes ≡ sum_by (λ (d : SharedDeclaration). length d.list.own) table.declarations =
     attributes_are ∙ ap (λ (xs : List SharedDeclaration). sum_by
@@ -105,7 +112,7 @@ size_sum inner table ds plans len attributes steps view same planned len_is attr
     (same ∙ ap (λ (t : SharedTable). t.declarations) view) in
     let s : steps ≡ sum_by (λ (d : SharedDeclaration). plan_len (plan_of table.format d.list.own))
     table.declarations =
-    steps_are ∙ (ap (λ (ps : List Planned). sum_by plan_len ps) planned
+    steps_are ∙ (ap (λ (ps : List Planned). sum_by plan_len ps) declaration_and_plan
     ∙ (fold-map (λ (a : ℕ) (p : Planned). a + plan_len p)
     (λ (d : SharedDeclaration). plan_of inner.format d.list.own) 0 inner.declarations
     ∙ ap (λ (t : SharedTable). sum_by (λ (d : SharedDeclaration). plan_len
@@ -113,46 +120,50 @@ size_sum inner table ds plans len attributes steps view same planned len_is attr
     omega (arith, len_is, a, s)
 
 -- The unshared attributes of a declaration are the first ones of all.
-own-first : (known : List KnownAttribute) (list : SharedAttributes) → IsShared known list
-    → take UNSHARED (all_of known list) ≡ list.own
-own-first known list is = by_rest list.rest is.full
+own-first : (memoized : List MemoizedAttribute) (list : SharedAttributes) → IsShared memoized list
+    → take UNSHARED (all_of memoized list) ≡ list.own
+own-first memoized list is = by_rest list.rest is.full
   where
     by_rest : (rest : Option ℕ) → IfSome rest (λ _. length list.own ≡ UNSHARED)
-        → take UNSHARED (list.own ++ rest_attributes known rest) ≡ list.own
+        → take UNSHARED (list.own ++ rest_attributes memoized rest) ≡ list.own
     by_rest None full = ap (take UNSHARED) (append-nil list.own) ∙ take_all UNSHARED list.own is.few
     by_rest (Some number) full = subst (λ (n : ℕ). take n
-        (list.own ++ rest_attributes known (Some number)) ≡ list.own) full
-        (take-append_seam list.own (rest_attributes known (Some number)))
+        (list.own ++ rest_attributes memoized (Some number)) ≡ list.own) full
+        (take-append_seam list.own (rest_attributes memoized (Some number)))
 
-own-lists : (known : List KnownAttribute) (ds : List SharedDeclaration) → AreTold known ds
-    → map own_attributes (tell known ds) ≡ map (λ d. d.list.own) ds
-own-lists known [] are = refl
-own-lists known (d ∷ ds) are =
-    let first : own_attributes (told known d) ≡ d.list.own =
-    own-first known d.list (are 0 d (omega arith)) in
-    let rest : map own_attributes (tell known ds) ≡ map (λ (d : SharedDeclaration). d.list.own) ds =
-    own-lists known ds (λ k e lt. are (suc k) e (omega (arith, lt))) in
+own-lists : (memoized : List MemoizedAttribute) (ds : List SharedDeclaration)
+    → AreShared memoized ds
+    → map own_attributes (full_declarations memoized ds) ≡ map (λ d. d.list.own) ds
+own-lists memoized [] are = refl
+own-lists memoized (d ∷ ds) are =
+    let first : own_attributes (full_declaration memoized d) ≡ d.list.own =
+    own-first memoized d.list (are 0 d (omega arith)) in
+    let rest : map own_attributes (full_declarations memoized ds)
+    ≡ map (λ (d : SharedDeclaration). d.list.own) ds =
+    own-lists memoized ds (λ k e lt. are (suc k) e (omega (arith, lt))) in
     rw (first, rest) refl
 
-own-sum : (known : List KnownAttribute) (ds : List SharedDeclaration)
-    (size : List AttributeSpecification → ℕ) → AreTold known ds
-    → sum_by (λ d. size (own_attributes d)) (tell known ds) ≡ sum_by (λ d. size d.list.own) ds
-own-sum known ds size are =
+own-sum : (memoized : List MemoizedAttribute) (ds : List SharedDeclaration)
+    (size : List AttributeSpecification → ℕ) → AreShared memoized ds
+    → sum_by (λ d. size (own_attributes d)) (full_declarations memoized ds)
+    ≡ sum_by (λ d. size d.list.own) ds
+own-sum memoized ds size are =
     sym (fold-map (λ (a : ℕ) (l : List AttributeSpecification). a + size l) own_attributes 0
-    (tell known ds))
-    ∙ (ap (λ (ls : List (List AttributeSpecification)). sum_by size ls) (own-lists known ds are)
+    (full_declarations memoized ds))
+    ∙ (ap (λ (ls : List (List AttributeSpecification)). sum_by size ls) (own-lists memoized ds are)
     ∙ fold-map (λ (a : ℕ) (l : List AttributeSpecification). a + size l)
     (λ (d : SharedDeclaration). d.list.own) 0 ds)
 
-pub own_size-is : (known : List KnownAttribute) (table : SharedTable)
-    → AreTold known table.declarations → own_size table ≡ table_size (told_table known table)
-own_size-is known table are =
+pub own_size-is : (memoized : List MemoizedAttribute) (table : SharedTable)
+    → AreShared memoized table.declarations → own_size table
+    ≡ table_size (full_table memoized table)
+own_size-is memoized table are =
     omega (
       arith,
-      length-map table.declarations (told known),
-      own-sum known table.declarations
+      length-map table.declarations (full_declaration memoized),
+      own-sum memoized table.declarations
           length are,
-      own-sum known table.declarations (λ l. plan_len (plan_of table.format l)) are,
+      own-sum memoized table.declarations (λ l. plan_len (plan_of table.format l)) are,
     )
 
 -- ---- more attributes are memoized
@@ -160,7 +171,7 @@ own_size-is known table are =
 pub readable-grows : (old new : LinkedPlaces) (table : SharedTable) → LinksGrow old new
     → IsReadable old table → IsReadable new table
 readable-grows old new table grows is = record {
-  told = told-grows old.places new.places table.declarations grows.places is.told;
+  resolved = resolved-grows old.places new.places table.declarations grows.places is.resolved;
   linked = λ k d lt. by_rest _ (is.linked k d lt);
 }
   where
@@ -169,19 +180,20 @@ readable-grows old new table grows is = record {
     by_rest (Some number) is = omega (arith, is, grows.linked table.format)
 
 pub table-stays : (old new : LinkedPlaces) (table : SharedTable) → LinksGrow old new
-    → IsReadable old table → told_table new.places.known table ≡ told_table old.places.known table
+    → IsReadable old table → full_table new.places.memoized table
+    ≡ full_table old.places.memoized table
 table-stays old new table grows is =
     ap (λ (ds : List Declaration). let t : Table =
     record { offset = table.offset; format = table.format; declarations = ds } in t)
-    (told-stays old.places new.places table.declarations grows.places is.told)
+    (resolved-stays old.places new.places table.declarations grows.places is.resolved)
 
 pub tables-stay : (old new : LinkedPlaces) (tables : List SharedTable) → LinksGrow old new
-    → All (IsReadable old) tables → told_tables new.places.known tables
-    ≡ told_tables old.places.known tables
+    → All (IsReadable old) tables → full_tables new.places.memoized tables
+    ≡ full_tables old.places.memoized tables
 tables-stay old new [] grows are = refl
 tables-stay old new (t ∷ ts) grows are =
-    let first : told_table new.places.known t ≡ told_table old.places.known t =
+    let first : full_table new.places.memoized t ≡ full_table old.places.memoized t =
     table-stays old new t grows (are 0 t (omega arith)) in
-    let rest : told_tables new.places.known ts ≡ told_tables old.places.known ts =
+    let rest : full_tables new.places.memoized ts ≡ full_tables old.places.memoized ts =
     tables-stay old new ts grows (λ k u lt. are (suc k) u (omega (arith, lt))) in
     rw (first, rest) refl

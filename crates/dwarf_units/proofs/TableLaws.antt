@@ -14,15 +14,15 @@ use Rattle.dwarf_bytes.specs.declared.fault.Section.TheVariants as sections
 use Rattle.dwarf_bytes.specs.declared.fault.LoadFault.{LoadFault}
 use Rattle.dwarf_bytes.specs.Items.{At, each_from, each}
 use Rattle.dwarf_bytes.specs.Refusals.{memory_fault, in_section}
-use Rattle.dwarf_bytes.proofs.EachLaws.{made_front, each-next, each-fault, each-end}
-use Rattle.dwarf_bytes.proofs.EachPlaces.{each-place}
+use Rattle.dwarf_bytes.proofs.Items.EachLaws.{made_front, each-next, each-fault, each-end}
+use Rattle.dwarf_bytes.proofs.Items.EachPlaces.{each-place}
 use Rattle.dwarf_forms.specs.Declarations.{Declaration}
 use Rattle.dwarf_bytes.specs.Bind.{◌>>=◌}
 use Rattle.dwarf_forms.specs.Tables.{table_at, declarations_of}
-use Rattle.dwarf_forms.proofs.SpelledTables.{table_spelled, table_read}
+use Rattle.dwarf_forms.proofs.EncodedTables.{table-spelled, table_read}
 use Rattle.dwarf_units.specs.declared.unit_headers.UnitHeader.{UnitHeader}
 use Rattle.dwarf_units.specs.Private.Plans.{Table}
-use Rattle.dwarf_units.specs.Private.Tables.{StandsIn}
+use Rattle.dwarf_units.specs.Private.Tables.{IsParsedFrom}
 use Rattle.dwarf_units.specs.Units.{declarations_limit, tables_of}
 
 abbrev pub table_for : List ℕ → List (List Declaration) → UnitHeader → Result (List Declaration) At
@@ -37,24 +37,24 @@ pub record Judged (section : List ℕ) (units : List UnitHeader) (index left : �
   pub read : made_front made (each_from (table_for section) made (drop index units))
       ≡ each_from (table_for section) [] units
 
-pub in_section_ok : {X : Type 0} (section : Section) (r : Result X At) (x : X)
+pub in_section-ok : {X : Type 0} (section : Section) (r : Result X At) (x : X)
     → in_section section r ≡ Ok x → r ≡ Ok x
-in_section_ok section (Ok y) x h = cc
-in_section_ok section (Err e) x h = cc
+in_section-ok section (Ok y) x h = cc
+in_section-ok section (Err e) x h = cc
 
-pub judged_next : (section : List ℕ) (units : List UnitHeader) (index left after : ℕ)
+pub judged-next : (section : List ℕ) (units : List UnitHeader) (index left after : ℕ)
     (d : UnitHeader) (table : List Declaration) → Judged section units index left
     → index < length units
     → in_section sections.DebugAbbrev (declarations_of left section
     (get_or units index d).abbreviations) ≡ Ok table → after + length table ≡ left
     → Judged section units (index + 1) after
-judged_next section units index left after d table so_far within found counted =
+judged-next section units index left after d table so_far within found counted =
     let unit = get_or units index d in
-    let room : left ≡ declarations_limit - sum_by length so_far.made =
+    let budget : left ≡ declarations_limit - sum_by length so_far.made =
     omega (arith, so_far.counted) in
     let here : table_for section so_far.made unit ≡ Ok table =
-    ap (λ (k : ℕ). declarations_of k section unit.abbreviations) (sym room)
-    ∙ in_section_ok sections.DebugAbbrev (declarations_of left section unit.abbreviations) table
+    ap (λ (k : ℕ). declarations_of k section unit.abbreviations) (sym budget)
+    ∙ in_section-ok sections.DebugAbbrev (declarations_of left section unit.abbreviations) table
     found in
     let rest : drop index units ≡ unit ∷ drop (index + 1) units =
     rw (add-one, drop-cons units index d within) refl in
@@ -69,11 +69,11 @@ judged_next section units index left after d table so_far within found counted =
           (each_from (table_for section) so_far.made us)) (sym rest) ∙ so_far.read);
     }
 
-pub judged_end : (section : List ℕ) (units : List UnitHeader) (index left : ℕ)
+pub judged-end : (section : List ℕ) (units : List UnitHeader) (index left : ℕ)
     → Judged section units index left → length units ≤ index → (tables : List (List Declaration))
     × (in_section sections.DebugAbbrev (tables_of section units) ≡ Ok tables)
 unfolding tables_of
-judged_end section units index left so_far past =
+judged-end section units index left so_far past =
     let none : drop index units ≡ [] = drop_all index units past in
     let all : each_from (table_for section) [] units ≡ Ok so_far.made =
     sym so_far.read ∙ (ap (λ (us : List UnitHeader). made_front so_far.made
@@ -81,15 +81,15 @@ judged_end section units index left so_far past =
     so_far.made) in
     (so_far.made, rw all refl)
 
-pub judged_fault : (section : List ℕ) (units : List UnitHeader) (index left : ℕ) (d : UnitHeader)
+pub judged-fault : (section : List ℕ) (units : List UnitHeader) (index left : ℕ) (d : UnitHeader)
     (fault : LoadFault) → Judged section units index left → index < length units
     → (fault ≡ memory_fault) ⊎ (in_section sections.DebugAbbrev
     (declarations_of left section (get_or units index d).abbreviations) ≡ Err fault)
     → (fault ≡ memory_fault) ⊎ (in_section sections.DebugAbbrev (tables_of section units)
     ≡ Err fault)
 unfolding tables_of
-judged_fault section units index left d fault so_far within (inl memory) = inl memory
-judged_fault section units index left d fault so_far within (inr bad) =
+judged-fault section units index left d fault so_far within (inl memory) = inl memory
+judged-fault section units index left d fault so_far within (inr bad) =
     by_read (declarations_of left section (get_or units index d).abbreviations) refl bad
   where
     same_err : {X : Type 0} (x y : LoadFault)
@@ -103,11 +103,11 @@ judged_fault section units index left d fault so_far within (inr bad) =
         ≡ Err fault)
     by_read (Ok x) read h = cc
     by_read (Err e) read h =
-        let room : left ≡ declarations_limit - sum_by length so_far.made =
+        let budget : left ≡ declarations_limit - sum_by length so_far.made =
         omega (arith, so_far.counted) in
         let here : table_for section so_far.made (get_or units index d) ≡ Err e =
         ap (λ (k : ℕ). declarations_of k section (get_or units index d).abbreviations)
-        (sym room) ∙ read in
+        (sym budget) ∙ read in
         let rest : drop index units ≡ get_or units index d ∷ drop (index + 1) units =
         rw (add-one, drop-cons units index d within) refl in
         let all : each_from (table_for section) [] units ≡ Err e =
@@ -119,44 +119,44 @@ judged_fault section units index left d fault so_far within (inr bad) =
         (record { section = sections.DebugAbbrev; cause = e.0; at = e.1 }) fault h)))
 
 -- A table that was parsed is parsed to the same result with any budget that is large enough.
-pub table_again : (room other : ℕ) (section : List ℕ) (offset : ℕ) (table : List Declaration)
-    → declarations_of room section offset ≡ Ok table → length table ≤ other
+pub table-again : (budget other : ℕ) (section : List ℕ) (offset : ℕ) (table : List Declaration)
+    → declarations_of budget section offset ≡ Ok table → length table ≤ other
     → declarations_of other section offset ≡ Ok table
 unfolding table_at
-table_again room other section offset table read few =
-    by_read (table_at room section offset) refl read
+table-again budget other section offset table read few =
+    by_read (table_at budget section offset) refl read
   where
     same_table : {x y : List Declaration}
         → (let f : List Declaration → Result (List Declaration) At = λ z. Ok z in f x ≡ f y) → x ≡ y
     same_table h = cc
 
-    by_read : (r : Result (List Declaration × ℕ) At) → table_at room section offset ≡ r
+    by_read : (r : Result (List Declaration × ℕ) At) → table_at budget section offset ≡ r
         → (r >>= λ found. Ok found.0) ≡ Ok table → declarations_of other section offset ≡ Ok table
     by_read (Err e) is h = cc
     by_read (Ok found) is h =
-        let spelled = table_spelled room section offset found.0 found.1 is in
+        let encoded = table-spelled budget section offset found.0 found.1 is in
         let same = same_table h in
         let again : table_at other section offset ≡ Ok (found.0, found.1) =
-        table_read other section offset found.0 found.1 spelled.0 spelled.1
+        table_read other section offset found.0 found.1 encoded.0 encoded.1
         (subst (λ (t : List Declaration). length t ≤ other) (sym same) few) in
         ap (λ (r : Result (List Declaration × ℕ) At). r
         >>= λ found. (let f : List Declaration → Result (List Declaration) At = λ z. Ok z in
         f found.0)) again ∙ ap (λ (t : List Declaration). Ok t) same
 
 -- A table has no more declarations than the budget.
-pub table_few : (room : ℕ) (section : List ℕ) (offset : ℕ) (table : List Declaration)
-    → declarations_of room section offset ≡ Ok table → length table ≤ room
-table_few room section offset table read = by_read (table_at room section offset) refl read
+pub table-few : (budget : ℕ) (section : List ℕ) (offset : ℕ) (table : List Declaration)
+    → declarations_of budget section offset ≡ Ok table → length table ≤ budget
+table-few budget section offset table read = by_read (table_at budget section offset) refl read
   where
     same_table : {x y : List Declaration}
         → (let f : List Declaration → Result (List Declaration) At = λ z. Ok z in f x ≡ f y) → x ≡ y
     same_table h = cc
 
-    by_read : (r : Result (List Declaration × ℕ) At) → table_at room section offset ≡ r
-        → (r >>= λ found. Ok found.0) ≡ Ok table → length table ≤ room
+    by_read : (r : Result (List Declaration × ℕ) At) → table_at budget section offset ≡ r
+        → (r >>= λ found. Ok found.0) ≡ Ok table → length table ≤ budget
     by_read (Err e) is h = cc
-    by_read (Ok found) is h = subst (λ (t : List Declaration). length t ≤ room) (same_table h)
-        (table_spelled room section offset found.0 found.1 is).2
+    by_read (Ok found) is h = subst (λ (t : List Declaration). length t ≤ budget) (same_table h)
+        (table-spelled budget section offset found.0 found.1 is).2
 
 -- The table of a unit is the result of parsing it with the whole budget.
 pub table_is : (section : List ℕ) (headers : List UnitHeader) (tables : List (List Declaration))
@@ -165,67 +165,71 @@ pub table_is : (section : List ℕ) (headers : List UnitHeader) (tables : List (
     ≡ Ok (get_or tables index [])
 unfolding tables_of
 table_is section headers tables index d all within =
-    let room : ℕ = declarations_limit - sum_by length (take index tables) in
+    let budget : ℕ = declarations_limit - sum_by length (take index tables) in
     let offset : ℕ = (get_or headers index d).abbreviations in
-    let read : declarations_of room section offset ≡ Ok (get_or tables index []) =
+    let read : declarations_of budget section offset ≡ Ok (get_or tables index []) =
     each-place (table_for section) [] headers tables all index d [] within in
-    let few : length (get_or tables index []) ≤ room =
-    table_few room section offset (get_or tables index []) read in
-    table_again room declarations_limit section offset (get_or tables index []) read
+    let few : length (get_or tables index []) ≤ budget =
+    table-few budget section offset (get_or tables index []) read in
+    table-again budget declarations_limit section offset (get_or tables index []) read
     (omega (arith, few))
 
 -- A table that was parsed is the table at its offset.
-pub stands_read : (section : List ℕ) (room : ℕ) (table : Table) (offset : ℕ) → table.offset ≡ offset
-    → in_section sections.DebugAbbrev (declarations_of room section offset) ≡ Ok table.declarations
-    → length table.declarations ≤ declarations_limit → StandsIn section table
-stands_read section room table offset same read few =
-    table_again room declarations_limit section table.offset table.declarations
-    (in_section_ok sections.DebugAbbrev (declarations_of room section table.offset)
+pub stands-read : (section : List ℕ) (budget : ℕ) (table : Table) (offset : ℕ) → table.offset
+    ≡ offset
+    → in_section sections.DebugAbbrev (declarations_of budget section offset)
+    ≡ Ok table.declarations
+    → length table.declarations ≤ declarations_limit → IsParsedFrom section table
+stands-read section budget table offset same read few =
+    table-again budget declarations_limit section table.offset table.declarations
+    (in_section-ok sections.DebugAbbrev (declarations_of budget section table.offset)
     table.declarations (subst (λ (k : ℕ). in_section sections.DebugAbbrev
-    (declarations_of room section k) ≡ Ok table.declarations) (sym same) read)) few
+    (declarations_of budget section k) ≡ Ok table.declarations) (sym same) read)) few
 
 -- A cached table is the table at the offset that a unit names.
-pub known_stands : (section : List ℕ) (tables : List Table) (number : ℕ) (table : Table)
-    (offset : ℕ) → All (StandsIn section) tables → slice_get tables number ≡ Some table
+pub known-stands : (section : List ℕ) (tables : List Table) (number : ℕ) (table : Table)
+    (offset : ℕ) → All (IsParsedFrom section) tables → slice_get tables number ≡ Some table
     → table.offset ≡ offset → declarations_of declarations_limit section offset
     ≡ Ok table.declarations
-known_stands section tables number table offset all at same =
+known-stands section tables number table offset all at same =
     let here : get_or tables number table ≡ table =
     get_or_from_slice_get tables number table table at in
-    let stands : StandsIn section (get_or tables number table) =
+    let stands : IsParsedFrom section (get_or tables number table) =
     all number table (slice_get_within tables number table at) in
     subst (λ (k : ℕ). declarations_of declarations_limit section k ≡ Ok table.declarations) same
-    (subst (λ (t : Table). StandsIn section t) here stands)
+    (subst (λ (t : Table). IsParsedFrom section t) here stands)
 
 -- Parsing a cached table again succeeds if the budget is large enough.
-pub known_again : (section : List ℕ) (tables : List Table) (number : ℕ) (table : Table)
-    (offset left : ℕ) → All (StandsIn section) tables → slice_get tables number ≡ Some table
+pub known-again : (section : List ℕ) (tables : List Table) (number : ℕ) (table : Table)
+    (offset left : ℕ) → All (IsParsedFrom section) tables → slice_get tables number ≡ Some table
     → table.offset ≡ offset → length table.declarations ≤ left
     → in_section sections.DebugAbbrev (declarations_of left section offset) ≡ Ok table.declarations
-known_again section tables number table offset left all at same few =
+known-again section tables number table offset left all at same few =
     ap (λ (r : Result (List Declaration) At). in_section sections.DebugAbbrev r)
-    (table_again declarations_limit left section offset table.declarations
-    (known_stands section tables number table offset all at same) few)
+    (table-again declarations_limit left section offset table.declarations
+    (known-stands section tables number table offset all at same) few)
 
 -- The invariant holds for a shorter list of tables, and for one more table appended.
-pub stand_before : (section : List ℕ) (tables after : List Table) (kept : ℕ)
-    → All (StandsIn section) tables → after ≡ take kept tables → All (StandsIn section) after
-stand_before section tables after kept all is =
-    subst (λ (ts : List Table). All (StandsIn section) ts) (sym is)
-    (All-take (StandsIn section) kept tables all)
+pub stand-before : (section : List ℕ) (tables after : List Table) (kept : ℕ)
+    → All (IsParsedFrom section) tables → after ≡ take kept tables
+    → All (IsParsedFrom section) after
+stand-before section tables after kept all is =
+    subst (λ (ts : List Table). All (IsParsedFrom section) ts) (sym is)
+    (All-take (IsParsedFrom section) kept tables all)
 
-pub stand_behind : (section : List ℕ) (tables after : List Table) (kept : ℕ) (table : Table)
-    → All (StandsIn section) tables → StandsIn section table → after ≡ take kept tables ++ table
-    ∷ [] → All (StandsIn section) after
-stand_behind section tables after kept table all one is =
-    subst (λ (ts : List Table). All (StandsIn section) ts) (sym is)
-    (All-append (StandsIn section) (take kept tables) (table ∷ [])
-    (All-take (StandsIn section) kept tables all)
-    (All-cons (StandsIn section) table [] one (All-nil (StandsIn section))))
+pub stand-behind : (section : List ℕ) (tables after : List Table) (kept : ℕ) (table : Table)
+    → All (IsParsedFrom section) tables → IsParsedFrom section table → after ≡ take kept tables
+    ++ table
+    ∷ [] → All (IsParsedFrom section) after
+stand-behind section tables after kept table all one is =
+    subst (λ (ts : List Table). All (IsParsedFrom section) ts) (sym is)
+    (All-append (IsParsedFrom section) (take kept tables) (table ∷ [])
+    (All-take (IsParsedFrom section) kept tables all)
+    (All-cons (IsParsedFrom section) table [] one (All-nil (IsParsedFrom section))))
 
-pub behind_at : (before after : List Table) (number : ℕ) (table : Table)
+pub behind-at : (before after : List Table) (number : ℕ) (table : Table)
     → after ≡ before ++ table ∷ [] → number ≡ length before → slice_get after number ≡ Some table
-behind_at before after number table is at =
+behind-at before after number table is at =
     rw (is, at)
     (slice_get-get_or (before ++ table ∷ []) (length before) table
     (omega (arith, length-append before (table ∷ [])))

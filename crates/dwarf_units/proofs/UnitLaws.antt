@@ -11,11 +11,11 @@ use Rattle.dwarf_bytes.specs.declared.format.Format.{Format}
 use Rattle.dwarf_bytes.specs.Bind.{◌>>=◌}
 use Rattle.dwarf_bytes.specs.Numbers.{u8_at, u16_at, initial_length_at, offset_at}
 use Rattle.dwarf_bytes.specs.Items.{At, Item, End, Advances, reading, items_from}
-use Rattle.dwarf_bytes.specs.Refusals.{memory_fault, told, in_section}
-use Rattle.dwarf_bytes.proofs.Advance.{after_bind, after_test, chosen, reading_ok}
-use Rattle.dwarf_bytes.proofs.LengthLaws.{initial_length_at-moves}
-use Rattle.dwarf_bytes.proofs.Moves.{same_ok, same_item}
-use Rattle.dwarf_bytes.proofs.Turns.{SoFar, so_far-item, so_far-end, so_far-fault}
+use Rattle.dwarf_bytes.specs.Refusals.{memory_fault, at_item, in_section}
+use Rattle.dwarf_bytes.proofs.Numbers.Advance.{after-bind, after-test, chosen, reading-ok}
+use Rattle.dwarf_bytes.proofs.Numbers.LengthLaws.{initial_length_at-moves}
+use Rattle.dwarf_bytes.proofs.Numbers.Moves.{same-ok, same-item}
+use Rattle.dwarf_bytes.proofs.Items.Turns.{SoFar, so-far-item, so-far-end, so-far-fault}
 use Rattle.dwarf_units.specs.declared.unit_headers.UnitHeader.{UnitHeader}
 use Rattle.dwarf_units.specs.Units.{unit_type_of, is_read_type, is_read, header_in, unit_at}
 use Rattle.dwarf_units.specs.Units.{header_at, headers_of, units_of}
@@ -26,10 +26,10 @@ pub header_in-places : (start : ℕ) (format : Format) (unit : List ℕ) (at : �
     → (header.start ≡ start) × (header.end ≡ length unit)
 header_in-places start format unit at header h =
     let P : Type 0 = (header.start ≡ start) × (header.end ≡ length unit) in
-    after_bind (reading (u16_at unit at)) _ header h P (λ version _ h1.
-    after_test (not (version.0 == 5)) causes.Version _ header h1 P (λ _ h2.
-    after_bind (reading (u8_at unit version.1)) _ header h2 P (λ number _ h3.
-    after_bind (ok_or (unit_type_of number.0) causes.UnitType) _ header h3 P (λ unit_type _ h4.
+    after-bind (reading (u16_at unit at)) _ header h P (λ version _ h1.
+    after-test (not (version.0 == 5)) causes.Version _ header h1 P (λ _ h2.
+    after-bind (reading (u8_at unit version.1)) _ header h2 P (λ number _ h3.
+    after-bind (ok_or (unit_type_of number.0) causes.UnitType) _ header h3 P (λ unit_type _ h4.
     chosen (not (is_read_type unit_type)) _ _ (Ok header) h4 P
     (λ _ last. places (record {
       start = start;
@@ -40,9 +40,9 @@ header_in-places start format unit at header h =
       end = length unit;
     }) last)
     (λ _ h5.
-    after_bind (reading (u8_at unit number.1)) _ header h5 P (λ size _ h6.
-    after_test (not (size.0 == 8)) causes.AddressSize _ header h6 P (λ _ h7.
-    after_bind (reading (offset_at format unit size.1)) _ header h7 P (λ abbreviations _ last.
+    after-bind (reading (u8_at unit number.1)) _ header h5 P (λ size _ h6.
+    after-test (not (size.0 == 8)) causes.AddressSize _ header h6 P (λ _ h7.
+    after-bind (reading (offset_at format unit size.1)) _ header h7 P (λ abbreviations _ last.
     places (record {
       start = start;
       format = format;
@@ -56,7 +56,7 @@ header_in-places start format unit at header h =
     places : (read : UnitHeader) → (let f : UnitHeader → Result UnitHeader Cause = λ z. Ok z in
         f read ≡ f header) → (header.start ≡ read.start) × (header.end ≡ read.end)
     places read last =
-        let same = same_ok read header last in
+        let same = same-ok read header last in
         (sym (ap (λ (u : UnitHeader). u.start) same), sym (ap (λ (u : UnitHeader). u.end) same))
 
 pub unit_at-moves : (info : List ℕ) (at : ℕ) (header : UnitHeader) → unit_at info at ≡ Ok header
@@ -64,10 +64,10 @@ pub unit_at-moves : (info : List ℕ) (at : ℕ) (header : UnitHeader) → unit_
 unfolding unit_at
 unit_at-moves info at header h =
     let P : Type 0 = (at < header.end) × (header.end ≤ length info) in
-    after_bind (reading (initial_length_at info at)) _ header h P (λ len len_is h1.
-    after_test (nat_lt (length info) (len.1 + len.0.1)) causes.Short _ header h1 P (λ fits h2.
+    after-bind (reading (initial_length_at info at)) _ header h P (λ len len_is h1.
+    after-test (nat_lt (length info) (len.1 + len.0.1)) causes.Short _ header h1 P (λ fits h2.
     let moved = initial_length_at-moves info at len
-    (reading_ok (initial_length_at info at) len len_is) in
+    (reading-ok (initial_length_at info at) len len_is) in
     let within : len.1 + len.0.1 ≤ length info = ltb-false (length info) (len.1 + len.0.1) fits in
     let end = (header_in-places at len.0.0 (take (len.1 + len.0.1) info) len.1 header h2).1 in
     let size = length-take (len.1 + len.0.1) info in
@@ -100,9 +100,9 @@ pub header_at-advances : (info : List ℕ) → Advances (length info) (header_at
 header_at-advances info before at x after h =
     let P : Type 0 = (at < after) × (after ≤ length info) in
     chosen (nat_le (length info) at) _ _ (Ok (Item x after)) h P (λ _ is. cc) (λ _ h1.
-    after_bind (unit_at info at) _ (Item x after) h1 P (λ header is last.
+    after-bind (unit_at info at) _ (Item x after) h1 P (λ header is last.
     let moved = unit_at-moves info at header is in
-    let place = (same_item header x header.end after last).1 in
+    let place = (same-item header x header.end after last).1 in
     (omega (arith, moved.0, place), omega (arith, moved.1, place))))
 
 -- ---- the loop over the units
@@ -112,7 +112,7 @@ pub units-item : (info : List ℕ) (before : List UnitHeader) (at : ℕ) (header
     → Ok header ≡ unit_at info at
     → SoFar (length info) (header_at info) 0 (before ++ header ∷ []) header.end
 units-item info before at header so_far within is =
-    so_far-item (length info) (header_at info) (header_at-advances info) 0 before at header
+    so-far-item (length info) (header_at info) (header_at-advances info) 0 before at header
     header.end so_far (header_at-item info before at header within (sym is))
 
 pub units-end : (info : List ℕ) (before : List UnitHeader) (at : ℕ)
@@ -120,30 +120,30 @@ pub units-end : (info : List ℕ) (before : List UnitHeader) (at : ℕ)
     → in_section sections.DebugInfo (headers_of info) ≡ Ok before
 unfolding headers_of
 units-end info before at so_far past = rw
-    (so_far-end (length info) (header_at info) (header_at-advances info) 0 before at at so_far
+    (so-far-end (length info) (header_at info) (header_at-advances info) 0 before at at so_far
     (header_at-end info before at past)) refl
 
-told_cases : (cause : Cause) (at : ℕ) → (told sections.DebugInfo cause at ≡ memory_fault)
-    ⊎ (told sections.DebugInfo cause at ≡ record
+at_item_cases : (cause : Cause) (at : ℕ) → (at_item sections.DebugInfo cause at ≡ memory_fault)
+    ⊎ (at_item sections.DebugInfo cause at ≡ record
     { section = sections.DebugInfo; cause = cause; at = at })
-told_cases causes.Memory at = inl refl
-told_cases cause at = inr refl
+at_item_cases causes.Memory at = inl refl
+at_item_cases cause at = inr refl
 
 pub units-fault : (info : List ℕ) (before : List UnitHeader) (at : ℕ) (cause : Cause)
     (fault : LoadFault) → SoFar (length info) (header_at info) 0 before at → at < length info
-    → Err cause ≡ unit_at info at → fault ≡ told sections.DebugInfo cause at
+    → Err cause ≡ unit_at info at → fault ≡ at_item sections.DebugInfo cause at
     → (fault ≡ memory_fault) ⊎ (in_section sections.DebugInfo (headers_of info) ≡ Err fault)
 unfolding headers_of
-units-fault info before at cause fault so_far within is told_is = by_cause (told_cases cause at)
+units-fault info before at cause fault so_far within is told_is = by-cause (at_item_cases cause at)
   where
-    by_cause : (told sections.DebugInfo cause at ≡ memory_fault)
-        ⊎ (told sections.DebugInfo cause at
+    by-cause : (at_item sections.DebugInfo cause at ≡ memory_fault)
+        ⊎ (at_item sections.DebugInfo cause at
         ≡ record { section = sections.DebugInfo; cause = cause; at = at })
         → (fault ≡ memory_fault) ⊎ (in_section sections.DebugInfo
         (items_from (length info) (header_at info) [] 0 >>= λ all. Ok all.0) ≡ Err fault)
-    by_cause (inl memory) = inl (told_is ∙ memory)
-    by_cause (inr itself) =
-        inr (rw (so_far-fault (length info) (header_at info) (header_at-advances info) 0 before at
+    by-cause (inl memory) = inl (told_is ∙ memory)
+    by-cause (inr itself) =
+        inr (rw (so-far-fault (length info) (header_at info) (header_at-advances info) 0 before at
         cause so_far (header_at-fault info before at cause within (sym is)))
         (ap (λ (f : LoadFault). Err f) (sym (told_is ∙ itself))))
 
@@ -159,4 +159,4 @@ units-read info all kept h is = by_read (headers_of info) refl h
         → in_section sections.DebugInfo (r >>= λ all. Ok (filter is_read all)) ≡ Ok kept
     by_read (Err e) read h = cc
     by_read (Ok xs) read h = ap (λ (ys : List UnitHeader). Ok (filter is_read ys))
-        (same_ok xs all h) ∙ ap (λ (ys : List UnitHeader). Ok ys) (sym is)
+        (same-ok xs all h) ∙ ap (λ (ys : List UnitHeader). Ok ys) (sym is)

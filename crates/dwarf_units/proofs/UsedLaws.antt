@@ -14,13 +14,13 @@ use Rattle.dwarf_units.specs.declared.used_name.UsedName.TheVariants.{StrOffsets
 use Rattle.dwarf_units.specs.declared.used_name.UsedName.TheVariants.{RnglistsBase}
 use Rattle.dwarf_units.specs.Entries.{value_of}
 use Rattle.dwarf_units.specs.Private.Names.{name_of}
-use Rattle.dwarf_units.specs.Private.Used.{Used, value_under, used_by, used_among, with_used}
-use Rattle.dwarf_units.specs.Private.Used.{used_behind}
+use Rattle.dwarf_units.specs.Private.Used.{Used, value_named, used_by, used_among, with_used}
+use Rattle.dwarf_units.specs.Private.Used.{used_after}
 
 -- ---- the value of each name
 
 pub under-by : (value : UsedName → Option AttributeValue) (name : UsedName)
-    → value_under name (used_by value) ≡ value name
+    → value_named name (used_by value) ≡ value name
 under-by value Name = refl
 under-by value LinkageName = refl
 under-by value AbstractOrigin = refl
@@ -54,7 +54,7 @@ same-by v w same = rw (
   same RnglistsBase,
 ) refl
 
-pub by-under : (u : Used) → used_by (λ name. value_under name u) ≡ u
+pub by-under : (u : Used) → used_by (λ name. value_named name u) ≡ u
 by-under u = refl
 
 -- ---- lists of attributes
@@ -88,23 +88,23 @@ among-behind xs ys = same-by _ _ (λ name. ap (λ x. option_or x (value_of ys (n
 
 pub with-none : (u : Used) → with_used u [] ≡ u
 unfolding with_used
-with-none u = same-by _ _ (λ name. or-none (value_under name u)) ∙ by-under u
+with-none u = same-by _ _ (λ name. or-none (value_named name u)) ∙ by-under u
 
 pub with-twice : (u : Used) (xs ys : List Attribute) → with_used (with_used u xs) ys
     ≡ with_used u (xs ++ ys)
 unfolding with_used
 with-twice u xs ys = same-by _ _ (λ name. each name
-    (under-by (λ n. option_or (value_under n u) (value_of xs (name_of n))) name))
+    (under-by (λ n. option_or (value_named n u) (value_of xs (name_of n))) name))
   where
-    each : (name : UsedName) → value_under name (with_used u xs) ≡ option_or (value_under name u)
+    each : (name : UsedName) → value_named name (with_used u xs) ≡ option_or (value_named name u)
         (value_of xs (name_of name))
-        → option_or (value_under name (with_used u xs)) (value_of ys (name_of name))
-        ≡ option_or (value_under name u) (value_of (xs ++ ys) (name_of name))
+        → option_or (value_named name (with_used u xs)) (value_of ys (name_of name))
+        ≡ option_or (value_named name u) (value_of (xs ++ ys) (name_of name))
     each name is = ap (λ x. option_or x (value_of ys (name_of name))) is
-        ∙ (or-twice (value_under name u) (value_of xs (name_of name)) (value_of ys (name_of name))
-        ∙ ap (option_or (value_under name u)) (sym (value-behind xs ys (name_of name))))
+        ∙ (or-twice (value_named name u) (value_of xs (name_of name)) (value_of ys (name_of name))
+        ∙ ap (option_or (value_named name u)) (sym (value-behind xs ys (name_of name))))
 
 -- A read that stores nothing.
 pub nothing-used : (u : Used) (r : Result (List Attribute × ℕ) Cause) (place : ℕ)
-    → r ≡ Ok ([], place) → used_behind u r ≡ Ok (u, place)
-nothing-used u r place is = ap (used_behind u) is ∙ ap (λ (v : Used). Ok (v, place)) (with-none u)
+    → r ≡ Ok ([], place) → used_after u r ≡ Ok (u, place)
+nothing-used u r place is = ap (used_after u) is ∙ ap (λ (v : Used). Ok (v, place)) (with-none u)

@@ -13,7 +13,8 @@ use Rattle.dwarf_bytes.specs.declared.form.Form.{Form}
 use Rattle.dwarf_bytes.specs.declared.form.Form.TheVariants.{Direct, ImplicitConst, Indirect}
 use Rattle.dwarf_bytes.specs.Bind.{◌>>=◌}
 use Rattle.dwarf_bytes.specs.Forms.{form_of}
-use Rattle.dwarf_bytes.specs.Items.{Next, Item, End, At, reading, refuse_if, told_at, items_from}
+use Rattle.dwarf_bytes.specs.Items.{Next, Item, End, At, reading, refuse_if, with_offset}
+use Rattle.dwarf_bytes.specs.Items.{items_from}
 use Rattle.dwarf_bytes.specs.Numbers.{uleb_at}
 use Rattle.dwarf_bytes.specs.Words.{cause_of}
 use Rattle.dwarf_forms.specs.declared.values.ValueFault.{ValueFault}
@@ -33,7 +34,7 @@ pub data Node : Type 0 where
   Null : Node
 
 -- An entry or null entry with its offset and depth.
-pub record Standing : Type 0 where
+pub record LocatedNode : Type 0 where
   pub offset : ℕ
   pub depth : ℕ
   pub node : Node
@@ -48,24 +49,24 @@ abbrev pub is_null_node : Node → Bool
 is_null_node (Entry tag children attributes) = false
 is_null_node Null = true
 
-abbrev pub opens : Standing → Bool
+abbrev pub opens : LocatedNode → Bool
 opens s = opens_node s.node
 
-abbrev pub closes : Standing → Bool
+abbrev pub closes : LocatedNode → Bool
 closes s = is_null_node s.node && nat_lt 0 s.depth
 
 -- The depth after a list of nodes: the number of entries with children, less the number of null
 -- entries at a depth above 0.
-abbrev pub depth_after : List Standing → ℕ
+abbrev pub depth_after : List LocatedNode → ℕ
 depth_after before = count_by opens before - count_by closes before
 
 -- Every node of the list is at the depth after the nodes before it.
-abbrev pub AreDepths : List Standing → Type 0
-AreDepths all = (i : ℕ) (d : Standing) → i < length all
+abbrev pub AreDepths : List LocatedNode → Type 0
+AreDepths all = (i : ℕ) (d : LocatedNode) → i < length all
     → (slice_index_or all i d).depth ≡ depth_after (take i all)
 
 -- Whether a node is the root of its unit: an entry at depth 0.
-abbrev pub is_root : Standing → Bool
+abbrev pub is_root : LocatedNode → Bool
 is_root s = (s.depth == 0) && not (is_null_node s.node)
 
 -- The maximum depth of an entry.
@@ -124,9 +125,9 @@ declaration_of table code = find (λ declaration. declaration.code == code) tabl
 
 -- The node at an offset of a unit, at a given depth, and the offset after it. `rooted` is whether
 -- the root of the unit is before it.
-abbrev pub node_behind : Format → List Declaration → ℕ → Bool → List ℕ → ℕ
+abbrev pub node_at_depth : Format → List Declaration → ℕ → Bool → List ℕ → ℕ
     → Result (Node × ℕ) Cause
-node_behind format table depth rooted unit at = do
+node_at_depth format table depth rooted unit at = do
   code ← reading (uleb_at unit at)
   if code.0 == 0 then Ok (Null, code.1) else do
     declaration ← ok_or (declaration_of table code.0) causes.AbbrevCode
@@ -136,10 +137,10 @@ node_behind format table depth rooted unit at = do
     Ok (Entry declaration.tag declaration.children attributes.0, attributes.1)
 
 -- The same node, given the list of nodes before it. The bytes end with the unit.
-abbrev pub node_at : Format → List Declaration → List ℕ → List Standing → ℕ
-    → Result (Next Standing) Cause
+abbrev pub node_at : Format → List Declaration → List ℕ → List LocatedNode → ℕ
+    → Result (Next LocatedNode) Cause
 node_at format table unit before at = if nat_le (length unit) at then Ok (End at) else do
-  node ← node_behind format table (depth_after before) (list_any is_root before) unit at
+  node ← node_at_depth format table (depth_after before) (list_any is_root before) unit at
   Ok (Item (record { offset = at; depth = depth_after before; node = node.0 }) node.1)
 
 -- The entry at an offset of a unit, without regard to the entries before it: its tag and
@@ -164,14 +165,14 @@ die_in offset depth (Entry tag children attributes) =
     Some (record { offset = offset; depth = depth; tag = tag; attributes = attributes })
 die_in offset depth Null = None
 
-abbrev pub die_of : Standing → Option Die
+abbrev pub die_of : LocatedNode → Option Die
 die_of s = die_in s.offset s.depth s.node
 
 -- The entries of a unit. The unit is refused if a list of children is not terminated.
 unfoldable pub entries_of : List ℕ → UnitHeader → List Declaration → Result (List Die) At
 entries_of info header table = do
   all ← items_from header.end (node_at header.format table (take header.end info)) [] header.first
-  _ ← told_at header.start (refuse_if (nat_lt 0 (depth_after all.0)) causes.TreeOpen)
+  _ ← with_offset header.start (refuse_if (nat_lt 0 (depth_after all.0)) causes.TreeOpen)
   Ok (filter_map die_of all.0)
 
 -- The descendants of the first entry of a list: the deeper entries that follow it, up to the first

@@ -2,9 +2,9 @@
 
 ghost use Rattle.std.specs.Prelude.{◌≡◌, ◌≤◌, IsSome, IfOk};
 ghost use Rattle.dwarf_bytes.specs.Refusals.{ReadsField};
-ghost use Rattle.dwarf_forms.specs.Private.SharedTables.{told};
+ghost use Rattle.dwarf_forms.specs.Private.SharedTables.{full_declaration};
 ghost use Rattle.dwarf_units.specs.Entries.{depth_limit};
-ghost use Rattle.dwarf_units.specs.Private.Heads.{head_at, used_entry_at, TellsAndFills};
+ghost use Rattle.dwarf_units.specs.Private.Heads.{head_at, used_entry_at, ReturnsAndFills};
 ghost use Rattle.dwarf_units.specs.Private.Links.{IsLinked};
 ghost use Rattle.dwarf_units.specs.Private.Plans.{plan_of, Fills};
 ghost use Rattle.dwarf_units.specs.Private.Used.{used_attributes_at};
@@ -33,7 +33,7 @@ pub struct EntryHead<'a> {
 
 impl<'a> Model for EntryHead<'a> {
     ghost use Rattle.std.specs.Prelude.{◌≡◌};
-    ghost use Rattle.dwarf_forms.specs.Private.SharedTables.{told};
+    ghost use Rattle.dwarf_forms.specs.Private.SharedTables.{full_declaration};
     ghost use Rattle.dwarf_units.specs.Private.Heads.{Head};
     ghost use Rattle.dwarf_units.specs.Private.Links.{IsLinked};
     ghost use Rattle.dwarf_units.specs.Private.Plans.{plan_of};
@@ -42,7 +42,7 @@ impl<'a> Model for EntryHead<'a> {
 
     ghost view = { λ h. record {
       format = h.format;
-      declaration = told h.lists.now.places.known h.declaration.now;
+      declaration = full_declaration h.lists.now.places.memoized h.declaration.now;
     } };
 
     ghost invariant = { λ h. (h.plan.now ≡ plan_of h.format h.declaration.now.list.own)
@@ -82,7 +82,7 @@ impl UnitTable<'_> {
     /// because a null entry has no declaration.
     #[tactic(auto, unfolding(crate::specs::Entries::entry_at))]
     pub fn read_entry(&self, cursor: &mut Cursor, found: &mut UsedAttributes) -> Result<u64, Cause>
-        ensures { TellsAndFills result found.new (used_entry_at self.now)
+        ensures { ReturnsAndFills result found.new (used_entry_at self.now)
             cursor.old cursor.new }
     {
         let code = cursor.uleb()?;
@@ -103,7 +103,7 @@ impl<'a> EntryHead<'a> {
         requires linked { IsLinked lists.now format declaration.now.list.rest }
         ensures { result ≡ record {
           format = format;
-          declaration = told lists.now.places.known declaration.now;
+          declaration = full_declaration lists.now.places.memoized declaration.now;
         } }
     {
         EntryHead {

@@ -6,14 +6,14 @@ ghost use Rattle.dwarf_bytes.specs.declared.format.Format.{Format};
 ghost use Rattle.dwarf_bytes.specs.Items.{items_from};
 ghost use Rattle.dwarf_forms.specs.Declarations.{Declaration};
 ghost use Rattle.dwarf_units.specs.declared.unit_headers.UnitHeader.{UnitHeader};
-ghost use Rattle.dwarf_units.specs.Entries.{Standing, Die, AreDepths, node_at, entry_at};
+ghost use Rattle.dwarf_units.specs.Entries.{LocatedNode, Die, AreDepths, node_at, entry_at};
 ghost use Rattle.dwarf_units.specs.Entries.{entries_of};
 
 /// The depth of each entry or null entry is the number of entries with children before it, less
 /// the number of null entries before it that are at a depth above 0.
-pub fn entries_stand_at_counted_depths()
+pub fn entries_are_at_counted_depths()
     ensures { (format : Format) (table : List Declaration) (unit : List ℕ) (end first : ℕ)
-        (all : List Standing) (after : ℕ)
+        (all : List LocatedNode) (after : ℕ)
         → items_from end (node_at format table unit) [] first ≡ Ok (all, after) → AreDepths all }
 {}
 
@@ -26,7 +26,7 @@ pub fn offsets_of_entries_rise()
 
 /// Re-reading an entry at its offset, without regard to the entries before it, returns the same
 /// tag and attributes.
-pub fn entries_are_read_again()
+pub fn entries_are_reread()
     ensures { (info : List ℕ) (header : UnitHeader) (table : List Declaration) (dies : List Die)
         → entries_of info header table ≡ Ok dies
         → (i : ℕ) (die : Die) → slice_get dies i ≡ Some die

@@ -3,18 +3,18 @@
 #![tactic(auto)]
 
 mod attributes;
+mod cached_table;
 mod entry_head;
-mod kept_table;
+mod fixed_size_head;
 pub mod laws;
 mod linked_lists;
 mod numbers;
-mod plain_head;
 mod plans;
+mod shared_suffixes;
 mod step_readers;
 mod steps;
 mod table_store;
 mod tables;
-mod tails;
 mod unit_headers;
 mod unit_table;
 mod used_attributes;
@@ -22,7 +22,7 @@ mod used_name;
 
 pub use attributes::{Attribute, AttributeValue, is_address};
 pub use entry_head::EntryHead;
-pub use plain_head::PlainHead;
+pub use fixed_size_head::FixedSizeHead;
 pub use tables::Tables;
 pub use unit_headers::{UnitHeader, UnitType, units};
 pub use unit_table::UnitTable;

@@ -5,18 +5,18 @@ ghost use Rattle.dwarf_bytes.specs.declared.format.Format.{Format};
 ghost use Rattle.dwarf_bytes.specs.declared.fault.Section.TheVariants as sections;
 ghost use Rattle.dwarf_bytes.specs.Refusals.{Decodes, in_section};
 ghost use Rattle.dwarf_forms.specs.Tables.{declarations_of};
-ghost use Rattle.dwarf_forms.specs.Private.Known.{rest_attributes};
-ghost use Rattle.dwarf_forms.specs.Private.SharedTables.{AreTold, tell};
+ghost use Rattle.dwarf_forms.specs.Private.Memoized.{rest_attributes};
+ghost use Rattle.dwarf_forms.specs.Private.SharedTables.{AreShared, full_declarations};
 ghost use Rattle.std.specs.List.{All};
 ghost use Rattle.dwarf_units.specs.Private.Links.{AreLinked, IsLinked, LinksGrow, linked_in};
 ghost use Rattle.dwarf_units.specs.Private.Plans.{Fills, steps_at, steps_of};
-ghost use Rattle.dwarf_units.specs.Private.Used.{used_behind};
+ghost use Rattle.dwarf_units.specs.Private.Used.{used_after};
 
 use crate::plans::read_step;
-use crate::tails::{Links, link_all};
+use crate::shared_suffixes::{Links, link_all};
 use crate::used_attributes::UsedAttributes;
 use dwarf_bytes::{Cause, Cursor, Format, LoadFault};
-use dwarf_forms::{AbbreviationTable, KnownLists};
+use dwarf_forms::{AbbreviationTable, MemoizedLists};
 use std::alloc::{AllocError, Global};
 use std::marker::Model;
 
@@ -24,7 +24,7 @@ use std::marker::Model;
 /// that has been requested.
 #[derive(Drop)]
 pub(crate) struct LinkedLists<'a> {
-    lists: KnownLists<'a>,
+    lists: MemoizedLists<'a>,
     dwarf32: Vec<Links>,
     dwarf64: Vec<Links>,
 }
@@ -42,20 +42,20 @@ impl<'a> Model for LinkedLists<'a> {
       dwarf64 = length l.dwarf64.items;
     } };
 
-    ghost invariant = { λ l. AreLinked Dwarf32 l.lists.known l.dwarf32.items
-        × AreLinked Dwarf64 l.lists.known l.dwarf64.items };
+    ghost invariant = { λ l. AreLinked Dwarf32 l.lists.memoized l.dwarf32.items
+        × AreLinked Dwarf64 l.lists.memoized l.dwarf64.items };
 }
 
 impl<'a> LinkedLists<'a> {
     pub(crate) fn new(alloc: Global, section: &'a [u8]) -> Result<LinkedLists<'a>, AllocError>
         ensures { IfOk result (λ lists. lists ≡ record {
-          places = record { section = section.now; known = [] };
+          places = record { section = section.now; memoized = [] };
           dwarf32 = 0;
           dwarf64 = 0;
         }) }
     {
         Ok(LinkedLists {
-            lists: KnownLists::new(alloc, section)?,
+            lists: MemoizedLists::new(alloc, section)?,
             dwarf32: Vec::new(alloc),
             dwarf64: Vec::new(alloc),
         })
@@ -69,10 +69,10 @@ impl<'a> LinkedLists<'a> {
         offset: u64,
         left: &mut u64,
     ) -> Result<AbbreviationTable, LoadFault>
-        ensures decodes { Decodes (tell self.new.places.known) result (in_section
+        ensures decodes { Decodes (full_declarations self.new.places.memoized) result (in_section
             sections.DebugAbbrev (declarations_of left.old self.old.places.section offset)) }
         ensures counted { IfOk result (λ table. left.new + length table ≡ left.old) }
-        ensures known { IfOk result (AreTold self.new.places.known) }
+        ensures memoized { IfOk result (AreShared self.new.places.memoized) }
         ensures linked { IfOk result (λ table.
             All (λ d. IsLinked self.new format d.list.rest) table) }
         ensures grows { LinksGrow self.old self.new }
@@ -86,7 +86,7 @@ impl<'a> LinkedLists<'a> {
     fn link(&mut self, format: Format) -> Result<(), AllocError>
         ensures places { self.new.places ≡ self.old.places }
         ensures grows { (f : Format) → linked_in self.old f ≤ linked_in self.new f }
-        ensures all { OnOk result (linked_in self.new format ≡ length self.old.places.known) }
+        ensures all { OnOk result (linked_in self.new format ≡ length self.old.places.memoized) }
     {
         match format {
             Format::Dwarf32 => link_all(Format::Dwarf32, &self.lists, &mut self.dwarf32),
@@ -107,9 +107,9 @@ impl<'a> LinkedLists<'a> {
         found: &mut UsedAttributes,
     ) -> Result<(), Cause>
         requires { IsLinked self.now format first }
-        ensures { Fills result found.new (λ bytes at. used_behind found.old
+        ensures { Fills result found.new (λ bytes at. used_after found.old
             (steps_at format (steps_of keep format
-            (rest_attributes self.now.places.known first)) bytes at)) cursor.old cursor.new }
+            (rest_attributes self.now.places.memoized first)) bytes at)) cursor.old cursor.new }
     {
         // Most declarations share none of their attributes and need no links.
         if first.is_none() {
@@ -126,7 +126,7 @@ impl<'a> LinkedLists<'a> {
     }
 
     fn links(&self, format: Format) -> &[Links]
-        ensures links { AreLinked format self.now.places.known result.now }
+        ensures links { AreLinked format self.now.places.memoized result.now }
         ensures all { length result.now ≡ linked_in self.now format }
     {
         match format {

@@ -5,12 +5,12 @@ ghost use Rattle.std.specs.Prelude.{◌≡◌, ◌≤◌, ◌-◌, ◌^◌, List
 ghost use Rattle.dwarf_forms.specs.declared.attribute.AttributeSpecification.{
   AttributeSpecification as Specification,
 };
-ghost use Rattle.dwarf_units.specs.Private.Plans.{step_before, steps_of, step_at, steps_at};
-ghost use Rattle.dwarf_units.specs.Private.Plans.{Fills, plan_of, plan_len};
-ghost use Rattle.dwarf_units.specs.Private.Used.{used_behind};
+ghost use Rattle.dwarf_units.specs.Private.Plans.{step_before, steps_of, step_at, steps_at, Fills};
+ghost use Rattle.dwarf_units.specs.Private.Plans.{plan_of, plan_len};
+ghost use Rattle.dwarf_units.specs.Private.Used.{used_after};
 
-use crate::step_readers::{keep_attribute, pass_attribute};
-use crate::steps::{AttributeStep, joined, step_of};
+use crate::step_readers::{skip_attribute, store_attribute};
+use crate::steps::{AttributeStep, merged_step, step_of};
 use crate::used_attributes::UsedAttributes;
 use dwarf_bytes::{Cause, Cursor, Format};
 use dwarf_forms::{AbbreviationTable, AttributeSpecification};
@@ -91,7 +91,7 @@ pub(crate) fn read_steps(
     cursor: &mut Cursor,
     found: &mut UsedAttributes,
 ) -> Result<(), Cause>
-    ensures { Fills result found.new (λ bytes at. used_behind found.old
+    ensures { Fills result found.new (λ bytes at. used_after found.old
         (steps_at format steps.now bytes at)) cursor.old cursor.new }
 {
     for step in steps {
@@ -109,7 +109,7 @@ pub(crate) fn read_step(
     cursor: &mut Cursor,
     found: &mut UsedAttributes,
 ) -> Result<(), Cause>
-    ensures { Fills result found.new (λ bytes at. used_behind found.old
+    ensures { Fills result found.new (λ bytes at. used_after found.old
         (step_at format step.now bytes at)) cursor.old cursor.new }
 {
     match step {
@@ -117,11 +117,11 @@ pub(crate) fn read_step(
             cursor.block(u64::from(*len))?;
         }
         AttributeStep::Pass(specification, layout) => {
-            pass_attribute(format, specification, *layout, cursor)?;
+            skip_attribute(format, specification, *layout, cursor)?;
         }
         AttributeStep::Keep(before, name, specification, layout) => {
             cursor.block(u64::from(*before))?;
-            keep_attribute(format, *name, specification, *layout, cursor, found)?;
+            store_attribute(format, *name, specification, *layout, cursor, found)?;
         }
     }
     Ok(())
@@ -152,7 +152,7 @@ fn push_before(steps: &mut Vec<AttributeStep>, step: AttributeStep) -> Result<()
     ensures { OnOk result (reverse steps.new.items ≡ step_before step (reverse steps.old.items)) }
 {
     if let Some(next) = steps.last().copied() {
-        if let Some(both) = joined(step, next) {
+        if let Some(both) = merged_step(step, next) {
             steps.pop();
             steps.push(both)?;
             return Ok(());

@@ -4,8 +4,9 @@
 ghost use Rattle.std.specs.Prelude.{◌≡◌, ◌-◌, []};
 ghost use Rattle.dwarf_bytes.specs.Refusals.{ReadsField};
 ghost use Rattle.dwarf_units.specs.declared.steps.AttributeStep.TheVariants.{Pass};
-ghost use Rattle.dwarf_units.specs.Private.Plans.{Fills, step_at, kept_at, number_at, taken_at};
-ghost use Rattle.dwarf_units.specs.Private.Used.{used_behind};
+ghost use Rattle.dwarf_units.specs.Private.Plans.{Fills, step_at, stored_at, number_at};
+ghost use Rattle.dwarf_units.specs.Private.Plans.{attribute_in_layout};
+ghost use Rattle.dwarf_units.specs.Private.Used.{used_after};
 
 use crate::attributes::{Attribute, AttributeValue, number_of, read_attribute};
 use crate::used_attributes::UsedAttributes;
@@ -16,7 +17,7 @@ use dwarf_forms::AttributeSpecification;
 /// Skips the attribute at the cursor. Validates it if no layout is known.
 // Inlined: called for each attribute.
 #[inline(always)]
-pub(crate) fn pass_attribute(
+pub(crate) fn skip_attribute(
     format: Format,
     specification: &AttributeSpecification,
     layout: Option<ValueLayout>,
@@ -42,7 +43,7 @@ pub(crate) fn pass_attribute(
 /// layout is known.
 // Inlined: called for each attribute.
 #[inline(always)]
-pub(crate) fn keep_attribute(
+pub(crate) fn store_attribute(
     format: Format,
     name: UsedName,
     specification: &AttributeSpecification,
@@ -50,8 +51,8 @@ pub(crate) fn keep_attribute(
     cursor: &mut Cursor,
     found: &mut UsedAttributes,
 ) -> Result<(), Cause>
-    ensures { Fills result found.new (λ bytes at. used_behind found.old
-        (kept_at format name specification.now layout bytes at)) cursor.old cursor.new }
+    ensures { Fills result found.new (λ bytes at. used_after found.old
+        (stored_at format name specification.now layout bytes at)) cursor.old cursor.new }
 {
     match layout {
         None => {
@@ -62,7 +63,7 @@ pub(crate) fn keep_attribute(
         }
         Some(layout) => found.add(
             name,
-            take_attribute(format, specification, layout, cursor)?.value,
+            read_in_layout(format, specification, layout, cursor)?.value,
         ),
     }
     Ok(())
@@ -73,13 +74,13 @@ pub(crate) fn keep_attribute(
 // Inlined: called for each attribute.
 #[inline(always)]
 #[tactic(auto, unfolding(dwarf_bytes::specs::Contents::content_at))]
-fn take_attribute(
+fn read_in_layout(
     format: Format,
     specification: &AttributeSpecification,
     layout: ValueLayout,
     cursor: &mut Cursor,
 ) -> Result<Attribute, Cause>
-    ensures { ReadsField (λ a. a) result (taken_at format specification.now layout)
+    ensures { ReadsField (λ a. a) result (attribute_in_layout format specification.now layout)
         cursor.old cursor.new }
 {
     let number = match layout {

@@ -3,7 +3,7 @@
 ghost use Rattle.std.specs.Prelude.{◌≡◌};
 ghost use Rattle.dwarf_bytes.specs.Forms.{byte_len};
 ghost use Rattle.dwarf_units.specs.Private.Plans.{layout_len, constant_len, fixed_len, step_of};
-ghost use Rattle.dwarf_units.specs.Private.Plans.{joined, is_plain, known_layout};
+ghost use Rattle.dwarf_units.specs.Private.Plans.{merged_step, is_unsigned, valid_layout};
 
 use crate::attributes::{accepts, is_negative_count, is_used};
 use crate::used_name::UsedName;
@@ -24,8 +24,8 @@ pub(crate) enum AttributeStep {
 }
 
 /// Merges two steps into one, if the first skips bytes and the second starts by skipping bytes.
-pub(crate) fn joined(step: AttributeStep, next: AttributeStep) -> Option<AttributeStep>
-    ensures { result ≡ joined step next }
+pub(crate) fn merged_step(step: AttributeStep, next: AttributeStep) -> Option<AttributeStep>
+    ensures { result ≡ merged_step step next }
 {
     match (step, next) {
         (AttributeStep::Skip(len), AttributeStep::Skip(behind)) => {
@@ -50,31 +50,31 @@ pub(crate) fn step_of(
 {
     if keep {
         if let Some(name) = UsedName::of(specification.name) {
-            return AttributeStep::Keep(0, name, *specification, known_layout(specification));
+            return AttributeStep::Keep(0, name, *specification, valid_layout(specification));
         }
     }
     match fixed_len(format, specification) {
         Some(len) => AttributeStep::Skip(len),
-        None => AttributeStep::Pass(*specification, known_layout(specification)),
+        None => AttributeStep::Pass(*specification, valid_layout(specification)),
     }
 }
 
 /// Returns the layout of the values of an attribute, if every value in it is valid.
-fn known_layout(specification: &AttributeSpecification) -> Option<ValueLayout>
-    ensures { result ≡ known_layout specification.now }
+fn valid_layout(specification: &AttributeSpecification) -> Option<ValueLayout>
+    ensures { result ≡ valid_layout specification.now }
 {
     if !accepts(specification.name, specification.form) {
         return None;
     }
     match Form::of(specification.form)? {
-        Form::Direct(layout) if is_plain(layout) || !is_used(specification.name) => Some(layout),
+        Form::Direct(layout) if is_unsigned(layout) || !is_used(specification.name) => Some(layout),
         _ => None,
     }
 }
 
 /// Returns whether the values of a layout are nonnegative numbers or strings.
-fn is_plain(layout: ValueLayout) -> bool
-    ensures { result ≡ is_plain layout }
+fn is_unsigned(layout: ValueLayout) -> bool
+    ensures { result ≡ is_unsigned layout }
 {
     matches!(
         layout,

@@ -3,13 +3,13 @@
 ghost use Rattle.std.specs.Prelude.{◌≡◌, ◌++◌, ◌∷◌, [], None, Some, take, length, slice_get, IfOk};
 ghost use Rattle.std.specs.Prelude.{IfNone, IfSome, OnErr};
 ghost use Rattle.dwarf_units.specs.Private.Links.{LinkedPlaces};
-ghost use Rattle.dwarf_units.specs.Private.SharedTables.{SharedTable, told_table};
+ghost use Rattle.dwarf_units.specs.Private.SharedTables.{SharedTable, full_table};
 ghost use Rattle.dwarf_units.specs.Private.Tables.{AreStored, AreElsewhere, IsAt, IsNew, seen};
 ghost use Rattle.dwarf_units.specs.Private.Tables.{with_table};
 ghost use Rattle.dwarf_units.specs.Private.Numbers.{number_at};
 ghost use Rattle.dwarf_bytes.specs.declared.format.Format.{Format};
 
-use crate::kept_table::KeptTable;
+use crate::cached_table::CachedTable;
 use crate::numbers::Numbers;
 use crate::unit_headers::UnitHeader;
 use std::alloc::{AllocError, Global};
@@ -18,31 +18,31 @@ use std::alloc::{AllocError, Global};
 /// that did not fit.
 #[derive(Drop)]
 pub(crate) struct TableStore {
-    pub(crate) tables: Vec<KeptTable>,
+    pub(crate) tables: Vec<CachedTable>,
     /// The number of tables that are cached permanently. A table after them is temporary.
     pub(crate) kept: usize,
     /// The remaining budget: the number of declarations, attributes and steps that can still be
     /// cached.
-    pub(crate) room: u128,
+    pub(crate) budget: u128,
     pub(crate) numbers: Numbers,
 }
 
 impl TableStore {
-    pub(crate) fn new(alloc: Global, room: u128) -> TableStore
+    pub(crate) fn new(alloc: Global, budget: u128) -> TableStore
         ensures tables { result.tables.items ≡ [] }
         ensures kept { result.kept ≡ 0 }
-        ensures room { result.room ≡ room }
+        ensures budget { result.budget ≡ budget }
     {
         TableStore {
             tables: Vec::new(alloc),
             kept: 0,
-            room,
+            budget,
             numbers: Numbers::new(alloc),
         }
     }
 
     /// Returns the index of the table of a unit, if it is cached.
-    pub(crate) fn known(&self, unit: &UnitHeader) -> Option<usize>
+    pub(crate) fn cached_index(&self, unit: &UnitHeader) -> Option<usize>
         ensures none { IfNone result ((lists : LinkedPlaces) → AreStored lists self.now
             → AreElsewhere unit.now.format unit.now.abbreviations (seen lists self.now).tables) }
         ensures some { IfSome result (λ number. (table : SharedTable)
@@ -58,22 +58,22 @@ impl TableStore {
 
     /// Caches a table and returns its index. A table that exceeds the budget is cached only until
     /// the next table is added.
-    pub(crate) fn keep(&mut self, table: KeptTable) -> Result<usize, AllocError>
+    pub(crate) fn add_table(&mut self, table: CachedTable) -> Result<usize, AllocError>
         ensures stored { (lists : LinkedPlaces) → AreStored lists self.old
             → IsNew lists self.old table → AreStored lists self.new }
         ensures ok { IfOk result (λ number. (lists : LinkedPlaces) → AreStored lists self.old
             → IsNew lists self.old table
             → (seen lists self.new
-            ≡ with_table (seen lists self.old) (told_table lists.places.known table))
+            ≡ with_table (seen lists self.old) (full_table lists.places.memoized table))
             × (slice_get (seen lists self.new).tables number
-            ≡ Some (told_table lists.places.known table))) }
+            ≡ Some (full_table lists.places.memoized table))) }
     {
         let size = table.size();
         self.numbers
             .insert(table.format(), table.offset(), self.kept)?;
-        let number = put_behind(&mut self.tables, self.kept, table)?;
-        if size <= self.room {
-            self.room -= size;
+        let number = truncate_and_push(&mut self.tables, self.kept, table)?;
+        if size <= self.budget {
+            self.budget -= size;
             self.kept = self.tables.len();
         }
         Ok(number)
@@ -81,10 +81,10 @@ impl TableStore {
 }
 
 /// Truncates the list to `kept` tables, appends a table, and returns its index.
-fn put_behind(
-    tables: &mut Vec<KeptTable>,
+fn truncate_and_push(
+    tables: &mut Vec<CachedTable>,
     kept: usize,
-    table: KeptTable,
+    table: CachedTable,
 ) -> Result<usize, AllocError>
     ensures ok { IfOk result (λ number.
         (tables.new.items ≡ take kept tables.old.items ++ table ∷ [])

@@ -1,7 +1,7 @@
 //! A cache of the abbreviation tables of all units (DWARF 5, 7.5.3).
 
-ghost use Rattle.std.specs.Prelude.{◌≡◌, ℕ, ◌+◌, ◌<◌, ◌≤◌, ◌++◌, [], take, List, Some, Ok};
-ghost use Rattle.std.specs.Prelude.{length, nat_lt, slice_get, IfOk, OnOk, IfSome, IfNone};
+ghost use Rattle.std.specs.Prelude.{◌≡◌, ℕ, ◌+◌, ◌<◌, ◌≤◌, ◌++◌, [], take, List, Some, Ok, length};
+ghost use Rattle.std.specs.Prelude.{nat_lt, slice_get, IfOk, OnOk, IfSome, IfNone};
 ghost use Rattle.std.specs.List.{All};
 ghost use Rattle.dwarf_bytes.specs.declared.fault.Section.TheVariants as sections;
 ghost use Rattle.dwarf_bytes.specs.Refusals.{in_section};
@@ -9,10 +9,10 @@ ghost use Rattle.dwarf_forms.specs.Declarations.{Declaration};
 ghost use Rattle.dwarf_units.specs.Units.{declarations_limit, tables_of};
 ghost use Rattle.dwarf_units.specs.Private.Plans.{Table};
 ghost use Rattle.dwarf_units.specs.Private.Tables.{AreElsewhere, IsAdded, IsAt, IsNumberOf};
-ghost use Rattle.dwarf_units.specs.Private.Tables.{IsWithinLimit, Refuses, StaysOrIsTooLarge};
+ghost use Rattle.dwarf_units.specs.Private.Tables.{IsWithinLimit, Refuses, IsCachedOrTooLarge};
 ghost use Rattle.dwarf_units.specs.Private.Tables.{table_read, with_table};
 
-use crate::kept_table::KeptTable;
+use crate::cached_table::CachedTable;
 use crate::linked_lists::LinkedLists;
 use crate::table_store::TableStore;
 use crate::unit_headers::UnitHeader;
@@ -32,9 +32,9 @@ pub struct Tables<'a> {
 }
 
 impl<'a> Model for Tables<'a> {
-    ghost use Rattle.dwarf_units.specs.Private.Tables.{AreStored, KeptTables, seen};
+    ghost use Rattle.dwarf_units.specs.Private.Tables.{AreStored, CachedTables, seen};
 
-    ghost Value = { KeptTables };
+    ghost Value = { CachedTables };
 
     ghost view = { λ t. seen t.lists t.store };
 
@@ -47,7 +47,7 @@ impl<'a> Tables<'a> {
     /// ones of their list are stored once for each offset of the section. All tables that are
     /// cached permanently have at most 3 × the section size + 65,536 declarations, first
     /// attributes and plan steps.
-    pub fn judge(
+    pub fn validate(
         alloc: Global,
         section: &'a [u8],
         units: &[UnitHeader],
@@ -58,12 +58,12 @@ impl<'a> Tables<'a> {
             (in_section sections.DebugAbbrev (tables_of section.now units.now)) }
         ensures section { IfOk result (λ tables. tables.section ≡ section.now) }
         ensures limit { IfOk result (λ tables. IsWithinLimit tables) }
-        ensures stays { IfOk result (λ tables. All (StaysOrIsTooLarge tables) units.now) }
+        ensures stays { IfOk result (λ tables. All (IsCachedOrTooLarge tables) units.now) }
     {
         let mut tables = Tables::new(alloc, section)?;
         let mut left = DECLARATIONS_LIMIT;
         for unit in units {
-            tables.judge_unit(alloc, unit, &mut left)?;
+            tables.validate_unit(alloc, unit, &mut left)?;
         }
         Ok(tables)
     }
@@ -80,7 +80,7 @@ impl<'a> Tables<'a> {
 
     /// Parses the table of a unit, unless it is cached. Subtracts its declarations from `left` in
     /// both cases.
-    fn judge_unit(
+    fn validate_unit(
         &mut self,
         alloc: Global,
         unit: &UnitHeader,
@@ -92,15 +92,16 @@ impl<'a> Tables<'a> {
             × (left.new + length table ≡ left.old)) }
         ensures err { Refuses result (table_read left.old self.old.section unit.now) }
         ensures section { self.new.section ≡ self.old.section }
-        ensures known { (number : ℕ) (table : Table) → slice_get self.old.tables number ≡ Some table
+        ensures memoized { (number : ℕ) (table : Table) → slice_get self.old.tables number
+            ≡ Some table
             → IsAt unit.now.format unit.now.abbreviations table → self.new ≡ self.old }
         ensures limit { IsWithinLimit self.new }
-        ensures stays { OnOk result (StaysOrIsTooLarge self.new unit.now) }
+        ensures stays { OnOk result (IsCachedOrTooLarge self.new unit.now) }
         ensures grows { OnOk result ((rest : List Table) × (take self.new.kept self.new.tables
             ≡ take self.old.kept self.old.tables ++ rest)) }
     {
         let _ = &self.store; // what stays is bounded, also where no table is read
-        if let Some(len) = self.known_len(unit, *left) {
+        if let Some(len) = self.cached_len(unit, *left) {
             *left -= len;
             return Ok(());
         }
@@ -110,7 +111,7 @@ impl<'a> Tables<'a> {
 
     /// Returns the number of declarations of the table of a unit, if the table is cached and has
     /// at most `left` declarations.
-    fn known_len(&self, unit: &UnitHeader, left: u64) -> Option<u64>
+    fn cached_len(&self, unit: &UnitHeader, left: u64) -> Option<u64>
         requires { left ≤ declarations_limit }
         ensures none { IfNone result ((table : List Declaration)
             → table_read left self.now.section unit.now ≡ Ok table
@@ -118,9 +119,9 @@ impl<'a> Tables<'a> {
         ensures some { IfSome result (λ len. (table : List Declaration)
             × (table_read left self.now.section unit.now ≡ Ok table)
             × (length table ≡ len) × (len ≤ left)) }
-        ensures stays { IfSome result (λ _. StaysOrIsTooLarge self.now unit.now) }
+        ensures stays { IfSome result (λ _. IsCachedOrTooLarge self.now unit.now) }
     {
-        let number = self.store.known(unit)?;
+        let number = self.store.cached_index(unit)?;
         let len = self.store.tables[number].len();
         if len > left {
             return None;
@@ -135,7 +136,8 @@ impl<'a> Tables<'a> {
         ensures err { Refuses result
             (table_read declarations_limit self.old.section unit.now) }
         ensures section { self.new.section ≡ self.old.section }
-        ensures known { (number : ℕ) (table : Table) → slice_get self.old.tables number ≡ Some table
+        ensures memoized { (number : ℕ) (table : Table) → slice_get self.old.tables number
+            ≡ Some table
             → IsAt unit.now.format unit.now.abbreviations table
             → (result ≡ Ok number) × (self.new ≡ self.old) }
         ensures added { AreElsewhere unit.now.format unit.now.abbreviations self.old.tables
@@ -144,7 +146,7 @@ impl<'a> Tables<'a> {
             × (self.new ≡ with_table self.old table)) }
         ensures limit { IsWithinLimit self.new }
     {
-        if let Some(number) = self.store.known(unit) {
+        if let Some(number) = self.store.cached_index(unit) {
             return Ok(number);
         }
         let mut left = DECLARATIONS_LIMIT;
@@ -163,7 +165,8 @@ impl<'a> Tables<'a> {
         ensures err { Refuses result
             (table_read declarations_limit self.old.section unit.now) }
         ensures section { self.new.section ≡ self.old.section }
-        ensures known { (number : ℕ) (table : Table) → slice_get self.old.tables number ≡ Some table
+        ensures memoized { (number : ℕ) (table : Table) → slice_get self.old.tables number
+            ≡ Some table
             → IsAt unit.now.format unit.now.abbreviations table
             → (result ≡ Ok number) × (self.new ≡ self.old) }
         ensures added { AreElsewhere unit.now.format unit.now.abbreviations self.old.tables
@@ -205,12 +208,13 @@ impl<'a> Tables<'a> {
             left.old left.new self.old self.new number) }
         ensures err { Refuses result (table_read left.old self.old.section unit.now) }
         ensures section { self.new.section ≡ self.old.section }
-        ensures known { (number : ℕ) (table : Table) → slice_get self.old.tables number ≡ Some table
+        ensures memoized { (number : ℕ) (table : Table) → slice_get self.old.tables number
+            ≡ Some table
             → IsAt unit.now.format unit.now.abbreviations table → self.new ≡ self.old }
         ensures limit { IsWithinLimit self.new }
     {
         let place = unit.abbreviations;
-        let table = KeptTable::read(alloc, &mut self.lists, unit.format, place, left)?;
-        Ok(self.store.keep(table)?)
+        let table = CachedTable::read(alloc, &mut self.lists, unit.format, place, left)?;
+        Ok(self.store.add_table(table)?)
     }
 }

@@ -76,7 +76,7 @@ fn headers(alloc: Global, info: &[u8]) -> Result<Vec<UnitHeader>, LoadFault>
     let mut at = 0;
     while at < info.len() {
         match unit(info, at) {
-            Err(cause) => return Err(LoadFault::told(Section::DebugInfo, cause, at as u64)),
+            Err(cause) => return Err(LoadFault::at_item(Section::DebugInfo, cause, at as u64)),
             Ok(header) => {
                 at = header.end;
                 all.push(header)?;

@@ -3,37 +3,37 @@
 ghost use Rattle.std.specs.Prelude.{◌≡◌, ◌≤◌, IfSome, option_map};
 ghost use Rattle.dwarf_units.specs.Entries.{declaration_of, depth_limit};
 ghost use Rattle.dwarf_units.specs.Private.Heads.{head_in};
-ghost use Rattle.dwarf_units.specs.Private.PlainHeads.{StandsPlain, plain_entry_at};
-ghost use Rattle.dwarf_units.specs.Private.SharedTables.{IsReadable, told_table};
+ghost use Rattle.dwarf_units.specs.Private.FixedSizeHeads.{IsFixedSizeNode, fixed_size_entry_at};
+ghost use Rattle.dwarf_units.specs.Private.SharedTables.{IsReadable, full_table};
 
+use crate::cached_table::CachedTable;
 use crate::entry_head::{DEPTH_LIMIT, EntryHead};
-use crate::kept_table::KeptTable;
+use crate::fixed_size_head::FixedSizeHead;
 use crate::linked_lists::LinkedLists;
-use crate::plain_head::PlainHead;
 use std::marker::Model;
 
 /// A cached abbreviation table, together with the memoized attributes that its declarations share.
 #[derive(Drop)]
 pub struct UnitTable<'a> {
-    table: &'a KeptTable,
+    table: &'a CachedTable,
     lists: &'a LinkedLists<'a>,
 }
 
 impl<'a> Model for UnitTable<'a> {
     ghost use Rattle.dwarf_units.specs.Private.Plans.{Table};
-    ghost use Rattle.dwarf_units.specs.Private.SharedTables.{IsReadable, told_table};
+    ghost use Rattle.dwarf_units.specs.Private.SharedTables.{IsReadable, full_table};
 
     ghost Value = { Table };
 
-    ghost view = { λ t. told_table t.lists.now.places.known t.table.now };
+    ghost view = { λ t. full_table t.lists.now.places.memoized t.table.now };
 
     ghost invariant = { λ t. IsReadable t.lists.now t.table.now };
 }
 
 impl<'a> UnitTable<'a> {
-    pub(crate) fn new(table: &'a KeptTable, lists: &'a LinkedLists<'a>) -> UnitTable<'a>
+    pub(crate) fn new(table: &'a CachedTable, lists: &'a LinkedLists<'a>) -> UnitTable<'a>
         requires { IsReadable lists.now table.now }
-        ensures { result ≡ told_table lists.now.places.known table.now }
+        ensures { result ≡ full_table lists.now.places.memoized table.now }
     {
         UnitTable { table, lists }
     }
@@ -51,16 +51,21 @@ impl<'a> UnitTable<'a> {
     /// fixed size, is below the root, and is not truncated.
     // Inlined: called for each entry.
     #[inline(always)]
-    pub fn plain_entry(&self, depth: u32, bytes: &[u8], place: usize) -> Option<(PlainHead, usize)>
-        ensures found { result ≡ plain_entry_at self.now depth bytes.now place }
-        ensures stands { IfSome result (StandsPlain self.now depth bytes.now place) }
+    pub fn fixed_size_entry(
+        &self,
+        depth: u32,
+        bytes: &[u8],
+        place: usize,
+    ) -> Option<(FixedSizeHead, usize)>
+        ensures found { result ≡ fixed_size_entry_at self.now depth bytes.now place }
+        ensures stands { IfSome result (IsFixedSizeNode self.now depth bytes.now place) }
         ensures limit { IfSome result (λ _. depth ≤ depth_limit) }
     {
         if depth == 0 || depth > DEPTH_LIMIT {
             return None;
         }
         let code = *bytes.get(place)?;
-        let head = self.table.plain(code)?;
+        let head = self.table.fixed_size(code)?;
         let after = place + 1 + usize::from(head.len);
         if after > bytes.len() {
             return None;

@@ -1,8 +1,8 @@
 //! The used attributes of an entry, by name (DWARF 5, 2.2).
 
 ghost use Rattle.std.specs.Prelude.{◌≡◌, ◌∷◌, []};
-ghost use Rattle.dwarf_units.specs.Private.Names.{under_name};
-ghost use Rattle.dwarf_units.specs.Private.Used.{used_among, value_under, with_used};
+ghost use Rattle.dwarf_units.specs.Private.Names.{named_attribute};
+ghost use Rattle.dwarf_units.specs.Private.Used.{used_among, value_named, with_used};
 
 use crate::attributes::AttributeValue;
 use crate::used_name::UsedName;
@@ -51,7 +51,7 @@ impl UsedAttributes {
     /// Adds an attribute. Has no effect if the entry already has an attribute of this name.
     #[inline(always)]
     pub(crate) fn add(&mut self, name: UsedName, value: AttributeValue)
-        ensures { self.new ≡ with_used self.old (under_name name value ∷ []) }
+        ensures { self.new ≡ with_used self.old (named_attribute name value ∷ []) }
     {
         let slot = name.slot();
         if !self.has[slot] {
@@ -63,7 +63,7 @@ impl UsedAttributes {
     /// Returns the value of an attribute.
     #[inline(always)]
     fn under(&self, name: UsedName) -> Option<AttributeValue>
-        ensures { result ≡ value_under name self.now }
+        ensures { result ≡ value_named name self.now }
     {
         let slot = name.slot();
         self.has[slot].then_some(self.values[slot])

@@ -9,13 +9,13 @@ use Rattle.std.proofs.lemmas.List.{reverse-append, take_more, take_all}
 use Rattle.std.proofs.lemmas.Option.{slice_get_within, get_or_from_slice_get}
 use Rattle.std.proofs.lemmas.List.Sums.{take_while-cons}
 use Rattle.dwarf_walk.specs.declared.walk.OpenScope.{OpenScope}
-use Rattle.dwarf_walk.specs.declared.kept.ScopePlace.{ScopePlace}
+use Rattle.dwarf_walk.specs.declared.unit_entries.ScopePlace.{ScopePlace}
 use Rattle.dwarf_walk.specs.declared.scope_kind.ScopeKind.{ScopeKind}
 use Rattle.dwarf_units.specs.Entries.{Die, below}
-use Rattle.dwarf_walk.specs.Private.Kept.{scope_place, scope_places}
+use Rattle.dwarf_walk.specs.Private.Stored.{scope_place, scope_places}
 use Rattle.dwarf_walk.specs.ScopeEntries.{kind_of, is_scope}
-use Rattle.dwarf_walk.specs.Private.Ends.{is_ended, known_inside, known_places, open_scopes}
-use Rattle.dwarf_walk.specs.Private.Ends.{ended_at}
+use Rattle.dwarf_walk.specs.Private.Ends.{is_ended, recorded_descendants, recorded_places}
+use Rattle.dwarf_walk.specs.Private.Ends.{open_scopes, ended_at}
 use Rattle.dwarf_walk.proofs.OpenScopes.{any-push}
 use Rattle.dwarf_walk.proofs.EndLaws.{place_of, places-push}
 
@@ -44,7 +44,7 @@ or-true : (b : Bool) → (b || (true || false)) ≡ true
 or-true true = refl
 or-true false = refl
 
-all-known : (dies : List Die) → known_places (dies ++ outermost ∷ []) ≡ scope_places dies
+all-known : (dies : List Die) → recorded_places (dies ++ outermost ∷ []) ≡ scope_places dies
 all-known [] = refl
 all-known (die ∷ rest) = by_kind (all-known rest) (kind_of die.tag) refl
   where
@@ -52,13 +52,14 @@ all-known (die ∷ rest) = by_kind (all-known rest) (kind_of die.tag) refl
     ended = any-push die outermost rest ∙ (let test : nat_le 0 die.depth ≡ true =
         le-leb 0 die.depth (omega arith) in rw test (or-true (is_ended die rest)))
 
-    inside : known_inside die (rest ++ outermost ∷ []) ≡ count_by is_scope (below die rest)
+    inside : recorded_descendants die (rest ++ outermost ∷ []) ≡ count_by is_scope (below die rest)
     inside = rw ended (ap (λ (ds : List Die). count_by is_scope ds) (below-outermost die rest))
 
-    by_kind : known_places (rest ++ outermost ∷ []) ≡ scope_places rest → (kind : Option ScopeKind)
+    by_kind : recorded_places (rest ++ outermost ∷ []) ≡ scope_places rest
+        → (kind : Option ScopeKind)
         → kind_of die.tag ≡ kind
-        → cond (is_some kind) (place_of die (known_inside die (rest ++ outermost ∷ []))
-        ∷ known_places (rest ++ outermost ∷ [])) (known_places (rest ++ outermost ∷ []))
+        → cond (is_some kind) (place_of die (recorded_descendants die (rest ++ outermost ∷ []))
+        ∷ recorded_places (rest ++ outermost ∷ [])) (recorded_places (rest ++ outermost ∷ []))
         ≡ scope_place die rest kind (scope_places rest)
     by_kind further None is = further
     by_kind further (Some kind) is = consed (ap (λ (k : ℕ). place_of die k) inside) further
@@ -66,9 +67,9 @@ all-known (die ∷ rest) = by_kind (all-known rest) (kind_of die.tag) refl
         consed : {p q : ScopePlace} → {ps qs : List ScopePlace} → p ≡ q → ps ≡ qs → p ∷ ps ≡ q ∷ qs
         consed e f = cc
 
-pub all-ended : (dies : List Die) → ended_at 0 (open_scopes 0 dies) (known_places dies)
+pub all-ended : (dies : List Die) → ended_at 0 (open_scopes 0 dies) (recorded_places dies)
     ≡ scope_places dies
-all-ended dies = sym (append-nil (ended_at 0 (open_scopes 0 dies) (known_places dies)))
+all-ended dies = sym (append-nil (ended_at 0 (open_scopes 0 dies) (recorded_places dies)))
     ∙ (sym (places-push dies outermost) ∙ all-known dies)
 
 -- ---- the last element of a vector
@@ -77,10 +78,10 @@ pub reverse-push : {X : Type 0} (xs : List X) (x : X) → reverse (xs ++ x ∷ [
 reverse-push xs x = reverse-append xs (x ∷ [])
 
 -- The last element of a vector, and the elements before it.
-pub last_split : (items seen front : List OpenScope) (len : ℕ) (o : OpenScope) → seen ≡ items
+pub last-split : (items seen front : List OpenScope) (len : ℕ) (o : OpenScope) → seen ≡ items
     → len ≡ length items → Some o ≡ slice_get seen (length seen - 1) → front ≡ take (len - 1) items
     → reverse items ≡ o ∷ reverse front
-last_split items seen front len o same size found left =
+last-split items seen front len o same size found left =
     let there : slice_get items (length items - 1) ≡ Some o =
     subst (λ (s : List OpenScope). slice_get s (length s - 1) ≡ Some o) same (sym found) in
     let within = slice_get_within items (length items - 1) o there in

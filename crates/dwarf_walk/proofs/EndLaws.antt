@@ -5,11 +5,12 @@ use Rattle.std.proofs.Common.{append_assoc, append-nil}
 use Rattle.std.specs.Prelude.{nat_le, count_by}
 use Rattle.std.proofs.lemmas.Bool.{le-leb, lt-leb, cases_lt}
 use Rattle.dwarf_walk.specs.declared.walk.OpenScope.{OpenScope}
-use Rattle.dwarf_walk.specs.declared.kept.ScopePlace.{ScopePlace}
+use Rattle.dwarf_walk.specs.declared.unit_entries.ScopePlace.{ScopePlace}
 use Rattle.dwarf_units.specs.Entries.{Die, below}
 use Rattle.dwarf_walk.specs.ScopeEntries.{is_scope}
-use Rattle.dwarf_walk.specs.Private.Ends.{is_ended, known_inside, known_places, open_scope}
-use Rattle.dwarf_walk.specs.Private.Ends.{open_scopes, left_open, ended_at, new_place, new_open}
+use Rattle.dwarf_walk.specs.Private.Ends.{is_ended, recorded_descendants, recorded_places}
+use Rattle.dwarf_walk.specs.Private.Ends.{open_scope, open_scopes, left_open, ended_at, new_place}
+use Rattle.dwarf_walk.specs.Private.Ends.{new_open}
 use Rattle.dwarf_walk.proofs.OpenScopes.{ended_at-length, any-push, below-stays, below-all}
 use Rattle.dwarf_walk.proofs.OpenScopes.{places-count, AreFrom, open-from, AreDeeper, open-deeper}
 use Rattle.dwarf_walk.proofs.EndedPlaces.{ended_from, from-zero, ended-length, ended-shift}
@@ -30,15 +31,16 @@ module _ (number : ℕ) (die x : Die) (rest : List Die) where
   os = open_scopes (suc number) rest
 
   abbrev pub ps : List ScopePlace
-  ps = known_places rest
+  ps = recorded_places rest
 
   later : AreFrom (suc number) os
   later = open-from (suc number) rest
 
   pub record OneMore : Type 0 where
-    pub place : place_of die (known_inside die (rest ++ x ∷ [])) ∷ ended_from (suc number) x.depth
+    pub place : place_of die (recorded_descendants die (rest ++ x ∷ []))
+        ∷ ended_from (suc number) x.depth
         os ps ≡ ended_from number x.depth (os ++ open_scope number die rest)
-        (place_of die (known_inside die rest) ∷ ps)
+        (place_of die (recorded_descendants die rest) ∷ ps)
     pub left : left_open x.depth os ++ open_scope number die (rest ++ x ∷ [])
         ≡ left_open x.depth (os ++ open_scope number die rest)
 
@@ -104,29 +106,33 @@ module _ (number : ℕ) (die x : Die) (rest : List Die) where
       by_end true is = was_ended is
       by_end false is = by_order is (cases_lt die.depth x.depth)
 
-places-from : (number : ℕ) (dies : List Die) (x : Die) → known_places (dies ++ x ∷ [])
-    ≡ ended_from number x.depth (open_scopes number dies) (known_places dies) ++ new_place x
+places-from : (number : ℕ) (dies : List Die) (x : Die) → recorded_places (dies ++ x ∷ [])
+    ≡ ended_from number x.depth (open_scopes number dies) (recorded_places dies) ++ new_place x
 places-from number [] x = refl
 places-from number (die ∷ rest) x = by_scope (places-from number rest x)
     (places-from (suc number) rest x) (is_scope die)
   where
-    by_scope : known_places (rest ++ x ∷ []) ≡ ended_from number x.depth (open_scopes number rest)
-        (known_places rest) ++ new_place x
-        → known_places (rest ++ x ∷ []) ≡ ended_from (suc number) x.depth
-        (open_scopes (suc number) rest) (known_places rest) ++ new_place x → (t : Bool)
-        → cond t (place_of die (known_inside die (rest ++ x ∷ [])) ∷ known_places (rest ++ x ∷ []))
-        (known_places (rest ++ x ∷ []))
+    by_scope : recorded_places (rest ++ x ∷ []) ≡ ended_from number x.depth
+        (open_scopes number rest)
+        (recorded_places rest) ++ new_place x
+        → recorded_places (rest ++ x ∷ []) ≡ ended_from (suc number) x.depth
+        (open_scopes (suc number) rest) (recorded_places rest) ++ new_place x → (t : Bool)
+        → cond t (place_of die (recorded_descendants die (rest ++ x ∷ [])) ∷ recorded_places (rest
+        ++ x ∷ []))
+        (recorded_places (rest ++ x ∷ []))
         ≡ ended_from number x.depth (cond t
         (open_scopes (suc number) rest ++ open_scope number die rest) (open_scopes number rest))
-        (cond t (place_of die (known_inside die rest) ∷ known_places rest) (known_places rest))
+        (cond t (place_of die (recorded_descendants die rest) ∷ recorded_places rest)
+        (recorded_places rest))
         ++ new_place x
     by_scope same next true =
-        ap (λ (qs : List ScopePlace). place_of die (known_inside die (rest ++ x ∷ [])) ∷ qs) next
+        ap (λ (qs : List ScopePlace). place_of die (recorded_descendants die (rest ++ x ∷ []))
+        ∷ qs) next
         ∙ ap (λ (qs : List ScopePlace). qs ++ new_place x) (one_more number die x rest).place
     by_scope same next false = same
 
 open-from-push : (number : ℕ) (dies : List Die) (x : Die) → open_scopes number (dies ++ x ∷ [])
-    ≡ new_open (number + length (known_places dies)) x
+    ≡ new_open (number + length (recorded_places dies)) x
     ++ left_open x.depth (open_scopes number dies)
 open-from-push number [] x = by_scope (is_scope x)
   where
@@ -142,42 +148,46 @@ open-from-push number [] x = by_scope (is_scope x)
 open-from-push number (die ∷ rest) x = by_scope (open-from-push number rest x)
     (open-from-push (suc number) rest x) (is_scope die)
   where
-    count : suc number + length (known_places rest) ≡ number + suc (length (known_places rest))
+    count : suc number + length (recorded_places rest)
+        ≡ number + suc (length (recorded_places rest))
     count = omega arith
 
-    by_scope : open_scopes number (rest ++ x ∷ []) ≡ new_open (number + length (known_places rest))
+    by_scope : open_scopes number (rest ++ x ∷ [])
+        ≡ new_open (number + length (recorded_places rest))
         x ++ left_open x.depth (open_scopes number rest)
         → open_scopes (suc number) (rest ++ x ∷ [])
-        ≡ new_open (suc number + length (known_places rest)) x
+        ≡ new_open (suc number + length (recorded_places rest)) x
         ++ left_open x.depth (open_scopes (suc number) rest) → (t : Bool)
         → cond t (open_scopes (suc number) (rest ++ x ∷ [])
         ++ open_scope number die (rest ++ x ∷ [])) (open_scopes number (rest ++ x ∷ []))
         ≡ new_open (number + length (cond t
-        (place_of die (known_inside die rest) ∷ known_places rest) (known_places rest))) x
+        (place_of die (recorded_descendants die rest) ∷ recorded_places rest)
+        (recorded_places rest))) x
         ++ left_open x.depth (cond t
         (open_scopes (suc number) rest ++ open_scope number die rest) (open_scopes number rest))
     by_scope same next true =
         ap (λ (qs : List OpenScope). qs ++ open_scope number die (rest ++ x ∷ [])) next
-        ∙ append_assoc (new_open (suc number + length (known_places rest)) x)
+        ∙ append_assoc (new_open (suc number + length (recorded_places rest)) x)
         (left_open x.depth (open_scopes (suc number) rest))
         (open_scope number die (rest ++ x ∷ []))
-        ∙ ap (λ (qs : List OpenScope). new_open (suc number + length (known_places rest)) x ++ qs)
+        ∙ ap (λ (qs : List OpenScope). new_open (suc number + length (recorded_places rest)) x
+        ++ qs)
         (one_more number die x rest).left
         ∙ ap (λ (k : ℕ). new_open k x ++ left_open x.depth
         (open_scopes (suc number) rest ++ open_scope number die rest)) count
     by_scope same next false = same
 
-pub places-push : (dies : List Die) (x : Die) → known_places (dies ++ x ∷ [])
-    ≡ ended_at x.depth (open_scopes 0 dies) (known_places dies) ++ new_place x
+pub places-push : (dies : List Die) (x : Die) → recorded_places (dies ++ x ∷ [])
+    ≡ ended_at x.depth (open_scopes 0 dies) (recorded_places dies) ++ new_place x
 places-push dies x = places-from 0 dies x ∙ ap (λ (ps : List ScopePlace). ps ++ new_place x)
-    (from-zero x.depth (open_scopes 0 dies) (known_places dies))
+    (from-zero x.depth (open_scopes 0 dies) (recorded_places dies))
 
 pub open-push : (dies : List Die) (x : Die) → open_scopes 0 (dies ++ x ∷ [])
-    ≡ new_open (length (ended_at x.depth (open_scopes 0 dies) (known_places dies))) x
+    ≡ new_open (length (ended_at x.depth (open_scopes 0 dies) (recorded_places dies))) x
     ++ left_open x.depth (open_scopes 0 dies)
 open-push dies x =
-    let same : 0 + length (known_places dies)
-    ≡ length (ended_at x.depth (open_scopes 0 dies) (known_places dies)) =
-    omega (arith, ended_at-length x.depth (open_scopes 0 dies) (known_places dies)) in
+    let same : 0 + length (recorded_places dies)
+    ≡ length (ended_at x.depth (open_scopes 0 dies) (recorded_places dies)) =
+    omega (arith, ended_at-length x.depth (open_scopes 0 dies) (recorded_places dies)) in
     open-from-push 0 dies x ∙ ap (λ (k : ℕ). new_open k x ++ left_open x.depth (open_scopes 0 dies))
     same

@@ -4,7 +4,7 @@ use Rattle.std.proofs.Common.{false, cond, length, refl, ap, ◌∙◌, arith}
 use Rattle.std.specs.Prelude.{nat_le}
 use Rattle.std.proofs.lemmas.Bool.{le-leb, lt-leb}
 use Rattle.dwarf_walk.specs.declared.walk.OpenScope.{OpenScope}
-use Rattle.dwarf_walk.specs.declared.kept.ScopePlace.{ScopePlace}
+use Rattle.dwarf_walk.specs.declared.unit_entries.ScopePlace.{ScopePlace}
 use Rattle.dwarf_walk.specs.Private.Ends.{with_end, left_open, ended_at}
 use Rattle.dwarf_walk.proofs.OpenScopes.{with_end-length, AreFrom, AreDeeper}
 

@@ -1,5 +1,5 @@
-pub mod KeptNodes
-pub mod MarkLaws
+pub mod StoredNodes
+pub mod BitmapLaws
 pub mod OpenScopes
 pub mod EndedPlaces
 pub mod EndLaws
@@ -7,5 +7,5 @@ pub mod AllEnded
 pub mod WalkLaws
 pub mod WalkTurns
 pub mod WalkEnds
-pub mod TakeLaws
-pub mod AgainLaws
+pub mod FastPathLaws
+pub mod RereadLaws

@@ -6,11 +6,11 @@ use Rattle.std.proofs.lemmas.Bool.{lt-ltb, le-ltb, leb-true, leb-false}
 use Rattle.std.proofs.lemmas.List.Folds.{list_any-append}
 use Rattle.std.proofs.lemmas.List.Sums.{sum_by-cons, take_while-cons}
 use Rattle.dwarf_walk.specs.declared.walk.OpenScope.{OpenScope}
-use Rattle.dwarf_walk.specs.declared.kept.ScopePlace.{ScopePlace}
+use Rattle.dwarf_walk.specs.declared.unit_entries.ScopePlace.{ScopePlace}
 use Rattle.dwarf_units.specs.Entries.{Die, below}
 use Rattle.dwarf_walk.specs.ScopeEntries.{is_scope}
-use Rattle.dwarf_walk.specs.Private.Ends.{is_ended, known_inside, known_places, open_scope}
-use Rattle.dwarf_walk.specs.Private.Ends.{open_scopes, with_end, ended_at}
+use Rattle.dwarf_walk.specs.Private.Ends.{is_ended, recorded_descendants, recorded_places}
+use Rattle.dwarf_walk.specs.Private.Ends.{open_scope, open_scopes, with_end, ended_at}
 
 -- ---- closing one scope
 
@@ -114,16 +114,17 @@ below-all die x (y ∷ ys) h le = by_test (λ further. below-all die x ys furthe
         take_while-cons deeper y (ys ++ x ∷ []) ∙ rw passes refl in
         more ∙ ap (λ (ds : List Die). y ∷ ds) (further ended)
 
-pub places-count : (dies : List Die) → length (known_places dies) ≡ count_by is_scope dies
+pub places-count : (dies : List Die) → length (recorded_places dies) ≡ count_by is_scope dies
 places-count [] = refl
 places-count (die ∷ rest) = sym (sum_by-cons (λ (d : Die). cond (is_scope d) 1 0) die rest
     ∙ by_test (sym (places-count rest)) (is_scope die))
   where
-    by_test : count_by is_scope rest ≡ length (known_places rest) → (t : Bool)
+    by_test : count_by is_scope rest ≡ length (recorded_places rest) → (t : Bool)
         → cond t 1 0 + count_by is_scope rest
         ≡ length (cond {A = List ScopePlace} t
-        (record { offset = die.offset; inside = known_inside die rest } ∷ known_places rest)
-        (known_places rest))
+        (record { offset = die.offset; inside = recorded_descendants die rest }
+        ∷ recorded_places rest)
+        (recorded_places rest))
     by_test further true = omega (arith, further)
     by_test further false = omega (arith, further)
 

@@ -9,27 +9,28 @@ use Rattle.std.proofs.lemmas.List.Folds.{list_any-append}
 use Rattle.std.proofs.lemmas.List.Sums.{sum_by-append}
 use Rattle.dwarf_units.specs.declared.attributes.Attribute.{Attribute}
 use Rattle.dwarf_walk.specs.declared.walk.OpenScope.{OpenScope}
-use Rattle.dwarf_walk.specs.declared.kept.ScopePlace.{ScopePlace}
-use Rattle.dwarf_walk.specs.declared.kept.RootEntry.{RootEntry}
-use Rattle.dwarf_units.specs.Entries.{Node, Entry, Null, Standing, Die, die_of, opens, closes}
+use Rattle.dwarf_walk.specs.declared.unit_entries.ScopePlace.{ScopePlace}
+use Rattle.dwarf_walk.specs.declared.unit_entries.RootEntry.{RootEntry}
+use Rattle.dwarf_units.specs.Entries.{Node, Entry, Null, LocatedNode, Die, die_of, opens, closes}
 use Rattle.dwarf_units.specs.Entries.{is_root, depth_after}
-use Rattle.dwarf_walk.specs.Private.Kept.{root_entry, root_in}
+use Rattle.dwarf_walk.specs.Private.Stored.{root_entry, root_in}
 use Rattle.dwarf_walk.specs.References.{or_else}
-use Rattle.dwarf_walk.specs.Private.Readers.{Walked, walked_by, walked, after_die, depth_behind}
-use Rattle.dwarf_walk.specs.Private.Readers.{after_node}
+use Rattle.dwarf_walk.specs.Private.Readers.{WalkState, state_after_entries, state_after, after_die}
+use Rattle.dwarf_walk.specs.Private.Readers.{depth_after_entry, after_node}
 use Rattle.dwarf_walk.proofs.EndLaws.{places-push, open-push}
 
 -- The node at an offset, after a list of nodes.
-abbrev pub standing : List Standing → ℕ → Node → Standing
+abbrev pub standing : List LocatedNode → ℕ → Node → LocatedNode
 standing before at node = record { offset = at; depth = depth_after before; node = node }
 
 -- ---- one more entry or null entry
 
-pub walked-same : (d e : ℕ) (r s : Option RootEntry) (k l : List ScopePlace) (o p : List OpenScope)
+pub state_after-same : (d e : ℕ) (r s : Option RootEntry) (k l : List ScopePlace)
+    (o p : List OpenScope)
     → d ≡ e → r ≡ s → k ≡ l → o ≡ p
-    → (let x : Walked = record { depth = d; root = r; scopes = k; opened = o } in x)
+    → (let x : WalkState = record { depth = d; root = r; scopes = k; opened = o } in x)
     ≡ record { depth = e; root = s; scopes = l; opened = p }
-walked-same d e r s k l o p h1 h2 h3 h4 = cc
+state_after-same d e r s k l o p h1 h2 h3 h4 = cc
 
 root_in-push : (dies : List Die) (die : Die)
     → root_in (dies ++ die ∷ []) ≡ or_else (root_in dies) (Some (root_entry die))
@@ -37,27 +38,29 @@ root_in-push [] die = refl
 root_in-push (root ∷ dies) die = refl
 
 -- The state after one more entry, at any depth after it.
-pub walked_by-push : (depth behind : ℕ) (dies : List Die) (die : Die)
-    → walked_by behind (dies ++ die ∷ []) ≡ record (after_die (walked_by depth dies) die)
+pub state_after_entries-push : (depth behind : ℕ) (dies : List Die) (die : Die)
+    → state_after_entries behind (dies ++ die ∷ [])
+    ≡ record (after_die (state_after_entries depth dies) die)
     { depth = behind }
-walked_by-push depth behind dies die = walked-same _ _ _ _ _ _ _ _ refl (root_in-push dies die)
+state_after_entries-push depth behind dies die = state_after-same _ _ _ _ _ _ _ _ refl
+    (root_in-push dies die)
     (places-push dies die) (open-push dies die)
 
-count_push : {X : Type 0} (p : X → Bool) (xs : List X) (x : X) (t : Bool) → p x ≡ t
+count-push : {X : Type 0} (p : X → Bool) (xs : List X) (x : X) (t : Bool) → p x ≡ t
     → count_by p (xs ++ x ∷ []) ≡ count_by p xs + cond t 1 0
-count_push p xs x t is = sum_by-append (λ y. cond (p y) 1 0) xs (x ∷ [])
+count-push p xs x t is = sum_by-append (λ y. cond (p y) 1 0) xs (x ∷ [])
     ∙ ap (λ (k : ℕ). count_by p xs + k) (zero-add (cond (p x) 1 0) ∙ ap (λ (b : Bool). cond b 1 0)
     is)
 
 -- The nodes read so far close at most as many lists of children as they open. They contain a root
 -- if they contain an entry. Without an entry, the depth is 0.
-pub record IsTree (before : List Standing) : Type 0 where
+pub record IsTree (before : List LocatedNode) : Type 0 where
   pub closed : count_by closes before ≤ count_by opens before
   pub rooted : list_any is_root before ≡ is_some (root_in (filter_map die_of before))
   pub outside : root_in (filter_map die_of before) ≡ None → depth_after before ≡ 0
 
-pub tree_none : IsTree []
-tree_none = record { closed = omega arith; rooted = refl; outside = λ _. refl }
+pub tree-none : IsTree []
+tree-none = record { closed = omega arith; rooted = refl; outside = λ _. refl }
 
 null-depth : (o c d : ℕ) (t : Bool) → d ≡ o - c → nat_lt 0 d ≡ t → c ≤ o
     → ((o + 0) - (c + cond t 1 0) ≡ d - 1) × (c + cond t 1 0 ≤ o + 0)
@@ -65,28 +68,28 @@ null-depth o c d true is test le = let some = ltb-true 0 d test in (omega arith,
 null-depth o c d false is test le = let none = ltb-false 0 d test in (omega arith, omega arith)
 
 entry-depth : (o c : ℕ) (children : Bool) → c ≤ o
-    → ((o + cond children 1 0) - (c + 0) ≡ depth_behind children (o - c))
+    → ((o + cond children 1 0) - (c + 0) ≡ depth_after_entry children (o - c))
     × (c + 0 ≤ o + cond children 1 0)
 entry-depth o c true le = (omega arith, omega arith)
 entry-depth o c false le = (omega arith, omega arith)
 
-depth_push : (before : List Standing) (x : Standing) (p q : Bool) → opens x ≡ p → closes x ≡ q
+depth-push : (before : List LocatedNode) (x : LocatedNode) (p q : Bool) → opens x ≡ p → closes x ≡ q
     → depth_after (before ++ x ∷ []) ≡ (count_by opens before + cond p 1 0) -
     (count_by closes before + cond q 1 0)
-depth_push before x p q opened closed = rw
-    (count_push opens before x p opened, count_push closes before x q closed) refl
+depth-push before x p q opened closed = rw
+    (count-push opens before x p opened, count-push closes before x q closed) refl
 
 -- An entry after a list of nodes.
-abbrev pub die_at : List Standing → ℕ → ℕ → List Attribute → Die
+abbrev pub die_at : List LocatedNode → ℕ → ℕ → List Attribute → Die
 die_at before at tag attributes = record
     { offset = at; depth = depth_after before; tag = tag; attributes = attributes }
 
-pub dies-null : (before : List Standing) (at : ℕ)
+pub dies-null : (before : List LocatedNode) (at : ℕ)
     → filter_map die_of (before ++ standing before at Null ∷ []) ≡ filter_map die_of before
 dies-null before at = filter_map-append die_of before (standing before at Null ∷ [])
     ∙ append-nil (filter_map die_of before)
 
-pub dies-entry : (before : List Standing) (at tag : ℕ) (children : Bool)
+pub dies-entry : (before : List LocatedNode) (at tag : ℕ) (children : Bool)
     (attributes : List Attribute)
     → filter_map die_of (before ++ standing before at (Entry tag children attributes) ∷ [])
     ≡ filter_map die_of before ++ die_at before at tag attributes ∷ []
@@ -94,22 +97,23 @@ dies-entry before at tag children attributes =
     filter_map-append die_of before (standing before at (Entry tag children attributes) ∷ [])
 
 -- The state after one more entry or null entry.
-pub walked-push : (before : List Standing) (at : ℕ) (node : Node) → IsTree before
-    → after_node (walked before) at node ≡ walked (before ++ standing before at node ∷ [])
-walked-push before at Null tree =
+pub state_after-push : (before : List LocatedNode) (at : ℕ) (node : Node) → IsTree before
+    → after_node (state_after before) at node ≡ state_after (before ++ standing before at node ∷ [])
+state_after-push before at Null tree =
     let d : ℕ = depth_after before in
     let depth : depth_after (before ++ standing before at Null ∷ []) ≡ d - 1 =
-    depth_push before (standing before at Null) false (nat_lt 0 d) refl refl
+    depth-push before (standing before at Null) false (nat_lt 0 d) refl refl
     ∙ (null-depth (count_by opens before) (count_by closes before) d (nat_lt 0 d) refl refl
     tree.closed).0 in
     rw (depth, dies-null before at) refl
-walked-push before at (Entry tag children attributes) tree =
+state_after-push before at (Entry tag children attributes) tree =
     let depth : depth_after (before ++ standing before at (Entry tag children attributes) ∷ [])
-    ≡ depth_behind children (depth_after before) =
-    depth_push before (standing before at (Entry tag children attributes)) children false refl refl
+    ≡ depth_after_entry children (depth_after before) =
+    depth-push before (standing before at (Entry tag children attributes)) children false refl refl
     ∙ (entry-depth (count_by opens before) (count_by closes before) children tree.closed).0 in
     rw (depth, dies-entry before at tag children attributes)
-    (sym (walked_by-push (depth_after before) (depth_behind children (depth_after before))
+    (sym (state_after_entries-push (depth_after before) (depth_after_entry children
+    (depth_after before))
     (filter_map die_of before) (die_at before at tag attributes)))
 
 or_else-some : {X : Type 0} (o : Option X) (x : X) → or_else o (Some x) ≡ None → ⊥
@@ -121,29 +125,29 @@ or_else-is (Some y) x = refl
 or_else-is None x = refl
 
 -- After an entry is added, there is a root: one before it, or the entry itself at depth 0.
-rooted_by : (root : Option RootEntry) (any : Bool) (d : ℕ) → any ≡ is_some root
+rooted-by : (root : Option RootEntry) (any : Bool) (d : ℕ) → any ≡ is_some root
     → (root ≡ None → d ≡ 0) → (any || (((d == 0) && true) || false)) ≡ true
-rooted_by (Some root) any d is outside = rw is refl
-rooted_by None any d is outside = rw (is, outside refl) refl
+rooted-by (Some root) any d is outside = rw is refl
+rooted-by None any d is outside = rw (is, outside refl) refl
 
 or-false : (b : Bool) (c : Bool) → ((b || (((c && false)) || false)) ≡ b)
 or-false true c = refl
 or-false false true = refl
 or-false false false = refl
 
-pub tree_push : (before : List Standing) (at : ℕ) (node : Node) → IsTree before
+pub tree-push : (before : List LocatedNode) (at : ℕ) (node : Node) → IsTree before
     → IsTree (before ++ standing before at node ∷ [])
-tree_push before at Null tree =
+tree-push before at Null tree =
     let d : ℕ = depth_after before in
-    let x : Standing = standing before at Null in
+    let x : LocatedNode = standing before at Null in
     let counted = null-depth (count_by opens before) (count_by closes before) d (nat_lt 0 d) refl
     refl tree.closed in
     let depth : depth_after (before ++ x ∷ []) ≡ d - 1 =
-    depth_push before x false (nat_lt 0 d) refl refl ∙ counted.0 in
+    depth-push before x false (nat_lt 0 d) refl refl ∙ counted.0 in
     record {
       closed = rw (
-        count_push opens before x false refl,
-        count_push closes before x (nat_lt 0 d)
+        count-push opens before x false refl,
+        count-push closes before x (nat_lt 0 d)
             refl,
       ) counted.1;
       rooted = list_any-append is_root before (x ∷ [])
@@ -154,8 +158,8 @@ tree_push before at Null tree =
           ap root_in (sym (dies-null before at)) ∙ none in let out = tree.outside was in
           omega (arith, depth, out);
     }
-tree_push before at (Entry tag children attributes) tree =
-    let x : Standing = standing before at (Entry tag children attributes) in
+tree-push before at (Entry tag children attributes) tree =
+    let x : LocatedNode = standing before at (Entry tag children attributes) in
     let die : Die = die_at before at tag attributes in
     let dies : List Die = filter_map die_of before in
     let counted = entry-depth (count_by opens before) (count_by closes before) children
@@ -164,10 +168,10 @@ tree_push before at (Entry tag children attributes) tree =
     ≡ or_else (root_in dies) (Some (root_entry die)) =
     ap root_in (dies-entry before at tag children attributes) ∙ root_in-push dies die in
     record {
-      closed = rw (count_push opens before x children refl, count_push closes before x false refl)
+      closed = rw (count-push opens before x children refl, count-push closes before x false refl)
           counted.1;
       rooted = list_any-append is_root before (x ∷ [])
-          ∙ (rooted_by (root_in dies) (list_any is_root before) (depth_after before) tree.rooted
+          ∙ (rooted-by (root_in dies) (list_any is_root before) (depth_after before) tree.rooted
           tree.outside ∙ sym (ap (λ (r : Option RootEntry). is_some r) root
           ∙ or_else-is (root_in dies) (root_entry die)));
       outside = λ none. absurd (or_else-some (root_in dies) (root_entry die) (sym root ∙ none));

@@ -1,7 +1,7 @@
-pub mod Kept
-pub mod Again
+pub mod Stored
+pub mod Rereading
 pub mod Ends
 pub mod Long
-pub mod Marks
+pub mod EntryBitmap
 pub mod Named
 pub mod Readers

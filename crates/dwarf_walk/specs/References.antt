@@ -14,11 +14,12 @@ or_else (Some x) other = Some x
 or_else None other = other
 
 -- A reference, unless it is a type signature.
-abbrev pub followed : Option AttributeValue → Option AttributeValue
-followed None = None
-followed (Some value) = if value.form == DW_FORM_REF_SIG8 then None else Some value
+abbrev pub entry_reference : Option AttributeValue → Option AttributeValue
+entry_reference None = None
+entry_reference (Some value) = if value.form == DW_FORM_REF_SIG8 then None else Some value
 
 -- The reference to the next entry: abstract_origin, otherwise specification.
 abbrev pub next_of : Die → Option AttributeValue
 next_of die =
-    followed (or_else (attribute die DW_AT_ABSTRACT_ORIGIN) (attribute die DW_AT_SPECIFICATION))
+    entry_reference (or_else (attribute die DW_AT_ABSTRACT_ORIGIN)
+    (attribute die DW_AT_SPECIFICATION))

@@ -2,20 +2,20 @@
 //! their offsets (DWARF 5, chapters 2.3, 3.3 and 7.5).
 #![tactic(auto)]
 
-mod again;
-mod kept;
+mod entry_bitmap;
+mod entry_reader;
+mod fast_path;
 mod long_entries;
-mod marks;
 mod packed;
 mod scope_kind;
 mod sections;
-mod take;
+mod unit_entries;
 mod walk;
 
-pub use again::EntryReader;
-pub use kept::{NamedEntry, RootEntry, ScopeEntry, ScopePlace, UnitEntries};
-pub use marks::Marks;
+pub use entry_bitmap::EntryBitmap;
+pub use entry_reader::EntryReader;
 pub use packed::narrow;
 pub use scope_kind::ScopeKind;
 pub use sections::Sections;
+pub use unit_entries::{NamedEntry, RootEntry, ScopeEntry, ScopePlace, UnitEntries};
 pub use walk::entries;

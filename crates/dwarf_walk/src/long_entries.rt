@@ -1,11 +1,11 @@
 //! The cache of long entries. Each is read once, regardless of the number of references to it.
 
-ghost use Rattle.std.specs.Prelude.{◌≡◌, ◌==◌, ◌↔◌, None, Some, IfSome};
-ghost use Rattle.std.specs.Prelude.{IsTrue, OnOk, OnErr, if◌then◌else◌};
-ghost use Rattle.dwarf_walk.specs.declared.kept.NamedEntry.{NamedEntry as Named};
-ghost use Rattle.dwarf_walk.specs.Private.Long.{held_at, long_entry};
+ghost use Rattle.std.specs.Prelude.{◌≡◌, ◌==◌, ◌↔◌, None, Some, IfSome, IsTrue, OnOk, OnErr};
+ghost use Rattle.std.specs.Prelude.{if◌then◌else◌};
+ghost use Rattle.dwarf_walk.specs.declared.unit_entries.NamedEntry.{NamedEntry as Named};
+ghost use Rattle.dwarf_walk.specs.Private.Long.{cached_at, long_entry};
 
-use crate::kept::NamedEntry;
+use crate::unit_entries::NamedEntry;
 use dwarf_bytes::Format;
 use dwarf_units::UnitHeader;
 use std::alloc::{AllocError, Global};
@@ -23,7 +23,7 @@ pub(crate) struct LongEntry {
 /// The cached entries by offset.
 #[derive(Drop)]
 pub(crate) struct LongEntries {
-    held: BTreeMap<usize, LongEntry>,
+    cached: BTreeMap<usize, LongEntry>,
 }
 
 impl LongEntry {
@@ -42,23 +42,23 @@ impl LongEntry {
 
 impl LongEntries {
     pub(crate) fn new(alloc: Global) -> LongEntries
-        ensures { (offset : _) → held_at result offset ≡ None }
+        ensures { (offset : _) → cached_at result offset ≡ None }
     {
         LongEntries {
-            held: BTreeMap::new(alloc),
+            cached: BTreeMap::new(alloc),
         }
     }
 
     /// Returns the cached entry at an offset, if it was read in a unit like that of `header`.
     pub(crate) fn get(&self, header: &UnitHeader, offset: usize) -> Option<NamedEntry>
         ensures some { IfSome result (λ entry.
-            held_at self.now offset ≡ Some (long_entry header.now entry)) }
-        ensures found { (entry : Named) → held_at self.now offset
+            cached_at self.now offset ≡ Some (long_entry header.now entry)) }
+        ensures found { (entry : Named) → cached_at self.now offset
             ≡ Some (long_entry header.now entry) → result ≡ Some entry }
     {
-        let held = self.held.get(&offset)?;
-        if held.is_in(header) {
-            return Some(held.entry);
+        let cached = self.cached.get(&offset)?;
+        if cached.is_in(header) {
+            return Some(cached.entry);
         }
         None
     }
@@ -70,17 +70,17 @@ impl LongEntries {
         offset: usize,
         entry: NamedEntry,
     ) -> Result<(), AllocError>
-        ensures ok { OnOk result ((at : _) → held_at self.new at
-            ≡ if at == offset then Some (long_entry header.now entry) else held_at self.old at) }
-        ensures err { OnErr result ((at : _) → held_at self.new at ≡ held_at self.old at) }
+        ensures ok { OnOk result ((at : _) → cached_at self.new at
+            ≡ if at == offset then Some (long_entry header.now entry) else cached_at self.old at) }
+        ensures err { OnErr result ((at : _) → cached_at self.new at ≡ cached_at self.old at) }
     {
-        let held = LongEntry {
+        let cached = LongEntry {
             format: header.format,
             abbreviations: header.abbreviations,
             end: header.end,
             entry,
         };
-        self.held.insert(offset, held)?;
+        self.cached.insert(offset, cached)?;
         Ok(())
     }
 }

@@ -1,22 +1,22 @@
 //! The walk over the entries of a unit (DWARF 5, 2.3, 7.5.2 and 7.5.3).
 
-ghost use Rattle.std.specs.Prelude.{◌≡◌, ◌≤◌, ℕ, List, [], None, Ok};
-ghost use Rattle.std.specs.Prelude.{IsSome, IfOk, OnOk, not, take, reverse};
+ghost use Rattle.std.specs.Prelude.{◌≡◌, ◌≤◌, ℕ, List, [], None, Ok, IsSome, IfOk, OnOk, not, take};
+ghost use Rattle.std.specs.Prelude.{reverse};
 ghost use Rattle.dwarf_bytes.specs.declared.fault.Section.TheVariants as sections;
 ghost use Rattle.dwarf_bytes.specs.Refusals.{Decodes, in_section};
 ghost use Rattle.std.specs.List.{filter_map};
-ghost use Rattle.dwarf_units.specs.Entries.{Die, Standing, depth_limit};
-ghost use Rattle.dwarf_units.specs.Entries.{die_of, node_behind, entries_of};
-ghost use Rattle.dwarf_walk.specs.Private.Kept.{kept_of, kept_entries};
-ghost use Rattle.dwarf_walk.specs.Private.Marks.{AddsMarks, offsets_of};
-ghost use Rattle.dwarf_walk.specs.Private.Readers.{IsAfterEntry, MarksNode, ReadsNode, walked_of};
-ghost use Rattle.dwarf_walk.specs.Private.Readers.{walked_at, nodes_of, walk_of};
+ghost use Rattle.dwarf_units.specs.Entries.{Die, LocatedNode, depth_limit, die_of, node_at_depth};
+ghost use Rattle.dwarf_units.specs.Entries.{entries_of};
+ghost use Rattle.dwarf_walk.specs.Private.Stored.{stored_of, stored_entries};
+ghost use Rattle.dwarf_walk.specs.Private.EntryBitmap.{AddsOffsets, offsets_of};
+ghost use Rattle.dwarf_walk.specs.Private.Readers.{IsAfterEntry, AddsNode, ReadsNode, state_of};
+ghost use Rattle.dwarf_walk.specs.Private.Readers.{state_at, nodes_of, walk_of};
 ghost use Rattle.dwarf_walk.specs.Private.Ends.{ended_at, left_open, with_end};
 ghost use Rattle.dwarf_units.specs.Private.Plans.{Fills};
 
-use crate::kept::{RootEntry, ScopePlace, UnitEntries};
-use crate::marks::Marks;
+use crate::entry_bitmap::EntryBitmap;
 use crate::packed::narrow;
+use crate::unit_entries::{RootEntry, ScopePlace, UnitEntries};
 use dwarf_bytes::{Cause, Cursor, LoadFault, Section, Span};
 use dwarf_units::{UnitHeader, UnitTable, UsedAttributes};
 use std::alloc::{AllocError, Global};
@@ -45,7 +45,7 @@ pub(crate) struct Walk {
     pub(crate) opened: Vec<OpenScope>,
 }
 
-/// Parses the entries of a unit and sets the bit of each in `marks`. A fault is reported at the
+/// Parses the entries of a unit and sets the bit of each in `bitmap`. A fault is reported at the
 /// offset of its entry. A list of children that is not terminated is reported at the offset of the
 /// unit. Both are offsets in `.debug_info`.
 pub fn entries(
@@ -53,18 +53,18 @@ pub fn entries(
     info: &[u8],
     header: UnitHeader,
     table: &UnitTable<'_>,
-    marks: &mut Marks,
+    bitmap: &mut EntryBitmap,
 ) -> Result<UnitEntries, LoadFault>
     requires { table.now.format ≡ header.format }
-    ensures decodes { Decodes (λ unit. kept_of unit) result (in_section sections.DebugInfo
-        (kept_entries info.now header table.now.declarations)) }
-    ensures marks { OnOk result ((dies : List Die) → entries_of info.now header
-        table.now.declarations ≡ Ok dies → AddsMarks marks.old marks.new (offsets_of dies)) }
+    ensures decodes { Decodes (λ unit. stored_of unit) result (in_section sections.DebugInfo
+        (stored_entries info.now header table.now.declarations)) }
+    ensures bitmap { OnOk result ((dies : List Die) → entries_of info.now header
+        table.now.declarations ≡ Ok dies → AddsOffsets bitmap.old bitmap.new (offsets_of dies)) }
 {
-    let mut walk = walk_unit(alloc, info, header, table, marks)?;
+    let mut walk = walk_unit(alloc, info, header, table, bitmap)?;
     if walk.depth > 0 {
         let at = header.start as u64;
-        return Err(LoadFault::told(Section::DebugInfo, Cause::TreeOpen, at));
+        return Err(LoadFault::at_item(Section::DebugInfo, Cause::TreeOpen, at));
     }
     end_scopes(&mut walk.scopes, &mut walk.opened, 0)?;
     Ok(UnitEntries {
@@ -76,7 +76,7 @@ pub fn entries(
 
 impl Walk {
     fn new(alloc: Global) -> Walk
-        ensures { walked_of result
+        ensures { state_of result
             ≡ record { depth = 0; root = None; scopes = []; opened = [] } }
     {
         Walk {
@@ -87,27 +87,27 @@ impl Walk {
         }
     }
 
-    /// Reads the entry or null entry at the cursor, and sets the bit of an entry in `marks`.
+    /// Reads the entry or null entry at the cursor, and sets the bit of an entry in `bitmap`.
     /// `found` is a buffer for its used attributes.
     pub(crate) fn step(
         &mut self,
         table: &UnitTable<'_>,
-        marks: &mut Marks,
+        bitmap: &mut EntryBitmap,
         cursor: &mut Cursor,
         found: &mut UsedAttributes,
     ) -> Result<(), Cause>
-        ensures fills { Fills result (walked_of self.new)
-            (walked_at table.now.format table.now.declarations
-            (walked_of self.old)) cursor.old cursor.new }
-        ensures marks { OnOk result (MarksNode table.now cursor.old.bytes cursor.old.place
-            (walked_of self.old) marks.old marks.new) }
+        ensures fills { Fills result (state_of self.new)
+            (state_at table.now.format table.now.declarations
+            (state_of self.old)) cursor.old cursor.new }
+        ensures bitmap { OnOk result (AddsNode table.now cursor.old.bytes cursor.old.place
+            (state_of self.old) bitmap.old bitmap.new) }
     {
         let offset = cursor.place();
         let rooted = self.root.is_some();
         match node(table, self.depth, rooted, cursor, found)? {
             None => self.depth = self.depth.saturating_sub(1),
             Some(head) => {
-                marks.mark(offset)?;
+                bitmap.add_offset(offset)?;
                 self.keep(offset, head.tag, found)?;
                 if head.children {
                     self.depth += 1;
@@ -119,40 +119,40 @@ impl Walk {
 
     /// Stores the data of the entry at an offset, given its used attributes.
     fn keep(&mut self, offset: usize, tag: u64, found: &UsedAttributes) -> Result<(), AllocError>
-        ensures { OnOk result (IsAfterEntry (walked_of self.old) (walked_of self.new) offset tag
+        ensures { OnOk result (IsAfterEntry (state_of self.old) (state_of self.new) offset tag
             found.now) }
     {
         if self.root.is_none() {
             self.root = Some(RootEntry::of(offset, found));
         }
-        self.keep_scope(offset, tag)
+        self.add_scope(offset, tag)
     }
 }
 
-/// Walks the entries of a unit and sets the bit of each in `marks`. A fault is reported at the
+/// Walks the entries of a unit and sets the bit of each in `bitmap`. A fault is reported at the
 /// offset of the entry or null entry that causes it.
 fn walk_unit(
     alloc: Global,
     info: &[u8],
     header: UnitHeader,
     table: &UnitTable<'_>,
-    marks: &mut Marks,
+    bitmap: &mut EntryBitmap,
 ) -> Result<Walk, LoadFault>
     requires { table.now.format ≡ header.format }
-    ensures decodes { Decodes (λ walk. walked_of walk) result (in_section sections.DebugInfo
+    ensures decodes { Decodes (λ walk. state_of walk) result (in_section sections.DebugInfo
         (walk_of info.now header table.now.declarations)) }
-    ensures marks { OnOk result ((all : List Standing × ℕ) → nodes_of info.now header
+    ensures bitmap { OnOk result ((all : List LocatedNode × ℕ) → nodes_of info.now header
         table.now.declarations ≡ Ok all
-        → AddsMarks marks.old marks.new (offsets_of (filter_map die_of all.0))) }
+        → AddsOffsets bitmap.old bitmap.new (offsets_of (filter_map die_of all.0))) }
 {
     let unit = unit_bytes(info, &header);
     let mut walk = Walk::new(alloc);
     let mut found = UsedAttributes::none();
     let mut place = header.first;
     while place < unit.len() {
-        place = match walk.take(table, marks, unit, place, &mut found) {
+        place = match walk.read_node(table, bitmap, unit, place, &mut found) {
             Ok(after) => after,
-            Err(cause) => return Err(LoadFault::told(Section::DebugInfo, cause, place as u64)),
+            Err(cause) => return Err(LoadFault::at_item(Section::DebugInfo, cause, place as u64)),
         };
     }
     Ok(walk)
@@ -179,7 +179,7 @@ fn node(
     found: &mut UsedAttributes,
 ) -> Result<Option<NodeHead>, Cause>
     ensures reads { ReadsNode (not rooted) result found.new
-        (node_behind table.now.format table.now.declarations depth rooted) cursor.old cursor.new }
+        (node_at_depth table.now.format table.now.declarations depth rooted) cursor.old cursor.new }
     ensures limit { IfOk result (λ entry. IsSome entry → depth ≤ depth_limit) }
 {
     let Some(head) = table.head(depth, rooted, cursor)? else {

@@ -2,7 +2,7 @@
 
 use dwarf_bytes::{Cause, Cursor, Format, LoadFault, Object, Section};
 use dwarf_forms::{
-    AbbreviationDeclaration, AbbreviationTable, AttributeSpecification, KnownLists, value,
+    AbbreviationDeclaration, AbbreviationTable, AttributeSpecification, MemoizedLists, value,
 };
 use std::alloc::Global;
 
@@ -71,10 +71,10 @@ fn read_tables(alloc: Global, abbrev: &[u8], units: &[Unit]) -> Result<u64, Load
 }
 
 /// Returns the attribute lists of a section before any of them is read.
-fn no_lists(alloc: Global, abbrev: &[u8]) -> Result<KnownLists<'_>, LoadFault> {
-    match KnownLists::new(alloc, abbrev) {
+fn no_lists(alloc: Global, abbrev: &[u8]) -> Result<MemoizedLists<'_>, LoadFault> {
+    match MemoizedLists::new(alloc, abbrev) {
         Ok(lists) => Ok(lists),
-        Err(_) => Err(LoadFault::told(Section::DebugAbbrev, Cause::Memory, 0)),
+        Err(_) => Err(LoadFault::at_item(Section::DebugAbbrev, Cause::Memory, 0)),
     }
 }
 
@@ -90,10 +90,10 @@ fn units(alloc: Global, info: &[u8]) -> Result<Vec<Unit>, LoadFault> {
             Ok(unit) => {
                 place = unit.end;
                 if units.push(unit).is_err() {
-                    return Err(LoadFault::told(Section::DebugInfo, Cause::Memory, 0));
+                    return Err(LoadFault::at_item(Section::DebugInfo, Cause::Memory, 0));
                 }
             }
-            Err(cause) => return Err(LoadFault::told(Section::DebugInfo, cause, place as u64)),
+            Err(cause) => return Err(LoadFault::at_item(Section::DebugInfo, cause, place as u64)),
         }
     }
     Ok(units)
@@ -133,7 +133,7 @@ fn read_entries(
     info: &[u8],
     unit: &Unit,
     table: &AbbreviationTable,
-    lists: &KnownLists<'_>,
+    lists: &MemoizedLists<'_>,
     counts: &mut Counts,
 ) {
     let mut cursor = Cursor::new(info);
@@ -174,7 +174,7 @@ fn read_values(
     cursor: &mut Cursor<'_>,
     format: Format,
     declaration: &AbbreviationDeclaration,
-    lists: &KnownLists<'_>,
+    lists: &MemoizedLists<'_>,
     counts: &mut Counts,
 ) -> Result<(), Cause> {
     for attribute in declaration.list().own() {

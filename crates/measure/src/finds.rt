@@ -35,7 +35,7 @@ pub fn measure_finds(rt: &HostRuntime, module: &Module) -> Result<()> {
         time.as_millis()
     )?;
     let start = Instant::now(rt)?;
-    let seen = tell_all(module, &mut steps);
+    let seen = ask_all(module, &mut steps);
     let time = start.elapsed(rt)?;
     println!(rt;
         "{ASKED} finds with all frames, {} places, {} frames, {} bytes, {} ms",
@@ -66,7 +66,7 @@ fn find_all(module: &Module, steps: &mut Steps) -> u64 {
     places
 }
 
-fn tell_all(module: &Module, steps: &mut Steps) -> Seen {
+fn ask_all(module: &Module, steps: &mut Steps) -> Seen {
     let mut seen = Seen {
         places: 0,
         frames: 0,

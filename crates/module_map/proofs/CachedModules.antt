@@ -137,11 +137,11 @@ module _ (hs : List NumberedModule) (loads : ℕ) (m : Loaded) (len low high : �
   free_all at lt is = placed_free hs loads m (free-name m.name hs loads free) at lt
       (clear_all at is)
 
-  pub kept_there : (hs' : List NumberedModule) (at serial : ℕ) (h : NumberedModule)
+  pub kept-there : (hs' : List NumberedModule) (at serial : ℕ) (h : NumberedModule)
       → h ≡ record { serial = serial; loaded = m }
       → start_of m < end_of m → IsClear hs len low high at → hs' ≡ insert hs at h
       → map loaded_of hs' ≡ placed m (map loaded_of hs)
-  kept_there hs' at serial h is order clear new =
+  kept-there hs' at serial h is order clear new =
       ap (map loaded_of) (new ∙ ap (insert hs at) is)
       ∙ sym (placed-in hs at (record { serial = serial; loaded = m }) (clear_all at clear) order)
 

@@ -49,7 +49,7 @@ fn no_cache(rt: HostRuntime) {
 }
 
 #[test]
-fn an_address_of_which_nothing_is_known_is_cached(rt: HostRuntime) {
+fn an_unknown_address_is_cached(rt: HostRuntime) {
     let mut modules = one(&rt, 0x10000, 4);
     are_equal(&rt, line(&mut modules, 0x11010), None);
     are_equal(&rt, modules.cached(), (1, 4));

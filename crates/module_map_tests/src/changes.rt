@@ -50,7 +50,7 @@ fn the_greatest_address(rt: HostRuntime) {
 }
 
 #[test]
-fn an_overlap_tells_the_lowest_module_met(rt: HostRuntime) {
+fn an_overlap_names_the_lowest_module(rt: HostRuntime) {
     let mut modules = one(&rt, 0x30000, 0);
     load(&rt, &mut modules, "b", 0x20800, inlined());
     load(&rt, &mut modules, "c", 0x1f000, inlined());

@@ -7,8 +7,8 @@ use std::process::Abort;
 use std::test::*;
 
 /// Checks that both values are equal.
-pub fn are_equal<T: Copy + Debug + PartialEq>(rt: &impl Abort, told: T, wanted: T) {
-    assert_eq!(rt; told, wanted);
+pub fn are_equal<T: Copy + Debug + PartialEq>(rt: &impl Abort, actual: T, wanted: T) {
+    assert_eq!(rt; actual, wanted);
 }
 
 /// Checks that the last ask took two to `most` comparisons. A failure prints `at`.
@@ -83,8 +83,8 @@ pub fn load_gives(
     base: u64,
     wanted: Result<Extent, MapFault>,
 ) {
-    let told = modules.load(name, base, copy(rt, inlined()));
-    are_equal(rt, told, wanted);
+    let actual = modules.load(name, base, copy(rt, inlined()));
+    are_equal(rt, actual, wanted);
 }
 
 /// Checks the result of a move.

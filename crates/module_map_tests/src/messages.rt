@@ -16,7 +16,7 @@ fn prints(rt: &(impl Abort + AllocGlobal), fault: MapFault, message: &str) {
 
 #[test]
 fn prints_map_faults(rt: HostRuntime) {
-    let object = LoadFault::told(Section::DebugLine, Cause::FileFormat, 7);
+    let object = LoadFault::at_item(Section::DebugLine, Cause::FileFormat, 7);
     let messages = [
         (MapFault::NameTaken, "name-taken"),
         (MapFault::NoModule, "no-module"),

@@ -15,7 +15,7 @@ use Rattle.addr_table.specs.Rows.{holds}
 use Rattle.addr_table.specs.Private.Bits.{is_filled}
 use Rattle.addr_table.specs.Private.Active.{ActiveSet, one_more}
 use Rattle.addr_table.specs.Private.Sweep.{Reach, AreEnds, UpTo, Above, keyed, IsBalanced}
-use Rattle.addr_table.proofs.Endpoints.TakenLaws.{one_if, one_of, one_upto, taken-high, taken-low}
+use Rattle.addr_table.proofs.Endpoints.TakenLaws.{one-if, one_of, one_upto, taken-high, taken-low}
 use Rattle.addr_table.proofs.Sweeping.CountLaws.{one_held, held, ends-balance}
 
 -- ---- the active set
@@ -59,10 +59,10 @@ pub keyed-more : (k i : ℕ) (ends : List End) (d : End) → i < length ends
     → keyed k (take (i + 1) ends) ≡ keyed k (take i ends) + one_of k (get_or ends i d)
 keyed-more k i ends d lt = sum_by_more (one_of k) ends i d lt
 
-pub one_same : (a k : ℕ) → a ≡ k → one_if (a == k) ≡ 1
+pub one_same : (a k : ℕ) → a ≡ k → one-if (a == k) ≡ 1
 one_same a k is = let t : (a == k) ≡ true = grind (arith, nat_tests) in rw t refl
 
-one-other : (a k : ℕ) → (k ≡ a → ⊥) → one_if (a == k) ≡ 0
+one-other : (a k : ℕ) → (k ≡ a → ⊥) → one-if (a == k) ≡ 0
 one-other a k not_is = let t : (a == k) ≡ false = grind (arith, nat_tests) in rw t refl
 
 -- the balance after a range starts
@@ -180,7 +180,7 @@ held-any k a (r ∷ reaches) =
     ap (nat_lt 0) sum ∙ step ((r.key == k) && holds a r.range) (held k a reaches)
     ∙ ap (λ b. ((r.key == k) && holds a r.range) || b) (held-any k a reaches)
   where
-    step : (b : Bool) (n : ℕ) → nat_lt 0 (one_if b + n) ≡ (b || nat_lt 0 n)
+    step : (b : Bool) (n : ℕ) → nat_lt 0 (one-if b + n) ≡ (b || nat_lt 0 n)
     step true n = grind (arith, nat_tests)
     step false n = ap (nat_lt 0) (omega arith)
 

@@ -14,8 +14,8 @@ use Rattle.addr_table.specs.Private.Bits.{has, is_filled, IsFirstFrom, IsFirstIn
 -- ---- the first set bit of a word at or after a bit
 
 -- the bits of a word at or after a bit, from the shifted word
-pub none_from : (word from i : ℕ) → word / 2 ^ from ≡ 0 → from ≤ i → bit_at word i ≡ 0
-none_from word from i h le =
+pub none-from : (word from i : ℕ) → word / 2 ^ from ≡ 0 → from ≤ i → bit_at word i ≡ 0
+none-from word from i h le =
     let moved : word / 2 ^ from / 2 ^ (i - from) ≡ word / 2 ^ (from + (i - from)) =
     shr-shr word from (i - from) in
     let place : from + (i - from) ≡ i = omega arith in

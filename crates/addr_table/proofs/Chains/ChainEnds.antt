@@ -9,7 +9,7 @@ use Rattle.std.proofs.lemmas.List.{reverse-append, get_or_default}
 use Rattle.dwarf_walk.specs.declared.scope_kind.ScopeKind.TheVariants.{Subprogram}
 use Rattle.dwarf_entries.specs.Scopes.{Scope}
 use Rattle.dwarf_entries.specs.Order.{AreNumbered}
-use Rattle.addr_table.specs.Chains.{is_at, encloses, enclosing, held_among}
+use Rattle.addr_table.specs.Chains.{is_at, encloses, enclosing, chain_among}
 use Rattle.addr_table.specs.Frames.{place_chain}
 use Rattle.addr_table.specs.Private.Parents.{around, IsParent}
 use Rattle.addr_table.specs.Private.Walks.{HaveParents, chain_around, top_around, search_start_of}
@@ -62,7 +62,7 @@ started-chain a scopes nears (Some number) have = elim (cases_lt number (length 
       rw inside refl)
   | inr le ↦
       (let outside : nat_lt number (length scopes) ≡ false = grind (arith, nat_tests) in rw outside
-      (ap (held_among a) (past-end 0 (length scopes) number scopes have.order.numbered le)))
+      (ap (chain_among a) (past-end 0 (length scopes) number scopes have.order.numbered le)))
 ]
 
 pub search_start-within : (count : ℕ) (scope : Option ℕ) → search_start_of count scope ≤ count

@@ -8,7 +8,7 @@ use Rattle.std.specs.List.{AllByRecursion, list_any}
 use Rattle.std.proofs.lemmas.List.Folds.{find-append}
 use Rattle.dwarf_walk.specs.declared.scope_kind.ScopeKind.TheVariants.{Subprogram, Inlined}
 use Rattle.dwarf_entries.specs.Scopes.{Scope}
-use Rattle.addr_table.specs.Chains.{is_at, enclosing, held_among}
+use Rattle.addr_table.specs.Chains.{is_at, enclosing, chain_among}
 use Rattle.addr_table.specs.Private.Parents.{around, IsParent}
 use Rattle.addr_table.specs.Private.Walks.{HaveParents, chain_around, top_around}
 use Rattle.addr_table.proofs.FrameWalks.FrameChains.{held-more, filtered-enclose}
@@ -48,25 +48,25 @@ find-all P p (x ∷ xs) t all h = cases (p x) h (find-all P p xs t all.1)
     cases false h rest = rest h
 
 pub held-none : (a : ℕ) (xs : List Scope) → find (is_at Subprogram a) xs ≡ None
-    → held_among a xs ≡ []
+    → chain_among a xs ≡ []
 held-none a [] h = refl
 held-none a (s ∷ xs) h = cases (is_at Subprogram a s) h (held-none a xs)
   where
     cases : (b : Bool) → cond b (Some s) (find (is_at Subprogram a) xs) ≡ None
-        → (find (is_at Subprogram a) xs ≡ None → held_among a xs ≡ [])
-        → cond b (s ∷ filter (is_at Inlined a) xs) (held_among a xs) ≡ []
+        → (find (is_at Subprogram a) xs ≡ None → chain_among a xs ≡ [])
+        → cond b (s ∷ filter (is_at Inlined a) xs) (chain_among a xs) ≡ []
     cases true h rest = cc
     cases false h rest = rest h
 
 pub held-some : (a : ℕ) (xs : List Scope) (t : Scope) → find (is_at Subprogram a) xs ≡ Some t
-    → (inner : List Scope) × (held_among a xs ≡ t ∷ inner)
+    → (inner : List Scope) × (chain_among a xs ≡ t ∷ inner)
 held-some a [] t h = cc
 held-some a (s ∷ xs) t h = cases (is_at Subprogram a s) h (held-some a xs t)
   where
     cases : (b : Bool) → cond b (Some s) (find (is_at Subprogram a) xs) ≡ Some t
         → (find (is_at Subprogram a) xs ≡ Some t
-        → (inner : List Scope) × (held_among a xs ≡ t ∷ inner))
-        → (inner : List Scope) × (cond b (s ∷ filter (is_at Inlined a) xs) (held_among a xs) ≡ t
+        → (inner : List Scope) × (chain_among a xs ≡ t ∷ inner))
+        → (inner : List Scope) × (cond b (s ∷ filter (is_at Inlined a) xs) (chain_among a xs) ≡ t
         ∷ inner)
     cases true h rest = (
       filter (is_at Inlined a) xs,
@@ -124,7 +124,7 @@ step-top a scopes nears k near d have lt is top =
         → (b : Bool)
         → is_at Subprogram a (get_or scopes k d) ≡ b
         → number_in (option_or o (cond b (Some (get_or scopes k d)) None)) ≡ Some k
-        → held_among a (around scopes (get_or nears k 0) ++ get_or scopes k d ∷ [])
+        → chain_among a (around scopes (get_or nears k 0) ++ get_or scopes k d ∷ [])
         ≡ get_or scopes k d ∷ []
     by None f true t h =
         held-more a (around scopes (get_or nears k 0)) (get_or scopes k d)
@@ -138,7 +138,7 @@ step-top a scopes nears k near d have lt is top =
 
     here : chain_around a scopes (suc k) ≡ get_or scopes k d ∷ []
     here =
-        ap (held_among a) split
+        ap (chain_among a) split
         ∙ by (find (is_at Subprogram a) (around scopes (get_or nears k 0))) refl
         (is_at Subprogram a (get_or scopes k d)) refl top_here
 
@@ -153,7 +153,7 @@ pub step-outer : (a : ℕ) (scopes : List Scope) (nears : List ℕ) (k near top 
     → HaveParents scopes nears → k < length scopes
     → near ≡ suc k → top_around a scopes near ≡ Some top → k ≢ top
     → Outer a scopes k (get_or nears k 0) near top
-step-outer a scopes nears k near top have lt is told other = record {
+step-outer a scopes nears k near top have lt is returned other = record {
   top_is =
       (by_d (record {
         kind = Subprogram;
@@ -197,14 +197,14 @@ step-outer a scopes nears k near top have lt is told other = record {
         top_here =
             sym (ap number_in (found-more a (around scopes (get_or nears k 0)) (get_or scopes k d)))
             ∙ (sym (ap (λ (xs : List Scope). number_in (find (is_at Subprogram a) xs)) split)
-            ∙ subst (λ (n : ℕ). top_around a scopes n ≡ Some top) is told)
+            ∙ subst (λ (n : ℕ). top_around a scopes n ≡ Some top) is returned)
 
         by : (o : Option Scope) → find (is_at Subprogram a) (around scopes (get_or nears k 0)) ≡ o
             → (b : Bool)
             → number_in (option_or o (cond b (Some (get_or scopes k d)) None)) ≡ Some top
             → (number_in o ≡ Some top) ×
-            (held_among a (around scopes (get_or nears k 0) ++ get_or scopes k d ∷ [])
-            ≡ held_among a (around scopes (get_or nears k 0))
+            (chain_among a (around scopes (get_or nears k 0) ++ get_or scopes k d ∷ [])
+            ≡ chain_among a (around scopes (get_or nears k 0))
             ++ filter (is_at Inlined a) (get_or scopes k d ∷ []))
         by None f true h = absurd (other (sym there ∙ the-same h))
         by None f false h = cc
@@ -216,8 +216,8 @@ step-outer a scopes nears k near top have lt is told other = record {
 
         found : (number_in (find (is_at Subprogram a) (around scopes (get_or nears k 0)))
             ≡ Some top) ×
-            (held_among a (around scopes (get_or nears k 0) ++ get_or scopes k d ∷ [])
-            ≡ held_among a (around scopes (get_or nears k 0))
+            (chain_among a (around scopes (get_or nears k 0) ++ get_or scopes k d ∷ [])
+            ≡ chain_among a (around scopes (get_or nears k 0))
             ++ filter (is_at Inlined a) (get_or scopes k d ∷ []))
         found = by (find (is_at Subprogram a) (around scopes (get_or nears k 0))) refl
             (is_at Subprogram a (get_or scopes k d)) top_here
@@ -225,4 +225,4 @@ step-outer a scopes nears k near top have lt is told other = record {
         here : (top_around a scopes (get_or nears k 0) ≡ Some top) ×
             (chain_around a scopes (suc k) ≡ chain_around a scopes (get_or nears k 0)
             ++ filter (is_at Inlined a) (get_or scopes k d ∷ []))
-        here = (found.0, ap (held_among a) split ∙ found.1)
+        here = (found.0, ap (chain_among a) split ∙ found.1)

@@ -12,7 +12,7 @@ use Rattle.dwarf_entries.specs.declared.scope.Root.{Root}
 use Rattle.dwarf_entries.specs.declared.scope.Scope.{Scope as Kept}
 use Rattle.dwarf_walk.specs.declared.scope_kind.ScopeKind.TheVariants.{Inlined}
 use Rattle.dwarf_entries.specs.Scopes.{Scope, Own, own_of, call_file_at, stmt_list_at, Tree}
-use Rattle.dwarf_entries.specs.Order.{TellsOf}
+use Rattle.dwarf_entries.specs.Order.{HasDataOf}
 use Rattle.addr_table.specs.Chains.{is_kind}
 use Rattle.dwarf_lines.specs.Lines.{Lines}
 use Rattle.addr_table.specs.CrossChecks.{is_bad_root, is_bad_call, is_bad_scope, check_scope}
@@ -157,14 +157,14 @@ units-over lines tree roots i are h past =
 
 -- ---- the data of a scope of the program
 
-pub told-bad : (lines : Lines) (scopes : List Scope) (k : Kept) (s : Scope) (b : Bool)
-    → TellsOf scopes k s
+pub returned-bad : (lines : Lines) (scopes : List Scope) (k : Kept) (s : Scope) (b : Bool)
+    → HasDataOf scopes k s
     → b ≡ (is_kind Inlined (own_of k).kind && is_bad_call lines
     (call_file_at scopes (own_of k).number)
     (stmt_list_at scopes (own_of k).number))
     → b ≡ is_bad_scope lines s
 unfolding is_bad_scope
-told-bad lines scopes k s b tells is =
+returned-bad lines scopes k s b tells is =
     is
     ∙ (ap (λ (o : Own). is_kind Inlined o.kind && is_bad_call lines
     (call_file_at scopes (own_of k).number)
@@ -174,6 +174,6 @@ told-bad lines scopes k s b tells is =
     ∙ ap (λ (l : Option ℕ). is_kind Inlined s.kind && is_bad_call lines s.call_file l)
     tells.stmt_list_is))
 
-pub told-offset : (scopes : List Scope) (k : Kept) (s : Scope) → TellsOf scopes k s
+pub returned-offset : (scopes : List Scope) (k : Kept) (s : Scope) → HasDataOf scopes k s
     → (own_of k).offset ≡ s.offset
-told-offset scopes k s tells = ap (λ (o : Own). o.offset) tells.own_is
+returned-offset scopes k s tells = ap (λ (o : Own). o.offset) tells.own_is

@@ -14,7 +14,7 @@ use Rattle.dwarf_entries.specs.Scopes.{Tree, tree_of}
 use Rattle.dwarf_entries.specs.Order.{AreInOrder}
 use Rattle.addr_table.specs.Private.Parents.{AreParents}
 use Rattle.addr_table.specs.Segments.{Segment, segments_of, least_calls, most_calls}
-use Rattle.addr_table.specs.Private.Kept.{IsDecoded}
+use Rattle.addr_table.specs.Private.Decoded.{IsDecoded}
 use Rattle.addr_table.specs.Frames.{line_sections}
 use Rattle.addr_table.specs.CrossChecks.{cross_checks_of, RefusesAs}
 use Rattle.addr_table.specs.Decoded.{Decoded, decoded, entry_sections}
@@ -49,10 +49,10 @@ lines-read bytes line line_str str found is a b c =
       str = take z.debug_str.len (drop z.debug_str.place bytes);
     }) is
 
-pub entries_read : (bytes : List ℕ) (found : Layout) → found ≡ layout bytes
+pub entries-read : (bytes : List ℕ) (found : Layout) → found ≡ layout bytes
     → sections_in bytes found ≡ entry_sections bytes
 unfolding layout
-entries_read bytes found is = ap (sections_in bytes) is
+entries-read bytes found is = ap (sections_in bytes) is
 
 -- ---- a fault of each pass, if all passes before it succeed
 
@@ -74,7 +74,7 @@ pub record LinesRead (bytes : List ℕ) (lines : Lines) : Type 0 where
 
 pub record TreeRead (bytes : List ℕ) (lines : Lines) (tree : Tree) : Type 0 where
   pub behind : LinesRead bytes lines
-  pub tree_is : tree_of (entry_sections bytes) ≡ Ok tree
+  pub tree-is : tree_of (entry_sections bytes) ≡ Ok tree
 
 pub lines-good : (bytes : List ℕ) (s : LineSections) (lines : Lines) → elf_fault bytes ≡ None
     → s ≡ line_sections bytes
@@ -90,7 +90,7 @@ tree-bad bytes lines s fault h is bad = rw (h.elf, h.lines-are, ap tree_of (sym 
 pub tree-good : (bytes : List ℕ) (lines : Lines) (s : Sections) (tree : Tree)
     → LinesRead bytes lines → s ≡ entry_sections bytes
     → tree_of s ≡ Ok tree → TreeRead bytes lines tree
-tree-good bytes lines s tree h is good = record { behind = h; tree_is = ap tree_of (sym is) ∙ good }
+tree-good bytes lines s tree h is good = record { behind = h; tree-is = ap tree_of (sym is) ∙ good }
 
 of-section : (fault : LoadFault) (section : Section) → fault.section ≡ section
     → record { section = section; cause = fault.cause; at = fault.at } ≡ fault
@@ -101,14 +101,14 @@ pub joins-bad : (bytes : List ℕ) (lines : Lines) (tree : Tree) (fault : LoadFa
     → RefusesAs (Err fault) (cross_checks_of lines tree) → fault_of bytes ≡ Some fault
 unfolding fault_of decoded
 joins-bad bytes lines tree fault h bad =
-    rw (h.behind.elf, h.behind.lines-are, h.tree_is, bad.1)
+    rw (h.behind.elf, h.behind.lines-are, h.tree-is, bad.1)
     (ap (λ (f : LoadFault). Some f) (of-section fault names.DebugInfo bad.0))
 
 pub all-good : (bytes : List ℕ) (lines : Lines) (tree : Tree) → TreeRead bytes lines tree
     → RefusesAs (Ok tt) (cross_checks_of lines tree)
     → decoded bytes ≡ Ok (record { lines = lines; tree = tree })
 unfolding decoded
-all-good bytes lines tree h good = rw (h.behind.elf, h.behind.lines-are, h.tree_is, good.1) refl
+all-good bytes lines tree h good = rw (h.behind.elf, h.behind.lines-are, h.tree-is, good.1) refl
 
 pub well-formed : (bytes : List ℕ) (d : Decoded) → decoded bytes ≡ Ok d → IsWellFormed bytes
 unfolding IsWellFormed

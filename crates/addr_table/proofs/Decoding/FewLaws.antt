@@ -16,7 +16,7 @@ use Rattle.dwarf_entries.specs.TreeLaws.{RiseBelow}
 use Rattle.addr_table.specs.declared.ends.End.{End}
 use Rattle.dwarf_walk.specs.Sections.{Sections}
 use Rattle.addr_table.specs.Decoded.{entry_sections}
-use Rattle.addr_table.proofs.Decoding.DecodeLaws.{entries_read}
+use Rattle.addr_table.proofs.Decoding.DecodeLaws.{entries-read}
 use Rattle.addr_table.specs.Rows.{covers_from, covers_of}
 use Rattle.addr_table.specs.Segments.{is_nonempty}
 use Rattle.addr_table.specs.Private.Sweep.{Reach, reach_of, row_reaches, reaches_in, key_of}
@@ -111,7 +111,7 @@ decoded-few bytes line found s rows scopes small found_is line_is s_is take_byte
     within bytes line found.debug_line.len found.debug_line.place line_is in
     let infos : length s.debug_info ≤ length bytes =
     within bytes s.debug_info found.debug_info.len found.debug_info.place
-    (ap (λ (x : Sections). x.debug_info) (s_is ∙ sym (entries_read bytes found found_is))) in
+    (ap (λ (x : Sections). x.debug_info) (s_is ∙ sym (entries-read bytes found found_is))) in
     let mapped : length (map (λ (scope : Scope). scope.offset) scopes) ≡ length scopes =
     length-map scopes (λ (scope : Scope). scope.offset) in
     let offsets = few-below (length s.debug_info) (map (λ (scope : Scope). scope.offset) scopes)

@@ -17,45 +17,50 @@ use Rattle.addr_table.specs.Frames.{frames_of, frames_at, place_chain, row_site}
 use Rattle.addr_table.specs.Frames.{first_site}
 use Rattle.addr_table.proofs.FrameWalks.SiteLaws.{site-of-frames}
 use Rattle.addr_table.specs.Private.Walks.{HaveParents}
-use Rattle.addr_table.specs.Private.Kept.{IsDecoded}
+use Rattle.addr_table.specs.Private.Decoded.{IsDecoded}
 use Rattle.addr_table.proofs.Decoding.ExtentLaws.{elf-good, low-below-high}
 use Rattle.addr_table.proofs.Searching.SegmentListLaws.{place_among-cuts}
 
-pub low_told : (bytes : List ℕ) (found : Layout) → found ≡ layout bytes → found.low ≡ low_of bytes
+pub low_returned : (bytes : List ℕ) (found : Layout) → found ≡ layout bytes → found.low
+    ≡ low_of bytes
 unfolding low_of layout
-low_told bytes found is = ap (λ (z : Layout). z.low) is
+low_returned bytes found is = ap (λ (z : Layout). z.low) is
 
-pub high_told : (bytes : List ℕ) (found : Layout) → found ≡ layout bytes
+pub high_returned : (bytes : List ℕ) (found : Layout) → found ≡ layout bytes
     → found.high ≡ high_of bytes
 unfolding high_of layout
-high_told bytes found is = ap (λ (z : Layout). z.high) is
+high_returned bytes found is = ap (λ (z : Layout). z.high) is
 
-pub place-told : (bytes : List ℕ) (sections : Layout) (lines : Lines) (tree : Tree) (nears : List ℕ)
+pub place-returned : (bytes : List ℕ) (sections : Layout) (lines : Lines) (tree : Tree)
+    (nears : List ℕ)
     (list : List Segment) (calls link : ℕ)
     → IsDecoded bytes sections lines tree nears list calls
     → place_among list link ≡ place_in bytes link
 unfolding place_in
-place-told bytes sections lines tree nears list calls link h =
+place-returned bytes sections lines tree nears list calls link h =
     rw h.is_decoded (ap (λ (cs : List Segment). place_among cs link) h.cuts_are
     ∙ place_among-cuts lines.rows tree.scopes link)
 
-pub cuts-told : (bytes : List ℕ) (sections : Layout) (lines : Lines) (tree : Tree) (nears : List ℕ)
+pub cuts-returned : (bytes : List ℕ) (sections : Layout) (lines : Lines) (tree : Tree)
+    (nears : List ℕ)
     (list : List Segment) (calls : ℕ)
     → IsDecoded bytes sections lines tree nears list calls → list ≡ segments_in bytes
 unfolding segments_in
-cuts-told bytes sections lines tree nears list calls h = rw h.is_decoded h.cuts_are
+cuts-returned bytes sections lines tree nears list calls h = rw h.is_decoded h.cuts_are
 
-pub least-told : (bytes : List ℕ) (sections : Layout) (lines : Lines) (tree : Tree) (nears : List ℕ)
+pub least-returned : (bytes : List ℕ) (sections : Layout) (lines : Lines) (tree : Tree)
+    (nears : List ℕ)
     (list : List Segment) (calls : ℕ)
     → IsDecoded bytes sections lines tree nears list calls → least_calls_in bytes ≤ calls
 unfolding least_calls_in
-least-told bytes sections lines tree nears list calls h = rw h.is_decoded h.least
+least-returned bytes sections lines tree nears list calls h = rw h.is_decoded h.least
 
-pub most-told : (bytes : List ℕ) (sections : Layout) (lines : Lines) (tree : Tree) (nears : List ℕ)
+pub most-returned : (bytes : List ℕ) (sections : Layout) (lines : Lines) (tree : Tree)
+    (nears : List ℕ)
     (list : List Segment) (calls : ℕ)
     → IsDecoded bytes sections lines tree nears list calls → calls ≤ most_calls_in bytes
 unfolding most_calls_in
-most-told bytes sections lines tree nears list calls h = rw h.is_decoded h.most
+most-returned bytes sections lines tree nears list calls h = rw h.is_decoded h.most
 
 -- the row and the scope that a linear scan finds are the place
 pub place-scanned : (bytes : List ℕ) (sections : Layout) (lines : Lines) (tree : Tree)
@@ -67,40 +72,40 @@ pub place-scanned : (bytes : List ℕ) (sections : Layout) (lines : Lines) (tree
     → place_of row scope link ≡ place_in bytes link
 unfolding place_in place_at
 place-scanned bytes sections lines tree nears list calls rows scopes row scope link h rows_are
-    scopes_are row_is scope_is =
+    scopes_are row_is scope-is =
     let R : row ≡ row_at lines.rows link =
     row_is ∙ ap (λ (rs : List Row). row_at rs link) rows_are in
     let S : scope ≡ scope_at tree.scopes link =
-    scope_is ∙ ap (λ (ss : List Scope). scope_at ss link) scopes_are in
+    scope-is ∙ ap (λ (ss : List Scope). scope_at ss link) scopes_are in
     rw (h.is_decoded, R, S) refl
 
-pub extent-told : (bytes : List ℕ) (sections : Layout) (lines : Lines) (tree : Tree)
+pub extent-returned : (bytes : List ℕ) (sections : Layout) (lines : Lines) (tree : Tree)
     (nears : List ℕ) (list : List Segment) (calls : ℕ)
     → IsDecoded bytes sections lines tree nears list calls → low_of bytes < high_of bytes
-extent-told bytes sections lines tree nears list calls h =
+extent-returned bytes sections lines tree nears list calls h =
     low-below-high bytes (elf-good bytes _ h.is_decoded)
 
-pub frames-told : (bytes : List ℕ) (sections : Layout) (lines : Lines) (tree : Tree)
+pub frames-returned : (bytes : List ℕ) (sections : Layout) (lines : Lines) (tree : Tree)
     (nears : List ℕ) (list : List Segment) (calls : ℕ)
     (place : Place)
     → IsDecoded bytes sections lines tree nears list calls
     → frames_of bytes lines (place_chain place.link place.scope tree.scopes) place.row
     ≡ frames_in bytes place
 unfolding frames_in frames_at
-frames-told bytes sections lines tree nears list calls place h = rw h.is_decoded refl
+frames-returned bytes sections lines tree nears list calls place h = rw h.is_decoded refl
 
-pub parents-told : (bytes : List ℕ) (sections : Layout) (lines : Lines) (tree : Tree)
+pub parents-returned : (bytes : List ℕ) (sections : Layout) (lines : Lines) (tree : Tree)
     (nears : List ℕ) (list : List Segment) (calls : ℕ)
     → IsDecoded bytes sections lines tree nears list calls → HaveParents tree.scopes nears
-parents-told bytes sections lines tree nears list calls h =
+parents-returned bytes sections lines tree nears list calls h =
     record { order = h.order; parents = h.parents_are; all = h.parents_all }
 
-pub site-told : (bytes : List ℕ) (sections : Layout) (lines : Lines) (tree : Tree)
+pub site-returned : (bytes : List ℕ) (sections : Layout) (lines : Lines) (tree : Tree)
     (nears : List ℕ) (list : List Segment) (calls : ℕ)
     (place : Place)
     → IsDecoded bytes sections lines tree nears list calls
     → row_site bytes lines place.row ≡ first_site (frames_in bytes place)
 unfolding frames_in frames_at
-site-told bytes sections lines tree nears list calls place h =
+site-returned bytes sections lines tree nears list calls place h =
     rw h.is_decoded (sym (site-of-frames bytes lines
     (place_chain place.link place.scope tree.scopes) place.row))

@@ -5,8 +5,8 @@ use Rattle.std.specs.Prelude.{Some, slice_get}
 use Rattle.std.proofs.lemmas.List.{length-map, get_or-map}
 use Rattle.dwarf_entries.specs.declared.scope.Scope.{Scope as Kept}
 use Rattle.dwarf_entries.specs.Scopes.{Scope, Own, own, own_of}
-use Rattle.dwarf_entries.specs.Order.{AreInOrder, TellsOf}
-use Rattle.dwarf_entries.proofs.TellLaws.{tells-of}
+use Rattle.dwarf_entries.specs.Order.{AreInOrder, HasDataOf}
+use Rattle.dwarf_entries.proofs.ScopePasses.DataLaws.{tells-of}
 
 pub own-count : (kept : List Kept) (scopes : List Scope) → map own_of kept ≡ map own scopes
     → length kept ≡ length scopes
@@ -21,14 +21,14 @@ get-there (x ∷ xs) (suc i) d lt = get-there xs i d (omega arith)
 the-same : {X : Type 0} {x y : X} → Some x ≡ Some y → x ≡ y
 the-same e = cc
 
-pub told-item : (scopes : List Scope) (kept : List Kept) (i : ℕ) (r : Kept) → AreInOrder scopes
+pub returned-item : (scopes : List Scope) (kept : List Kept) (i : ℕ) (r : Kept) → AreInOrder scopes
     → map own_of kept ≡ map own scopes
-    → i < length scopes → (d : Scope) → TellsOf scopes (get_or kept i r) (get_or scopes i d)
-told-item scopes kept i r order same lt d =
+    → i < length scopes → (d : Scope) → HasDataOf scopes (get_or kept i r) (get_or scopes i d)
+returned-item scopes kept i r order same lt d =
     let len : length kept ≡ length scopes = own-count kept scopes same in
     let t = tells-of scopes kept i (get_or kept i r) order same
     (get-there kept i r (omega arith)) in
-    subst (λ (s : Scope). TellsOf scopes (get_or kept i r) s)
+    subst (λ (s : Scope). HasDataOf scopes (get_or kept i r) s)
     (the-same (sym t.1 ∙ get-there scopes i d lt)) t.2
 
 pub end-item : (scopes : List Scope) (kept : List Kept) (i : ℕ) (r : Kept) (d : Scope)

@@ -12,7 +12,7 @@ use Rattle.dwarf_lines.specs.declared.row.Row.{Row}
 use Rattle.dwarf_entries.specs.declared.scope.Range.{Range}
 use Rattle.dwarf_entries.specs.declared.scope.Scope.{Scope as Kept}
 use Rattle.dwarf_entries.specs.Scopes.{Scope, Own, own_of, ranges_at}
-use Rattle.dwarf_entries.specs.Order.{TellsOf}
+use Rattle.dwarf_entries.specs.Order.{HasDataOf}
 use Rattle.addr_table.specs.declared.ends.End.{End}
 use Rattle.addr_table.specs.Rows.{cover_of, covers_from}
 use Rattle.addr_table.specs.Segments.{is_nonempty}
@@ -161,12 +161,12 @@ pub scopes-end : (rows total k : ℕ) (scopes : List Scope) → length scopes �
 scopes-end rows total k scopes le = ap (scope_reaches rows total) (drop_all k scopes le)
 
 -- the key and the ranges of a scope of the program
-pub told-reaches : (rows total key : ℕ) (scopes : List Scope) (k : Kept) (s : Scope)
-    (ranges : List Range) → TellsOf scopes k s
+pub returned-reaches : (rows total key : ℕ) (scopes : List Scope) (k : Kept) (s : Scope)
+    (ranges : List Range) → HasDataOf scopes k s
     → key ≡ key_of rows total (own_of k).kind (own_of k).number
     → ranges ≡ ranges_at scopes (own_of k).number
     → map (λ r. record { key = key; range = r }) ranges ≡ reaches_in rows total s
-told-reaches rows total key scopes k s ranges tells key_is ranges_are =
+returned-reaches rows total key scopes k s ranges tells key_is ranges_are =
     let same : key ≡ key_of rows total s.kind s.number =
     key_is ∙ ap (λ (o : Own). key_of rows total o.kind o.number) tells.own_is in
     ap (map (λ r. record { key = key; range = r })) (ranges_are ∙ tells.ranges_are)

@@ -131,7 +131,8 @@ first-scope (x ∷ xs) y ys low =
     let is : nat_le x.at y.at ≡ false = grind (arith, nat_tests) in rw is refl
 
 -- the endpoint in front of the rest of a list
-in-front : (ends : List End) (n : ℕ) (e : End) (later : List End) (d : End) → drop n ends ≡ e ∷ later
+in-front : (ends : List End) (n : ℕ) (e : End) (later : List End) (d : End) → drop n ends
+    ≡ e ∷ later
     → (n < length ends) × (get_or ends n d ≡ e) × (drop (n + 1) ends ≡ later)
 in-front ends n e later d is =
     let lt : n < length ends = elim (cases_lt n (length ends)) [
@@ -155,7 +156,8 @@ in-front ends n e later d is =
 pub row-first : (rows scopes : List End) (row scope : ℕ) (e : End)
     → row < length rows → ((d : End) → e ≡ get_or rows row d)
     → ((d : End) → scope < length scopes → e.at ≤ (get_or scopes scope d).at)
-    → merged (drop row rows) (drop scope scopes) ≡ e ∷ merged (drop (row + 1) rows) (drop scope scopes)
+    → merged (drop row rows) (drop scope scopes) ≡ e ∷ merged (drop (row + 1) rows)
+    (drop scope scopes)
 row-first rows scopes row scope e lt is low =
     ap (λ (xs : List End). merged xs (drop scope scopes))
     (drop_more rows row e lt ∙ ap (λ (x : End). x ∷ drop (row + 1) rows) (sym (is e)))
@@ -171,7 +173,8 @@ row-first rows scopes row scope e lt is low =
 pub scope-first : (rows scopes : List End) (row scope : ℕ) (e : End)
     → scope < length scopes → ((d : End) → e ≡ get_or scopes scope d)
     → ((d : End) → row < length rows → e.at < (get_or rows row d).at)
-    → merged (drop row rows) (drop scope scopes) ≡ e ∷ merged (drop row rows) (drop (scope + 1) scopes)
+    → merged (drop row rows) (drop scope scopes) ≡ e ∷ merged (drop row rows)
+    (drop (scope + 1) scopes)
 scope-first rows scopes row scope e lt is low =
     ap (merged (drop row rows))
     (drop_more scopes scope e lt ∙ ap (λ (x : End). x ∷ drop (scope + 1) scopes) (sym (is e)))

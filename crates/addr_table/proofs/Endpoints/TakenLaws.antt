@@ -11,8 +11,8 @@ use Rattle.addr_table.specs.declared.ends.End.{End}
 use Rattle.addr_table.specs.Private.Sweep.{UpTo, Above, keyed}
 
 -- 1 if a test holds
-abbrev pub one_if : Bool → ℕ
-one_if b = cond b 1 0
+abbrev pub one-if : Bool → ℕ
+one-if b = cond b 1 0
 
 -- ---- sums
 
@@ -56,16 +56,16 @@ sum-mapped f m (x ∷ xs) =
 
 -- 1 if an endpoint has a key and is at or below an address
 abbrev pub one_upto : ℕ → ℕ → End → ℕ
-one_upto k a e = one_if ((e.key == k) && nat_le e.at a)
+one_upto k a e = one-if ((e.key == k) && nat_le e.at a)
 
 abbrev pub one_of : ℕ → End → ℕ
-one_of k e = one_if (e.key == k)
+one_of k e = one-if (e.key == k)
 
 upto-low : (k a : ℕ) (e : End) → e.at ≤ a → one_of k e ≡ one_upto k a e
 upto-low k a e le = let yes_le : nat_le e.at a ≡ true = grind (arith, nat_tests) in
     rw yes_le (both (e.key == k))
   where
-    both : (b : Bool) → one_if b ≡ one_if (b && true)
+    both : (b : Bool) → one-if b ≡ one-if (b && true)
     both true = refl
     both false = refl
 
@@ -73,7 +73,7 @@ upto-high : (k a : ℕ) (e : End) → a < e.at → one_upto k a e ≡ 0
 upto-high k a e lt = let not_le : nat_le e.at a ≡ false = grind (arith, nat_tests) in
     rw not_le (both (e.key == k))
   where
-    both : (b : Bool) → one_if (b && false) ≡ 0
+    both : (b : Bool) → one-if (b && false) ≡ 0
     both true = refl
     both false = refl
 
@@ -114,7 +114,7 @@ taken-high k a p ends h =
     each [] h = tt
     each (e ∷ es) h = (upto-high k a e h.0, each es h.1)
 
-    fewer : (b c : Bool) → one_if (b && c) ≤ one_if b
+    fewer : (b c : Bool) → one-if (b && c) ≤ one-if b
     fewer true true = omega arith
     fewer true false = omega arith
     fewer false c = omega arith

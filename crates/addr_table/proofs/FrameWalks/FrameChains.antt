@@ -8,7 +8,7 @@ use Rattle.std.proofs.lemmas.Bool.Decides.{nat_tests}
 use Rattle.dwarf_walk.specs.declared.scope_kind.ScopeKind.TheVariants.{Subprogram, Inlined}
 use Rattle.dwarf_entries.specs.Scopes.{Scope}
 use Rattle.dwarf_entries.specs.Order.{AreInOrder}
-use Rattle.addr_table.specs.Chains.{is_at, chain_of, encloses, enclosing, held_among}
+use Rattle.addr_table.specs.Chains.{is_at, chain_of, encloses, enclosing, chain_among}
 use Rattle.addr_table.specs.Places.{last}
 use Rattle.addr_table.proofs.FrameWalks.FrameLaws.{AllKept, of-kept, AllEnclose, of-all, Enclosed}
 use Rattle.addr_table.proofs.FrameWalks.FrameLaws.{empty}
@@ -46,17 +46,18 @@ filtered-enclose j (s ∷ xs) = cases (nat_le s.number j) (nat_lt j s.«end») r
 -- contains the address, and the inlined subroutines inside it that contain the address.
 pub chain-enclosing : (a : ℕ) (scopes : List Scope) (t : Scope) → AreInOrder scopes
     → last (chain_of a scopes) ≡ Some t
-    → chain_of a scopes ≡ held_among a (enclosing t.number scopes)
+    → chain_of a scopes ≡ chain_among a (enclosing t.number scopes)
 chain-enclosing a scopes t order is = by
     (of-encloses a 0 (length scopes) scopes order.numbered order.nested)
   where
     from : AllEnclose t.number (chain_of a scopes)
-        → chain_of a scopes ≡ held_among a (enclosing t.number scopes)
+        → chain_of a scopes ≡ chain_among a (enclosing t.number scopes)
     from all =
         sym (of-kept (encloses t.number) a scopes (enclosed-kept t.number (chain_of a scopes) all))
         ∙ of-all a t.number (enclosing t.number scopes) (filtered-enclose t.number scopes)
 
-    by : Enclosed (chain_of a scopes) → chain_of a scopes ≡ held_among a (enclosing t.number scopes)
+    by : Enclosed (chain_of a scopes) → chain_of a scopes
+        ≡ chain_among a (enclosing t.number scopes)
     by (empty nothing) = let never : last [] ≡ Some t = sym (ap last nothing) ∙ is in
         absurd (not_so never)
       where
@@ -76,19 +77,19 @@ chain-enclosing a scopes t order is = by
 -- and a subprogram before it contains the address, or if it is the first subprogram that contains
 -- the address.
 pub held-more : (a : ℕ) (xs : List Scope) (s : Scope)
-    → held_among a (xs ++ s ∷ []) ≡ cond (list_any (is_at Subprogram a) xs)
-    (held_among a xs ++ filter (is_at Inlined a) (s ∷ []))
-    (held_among a (s ∷ []))
+    → chain_among a (xs ++ s ∷ []) ≡ cond (list_any (is_at Subprogram a) xs)
+    (chain_among a xs ++ filter (is_at Inlined a) (s ∷ []))
+    (chain_among a (s ∷ []))
 held-more a [] s = refl
 held-more a (x ∷ xs) s = cases (is_at Subprogram a x) (held-more a xs s)
   where
     cases : (b : Bool)
-        → held_among a (xs ++ s ∷ []) ≡ cond (list_any (is_at Subprogram a) xs)
-        (held_among a xs ++ filter (is_at Inlined a) (s ∷ []))
-        (held_among a (s ∷ []))
-        → cond b (x ∷ filter (is_at Inlined a) (xs ++ s ∷ [])) (held_among a (xs ++ s ∷ [])) ≡
+        → chain_among a (xs ++ s ∷ []) ≡ cond (list_any (is_at Subprogram a) xs)
+        (chain_among a xs ++ filter (is_at Inlined a) (s ∷ []))
+        (chain_among a (s ∷ []))
+        → cond b (x ∷ filter (is_at Inlined a) (xs ++ s ∷ [])) (chain_among a (xs ++ s ∷ [])) ≡
         cond (b || list_any (is_at Subprogram a) xs)
-        (cond b (x ∷ filter (is_at Inlined a) xs) (held_among a xs)
-        ++ filter (is_at Inlined a) (s ∷ [])) (held_among a (s ∷ []))
+        (cond b (x ∷ filter (is_at Inlined a) xs) (chain_among a xs)
+        ++ filter (is_at Inlined a) (s ∷ [])) (chain_among a (s ∷ []))
     cases true rest = ap (λ (zs : List Scope). x ∷ zs) (filter-append (is_at Inlined a) xs (s ∷ []))
     cases false rest = rest

@@ -7,7 +7,7 @@ use Rattle.std.proofs.lemmas.Bool.Decides.{nat_tests}
 use Rattle.dwarf_walk.specs.declared.scope_kind.ScopeKind.TheVariants.{Subprogram, Inlined}
 use Rattle.dwarf_entries.specs.Scopes.{Scope}
 use Rattle.dwarf_entries.specs.Order.{AreNumbered, EndsWithin, AreNested}
-use Rattle.addr_table.specs.Chains.{is_at, chain_below, chain_of, held_among}
+use Rattle.addr_table.specs.Chains.{is_at, chain_below, chain_of, chain_among}
 use Rattle.addr_table.specs.Places.{last}
 use Rattle.addr_table.proofs.Scanning.Lists.{each-weaker}
 
@@ -80,7 +80,7 @@ below-all a j end (s ∷ later) h lt =
     let inside : nat_lt s.number end ≡ true = grind (arith, nat_tests) in
     rw (inside, below-all a j s.«end» later h.1 h.0.1, below-all a j end later h.1 lt) refl
 
-pub of-all : (a j : ℕ) (xs : List Scope) → AllEnclose j xs → chain_of a xs ≡ held_among a xs
+pub of-all : (a j : ℕ) (xs : List Scope) → AllEnclose j xs → chain_of a xs ≡ chain_among a xs
 unfolding chain_of
 of-all a j [] h = refl
 of-all a j (s ∷ later) h = rw (below-all a j s.«end» later h.1 h.0.1, of-all a j later h.1) refl

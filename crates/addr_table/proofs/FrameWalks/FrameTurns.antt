@@ -80,9 +80,9 @@ pub path-read : (bytes : List ℕ) (lines : Lines) (program : ProgramNo) (file :
     → s ≡ line_sections bytes → tables ≡ map (part_bytes s) parts
     → path_of lines program file ≡ Some parts
     → Some (join_with_byte 47 tables) ≡ file_path bytes lines program file
-path-read bytes lines program file parts tables s is told found =
+path-read bytes lines program file parts tables s is returned found =
     ap (λ (z : List (List ℕ)). Some (join_with_byte 47 z))
-    (told ∙ ap (λ (z : LineSections). map (part_bytes z) parts) is)
+    (returned ∙ ap (λ (z : LineSections). map (part_bytes z) parts) is)
     ∙ sym (ap (option_map (path_bytes (line_sections bytes))) found)
 
 -- ---- the start
@@ -99,12 +99,12 @@ pub started-some : (bytes : List ℕ) (lines : Lines) (scopes : List Scope) (nea
     → Some top ≡ top_around a scopes near
     → walk_left bytes lines scopes a near (Row row) false
     ≡ frames_of bytes lines (place_chain a scope scopes) row
-started-some bytes lines scopes nears a scope row count near top have total is told =
+started-some bytes lines scopes nears a scope row count near top have total is returned =
     let here : place_chain a scope scopes ≡ chain_around a scopes near =
     started-chain a scopes nears scope have
     ∙ sym (ap (λ (n : ℕ). chain_around a scopes n)
     (is ∙ ap (λ (n : ℕ). search_start_of n scope) total)) in
-    let full = some-chain a scopes near top (sym told) in
+    let full = some-chain a scopes near top (sym returned) in
     from-chain bytes lines (chain_around a scopes near) row full.0 full.1 full.2
     ∙ ap (λ (chain : List Scope). frames_of bytes lines chain row) (sym here)
 
@@ -120,19 +120,19 @@ pub started-none : (bytes : List ℕ) (lines : Lines) (scopes : List Scope) (nea
     → None ≡ top_around a scopes near → alone ≡ is_some row
     → walk_left bytes lines scopes a 0 (Row row) alone
     ≡ frames_of bytes lines (place_chain a scope scopes) row
-started-none bytes lines scopes nears a scope row count near alone have total is told row_is =
+started-none bytes lines scopes nears a scope row count near alone have total is returned row_is =
     let here : place_chain a scope scopes ≡ chain_around a scopes near =
     started-chain a scopes nears scope have
     ∙ sym (ap (λ (n : ℕ). chain_around a scopes n)
     (is ∙ ap (λ (n : ℕ). search_start_of n scope) total)) in
-    let none : place_chain a scope scopes ≡ [] = here ∙ no-chain a scopes near (sym told) in
+    let none : place_chain a scope scopes ≡ [] = here ∙ no-chain a scopes near (sym returned) in
     ap (λ (b : Bool). walk_left bytes lines scopes a 0 (Row row) b) row_is
     ∙ (alone-row bytes lines scopes a row
     ∙ ap (λ (chain : List Scope). frames_of bytes lines chain row) (sym none))
 
 -- ---- one scope more
 
-pub told-frame : (bytes : List ℕ) (lines : Lines) (scopes : List Scope) (nears : List ℕ)
+pub returned-frame : (bytes : List ℕ) (lines : Lines) (scopes : List Scope) (nears : List ℕ)
     (a start near top next : ℕ) (site : FrameSite)
     (alone : Bool)
     → Told a scopes nears start near top → near ≢ 0 → near ≤ length scopes → alone ≡ false
@@ -140,9 +140,9 @@ pub told-frame : (bytes : List ℕ) (lines : Lines) (scopes : List Scope) (nears
     → walk_left bytes lines scopes a start site alone ≡ frame_view bytes lines scopes
     (Some (near - 1)) site ∷ walk_left bytes lines scopes
     a next (Call (near - 1)) alone
-told-frame bytes lines scopes nears a start near top next site alone t some le off is =
+returned-frame bytes lines scopes nears a start near top next site alone t some le off is =
     let lt : near - 1 < length scopes = omega arith in
     let there : slice_get scopes (near - 1) ≡ Some (get_or scopes (near - 1) no_scope) =
     slice_get-get_or scopes (near - 1) no_scope lt in
     rw (off, is, there) (ap (λ (ss : List Scope). frames_from bytes lines ss
-    (site_view bytes lines scopes site)) (t.told no_scope))
+    (site_view bytes lines scopes site)) (t.returned no_scope))

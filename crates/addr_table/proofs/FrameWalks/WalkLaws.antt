@@ -31,12 +31,12 @@ pub pass : (a : ℕ) (scopes : List Scope) (nears : List ℕ) (near top e : ℕ)
     → Passed a scopes near (get_or nears (near - 1) e) top
 pass a scopes nears near top e have le some ends other out = elim ends [
   | inl none ↦ absurd (omega arith)
-  | inr told ↦
+  | inr returned ↦
       (let k : near ≡ suc (near - 1) = omega arith in
       let within : near - 1 < length nears =
       (let all : length nears ≡ length scopes = have.all in omega arith) in
       let o : Outer a scopes (near - 1) (get_or nears (near - 1) 0) near top =
-      step-outer a scopes nears (near - 1) near top have (omega arith) k told other in
+      step-outer a scopes nears (near - 1) near top have (omega arith) k returned other in
       subst (λ (p : ℕ). Passed a scopes near p top) (get_or_default nears (near - 1) 0 e within)
       (passed (near - 1) (get_or nears (near - 1) 0) o (omega arith) out))
 ]
@@ -74,7 +74,7 @@ pass a scopes nears near top e have le some ends other out = elim ends [
 -- the next frame is of scope near - 1, and its enclosing scopes remain
 pub record Told (a : ℕ) (scopes : List Scope) (nears : List ℕ) (start near top : ℕ) : Type 0 where
   pub walk : IsWalk scopes nears a (outer_of nears top (near - 1)) top
-  pub told : (d : Scope)
+  pub returned : (d : Scope)
       → reverse (chain_around a scopes start) ≡ get_or scopes (near - 1) d
       ∷ reverse (chain_around a scopes (outer_of nears top (near - 1)))
 
@@ -82,7 +82,7 @@ pub tell : (a : ℕ) (scopes : List Scope) (nears : List ℕ) (start near top : 
     → HaveParents scopes nears → near ≤ length scopes
     → near ≢ 0 → chain_around a scopes near ≡ chain_around a scopes start → EndsAt a scopes near top
     → IsInChain a scopes near top → Told a scopes nears start near top
-tell a scopes nears start near top have le some chain ends told = by told
+tell a scopes nears start near top have le some chain ends returned = by returned
   where
     last_one : (k : ℕ) → near ≡ suc k → k ≡ top → Told a scopes nears start near top
     last_one k is top_is = elim ends [
@@ -93,7 +93,7 @@ tell a scopes nears start near top have le some chain ends told = by told
           let there_k : top_around a scopes near ≡ Some k = there ∙ ap Some (sym top_is) in
           record {
             walk = rw outer (record { have = have; within = omega arith; ends = inl refl });
-            told =
+            returned =
                 λ d. rw (outer, k_is)
                 (ap (reverse {A = Scope})
                 (sym chain ∙ step-top a scopes nears k near d have (omega arith) is there_k));
@@ -123,7 +123,7 @@ tell a scopes nears start near top have le some chain ends told = by told
                   ends =
                       inr o.top_is;
                 });
-            told =
+            returned =
                 λ d. rw (outer, k_is)
                 (ap (reverse {A = Scope}) (sym chain ∙ (o.chain_is d
                 ∙ ap (λ (zs : List Scope). chain_around a scopes (get_or nears k 0) ++ zs)

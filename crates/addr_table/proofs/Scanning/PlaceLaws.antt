@@ -10,7 +10,7 @@ use Rattle.dwarf_bytes.specs.Elf.{elf_fault}
 use Rattle.dwarf_lines.specs.Lines.{Lines, lines_in}
 use Rattle.dwarf_entries.specs.Scopes.{Scope, Tree, tree_of}
 use Rattle.dwarf_entries.specs.Order.{AreInOrder}
-use Rattle.dwarf_entries.proofs.ScopePlaces.{scopes-in-order}
+use Rattle.dwarf_entries.proofs.Results.ScopePlaces.{scopes-in-order}
 use Rattle.addr_table.specs.Rows.{row_at}
 use Rattle.addr_table.specs.Chains.{chain_of}
 use Rattle.addr_table.specs.Places.{last, scope_at, place_of, place_at}

@@ -10,7 +10,7 @@ use Rattle.dwarf_walk.specs.declared.scope_kind.ScopeKind.TheVariants.{Subprogra
 use Rattle.dwarf_entries.specs.declared.scope.Scope.{Scope as Kept}
 use Rattle.dwarf_walk.specs.declared.scope_kind.ScopeKind.{ScopeKind}
 use Rattle.dwarf_entries.specs.Scopes.{Scope, Own, own_of, ranges_at}
-use Rattle.dwarf_entries.specs.Order.{TellsOf}
+use Rattle.dwarf_entries.specs.Order.{HasDataOf}
 use Rattle.std.specs.List.{list_any}
 use Rattle.addr_table.specs.Rows.{row_at, holds}
 use Rattle.addr_table.specs.Chains.{is_kind, is_at, chain_below, chain_of}
@@ -30,50 +30,50 @@ moved-twice k None = refl
 moved-twice k (Some n) = ap Some (omega arith)
 
 -- the result of a search from a row on
-abbrev pub row_from : ℕ → List Row → ℕ → Option ℕ
-row_from k rows link = option_map (λ n. k + n) (row_of (drop k rows) link)
+abbrev pub row-from : ℕ → List Row → ℕ → Option ℕ
+row-from k rows link = option_map (λ n. k + n) (row_of (drop k rows) link)
 
-row_here : (rows : List Row) (k : ℕ) (d e : Row) (link : ℕ) → suc k < length rows
+row-here : (rows : List Row) (k : ℕ) (d e : Row) (link : ℕ) → suc k < length rows
     → row_of (drop k rows) link ≡ cond (covers link (get_or rows k d) (get_or rows (suc k) e))
     (Some 0)
     (option_map suc (row_of (drop (suc k) rows) link))
-row_here [] k d e link lt = absurd (omega arith)
-row_here (x ∷ []) k d e link lt = absurd (omega arith)
-row_here (x ∷ y ∷ rows) zero d e link lt = refl
-row_here (x ∷ y ∷ rows) (suc k) d e link lt = row_here (y ∷ rows) k d e link (omega arith)
+row-here [] k d e link lt = absurd (omega arith)
+row-here (x ∷ []) k d e link lt = absurd (omega arith)
+row-here (x ∷ y ∷ rows) zero d e link lt = refl
+row-here (x ∷ y ∷ rows) (suc k) d e link lt = row-here (y ∷ rows) k d e link (omega arith)
 
-pub row-first : (rows : List Row) (link : ℕ) → row_from 0 rows link ≡ row_at rows link
+pub row-first : (rows : List Row) (link : ℕ) → row-from 0 rows link ≡ row_at rows link
 row-first rows link = sym (moved-nowhere (row_of rows link)) ∙ sym (row-is-first rows link)
 
 pub row-later : (rows : List Row) (next : ℕ) (d e : Row) (link : ℕ) (found : Option ℕ) → 1 ≤ next
     → next < length rows
-    → row_from (next - 1) rows link ≡ found
+    → row-from (next - 1) rows link ≡ found
     → false ≡ covers link (get_or rows (next - 1) d) (get_or rows next e)
-    → row_from (next + 1 - 1) rows link ≡ found
+    → row-from (next + 1 - 1) rows link ≡ found
 row-later rows zero d e link found ge lt h not_here = absurd (omega arith)
 row-later rows (suc k) d e link found ge lt h not_here =
     let k_is : suc k - 1 ≡ k = omega arith in
     let next_is : suc k + 1 - 1 ≡ suc k = omega arith in
-    let F : ℕ → Type 0 = λ n. row_from n rows link ≡ found in
+    let F : ℕ → Type 0 = λ n. row-from n rows link ≡ found in
     let C : ℕ → Type 0 = λ n. false ≡ covers link (get_or rows n d) (get_or rows (suc k) e) in
     let beyond : covers link (get_or rows k d) (get_or rows (suc k) e) ≡ false =
     sym (subst C k_is not_here) in
-    let step : row_from k rows link ≡ row_from (suc k) rows link =
-    ap (option_map (λ n. k + n)) (row_here rows k d e link lt)
+    let step : row-from k rows link ≡ row-from (suc k) rows link =
+    ap (option_map (λ n. k + n)) (row-here rows k d e link lt)
     ∙ (rw beyond (moved-twice k (row_of (drop (suc k) rows) link))) in
     subst F (sym next_is) (sym step ∙ subst F k_is h)
 
 pub row-none : (rows : List Row) (k : ℕ) (link : ℕ) (found : Option ℕ) → length rows ≤ suc k
-    → row_from k rows link ≡ found → None ≡ found
-row-none rows k link found le h = sym (ap (option_map (λ n. k + n)) (none_at rows k link le)) ∙ h
+    → row-from k rows link ≡ found → None ≡ found
+row-none rows k link found le h = sym (ap (option_map (λ n. k + n)) (none-at rows k link le)) ∙ h
   where
-    none_at : (rows : List Row) (k : ℕ) (link : ℕ) → length rows ≤ suc k
+    none-at : (rows : List Row) (k : ℕ) (link : ℕ) → length rows ≤ suc k
         → row_of (drop k rows) link ≡ None
-    none_at [] zero link le = refl
-    none_at [] (suc k) link le = refl
-    none_at (x ∷ []) zero link le = refl
-    none_at (x ∷ y ∷ rows) zero link le = absurd (omega arith)
-    none_at (x ∷ rows) (suc k) link le = none_at rows k link (omega arith)
+    none-at [] zero link le = refl
+    none-at [] (suc k) link le = refl
+    none-at (x ∷ []) zero link le = refl
+    none-at (x ∷ y ∷ rows) zero link le = absurd (omega arith)
+    none-at (x ∷ rows) (suc k) link le = none-at rows k link (omega arith)
 
 -- ---- scopes
 
@@ -164,18 +164,19 @@ scanned-all scopes a i last end le h = sym (ap (scan_left a last end) (drop_all 
 
 -- ---- the data of a scope of the program
 
-pub told-at : (kind : ScopeKind) (a : ℕ) (scopes : List Scope) (k : Kept) (s : Scope) (b c : Bool)
-    → TellsOf scopes k s
+pub returned-at : (kind : ScopeKind) (a : ℕ) (scopes : List Scope) (k : Kept) (s : Scope)
+    (b c : Bool)
+    → HasDataOf scopes k s
     → b ≡ is_kind kind (own_of k).kind → c ≡ list_any (holds a) (ranges_at scopes (own_of k).number)
     → (b && c) ≡ is_at kind a s
-told-at kind a scopes k s b c tells is any =
+returned-at kind a scopes k s b c tells is any =
     ap (λ z. z && c) (is ∙ ap (λ (o : Own). is_kind kind o.kind) tells.own_is)
     ∙ ap (λ z. is_kind kind s.kind && z) (any ∙ ap (list_any (holds a)) tells.ranges_are)
 
-pub told-number : (scopes : List Scope) (k : Kept) (s : Scope) → TellsOf scopes k s
+pub returned-number : (scopes : List Scope) (k : Kept) (s : Scope) → HasDataOf scopes k s
     → (own_of k).number ≡ s.number
-told-number scopes k s tells = ap (λ (o : Own). o.number) tells.own_is
+returned-number scopes k s tells = ap (λ (o : Own). o.number) tells.own_is
 
-pub told-end : (scopes : List Scope) (k : Kept) (s : Scope) → TellsOf scopes k s
+pub returned-end : (scopes : List Scope) (k : Kept) (s : Scope) → HasDataOf scopes k s
     → (own_of k).«end» ≡ s.«end»
-told-end scopes k s tells = ap (λ (o : Own). o.«end») tells.own_is
+returned-end scopes k s tells = ap (λ (o : Own). o.«end») tells.own_is

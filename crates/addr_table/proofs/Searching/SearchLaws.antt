@@ -42,31 +42,31 @@ found_at (c ∷ list) (suc k) d a h lt from to =
     let out : (nat_le c.from a && nat_lt a c.to) ≡ false = grind (arith, nat_tests) in
     rw out (found_at list k d a h.2 within from to)
 
-pub none_at : (list : List Segment) (n : ℕ) (d : Segment) (a : ℕ) → AreDisjoint list
+pub none-at : (list : List Segment) (n : ℕ) (d : Segment) (a : ℕ) → AreDisjoint list
     → n ≤ length list
     → ((m : ℕ) → m + 1 ≡ n → (get_or list m d).to ≤ a)
     → (n < length list → a < (get_or list n d).from)
     → find (is_in a) list ≡ None
-none_at [] n d a h le before after = refl
-none_at (c ∷ list) zero d a h le before after =
+none-at [] n d a h le before after = refl
+none-at (c ∷ list) zero d a h le before after =
     let above : a < c.from = after (omega arith) in
     let full : c.from < c.to = h.0 in
     let out : (nat_le c.from a && nat_lt a c.to) ≡ false = grind (arith, nat_tests) in
-    rw out (none_at list zero d a h.2 (omega arith) (λ m none. absurd (omega arith)) (λ some.
+    rw out (none-at list zero d a h.2 (omega arith) (λ m none. absurd (omega arith)) (λ some.
     let past : c.to ≤ (get_or list zero d).from =
     each_at (λ e. c.to ≤ e.from) list zero d h.1 some in omega arith))
-none_at (c ∷ list) (suc zero) d a h le before after =
+none-at (c ∷ list) (suc zero) d a h le before after =
     let past : c.to ≤ a = before zero (omega arith) in
     let out : (nat_le c.from a && nat_lt a c.to) ≡ false = grind (arith, nat_tests) in
-    rw out (none_at list zero d a h.2 (omega arith) (λ m none. absurd (omega arith))
+    rw out (none-at list zero d a h.2 (omega arith) (λ m none. absurd (omega arith))
     (λ some. after (omega arith)))
-none_at (c ∷ list) (suc (suc n)) d a h le before after =
+none-at (c ∷ list) (suc (suc n)) d a h le before after =
     let within : n < length list = omega arith in
     let last : (get_or list n d).to ≤ a = before (suc n) (omega arith) in
     let past : c.to ≤ (get_or list n d).from = each_at (λ e. c.to ≤ e.from) list n d h.1 within in
     let full : (get_or list n d).from < (get_or list n d).to = nonempty-at list n d h.2 within in
     let out : (nat_le c.from a && nat_lt a c.to) ≡ false = grind (arith, nat_tests) in
-    rw out (none_at list (suc n) d a h.2 (omega arith) (λ m is. before (suc m) (omega arith))
+    rw out (none-at list (suc n) d a h.2 (omega arith) (λ m is. before (suc m) (omega arith))
     (λ some. after (omega arith)))
 
 -- After u steps from length n, length s remains.
@@ -180,7 +180,7 @@ pub found-nothing : (list : List Segment) (a n : ℕ) → AreDisjoint list → C
 found-nothing list a n h started past =
     ap (λ (found : Option Segment). option_and_then
     (λ segment. place_of segment.row segment.scope a) found)
-    (none_at list n no_cut a h started.within past (started.after no_cut))
+    (none-at list n no_cut a h started.within past (started.after no_cut))
 
 pub found-place : (list : List Segment) (a n m : ℕ) (d : Segment) → AreDisjoint list
     → CountsStarted list a n
@@ -212,7 +212,7 @@ pub segment-found : (segments : List Segment) (a n : ℕ) (seg e : Segment) (r :
     → r ≡ seg.to → row ≡ seg.row → scope ≡ seg.scope
     → seg ≡ get_or segments (n - 1) e → a < r
     → placed ≡ place_of row scope a → placed ≡ place_among segments a
-segment-found segments a n seg e r row scope placed h started some to row_is scope_is is inside
+segment-found segments a n seg e r row scope placed h started some to row_is scope-is is inside
     placed_is =
     let within : n ≤ length segments = started.within in
     let here : get_or segments (n - 1) no_cut ≡ seg =
@@ -220,7 +220,7 @@ segment-found segments a n seg e r row scope placed h started some to row_is sco
     let Q : Segment → Type 0 = λ segment. a < segment.to in
     let R : ℕ → Type 0 = λ k. a < k in
     placed_is ∙ ap (λ (o : Option ℕ). place_of o scope a) row_is
-    ∙ ap (λ (o : Option ℕ). place_of seg.row o a) scope_is
+    ∙ ap (λ (o : Option ℕ). place_of seg.row o a) scope-is
     ∙ ap (λ (segment : Segment). place_of segment.row segment.scope a) (sym here)
     ∙ sym (found-place segments a n (n - 1) no_cut h started (omega arith)
     (subst Q (sym here) (subst R to inside)))

@@ -136,11 +136,11 @@ in-cut a e f None None later h none = rw none refl
 in-cut a e f None (Some scope) later h none = rw h refl
 in-cut a e f (Some row) scope later h none = rw h refl
 
-pub place_nowhere : (rows : List Row) (scopes : List Scope) (a : ℕ)
+pub place-nowhere : (rows : List Row) (scopes : List Scope) (a : ℕ)
     → (row_at rows a ≡ None) × (chain_of a scopes ≡ [])
     → place_at rows scopes a ≡ None
 unfolding place_at
-place_nowhere rows scopes a h = rw (h.0, h.1) refl
+place-nowhere rows scopes a h = rw (h.0, h.1) refl
 
 pub place_in-cuts : (rows : List Row) (scopes : List Scope) (a e : ℕ) (ends : List ℕ)
     → RiseFrom e ends → e ≤ a
@@ -152,7 +152,7 @@ place_in-cuts rows scopes a e [] rise le splits =
     each-weaker (Splits e []) (λ x. x ≤ a)
     (λ x h. elim h [ inl low ↦ omega arith | inr none ↦ absurd none ])
     (ends_of (ranges_of rows scopes)) splits in
-    sym (place_nowhere rows scopes a (nothing-outside rows scopes a (inr below)))
+    sym (place-nowhere rows scopes a (nothing-outside rows scopes a (inr below)))
 place_in-cuts rows scopes a e (f ∷ fs) rise le splits = elim (cases_lt a f) [
   | inl lt ↦
       let held : (nat_le e a && nat_lt a f) ≡ true = grind (arith, nat_tests) in
@@ -185,7 +185,7 @@ place_among-cuts rows scopes a = by_ends (ends_of (ranges_of rows scopes)) refl
         → told_by a (find (is_in a) (segments_between rows scopes ends)) ≡ place_at rows scopes a
     by_ends [] is rise =
         let none : AllByRecursion (λ x. a < x) (ends_of (ranges_of rows scopes)) = rw is tt in
-        sym (place_nowhere rows scopes a (nothing-outside rows scopes a (inl none)))
+        sym (place-nowhere rows scopes a (nothing-outside rows scopes a (inl none)))
     by_ends (e ∷ ends) is rise = elim (cases_lt a e) [
       | inl lt ↦
           let P : List ℕ → Type 0 = AllByRecursion (λ x. a < x) in
@@ -196,7 +196,7 @@ place_among-cuts rows scopes a = by_ends (ends_of (ranges_of rows scopes)) refl
                 (each-among ends),
           ) in
           ap (told_by a) (cuts-above rows scopes a e ends lt rise)
-          ∙ sym (place_nowhere rows scopes a
+          ∙ sym (place-nowhere rows scopes a
           (nothing-outside rows scopes a (inl (subst P (sym is) above))))
       | inr ge ↦
           let P : List ℕ → Type 0 = AllByRecursion (Splits e ends) in

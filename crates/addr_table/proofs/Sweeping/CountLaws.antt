@@ -11,13 +11,13 @@ use Rattle.std.proofs.lemmas.List.Sorted.{sum_by-IsPermutation}
 use Rattle.addr_table.specs.declared.ends.End.{End}
 use Rattle.addr_table.specs.Rows.{holds}
 use Rattle.addr_table.specs.Private.Sweep.{Reach, open_of, close_of, AreEnds}
-use Rattle.addr_table.proofs.Endpoints.TakenLaws.{one_if, one_upto, sum-mapped}
+use Rattle.addr_table.proofs.Endpoints.TakenLaws.{one-if, one_upto, sum-mapped}
 
 -- ---- ranges that start and end
 
 -- 1 if a range has a key and contains an address
 abbrev pub one_held : ℕ → ℕ → Reach → ℕ
-one_held k a r = one_if ((r.key == k) && holds a r.range)
+one_held k a r = one-if ((r.key == k) && holds a r.range)
 
 abbrev pub held : ℕ → ℕ → List Reach → ℕ
 held k a reaches = sum_by (one_held k a) reaches
@@ -48,7 +48,7 @@ started-ended k a (r ∷ reaches) h =
     omega arith
   where
     one : (b : Bool) (from to : ℕ) → from < to
-        → one_if (b && nat_le from a) ≡ one_if (b && nat_le to a) + one_if
+        → one-if (b && nat_le from a) ≡ one-if (b && nat_le to a) + one-if
         (b && (nat_le from a && nat_lt a to))
     one false from to lt = omega arith
     one true from to lt = elim (cases_lt a from) [

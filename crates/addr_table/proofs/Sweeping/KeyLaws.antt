@@ -16,7 +16,7 @@ use Rattle.addr_table.specs.Private.Bits.{is_filled, IsFirstIn}
 use Rattle.addr_table.specs.Private.Sweep.{Reach, key_of, row_reaches, reaches_in, scope_reaches}
 use Rattle.addr_table.specs.Private.Sweep.{reaches_of, AreRowsActiveAt}
 use Rattle.addr_table.proofs.Sweeping.Constant.{holds-empty}
-use Rattle.addr_table.proofs.ActiveSet.FirstLaws.{RiseBy, passes_at, first-by, first-unique}
+use Rattle.addr_table.proofs.ActiveSet.FirstLaws.{RiseBy, passes-at, first-by, first-unique}
 use Rattle.addr_table.proofs.ActiveSet.FirstLaws.{first-same}
 
 -- ---- tests of lists that are built from others
@@ -162,7 +162,7 @@ pub row-first : (rows : List Row) (a : ℕ) (counts : List ℕ) (r : Option ℕ)
     → IsFirstIn (is_filled counts) 0 (length rows) r → r ≡ row_at rows a
 unfolding row_at
 row-first rows a counts r h first =
-    first-unique (passes_at (λ (c : Cover). c.row) (λ c. holds a c.range) (covers_of rows)) 0
+    first-unique (passes-at (λ (c : Cover). c.row) (λ c. holds a c.range) (covers_of rows)) 0
     (length rows) r _
     (first-same (is_filled counts) _ 0 (length rows) r (λ k low high. h.active k high) first)
     (first-by (λ (c : Cover). c.row) (λ c. holds a c.range) 0 (length rows) (covers_of rows)

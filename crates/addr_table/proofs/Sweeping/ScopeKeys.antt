@@ -33,23 +33,23 @@ scope-key : (rows total n : ℕ) (kind : ScopeKind) (s : Scope) → s.number < t
     ≡ ((s.number == n) && is_kind kind s.kind)
 scope-key rows total n kind s lt below = by_kind s.kind kind
   where
-    and_true : (b : Bool) → b ≡ (b && true)
-    and_true true = refl
-    and_true false = refl
+    and-true : (b : Bool) → b ≡ (b && true)
+    and-true true = refl
+    and-true false = refl
 
     by_kind : (own asked : ScopeKind)
         → (key_of rows total own s.number == key_of rows total asked n)
         ≡ ((s.number == n) && is_kind asked own)
     by_kind Subprogram Subprogram =
         same-key (rows + s.number) (rows + n) s.number n (λ e. omega arith) (λ e. omega arith)
-        ∙ and_true (s.number == n)
+        ∙ and-true (s.number == n)
     by_kind Subprogram Inlined = never-key (rows + s.number) (rows + total + n) (s.number == n)
         (λ e. absurd (omega arith))
     by_kind Inlined Subprogram = never-key (rows + total + s.number) (rows + n) (s.number == n)
         (λ e. absurd (omega arith))
     by_kind Inlined Inlined =
         same-key (rows + total + s.number) (rows + total + n) s.number n (λ e. omega arith)
-        (λ e. omega arith) ∙ and_true (s.number == n)
+        (λ e. omega arith) ∙ and-true (s.number == n)
 
 and-assoc : (x y z : Bool) → ((x && y) && z) ≡ (x && (y && z))
 and-assoc true y z = refl

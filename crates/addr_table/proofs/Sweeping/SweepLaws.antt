@@ -143,14 +143,14 @@ pub sweep-next : (rows : List Row) (scopes : List Scope) (opens closes : List En
     → IsSweeping rows scopes opens closes p' q' f active' out'
 unfolding place_at
 sweep-next rows scopes opens closes p q p' q' e f active active' out out' row scope h s b ol oh cl
-    ch calls len row_is scope_is out_is
+    ch calls len row_is scope-is out_is
     next =
     let above : e < f = next-above opens closes p' q' e f oh ch next in
     let is : later rows scopes e ≡ f ∷ later rows scopes f =
     later-ends rows scopes opens closes p' q' e f h ol cl oh ch next in
     let place : place_of row scope e ≡ place_at rows scopes e =
     ap (λ (o : Option ℕ). place_of o scope e) row_is
-    ∙ ap (λ (o : Option ℕ). place_of (row_at rows e) o e) scope_is in
+    ∙ ap (λ (o : Option ℕ). place_of (row_at rows e) o e) scope-is in
     let cons : sum_by (end_cost scopes) (e ∷ later rows scopes e)
     ≡ end_cost scopes e + sum_by (end_cost scopes) (later rows scopes e) =
     sum_by-cons (end_cost scopes) e (later rows scopes e) in

@@ -35,7 +35,7 @@ pub record IsPast (rows : List Row) (scopes : List Scope) (opens closes : List E
   pub calls : active'.calls + p + q ≤ active.calls + p' + q' + end_cost scopes e
   pub len : length active'.counts ≡ length rows + length scopes + length scopes
   pub row_is : row ≡ row_at rows e
-  pub scope_is : scope ≡ scope_at scopes e
+  pub scope-is : scope ≡ scope_at scopes e
 
 pub turn-next : (rows : List Row) (scopes : List Scope) (opens closes : List End)
     (p q p' q' e f : ℕ) (active active' : ActiveSet)
@@ -49,7 +49,7 @@ turn-next rows scopes opens closes p q p' q' e f active active' out out' row sco
     next =
     sweep-next rows scopes opens closes p q p' q' e f active active' out out' row scope h s
     t.balanced t.opened t.unopened t.closed
-    t.unclosed t.calls t.len t.row_is t.scope_is out_is next
+    t.unclosed t.calls t.len t.row_is t.scope-is out_is next
 
 pub turn-end : (rows : List Row) (scopes : List Scope) (opens closes : List End) (p q p' q' e : ℕ)
     (active active' : ActiveSet)
@@ -118,5 +118,5 @@ turn rows scopes opens closes p q p' q' e active0 active1 active2 active3 active
       len = omega arith;
       row_is = row-first rows e active2.counts row
           (rows-at rows scopes opens closes p' q' e active2 h b2 ol oh cl ch) first;
-      scope_is = found at;
+      scope-is = found at;
     }

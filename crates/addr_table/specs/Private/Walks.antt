@@ -4,7 +4,7 @@ use Rattle.std.specs.Prelude.{nat_lt, find, Option, Some, None, option_map, if�
 use Rattle.dwarf_walk.specs.declared.scope_kind.ScopeKind.TheVariants.{Subprogram, Inlined}
 use Rattle.dwarf_entries.specs.Scopes.{Scope}
 use Rattle.dwarf_entries.specs.Order.{AreInOrder}
-use Rattle.addr_table.specs.Chains.{is_at, held_among}
+use Rattle.addr_table.specs.Chains.{is_at, chain_among}
 use Rattle.addr_table.specs.Private.Parents.{around, AreParents}
 
 -- scopes, and for each scope 1 + the number of its parent; 0 if it has none
@@ -15,7 +15,7 @@ pub record HaveParents (scopes : List Scope) (nears : List ℕ) : Type 0 where
 
 -- the chain among the scope before this number and the scopes that enclose it
 abbrev pub chain_around : ℕ → List Scope → ℕ → List Scope
-chain_around a scopes near = held_among a (around scopes near)
+chain_around a scopes near = chain_among a (around scopes near)
 
 -- the number of the outermost scope of that chain
 abbrev pub top_around : ℕ → List Scope → ℕ → Option ℕ

@@ -9,17 +9,17 @@ use Rattle.dwarf_bytes.specs.declared.headers.ProgramHeader.{ProgramHeader}
 use Rattle.dwarf_bytes.specs.Headers.{is_load, load_end, file_header, program_header}
 
 -- the address range extended by one load segment
-abbrev pub joined : Option (ℕ × ℕ) → ProgramHeader → Option (ℕ × ℕ)
-joined None header = Some (header.vaddr, load_end header)
-joined (Some e) header = Some (min e.0 header.vaddr, max e.1 (load_end header))
+abbrev pub with_segment : Option (ℕ × ℕ) → ProgramHeader → Option (ℕ × ℕ)
+with_segment None header = Some (header.vaddr, load_end header)
+with_segment (Some e) header = Some (min e.0 header.vaddr, max e.1 (load_end header))
 
 -- the address range extended by one program header, or the fault of the header
-abbrev pub extended : Option (ℕ × ℕ) → ProgramHeader → Result (Option (ℕ × ℕ)) LoadFault
-extended extent header =
+abbrev pub with_program_header : Option (ℕ × ℕ) → ProgramHeader → Result (Option (ℕ × ℕ)) LoadFault
+with_program_header extent header =
     cond (is_load header)
     (cond (nat_le (2 ^ 64) (load_end header))
     (Err (record { section = sections.Elf; cause = causes.Range; at = header.at }))
-    (Ok (joined extent header)))
+    (Ok (with_segment extent header)))
     (Ok extent)
 
 -- the program headers from the k-th on

@@ -8,10 +8,10 @@ use Rattle.dwarf_bytes.specs.Words.{section_name}
 use Rattle.dwarf_bytes.specs.Elf.{wanted}
 
 -- the offset after the last NUL, or 0 if there is none
-pub record EndsTexts (bytes : List ℕ) (end : ℕ) : Type 0 where
+pub record EndsStrings (bytes : List ℕ) (end : ℕ) : Type 0 where
   pub within : end ≤ length bytes
   pub last : 0 < end → (nul : ℕ) × (end ≡ nul + 1) × (get_or bytes nul 0 ≡ 0)
-  pub none_behind : (k : ℕ) → end ≤ k → k < length bytes → get_or bytes k 0 ≢ 0
+  pub none_after : (k : ℕ) → end ≤ k → k < length bytes → get_or bytes k 0 ≢ 0
 
 -- whether the bytes start with the string and its NUL
 abbrev pub begins_with : List ℕ → List ℕ → Bool

@@ -1,36 +1,36 @@
 -- Entries with their units, as the program stores them, for the contracts of origin chains.
-use Rattle.std.specs.Prelude.{◌≡◌, ℕ, ◌<◌, ◌≤◌, List, Option, Some, None, Result}
-use Rattle.std.specs.Prelude.{Ok, Err, map, slice_get, option_to_list}
+use Rattle.std.specs.Prelude.{◌≡◌, ℕ, ◌<◌, ◌≤◌, List, Option, Some, None, Result, Ok, Err, map}
+use Rattle.std.specs.Prelude.{slice_get, option_to_list}
 use Rattle.std.specs.Option.{option_and_then}
 use Rattle.dwarf_bytes.specs.declared.constants.TheConstants.{DW_AT_LINKAGE_NAME, DW_AT_NAME}
 use Rattle.dwarf_bytes.specs.declared.fault.Cause.{Cause}
 use Rattle.dwarf_bytes.specs.declared.fault.Cause.TheVariants as causes
 use Rattle.dwarf_units.specs.declared.unit_headers.UnitHeader.{UnitHeader}
-use Rattle.dwarf_walk.specs.declared.kept.NamedEntry.{NamedEntry}
-use Rattle.dwarf_walk.specs.declared.kept.UnitEntries.{UnitEntries}
-use Rattle.dwarf_entries.specs.declared.paths.UnitEntry.{UnitEntry}
+use Rattle.dwarf_walk.specs.declared.unit_entries.NamedEntry.{NamedEntry}
+use Rattle.dwarf_walk.specs.declared.unit_entries.UnitEntries.{UnitEntries}
+use Rattle.dwarf_entries.specs.declared.origin_chains.UnitEntry.{UnitEntry}
 use Rattle.dwarf_entries.specs.declared.references.UnitPlace.{UnitPlace}
-use Rattle.dwarf_entries.specs.declared.paths.UnitAttribute.{UnitAttribute}
-use Rattle.dwarf_entries.specs.declared.paths.FirstNames.{FirstNames}
+use Rattle.dwarf_entries.specs.declared.origin_chains.UnitAttribute.{UnitAttribute}
+use Rattle.dwarf_entries.specs.declared.origin_chains.FirstNames.{FirstNames}
 use Rattle.dwarf_units.specs.declared.attributes.AttributeValue.{AttributeValue}
 use Rattle.dwarf_entries.specs.declared.bases.Table.{Table}
 use Rattle.dwarf_entries.specs.declared.bases.Bases.{Bases}
 use Rattle.dwarf_entries.specs.Bases.{CompilationUnit}
 use Rattle.dwarf_entries.specs.Names.{Member, members_of, member_at, first_on}
 use Rattle.dwarf_bytes.specs.Refusals.{Fails}
-use Rattle.dwarf_walk.specs.Private.Kept.{named_entry}
-use Rattle.dwarf_entries.specs.Private.Walked.{AreInOrder}
+use Rattle.dwarf_walk.specs.Private.Stored.{named_entry}
+use Rattle.dwarf_entries.specs.Private.EntryOffsets.{AreInOrder}
 
 abbrev pub header_of : CompilationUnit → UnitHeader
 header_of unit = unit.header
 
 -- The header of a unit of the program.
-abbrev pub kept_header : UnitEntries → UnitHeader
-kept_header unit = unit.header
+abbrev pub stored_header : UnitEntries → UnitHeader
+stored_header unit = unit.header
 
 -- The stored units are these units, which are in order.
-pub record AreKept (kept : List UnitEntries) (units : List CompilationUnit) : Type 0 where
-  pub same : map kept_header kept ≡ map header_of units
+pub record AreStoredAs (stored : List UnitEntries) (units : List CompilationUnit) : Type 0 where
+  pub same : map stored_header stored ≡ map header_of units
   pub order : AreInOrder 0 units
 
 -- The entry, in the unit at an index, is the stored form of the member.
@@ -66,9 +66,9 @@ LeadsTo units None outcome = outcome ≡ Err causes.Reference
 
 -- The entry that is re-read is the stored form of the member. The call may also fail because
 -- memory ran out.
-abbrev pub TellsMember : List CompilationUnit → Result UnitEntry Cause → Member → Type 0
-TellsMember units (Ok found) m = IsMember units found.unit found.entry m
-TellsMember units (Err cause) m = cause ≡ causes.Memory
+abbrev pub IsRereadOf : List CompilationUnit → Result UnitEntry Cause → Member → Type 0
+IsRereadOf units (Ok found) m = IsMember units found.unit found.entry m
+IsRereadOf units (Err cause) m = cause ≡ causes.Memory
 
 -- The result is the place of the member of the outcome.
 abbrev pub Finds : List CompilationUnit → Option UnitPlace → Result Member Cause → Type 0
@@ -81,21 +81,21 @@ abbrev pub IsFirst : List CompilationUnit → Option UnitAttribute
     → Option (CompilationUnit × AttributeValue) → Type 0
 IsFirst units None None = Unit {0}
 IsFirst units None (Some first) = ⊥
-IsFirst units (Some kept) None = ⊥
-IsFirst units (Some kept) (Some first) =
-    (slice_get units kept.unit ≡ Some first.0) × (kept.value ≡ first.1)
+IsFirst units (Some stored) None = ⊥
+IsFirst units (Some stored) (Some first) =
+    (slice_get units stored.unit ≡ Some first.0) × (stored.value ≡ first.1)
 
-pub record AreFirst (units : List CompilationUnit) (kept : FirstNames) (path : List Member)
+pub record AreFirst (units : List CompilationUnit) (stored : FirstNames) (path : List Member)
     : Type 0 where
-  pub name : IsFirst units kept.name (first_on DW_AT_NAME path)
-  pub linkage_name : IsFirst units kept.linkage_name (first_on DW_AT_LINKAGE_NAME path)
+  pub name : IsFirst units stored.name (first_on DW_AT_NAME path)
+  pub linkage_name : IsFirst units stored.linkage_name (first_on DW_AT_LINKAGE_NAME path)
 
 -- The result is that of the origin chain of the outcome. The call may also fail because memory ran
 -- out.
 abbrev pub FindsFirst : List CompilationUnit → Result FirstNames Cause
     → Result (List Member) Cause → Type 0
-FindsFirst units (Ok kept) outcome =
-    (path : List Member) × (outcome ≡ Ok path) × AreFirst units kept path
+FindsFirst units (Ok stored) outcome =
+    (path : List Member) × (outcome ≡ Ok path) × AreFirst units stored path
 FindsFirst units (Err cause) outcome = Fails cause outcome
 
 -- The string offsets table of the unit at an index.

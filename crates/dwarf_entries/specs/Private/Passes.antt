@@ -1,33 +1,33 @@
 -- The results of the passes over all units, for their contracts.
-use Rattle.std.specs.Prelude.{◌≡◌, ◌⊎◌, ◌++◌, ◌+◌, ◌-◌, ℕ, List, ◌∷◌, length, Option, Some}
-use Rattle.std.specs.Prelude.{None, Result, Ok, Err, map, flat_map, slice_get, sum_by, zip}
+use Rattle.std.specs.Prelude.{◌≡◌, ◌⊎◌, ◌++◌, ◌+◌, ◌-◌, ℕ, List, ◌∷◌, length, Option, Some, None}
+use Rattle.std.specs.Prelude.{Result, Ok, Err, map, flat_map, slice_get, sum_by, zip}
 use Rattle.dwarf_bytes.specs.declared.fault.Section.TheVariants as names
 use Rattle.dwarf_bytes.specs.declared.fault.LoadFault.{LoadFault}
 use Rattle.dwarf_bytes.specs.declared.format.Format.{Format}
 use Rattle.dwarf_bytes.specs.Bind.{◌>>=◌}
-use Rattle.dwarf_bytes.specs.Items.{At, told_at, each, each_from}
+use Rattle.dwarf_bytes.specs.Items.{At, with_offset, each, each_from}
 use Rattle.dwarf_bytes.specs.Refusals.{memory_fault, in_section}
 use Rattle.dwarf_forms.specs.Declarations.{Declaration}
 use Rattle.dwarf_units.specs.declared.unit_headers.UnitHeader.{UnitHeader}
 use Rattle.dwarf_entries.specs.declared.bases.Bases.{Bases}
-use Rattle.dwarf_walk.specs.declared.kept.RootEntry.{RootEntry}
-use Rattle.dwarf_walk.specs.declared.kept.UnitEntries.{UnitEntries}
+use Rattle.dwarf_walk.specs.declared.unit_entries.RootEntry.{RootEntry}
+use Rattle.dwarf_walk.specs.declared.unit_entries.UnitEntries.{UnitEntries}
 use Rattle.dwarf_entries.specs.declared.scope.Root.{Root}
 use Rattle.dwarf_entries.specs.declared.scope.ScopeFacts.{ScopeFacts}
 use Rattle.dwarf_entries.specs.declared.scope_lists.ScopeLists.{ScopeLists}
-use Rattle.dwarf_entries.specs.declared.paths.EntryNames.{EntryNames}
+use Rattle.dwarf_entries.specs.declared.origin_chains.EntryNames.{EntryNames}
 use Rattle.dwarf_entries.specs.declared.unit_scopes.ScopeNumbers.{ScopeNumbers}
 use Rattle.dwarf_walk.specs.Sections.{Sections}
 use Rattle.dwarf_units.specs.Entries.{Die, entries_of}
 use Rattle.dwarf_entries.specs.Bases.{CompilationUnit, no_bases, bases_by, unit_of}
-use Rattle.dwarf_entries.specs.Scopes.{Tree, Judged, ScopeSite, Scope, items_limit}
-use Rattle.dwarf_entries.specs.Scopes.{sites_in, roots_from, root_stmt_list}
-use Rattle.dwarf_entries.specs.Scopes.{scopes_of, scope_at, stmt_list_of}
-use Rattle.dwarf_walk.specs.declared.kept.ScopeEntry.{ScopeEntry}
+use Rattle.dwarf_entries.specs.Scopes.{Tree, ParsedScope, ScopeSite, Scope, items_limit, sites_in}
+use Rattle.dwarf_entries.specs.Scopes.{roots_from, root_stmt_list, scopes_of, scope_at}
+use Rattle.dwarf_entries.specs.Scopes.{stmt_list_of}
+use Rattle.dwarf_walk.specs.declared.unit_entries.ScopeEntry.{ScopeEntry}
 use Rattle.dwarf_units.specs.Units.{units_of, tables_of}
-use Rattle.dwarf_walk.specs.Private.Kept.{KeptUnit, scope_entry, kept_unit, kept_of}
-use Rattle.dwarf_entries.specs.Private.Walked.{AreInOrder}
-use Rattle.dwarf_entries.specs.Private.Shared.{AreHeld}
+use Rattle.dwarf_walk.specs.Private.Stored.{StoredUnit, scope_entry, stored_unit, stored_of}
+use Rattle.dwarf_entries.specs.Private.EntryOffsets.{AreInOrder}
+use Rattle.dwarf_entries.specs.Private.Shared.{AreConsecutive}
 
 -- The entries of each unit.
 abbrev pub all_entries : List ℕ → List UnitHeader → List (List Declaration)
@@ -35,18 +35,19 @@ abbrev pub all_entries : List ℕ → List UnitHeader → List (List Declaration
 all_entries info headers tables = each (λ _ p. entries_of info p.0 p.1) (zip headers tables)
 
 -- The data that is stored for each unit.
-abbrev pub kept_units : List UnitHeader → List (List Die) → List KeptUnit
-kept_units headers dies = map (λ p. kept_unit p.0 p.1) (zip headers dies)
+abbrev pub stored_units : List UnitHeader → List (List Die) → List StoredUnit
+stored_units headers dies = map (λ p. stored_unit p.0 p.1) (zip headers dies)
 
 -- The data that is stored for all units.
-abbrev pub all_kept : List ℕ → List UnitHeader → List (List Declaration) → Result (List KeptUnit) At
-all_kept info headers tables =
-    all_entries info headers tables >>= λ dies. Ok (kept_units headers dies)
+abbrev pub all_stored : List ℕ → List UnitHeader → List (List Declaration)
+    → Result (List StoredUnit) At
+all_stored info headers tables =
+    all_entries info headers tables >>= λ dies. Ok (stored_units headers dies)
 
 -- The bases that a root defines. A fault is reported at the offset of the root.
 abbrev pub bases_in : Sections → Format → Option RootEntry → Result Bases At
 bases_in s format None = Ok no_bases
-bases_in s format (Some root) = told_at root.offset
+bases_in s format (Some root) = with_offset root.offset
     (bases_by s format root.str_offsets_base root.addr_base root.rnglists_base root.low_pc)
 
 -- The units with the bases that their roots define.
@@ -62,13 +63,13 @@ abbrev pub all_bases : Sections → List UnitHeader → List (List Die) → Resu
 all_bases s headers dies = all_units s headers dies >>= λ units. Ok (map bases_of units)
 
 -- The data that is stored for a unit.
-abbrev pub kept_unit_of : CompilationUnit → KeptUnit
-kept_unit_of unit = kept_unit unit.header unit.dies
+abbrev pub stored_unit_of : CompilationUnit → StoredUnit
+stored_unit_of unit = stored_unit unit.header unit.dies
 
 -- The units of the program and their bases correspond to these units, which are in order.
 pub record AreUnits (units : List UnitEntries) (bases : List Bases) (us : List CompilationUnit)
     : Type 0 where
-  pub same : map kept_of units ≡ map kept_unit_of us
+  pub same : map stored_of units ≡ map stored_unit_of us
   pub order : AreInOrder 0 us
   pub bases_are : bases ≡ map bases_of us
 
@@ -78,16 +79,16 @@ IsRootOf us root u =
     (die : Die) (rest : List Die) → u.dies ≡ die ∷ rest
     → root_stmt_list (roots_from 0 us) root ≡ stmt_list_of u.dies
 
--- The site is a scope of a unit of the program, after the scopes in `before`. `room` is the rest
+-- The site is a scope of a unit of the program, after the scopes in `before`. `budget` is the rest
 -- of the budget of range items.
 pub record IsScopeSite (us : List CompilationUnit) (numbers : ScopeNumbers) (entry : ScopeEntry)
-    (room : ℕ) (before : List Judged) (p : ScopeSite) : Type 0 where
+    (budget : ℕ) (before : List ParsedScope) (p : ScopeSite) : Type 0 where
   pub unit_is : slice_get us numbers.unit ≡ Some p.member.unit
   pub root_is : root_stmt_list (roots_from 0 us) numbers.root ≡ stmt_list_of p.member.unit.dies
   pub entry_is : entry ≡ scope_entry p.member.die p.kind
-  pub inside_is : numbers.inside ≡ p.inside
+  pub descendants_are : numbers.inside ≡ p.inside
   pub number_is : numbers.number ≡ length before
-  pub room_is : room ≡ items_limit - sum_by (λ s. s.items) before
+  pub budget_is : budget ≡ items_limit - sum_by (λ s. s.items) before
 
 -- The data of a scope, given its entry and its names.
 abbrev pub scope_facts : ScopeNumbers → ScopeEntry → EntryNames → ScopeFacts
@@ -107,30 +108,33 @@ abbrev pub all_sites : List CompilationUnit → List ScopeSite
 all_sites us = flat_map (λ u. sites_in u u.dies) us
 
 -- The scope after those before it. A fault is reported at the offset of its entry.
-abbrev pub judge : Sections → List CompilationUnit → List Judged → ScopeSite → Result Judged At
-judge s units before p = told_at p.member.die.offset (scope_at s units before p)
+abbrev pub parse_scope : Sections → List CompilationUnit → List ParsedScope → ScopeSite
+    → Result ParsedScope At
+parse_scope s units before p = with_offset p.member.die.offset (scope_at s units before p)
 
 -- The scopes of the program, given the roots, and the remaining budget of range items.
-pub record AreJudged (roots : List Root) (before : List Judged) (lists : ScopeLists) (left : ℕ)
+pub record AreParsed (roots : List Root) (before : List ParsedScope) (lists : ScopeLists) (left : ℕ)
     : Type 0 where
-  pub told : scopes_of roots lists ≡ map (λ j. j.scope) before
-  pub held : AreHeld (length lists.wide.items) 0 (length lists.ranges.items) lists.scopes.items
+  pub described : scopes_of roots lists ≡ map (λ j. j.scope) before
+  pub in_list : AreConsecutive (length lists.wide.items) 0 (length lists.ranges.items)
+      lists.scopes.items
   pub counted : left + sum_by (λ s. s.items) before ≡ items_limit
 
 -- The scopes of some sites are appended to those before, or their fault is reported. The call may
 -- also fail because memory ran out.
 abbrev pub AddsScopes : Result (Unit {0}) LoadFault → Sections → List CompilationUnit
-    → List ScopeSite → List Judged → ScopeLists → ℕ → Type 0
+    → List ScopeSite → List ParsedScope → ScopeLists → ℕ → Type 0
 AddsScopes (Ok _) s us places before lists left =
-    (after : List Judged) × (each_from (judge s us) before places ≡ Ok after)
-    × AreJudged (roots_from 0 us) (before ++ after) lists left
+    (after : List ParsedScope) × (each_from (parse_scope s us) before places ≡ Ok after)
+    × AreParsed (roots_from 0 us) (before ++ after) lists left
 AddsScopes (Err fault) s us places before lists left =
     (fault ≡ memory_fault)
-    ⊎ (in_section names.DebugInfo (each_from (judge s us) before places) ≡ Err fault)
+    ⊎ (in_section names.DebugInfo (each_from (parse_scope s us) before places) ≡ Err fault)
 
 -- The scopes of all units.
 abbrev pub all_scopes : Sections → List CompilationUnit → Result (List Scope) At
-all_scopes s us = each (judge s us) (all_sites us) >>= λ judged. Ok (map (λ j. j.scope) judged)
+all_scopes s us = each (parse_scope s us) (all_sites us)
+    >>= λ parsed. Ok (map (λ j. j.scope) parsed)
 
 -- The tables of the units are valid.
 pub record TablesRead (s : Sections) (headers : List UnitHeader) : Type 0 where
@@ -141,8 +145,8 @@ pub record TablesRead (s : Sections) (headers : List UnitHeader) : Type 0 where
 -- The roots and scopes of the units, given their entries.
 abbrev pub tree_of_units : Sections → List CompilationUnit → Result Tree LoadFault
 tree_of_units s us =
-    in_section names.DebugInfo (each (judge s us) (all_sites us))
-    >>= λ judged. Ok (record { roots = roots_from 0 us; scopes = map (λ j. j.scope) judged })
+    in_section names.DebugInfo (each (parse_scope s us) (all_sites us))
+    >>= λ parsed. Ok (record { roots = roots_from 0 us; scopes = map (λ j. j.scope) parsed })
 
 abbrev pub tree_of_dies : Sections → List UnitHeader → List (List Die) → Result Tree LoadFault
 tree_of_dies s headers dies =

@@ -1,7 +1,6 @@
 -- The lists that scopes share, for the contracts of the pass over scopes.
-use Rattle.std.specs.Prelude.{◌≡◌, ℕ, ◌-◌, ◌≤◌, ◌<◌, List, [], ◌∷◌, ◌++◌, length}
-use Rattle.std.specs.Prelude.{Result, Ok, Err, ◌==◌, if◌then◌else◌, slice_get}
-use Rattle.std.specs.Prelude.{◌^◌, Option, IfSome}
+use Rattle.std.specs.Prelude.{◌≡◌, ℕ, ◌-◌, ◌≤◌, ◌<◌, List, [], ◌∷◌, ◌++◌, length, Result, Ok, Err}
+use Rattle.std.specs.Prelude.{◌==◌, if◌then◌else◌, slice_get, ◌^◌, Option, IfSome}
 use Rattle.std.specs.Option.{option_map_or}
 use Rattle.dwarf_bytes.specs.declared.fault.Cause.{Cause}
 use Rattle.dwarf_bytes.specs.Refusals.{Fails}
@@ -10,11 +9,11 @@ use Rattle.dwarf_entries.specs.declared.calls.Calls.{Calls}
 use Rattle.dwarf_entries.specs.declared.calls.Calls.TheVariants as calls
 use Rattle.dwarf_entries.specs.declared.scope.Range.{Range}
 use Rattle.dwarf_entries.specs.declared.scope.Root.{Root}
-use Rattle.dwarf_entries.specs.declared.scope.Scope.{Scope as Kept}
+use Rattle.dwarf_entries.specs.declared.scope.Scope.{Scope as StoredScope}
 use Rattle.dwarf_entries.specs.declared.scope.ScopeFacts.{ScopeFacts}
 use Rattle.dwarf_entries.specs.declared.scope_lists.ScopeLists.{ScopeLists}
 use Rattle.dwarf_entries.specs.Ranges.{Covering}
-use Rattle.dwarf_entries.specs.Scopes.{Scope, scope_of, root_stmt_list, Judged}
+use Rattle.dwarf_entries.specs.Scopes.{Scope, scope_of, root_stmt_list, ParsedScope}
 
 -- The ranges of an entry are appended. On success, the result also has the number of range list
 -- items that were read.
@@ -42,10 +41,10 @@ facts_of roots ranges s = record {
 
 -- The same, with its ranges appended to those before.
 abbrev pub AddsFacts : List Root → Result (ScopeFacts × ℕ) Cause → List Range → List Range
-    → Result Judged Cause → Type 0
-AddsFacts roots (Ok told) old new outcome =
+    → Result ParsedScope Cause → Type 0
+AddsFacts roots (Ok described) old new outcome =
     (found : List Range)
-    × (outcome ≡ Ok (record { scope = facts_of roots found told.0; items = told.1 }))
+    × (outcome ≡ Ok (record { scope = facts_of roots found described.0; items = described.1 }))
     × (new ≡ old ++ found)
 AddsFacts roots (Err cause) old new outcome = Fails cause outcome
 
@@ -54,35 +53,35 @@ abbrev pub IsNarrow : Option ℕ → Type 0
 IsNarrow number = IfSome number (λ n. n < 2 ^ 32)
 
 -- A call site that is stored in a list of a given length has an index within it.
-abbrev pub IsHeldIn : ℕ → Calls → ℕ → Type 0
-IsHeldIn many calls.Missing place = Unit {0}
-IsHeldIn many calls.File place = Unit {0}
-IsHeldIn many calls.Line place = Unit {0}
-IsHeldIn many calls.Both place = Unit {0}
-IsHeldIn many calls.Wide place = place < many
+abbrev pub IsInList : ℕ → Calls → ℕ → Type 0
+IsInList many calls.Missing place = Unit {0}
+IsInList many calls.File place = Unit {0}
+IsInList many calls.Line place = Unit {0}
+IsInList many calls.Both place = Unit {0}
+IsInList many calls.Wide place = place < many
 
 -- The ranges of the scopes are consecutive, from one index to another. The indexes of their call
 -- sites are within a list of a given length.
-abbrev pub AreHeld : ℕ → ℕ → ℕ → List Kept → Type 0
-AreHeld many first past [] = first ≡ past
-AreHeld many first past (s ∷ ss) =
-    (first ≤ s.ranges_end) × IsHeldIn many s.calls s.call_file
-    × AreHeld many s.ranges_end past ss
+abbrev pub AreConsecutive : ℕ → ℕ → ℕ → List StoredScope → Type 0
+AreConsecutive many first past [] = first ≡ past
+AreConsecutive many first past (s ∷ ss) =
+    (first ≤ s.ranges_end) × IsInList many s.calls s.call_file
+    × AreConsecutive many s.ranges_end past ss
 
 -- The index of the first range of the scope at an index.
-abbrev pub ranges_start : ℕ → List Kept → ℕ → ℕ
+abbrev pub ranges_start : ℕ → List StoredScope → ℕ → ℕ
 ranges_start first scopes number =
     if number == 0 then first
     else option_map_or (λ s. s.ranges_end) (slice_get scopes (number - 1)) 0
 
 -- A packed scope has the data of the facts, given the roots, its ranges and the wide call sites.
 -- Its own call site is appended to them if it is wide.
-pub record Packs (facts : ScopeFacts) (ranges_end : ℕ) (old new : List CallSite) (s : Kept)
+pub record Packs (facts : ScopeFacts) (ranges_end : ℕ) (old new : List CallSite) (s : StoredScope)
     : Type 0 where
   pub more : List CallSite
   pub added : new ≡ old ++ more
   pub few : IsNarrow facts.site.file → IsNarrow facts.site.line → new ≡ old
-  pub held : IsHeldIn (length new) s.calls s.call_file
+  pub in_list : IsInList (length new) s.calls s.call_file
   pub ends : s.ranges_end ≡ ranges_end
   pub tells :
       (roots : List Root) (ranges : List Range)
@@ -90,7 +89,7 @@ pub record Packs (facts : ScopeFacts) (ranges_end : ℕ) (old new : List CallSit
 
 -- A scope is appended to the scopes before.
 pub record IsPushed (facts : ScopeFacts) (old new : ScopeLists) : Type 0 where
-  pub s : Kept
+  pub s : StoredScope
   pub packs : Packs facts (length old.ranges.items) old.wide.items new.wide.items s
   pub scopes : new.scopes.items ≡ old.scopes.items ++ s ∷ []
   pub ranges : new.ranges.items ≡ old.ranges.items

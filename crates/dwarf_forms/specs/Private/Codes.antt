@@ -1,7 +1,6 @@
 -- Abbreviation codes and their index.
 use Rattle.std.specs.Prelude.{◌≡◌, ◌≢◌, ◌⊎◌, ℕ, ◌+◌, List, Bool, false, Some, slice_get, ◌==◌}
-use Rattle.std.specs.Prelude.{AllPairs, Result, Ok, length}
-use Rattle.std.specs.Prelude.{nat_le, nat_lt, if◌then◌else◌}
+use Rattle.std.specs.Prelude.{AllPairs, Result, Ok, length, nat_le, nat_lt, if◌then◌else◌}
 use Rattle.std.specs.List.{list_any}
 use Rattle.std.specs.Option.{option_map_or}
 use Rattle.std.specs.Ordering.{nat_cmp}
@@ -24,11 +23,11 @@ abbrev pub is_code_at : List ℕ → ℕ → ℕ → Bool
 is_code_at codes place code = option_map_or (λ other. other == code) (slice_get codes place) false
 
 -- a declaration up to its attributes, after declarations with these codes
-abbrev pub head_behind : ℕ → List ℕ → List ℕ → ℕ → Result (Next Head) Cause
-head_behind room section codes at = do
+abbrev pub head_after : ℕ → List ℕ → List ℕ → ℕ → Result (Next Head) Cause
+head_after budget section codes at = do
   code ← reading (uleb_at section at)
   if code.0 == 0 then Ok (End code.1) else do
-    _ ← refuse_if (nat_le room (length codes)) causes.TooMany
+    _ ← refuse_if (nat_le budget (length codes)) causes.TooMany
     _ ← refuse_if (list_any (λ other. other == code.0) codes) causes.AbbrevTwice
     tag ← reading (uleb_at section code.1)
     children ← reading (u8_at section tag.1)

@@ -6,6 +6,6 @@ use Rattle.std.specs.BTreeSet.{BTreeSet, contains}
 use Rattle.dwarf_forms.specs.declared.attribute.AttributeSpecification.{AttributeSpecification}
 
 -- the set contains the names of the attributes
-abbrev pub HoldsNames : BTreeSet ℕ → List AttributeSpecification → Type 0
-HoldsNames names attributes = (name : ℕ) → contains nat_cmp names name
+abbrev pub ContainsNames : BTreeSet ℕ → List AttributeSpecification → Type 0
+ContainsNames names attributes = (name : ℕ) → contains nat_cmp names name
     ≡ list_any (λ attribute. attribute.name == name) attributes

@@ -11,11 +11,11 @@ use Rattle.dwarf_forms.specs.Tables.{declaration_at}
 -- cursor moves after it.
 abbrev pub ExtendsTable : Result Bool Cause → ℕ → List Declaration → List Declaration → Position
     → Position → Type 0
-ExtendsTable (Ok true) room before after old new =
-    (d : Declaration) × (declaration_at room old.bytes before old.place ≡ Ok (Item d new.place))
+ExtendsTable (Ok true) budget before after old new =
+    (d : Declaration) × (declaration_at budget old.bytes before old.place ≡ Ok (Item d new.place))
     × (after ≡ before ++ d ∷ []) × (new.bytes ≡ old.bytes)
-ExtendsTable (Ok false) room before after old new =
-    (declaration_at room old.bytes before old.place ≡ Ok (End new.place)) × (after ≡ before)
+ExtendsTable (Ok false) budget before after old new =
+    (declaration_at budget old.bytes before old.place ≡ Ok (End new.place)) × (after ≡ before)
     × (new.bytes ≡ old.bytes)
-ExtendsTable (Err cause) room before after old new =
-    Fails cause (declaration_at room old.bytes before old.place)
+ExtendsTable (Err cause) budget before after old new =
+    Fails cause (declaration_at budget old.bytes before old.place)

@@ -9,8 +9,8 @@ use Rattle.dwarf_lines.specs.declared.instruction.Instruction.{Instruction}
 use Rattle.dwarf_lines.specs.declared.instruction.Instruction.TheVariants.{AdvanceLine}
 use Rattle.dwarf_bytes.specs.Refusals.{Fails}
 use Rattle.dwarf_lines.specs.Instructions.{Encoding}
-use Rattle.dwarf_lines.specs.Matrix.{address_after, line_after, file_after, is_open, is_dead}
-use Rattle.dwarf_lines.specs.Matrix.{row_before, line_row, made, with_front}
+use Rattle.dwarf_lines.specs.Matrix.{address_after, line_after, file_after, is_open}
+use Rattle.dwarf_lines.specs.Matrix.{starts_at_tombstone, row_before, line_row, made, with_front}
 
 -- a sum that is represented only below 2 ^ 64
 abbrev pub IsSum : Option ℕ → ℕ → Type 0
@@ -18,8 +18,8 @@ IsSum None sum = 2 ^ 64 ≤ sum
 IsSum (Some n) sum = n ≡ sum
 
 -- whether the sequence has a row that was discarded
-abbrev pub has_dropped : List Instruction → Bool
-has_dropped before = is_open before && is_dead before
+abbrev pub has_discarded_row : List Instruction → Bool
+has_discarded_row before = is_open before && starts_at_tombstone before
 
 -- The registers are the ones after these instructions. The address of the last row is only
 -- maintained if no row was discarded.
@@ -27,18 +27,19 @@ pub record AreRegisters (e : Encoding) (before : List Instruction) (r : Register
   pub address : IsSum r.address (address_after e before)
   pub line : r.line ≡ line_after e before
   pub file : r.file ≡ file_after before
-  pub previous : has_dropped before ≡ false → r.previous ≡ row_before e before
+  pub previous : has_discarded_row before ≡ false → r.previous ≡ row_before e before
   pub has_row : r.has_row ≡ is_open before
-  pub dead : r.dead ≡ is_dead before
+  pub at_tombstone : r.at_tombstone ≡ starts_at_tombstone before
 
 -- The row of the registers is built at the address sum, and becomes the last row. In a dead
 -- sequence it is discarded.
-abbrev pub KeepsRow : Origin → Registers → ℕ → Result (Option Row) Cause → Registers → Type 0
-KeepsRow origin old sum (Ok (Some row)) new = (old.dead ≡ false)
+abbrev pub BuildsRow : Origin → Registers → ℕ → Result (Option Row) Cause → Registers → Type 0
+BuildsRow origin old sum (Ok (Some row)) new = (old.at_tombstone ≡ false)
     × (line_row origin old.previous sum old.line old.file ≡ Ok row)
     × (new ≡ record old { previous = row.address; has_row = true })
-KeepsRow origin old sum (Ok None) new = (old.dead ≡ true) × (new ≡ record old { has_row = true })
-KeepsRow origin old sum (Err cause) new = (old.dead ≡ false)
+BuildsRow origin old sum (Ok None) new = (old.at_tombstone ≡ true)
+    × (new ≡ record old { has_row = true })
+BuildsRow origin old sum (Err cause) new = (old.at_tombstone ≡ false)
     × (line_row origin old.previous sum old.line old.file ≡ Err cause)
 
 -- the row that ends a sequence; a dead sequence has none

@@ -11,7 +11,7 @@ use Rattle.dwarf_forms.specs.Declarations.{Declaration}
 use Rattle.dwarf_bytes.specs.Position.{Position}
 use Rattle.dwarf_bytes.specs.Refusals.{Fails}
 use Rattle.dwarf_units.specs.Entries.{depth_limit, declaration_of, entry_at}
-use Rattle.dwarf_units.specs.Private.Plans.{Table, kept_attributes}
+use Rattle.dwarf_units.specs.Private.Plans.{Table, stored_attributes}
 use Rattle.dwarf_units.specs.Private.Used.{Used, used_among}
 
 -- The declaration of an entry in a unit of a format.
@@ -35,12 +35,12 @@ head_at table depth rooted unit at = do
 -- The tag and the used attributes of the entry at an offset, and the offset after it.
 abbrev pub used_entry_at : Table → List ℕ → ℕ → Result ((ℕ × Used) × ℕ) Cause
 used_entry_at table unit at = entry_at table.format table.declarations unit at
-    >>= λ entry. Ok ((entry.0.0, used_among (kept_attributes true entry.0.1)), entry.1)
+    >>= λ entry. Ok ((entry.0.0, used_among (stored_attributes true entry.0.1)), entry.1)
 
 -- The first part of what is read is the result, and the second part is in the output argument. The
 -- cursor is after it. The call may also fail because memory ran out.
-abbrev pub TellsAndFills : {X Y : Type 0} → Result X Cause → Y
+abbrev pub ReturnsAndFills : {X Y : Type 0} → Result X Cause → Y
     → (List ℕ → ℕ → Result ((X × Y) × ℕ) Cause) → Position → Position → Type 0
-TellsAndFills (Ok x) left read old new =
+ReturnsAndFills (Ok x) left read old new =
     (read old.bytes old.place ≡ Ok ((x, left), new.place)) × (new.bytes ≡ old.bytes)
-TellsAndFills (Err cause) left read old new = Fails cause (read old.bytes old.place)
+ReturnsAndFills (Err cause) left read old new = Fails cause (read old.bytes old.place)

@@ -3,18 +3,19 @@ use Rattle.std.specs.Prelude.{◌≡◌, ℕ, ◌<◌, ◌≤◌, List, ◌∷�
 use Rattle.std.specs.Prelude.{IfSome, slice_get}
 use Rattle.dwarf_bytes.specs.declared.format.Format.{Format}
 use Rattle.dwarf_bytes.specs.declared.format.Format.TheVariants.{Dwarf32, Dwarf64}
-use Rattle.dwarf_forms.specs.declared.known_lists.KnownAttribute.{KnownAttribute}
-use Rattle.dwarf_forms.specs.Private.Known.{Grows, KnownPlaces, attributes_from, rest_attributes}
-use Rattle.dwarf_units.specs.declared.tails.LinkedStep.{LinkedStep}
-use Rattle.dwarf_units.specs.declared.tails.Links.{Links}
+use Rattle.dwarf_forms.specs.declared.memoized_lists.MemoizedAttribute.{MemoizedAttribute}
+use Rattle.dwarf_forms.specs.Private.Memoized.{Grows, MemoizedAttributes, attributes_from}
+use Rattle.dwarf_forms.specs.Private.Memoized.{rest_attributes}
+use Rattle.dwarf_units.specs.declared.shared_suffixes.LinkedStep.{LinkedStep}
+use Rattle.dwarf_units.specs.declared.shared_suffixes.Links.{Links}
 use Rattle.dwarf_units.specs.Private.Plans.{steps_of}
 
 -- The steps of a list that starts at a memoized attribute are the step of its link, followed by
 -- the steps of the list at the link's successor.
-pub record IsLink (keep : Bool) (format : Format) (known : List KnownAttribute) (number : ℕ)
+pub record IsLink (keep : Bool) (format : Format) (memoized : List MemoizedAttribute) (number : ℕ)
     (link : LinkedStep) : Type 0 where
-  pub steps : steps_of keep format (attributes_from known number)
-      ≡ link.step ∷ steps_of keep format (rest_attributes known link.next)
+  pub steps : steps_of keep format (attributes_from memoized number)
+      ≡ link.step ∷ steps_of keep format (rest_attributes memoized link.next)
   pub before : IfSome link.next (λ next. next < number)
 
 -- The link that stores used attributes, or the one that stores none.
@@ -23,16 +24,16 @@ link_by true links = links.kept
 link_by false links = links.passed
 
 -- The links of the memoized attributes, or of the first n of them, for units of a format.
-pub record AreLinked (format : Format) (known : List KnownAttribute) (links : List Links)
+pub record AreLinked (format : Format) (memoized : List MemoizedAttribute) (links : List Links)
     : Type 0 where
-  pub within : length links ≤ length known
+  pub within : length links ≤ length memoized
   pub each : (number : ℕ) (l : Links) → slice_get links number ≡ Some l → (keep : Bool)
-      → IsLink keep format known number (link_by keep l)
+      → IsLink keep format memoized number (link_by keep l)
 
 -- The memoized attributes of a section, and the number of them that have links for units of each
 -- format.
 pub record LinkedPlaces : Type 0 where
-  pub places : KnownPlaces
+  pub places : MemoizedAttributes
   pub dwarf32 : ℕ
   pub dwarf64 : ℕ
 

@@ -21,9 +21,9 @@ use Rattle.dwarf_units.specs.declared.used_name.UsedName.{UsedName}
 use Rattle.dwarf_units.specs.declared.used_name.UsedName.TheVariants.{Name, LinkageName, LowPc}
 use Rattle.dwarf_units.specs.declared.used_name.UsedName.TheVariants.{AbstractOrigin, HighPc}
 use Rattle.dwarf_units.specs.declared.used_name.UsedName.TheVariants.{Specification, Ranges}
-use Rattle.dwarf_units.specs.declared.used_name.UsedName.TheVariants.{CallFile, CallLine}
-use Rattle.dwarf_units.specs.declared.used_name.UsedName.TheVariants.{StmtList, StrOffsetsBase}
-use Rattle.dwarf_units.specs.declared.used_name.UsedName.TheVariants.{AddrBase, RnglistsBase}
+use Rattle.dwarf_units.specs.declared.used_name.UsedName.TheVariants.{CallFile, CallLine, StmtList}
+use Rattle.dwarf_units.specs.declared.used_name.UsedName.TheVariants.{StrOffsetsBase, AddrBase}
+use Rattle.dwarf_units.specs.declared.used_name.UsedName.TheVariants.{RnglistsBase}
 
 -- The code of an attribute name (DWARF 5, table 7.5).
 abbrev pub name_of : UsedName → ℕ
@@ -50,5 +50,5 @@ abbrev pub used_name : ℕ → Option UsedName
 used_name number = find (λ name. name_of name == number) used_names
 
 -- The attribute with a name and a value.
-abbrev pub under_name : UsedName → AttributeValue → Attribute
-under_name name value = record { name = name_of name; value = value }
+abbrev pub named_attribute : UsedName → AttributeValue → Attribute
+named_attribute name value = record { name = name_of name; value = value }

@@ -1,8 +1,8 @@
 -- Decode plans: how the attributes of a declaration are read if only some are stored. Runs of
 -- values of a fixed size are skipped.
 use Rattle.std.specs.Prelude.{◌≡◌, ℕ, ◌+◌, List, [], ◌∷◌, ◌++◌, length, take, Bool, true, false}
-use Rattle.std.specs.Prelude.{Option, Some, None, Result, Ok, Err, nat_le, ◌||◌, not}
-use Rattle.std.specs.Prelude.{if◌then◌else◌, filter, sum_by}
+use Rattle.std.specs.Prelude.{Option, Some, None, Result, Ok, Err, nat_le, ◌||◌, not, if◌then◌else◌}
+use Rattle.std.specs.Prelude.{filter, sum_by}
 use Rattle.std.specs.Option.{option_map_or}
 use Rattle.dwarf_bytes.specs.declared.fault.Cause.{Cause}
 use Rattle.dwarf_bytes.specs.declared.format.Format.{Format}
@@ -24,21 +24,21 @@ use Rattle.dwarf_forms.specs.Declarations.{Declaration}
 use Rattle.dwarf_units.specs.declared.attributes.Attribute.{Attribute}
 use Rattle.dwarf_units.specs.declared.steps.AttributeStep.{AttributeStep}
 use Rattle.dwarf_units.specs.declared.used_name.UsedName.{UsedName}
-use Rattle.dwarf_units.specs.Private.Names.{under_name, used_name}
+use Rattle.dwarf_units.specs.Private.Names.{named_attribute, used_name}
 use Rattle.dwarf_units.specs.declared.steps.AttributeStep.TheVariants.{Skip, Pass, Keep}
 use Rattle.dwarf_units.specs.Attributes.{is_used, accepts, is_negative_count, number_of}
 use Rattle.dwarf_units.specs.Entries.{attribute_at, attributes_at}
 
 -- The attributes that are stored: the used ones, or none.
-abbrev pub kept_attributes : Bool → List Attribute → List Attribute
-kept_attributes keep attributes = if keep then filter (λ a. is_used a.name) attributes else []
+abbrev pub stored_attributes : Bool → List Attribute → List Attribute
+stored_attributes keep attributes = if keep then filter (λ a. is_used a.name) attributes else []
 
 -- The stored attributes of a declaration from an offset on, and the offset after all of its
 -- attributes.
-abbrev pub kept_attributes_at : Bool → Format → List AttributeSpecification → List ℕ → ℕ
+abbrev pub stored_attributes_at : Bool → Format → List AttributeSpecification → List ℕ → ℕ
     → Result (List Attribute × ℕ) Cause
-kept_attributes_at keep format declared bytes at = attributes_at format declared bytes at
-    >>= λ all. Ok (kept_attributes keep all.0, all.1)
+stored_attributes_at keep format declared bytes at = attributes_at format declared bytes at
+    >>= λ all. Ok (stored_attributes keep all.0, all.1)
 
 -- The size of a value in a layout in bytes, if all values have this size and any bytes are a valid
 -- value.
@@ -70,54 +70,55 @@ fixed_len format s = if accepts s.name s.form then (elim (form_of s.form) [
 ]) else None
 
 -- Whether the values of a layout are nonnegative numbers or strings.
-abbrev pub is_plain : ValueLayout → Bool
-is_plain (Fixed width) = true
-is_plain Offset = true
-is_plain Present = false
-is_plain Signed = false
-is_plain Unsigned = true
-is_plain Text = true
-is_plain Sixteen = false
-is_plain (Block width) = false
-is_plain LongBlock = false
+abbrev pub is_unsigned : ValueLayout → Bool
+is_unsigned (Fixed width) = true
+is_unsigned Offset = true
+is_unsigned Present = false
+is_unsigned Signed = false
+is_unsigned Unsigned = true
+is_unsigned Text = true
+is_unsigned Sixteen = false
+is_unsigned (Block width) = false
+is_unsigned LongBlock = false
 
 -- The layout of the values of an attribute, if every value in it is valid. Every value of an
 -- unused attribute is.
-abbrev pub known_layout : AttributeSpecification → Option ValueLayout
-known_layout s = if accepts s.name s.form then (elim (form_of s.form) [
+abbrev pub valid_layout : AttributeSpecification → Option ValueLayout
+valid_layout s = if accepts s.name s.form then (elim (form_of s.form) [
   | None ↦ None
-  | Some (Direct layout) ↦ if is_plain layout || not (is_used s.name) then Some layout else None
+  | Some (Direct layout) ↦ if is_unsigned layout || not (is_used s.name) then Some layout else None
   | Some ImplicitConst ↦ None
   | Some Indirect ↦ None
 ]) else None
 
 -- The step of an attribute that is not stored.
-abbrev pub pass_of : Format → AttributeSpecification → AttributeStep
-pass_of format s = option_map_or (λ n. Skip n) (fixed_len format s) (Pass s (known_layout s))
+abbrev pub skip_of : Format → AttributeSpecification → AttributeStep
+skip_of format s = option_map_or (λ n. Skip n) (fixed_len format s) (Pass s (valid_layout s))
 
 abbrev pub step_of : Bool → Format → AttributeSpecification → AttributeStep
 step_of keep format s = if keep
-    then option_map_or (λ name. Keep 0 name s (known_layout s)) (used_name s.name) (pass_of format s)
-    else pass_of format s
+    then option_map_or (λ name. Keep 0 name s (valid_layout s)) (used_name s.name)
+    (skip_of format s)
+    else skip_of format s
 
 -- The maximum number of bytes that one step skips.
 abbrev pub skip_limit : ℕ
 skip_limit = 65535
 
 -- Merges two steps into one, if the first skips bytes and the second starts by skipping bytes.
-abbrev pub joined : AttributeStep → AttributeStep → Option AttributeStep
-joined (Skip n) (Skip m) = if nat_le (n + m) skip_limit then Some (Skip (n + m)) else None
-joined (Skip n) (Pass t layout) = None
-joined (Skip n) (Keep m used t layout) =
+abbrev pub merged_step : AttributeStep → AttributeStep → Option AttributeStep
+merged_step (Skip n) (Skip m) = if nat_le (n + m) skip_limit then Some (Skip (n + m)) else None
+merged_step (Skip n) (Pass t layout) = None
+merged_step (Skip n) (Keep m used t layout) =
     if nat_le (n + m) skip_limit then Some (Keep (n + m) used t layout) else None
-joined (Pass s layout) next = None
-joined (Keep n used s layout) next = None
+merged_step (Pass s layout) next = None
+merged_step (Keep n used s layout) next = None
 
 -- A step prepended to others, merged with the first of them if possible.
 abbrev pub step_before : AttributeStep → List AttributeStep → List AttributeStep
 step_before step [] = step ∷ []
 step_before step (next ∷ rest) =
-    option_map_or (λ both. both ∷ rest) (joined step next) (step ∷ next ∷ rest)
+    option_map_or (λ both. both ∷ rest) (merged_step step next) (step ∷ next ∷ rest)
 
 -- The steps of a list of attributes.
 unfoldable pub steps_of : Bool → Format → List AttributeSpecification → List AttributeStep
@@ -130,9 +131,9 @@ number_at format layout bytes at =
     reading (content_at layout format bytes at) >>= λ c. Ok (number_of c.0 c.1, c.1)
 
 -- The attribute at an offset, whose value has a layout, and the offset after it.
-abbrev pub taken_at : Format → AttributeSpecification → ValueLayout → List ℕ → ℕ
+abbrev pub attribute_in_layout : Format → AttributeSpecification → ValueLayout → List ℕ → ℕ
     → Result (Attribute × ℕ) Cause
-taken_at format s layout bytes at = reading (content_at layout format bytes at)
+attribute_in_layout format s layout bytes at = reading (content_at layout format bytes at)
     >>= λ c. Ok (
       record {
         name = s.name;
@@ -142,12 +143,16 @@ taken_at format s layout bytes at = reading (content_at layout format bytes at)
     )
 
 -- The single attribute at an offset, stored under a name, and the offset after it.
-abbrev pub kept_at : Format → UsedName → AttributeSpecification → Option ValueLayout → List ℕ → ℕ
+abbrev pub stored_at : Format → UsedName → AttributeSpecification → Option ValueLayout → List ℕ → ℕ
     → Result (List Attribute × ℕ) Cause
-kept_at format name s (Some layout) bytes at =
-    taken_at format s layout bytes at >>= λ a. Ok (under_name name a.0.value ∷ [], a.1)
-kept_at format name s None bytes at =
-    attribute_at format s bytes at >>= λ a. Ok (under_name name a.0.value ∷ [], a.1)
+stored_at format name s (Some layout) bytes at =
+    attribute_in_layout format s layout bytes at >>= λ a. Ok (
+      named_attribute name a.0.value
+          ∷ [],
+      a.1,
+    )
+stored_at format name s None bytes at =
+    attribute_at format s bytes at >>= λ a. Ok (named_attribute name a.0.value ∷ [], a.1)
 
 -- The attributes that a step stores, and the offset after it.
 abbrev pub step_at : Format → AttributeStep → List ℕ → ℕ → Result (List Attribute × ℕ) Cause
@@ -156,19 +161,20 @@ step_at format (Pass s (Some layout)) bytes at =
     reading (content_at layout format bytes at) >>= λ c. Ok ([], c.1)
 step_at format (Pass s None) bytes at = attribute_at format s bytes at >>= λ a. Ok ([], a.1)
 step_at format (Keep n used s layout) bytes at =
-    reading (block_at n bytes at) >>= λ block. kept_at format used s layout bytes block.1
+    reading (block_at n bytes at) >>= λ block. stored_at format used s layout bytes block.1
 
 -- Prepends stored attributes to those that a read stores.
-abbrev pub in_front : {X : Type 0} → List X → Result (List X × ℕ) Cause → Result (List X × ℕ) Cause
-in_front front (Ok rest) = Ok (front ++ rest.0, rest.1)
-in_front front (Err cause) = Err cause
+abbrev pub prepend_attributes : {X : Type 0} → List X → Result (List X × ℕ) Cause → Result (List X
+    × ℕ) Cause
+prepend_attributes front (Ok rest) = Ok (front ++ rest.0, rest.1)
+prepend_attributes front (Err cause) = Err cause
 
 -- The attributes that consecutive steps store, and the offset after them.
 unfoldable pub steps_at : Format → List AttributeStep → List ℕ → ℕ
     → Result (List Attribute × ℕ) Cause
 steps_at format [] bytes at = Ok ([], at)
 steps_at format (step ∷ steps) bytes at = step_at format step bytes at
-    >>= λ first. in_front first.0 (steps_at format steps bytes first.1)
+    >>= λ first. prepend_attributes first.0 (steps_at format steps bytes first.1)
 
 -- The output argument contains what is read, and the cursor is after it. The call may also fail
 -- because memory ran out.

@@ -2,8 +2,8 @@
 use Rattle.std.specs.Prelude.{ℕ, ◌+◌, List, length, map, sum_by}
 use Rattle.std.specs.List.{All}
 use Rattle.dwarf_bytes.specs.declared.format.Format.{Format}
-use Rattle.dwarf_forms.specs.declared.known_lists.KnownAttribute.{KnownAttribute}
-use Rattle.dwarf_forms.specs.Private.SharedTables.{AreTold, SharedDeclaration, tell}
+use Rattle.dwarf_forms.specs.declared.memoized_lists.MemoizedAttribute.{MemoizedAttribute}
+use Rattle.dwarf_forms.specs.Private.SharedTables.{AreShared, SharedDeclaration, full_declarations}
 use Rattle.dwarf_units.specs.Private.Links.{IsLinked, LinkedPlaces}
 use Rattle.dwarf_units.specs.Private.Plans.{Planned, Table, plan_len, plan_of}
 
@@ -14,15 +14,15 @@ pub record SharedTable : Type 0 where
   pub declarations : List SharedDeclaration
 
 -- The same table, with all attributes of each declaration.
-abbrev pub told_table : List KnownAttribute → SharedTable → Table
-told_table known table = record {
+abbrev pub full_table : List MemoizedAttribute → SharedTable → Table
+full_table memoized table = record {
   offset = table.offset;
   format = table.format;
-  declarations = tell known table.declarations;
+  declarations = full_declarations memoized table.declarations;
 }
 
-abbrev pub told_tables : List KnownAttribute → List SharedTable → List Table
-told_tables known tables = map (told_table known) tables
+abbrev pub full_tables : List MemoizedAttribute → List SharedTable → List Table
+full_tables memoized tables = map (full_table memoized) tables
 
 -- The plans of the unshared attributes of declarations, in units of a format.
 abbrev pub plans_of : Format → List SharedDeclaration → List Planned
@@ -35,5 +35,5 @@ own_size table = length table.declarations + sum_by (λ d. length d.list.own) ta
 
 -- The shared attributes of a table are memoized and have links for units of its format.
 pub record IsReadable (lists : LinkedPlaces) (table : SharedTable) : Type 0 where
-  pub told : AreTold lists.places.known table.declarations
+  pub resolved : AreShared lists.places.memoized table.declarations
   pub linked : All (λ d. IsLinked lists table.format d.list.rest) table.declarations

@@ -6,9 +6,9 @@ use Rattle.dwarf_units.specs.declared.used_name.UsedName.{UsedName}
 use Rattle.dwarf_units.specs.declared.used_name.UsedName.TheVariants.{Name, LinkageName, LowPc}
 use Rattle.dwarf_units.specs.declared.used_name.UsedName.TheVariants.{AbstractOrigin, HighPc}
 use Rattle.dwarf_units.specs.declared.used_name.UsedName.TheVariants.{Specification, Ranges}
-use Rattle.dwarf_units.specs.declared.used_name.UsedName.TheVariants.{CallFile, CallLine}
-use Rattle.dwarf_units.specs.declared.used_name.UsedName.TheVariants.{StmtList, StrOffsetsBase}
-use Rattle.dwarf_units.specs.declared.used_name.UsedName.TheVariants.{AddrBase, RnglistsBase}
+use Rattle.dwarf_units.specs.declared.used_name.UsedName.TheVariants.{CallFile, CallLine, StmtList}
+use Rattle.dwarf_units.specs.declared.used_name.UsedName.TheVariants.{StrOffsetsBase, AddrBase}
+use Rattle.dwarf_units.specs.declared.used_name.UsedName.TheVariants.{RnglistsBase}
 use Rattle.dwarf_units.specs.Private.Used.{Used, used_by}
 
 -- The slot of a name.

@@ -16,27 +16,27 @@ use Rattle.dwarf_units.specs.Private.Numbers.{number_at}
 use Rattle.dwarf_units.specs.declared.table_store.TableStore.{TableStore}
 use Rattle.dwarf_units.specs.Private.Plans.{Table, table_size}
 use Rattle.dwarf_units.specs.Private.Links.{LinkedPlaces}
-use Rattle.dwarf_units.specs.Private.SharedTables.{IsReadable, SharedTable, told_table, told_tables}
+use Rattle.dwarf_units.specs.Private.SharedTables.{IsReadable, SharedTable, full_table, full_tables}
 
 -- The tables of a section by index, and the number of those that are cached permanently. A table
 -- after them is the last one that was parsed.
-pub record KeptTables : Type 0 where
+pub record CachedTables : Type 0 where
   pub section : List ℕ
   pub tables : List Table
   pub kept : ℕ
 
--- The table of a unit as it is parsed, if at most `room` declarations may be read.
+-- The table of a unit as it is parsed, if at most `budget` declarations may be read.
 abbrev pub table_read : ℕ → List ℕ → UnitHeader → Result (List Declaration) LoadFault
-table_read room section unit =
-    in_section sections.DebugAbbrev (declarations_of room section unit.abbreviations)
+table_read budget section unit =
+    in_section sections.DebugAbbrev (declarations_of budget section unit.abbreviations)
 
 -- If a call fails, the read fails with the same fault, or memory ran out.
 abbrev pub Refuses : {X Y : Type 0} → Result X LoadFault → Result Y LoadFault → Type 0
 Refuses result outcome = IfErr result (λ fault. (fault ≡ memory_fault) ⊎ (outcome ≡ Err fault))
 
 -- A table is what is parsed at its offset.
-abbrev pub StandsIn : List ℕ → Table → Type 0
-StandsIn section table =
+abbrev pub IsParsedFrom : List ℕ → Table → Type 0
+IsParsedFrom section table =
     declarations_of declarations_limit section table.offset ≡ Ok table.declarations
 
 -- A table is at an offset, for units of a format.
@@ -60,21 +60,21 @@ abbrev pub size_limit : List ℕ → ℕ
 size_limit section = 3 * length section + 65536
 
 -- The permanently cached tables are within the limit, and at most one table is temporary.
-abbrev pub IsWithinLimit : KeptTables → Type 0
+abbrev pub IsWithinLimit : CachedTables → Type 0
 IsWithinLimit k = (sum_by table_size (take k.kept k.tables) ≤ size_limit k.section)
     × (length k.tables ≤ k.kept + 1)
 
 -- The table of a unit is cached permanently, or it would exceed the limit in addition to those
 -- that are.
-abbrev pub StaysOrIsTooLarge : KeptTables → UnitHeader → Type 0
-StaysOrIsTooLarge k unit = (table : Table) × IsAt unit.format unit.abbreviations table
-    × StandsIn k.section table
+abbrev pub IsCachedOrTooLarge : CachedTables → UnitHeader → Type 0
+IsCachedOrTooLarge k unit = (table : Table) × IsAt unit.format unit.abbreviations table
+    × IsParsedFrom k.section table
     × (((number : ℕ) × (slice_get (take k.kept k.tables) number ≡ Some table))
     ⊎ (size_limit k.section < sum_by table_size (take k.kept k.tables) + table_size table))
 
 -- The cache after one more table is added. The table is permanent if all of them are within the
 -- limit.
-abbrev pub with_table : KeptTables → Table → KeptTables
+abbrev pub with_table : CachedTables → Table → CachedTables
 with_table k table =
     let tables = take k.kept k.tables ++ table ∷ [] in
     record {
@@ -84,49 +84,49 @@ with_table k table =
           then length tables else k.kept;
     }
 
--- Each table is parsed from the section, and its format and offset map to its index. `room` is the
--- remaining budget. The temporary table, if there is one, exceeds it.
-pub record AreKept (section : List ℕ) (tables : List Table) (kept room : ℕ) (numbers : Numbers)
+-- Each table is parsed from the section, and its format and offset map to its index. `budget` is
+-- the remaining budget. The temporary table, if there is one, exceeds it.
+pub record AreCached (section : List ℕ) (tables : List Table) (kept budget : ℕ) (numbers : Numbers)
     : Type 0 where
-  pub stand : All (StandsIn section) tables
+  pub stand : All (IsParsedFrom section) tables
   pub found : (i : ℕ) (table : Table) → slice_get tables i ≡ Some table
       → number_at numbers table.format table.offset ≡ Some i
-  pub counted : room + sum_by table_size (take kept tables) ≡ size_limit section
+  pub counted : budget + sum_by table_size (take kept tables) ≡ size_limit section
   pub within : kept ≤ length tables
   pub one : length tables ≤ kept + 1
-  pub past : (table : Table) → slice_get tables kept ≡ Some table → room < table_size table
+  pub past : (table : Table) → slice_get tables kept ≡ Some table → budget < table_size table
 
 -- ---- tables whose declarations share attributes
 
 -- The cache as a list of tables with all attributes, given the memoized attributes.
-abbrev pub seen : LinkedPlaces → TableStore → KeptTables
+abbrev pub seen : LinkedPlaces → TableStore → CachedTables
 seen lists store = record {
   section = lists.places.section;
-  tables = told_tables lists.places.known store.tables.items;
+  tables = full_tables lists.places.memoized store.tables.items;
   kept = store.kept;
 }
 
 pub record AreStored (lists : LinkedPlaces) (store : TableStore) : Type 0 where
-  pub kept : AreKept lists.places.section (told_tables lists.places.known store.tables.items)
-      store.kept store.room store.numbers
+  pub kept : AreCached lists.places.section (full_tables lists.places.memoized store.tables.items)
+      store.kept store.budget store.numbers
   pub readable : All (IsReadable lists) store.tables.items
 
 -- A table may be cached: it is parsed from the section, and no cached table has its format and
 -- offset.
 pub record IsNew (lists : LinkedPlaces) (store : TableStore) (table : SharedTable) : Type 0 where
   pub readable : IsReadable lists table
-  pub stands : StandsIn lists.places.section (told_table lists.places.known table)
+  pub stands : IsParsedFrom lists.places.section (full_table lists.places.memoized table)
   pub fresh : AreElsewhere table.format table.offset
-      (told_tables lists.places.known store.tables.items)
+      (full_tables lists.places.memoized store.tables.items)
 
--- The table at an offset is parsed with a budget of `room` declarations and added at this index.
+-- The table at an offset is parsed with a budget of `budget` declarations and added at this index.
 -- `left` is the rest of that budget.
-pub record IsAdded (format : Format) (offset room left : ℕ) (old new : KeptTables) (number : ℕ)
+pub record IsAdded (format : Format) (offset budget left : ℕ) (old new : CachedTables) (number : ℕ)
     : Type 0 where
   pub table : Table
   pub at : IsAt format offset table
-  pub read : in_section sections.DebugAbbrev (declarations_of room old.section offset)
+  pub read : in_section sections.DebugAbbrev (declarations_of budget old.section offset)
       ≡ Ok table.declarations
-  pub counted : left + length table.declarations ≡ room
+  pub counted : left + length table.declarations ≡ budget
   pub found : slice_get new.tables number ≡ Some table
   pub added : new ≡ with_table old table

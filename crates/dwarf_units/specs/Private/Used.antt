@@ -12,12 +12,12 @@ use Rattle.dwarf_units.specs.declared.used_name.UsedName.{UsedName}
 use Rattle.dwarf_units.specs.declared.used_name.UsedName.TheVariants.{Name, LinkageName, LowPc}
 use Rattle.dwarf_units.specs.declared.used_name.UsedName.TheVariants.{AbstractOrigin, HighPc}
 use Rattle.dwarf_units.specs.declared.used_name.UsedName.TheVariants.{Specification, Ranges}
-use Rattle.dwarf_units.specs.declared.used_name.UsedName.TheVariants.{CallFile, CallLine}
-use Rattle.dwarf_units.specs.declared.used_name.UsedName.TheVariants.{StmtList, StrOffsetsBase}
-use Rattle.dwarf_units.specs.declared.used_name.UsedName.TheVariants.{AddrBase, RnglistsBase}
+use Rattle.dwarf_units.specs.declared.used_name.UsedName.TheVariants.{CallFile, CallLine, StmtList}
+use Rattle.dwarf_units.specs.declared.used_name.UsedName.TheVariants.{StrOffsetsBase, AddrBase}
+use Rattle.dwarf_units.specs.declared.used_name.UsedName.TheVariants.{RnglistsBase}
 use Rattle.dwarf_units.specs.Entries.{value_of}
 use Rattle.dwarf_units.specs.Private.Names.{name_of}
-use Rattle.dwarf_units.specs.Private.Plans.{kept_attributes_at}
+use Rattle.dwarf_units.specs.Private.Plans.{stored_attributes_at}
 
 -- The value of each used attribute that an entry has.
 pub record Used : Type 0 where
@@ -35,20 +35,20 @@ pub record Used : Type 0 where
   pub addr_base : Option AttributeValue
   pub rnglists_base : Option AttributeValue
 
-abbrev pub value_under : UsedName → Used → Option AttributeValue
-value_under Name used = used.name
-value_under LinkageName used = used.linkage_name
-value_under AbstractOrigin used = used.abstract_origin
-value_under Specification used = used.specification
-value_under LowPc used = used.low_pc
-value_under HighPc used = used.high_pc
-value_under Ranges used = used.ranges
-value_under CallFile used = used.call_file
-value_under CallLine used = used.call_line
-value_under StmtList used = used.stmt_list
-value_under StrOffsetsBase used = used.str_offsets_base
-value_under AddrBase used = used.addr_base
-value_under RnglistsBase used = used.rnglists_base
+abbrev pub value_named : UsedName → Used → Option AttributeValue
+value_named Name used = used.name
+value_named LinkageName used = used.linkage_name
+value_named AbstractOrigin used = used.abstract_origin
+value_named Specification used = used.specification
+value_named LowPc used = used.low_pc
+value_named HighPc used = used.high_pc
+value_named Ranges used = used.ranges
+value_named CallFile used = used.call_file
+value_named CallLine used = used.call_line
+value_named StmtList used = used.stmt_list
+value_named StrOffsetsBase used = used.str_offsets_base
+value_named AddrBase used = used.addr_base
+value_named RnglistsBase used = used.rnglists_base
 
 -- The same record, built from a function of the name.
 abbrev pub used_by : (UsedName → Option AttributeValue) → Used
@@ -75,16 +75,17 @@ used_among attributes = used_by (λ name. value_of attributes (name_of name))
 -- The used attributes of `front`, completed by those of a list that are missing in it.
 unfoldable pub with_used : Used → List Attribute → Used
 with_used front attributes =
-    used_by (λ name. option_or (value_under name front) (value_of attributes (name_of name)))
+    used_by (λ name. option_or (value_named name front) (value_of attributes (name_of name)))
 
 -- The used attributes so far, completed by those that a read stores.
-abbrev pub used_behind : Used → Result (List Attribute × ℕ) Cause → Result (Used × ℕ) Cause
-used_behind front (Ok rest) = Ok (with_used front rest.0, rest.1)
-used_behind front (Err cause) = Err cause
+abbrev pub used_after : Used → Result (List Attribute × ℕ) Cause → Result (Used × ℕ) Cause
+used_after front (Ok rest) = Ok (with_used front rest.0, rest.1)
+used_after front (Err cause) = Err cause
 
 -- The used attributes of a declaration from an offset on, if they are stored, and the offset after
 -- all of its attributes.
 abbrev pub used_attributes_at : Bool → Format → List AttributeSpecification → List ℕ → ℕ
     → Result (Used × ℕ) Cause
-used_attributes_at keep format declared bytes at = kept_attributes_at keep format declared bytes at
+used_attributes_at keep format declared bytes at = stored_attributes_at keep format declared bytes
+    at
     >>= λ kept. Ok (used_among kept.0, kept.1)

@@ -1,9 +1,9 @@
 -- The scopes among the entries read so far, and which of them are closed.
-use Rattle.std.specs.Prelude.{ℕ, zero, suc, List, [], ◌∷◌, ◌++◌, Bool}
-use Rattle.std.specs.Prelude.{if◌then◌else◌, nat_le, count_by, length}
+use Rattle.std.specs.Prelude.{ℕ, zero, suc, List, [], ◌∷◌, ◌++◌, Bool, if◌then◌else◌, nat_le}
+use Rattle.std.specs.Prelude.{count_by, length}
 use Rattle.std.specs.List.{list_any}
 use Rattle.dwarf_walk.specs.declared.walk.OpenScope.{OpenScope}
-use Rattle.dwarf_walk.specs.declared.kept.ScopePlace.{ScopePlace}
+use Rattle.dwarf_walk.specs.declared.unit_entries.ScopePlace.{ScopePlace}
 use Rattle.dwarf_units.specs.Entries.{Die, below}
 use Rattle.dwarf_walk.specs.ScopeEntries.{is_scope}
 
@@ -12,16 +12,17 @@ abbrev pub is_ended : Die → List Die → Bool
 is_ended die rest = list_any (λ d. nat_le d.depth die.depth) rest
 
 -- The recorded number of scopes below an entry. It is 0 until the entry is closed.
-abbrev pub known_inside : Die → List Die → ℕ
-known_inside die rest = if is_ended die rest then count_by is_scope (below die rest) else 0
+abbrev pub recorded_descendants : Die → List Die → ℕ
+recorded_descendants die rest = if is_ended die rest then count_by is_scope (below die rest) else 0
 
 -- The offsets and counts of the scopes in a list of entries.
-abbrev pub known_places : List Die → List ScopePlace
-known_places [] = []
-known_places (die ∷ rest) =
+abbrev pub recorded_places : List Die → List ScopePlace
+recorded_places [] = []
+recorded_places (die ∷ rest) =
     if is_scope die
-    then record { offset = die.offset; inside = known_inside die rest } ∷ known_places rest
-    else known_places rest
+    then record { offset = die.offset; inside = recorded_descendants die rest }
+    ∷ recorded_places rest
+    else recorded_places rest
 
 -- The scope of an entry, with its index, if it is still open.
 abbrev pub open_scope : ℕ → Die → List Die → List OpenScope

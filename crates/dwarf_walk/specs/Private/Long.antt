@@ -6,14 +6,14 @@ use Rattle.dwarf_forms.specs.Declarations.{Declaration}
 use Rattle.dwarf_forms.specs.Tables.{declarations_of}
 use Rattle.dwarf_units.specs.declared.unit_headers.UnitHeader.{UnitHeader}
 use Rattle.dwarf_units.specs.Units.{declarations_limit}
-use Rattle.dwarf_walk.specs.declared.kept.NamedEntry.{NamedEntry}
+use Rattle.dwarf_walk.specs.declared.unit_entries.NamedEntry.{NamedEntry}
 use Rattle.dwarf_walk.specs.declared.long_entries.LongEntry.{LongEntry}
 use Rattle.dwarf_walk.specs.declared.long_entries.LongEntries.{LongEntries}
 use Rattle.dwarf_walk.specs.Private.Named.{named_entry_at}
 
 -- The cached entry at an offset.
-abbrev pub held_at : LongEntries → ℕ → Option LongEntry
-held_at long offset = get nat_cmp long.held offset
+abbrev pub cached_at : LongEntries → ℕ → Option LongEntry
+cached_at long offset = get nat_cmp long.cached offset
 
 -- An entry that was read in the unit of a header.
 abbrev pub long_entry : UnitHeader → NamedEntry → LongEntry
@@ -25,9 +25,9 @@ long_entry header entry = record {
 }
 
 -- Every cached entry is equal to the entry that is read from these sections.
-abbrev pub AreHeldOf : List ℕ → List ℕ → LongEntries → Type 0
-AreHeldOf section info long =
-    (offset : ℕ) (held : LongEntry) → held_at long offset ≡ Some held
+abbrev pub AreCachedOf : List ℕ → List ℕ → LongEntries → Type 0
+AreCachedOf section info long =
+    (offset : ℕ) (cached : LongEntry) → cached_at long offset ≡ Some cached
     → (table : List Declaration)
-    → declarations_of declarations_limit section held.abbreviations ≡ Ok table
-    → named_entry_at held.format table (take held.«end» info) offset ≡ Ok held.entry
+    → declarations_of declarations_limit section cached.abbreviations ≡ Ok table
+    → named_entry_at cached.format table (take cached.«end» info) offset ≡ Ok cached.entry

@@ -8,10 +8,10 @@ use Rattle.dwarf_bytes.specs.Items.{refuse_if}
 use Rattle.dwarf_forms.specs.Declarations.{Declaration}
 use Rattle.dwarf_units.specs.declared.attributes.Attribute.{Attribute}
 use Rattle.dwarf_units.specs.Entries.{Die, entry_at}
-use Rattle.dwarf_units.specs.Private.Plans.{kept_attributes}
+use Rattle.dwarf_units.specs.Private.Plans.{stored_attributes}
 use Rattle.dwarf_units.specs.Private.Used.{Used, used_among}
-use Rattle.dwarf_walk.specs.declared.kept.NamedEntry.{NamedEntry}
-use Rattle.dwarf_walk.specs.Private.Kept.{named_entry}
+use Rattle.dwarf_walk.specs.declared.unit_entries.NamedEntry.{NamedEntry}
+use Rattle.dwarf_walk.specs.Private.Stored.{named_entry}
 
 -- An entry with an offset, a tag and attributes. Its depth is irrelevant.
 abbrev pub entry_with : ℕ → ℕ × List Attribute → Die
@@ -22,7 +22,7 @@ abbrev pub used_at : Format → List Declaration → List ℕ → ℕ → Result
 used_at format table unit offset = do
   _ ← refuse_if (nat_lt (length unit) offset) causes.Short
   entry ← entry_at format table unit offset
-  Ok (entry.0.0, kept_attributes true entry.0.1)
+  Ok (entry.0.0, stored_attributes true entry.0.1)
 
 -- The same, with the used attributes by name.
 abbrev pub used_by_name_at : Format → List Declaration → List ℕ → ℕ → Result (ℕ × Used) Cause

@@ -13,19 +13,19 @@ use Rattle.dwarf_units.specs.declared.attributes.Attribute.{Attribute}
 use Rattle.dwarf_walk.specs.declared.walk.NodeHead.{NodeHead}
 use Rattle.dwarf_walk.specs.declared.walk.OpenScope.{OpenScope}
 use Rattle.dwarf_walk.specs.declared.walk.Walk.{Walk}
-use Rattle.dwarf_walk.specs.declared.kept.ScopePlace.{ScopePlace}
-use Rattle.dwarf_walk.specs.declared.kept.RootEntry.{RootEntry}
-use Rattle.dwarf_walk.specs.declared.marks.Marks.{Marks}
+use Rattle.dwarf_walk.specs.declared.unit_entries.ScopePlace.{ScopePlace}
+use Rattle.dwarf_walk.specs.declared.unit_entries.RootEntry.{RootEntry}
+use Rattle.dwarf_walk.specs.declared.entry_bitmap.EntryBitmap.{EntryBitmap}
 use Rattle.dwarf_units.specs.declared.unit_headers.UnitHeader.{UnitHeader}
-use Rattle.dwarf_units.specs.Entries.{Node, Entry, Null, Standing, Die, die_of}
-use Rattle.dwarf_units.specs.Entries.{depth_after, node_behind, node_at}
-use Rattle.dwarf_walk.specs.Private.Ends.{known_places, open_scopes, ended_at}
-use Rattle.dwarf_walk.specs.Private.Ends.{left_open, new_place, new_open}
-use Rattle.dwarf_walk.specs.Private.Kept.{root_entry, root_in}
-use Rattle.dwarf_units.specs.Private.Plans.{Table, kept_attributes}
+use Rattle.dwarf_units.specs.Entries.{Node, Entry, Null, LocatedNode, Die, die_of, depth_after}
+use Rattle.dwarf_units.specs.Entries.{node_at_depth, node_at}
+use Rattle.dwarf_walk.specs.Private.Ends.{recorded_places, open_scopes, ended_at, left_open}
+use Rattle.dwarf_walk.specs.Private.Ends.{new_place, new_open}
+use Rattle.dwarf_walk.specs.Private.Stored.{root_entry, root_in}
+use Rattle.dwarf_units.specs.Private.Plans.{Table, stored_attributes}
 use Rattle.dwarf_units.specs.Private.Used.{Used, used_among}
 use Rattle.dwarf_walk.specs.References.{or_else}
-use Rattle.dwarf_walk.specs.Private.Marks.{AddsMarks}
+use Rattle.dwarf_walk.specs.Private.EntryBitmap.{AddsOffsets}
 
 -- An entry with an offset and attributes. Its tag and its depth are irrelevant.
 abbrev pub die_with : ℕ → List Attribute → Die
@@ -38,9 +38,9 @@ node_of None attributes = Null
 
 -- The stored attributes are the used ones of the entry, or none if `keep` is false. Nothing is
 -- required for a null entry.
-abbrev pub HoldsKept : Bool → Option NodeHead → Used → List Attribute → Type 0
-HoldsKept keep (Some head) used all = used ≡ used_among (kept_attributes keep all)
-HoldsKept keep None used all = Unit {0}
+abbrev pub HasStored : Bool → Option NodeHead → Used → List Attribute → Type 0
+HasStored keep (Some head) used all = used ≡ used_among (stored_attributes keep all)
+HasStored keep None used all = Unit {0}
 
 -- A step returns the node that is read, and its used attributes are stored if `keep` is set. The
 -- cursor is after the node. The call may also fail because memory ran out.
@@ -48,32 +48,32 @@ abbrev pub ReadsNode : Bool → Result (Option NodeHead) Cause → Used
     → (List ℕ → ℕ → Result (Node × ℕ) Cause) → Position → Position → Type 0
 ReadsNode keep (Ok found) used read old new =
     ((all : List Attribute) × (read old.bytes old.place ≡ Ok (node_of found all, new.place))
-    × HoldsKept keep found used all) × (new.bytes ≡ old.bytes)
+    × HasStored keep found used all) × (new.bytes ≡ old.bytes)
 ReadsNode keep (Err cause) used read old new = Fails cause (read old.bytes old.place)
 
 -- The data stored for the entries so far, and the depth after them.
-pub record Walked : Type 0 where
+pub record WalkState : Type 0 where
   pub depth : ℕ
   pub root : Option RootEntry
   pub scopes : List ScopePlace
   pub opened : List OpenScope
 
 -- The state after a list of entries.
-abbrev pub walked_by : ℕ → List Die → Walked
-walked_by depth dies = record {
+abbrev pub state_after_entries : ℕ → List Die → WalkState
+state_after_entries depth dies = record {
   depth = depth;
   root = root_in dies;
-  scopes = known_places dies;
+  scopes = recorded_places dies;
   opened = open_scopes 0 dies;
 }
 
 -- The state after a list of nodes.
-abbrev pub walked : List Standing → Walked
-walked before = walked_by (depth_after before) (filter_map die_of before)
+abbrev pub state_after : List LocatedNode → WalkState
+state_after before = state_after_entries (depth_after before) (filter_map die_of before)
 
 -- The state of the program.
-abbrev pub walked_of : Walk → Walked
-walked_of w = record {
+abbrev pub state_of : Walk → WalkState
+state_of w = record {
   depth = w.depth;
   root = w.root;
   scopes = w.scopes.items;
@@ -81,7 +81,7 @@ walked_of w = record {
 }
 
 -- The state after one more entry.
-abbrev pub after_die : Walked → Die → Walked
+abbrev pub after_die : WalkState → Die → WalkState
 after_die w die = record {
   depth = w.depth;
   root = or_else w.root (Some (root_entry die));
@@ -91,7 +91,7 @@ after_die w die = record {
 }
 
 -- The state after one more entry, ignoring its attributes. The root is unchanged.
-abbrev pub after_scope : Walked → ℕ → ℕ → Walked
+abbrev pub after_scope : WalkState → ℕ → ℕ → WalkState
 after_scope w offset tag = record (after_die w (record {
   offset = offset;
   depth = w.depth;
@@ -101,7 +101,7 @@ after_scope w offset tag = record (after_die w (record {
 
 -- The state is the one after one more entry with an offset and a tag, for any attributes with
 -- these used ones.
-abbrev pub IsAfterEntry : Walked → Walked → ℕ → ℕ → Used → Type 0
+abbrev pub IsAfterEntry : WalkState → WalkState → ℕ → ℕ → Used → Type 0
 IsAfterEntry w kept at tag used = (attributes : List Attribute) → used ≡ used_among attributes
     → kept ≡ after_die w (record {
       offset = at;
@@ -111,25 +111,25 @@ IsAfterEntry w kept at tag used = (attributes : List Attribute) → used ≡ use
     })
 
 -- The state after one more scope, whose entry is at an offset.
-abbrev pub with_scope : ℕ → Walked → Walked
+abbrev pub with_scope : ℕ → WalkState → WalkState
 with_scope offset w = record w {
   scopes = w.scopes ++ record { offset = offset; inside = 0 } ∷ [];
   opened = record { depth = w.depth; number = length w.scopes } ∷ w.opened;
 }
 
 -- The depth after an entry, which may start a list of children.
-abbrev pub depth_behind : Bool → ℕ → ℕ
-depth_behind children depth = if children then depth + 1 else depth
+abbrev pub depth_after_entry : Bool → ℕ → ℕ
+depth_after_entry children depth = if children then depth + 1 else depth
 
 -- The state after one more entry or null entry at an offset.
-abbrev pub after_node : Walked → ℕ → Node → Walked
+abbrev pub after_node : WalkState → ℕ → Node → WalkState
 after_node w at (Entry tag children attributes) =
     record (after_die w (record {
       offset = at;
       depth = w.depth;
       tag = tag;
       attributes = attributes;
-    })) { depth = depth_behind children w.depth }
+    })) { depth = depth_after_entry children w.depth }
 after_node w at Null = record w { depth = w.depth - 1 }
 
 -- The offset of an entry. A null entry has none.
@@ -138,31 +138,31 @@ places_of at (Entry tag children attributes) = at ∷ []
 places_of at Null = []
 
 -- The state after the node at an offset of a unit, and the offset after the node.
-abbrev pub walked_at : Format → List Declaration → Walked → List ℕ → ℕ
-    → Result (Walked × ℕ) Cause
-walked_at format table w unit at =
-    node_behind format table w.depth (is_some w.root) unit at
+abbrev pub state_at : Format → List Declaration → WalkState → List ℕ → ℕ
+    → Result (WalkState × ℕ) Cause
+state_at format table w unit at =
+    node_at_depth format table w.depth (is_some w.root) unit at
     >>= λ node. Ok (after_node w at node.0, node.1)
 
 -- A call reads the node at an offset of a unit: it updates the state and returns the offset after
 -- the node.
-abbrev pub Takes : Table → List ℕ → ℕ → Walked → Walked → Result ℕ Cause → Type 0
+abbrev pub Takes : Table → List ℕ → ℕ → WalkState → WalkState → Result ℕ Cause → Type 0
 Takes table unit place old new result = Gives (λ after. (new, after)) result
-    (walked_at table.format table.declarations old unit place)
+    (state_at table.format table.declarations old unit place)
 
 -- If the node is an entry, its offset is added to the bitmap.
-abbrev pub MarksNode : Table → List ℕ → ℕ → Walked → Marks → Marks → Type 0
-MarksNode table unit place w old new = (node : Node × ℕ)
-    → node_behind table.format table.declarations w.depth (is_some w.root) unit place ≡ Ok node
-    → AddsMarks old new (places_of place node.0)
+abbrev pub AddsNode : Table → List ℕ → ℕ → WalkState → EntryBitmap → EntryBitmap → Type 0
+AddsNode table unit place w old new = (node : Node × ℕ)
+    → node_at_depth table.format table.declarations w.depth (is_some w.root) unit place ≡ Ok node
+    → AddsOffsets old new (places_of place node.0)
 
 -- All nodes of a unit.
-abbrev pub nodes_of : List ℕ → UnitHeader → List Declaration → Result (List Standing × ℕ) At
+abbrev pub nodes_of : List ℕ → UnitHeader → List Declaration → Result (List LocatedNode × ℕ) At
 nodes_of info header table =
     items_from header.end (node_at header.format table (take header.end info)) [] header.first
 
 -- The state after all nodes of a unit.
-unfoldable pub walk_of : List ℕ → UnitHeader → List Declaration → Result Walked At
+unfoldable pub walk_of : List ℕ → UnitHeader → List Declaration → Result WalkState At
 walk_of info header table = do
   all ← nodes_of info header table
-  Ok (walked all.0)
+  Ok (state_after all.0)

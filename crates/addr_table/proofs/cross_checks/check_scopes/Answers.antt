@@ -2,7 +2,7 @@ use Rattle.std.proofs.Common.{◌∙◌, refl, sym, arith}
 use Rattle.addr_table.proofs.Decoding.CrossCheckLaws.{scopes-none, scopes-more, scopes-bad}
 use Rattle.addr_table.proofs.Decoding.CrossCheckLaws.{scopes-over}
 use Rattle.addr_table.proofs.Decoding.CrossCheckLaws.{OfUnit}
-use Rattle.addr_table.proofs.Decoding.CrossCheckLaws.{told-offset}
+use Rattle.addr_table.proofs.Decoding.CrossCheckLaws.{returned-offset}
 use Rattle.addr_table.proofs.Chains.ChainWalks.{no_scope}
 use Rattle.addr_table.proofs.cross_checks.check_scopes.Goals as goal
 use Rattle.addr_table.proofs.cross_checks.check_scopes.Goals.{After-is_bad_scope}
@@ -26,12 +26,12 @@ loop-number-preserved c =
 pub returns-then-is_bad_scope : goal.returns-then-is_bad_scope
 returns-then-is_bad_scope c =
     let a = (goal.at.returns-then-is_bad_scope c).After-is_bad_scope in
-    rw (c.told.ensures) (
+    rw (c.at_item.ensures) (
       refl,
       scopes-bad _ _ _ _ _ _ no_scope (of_unit a) c.loop-number.invariant
           (sym (c.is_bad_scope.ensures _ (c.scope_at-scope.ensures no_scope))
           ∙ c.if-is_bad_scope.true)
-          (c.offset-at.ensures ∙ told-offset _ _ _ (c.scope_at-scope.ensures no_scope)),
+          (c.offset-at.ensures ∙ returned-offset _ _ _ (c.scope_at-scope.ensures no_scope)),
     )
 
 pub returns : goal.returns

@@ -3,8 +3,8 @@ use Rattle.addr_table.specs.Private.Walks.{inlined}
 use Rattle.addr_table.proofs.FrameWalks.WalkLaws.{pass}
 use Rattle.addr_table.proofs.parent_walk.next_in_chain.Goals as goal
 
-pub returns-then-is_scope_at-clause-told : goal.returns-then-is_scope_at-clause-told
-returns-then-is_scope_at-clause-told c =
+pub returns-then-is_scope_at-clause-returned : goal.returns-then-is_scope_at-clause-returned
+returns-then-is_scope_at-clause-returned c =
     inlined (c.loop-near.near - 1) (omega (arith, c.loop-near-test.true)) c.if-number-top.false
     (λ d. sym (c.if-is_scope_at.ensures d))
 

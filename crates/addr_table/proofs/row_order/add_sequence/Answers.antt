@@ -8,5 +8,6 @@ returns-after-loop-number c =
     let none : sequence_from c.loop-number.number (drop c.loop-number.number c.args.rows.now) ≡ [] =
     sequence-over c.loop-number.number c.args.rows.now
     (omega (arith, c.loop-number-test.false, c.saturating_sub.ensures)) in
-    sym (append-nil c.loop-number.order.items) ∙ ap (λ xs. c.loop-number.order.items ++ xs) (sym none)
+    sym (append-nil c.loop-number.order.items) ∙ ap (λ xs. c.loop-number.order.items ++ xs)
+    (sym none)
     ∙ c.loop-number.invariant

@@ -1,5 +1,5 @@
-use Rattle.addr_table.proofs.Decoding.TellLaws.{told-item}
+use Rattle.addr_table.proofs.Decoding.TellLaws.{returned-item}
 use Rattle.addr_table.proofs.scopes.scope_at.Goals as goal
 
 pub returns : goal.returns
-returns c = λ d. told-item _ _ _ _ c.requires.order c.scopes.ensures c.requires.within d
+returns c = λ d. returned-item _ _ _ _ c.requires.order c.scopes.ensures c.requires.within d

@@ -1,4 +1,4 @@
-use Rattle.dwarf_bytes.proofs.GoodObject.{low_is_least}
+use Rattle.dwarf_bytes.proofs.Objects.ValidObject.{low_is_least}
 use Rattle.dwarf_bytes.proofs.laws.low_is_least.Goals as goal
 
 pub returns : goal.returns

@@ -1,4 +1,4 @@
-use Rattle.dwarf_bytes.proofs.GoodSections.{section_is_one}
+use Rattle.dwarf_bytes.proofs.Objects.ValidSections.{section_is_one}
 use Rattle.dwarf_bytes.proofs.laws.section_is_one.Goals as goal
 
 pub returns : goal.returns

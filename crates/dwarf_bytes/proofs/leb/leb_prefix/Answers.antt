@@ -1,6 +1,6 @@
 use Rattle.std.proofs.Common.{ℕ, ◌≤◌, arith, length-take}
 use Rattle.std.proofs.lemmas.List.Elements.{All-more}
-use Rattle.dwarf_bytes.proofs.LebPrefixes.{grown, whole, low}
+use Rattle.dwarf_bytes.proofs.Numbers.LebPrefixes.{grown, whole, low}
 use Rattle.dwarf_bytes.proofs.leb.leb_prefix.Goals as goal
 
 pub overflow_add-value : goal.overflow_add-value

@@ -1,4 +1,4 @@
-use Rattle.dwarf_bytes.proofs.NulIndex.{BuiltNuls}
+use Rattle.dwarf_bytes.proofs.Strings.NulIndex.{BuiltNuls}
 use Rattle.dwarf_bytes.proofs.text_index.first_nuls.Given as goal
 
 abbrev pub invariant-loop-block : goal.invariant-loop-block

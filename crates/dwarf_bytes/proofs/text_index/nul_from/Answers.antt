@@ -1,6 +1,6 @@
 use Rattle.std.proofs.Common.{◌∙◌}
-use Rattle.dwarf_bytes.proofs.FirstNuls.{nul-near}
-use Rattle.dwarf_bytes.proofs.NulIndex.{nul-told}
+use Rattle.dwarf_bytes.proofs.Strings.FirstNuls.{nul-near}
+use Rattle.dwarf_bytes.proofs.Strings.NulIndex.{nul-told}
 use Rattle.dwarf_bytes.proofs.text_index.nul_from.Goals as goal
 
 pub returns-in-Some : goal.returns-in-Some

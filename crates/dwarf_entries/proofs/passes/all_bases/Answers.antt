@@ -1,17 +1,18 @@
 use Rattle.std.proofs.lemmas.Result.{err_from_is_err_and}
 use Rattle.dwarf_walk.specs.Sections.{sections_of}
-use Rattle.dwarf_entries.proofs.BasesPass.{bases_none, bases_next, bases_end, bases_fault}
+use Rattle.dwarf_entries.proofs.UnitPasses.BasesPass.{bases-none, bases-next, bases-end}
+use Rattle.dwarf_entries.proofs.UnitPasses.BasesPass.{bases-fault}
 use Rattle.dwarf_entries.proofs.passes.all_bases.Goals as goal
 
 pub loop-unit-init : goal.loop-unit-init
 loop-unit-init c headers dies same = rw (c.new-all.ensures.items)
-    (bases_none (sections_of c.args.sections.now) headers dies)
+    (bases-none (sections_of c.args.sections.now) headers dies)
 
 pub returns-in_err-unit_bases : goal.returns-in_err-unit_bases
 returns-in_err-unit_bases c headers dies same =
     let p = err_from_is_err_and c.from_residual.result c.from_residual.ensures.1 in
     rw (p.1, p.2)
-    (bases_fault (sections_of c.args.sections.now) c.args.units.now headers dies
+    (bases-fault (sections_of c.args.sections.now) c.args.units.now headers dies
     c.loop-unit.unit-index c.unit-item.result c.loop-unit.all.items
     c.in_err-unit_bases.field-0.0 same c.loop-unit-test.true c.unit-item.is
     (c.loop-unit.invariant headers dies same) c.in_err-unit_bases.ensures)
@@ -19,12 +20,12 @@ returns-in_err-unit_bases c headers dies same =
 pub loop-unit-preserved : goal.loop-unit-preserved
 loop-unit-preserved c headers dies same =
     rw (c.in_ok-push.ensures.items)
-    (bases_next (sections_of c.args.sections.now) c.args.units.now headers dies
+    (bases-next (sections_of c.args.sections.now) c.args.units.now headers dies
     c.loop-unit.unit-index c.unit-item.result c.loop-unit.all.items c.in_ok-unit_bases.field-0
     same c.loop-unit-test.true c.unit-item.is (c.loop-unit.invariant headers dies same)
     c.in_ok-unit_bases.ensures)
 
 pub returns : goal.returns
-returns c headers dies same = bases_end (sections_of c.args.sections.now) c.args.units.now headers
+returns c headers dies same = bases-end (sections_of c.args.sections.now) c.args.units.now headers
     dies c.loop-unit.unit-index c.loop-unit.all.items same c.loop-unit-test.false
     (c.loop-unit.invariant headers dies same)

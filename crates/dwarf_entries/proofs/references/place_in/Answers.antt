@@ -2,13 +2,14 @@ use Rattle.std.proofs.Common.{◌≡◌, ℕ, refl, sym, subst}
 use Rattle.std.specs.Prelude.{Option}
 use Rattle.dwarf_entries.specs.declared.references.UnitPlace.{UnitPlace}
 use Rattle.dwarf_entries.specs.Private.Members.{LeadsTo, member_in}
-use Rattle.dwarf_entries.proofs.EntriesAtOffsets.{outside, within-kept}
+use Rattle.dwarf_entries.proofs.UnitPasses.EntriesAtOffsets.{outside, within-stored}
 use Rattle.dwarf_entries.proofs.references.place_in.Goals as goal
 
 pub returns-in_err-offset-clause-leads : goal.returns-in_err-offset-clause-leads
 returns-in_err-offset-clause-leads c us are =
-    let unit = c.in_ok-kept.ensures.lookup.3 in
-    let missing = outside c.args.units.now us are c.args.unit c.args.offset c.in_ok-kept.kept.now
+    let unit = c.in_ok-stored.ensures.lookup.3 in
+    let missing = outside c.args.units.now us are c.args.unit c.args.offset
+    c.in_ok-stored.stored.now
     unit.0 unit.1 c.in_err-offset.ensures in
     subst (λ (found : Option UnitPlace). LeadsTo us found (member_in us c.args.unit c.args.offset))
     (sym c.from_residual-in_err-offset.ensures) missing
@@ -20,7 +21,8 @@ returns-clause-leads c us are =
 
 pub returns-clause-within : goal.returns-clause-within
 returns-clause-within c us are =
-    let unit = c.in_ok-kept.ensures.lookup.3 in
+    let unit = c.in_ok-stored.ensures.lookup.3 in
     let place = c.in_ok-offset.ensures in
-    within-kept c.args.units.now us are c.args.unit c.in_ok-offset.offset c.in_ok-kept.kept.now
+    within-stored c.args.units.now us are c.args.unit c.in_ok-offset.offset
+    c.in_ok-stored.stored.now
     unit.0 unit.1 place.1 place.2

@@ -1,12 +1,12 @@
 use Rattle.std.proofs.Common.{◌+◌, ap, append-nil, arith}
 use Rattle.std.specs.Prelude.{Some, None}
-use Rattle.dwarf_entries.proofs.RootsPass.{count_within, roots_turn, roots_end}
+use Rattle.dwarf_entries.proofs.RootPasses.RootsPass.{count-within, roots-turn, roots-end}
 use Rattle.dwarf_entries.proofs.scopes.roots.Goals as goal
 use Rattle.dwarf_entries.proofs.scopes.roots.Goals.{in-Some+in_ok-push, in_default}
 
 pub loop-unit-preserved : goal.loop-unit-preserved
 loop-unit-preserved c =
-    let counted = count_within c.args.units.now c.loop-unit.unit-index c.unit-item.result
+    let counted = count-within c.args.units.now c.loop-unit.unit-index c.unit-item.result
     c.loop-unit.first c.loop-unit.invariant.first_is c.loop-unit-test.true c.unit-item.is in
     elim c.match-unit.branch [
       | in-Some+in_ok-push w ↦ record {
@@ -19,7 +19,7 @@ loop-unit-preserved c =
         );
         so_far = λ us same.
             rw (w.roots-is, w.in_ok-push.ensures.items, w.first-is)
-            (roots_turn c.args.units.now us c.loop-unit.unit-index c.loop-unit.first
+            (roots-turn c.args.units.now us c.loop-unit.unit-index c.loop-unit.first
             (c.loop-unit.first + c.len.result) c.unit-item.result (Some w.in-Some.root)
             c.loop-unit.roots.items same c.loop-unit-test.true c.unit-item.is
             (c.loop-unit.invariant.so_far us same)
@@ -35,7 +35,7 @@ loop-unit-preserved c =
         );
         so_far = λ us same.
             rw (w.roots-is, w.first-is, ← append-nil c.loop-unit.roots.items)
-            (roots_turn c.args.units.now us c.loop-unit.unit-index c.loop-unit.first
+            (roots-turn c.args.units.now us c.loop-unit.unit-index c.loop-unit.first
             (c.loop-unit.first + c.len.result) c.unit-item.result None c.loop-unit.roots.items
             same c.loop-unit-test.true c.unit-item.is (c.loop-unit.invariant.so_far us same)
             (ap (λ n. c.loop-unit.first + n) c.len.ensures) w.in_default.is);
@@ -43,5 +43,5 @@ loop-unit-preserved c =
     ]
 
 pub returns : goal.returns
-returns c us same = roots_end c.args.units.now us c.loop-unit.unit-index c.loop-unit.first
+returns c us same = roots-end c.args.units.now us c.loop-unit.unit-index c.loop-unit.first
     c.loop-unit.roots.items same c.loop-unit-test.false (c.loop-unit.invariant.so_far us same)

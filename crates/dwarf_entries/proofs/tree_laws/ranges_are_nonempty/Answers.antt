@@ -1,4 +1,4 @@
-use Rattle.dwarf_entries.proofs.CoveredScopes.{scopes-hold, ranges-limited}
+use Rattle.dwarf_entries.proofs.Results.CoveredScopes.{scopes-hold, ranges-limited}
 use Rattle.dwarf_entries.proofs.tree_laws.ranges_are_nonempty.Goals as goal
 
 pub returns : goal.returns

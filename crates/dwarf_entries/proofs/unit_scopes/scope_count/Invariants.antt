@@ -1,5 +1,5 @@
 use Rattle.std.proofs.Common.{◌≡◌, ◌-◌, ◌^◌, take, min}
-use Rattle.dwarf_entries.specs.Private.Walked.{scope_count}
+use Rattle.dwarf_entries.specs.Private.EntryOffsets.{scope_count}
 use Rattle.dwarf_entries.proofs.unit_scopes.scope_count.Given as goal
 
 abbrev pub invariant-loop-unit : goal.invariant-loop-unit

@@ -1,17 +1,17 @@
 use Rattle.std.proofs.Common.{◌≡◌, ◌-◌, ◌≤◌, length}
 use Rattle.dwarf_forms.specs.Tables.{declaration_at}
-use Rattle.dwarf_forms.specs.Private.Known.{Grows}
-use Rattle.dwarf_forms.specs.Private.SharedTables.{AreTold, tell}
-use Rattle.dwarf_bytes.proofs.Turns.{SoFar}
+use Rattle.dwarf_forms.specs.Private.Memoized.{Grows}
+use Rattle.dwarf_forms.specs.Private.SharedTables.{AreShared, full_declarations}
+use Rattle.dwarf_bytes.proofs.Items.Turns.{SoFar}
 use Rattle.dwarf_forms.proofs.abbreviation_table.declarations.Given as goal
 
 abbrev pub invariant-loop-table : goal.invariant-loop-table
 invariant-loop-table l = record {
   bytes : l.cursor.bytes ≡ l.fn.cursor.bytes;
-  few : length l.table ≤ l.fn.room;
-  read : SoFar (length l.fn.cursor.bytes) (declaration_at l.fn.room l.fn.cursor.bytes)
-      l.fn.cursor.place (tell l.lists.known l.table) l.cursor.place;
-  told : AreTold l.lists.known l.table;
+  few : length l.table ≤ l.fn.budget;
+  read : SoFar (length l.fn.cursor.bytes) (declaration_at l.fn.budget l.fn.cursor.bytes)
+      l.fn.cursor.place (full_declarations l.lists.memoized l.table) l.cursor.place;
+  resolved : AreShared l.lists.memoized l.table;
   grows : Grows l.fn.lists l.lists;
 }
 

@@ -1,14 +1,15 @@
 use Rattle.std.proofs.Common.{◌≡◌, ◌-◌, length, drop}
 use Rattle.dwarf_forms.specs.Tables.{attribute_at}
-use Rattle.dwarf_forms.specs.Private.Index.{HoldsNames}
-use Rattle.dwarf_bytes.proofs.Turns.{SoFar}
+use Rattle.dwarf_forms.specs.Private.Index.{ContainsNames}
+use Rattle.dwarf_bytes.proofs.Items.Turns.{SoFar}
 use Rattle.dwarf_forms.proofs.attribute.attributes.Given as goal
 
 abbrev pub invariant-loop-later : goal.invariant-loop-later
 invariant-loop-later l = record {
   bytes : l.cursor.bytes ≡ l.fn.cursor.bytes;
-  names : HoldsNames l.later (drop 32 l.all.items);
-  read : SoFar (length l.fn.cursor.bytes) (attribute_at l.fn.cursor.bytes) l.fn.cursor.place l.all.items l.cursor.place;
+  names : ContainsNames l.later (drop 32 l.all.items);
+  read : SoFar (length l.fn.cursor.bytes) (attribute_at l.fn.cursor.bytes) l.fn.cursor.place
+      l.all.items l.cursor.place;
 }
 
 abbrev pub decreases-loop-later : goal.decreases-loop-later

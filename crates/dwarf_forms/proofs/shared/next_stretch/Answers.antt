@@ -1,21 +1,21 @@
 use Rattle.std.proofs.Common.{◌≡◌, arith, inr, sym, ◌∙◌, List, length, drop, subst, append-nil}
 use Rattle.std.proofs.lemmas.Result.{err_from_is_err_and}
 use Rattle.dwarf_forms.specs.Tables.{attribute_at}
-use Rattle.dwarf_forms.specs.Private.Known.{attributes_from, IsUnknown}
+use Rattle.dwarf_forms.specs.Private.Memoized.{attributes_from, IsNotMemoized}
 use Rattle.dwarf_forms.specs.Private.Shared.{places_from}
 use Rattle.std.proofs.lemmas.List.Elements.{All-push}
-use Rattle.dwarf_forms.specs.Private.Index.{HoldsNames}
+use Rattle.dwarf_forms.specs.Private.Index.{ContainsNames}
 use Rattle.dwarf_forms.specs.declared.attribute.AttributeSpecification.{AttributeSpecification}
-use Rattle.dwarf_forms.proofs.Names.{held_few, held_more}
-use Rattle.dwarf_forms.proofs.JoinedLists.{so_far-joined, so_far-refused}
-use Rattle.dwarf_forms.proofs.Moves.{attribute_at-advances, attributes_ok, attributes_err}
-use Rattle.dwarf_bytes.proofs.Turns.{so_far-item, so_far-end, so_far-fault, next_item, next_end}
-use Rattle.dwarf_bytes.proofs.Turns.{next_fault, None-from_no_Some}
+use Rattle.dwarf_forms.proofs.Names.{held-few, held_more}
+use Rattle.dwarf_forms.proofs.JoinedLists.{so-far-joined, so-far-refused}
+use Rattle.dwarf_forms.proofs.Moves.{attribute_at-advances, attributes-ok, attributes-err}
+use Rattle.dwarf_bytes.proofs.Items.Turns.{so-far-item, so-far-end, so-far-fault, next-item}
+use Rattle.dwarf_bytes.proofs.Items.Turns.{next_end, next-fault, None-from-no-Some}
 use Rattle.dwarf_forms.proofs.shared.next_stretch.Goals.{then-len-ge-FEW+in_ok-insert}
 use Rattle.dwarf_forms.proofs.shared.next_stretch.Goals.{else-len-ge-FEW}
 use Rattle.dwarf_forms.proofs.shared.next_stretch.Goals.{then-len-ge-UNSHARED+in_ok-push}
 use Rattle.dwarf_forms.proofs.shared.next_stretch.Goals.{else-len-ge-UNSHARED}
-use Rattle.dwarf_forms.proofs.SharedLaws.{stretch-is, known-number, unknown-place}
+use Rattle.dwarf_forms.proofs.SharedLaws.{stretch-is, memoized-number, unknown-place}
 use Rattle.dwarf_forms.proofs.PlaceLaws.{places-more, places-few, after-more}
 use Rattle.dwarf_forms.proofs.shared.next_stretch.Goals as goal
 
@@ -25,7 +25,7 @@ returns-in_err-join c =
     let p = err_from_is_err_and c.from_residual.result c.from_residual.ensures.1 in
     let refused = rw (c.deref.ensures.value, c.loop-number.invariant.bytes) at
     c.in_err-join.ensures in
-    rw (p.1, p.2) (inr (so_far-refused bytes c.args.cursor.now.place c.loop-number.attributes.items
+    rw (p.1, p.2) (inr (so-far-refused bytes c.args.cursor.now.place c.loop-number.attributes.items
     c.loop-number.cursor.place _ c.loop-number.invariant.read refused))
 
 pub returns-in-Some : goal.returns-in-Some
@@ -33,11 +33,11 @@ returns-in-Some c =
     let bytes = c.args.cursor.now.bytes in
     let inv = c.loop-number.invariant in
     let joined = rw (c.deref.ensures.value, inv.bytes) at c.in_ok-join.ensures.0 in
-    let read = so_far-joined bytes c.args.cursor.now.place c.loop-number.attributes.items
-    c.loop-number.cursor.place (attributes_from c.args.lists.now.known c.in-Some.number)
+    let read = so-far-joined bytes c.args.cursor.now.place c.loop-number.attributes.items
+    c.loop-number.cursor.place (attributes_from c.args.lists.now.memoized c.in-Some.number)
     c.join.new.cursor.place inv.read joined in (
       stretch-is c.args.lists.now bytes c.args.cursor.now.place c.join.new.cursor.place _ c.requires
-          read inv.places (known-number c.args.lists.now.known c.in-Some.number _
+          read inv.places (memoized-number c.args.lists.now.memoized c.in-Some.number _
           c.in-Some.ensures.some) (omega (arith, c.in-Some.ensures.behind, c.len.ensures))
           inv.unknown,
       c.in_ok-join.ensures.1 ∙ inv.bytes,
@@ -48,13 +48,13 @@ returns-in_err-next c =
     let bytes = c.args.cursor.now.bytes in
     let p = err_from_is_err_and c.from_residual-in_err-next.result
     c.from_residual-in_err-next.ensures.1 in
-    let fault = next_fault attribute_at bytes c.loop-number.cursor c.deref-in-loop-number.result.now
+    let fault = next-fault attribute_at bytes c.loop-number.cursor c.deref-in-loop-number.result.now
     c.loop-number.attributes.items c.in_err-next.field-0.0 c.loop-number.invariant.bytes
     c.deref-in-loop-number.ensures.value c.in_err-next.ensures in
-    let read = so_far-fault (length bytes) (attribute_at bytes) (attribute_at-advances bytes)
+    let read = so-far-fault (length bytes) (attribute_at bytes) (attribute_at-advances bytes)
     c.args.cursor.now.place c.loop-number.attributes.items c.loop-number.cursor.place
     c.in_err-next.field-0.0 c.loop-number.invariant.read fault in
-    rw (p.1, p.2) (inr (attributes_err bytes c.args.cursor.now.place
+    rw (p.1, p.2) (inr (attributes-err bytes c.args.cursor.now.place
     (c.in_err-next.field-0.0, c.loop-number.cursor.place) read))
 
 pub returns-in_default-2 : goal.returns-in_default-2
@@ -64,11 +64,11 @@ returns-in_default-2 c =
     let found = next_end attribute_at bytes c.loop-number.cursor c.next_attribute.new.cursor
     c.deref-in-loop-number.result.now c.loop-number.attributes.items _ inv.bytes
     c.deref-in-loop-number.ensures.value c.in_ok-next.ensures
-    (None-from_no_Some _ c.in_default-2.not-Some) in
-    let read = so_far-end (length bytes) (attribute_at bytes) (attribute_at-advances bytes)
+    (None-from-no-Some _ c.in_default-2.not-Some) in
+    let read = so-far-end (length bytes) (attribute_at bytes) (attribute_at-advances bytes)
     c.args.cursor.now.place c.loop-number.attributes.items c.loop-number.cursor.place
     c.next_attribute.new.cursor.place inv.read found.0 in
-    let whole = attributes_ok bytes c.args.cursor.now.place
+    let whole = attributes-ok bytes c.args.cursor.now.place
     (c.loop-number.attributes.items, c.next_attribute.new.cursor.place) read in (
       stretch-is c.args.lists.now bytes c.args.cursor.now.place c.next_attribute.new.cursor.place _
           c.requires (rw (append-nil c.loop-number.attributes.items) whole) inv.places tt tt
@@ -80,7 +80,7 @@ pub loop-number-smaller : goal.loop-number-smaller
 loop-number-smaller c =
     let bytes = c.args.cursor.now.bytes in
     let found =
-    next_item attribute_at bytes c.loop-number.cursor c.next_attribute.new.cursor
+    next-item attribute_at bytes c.loop-number.cursor c.next_attribute.new.cursor
     c.deref-in-loop-number.result.now c.loop-number.attributes.items _ c.in-Some-2.next
     c.loop-number.invariant.bytes c.deref-in-loop-number.ensures.value c.in_ok-next.ensures
     c.in-Some-2.is in
@@ -95,22 +95,22 @@ loop-number-preserved c =
     let own = c.loop-number.attributes.items in
     let inv = c.loop-number.invariant in
     let item = c.in-Some-2.next in
-    let known = c.args.lists.now.known in
-    let found = next_item attribute_at bytes c.loop-number.cursor c.next_attribute.new.cursor
+    let memoized = c.args.lists.now.memoized in
+    let found = next-item attribute_at bytes c.loop-number.cursor c.next_attribute.new.cursor
     c.deref-in-loop-number.result.now own _ item inv.bytes c.deref-in-loop-number.ensures.value
     c.in_ok-next.ensures c.in-Some-2.is in
     let items = c.in_ok-push-2.ensures.items in
     record {
       bytes = found.1;
       names =
-          subst (λ (xs : List AttributeSpecification). HoldsNames c.if-len-ge-FEW.later
+          subst (λ (xs : List AttributeSpecification). ContainsNames c.if-len-ge-FEW.later
           (drop 32 xs)) (sym items)
           (elim c.if-len-ge-FEW.branch [
             | then-len-ge-FEW+in_ok-insert w ↦ rw w.later-is
                 (held_more own item c.loop-number.later w.insert.new.self 32 (omega arith)
                 w.in_ok-insert.ensures.updates.0 inv.names)
             | else-len-ge-FEW w ↦ rw w.later-is
-                (held_few own item c.loop-number.later 32 (omega arith) inv.names)
+                (held-few own item c.loop-number.later 32 (omega arith) inv.names)
           ]);
       at = rw items (after-more bytes first own item c.loop-number.cursor.place
           c.next_attribute.new.cursor.place inv.at found.0);
@@ -129,13 +129,13 @@ loop-number-preserved c =
           elim c.if-len-ge-UNSHARED.branch [
             | then-len-ge-UNSHARED+in_ok-push w ↦
                 rw (w.places-is, w.in_ok-push.ensures.items)
-                (All-push (IsUnknown known) c.loop-number.places.items c.place-place.result
-                inv.unknown (unknown-place known c.known_behind-rest.result c.len.result
-                c.place-place.result c.known_behind-rest.ensures.none c.in_default.not-Some
+                (All-push (IsNotMemoized memoized) c.loop-number.places.items c.place-place.result
+                inv.unknown (unknown-place memoized c.memoized_at-rest.result c.len.result
+                c.place-place.result c.memoized_at-rest.ensures.none c.in_default.not-Some
                 (omega arith)))
             | else-len-ge-UNSHARED w ↦ rw w.places-is inv.unknown
           ];
-      read = rw items (so_far-item (length bytes) (attribute_at bytes) (attribute_at-advances bytes)
+      read = rw items (so-far-item (length bytes) (attribute_at bytes) (attribute_at-advances bytes)
           first own c.loop-number.cursor.place item c.next_attribute.new.cursor.place inv.read
           found.0);
     }

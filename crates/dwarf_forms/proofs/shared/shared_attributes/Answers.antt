@@ -3,8 +3,8 @@ use Rattle.std.specs.Prelude.{Ok, Option, Some, None, IfSome}
 use Rattle.std.proofs.lemmas.List.{length-take}
 use Rattle.dwarf_forms.specs.declared.attribute.AttributeSpecification.{AttributeSpecification}
 use Rattle.dwarf_forms.specs.Tables.{attributes_at}
-use Rattle.dwarf_forms.specs.Private.Known.{rest_attributes}
-use Rattle.dwarf_forms.specs.Private.Shared.{StandAt}
+use Rattle.dwarf_forms.specs.Private.Memoized.{rest_attributes}
+use Rattle.dwarf_forms.specs.Private.Shared.{AreReadAt}
 use Rattle.dwarf_forms.proofs.SharedLaws.{shared-whole, stretch-lengths, stretch-stand}
 use Rattle.dwarf_forms.proofs.shared.shared_attributes.Goals as goal
 
@@ -20,29 +20,29 @@ pub put_all-requires-clause-stand : goal.put_all-requires-clause-stand
 put_all-requires-clause-stand c =
     let read = c.in_ok-attributes.field-0 in
     let section = c.args.lists.now.section in
-    let rest = rest_attributes c.args.lists.now.known read.rest in
+    let rest = rest_attributes c.args.lists.now.memoized read.rest in
     let behind : c.split_at.result.1.now ≡ drop 64 read.attributes.items =
     c.split_at.ensures.back ∙ ap (drop 64) c.deref.ensures.value in
     let stand = stretch-stand c.args.lists.now c.args.cursor.now.place
     c.next_stretch.new.cursor.place read c.in_ok-attributes.ensures.0 in
-    subst (λ (after : ℕ). StandAt section c.deref-2.result.now c.split_at.result.1.now rest after)
+    subst (λ (after : ℕ). AreReadAt section c.deref-2.result.now c.split_at.result.1.now rest after)
     (sym c.place.ensures.place)
-    (subst (λ (xs : List AttributeSpecification). StandAt section c.deref-2.result.now xs rest
+    (subst (λ (xs : List AttributeSpecification). AreReadAt section c.deref-2.result.now xs rest
     c.next_stretch.new.cursor.place) (sym behind)
-    (subst (λ (ps : List ℕ). StandAt section ps (drop 64 read.attributes.items) rest
+    (subst (λ (ps : List ℕ). AreReadAt section ps (drop 64 read.attributes.items) rest
     c.next_stretch.new.cursor.place) (sym c.deref-2.ensures.value) stand))
 
 pub returns-clause-reads : goal.returns-clause-reads
 returns-clause-reads c =
     let read = c.in_ok-attributes.field-0 in
-    let rest = rest_attributes c.args.lists.now.known read.rest in
+    let rest = rest_attributes c.args.lists.now.memoized read.rest in
     let behind : c.split_at.result.1.now ≡ drop 64 read.attributes.items =
     c.split_at.ensures.back ∙ ap (drop 64) c.deref.ensures.value in
     let own : c.in_ok-own.own.items ≡ take 64 read.attributes.items =
     c.in_ok-own.ensures.items ∙ (c.split_at.ensures.front ∙ ap (take 64) c.deref.ensures.value)
     in
     let whole =
-    shared-whole c.args.lists.now.known c.put_all.new.lists.known read.attributes.items
+    shared-whole c.args.lists.now.memoized c.put_all.new.lists.memoized read.attributes.items
     c.in_ok-own.own.items read.rest c.in_ok-rest.rest 64 own
     (c.in_ok-rest.ensures.list ∙ ap (λ (ys : List AttributeSpecification). ys ++ rest) behind)
     in (
@@ -68,7 +68,7 @@ returns-clause-list c =
       c.if-len-le-UNSHARED.false,
     ) in
     record {
-      rest = c.in_ok-rest.ensures.known;
+      rest = c.in_ok-rest.ensures.memoized;
       few = omega (arith, len);
       full =
           if_some c.in_ok-rest.rest len;

@@ -1,7 +1,7 @@
 use Rattle.std.proofs.Common.{◌∙◌, inr}
 use Rattle.std.proofs.lemmas.Result.{err_from_is_err_and}
 use Rattle.dwarf_lines.specs.Entries.{format_at}
-use Rattle.dwarf_lines.proofs.Repeated.{goes_on, ends, is_done}
+use Rattle.dwarf_lines.proofs.Lists.Repeated.{goes_on, ends, is-done}
 use Rattle.dwarf_lines.proofs.formats.format.Goals as goal
 
 pub returns-in_err-read : goal.returns-in_err-read
@@ -24,7 +24,7 @@ loop-preserved c =
 
 pub returns : goal.returns
 returns c = (
-  is_done format_at c.loop.fields.items c.args.count c.loop.counter c.loop.cursor.bytes
+  is-done format_at c.loop.fields.items c.args.count c.loop.counter c.loop.cursor.bytes
       c.loop.cursor.place _ c.loop-test.false c.loop.invariant.rest,
   c.loop.invariant.same,
 )

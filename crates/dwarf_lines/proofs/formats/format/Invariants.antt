@@ -1,6 +1,6 @@
 use Rattle.std.proofs.Common.{◌≡◌, ◌-◌}
 use Rattle.dwarf_lines.specs.Entries.{format_at, repeated_at}
-use Rattle.dwarf_lines.proofs.Repeated.{with_items}
+use Rattle.dwarf_lines.proofs.Lists.Repeated.{with_items}
 use Rattle.dwarf_lines.proofs.formats.format.Given as goal
 
 abbrev pub invariant-loop : goal.invariant-loop

@@ -1,4 +1,4 @@
-use Rattle.dwarf_lines.proofs.RowCounts.{rows-take-bytes}
+use Rattle.dwarf_lines.proofs.Rows.RowCounts.{rows-take-bytes}
 use Rattle.dwarf_lines.proofs.laws.rows_take_bytes.Goals as goal
 
 pub returns : goal.returns

@@ -1,7 +1,7 @@
 use Rattle.std.proofs.Common.{sym, ap, ◌∙◌, arith}
 use Rattle.std.proofs.lemmas.List.{get_or_default}
 use Rattle.dwarf_lines.specs.declared.programs.ProgramFiles.{ProgramFiles}
-use Rattle.dwarf_lines.proofs.Positions.{position-found, position-missing}
+use Rattle.dwarf_lines.proofs.Lists.Positions.{position-found, position-missing}
 use Rattle.dwarf_lines.proofs.lines.position_of.Goals as goal
 use Rattle.dwarf_lines.proofs.lines.position_of.Goals.{else-n-programs-via-then-n-programs+else-programs-n}
 use Rattle.dwarf_lines.proofs.lines.position_of.Goals.{else-n-programs-via-else-n-programs}

@@ -5,9 +5,10 @@ use Rattle.dwarf_bytes.specs.Refusals.{Fails}
 use Rattle.dwarf_lines.specs.Sections.{LineSections}
 use Rattle.dwarf_lines.specs.Programs.{program_at_place}
 use Rattle.dwarf_lines.specs.Private.Readers.{sections_of}
-use Rattle.dwarf_lines.specs.Private.Kept.{tables_in}
-use Rattle.dwarf_lines.proofs.ProgramTurns.{goes_on, refuses, gives, is_done, program_at_place-past}
-use Rattle.dwarf_lines.proofs.Offsets.{kept-rise}
+use Rattle.dwarf_lines.specs.Private.Stored.{tables_in}
+use Rattle.dwarf_lines.proofs.SectionPrograms.ProgramTurns.{goes_on, refuses, gives, is-done}
+use Rattle.dwarf_lines.proofs.SectionPrograms.ProgramTurns.{program_at_place-past}
+use Rattle.dwarf_lines.proofs.SectionPrograms.Offsets.{kept-rise}
 use Rattle.dwarf_lines.proofs.lines.read_programs.Goals as goal
 
 pub loop-place-smaller : goal.loop-place-smaller
@@ -42,7 +43,8 @@ returns-in-Err c =
     let lt : c.loop-place.place < length c.args.sections.line.now = omega arith in
     let fails = subst (λ (n : ℕ). Fails c.in-Err.cause (program_at_place s n c.loop-place.place))
     number c.in-Err.ensures in
-    rw c.told.ensures (refuses s c.loop-place.invariant.0 c.loop-place.place c.loop-place.rows.items
+    rw c.at_item.ensures (refuses s c.loop-place.invariant.0 c.loop-place.place
+    c.loop-place.rows.items
     (map tables_in c.loop-place.programs.items) c.loop-place.invariant.1 c.in-Err.cause lt
     fails)
 
@@ -59,5 +61,5 @@ invariant_of-result c =
     let le : length c.args.sections.line.now ≤ c.loop-place.place = omega arith in
     let reads = c.loop-place.invariant.1 in
     kept-rise s c.loop-place.invariant.0 0 c.loop-place.programs.items c.loop-place.place
-    (is_done s c.loop-place.invariant.0 c.loop-place.place c.loop-place.rows.items
+    (is-done s c.loop-place.invariant.0 c.loop-place.place c.loop-place.rows.items
     (map tables_in c.loop-place.programs.items) reads le) reads.tables_are

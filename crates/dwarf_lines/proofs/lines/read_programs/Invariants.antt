@@ -1,8 +1,8 @@
 use Rattle.std.proofs.Common.{List, length, ◌-◌, map}
 use Rattle.dwarf_lines.specs.Programs.{Program}
 use Rattle.dwarf_lines.specs.Private.Readers.{sections_of}
-use Rattle.dwarf_lines.specs.Private.Kept.{tables_in}
-use Rattle.dwarf_lines.proofs.ProgramTurns.{IsReading}
+use Rattle.dwarf_lines.specs.Private.Stored.{tables_in}
+use Rattle.dwarf_lines.proofs.SectionPrograms.ProgramTurns.{IsReading}
 use Rattle.dwarf_lines.proofs.lines.read_programs.Given as goal
 
 abbrev pub invariant-loop-place : goal.invariant-loop-place

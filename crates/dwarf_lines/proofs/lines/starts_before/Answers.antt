@@ -1,6 +1,6 @@
 use Rattle.std.proofs.Common.{rules}
 use Rattle.dwarf_lines.specs.declared.programs.ProgramFiles.{ProgramFiles}
-use Rattle.dwarf_lines.proofs.Positions.{partition}
+use Rattle.dwarf_lines.proofs.Lists.Positions.{partition}
 use Rattle.dwarf_lines.proofs.lines.starts_before.Goals as goal
 
 pub returns-clause-parts : goal.returns-clause-parts

@@ -4,7 +4,7 @@ use Rattle.dwarf_units.proofs.unit_headers.headers.Goals as goal
 
 pub returns-in-Err : goal.returns-in-Err
 returns-in-Err c = units-fault c.args.info.now c.loop-at.all.items c.loop-at.at c.in-Err.cause
-    c.told.result c.loop-at.invariant.read c.loop-at-test.true c.in-Err.ensures c.told.ensures
+    c.at_item.result c.loop-at.invariant.read c.loop-at-test.true c.in-Err.ensures c.at_item.ensures
 
 pub loop-at-smaller : goal.loop-at-smaller
 loop-at-smaller c =

@@ -3,7 +3,7 @@ use Rattle.std.specs.Int.{w64}
 use Rattle.std.proofs.Common.{refl, rules}
 use Rattle.std.proofs.lemmas.Int.{to_z-of_z}
 use Rattle.std.proofs.lemmas.Result.{err_from_is_err_and}
-use Rattle.dwarf_bytes.proofs.LebPlaces.{sleb_at-ok, sleb_at-err}
+use Rattle.dwarf_bytes.proofs.Numbers.LebPlaces.{sleb_at-ok, sleb_at-err}
 use Rattle.dwarf_bytes.proofs.cursor.Cursor.sleb.Goals as goal
 
 pub returns-in_err-value-clause-reads : goal.returns-in_err-value-clause-reads

@@ -1,6 +1,6 @@
 use Rattle.std.proofs.Common.{refl}
 use Rattle.std.proofs.lemmas.Result.{err_from_is_err_and}
-use Rattle.dwarf_bytes.proofs.LebPlaces.{uleb_at-ok, uleb_at-err}
+use Rattle.dwarf_bytes.proofs.Numbers.LebPlaces.{uleb_at-ok, uleb_at-err}
 use Rattle.dwarf_bytes.proofs.cursor.Cursor.uleb.Goals as goal
 
 pub returns-in_err-value-clause-reads : goal.returns-in_err-value-clause-reads

@@ -1,5 +1,5 @@
 use Rattle.std.proofs.lemmas.Result.{err_from_is_err_and}
-use Rattle.dwarf_bytes.proofs.NulIndex.{text-found, text-lost}
+use Rattle.dwarf_bytes.proofs.Strings.NulIndex.{text-found, text-lost}
 use Rattle.dwarf_bytes.proofs.text_index.TextIndex.text_at.Goals as goal
 
 pub returns-in_err-nul : goal.returns-in_err-nul

@@ -1,7 +1,7 @@
 use Rattle.std.proofs.Common.{sym, ap, ◌∙◌}
 use Rattle.std.specs.Prelude.{Option, Some, None, option_and_then}
 use Rattle.dwarf_entries.specs.declared.scope.Root.{Root}
-use Rattle.dwarf_entries.proofs.SharedLaws.{found-at, not-at, stmt_list-there}
+use Rattle.dwarf_entries.proofs.ScopePasses.SharedLaws.{found-at, not-at, stmt_list-there}
 use Rattle.dwarf_entries.proofs.scopes.Scopes.stmt_list_of.Goals as goal
 
 pub returns-in_err-scope : goal.returns-in_err-scope

@@ -2,15 +2,15 @@ use Rattle.std.proofs.Common.{subst, sym}
 use Rattle.std.specs.Prelude.{Result}
 use Rattle.dwarf_bytes.specs.declared.fault.Cause.{Cause}
 use Rattle.dwarf_bytes.specs.Refusals.{Gives}
-use Rattle.dwarf_entries.specs.declared.paths.EntryNames.{EntryNames}
+use Rattle.dwarf_entries.specs.declared.origin_chains.EntryNames.{EntryNames}
 use Rattle.dwarf_walk.specs.Sections.{sections_of}
-use Rattle.dwarf_entries.proofs.KnownLaws.{names-by-reference}
+use Rattle.dwarf_entries.proofs.OriginChains.CacheLaws.{names-by-reference}
 use Rattle.dwarf_entries.proofs.unit_scopes.Units.names.Goals as goal
 
 pub returns-in-Some-clause-names : goal.returns-in-Some-clause-names
 returns-in-Some-clause-names c us are marked same read reader knew m at =
     subst (λ (r : Result EntryNames Cause). Gives (λ (names : EntryNames). names)
-    c.names_behind.result r)
+    c.target_names.result r)
     (sym (names-by-reference (sections_of c.args.self.sections.now) us c.args.start.unit
     c.args.start.entry m c.in-Some.reference at c.in-Some.ensures.some))
-    (c.names_behind.ensures.names us are marked same read reader knew m.unit at.unit_is)
+    (c.target_names.ensures.names us are marked same read reader knew m.unit at.unit_is)

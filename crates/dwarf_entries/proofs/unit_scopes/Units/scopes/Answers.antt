@@ -2,8 +2,9 @@ use Rattle.std.proofs.Common.{◌≡◌, ◌+◌, ◌≤◌, cond, sym, ap, ◌�
 use Rattle.std.specs.Prelude.{Bool, true, false}
 use Rattle.std.proofs.lemmas.Result.{err_from_is_err_and}
 use Rattle.dwarf_walk.specs.Sections.{sections_of}
-use Rattle.dwarf_entries.proofs.UnitsPass.{scopes_none, scopes_next, scopes_fault, scopes_end}
-use Rattle.dwarf_entries.proofs.KnownLaws.{known-none}
+use Rattle.dwarf_entries.proofs.ScopePasses.UnitsPass.{scopes_none, scopes-next, scopes-fault}
+use Rattle.dwarf_entries.proofs.ScopePasses.UnitsPass.{scopes_end}
+use Rattle.dwarf_entries.proofs.OriginChains.CacheLaws.{cache-none}
 use Rattle.dwarf_entries.proofs.unit_scopes.Units.scopes.Goals as goal
 use Rattle.dwarf_entries.proofs.unit_scopes.Units.scopes.Goals.{then-is_some, else-is_some}
 
@@ -15,8 +16,8 @@ pub loop-unit-init : goal.loop-unit-init
 loop-unit-init c = record {
   few = omega arith;
   reader = λ s reader. reader;
-  known = λ us are marked read reader. known-none (sections_of c.args.self.sections.now) us
-      c.new-known.result c.new-known.ensures;
+  cache = λ us are marked read reader. cache-none (sections_of c.args.self.sections.now) us
+      c.new-cache.result c.new-cache.ensures;
   so_far = λ us are marked read reader. scopes_none (sections_of c.args.self.sections.now) us
       c.in_ok-lists.lists c.in_ok-lists.ensures.scopes c.in_ok-lists.ensures.ranges;
 }
@@ -27,12 +28,12 @@ returns-in_err-unit_scopes-clause-scopes c us are marked read reader =
     c.from_residual-in_err-unit_scopes.ensures.1 in
     let s = sections_of c.args.self.sections.now in
     rw (p.1, p.2)
-    (scopes_fault s c.args.self.units.now c.args.self.bases.now us c.loop-unit.unit c.loop-unit.root
+    (scopes-fault s c.args.self.units.now c.args.self.bases.now us c.loop-unit.unit c.loop-unit.root
     c.loop-unit.lists c.loop-unit.lists c.loop-unit.left 0 c.in_err-unit_scopes.field-0.0 are
     c.loop-unit-test.true (c.loop-unit.invariant.so_far us are marked read reader)
     (λ u before. c.in_err-unit_scopes.ensures.scopes us u before are marked read
     (c.loop-unit.invariant.reader s reader)
-    (c.loop-unit.invariant.known us are marked read reader)))
+    (c.loop-unit.invariant.cache us are marked read reader)))
 
 pub loop-unit-preserved : goal.loop-unit-preserved
 loop-unit-preserved c =
@@ -48,19 +49,19 @@ loop-unit-preserved c =
       few = omega (arith, next, few, c.loop-unit.invariant.few);
       reader = λ s reader. c.in_ok-unit_scopes.ensures.reader s
           (c.loop-unit.invariant.reader s reader);
-      known = λ us are marked read reader.
-          c.in_ok-unit_scopes.ensures.known us are marked read
+      cache = λ us are marked read reader.
+          c.in_ok-unit_scopes.ensures.cache us are marked read
           (c.loop-unit.invariant.reader (sections_of c.args.self.sections.now) reader)
-          (c.loop-unit.invariant.known us are marked read reader);
+          (c.loop-unit.invariant.cache us are marked read reader);
       so_far = λ us are marked read reader.
-          scopes_next (sections_of c.args.self.sections.now) c.args.self.units.now
+          scopes-next (sections_of c.args.self.sections.now) c.args.self.units.now
           c.args.self.bases.now us c.loop-unit.unit c.loop-unit.root c.if-is_some.root _
           c.loop-unit.lists _ c.loop-unit.left _ are c.loop-unit-test.true
           (c.loop-unit.invariant.so_far us are marked read reader)
           (next ∙ ap (λ (b : Bool). c.loop-unit.root + cond b 1 0) c.is_some.ensures)
           (λ u before. c.in_ok-unit_scopes.ensures.scopes us u before are marked read
           (c.loop-unit.invariant.reader (sections_of c.args.self.sections.now) reader)
-          (c.loop-unit.invariant.known us are marked read reader));
+          (c.loop-unit.invariant.cache us are marked read reader));
     }
 
 pub returns-clause-scopes : goal.returns-clause-scopes

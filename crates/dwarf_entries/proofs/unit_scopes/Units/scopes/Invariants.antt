@@ -1,23 +1,23 @@
 use Rattle.std.proofs.Common.{◌≤◌, List}
 use Rattle.dwarf_walk.specs.Sections.{Sections, sections_of}
 use Rattle.dwarf_entries.specs.Bases.{CompilationUnit}
-use Rattle.dwarf_entries.specs.Private.Walked.{AreMarked, AreReadIn}
-use Rattle.dwarf_walk.specs.Private.Again.{IsReaderOf}
-use Rattle.dwarf_entries.specs.Private.KnownNames.{AreKnownOf}
+use Rattle.dwarf_entries.specs.Private.EntryOffsets.{IsBitmapOf, AreReadIn}
+use Rattle.dwarf_walk.specs.Private.Rereading.{IsReaderOf}
+use Rattle.dwarf_entries.specs.Private.NameCache.{IsCacheOf}
 use Rattle.dwarf_entries.specs.Private.Passes.{AreUnits}
-use Rattle.dwarf_entries.proofs.UnitsPass.{ScopesSoFar}
+use Rattle.dwarf_entries.proofs.ScopePasses.UnitsPass.{ScopesSoFar}
 use Rattle.dwarf_entries.proofs.unit_scopes.Units.scopes.Given as goal
 
 abbrev pub invariant-loop-unit : goal.invariant-loop-unit
 invariant-loop-unit l = record {
   few : l.root ≤ l.unit;
   reader : (s : Sections) → IsReaderOf s l.fn.reader → IsReaderOf s l.reader;
-  known : (us : List CompilationUnit) → AreUnits l.self.units.now l.self.bases.now us
-      → AreMarked l.self.marks.now us → AreReadIn (sections_of l.self.sections.now) us
+  cache : (us : List CompilationUnit) → AreUnits l.self.units.now l.self.bases.now us
+      → IsBitmapOf l.self.bitmap.now us → AreReadIn (sections_of l.self.sections.now) us
       → IsReaderOf (sections_of l.self.sections.now) l.fn.reader
-      → AreKnownOf (sections_of l.self.sections.now) us l.known;
+      → IsCacheOf (sections_of l.self.sections.now) us l.cache;
   so_far : (us : List CompilationUnit) → AreUnits l.self.units.now l.self.bases.now us
-      → AreMarked l.self.marks.now us → AreReadIn (sections_of l.self.sections.now) us
+      → IsBitmapOf l.self.bitmap.now us → AreReadIn (sections_of l.self.sections.now) us
       → IsReaderOf (sections_of l.self.sections.now) l.fn.reader
       → ScopesSoFar (sections_of l.self.sections.now) us l.unit l.root l.lists l.left;
 }

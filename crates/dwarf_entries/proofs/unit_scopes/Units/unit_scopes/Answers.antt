@@ -1,11 +1,11 @@
 use Rattle.std.proofs.Common.{ℕ, refl, arith, ap, ◌∙◌}
 use Rattle.dwarf_bytes.specs.declared.fault.Section.TheVariants as names
-use Rattle.dwarf_bytes.specs.Refusals.{told}
-use Rattle.dwarf_walk.specs.declared.kept.ScopePlace.{ScopePlace}
+use Rattle.dwarf_bytes.specs.Refusals.{at_item}
+use Rattle.dwarf_walk.specs.declared.unit_entries.ScopePlace.{ScopePlace}
 use Rattle.dwarf_walk.specs.Sections.{sections_of}
-use Rattle.dwarf_entries.proofs.ScopesPass.{is_place, judged_next}
-use Rattle.dwarf_entries.proofs.ScopesEnds.{place_known, all_there, judged_end, judged_fault}
-use Rattle.dwarf_entries.proofs.ScopesEnds.{again_fault}
+use Rattle.dwarf_entries.proofs.ScopePasses.ScopesPass.{is-place, judged-next}
+use Rattle.dwarf_entries.proofs.ScopePasses.ScopesEnds.{place-known, all-there, judged-end}
+use Rattle.dwarf_entries.proofs.ScopePasses.ScopesEnds.{judged-fault, again-fault}
 use Rattle.dwarf_entries.proofs.unit_scopes.Units.unit_scopes.Goals as goal
 
 -- A default value for lookups.
@@ -13,75 +13,75 @@ abbrev d : ScopePlace
 d = record { offset = 0; inside = 0 }
 
 pub returns-in-Err-clause-scopes : goal.returns-in-Err-clause-scopes
-returns-in-Err-clause-scopes c us u before are marked read reader knew found root judged =
+returns-in-Err-clause-scopes c us u before are marked read reader knew found root parsed =
     let s = sections_of c.args.self.sections.now in
     let of_sections = c.loop-place.invariant.reader s reader in
-    let known = place_known s c.args.self.units.now c.args.self.bases.now us u c.args.unit
+    let cache = place-known s c.args.self.units.now c.args.self.bases.now us u c.args.unit
     c.loop-place.place-index c.index-self-unit.result c.as_slice-place-items.result.now d are
     read found c.as_slice-place-items.ensures.value c.loop-place-test.true in
-    again_fault s us u before c.loop-place.place-index c.loop-place.lists c.loop-place.left _ _
-    c.in-Err.cause c.told.result known
-    (c.in-Err.ensures.scope s known.read.table of_sections known.table_is)
-    (c.told.ensures ∙ ap (λ (k : ℕ). told names.DebugInfo c.in-Err.cause k) c.from-at.ensures)
+    again-fault s us u before c.loop-place.place-index c.loop-place.lists c.loop-place.left _ _
+    c.in-Err.cause c.at_item.result cache
+    (c.in-Err.ensures.scope s cache.read.table of_sections cache.table_is)
+    (c.at_item.ensures ∙ ap (λ (k : ℕ). at_item names.DebugInfo c.in-Err.cause k) c.from-at.ensures)
 
 pub returns-in-Err-scope-clause-scopes : goal.returns-in-Err-scope-clause-scopes
-returns-in-Err-scope-clause-scopes c us u before are marked read reader knew found root judged =
+returns-in-Err-scope-clause-scopes c us u before are marked read reader knew found root parsed =
     let s = sections_of c.args.self.sections.now in
     let of_sections = c.loop-place.invariant.reader s reader in
-    let known = place_known s c.args.self.units.now c.args.self.bases.now us u c.args.unit
+    let cache = place-known s c.args.self.units.now c.args.self.bases.now us u c.args.unit
     c.loop-place.place-index c.index-self-unit.result c.as_slice-place-items.result.now d are
     read found c.as_slice-place-items.ensures.value c.loop-place-test.true in
     let so_far = c.loop-place.invariant.so_far us u before are marked read reader knew found root
-    judged in
-    let place = is_place s us u before _ c.loop-place.place-index c.loop-place.lists
-    c.loop-place.left _ _ c.in-Ok.entry so_far found root known
+    parsed in
+    let place = is-place s us u before _ c.loop-place.place-index c.loop-place.lists
+    c.loop-place.left _ _ c.in-Ok.entry so_far found root cache
     (c.len.ensures ∙ c.loop-place.lists.scopes.ok.0) refl
-    (c.in-Ok.ensures.scope s known.read.table of_sections known.table_is) in
-    judged_fault s us u before c.loop-place.place-index c.loop-place.lists c.loop-place.lists
-    c.loop-place.left c.loop-place.left _ c.in-Err-scope.cause c.told-in-Err-scope.result so_far
-    known.site
-    (c.in-Err-scope.ensures.judged us so_far.judged known.site.place are marked place read
+    (c.in-Ok.ensures.scope s cache.read.table of_sections cache.table_is) in
+    judged-fault s us u before c.loop-place.place-index c.loop-place.lists c.loop-place.lists
+    c.loop-place.left c.loop-place.left _ c.in-Err-scope.cause c.at_item-in-Err-scope.result so_far
+    cache.site
+    (c.in-Err-scope.ensures.parsed us so_far.parsed cache.site.place are marked place read
     (c.in-Ok.ensures.reader s of_sections)
-    (c.loop-place.invariant.known us are marked read reader knew))
-    (c.told-in-Err-scope.ensures ∙ ap (λ (k : ℕ). told names.DebugInfo c.in-Err-scope.cause k)
+    (c.loop-place.invariant.cache us are marked read reader knew))
+    (c.at_item-in-Err-scope.ensures ∙ ap (λ (k : ℕ). at_item names.DebugInfo c.in-Err-scope.cause k)
     c.from-at.ensures)
 
 pub loop-place-preserved : goal.loop-place-preserved
 loop-place-preserved c = record {
   reader = λ t reader. c.in-Ok-scope.ensures.reader t
       (c.in-Ok.ensures.reader t (c.loop-place.invariant.reader t reader));
-  known = λ us are marked read reader knew.
+  cache = λ us are marked read reader knew.
       let s = sections_of c.args.self.sections.now in
-      c.in-Ok-scope.ensures.known us are marked read
+      c.in-Ok-scope.ensures.cache us are marked read
       (c.in-Ok.ensures.reader s (c.loop-place.invariant.reader s reader))
-      (c.loop-place.invariant.known us are marked read reader knew);
-  so_far = λ us u before are marked read reader knew found root judged.
+      (c.loop-place.invariant.cache us are marked read reader knew);
+  so_far = λ us u before are marked read reader knew found root parsed.
       let s = sections_of c.args.self.sections.now in
       let of_sections = c.loop-place.invariant.reader s reader in
-      let known = place_known s c.args.self.units.now c.args.self.bases.now us u c.args.unit
+      let cache = place-known s c.args.self.units.now c.args.self.bases.now us u c.args.unit
       c.loop-place.place-index c.index-self-unit.result c.as_slice-place-items.result.now d are
       read found c.as_slice-place-items.ensures.value c.loop-place-test.true in
       let so_far = c.loop-place.invariant.so_far us u before are marked read reader knew found root
-      judged in
-      let place = is_place s us u before _ c.loop-place.place-index c.loop-place.lists
-      c.loop-place.left _ _ c.in-Ok.entry so_far found root known
+      parsed in
+      let place = is-place s us u before _ c.loop-place.place-index c.loop-place.lists
+      c.loop-place.left _ _ c.in-Ok.entry so_far found root cache
       (c.len.ensures ∙ c.loop-place.lists.scopes.ok.0) refl
-      (c.in-Ok.ensures.scope s known.read.table of_sections known.table_is) in
-      judged_next s us u before c.loop-place.place-index c.loop-place.lists
+      (c.in-Ok.ensures.scope s cache.read.table of_sections cache.table_is) in
+      judged-next s us u before c.loop-place.place-index c.loop-place.lists
       (record c.loop-place.lists { ranges = c.scope-in-loop-place.new.ranges }) _
-      c.loop-place.left _ _ c.in-Ok-scope.items c.in-Ok-scope.facts so_far known.site
-      (c.in-Ok-scope.ensures.judged us so_far.judged known.site.place are marked place read
+      c.loop-place.left _ _ c.in-Ok-scope.items c.in-Ok-scope.facts so_far cache.site
+      (c.in-Ok-scope.ensures.parsed us so_far.parsed cache.site.place are marked place read
       (c.in-Ok.ensures.reader s of_sections)
-      (c.loop-place.invariant.known us are marked read reader knew)) refl refl
-      c.in_ok-push-in-Ok-scope.ensures (omega (arith, c.in-Ok-scope.ensures.room));
+      (c.loop-place.invariant.cache us are marked read reader knew)) refl refl
+      c.in_ok-push-in-Ok-scope.ensures (omega (arith, c.in-Ok-scope.ensures.budget));
 }
 
 pub returns-clause-scopes : goal.returns-clause-scopes
-returns-clause-scopes c us u before are marked read reader knew found root judged =
-    judged_end (sections_of c.args.self.sections.now) us u before c.loop-place.place-index
+returns-clause-scopes c us u before are marked read reader knew found root parsed =
+    judged-end (sections_of c.args.self.sections.now) us u before c.loop-place.place-index
     c.loop-place.lists c.loop-place.left
-    (c.loop-place.invariant.so_far us u before are marked read reader knew found root judged)
-    (all_there c.args.self.units.now c.args.self.bases.now us u c.args.unit c.loop-place.place-index
+    (c.loop-place.invariant.so_far us u before are marked read reader knew found root parsed)
+    (all-there c.args.self.units.now c.args.self.bases.now us u c.args.unit c.loop-place.place-index
     _ _ are found c.as_slice-place-items.ensures.value c.loop-place-test.false)
 
 pub returns-in-Err-clause-reader : goal.returns-in-Err-clause-reader
@@ -100,6 +100,6 @@ returns-in_err-push-in-Ok-scope-clause-reader c s reader =
     let of_sections = c.loop-place.invariant.reader s reader in
     c.in-Ok-scope.ensures.reader s (c.in-Ok.ensures.reader s of_sections)
 
-pub returns-clause-known : goal.returns-clause-known
-returns-clause-known c us are marked read reader knew =
-    c.loop-place.invariant.known us are marked read reader knew
+pub returns-clause-cache : goal.returns-clause-cache
+returns-clause-cache c us are marked read reader knew =
+    c.loop-place.invariant.cache us are marked read reader knew

@@ -1,7 +1,7 @@
 use Rattle.std.proofs.Common.{ℕ, List, ap, ◌∙◌, subst}
 use Rattle.std.specs.Prelude.{map}
 use Rattle.dwarf_bytes.specs.Refusals.{ReadsNext}
-use Rattle.dwarf_forms.specs.Private.Codes.{head_behind}
+use Rattle.dwarf_forms.specs.Private.Codes.{head_after}
 use Rattle.dwarf_forms.proofs.CodeMaps.{head-fresh}
 use Rattle.dwarf_forms.proofs.SharedTableLaws.{code_of}
 use Rattle.dwarf_forms.proofs.abbreviation_table.AbbreviationTable.next_head.Goals as goal
@@ -9,7 +9,7 @@ use Rattle.dwarf_forms.proofs.abbreviation_table.AbbreviationTable.next_head.Goa
 pub returns-clause-reads : goal.returns-clause-reads
 returns-clause-reads c =
     subst (λ (codes : List ℕ). ReadsNext c.next.result
-    (λ bytes. head_behind c.args.room bytes codes) c.args.cursor.now c.next.new.cursor)
+    (λ bytes. head_after c.args.budget bytes codes) c.args.cursor.now c.next.new.cursor)
     (c.self.invariant ∙ ap (map code_of) c.self.view_is) c.next.ensures.reads
 
 pub returns-clause-fresh : goal.returns-clause-fresh

@@ -14,4 +14,4 @@ returns-then-is_err-clause-decodes c =
     ap (λ (p : Position). p.bytes) c.new-cursor.ensures ∙ c.section.ensures in
     let within : length section ≤ c.args.offset = omega (arith, past, ap length bytes) in
     inr (rw (outside c.args.left.now section c.args.offset within)
-    (ap (λ (fault : LoadFault). Err fault) (sym c.told.ensures)))
+    (ap (λ (fault : LoadFault). Err fault) (sym c.at_item.ensures)))

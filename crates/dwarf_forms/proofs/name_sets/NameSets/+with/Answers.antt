@@ -2,7 +2,7 @@ use Rattle.std.proofs.Common.{◌≡◌, ℕ, ◌%◌, ◌/◌, ◌<◌, ◌++�
 use Rattle.std.proofs.Common.{arith}
 use Rattle.dwarf_forms.specs.declared.name_sets.Branch.{Branch}
 use Rattle.dwarf_forms.specs.Private.NameSets.{side}
-use Rattle.dwarf_forms.proofs.Elements.{if_ok}
+use Rattle.dwarf_forms.proofs.Elements.{if-ok}
 use Rattle.dwarf_forms.proofs.SetLaws.{HasMore, few-behind, few-bits, more-bits, more-ends, put-few}
 use Rattle.dwarf_forms.proofs.name_sets.NameSets.+with.Goals as goal
 
@@ -12,7 +12,7 @@ returns-then-name-eq0-clause-names t c =
     let new = c.put.new.self in
     let b = c.branch-branch.result in
     let ended : Branch = record { ends = true; zero = b.zero; one = b.one } in
-    if_ok (λ (more : ℕ). (more ≡ length old) × (new ≡ old ++ ended ∷ []))
+    if-ok (λ (more : ℕ). (more ≡ length old) × (new ≡ old ++ ended ∷ []))
     (λ (more : ℕ). HasMore old new c.args.set more c.args.name) c.put.result c.put.ensures.ok
     (λ more made. more-ends old new c.args.set more c.args.name b ended
     c.branch-branch.ensures.value c.requires c.branch-branch.ensures.within c.if-name-eq0.true
@@ -30,7 +30,7 @@ returns-clause-names t c =
     let rest : HasMore old mid (side b (c.args.name % 2)) behind (c.args.name / 2) =
     subst (λ (s : ℕ). HasMore old mid s behind (c.args.name / 2)) c.side.ensures
     c.in_ok-behind.ensures.names in
-    if_ok (λ (more : ℕ). (more ≡ length mid) × (new ≡ mid ++ turned ∷ []))
+    if-ok (λ (more : ℕ). (more ≡ length mid) × (new ≡ mid ++ turned ∷ []))
     (λ (more : ℕ). HasMore old new c.args.set more c.args.name) c.put-2.result
     c.put-2.ensures.ok
     (λ more made.

@@ -6,15 +6,15 @@ use Rattle.dwarf_lines.specs.declared.registers.Registers.{Registers}
 use Rattle.dwarf_lines.specs.Instructions.{encoding}
 use Rattle.dwarf_lines.specs.Matrix.{line_change}
 use Rattle.dwarf_lines.specs.Private.Registers.{IsNear}
-use Rattle.dwarf_lines.proofs.StepKinds.{moves_by, where_ok, row_step, special_sums}
+use Rattle.dwarf_lines.proofs.Machine.StepKinds.{moves-by, where-ok, row_step, special-sums}
 use Rattle.dwarf_lines.proofs.registers.Registers.special.Goals as goal
 
 pub returns-clause-made : goal.returns-clause-made
 returns-clause-made c = λ before r.
     let e = encoding c.args.header.now in
-    let s = special_sums e c.args.adjusted before c.args.self.now c.advance.new.self
+    let s = special-sums e c.args.adjusted before c.args.self.now c.advance.new.self
     c.move_line.new.self r (rw c.from.ensures at c.advance.ensures.address)
-    c.advance.ensures.rest (moves_by c.advance.new.self c.move_line.new.self
+    c.advance.ensures.rest (moves-by c.advance.new.self c.move_line.new.self
     (line_change (encoding c.args.header.now) (Special c.args.adjusted)) c.special_line.result
     (record { sfits = c.special_line.type_inv }) c.special_line.ensures.value
     c.move_line.ensures) in
@@ -26,9 +26,9 @@ pub returns-clause-near : goal.returns-clause-near
 returns-clause-near c =
     let line : c.make_row.new.self.line ≡ c.args.self.now.line +ℤ c.special_line.result =
     c.make_row.ensures.line ∙ ap (λ (r : Registers). r.line)
-    (moves_by c.advance.new.self c.move_line.new.self c.special_line.result
+    (moves-by c.advance.new.self c.move_line.new.self c.special_line.result
     c.special_line.result (record { sfits = c.special_line.type_inv }) refl c.move_line.ensures)
     ∙ ap (λ (r : Registers). r.line +ℤ c.special_line.result) c.advance.ensures.rest in
     let small = c.special_line.ensures.small in
-    where_ok c.make_row.result (IsNear c.args.self.now.line c.make_row.new.self.line
+    where-ok c.make_row.result (IsNear c.args.self.now.line c.make_row.new.self.line
     (Special c.args.adjusted)) (rw line (omega (arith, ints)))

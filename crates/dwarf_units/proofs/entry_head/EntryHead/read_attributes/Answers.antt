@@ -1,6 +1,6 @@
 use Rattle.std.proofs.Common.{◌≤◌, length, ap, ◌∙◌, arith}
 use Rattle.std.proofs.lemmas.Result.{err_from_is_err_and}
-use Rattle.dwarf_forms.specs.Private.Known.{rest_attributes}
+use Rattle.dwarf_forms.specs.Private.Memoized.{rest_attributes}
 use Rattle.dwarf_units.proofs.PlanTurns.{own-fault, read-both}
 use Rattle.dwarf_units.proofs.entry_head.EntryHead.read_attributes.Goals as goal
 
@@ -15,7 +15,7 @@ returns-in_err-read_steps c =
     rw (p.1, p.2)
     (rw (← c.self.view_is)
     (own-fault c.args.keep inside.format list.own
-    (rest_attributes inside.lists.now.places.known list.rest) c.args.cursor.now.bytes
+    (rest_attributes inside.lists.now.places.memoized list.rest) c.args.cursor.now.bytes
     c.args.cursor.now.place c.in_err-read_steps.field-0.0 within
     (rw (steps, c.clear.ensures) at c.in_err-read_steps.ensures)))
 
@@ -30,6 +30,6 @@ returns c =
     let rest = c.rest-rest.ensures ∙ ap (λ l. l.rest) c.list.ensures in
     rw (← c.self.view_is)
     (read-both c.args.keep inside.format list.own
-    (rest_attributes inside.lists.now.places.known list.rest) c.args.cursor.now
+    (rest_attributes inside.lists.now.places.memoized list.rest) c.args.cursor.now
     c.read_steps.new.cursor c.read.new.cursor c.read_steps.new.found c.read.new.found
     c.read.result within own.0 own.1 (rw rest at c.read.ensures))

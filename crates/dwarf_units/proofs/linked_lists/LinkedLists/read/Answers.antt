@@ -1,7 +1,7 @@
 use Rattle.std.proofs.Common.{◌≡◌, ◌<◌, ◌∙◌, ℕ, false, refl, ap, arith}
 use Rattle.std.specs.Prelude.{Option, Some, None, is_some, not}
 use Rattle.std.proofs.lemmas.Result.{err_from_is_err_and}
-use Rattle.dwarf_bytes.proofs.Turns.{None-from_no_Some}
+use Rattle.dwarf_bytes.proofs.Items.Turns.{None-from-no-Some}
 use Rattle.dwarf_units.proofs.LinkLaws.{before-both, linked-at, next-smaller}
 use Rattle.dwarf_units.proofs.PlanTurns.{kept-more, kept-fault, kept-end}
 use Rattle.dwarf_units.specs.Private.Links.{IsLink, linked_in}
@@ -27,9 +27,10 @@ returns-in_err-read_step c =
     let inv = c.loop-next.invariant in
     let number = c.in-Some.number in
     let within : number < linked_in c.args.self.now c.args.format = rw c.in-Some.is at inv.linked in
-    let link : IsLink c.args.keep c.args.format c.args.self.now.places.known number
+    let link : IsLink c.args.keep c.args.format c.args.self.now.places.memoized number
     c.by-link.result.now =
-    linked-at c.args.keep c.args.format c.args.self.now.places.known c.links-links.result.now number
+    linked-at c.args.keep c.args.format c.args.self.now.places.memoized c.links-links.result.now
+    number
     _ c.by-link.result.now c.links-links.ensures.links
     (omega (arith, within, c.links-links.ensures.all)) c.by-link.ensures in
     rw (p.1, p.2)
@@ -42,9 +43,10 @@ loop-next-smaller c =
     let inv = c.loop-next.invariant in
     let number = c.in-Some.number in
     let within : number < linked_in c.args.self.now c.args.format = rw c.in-Some.is at inv.linked in
-    let link : IsLink c.args.keep c.args.format c.args.self.now.places.known number
+    let link : IsLink c.args.keep c.args.format c.args.self.now.places.memoized number
     c.by-link.result.now =
-    linked-at c.args.keep c.args.format c.args.self.now.places.known c.links-links.result.now number
+    linked-at c.args.keep c.args.format c.args.self.now.places.memoized c.links-links.result.now
+    number
     _ c.by-link.result.now c.links-links.ensures.links
     (omega (arith, within, c.links-links.ensures.all)) c.by-link.ensures in
     rw c.in-Some.is (next-smaller c.by-link.result.now.next number link.before)
@@ -54,9 +56,10 @@ loop-next-preserved c =
     let inv = c.loop-next.invariant in
     let number = c.in-Some.number in
     let within : number < linked_in c.args.self.now c.args.format = rw c.in-Some.is at inv.linked in
-    let link : IsLink c.args.keep c.args.format c.args.self.now.places.known number
+    let link : IsLink c.args.keep c.args.format c.args.self.now.places.memoized number
     c.by-link.result.now =
-    linked-at c.args.keep c.args.format c.args.self.now.places.known c.links-links.result.now number
+    linked-at c.args.keep c.args.format c.args.self.now.places.memoized c.links-links.result.now
+    number
     _ c.by-link.result.now c.links-links.ensures.links
     (omega (arith, within, c.links-links.ensures.all)) c.by-link.ensures in
     record {
@@ -74,6 +77,6 @@ unfolding steps_of
 returns c =
     let inv = c.loop-next.invariant in (
       kept-end c.args.format _ c.args.cursor.now.bytes c.loop-next.found c.loop-next.cursor.place _
-          (rw (None-from_no_Some _ c.in_default.not-Some) refl) inv.kept,
+          (rw (None-from-no-Some _ c.in_default.not-Some) refl) inv.kept,
       inv.bytes,
     )

@@ -1,42 +1,42 @@
 use Rattle.std.proofs.Common.{arith, ◌∙◌}
-use Rattle.dwarf_units.proofs.StoreLaws.{is_added, is_new, limit_of, seen-grows, stored-grows}
+use Rattle.dwarf_units.proofs.StoreLaws.{is-added, is-new, limit-of, seen-grows, stored-grows}
 use Rattle.dwarf_units.proofs.tables.Tables.add.Goals as goal
 
 pub invariant_of-self : goal.invariant_of-self
 invariant_of-self c = stored-grows c.self.inside.lists c.read.new.lists c.self.inside.store
     c.in_err-table.ensures.grows c.self.invariant
 
-pub returns-in_err-table-clause-known : goal.returns-in_err-table-clause-known
-returns-in_err-table-clause-known c = λ number table at is. seen-grows c.self.inside.lists
+pub returns-in_err-table-clause-memoized : goal.returns-in_err-table-clause-memoized
+returns-in_err-table-clause-memoized c = λ number table at is. seen-grows c.self.inside.lists
     c.read.new.lists c.self.inside.store c.in_err-table.ensures.grows c.self.invariant
     ∙ c.self.view_is
 
 pub returns-in_err-table-clause-limit : goal.returns-in_err-table-clause-limit
 returns-in_err-table-clause-limit c =
-    limit_of c.read.new.lists c.self.inside.store
+    limit-of c.read.new.lists c.self.inside.store
     (stored-grows c.self.inside.lists c.read.new.lists c.self.inside.store
     c.in_err-table.ensures.grows c.self.invariant)
 
-pub invariant_of-self-in_err-keep : goal.invariant_of-self-in_err-keep
-invariant_of-self-in_err-keep c =
+pub invariant_of-self-in_err-add_table : goal.invariant_of-self-in_err-add_table
+invariant_of-self-in_err-add_table c =
     let read = c.in_ok-table.ensures in
-    c.in_err-keep.ensures.stored c.read.new.lists
+    c.in_err-add_table.ensures.stored c.read.new.lists
     (stored-grows c.self.inside.lists c.read.new.lists c.self.inside.store read.grows
     c.self.invariant)
-    (is_new c.self.inside.lists c.read.new.lists c.self.inside.store c.args.self.now
+    (is-new c.self.inside.lists c.read.new.lists c.self.inside.store c.args.self.now
     c.in_ok-table.table c.args.unit.now.format c.args.unit.now.abbreviations c.args.left.now
     read.grows c.self.invariant c.self.view_is read.readable read.place read.decodes
     (omega (arith, read.counted, c.requires.few))
     c.requires.fresh)
 
-pub returns-in_err-keep-clause-limit : goal.returns-in_err-keep-clause-limit
-returns-in_err-keep-clause-limit c =
+pub returns-in_err-add_table-clause-limit : goal.returns-in_err-add_table-clause-limit
+returns-in_err-add_table-clause-limit c =
     let read = c.in_ok-table.ensures in
-    limit_of c.read.new.lists c.keep.new.self
-    (c.in_err-keep.ensures.stored c.read.new.lists
+    limit-of c.read.new.lists c.add_table.new.self
+    (c.in_err-add_table.ensures.stored c.read.new.lists
     (stored-grows c.self.inside.lists c.read.new.lists c.self.inside.store read.grows
     c.self.invariant)
-    (is_new c.self.inside.lists c.read.new.lists c.self.inside.store c.args.self.now
+    (is-new c.self.inside.lists c.read.new.lists c.self.inside.store c.args.self.now
     c.in_ok-table.table c.args.unit.now.format c.args.unit.now.abbreviations c.args.left.now
     read.grows c.self.invariant c.self.view_is read.readable read.place read.decodes
     (omega (arith, read.counted, c.requires.few))
@@ -45,10 +45,10 @@ returns-in_err-keep-clause-limit c =
 pub invariant_of-self-2 : goal.invariant_of-self-2
 invariant_of-self-2 c =
     let read = c.in_ok-table.ensures in
-    c.in_ok-keep.ensures.stored c.read.new.lists
+    c.in_ok-add_table.ensures.stored c.read.new.lists
     (stored-grows c.self.inside.lists c.read.new.lists c.self.inside.store read.grows
     c.self.invariant)
-    (is_new c.self.inside.lists c.read.new.lists c.self.inside.store c.args.self.now
+    (is-new c.self.inside.lists c.read.new.lists c.self.inside.store c.args.self.now
     c.in_ok-table.table c.args.unit.now.format c.args.unit.now.abbreviations c.args.left.now
     read.grows c.self.invariant c.self.view_is read.readable read.place read.decodes
     (omega (arith, read.counted, c.requires.few))
@@ -60,25 +60,25 @@ returns-clause-ok c =
     let stored = stored-grows c.self.inside.lists c.read.new.lists c.self.inside.store read.grows
     c.self.invariant in
     let new =
-    is_new c.self.inside.lists c.read.new.lists c.self.inside.store c.args.self.now
+    is-new c.self.inside.lists c.read.new.lists c.self.inside.store c.args.self.now
     c.in_ok-table.table c.args.unit.now.format c.args.unit.now.abbreviations c.args.left.now
     read.grows c.self.invariant c.self.view_is read.readable read.place read.decodes
     (omega (arith, read.counted, c.requires.few))
     c.requires.fresh in
-    is_added c.self.inside.lists c.read.new.lists c.self.inside.store c.keep.new.self
+    is-added c.self.inside.lists c.read.new.lists c.self.inside.store c.add_table.new.self
     c.args.self.now c.in_ok-table.table c.args.unit.now.format c.args.unit.now.abbreviations
-    c.args.left.now c.read.new.left c.in_ok-keep.field-0 read.grows c.self.invariant
+    c.args.left.now c.read.new.left c.in_ok-add_table.field-0 read.grows c.self.invariant
     c.self.view_is read.place read.decodes read.counted
-    (c.in_ok-keep.ensures.ok c.read.new.lists stored new)
+    (c.in_ok-add_table.ensures.ok c.read.new.lists stored new)
 
 pub returns-clause-limit : goal.returns-clause-limit
 returns-clause-limit c =
     let read = c.in_ok-table.ensures in
-    limit_of c.read.new.lists c.keep.new.self
-    (c.in_ok-keep.ensures.stored c.read.new.lists
+    limit-of c.read.new.lists c.add_table.new.self
+    (c.in_ok-add_table.ensures.stored c.read.new.lists
     (stored-grows c.self.inside.lists c.read.new.lists c.self.inside.store read.grows
     c.self.invariant)
-    (is_new c.self.inside.lists c.read.new.lists c.self.inside.store c.args.self.now
+    (is-new c.self.inside.lists c.read.new.lists c.self.inside.store c.args.self.now
     c.in_ok-table.table c.args.unit.now.format c.args.unit.now.abbreviations c.args.left.now
     read.grows c.self.invariant c.self.view_is read.readable read.place read.decodes
     (omega (arith, read.counted, c.requires.few))

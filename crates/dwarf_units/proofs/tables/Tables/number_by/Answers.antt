@@ -3,7 +3,7 @@ use Rattle.std.specs.Prelude.{Ok, Result, Some, option_copied, slice_get, ℕ}
 use Rattle.dwarf_bytes.specs.declared.fault.LoadFault.{LoadFault}
 use Rattle.dwarf_forms.proofs.Codes.{got}
 use Rattle.dwarf_units.specs.Private.SharedTables.{SharedTable}
-use Rattle.dwarf_units.proofs.StoredTables.{known-is, known-number}
+use Rattle.dwarf_units.proofs.StoredTables.{memoized-is, memoized-number}
 use Rattle.dwarf_units.proofs.tables.Tables.number_by.Goals as goal
 
 pub returns-in-Some-clause-ok : goal.returns-in-Some-clause-ok
@@ -13,19 +13,20 @@ returns-in-Some-clause-ok c =
     ∙ (sym (got c.deref.result.now c.args.guess c.get.result c.get.ensures.lookup.0
     c.get.ensures.lookup.1) ∙ ap (λ r. option_copied r) c.in-Some.is) in
     let is = c.if-is_of.ensures.0 refl in
-    known-is c.self.inside.lists c.self.inside.store c.args.self.now c.args.guess
+    memoized-is c.self.inside.lists c.self.inside.store c.args.self.now c.args.guess
     c.in-Some.table.now c.args.unit.now.format c.args.unit.now.abbreviations c.self.invariant
     c.self.view_is there is.0 is.1
 
-pub returns-in-Some-clause-known : goal.returns-in-Some-clause-known
-returns-in-Some-clause-known c = λ number table at is_at.
+pub returns-in-Some-clause-memoized : goal.returns-in-Some-clause-memoized
+returns-in-Some-clause-memoized c = λ number table at is_at.
     let there : slice_get c.self.inside.store.tables.items c.args.guess ≡ Some c.in-Some.table.now =
     ap (λ (ts : List SharedTable). slice_get ts c.args.guess) (sym c.deref.ensures.value)
     ∙ (sym (got c.deref.result.now c.args.guess c.get.result c.get.ensures.lookup.0
     c.get.ensures.lookup.1) ∙ ap (λ r. option_copied r) c.in-Some.is) in
     let is = c.if-is_of.ensures.0 refl in (
       ap (λ (k : ℕ). let o : Result ℕ LoadFault = Ok k in o)
-          (known-number c.self.inside.lists c.self.inside.store c.args.self.now c.args.guess number
+          (memoized-number c.self.inside.lists c.self.inside.store c.args.self.now c.args.guess
+          number
           c.in-Some.table.now table c.args.unit.now.format c.args.unit.now.abbreviations
           c.self.invariant c.self.view_is there is.0 is.1 at is_at),
       refl,
@@ -38,7 +39,7 @@ returns-in-Some-clause-added c = λ elsewhere.
     ∙ (sym (got c.deref.result.now c.args.guess c.get.result c.get.ensures.lookup.0
     c.get.ensures.lookup.1) ∙ ap (λ r. option_copied r) c.in-Some.is) in
     let is = c.if-is_of.ensures.0 refl in
-    let found = known-is c.self.inside.lists c.self.inside.store c.args.self.now c.args.guess
+    let found = memoized-is c.self.inside.lists c.self.inside.store c.args.self.now c.args.guess
     c.in-Some.table.now c.args.unit.now.format c.args.unit.now.abbreviations c.self.invariant
     c.self.view_is there is.0 is.1 in
     absurd (elsewhere c.args.guess found.0 found.1 (found.3, found.4))

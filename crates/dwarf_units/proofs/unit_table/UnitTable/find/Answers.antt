@@ -3,18 +3,18 @@ use Rattle.std.specs.Prelude.{None, Some, ◌==◌}
 use Rattle.dwarf_forms.specs.Private.SharedTables.{SharedDeclaration}
 use Rattle.dwarf_units.specs.Private.Heads.{Head}
 use Rattle.dwarf_units.specs.Private.Links.{IsLinked}
-use Rattle.dwarf_units.proofs.SharedTableLaws.{all_found, head_found}
+use Rattle.dwarf_units.proofs.SharedTableLaws.{all-found, head-found}
 use Rattle.dwarf_units.proofs.unit_table.UnitTable.find.Goals as goal
 
 pub returns-in_err-declaration : goal.returns-in_err-declaration
 returns-in_err-declaration c = c.from_residual.ensures
-    ∙ head_found c.self.inside.lists.now.places.known c.self.inside.table.now c.args.self.now
+    ∙ head-found c.self.inside.lists.now.places.memoized c.self.inside.table.now c.args.self.now
     c.args.code None c.self.view_is c.in_err-declaration.ensures.none
 
 pub new-requires-clause-linked : goal.new-requires-clause-linked
 new-requires-clause-linked c =
     rw c.format.ensures
-    (all_found (λ (d : SharedDeclaration). IsLinked c.self.inside.lists.now
+    (all-found (λ (d : SharedDeclaration). IsLinked c.self.inside.lists.now
     c.self.inside.table.now.format d.list.rest)
     (λ (d : SharedDeclaration). d.code == c.args.code) c.self.inside.table.now.declarations
     c.in_ok-declaration.declaration.now c.self.invariant.linked
@@ -23,6 +23,6 @@ new-requires-clause-linked c =
 pub returns : goal.returns
 returns c =
     ap (λ (h : Head). Some h) (rw c.format.ensures at c.new.ensures)
-    ∙ head_found c.self.inside.lists.now.places.known c.self.inside.table.now c.args.self.now
+    ∙ head-found c.self.inside.lists.now.places.memoized c.self.inside.table.now c.args.self.now
     c.args.code (Some c.in_ok-declaration.declaration.now) c.self.view_is
     c.in_ok-declaration.ensures.some.0

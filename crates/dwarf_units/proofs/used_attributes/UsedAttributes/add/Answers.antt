@@ -1,17 +1,17 @@
 use Rattle.std.proofs.Common.{arith}
-use Rattle.dwarf_units.specs.Private.Names.{under_name}
+use Rattle.dwarf_units.specs.Private.Names.{named_attribute}
 use Rattle.dwarf_units.proofs.NameLaws.{named}
 use Rattle.dwarf_units.proofs.SlotLaws.{put-is, kept-is}
 use Rattle.dwarf_units.proofs.used_attributes.UsedAttributes.add.Goals as goal
 
 pub returns-then-not-self-slot : goal.returns-then-not-self-slot
 returns-then-not-self-slot c =
-    put-is _ c.self.inside.has c.self.inside.values (under_name c.args.name c.args.value)
+    put-is _ c.self.inside.has c.self.inside.values (named_attribute c.args.name c.args.value)
     c.args.name c.slot-slot.result c.self.view_is c.slot-slot.ensures.slot (named c.args.name)
     (omega arith) (omega arith) c.if-not-self-slot.true
 
 pub returns-else-not-self-slot : goal.returns-else-not-self-slot
 returns-else-not-self-slot c =
-    kept-is _ c.self.inside.has c.self.inside.values (under_name c.args.name c.args.value)
+    kept-is _ c.self.inside.has c.self.inside.values (named_attribute c.args.name c.args.value)
     c.args.name c.slot-slot.result c.self.view_is c.slot-slot.ensures.slot (named c.args.name)
     c.if-not-self-slot.false

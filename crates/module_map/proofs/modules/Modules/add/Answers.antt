@@ -12,7 +12,7 @@ use Rattle.module_map.specs.Counts.{ModuleMap}
 use Rattle.module_map.specs.Private.Serials.{AreSound, NumberedModule}
 use Rattle.module_map.proofs.Serials.{sound-insert}
 use Rattle.module_map.proofs.CachedModules.{same-but-modules, room_left, free-name, over_any}
-use Rattle.module_map.proofs.CachedModules.{free_all, kept_there}
+use Rattle.module_map.proofs.CachedModules.{free_all, kept-there}
 use Rattle.module_map.proofs.Changing.{world_of}
 use Rattle.module_map.proofs.modules.Modules.add.Goals as goal
 
@@ -92,7 +92,7 @@ returns c =
           })
           c.self.view_is
           (same-but-modules _ _ (c.self.inside.loads + 1) _ _ _ _
-          (kept_there c.self.inside.sorted c.self.inside.loads
+          (kept-there c.self.inside.sorted c.self.inside.loads
           (record { name = c.args.name.now; base = c.args.base; bytes = c.args.object }) _ _ _
           free c.len.ensures low high
           c.insert.new.self c.in-Ok.at c.self.inside.loads c.in-Ok-new.loaded c.in-Ok-new.ensures

@@ -1,0 +1,2 @@
+pub mod ContentEncodings
+pub mod ContentLaws

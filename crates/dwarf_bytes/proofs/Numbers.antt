@@ -1,0 +1,11 @@
+pub mod Advance
+pub mod AtOffsets
+pub mod LebEncodings
+pub mod LebFaults
+pub mod LebPlaces
+pub mod LebPrefixes
+pub mod LengthLaws
+pub mod Moves
+pub mod ReadFaults
+pub mod SlebPrefixes
+pub mod UlebPrefixes

@@ -1,0 +1,4 @@
+pub mod FirstNuls
+pub mod NulIndex
+pub mod SectionNames
+pub mod StringLaws

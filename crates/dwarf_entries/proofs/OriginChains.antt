@@ -1,0 +1,6 @@
+pub mod CacheLaws
+pub mod ChainLaws
+pub mod ChainStrings
+pub mod NameStrings
+pub mod ReferenceLaws
+pub mod ReferencedEntries

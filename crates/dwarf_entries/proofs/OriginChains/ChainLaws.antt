@@ -1,0 +1,229 @@
+-- The iterations of the loop that follows an origin chain, and the strings of the names that it
+-- finds.
+use Rattle.std.proofs.Common.{◌≡◌, ℕ, zero, suc, ◌+◌, List, [], ◌∷◌, ◌++◌, refl, sym, ap, ◌∙◌}
+use Rattle.std.proofs.Common.{subst, arith, append_assoc}
+use Rattle.std.specs.Prelude.{Option, Some, None, Result, Ok, Err, slice_get, option_map, ok_or}
+use Rattle.std.specs.Option.{option_or}
+use Rattle.dwarf_bytes.specs.declared.fault.Cause.{Cause}
+use Rattle.dwarf_bytes.specs.declared.fault.Cause.TheVariants as causes
+use Rattle.dwarf_bytes.specs.Bind.{◌>>=◌}
+use Rattle.dwarf_units.specs.declared.attributes.AttributeValue.{AttributeValue}
+use Rattle.dwarf_walk.specs.declared.unit_entries.NamedEntry.{NamedEntry}
+use Rattle.dwarf_entries.specs.declared.origin_chains.UnitAttribute.{UnitAttribute}
+use Rattle.dwarf_entries.specs.declared.origin_chains.UnitEntry.{UnitEntry}
+use Rattle.dwarf_entries.specs.declared.references.UnitPlace.{UnitPlace}
+use Rattle.dwarf_entries.specs.declared.origin_chains.FirstNames.{FirstNames}
+use Rattle.dwarf_units.specs.Entries.{attribute}
+use Rattle.dwarf_entries.specs.Bases.{CompilationUnit}
+use Rattle.dwarf_entries.specs.Names.{Member, target_of, chain_within, of_member, first_on}
+use Rattle.dwarf_walk.specs.References.{or_else, next_of}
+use Rattle.dwarf_entries.specs.Private.Members.{IsMember, IsPlaceOf, Finds, IsFirst, AreFirst}
+use Rattle.dwarf_entries.specs.Private.Members.{FindsFirst}
+
+-- ---- the first attribute with a name
+
+or_else-assoc : {X : Type 0} (a b c : Option X) → or_else a (or_else b c) ≡ or_else (or_else a b) c
+or_else-assoc (Some x) b c = refl
+or_else-assoc None b c = refl
+
+first_on-push : (name : ℕ) (path : List Member) (m : Member) → first_on name (path ++ m ∷ [])
+    ≡ or_else (first_on name path) (of_member name m)
+first_on-push name [] m = alone (of_member name m)
+  where
+    alone : (o : Option (CompilationUnit × AttributeValue)) → or_else o None ≡ o
+    alone (Some x) = refl
+    alone None = refl
+first_on-push name (p ∷ path) m =
+    ap (λ (o : Option (CompilationUnit × AttributeValue)). or_else (of_member name p) o)
+    (first_on-push name path m) ∙ or_else-assoc (of_member name p) (first_on name path)
+    (of_member name m)
+
+is-first-more : (units : List CompilationUnit) (unit : CompilationUnit) (number : ℕ)
+    → slice_get units number ≡ Some unit
+    → (known : Option UnitAttribute) (first : Option (CompilationUnit × AttributeValue))
+    (value : Option AttributeValue) → IsFirst units known first
+    → IsFirst units (option_or known (option_map (λ v. record { unit = number; value = v }) value))
+    (or_else first (option_map (λ v. (unit, v)) value))
+is-first-more units unit number is None None None h = tt
+is-first-more units unit number is None None (Some v) h = (is, refl)
+is-first-more units unit number is None (Some f) value h = absurd h
+is-first-more units unit number is (Some k) None value h = absurd h
+is-first-more units unit number is (Some k) (Some f) value h = h
+
+-- The first attribute, after one more entry is appended.
+pub first-more : (units : List CompilationUnit) (name number : ℕ) (path : List Member) (m : Member)
+    (known : Option UnitAttribute) (value : Option AttributeValue)
+    → slice_get units number ≡ Some m.unit → value ≡ attribute m.die name
+    → IsFirst units known (first_on name path) → (result : Option UnitAttribute)
+    → result ≡ option_or known (option_map (λ v. record { unit = number; value = v }) value)
+    → IsFirst units result (first_on name (path ++ m ∷ []))
+first-more units name number path m known value is value_is h result result_is =
+    let more = is-first-more units m.unit number is known (first_on name path) value h in
+    let pushed : or_else (first_on name path) (option_map (λ v. (m.unit, v)) value)
+    ≡ first_on name (path ++ m ∷ []) =
+    ap (λ (o : Option AttributeValue). or_else (first_on name path)
+    (option_map (λ v. (m.unit, v)) o)) value_is ∙ sym (first_on-push name path m) in
+    subst (λ (o : Option (CompilationUnit × AttributeValue)). IsFirst units result o) pushed
+    (subst (λ (r : Option UnitAttribute). IsFirst units r
+    (or_else (first_on name path) (option_map (λ v. (m.unit, v)) value))) (sym result_is) more)
+
+-- ---- the loop
+
+-- Prepends these entries to an origin chain.
+abbrev behind : List Member → Result (List Member) Cause → Result (List Member) Cause
+behind before r = r >>= λ rest. Ok (before ++ rest)
+
+-- The loop invariant: the entries of the chain up to the last one, and the first names among them.
+pub record Followed (units : List CompilationUnit) (remaining : ℕ) (m : Member) (left : ℕ)
+    (found : UnitEntry) (firsts : FirstNames) : Type 0 where
+  pub before : List Member
+  pub last : Member
+  pub at : IsMember units found.unit found.entry last
+  pub rest : chain_within remaining units m ≡ behind before (chain_within left units last)
+  pub stored : AreFirst units firsts (before ++ last ∷ [])
+
+pub followed-none : (units : List CompilationUnit) (remaining : ℕ) (m : Member) (found : UnitEntry)
+    (firsts : FirstNames) → IsMember units found.unit found.entry m
+    → AreFirst units firsts ([] ++ m ∷ []) → Followed units remaining m remaining found firsts
+followed-none units remaining m found firsts at stored =
+    record {
+      before = [];
+      last = m;
+      at = at;
+      rest = whole (chain_within remaining units m);
+      stored = stored;
+    }
+  where
+    whole : (r : Result (List Member) Cause) → r ≡ behind [] r
+    whole (Ok path) = refl
+    whole (Err e) = refl
+
+next-is : (units : List CompilationUnit) (found : UnitEntry) (last : Member)
+    (next : Option AttributeValue) → IsMember units found.unit found.entry last
+    → found.entry.next ≡ next → next_of last.die ≡ next
+next-is units found last next at is = sym (ap (λ (e : NamedEntry). e.next) at.entry_is) ∙ is
+
+-- Prepends one entry to an origin chain.
+abbrev pub in_front : Member → Result (List Member) Cause → Result (List Member) Cause
+in_front m r = r >>= λ rest. Ok (m ∷ rest)
+
+joined : (before : List Member) (last : Member) (r : Result (List Member) Cause)
+    → behind before (in_front last r) ≡ behind (before ++ last ∷ []) r
+joined before last (Ok rest) = ap (λ (path : List Member). Ok path)
+    (sym (append_assoc before (last ∷ []) rest))
+joined before last (Err e) = refl
+
+-- The origin chain of an entry with a reference, if one more reference may be followed.
+pub stepped : (units : List CompilationUnit) (after : ℕ) (last : Member)
+    (reference : AttributeValue) → next_of last.die ≡ Some reference
+    → chain_within (suc after) units last
+    ≡ (target_of units last.unit reference
+    >>= λ next. in_front last (chain_within after units next))
+unfolding chain_within
+stepped units after last reference is = rw (is, chain_within) refl
+
+-- The same after other entries, given the target.
+followed-on : (units : List CompilationUnit) (before : List Member) (left after : ℕ) (last : Member)
+    (reference : AttributeValue) → after + 1 ≡ left → next_of last.die ≡ Some reference
+    → (target : Result Member Cause) → target_of units last.unit reference ≡ target
+    → behind before (chain_within left units last)
+    ≡ behind before (target >>= λ next. in_front last (chain_within after units next))
+followed-on units before left after last reference left_is is target target_is =
+    let one : left ≡ suc after = omega (arith, left_is) in
+    ap (λ (k : ℕ). behind before (chain_within k units last)) one
+    ∙ (ap (λ (r : Result (List Member) Cause). behind before r)
+    (stepped units after last reference is)
+    ∙ ap (λ (t : Result Member Cause). behind before
+    (t >>= λ next. in_front last (chain_within after units next))) target_is)
+
+pub ended : (units : List CompilationUnit) (left : ℕ) (last : Member) → next_of last.die ≡ None
+    → chain_within left units last ≡ Ok (last ∷ [])
+unfolding chain_within
+ended units zero last is = rw (is, chain_within) refl
+ended units (suc left) last is = rw (is, chain_within) refl
+
+pub stopped : (units : List CompilationUnit) (last : Member) (reference : AttributeValue)
+    → next_of last.die ≡ Some reference → chain_within zero units last ≡ Err causes.OriginDepth
+unfolding chain_within
+stopped units last reference is = rw (is, chain_within) refl
+
+pub followed-next : (units : List CompilationUnit) (remaining : ℕ) (m : Member) (left after : ℕ)
+    (found next : UnitEntry) (place : UnitPlace) (firsts firsts_after : FirstNames)
+    (reference : AttributeValue) → Followed units remaining m left found firsts → after + 1 ≡ left
+    → found.entry.next ≡ Some reference
+    → ((u : CompilationUnit) → slice_get units found.unit ≡ Some u
+    → Finds units (Some place) (target_of units u reference))
+    → ((n : Member) → IsPlaceOf units place n → IsMember units next.unit next.entry n)
+    → ((path : List Member) (n : Member) → AreFirst units firsts path
+    → IsMember units next.unit next.entry n → AreFirst units firsts_after (path ++ n ∷ []))
+    → Followed units remaining m after next firsts_after
+followed-next units remaining m left after found next place firsts firsts_after reference
+    so_far left_is
+    is finds again more =
+    let to = finds so_far.last.unit so_far.at.unit_is in
+    let hop = next-is units found so_far.last (Some reference) so_far.at is in
+    record {
+      before = so_far.before ++ so_far.last ∷ [];
+      last = to.0;
+      at = again to.0 to.2;
+      rest = so_far.rest ∙ (followed-on units so_far.before left after so_far.last reference left_is
+          hop (Ok to.0) to.1 ∙ joined so_far.before so_far.last (chain_within after units to.0));
+      stored = more (so_far.before ++ so_far.last ∷ []) to.0 so_far.stored (again to.0 to.2);
+    }
+
+pub followed-end : (units : List CompilationUnit) (remaining : ℕ) (m : Member) (left : ℕ)
+    (found : UnitEntry) (firsts : FirstNames) → Followed units remaining m left found firsts
+    → found.entry.next ≡ None → FindsFirst units (Ok firsts) (chain_within remaining units m)
+followed-end units remaining m left found firsts so_far is =
+    let last = next-is units found so_far.last None so_far.at is in (
+      so_far.before ++ so_far.last ∷ [],
+      so_far.rest
+          ∙ ap (λ (r : Result (List Member) Cause). behind so_far.before r)
+          (ended units left so_far.last last),
+      so_far.stored,
+    )
+
+pub followed-deep : (units : List CompilationUnit) (remaining : ℕ) (m : Member) (left : ℕ)
+    (found : UnitEntry) (firsts : FirstNames) (reference : AttributeValue)
+    → Followed units remaining m left found firsts → left ≡ 0 → found.entry.next ≡ Some reference
+    → chain_within remaining units m ≡ Err causes.OriginDepth
+followed-deep units remaining m left found firsts reference so_far none is =
+    let hop = next-is units found so_far.last (Some reference) so_far.at is in
+    so_far.rest ∙ (ap (λ (k : ℕ). behind so_far.before (chain_within k units so_far.last)) none
+    ∙ ap (λ (r : Result (List Member) Cause). behind so_far.before r)
+    (stopped units so_far.last reference hop))
+
+pub followed-lost : (units : List CompilationUnit) (remaining : ℕ) (m : Member) (left after : ℕ)
+    (found : UnitEntry) (firsts : FirstNames) (reference : AttributeValue)
+    → Followed units remaining m left found firsts → after + 1 ≡ left → found.entry.next
+    ≡ Some reference
+    → (next : Option UnitPlace) (cause : Cause)
+    → (let refused : Result UnitPlace Cause = Err cause in refused ≡ ok_or next causes.Reference)
+    → ((u : CompilationUnit) → slice_get units found.unit ≡ Some u
+    → Finds units next (target_of units u reference)) → chain_within remaining units m ≡ Err cause
+followed-lost units remaining m left after found firsts reference so_far left_is is
+    (Some next) cause
+    refused finds = cc
+followed-lost units remaining m left after found firsts reference so_far left_is is None
+    cause refused
+    finds =
+    let lost = finds so_far.last.unit so_far.at.unit_is in
+    let hop = next-is units found so_far.last (Some reference) so_far.at is in
+    let same : causes.Reference ≡ cause = same_err {X = UnitPlace} cause causes.Reference refused in
+    so_far.rest ∙ (followed-on units so_far.before left after so_far.last reference left_is hop
+    (Err causes.Reference) lost ∙ ap (λ (c : Cause). Err c) same)
+  where
+    same_err : {X : Type 0} (x y : Cause)
+        → (let f : Cause → Result X Cause = λ z. Err z in f x ≡ f y) → y ≡ x
+    same_err x y h = cc
+
+-- If the target of a reference cannot be re-read, memory ran out.
+pub followed-again : (units : List CompilationUnit) (remaining : ℕ) (m : Member) (left : ℕ)
+    (found : UnitEntry) (place : UnitPlace) (firsts : FirstNames) (reference : AttributeValue)
+    (cause : Cause) → Followed units remaining m left found firsts
+    → ((u : CompilationUnit) → slice_get units found.unit ≡ Some u
+    → Finds units (Some place) (target_of units u reference))
+    → ((n : Member) → IsPlaceOf units place n → cause ≡ causes.Memory) → cause ≡ causes.Memory
+followed-again units remaining m left found place firsts reference cause so_far finds again = let
+    to =
+    finds so_far.last.unit so_far.at.unit_is in again to.0 to.2

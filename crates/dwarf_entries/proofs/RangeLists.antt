@@ -1,0 +1,6 @@
+pub mod BaseInForce
+pub mod BaseLaws
+pub mod CoveringLaws
+pub mod RangeLaws
+pub mod RangeTurns
+pub mod ScopeBudget

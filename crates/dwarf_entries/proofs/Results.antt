@@ -1,0 +1,11 @@
+pub mod BelowEnds
+pub mod BelowLaws
+pub mod CoveredScopes
+pub mod EntriesOfScopes
+pub mod EntryScopes
+pub mod OffsetLaws
+pub mod ReadLaws
+pub mod ScopeOrder
+pub mod ScopePlaces
+pub mod TreeParts
+pub mod WholeReads

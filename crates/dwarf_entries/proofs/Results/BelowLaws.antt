@@ -1,0 +1,143 @@
+-- The entries below an entry, by indexes and by the number of scopes before them.
+use Rattle.std.proofs.Common.{◌≡◌, ◌⊎◌, ◌↔◌, ℕ, ◌+◌, ◌-◌, ◌<◌, ◌≤◌, List, Bool, true, false, Some}
+use Rattle.std.proofs.Common.{None, length, take, drop, get_or, ap, sym, ◌∙◌, subst, arith, inl}
+use Rattle.std.proofs.Common.{inr, length-drop, take-add, ltb-false, ltb-true}
+use Rattle.std.specs.Prelude.{nat_lt, count_by, slice_get}
+use Rattle.std.specs.List.{prefix_len}
+use Rattle.std.proofs.lemmas.Bool.{cases_lt}
+use Rattle.std.proofs.lemmas.List.{get_or-drop}
+use Rattle.std.proofs.lemmas.List.Sums.{sum_by-append, count_by_more_yes, prefix_len_passes}
+use Rattle.std.proofs.lemmas.List.Sums.{prefix_len_stops, prefix_len-le-length}
+use Rattle.std.proofs.lemmas.Option.{get_or_from_slice_get, slice_get_cases}
+use Rattle.dwarf_units.specs.Entries.{Die, below, IsBelow}
+use Rattle.dwarf_walk.specs.ScopeEntries.{is_scope}
+
+module _ {X : Type 0} (p : X → Bool) (xs : List X) where
+  -- The number of elements before an index that pass the test.
+  abbrev counted : ℕ → ℕ
+  counted place = count_by p (take place xs)
+
+  counted-add : (a b : ℕ) → counted (a + b) ≡ counted a + count_by p (take b (drop a xs))
+  counted-add a b = ap (λ (ys : List X). count_by p ys) (take-add a b xs)
+      ∙ sum_by-append _ (take a xs) (take b (drop a xs))
+
+  counted-rises : (a b : ℕ) → a ≤ b → counted a ≤ counted b
+  counted-rises a b le =
+      let parts : a + (b - a) ≡ b = omega (arith, le) in
+      let sum : counted b ≡ counted a + count_by p (take (b - a) (drop a xs)) =
+      ap counted (sym parts) ∙ counted-add a (b - a) in
+      omega (arith, sum)
+
+  -- An element that passes is counted after its index, and not before.
+  counted-before : (place : ℕ) (d : X) → place < length xs → p (get_or xs place d) ≡ true
+      → (end : ℕ) → (counted place < counted end) ↔ (place < end)
+  counted-before place d within passes end = (from_count, to_count)
+    where
+      from_count : counted place < counted end → place < end
+      from_count lt = elim (cases_lt place end) [
+        | inl before ↦ before
+        | inr past ↦ (let le = counted-rises end place past in absurd (omega (arith, lt, le)))
+      ]
+
+      to_count : place < end → counted place < counted end
+      to_count lt =
+          let more = count_by_more_yes p xs place d within passes in
+          let le = counted-rises (place + 1) end (omega (arith, lt)) in omega (arith, more, le)
+
+-- The index after the entries below an entry.
+abbrev past_below : List Die → ℕ → Die → ℕ
+past_below dies i outer = i + 1 + prefix_len (λ d. nat_lt outer.depth d.depth) (drop (i + 1) dies)
+
+from-below : (dies : List Die) (i j : ℕ) (outer : Die) → slice_get dies i ≡ Some outer
+    → IsBelow dies j i → (i < j) × (j < past_below dies i outer)
+from-below dies i j outer is h = (h.0, by_order (cases_lt j (past_below dies i outer)))
+  where
+    by_order : (j < past_below dies i outer) ⊎ (past_below dies i outer ≤ j)
+        → j < past_below dies i outer
+    by_order (inl within) = within
+    by_order (inr past) =
+        let deeper : Die → Bool = λ d. nat_lt outer.depth d.depth in
+        let rest : List Die = drop (i + 1) dies in
+        let m : ℕ = prefix_len deeper rest in
+        let size = length-drop (i + 1) dies in
+        let stops = prefix_len_stops deeper rest outer (omega (arith, past, size, h.1)) in
+        let at_m : nat_lt outer.depth (get_or dies (i + 1 + m) outer).depth ≡ false =
+        ap (λ (d : Die). nat_lt outer.depth d.depth) (sym (get_or-drop (i + 1) dies m outer))
+        ∙ stops in
+        let le = ltb-false outer.depth (get_or dies (i + 1 + m) outer).depth at_m in
+        let here : (get_or dies i outer).depth ≡ outer.depth =
+        ap (λ (d : Die). d.depth) (get_or_from_slice_get dies i outer outer is) in
+        let lt : (get_or dies i outer).depth < (get_or dies (i + 1 + m) outer).depth =
+        h.2 (i + 1 + m) outer (omega arith) past in
+        absurd (omega (arith, le, lt, here))
+
+to-below : (dies : List Die) (i j : ℕ) (outer : Die) → slice_get dies i ≡ Some outer → i < j
+    → j < past_below dies i outer → IsBelow dies j i
+to-below dies i j outer is before within =
+    let deeper : Die → Bool = λ d. nat_lt outer.depth d.depth in
+    let rest : List Die = drop (i + 1) dies in
+    let size = length-drop (i + 1) dies in
+    let le = prefix_len-le-length deeper rest in
+    (before, omega (arith, before, within, size, le), all_deeper)
+  where
+    all_deeper : (k : ℕ) (d : Die) → i < k → k ≤ j
+        → (get_or dies i d).depth < (get_or dies k d).depth
+    all_deeper k d lt up_to =
+        let deeper : Die → Bool = λ d. nat_lt outer.depth d.depth in
+        let q : ℕ = k - (i + 1) in
+        let place : i + 1 + q ≡ k = omega (arith, lt) in
+        let passes = prefix_len_passes deeper (drop (i + 1) dies) q d
+        (omega (arith, place, up_to, within)) in
+        let at_q : nat_lt outer.depth (get_or dies k d).depth ≡ true =
+        ap (λ (n : ℕ). nat_lt outer.depth (get_or dies n d).depth) (sym place)
+        ∙ (ap (λ (d : Die). nat_lt outer.depth d.depth) (sym (get_or-drop (i + 1) dies q d))
+        ∙ passes) in
+        let here : (get_or dies i d).depth ≡ outer.depth =
+        ap (λ (d : Die). d.depth) (get_or_from_slice_get dies i outer d is) in
+        let found = ltb-true outer.depth (get_or dies k d).depth at_q in
+        omega (arith, found, here)
+
+-- The number of scopes before an index of a list.
+abbrev number : List Die → ℕ → ℕ
+number dies place = count_by is_scope (take place dies)
+
+-- An index of an entry is within the list.
+placed : (dies : List Die) (i : ℕ) (die : Die) → slice_get dies i ≡ Some die
+    → (i < length dies) × (get_or dies i die ≡ die)
+placed dies i die is = by_place (slice_get_cases dies i).1
+  where
+    by_place : ((x : Die) × (i < length dies) × (slice_get dies i ≡ Some x) × (get_or dies i x ≡ x))
+        ⊎ ((length dies ≤ i) × (slice_get dies i ≡ None))
+        → (i < length dies) × (get_or dies i die ≡ die)
+    by_place (inl found) = (found.1, get_or_from_slice_get dies i die die is)
+    by_place (inr past) = let none = past.1 in cc
+
+-- The end of a scope, computed by counting the scopes below it, is the number of scopes before the
+-- index after those entries.
+ends-are : (dies : List Die) (i : ℕ) (outer : Die) → slice_get dies i ≡ Some outer
+    → is_scope outer ≡ true → number dies i + 1 + count_by is_scope
+    (below outer (drop (i + 1) dies)) ≡ number dies (past_below dies i outer)
+ends-are dies i outer is scope =
+    let here = placed dies i outer is in
+    let more = count_by_more_yes is_scope dies i outer here.0 (ap is_scope here.1 ∙ scope) in
+    let sum = counted-add is_scope dies (i + 1)
+    (prefix_len (λ d. nat_lt outer.depth d.depth) (drop (i + 1) dies)) in
+    omega (arith, more, sum)
+
+pub scopes-between : (dies : List Die) (i j : ℕ) (outer inner : Die) → slice_get dies i ≡ Some outer
+    → slice_get dies j ≡ Some inner → is_scope outer ≡ true → is_scope inner ≡ true
+    → IsBelow dies j i ↔ ((count_by is_scope (take i dies) < count_by is_scope (take j dies))
+    × (count_by is_scope (take j dies) < count_by is_scope (take i dies) + 1 + count_by is_scope
+    (below outer (drop (i + 1) dies))))
+scopes-between dies i j outer inner outer_is inner_is outer_scope inner_scope =
+    let at_i = placed dies i outer outer_is in
+    let at_j = placed dies j inner inner_is in
+    let first = counted-before is_scope dies i outer at_i.0 (ap is_scope at_i.1 ∙ outer_scope) j in
+    let last = counted-before is_scope dies j inner at_j.0 (ap is_scope at_j.1 ∙ inner_scope)
+    (past_below dies i outer) in
+    let end = ends-are dies i outer outer_is outer_scope in (
+      λ h. let places = from-below dies i j outer outer_is h in
+          (first.1 places.0, subst (λ (n : ℕ). number dies j < n) (sym end) (last.1 places.1)),
+      λ h. to-below dies i j outer outer_is (first.0 h.0)
+          (last.0 (subst (λ (n : ℕ). number dies j < n) end h.1)),
+    )

@@ -1,0 +1,174 @@
+-- The parts that a successful result was read from, and the parts of each scope.
+use Rattle.std.proofs.Common.{◌≡◌, List, [], ◌∷◌, ◌++◌, map, ap, subst}
+use Rattle.std.specs.Prelude.{Result, Ok, zip}
+use Rattle.dwarf_bytes.specs.declared.fault.Section.TheVariants as names
+use Rattle.dwarf_bytes.specs.Bind.{◌>>=◌}
+use Rattle.dwarf_bytes.specs.Items.{At, each, each_from}
+use Rattle.dwarf_bytes.specs.Refusals.{in_section}
+use Rattle.dwarf_bytes.proofs.Numbers.Advance.{after-bind}
+use Rattle.dwarf_bytes.proofs.Numbers.Moves.{same-ok}
+use Rattle.dwarf_forms.specs.Declarations.{Declaration}
+use Rattle.dwarf_units.specs.declared.unit_headers.UnitHeader.{UnitHeader}
+use Rattle.dwarf_units.specs.Units.{units_of, tables_of}
+use Rattle.dwarf_units.specs.Entries.{Die, entries_of}
+use Rattle.dwarf_entries.specs.declared.origin_chains.EntryNames.{EntryNames}
+use Rattle.dwarf_walk.specs.Sections.{Sections}
+use Rattle.dwarf_entries.specs.Bases.{CompilationUnit, unit_of}
+use Rattle.dwarf_entries.specs.Names.{names_of}
+use Rattle.dwarf_entries.specs.Ranges.{Covering}
+use Rattle.dwarf_entries.specs.Scopes.{Tree, ScopeSite, ParsedScope, scope_at, tree_of, roots_from}
+use Rattle.dwarf_entries.proofs.Results.ScopeOrder.{section-ok, described-ok, all_sites}
+use Rattle.dwarf_entries.proofs.Results.ScopePlaces.{judged_by, covering_at, make, from_judged}
+use Rattle.dwarf_entries.proofs.Results.ScopePlaces.{from_units, from_dies, from_tables}
+use Rattle.dwarf_entries.proofs.Results.ScopePlaces.{from_headers}
+
+-- ---- the results for each element of a list
+
+pub each-cons : {X Y : Type 0} (make : List Y → X → Result Y At) (before : List Y) (x : X)
+    (xs : List X) (y : Y) (ys : List Y) → each_from make before (x ∷ xs) ≡ Ok (y ∷ ys)
+    → (make before x ≡ Ok y) × (each_from make (before ++ y ∷ []) xs ≡ Ok ys)
+unfolding each_from
+each-cons {Y = Y} make before x xs y ys h =
+    let P : Type 0 = (make before x ≡ Ok y) × (each_from make (before ++ y ∷ []) xs ≡ Ok ys) in
+    after-bind (make before x) _ (y ∷ ys) h P (λ first first_is h1.
+    after-bind (each_from make (before ++ first ∷ []) xs) _ (y ∷ ys) h1 P (λ rest rest-is last.
+    both first rest first_is rest-is (same-ok (first ∷ rest) (y ∷ ys) last)))
+  where
+    both : (first : Y) (rest : List Y) → make before x ≡ Ok first
+        → each_from make (before ++ first ∷ []) xs ≡ Ok rest → first ∷ rest ≡ y ∷ ys
+        → (make before x ≡ Ok y) × (each_from make (before ++ y ∷ []) xs ≡ Ok ys)
+    both first rest a b same =
+        let first_is : first ≡ y = cc in
+        let rest-is : rest ≡ ys = cc in (
+          subst (λ (z : Y). make before x ≡ Ok z) first_is a,
+          subst (λ (z : Y). each_from make (before ++ z ∷ []) xs ≡ Ok ys) first_is
+              (subst (λ (zs : List Y). each_from make (before ++ first ∷ []) xs ≡ Ok zs) rest-is b),
+        )
+
+each-none : {X Y : Type 0} (make : List Y → X → Result Y At) (before : List Y) (x : X) (xs : List X)
+    → each_from make before (x ∷ xs) ≡ Ok [] → ⊥
+unfolding each_from
+each-none make before x xs h =
+    after-bind (make before x) _ [] h ⊥ (λ first _ h1.
+    after-bind (each_from make (before ++ first ∷ []) xs) _ [] h1 ⊥ (λ rest _ last.
+    cc))
+
+pub each-past : {X Y : Type 0} (make : List Y → X → Result Y At) (before : List Y) (y : Y)
+    (ys : List Y) → each_from make before [] ≡ Ok (y ∷ ys) → ⊥
+unfolding each_from
+each-past make before y ys h = cc
+
+-- ---- the parts of a scope, after the scopes before it
+
+pub record IsJudged (sections : Sections) (units : List CompilationUnit) (before : List ParsedScope)
+    (p : ScopeSite) (j : ParsedScope) : Type 0 where
+  pub found : EntryNames
+  pub found_are : names_of sections units p.member ≡ Ok found
+  pub covering : Covering
+  pub covering_is : covering_at sections before p ≡ Ok covering
+  pub is : judged_by before p found covering ≡ j
+
+is-parsed : (sections : Sections) (units : List CompilationUnit) (before : List ParsedScope)
+    (p : ScopeSite) (j : ParsedScope) → make sections units before p ≡ Ok j
+    → IsJudged sections units before p j
+is-parsed sections units before p j h =
+    let P : Type 0 = IsJudged sections units before p j in
+    after-bind (names_of sections units p.member)
+    (λ found. covering_at sections before p
+    >>= λ covering. Ok (judged_by before p found covering)) j
+    (described-ok p.member.die.offset (scope_at sections units before p) j h) P
+    (λ found found_are h1.
+    after-bind (covering_at sections before p) (λ covering. Ok (judged_by before p found covering))
+    j h1 P (λ covering covering_is last.
+    record {
+      found = found;
+      found_are = found_are;
+      covering = covering;
+      covering_is = covering_is;
+      is = same-ok (judged_by before p found covering) j last;
+    }))
+
+abbrev pub AreParsed : Sections → List CompilationUnit → List ParsedScope → List ScopeSite
+    → List ParsedScope
+    → Type 0
+AreParsed sections units before [] [] = Unit {0}
+AreParsed sections units before [] (j ∷ js) = ⊥
+AreParsed sections units before (p ∷ ps) [] = ⊥
+AreParsed sections units before (p ∷ ps) (j ∷ js) = IsJudged sections units before p j
+    × AreParsed sections units (before ++ j ∷ []) ps js
+
+are-parsed : (sections : Sections) (units : List CompilationUnit) (before : List ParsedScope)
+    (ps : List ScopeSite) (js : List ParsedScope) → each_from (make sections units) before ps
+    ≡ Ok js
+    → AreParsed sections units before ps js
+are-parsed sections units before [] [] h = tt
+are-parsed sections units before [] (j ∷ js) h =
+    absurd (each-past (make sections units) before j js h)
+are-parsed sections units before (p ∷ ps) [] h =
+    absurd (each-none (make sections units) before p ps h)
+are-parsed sections units before (p ∷ ps) (j ∷ js) h =
+    let parts = each-cons (make sections units) before p ps j js h in (
+      is-parsed sections units before p j parts.0,
+      are-parsed sections units (before ++ j ∷ []) ps js
+          parts.1,
+    )
+
+-- ---- the parts that the result was read from
+
+abbrev pub read_entries : Sections → List (List Die) → UnitHeader × List Declaration
+    → Result (List Die) At
+read_entries s before p = entries_of s.debug_info p.0 p.1
+
+abbrev pub read_unit : Sections → List CompilationUnit → UnitHeader × List Die
+    → Result CompilationUnit At
+read_unit s before p = unit_of s p.0 p.1
+
+pub record IsRead (s : Sections) (tree : Tree) : Type 0 where
+  pub headers : List UnitHeader
+  pub headers_are : units_of s.debug_info ≡ Ok headers
+  pub tables : List (List Declaration)
+  pub tables_are : tables_of s.debug_abbrev headers ≡ Ok tables
+  pub dies : List (List Die)
+  pub dies_are : each (read_entries s) (zip headers tables) ≡ Ok dies
+  pub units : List CompilationUnit
+  pub units_are : each (read_unit s) (zip headers dies) ≡ Ok units
+  pub parsed : List ParsedScope
+  pub judged_are : AreParsed s units [] (all_sites units) parsed
+  pub roots_are : roots_from 0 units ≡ tree.roots
+  pub scopes_are : map (λ j. j.scope) parsed ≡ tree.scopes
+
+pub is-read : (s : Sections) (tree : Tree) → tree_of s ≡ Ok tree → IsRead s tree
+unfolding tree_of
+is-read s tree h =
+    let P : Type 0 = IsRead s tree in
+    after-bind (in_section names.DebugInfo (units_of s.debug_info)) (from_headers s) tree h P
+    (λ headers headers_are h1.
+    after-bind (in_section names.DebugAbbrev (tables_of s.debug_abbrev headers))
+    (from_tables s headers) tree h1 P (λ tables tables_are h2.
+    after-bind (in_section names.DebugInfo (each (read_entries s) (zip headers tables)))
+    (from_dies s headers) tree h2 P (λ dies dies_are h3.
+    after-bind (in_section names.DebugInfo (each (read_unit s) (zip headers dies))) (from_units s)
+    tree h3 P (λ units units_are h4.
+    after-bind (in_section names.DebugInfo (each_from (make s units) [] (all_sites units)))
+    (from_judged units) tree h4 P (λ parsed judged_are last.
+    let same = same-ok (record { roots = roots_from 0 units; scopes = map (λ j. j.scope) parsed })
+    tree last in
+    record {
+      headers = headers;
+      headers_are = section-ok names.DebugInfo (units_of s.debug_info) headers headers_are;
+      tables = tables;
+      tables_are = section-ok names.DebugAbbrev (tables_of s.debug_abbrev headers) tables
+          tables_are;
+      dies = dies;
+      dies_are = section-ok names.DebugInfo (each (read_entries s) (zip headers tables)) dies
+          dies_are;
+      units = units;
+      units_are = section-ok names.DebugInfo (each (read_unit s) (zip headers dies)) units
+          units_are;
+      parsed = parsed;
+      judged_are = are-parsed s units [] (all_sites units) parsed
+          (section-ok names.DebugInfo (each_from (make s units) [] (all_sites units)) parsed
+          judged_are);
+      roots_are = ap (λ (t : Tree). t.roots) same;
+      scopes_are = ap (λ (t : Tree). t.scopes) same;
+    })))))

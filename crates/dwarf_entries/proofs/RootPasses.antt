@@ -1,0 +1,4 @@
+pub mod RootNumbers
+pub mod RootParts
+pub mod RootScopes
+pub mod RootsPass

@@ -1,0 +1,141 @@
+-- The iterations of the loop that returns the roots.
+use Rattle.std.proofs.Common.{◌≡◌, ℕ, ◌+◌, ◌<◌, ◌≤◌, List, [], ◌∷◌, ◌++◌, length, take, drop}
+use Rattle.std.proofs.Common.{get_or, map, refl, ap, sym, ◌∙◌, subst, arith, append_assoc}
+use Rattle.std.proofs.Common.{append-nil, drop-cons, add-one}
+use Rattle.std.specs.Prelude.{Option, Some, None, count_by, sum_by}
+use Rattle.std.proofs.lemmas.List.{drop_all, get_or-map, length-map, take_more, take-append-drop}
+use Rattle.std.proofs.lemmas.List.Sums.{sum_by-append}
+use Rattle.dwarf_entries.specs.declared.scope.Root.{Root}
+use Rattle.dwarf_walk.specs.declared.unit_entries.RootEntry.{RootEntry}
+use Rattle.dwarf_walk.specs.declared.unit_entries.UnitEntries.{UnitEntries}
+use Rattle.dwarf_units.specs.Entries.{Die}
+use Rattle.dwarf_entries.specs.Bases.{CompilationUnit}
+use Rattle.dwarf_walk.specs.ScopeEntries.{is_scope}
+use Rattle.dwarf_entries.specs.Scopes.{root_of, roots_from}
+use Rattle.dwarf_walk.specs.Private.Stored.{StoredUnit, root_in, stored_of}
+use Rattle.dwarf_entries.specs.Private.EntryOffsets.{scope_count}
+use Rattle.dwarf_entries.specs.Private.Passes.{stored_unit_of}
+use Rattle.dwarf_entries.proofs.ScopePasses.SiteLaws.{places-counted}
+
+-- The roots of the units before the index, followed by the roots of the other units, are all
+-- roots.
+abbrev pub RootsSoFar : List CompilationUnit → ℕ → ℕ → List Root → Type 0
+RootsSoFar us index first roots = roots ++ roots_from first (drop index us) ≡ roots_from 0 us
+
+-- The specified unit at an index.
+record RootAt (us : List CompilationUnit) (index : ℕ) (unit : UnitEntries) : Type 0 where
+  pub u : CompilationUnit
+  pub rest : drop index us ≡ u ∷ drop (index + 1) us
+  pub root_is : unit.root ≡ root_in u.dies
+  pub count : length unit.scopes.items ≡ count_by is_scope u.dies
+
+root-at : (units : List UnitEntries) (us : List CompilationUnit) (index : ℕ) (unit : UnitEntries)
+    → map stored_of units ≡ map stored_unit_of us → index < length units
+    → unit ≡ get_or units index unit → RootAt us index unit
+root-at units us index unit same within is =
+    let sizes : length units ≡ length us = sym (length-map units stored_of)
+    ∙ (ap (λ (ks : List StoredUnit). length ks) same ∙ length-map us stored_unit_of) in
+    let inside : index < length us = omega (arith, sizes, within) in
+    let d : CompilationUnit = record {
+      header = unit.header;
+      dies = [];
+      bases =
+          record { str_offsets = None; addr = None; rnglists = None; low_pc = None };
+    } in
+    let u : CompilationUnit = get_or us index d in
+    let here : stored_of unit ≡ stored_unit_of u =
+    ap stored_of is ∙ (sym (get_or-map stored_of units index unit (stored_of unit) within)
+    ∙ (ap (λ (ks : List StoredUnit). get_or ks index (stored_of unit)) same
+    ∙ get_or-map stored_unit_of us index d (stored_of unit) inside)) in
+    record {
+      u = u;
+      rest = rw (add-one, drop-cons us index d inside) refl;
+      root_is = ap (λ (k : StoredUnit). k.root) here;
+      count = ap (λ (k : StoredUnit). length k.scopes) here ∙ places-counted u.dies;
+    }
+
+-- The sum of the numbers of scopes up to the next index.
+pub count-within : (units : List UnitEntries) (index : ℕ) (unit : UnitEntries) (first : ℕ)
+    → first ≡ scope_count (take index units) → index < length units → unit ≡ get_or units index unit
+    → first + length unit.scopes.items ≡ scope_count (take (index + 1) units)
+count-within units index unit first first_is within is =
+    let f : UnitEntries → ℕ = λ unit. length unit.scopes.items in
+    let taken : take (index + 1) units ≡ take index units ++ unit ∷ [] =
+    take_more units index unit within ∙ ap (λ (u : UnitEntries). take index units ++ u ∷ [])
+    (sym is) in
+    let sum : sum_by f (take index units ++ unit ∷ []) ≡ sum_by f (take index units) + f unit =
+    sum_by-append f (take index units) (unit ∷ []) ∙ omega arith in
+    omega (arith, first_is, sum, ap (λ (us : List UnitEntries). sum_by f us) taken)
+
+pub count_fits : (units : List UnitEntries) (index : ℕ)
+    → scope_count (take index units) ≤ scope_count units
+count_fits units index =
+    let f : UnitEntries → ℕ = λ unit. length unit.scopes.items in
+    let whole : sum_by f (take index units ++ drop index units) ≡ sum_by f (take index units) +
+    sum_by f (drop index units) = sum_by-append f (take index units) (drop index units) in
+    let same : sum_by f (take index units ++ drop index units) ≡ sum_by f units =
+    ap (λ (us : List UnitEntries). sum_by f us) (take-append-drop index units) in
+    omega (arith, whole, same)
+
+-- The root of a unit, if there is one.
+abbrev pub root_list : ℕ → ℕ → Option RootEntry → List Root
+root_list first past None = []
+root_list first past (Some root) = record
+    { offset = root.offset; stmt_list = root.stmt_list; first = first; past = past } ∷ []
+
+root_of-is : (first past : ℕ) (dies : List Die) (roots : List Root) → root_of first past dies roots
+    ≡ root_list first past (root_in dies) ++ roots
+root_of-is first past [] roots = refl
+root_of-is first past (root ∷ dies) roots = refl
+
+pub roots-next : (units : List UnitEntries) (us : List CompilationUnit) (index first : ℕ)
+    (unit : UnitEntries) (roots : List Root) → map stored_of units ≡ map stored_unit_of us
+    → index < length units → unit ≡ get_or units index unit
+    → RootsSoFar us index first roots → RootsSoFar us (index + 1) (first + length unit.scopes.items)
+    (roots ++ root_list first (first + length unit.scopes.items) unit.root)
+roots-next units us index first unit roots same within is so_far =
+    let here = root-at units us index unit same within is in
+    let past : ℕ = first + length unit.scopes.items in
+    let list : List Root = root_list first past unit.root in
+    let behind : roots_from first (here.u ∷ drop (index + 1) us)
+    ≡ root_list first (first + count_by is_scope here.u.dies) (root_in here.u.dies)
+    ++ roots_from (first + count_by is_scope here.u.dies) (drop (index + 1) us) =
+    root_of-is first (first + count_by is_scope here.u.dies) here.u.dies
+    (roots_from (first + count_by is_scope here.u.dies) (drop (index + 1) us)) in
+    let described : roots_from first (here.u ∷ drop (index + 1) us) ≡ list
+    ++ roots_from past (drop (index + 1) us) =
+    behind
+    ∙ (ap (λ (r : Option RootEntry). root_list first (first + count_by is_scope here.u.dies) r
+    ++ roots_from (first + count_by is_scope here.u.dies) (drop (index + 1) us))
+    (sym here.root_is)
+    ∙ ap (λ (k : ℕ). root_list first (first + k) unit.root
+    ++ roots_from (first + k) (drop (index + 1) us)) (sym here.count)) in
+    append_assoc roots list (roots_from past (drop (index + 1) us))
+    ∙ (ap (λ (rs : List Root). roots ++ rs) (sym described)
+    ∙ (ap (λ (vs : List CompilationUnit). roots ++ roots_from first vs) (sym here.rest)
+    ∙ so_far))
+
+-- An iteration, with machine integers.
+pub roots-turn : (units : List UnitEntries) (us : List CompilationUnit) (index first past : ℕ)
+    (unit : UnitEntries) (found : Option RootEntry) (roots : List Root)
+    → map stored_of units ≡ map stored_unit_of us → index < length units
+    → unit ≡ get_or units index unit
+    → RootsSoFar us index first roots → past ≡ first + unit.scopes.len → unit.root ≡ found
+    → RootsSoFar us (index + 1) past (roots ++ root_list first past found)
+roots-turn units us index first past unit found roots same within is so_far past_is found_is =
+    let past_there : first + length unit.scopes.items ≡ past =
+    omega (arith, past_is, unit.scopes.ok.0) in
+    subst (λ (f : Option RootEntry). RootsSoFar us (index + 1) past
+    (roots ++ root_list first past f)) found_is
+    (subst (λ (k : ℕ). RootsSoFar us (index + 1) k (roots ++ root_list first k unit.root))
+    past_there (roots-next units us index first unit roots same within is so_far))
+
+pub roots-end : (units : List UnitEntries) (us : List CompilationUnit) (index first : ℕ)
+    (roots : List Root) → map stored_of units ≡ map stored_unit_of us → length units ≤ index
+    → RootsSoFar us index first roots → roots ≡ roots_from 0 us
+roots-end units us index first roots same past so_far =
+    let sizes : length units ≡ length us = sym (length-map units stored_of)
+    ∙ (ap (λ (ks : List StoredUnit). length ks) same ∙ length-map us stored_unit_of) in
+    let none : drop index us ≡ [] = drop_all index us (omega (arith, sizes, past)) in
+    sym (append-nil roots) ∙ (ap (λ (vs : List CompilationUnit). roots ++ roots_from first vs)
+    (sym none) ∙ so_far)

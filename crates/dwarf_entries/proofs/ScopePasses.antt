@@ -1,0 +1,8 @@
+pub mod DataLaws
+pub mod PushedScopes
+pub mod ScopeLaws
+pub mod ScopesEnds
+pub mod ScopesPass
+pub mod SharedLaws
+pub mod SiteLaws
+pub mod UnitsPass

@@ -1,0 +1,71 @@
+-- The data of scopes: in the scope itself, and through the list of scopes.
+use Rattle.std.proofs.Common.{◌≡◌, ℕ, zero, suc, ◌+◌, List, [], ◌∷◌, map, refl, ap, sym, ◌∙◌, arith}
+use Rattle.std.specs.Prelude.{Option, Some, None, length, slice_get, option_map}
+use Rattle.std.specs.Option.{option_map_or, option_and_then}
+use Rattle.std.proofs.lemmas.Option.{slice_get-map}
+use Rattle.dwarf_entries.specs.declared.calls.CallSite.{CallSite}
+use Rattle.dwarf_entries.specs.declared.scope.Range.{Range}
+use Rattle.dwarf_entries.specs.declared.scope.Root.{Root}
+use Rattle.dwarf_entries.specs.declared.scope.Scope.{Scope as StoredScope}
+use Rattle.dwarf_entries.specs.Scopes.{Scope, Own, own, own_of, scopes_from}
+use Rattle.dwarf_entries.specs.Order.{AreNumbered, AreInOrder, HasDataOf}
+
+pub own-stored : (roots : List Root) (wide : List CallSite) (ranges : List Range) (first : ℕ)
+    (ss : List StoredScope) → map own_of ss ≡ map own (scopes_from roots wide ranges first ss)
+own-stored roots wide ranges first [] = refl
+own-stored roots wide ranges first (s ∷ ss) =
+    ap (λ (os : List Own). own_of s ∷ os) (own-stored roots wide ranges s.ranges_end ss)
+
+-- The number of the scope at an index.
+number-at : (first total i : ℕ) (ss : List Scope) (s : Scope) → AreNumbered first total ss
+    → slice_get ss i ≡ Some s → s.number ≡ first + i
+number-at first total i [] s are found = cc
+number-at first total zero (t ∷ ss) s are found =
+    let same : t ≡ s = some-same found in
+    ap (λ (x : Scope). x.number) (sym same) ∙ (are.0 ∙ omega arith)
+  where
+    some-same : {x y : Scope} → (let f : Scope → Option Scope = λ z. Some z in f x ≡ f y) → x ≡ y
+    some-same h = cc
+number-at first total (suc i) (t ∷ ss) s are found = number-at (suc first) total i ss s are.3 found
+    ∙ omega arith
+
+-- The scope that has the same data in itself as the stored one.
+own-found : (o : Option Scope) (k : StoredScope) → option_map own o ≡ Some (own_of k)
+    → (s : Scope) × (o ≡ Some s) × (own_of k ≡ own s)
+own-found None k h = cc
+own-found (Some s) k h = (s, refl, sym (some-same h))
+  where
+    some-same : {x y : Own} → (let f : Own → Option Own = λ z. Some z in f x ≡ f y) → x ≡ y
+    some-same h = cc
+
+pub tells-of : (scopes : List Scope) (stored : List StoredScope) (place : ℕ) (k : StoredScope)
+    → AreInOrder scopes
+    → map own_of stored ≡ map own scopes → slice_get stored place ≡ Some k
+    → (s : Scope) × (slice_get scopes place ≡ Some s) × HasDataOf scopes k s
+tells-of scopes stored place k order same found =
+    let own_there : option_map own (slice_get scopes place) ≡ Some (own_of k) =
+    sym (slice_get-map own scopes place)
+    ∙ (ap (λ (os : List Own). slice_get os place) (sym same)
+    ∙ (slice_get-map own_of stored place ∙ ap (λ (o : Option StoredScope). option_map own_of o)
+    found))
+    in
+    let there = own-found (slice_get scopes place) k own_there in
+    let s = there.0 in
+    let number : (own_of k).number ≡ place = ap (λ (o : Own). o.number) there.2
+    ∙ (number-at 0 (length scopes) place scopes s order.numbered there.1 ∙ omega arith) in
+    let at : slice_get scopes (own_of k).number ≡ Some s = ap (λ (n : ℕ). slice_get scopes n) number
+    ∙ there.1 in (
+      s,
+      there.1,
+      record {
+        own_is = there.2;
+        ranges_are = described at;
+        stmt_list_is = ap (λ (o : Option Scope). option_and_then (λ (t : Scope). t.stmt_list) o) at;
+        call_file_is = ap (λ (o : Option Scope). option_and_then (λ (t : Scope). t.call_file) o) at;
+        call_line_is = ap (λ (o : Option Scope). option_and_then (λ (t : Scope). t.call_line) o) at;
+      },
+    )
+  where
+    described : {o : Option Scope} {s : Scope} → o ≡ Some s
+        → option_map_or (λ (t : Scope). t.ranges) o [] ≡ s.ranges
+    described at = ap (λ (o : Option Scope). option_map_or (λ (t : Scope). t.ranges) o []) at

@@ -1,0 +1,172 @@
+-- One more scope after those that share lists.
+use Rattle.std.proofs.Common.{◌≡◌, ℕ, ◌+◌, ◌-◌, ◌≤◌, List, [], ◌∷◌, ◌++◌, length, take, drop, refl}
+use Rattle.std.proofs.Common.{ap, sym, ◌∙◌, subst, arith, append-nil, length-append}
+use Rattle.std.specs.Prelude.{None}
+use Rattle.std.proofs.lemmas.List.{take-append-le, drop-append-le, get_or_append_left, length-drop}
+use Rattle.std.proofs.lemmas.Option.{unwrap_or-slice_get}
+use Rattle.std.proofs.Math.Seq.{drop-append_seam, take-append_seam}
+use Rattle.dwarf_entries.specs.declared.calls.CallSite.{CallSite}
+use Rattle.dwarf_entries.specs.declared.calls.Calls.{Calls}
+use Rattle.dwarf_entries.specs.declared.calls.Calls.TheVariants as calls
+use Rattle.dwarf_entries.specs.declared.scope.Range.{Range}
+use Rattle.dwarf_entries.specs.declared.scope.Root.{Root}
+use Rattle.dwarf_entries.specs.declared.scope.Scope.{Scope as StoredScope}
+use Rattle.dwarf_entries.specs.declared.scope.ScopeFacts.{ScopeFacts}
+use Rattle.dwarf_entries.specs.declared.scope_lists.ScopeLists.{ScopeLists}
+use Rattle.dwarf_entries.specs.Scopes.{Scope, call_site, scope_by_parts, scope_of, scopes_from}
+use Rattle.dwarf_entries.specs.Scopes.{scopes_of}
+use Rattle.dwarf_entries.specs.Private.Shared.{IsInList, AreConsecutive, facts_of, IsPushed}
+
+-- ---- one more scope
+
+in_list-within : (many first past : ℕ) (ss : List StoredScope) → AreConsecutive many first past ss
+    → first ≤ past
+in_list-within many first past [] in_list = omega (arith, in_list)
+in_list-within many first past (s ∷ ss) in_list =
+    omega (arith, in_list.0, in_list-within many s.ranges_end past ss in_list.2)
+
+-- A slice of a list does not change when elements are appended.
+stretch-stays : (ranges new : List Range) (first end : ℕ) → first ≤ end → end ≤ length ranges
+    → take (end - first) (drop first (ranges ++ new)) ≡ take (end - first) (drop first ranges)
+stretch-stays ranges new first end rises within =
+    let left : length (drop first ranges) ≡ length ranges - first = length-drop first ranges in
+    ap (λ (rs : List Range). take (end - first) rs)
+    (drop-append-le first ranges new (omega (arith, rises, within)))
+    ∙ take-append-le (end - first) (drop first ranges) new (omega (arith, left, rises, within))
+
+-- The appended elements are the slice after it.
+stretch-new : (ranges new : List Range) (first end : ℕ) → first ≡ length ranges
+    → end ≡ length ranges + length new → take (end - first) (drop first (ranges ++ new)) ≡ new
+stretch-new ranges new first end first_is end_is =
+    let size : end - first ≡ length new = omega (arith, first_is, end_is) in
+    ap (λ (k : ℕ). take k (drop first (ranges ++ new))) size
+    ∙ (ap (λ (k : ℕ). take (length new) (drop k (ranges ++ new))) first_is
+    ∙ (ap (λ (rs : List Range). take (length new) rs) (drop-append_seam ranges new)
+    ∙ (ap (λ (rs : List Range). take (length new) rs) (sym (append-nil new))
+    ∙ take-append_seam new [])))
+
+-- A call site does not change when the list of wide ones grows.
+call-stays : (wide more : List CallSite) (c : Calls) (file line : ℕ) → IsInList (length wide) c file
+    → call_site (wide ++ more) c file line ≡ call_site wide c file line
+call-stays wide more calls.Missing file line in_list = refl
+call-stays wide more calls.File file line in_list = refl
+call-stays wide more calls.Line file line in_list = refl
+call-stays wide more calls.Both file line in_list = refl
+call-stays wide more calls.Wide file line in_list =
+    let d : CallSite = record { file = None; line = None } in
+    unwrap_or-slice_get (wide ++ more) file d
+    ∙ (get_or_append_left wide more d file in_list ∙ sym (unwrap_or-slice_get wide file d))
+
+pub scopes-push : (roots : List Root) (wide more : List CallSite) (ranges new : List Range)
+    (first : ℕ) (ss : List StoredScope) (s : StoredScope) → AreConsecutive (length wide) first
+    (length ranges) ss
+    → s.ranges_end ≡ length ranges + length new
+    → scopes_from roots (wide ++ more) (ranges ++ new) first (ss ++ s ∷ [])
+    ≡ scopes_from roots wide ranges first ss ++ scope_of roots (wide ++ more) new s ∷ []
+scopes-push roots wide more ranges new first [] s in_list ends =
+    ap (λ (rs : List Range). scope_of roots (wide ++ more) rs s ∷ [])
+    (stretch-new ranges new first s.ranges_end in_list ends)
+scopes-push roots wide more ranges new first (t ∷ ts) s in_list ends =
+    let past = in_list-within (length wide) t.ranges_end (length ranges) ts in_list.2 in
+    let cut : take (t.ranges_end - first) (drop first (ranges ++ new)) ≡ take (t.ranges_end - first)
+    (drop first ranges) = stretch-stays ranges new first t.ranges_end in_list.0 past in
+    let here : scope_of roots (wide ++ more)
+    (take (t.ranges_end - first) (drop first (ranges ++ new))) t
+    ≡ scope_of roots wide (take (t.ranges_end - first) (drop first ranges)) t =
+    ap (λ (rs : List Range). scope_of roots (wide ++ more) rs t) cut
+    ∙ ap (λ (c : CallSite). scope_by_parts roots c (take (t.ranges_end - first) (drop first ranges))
+    t) (call-stays wide more t.calls t.call_file t.call_line in_list.1) in
+    ap (λ (x : Scope). x ∷ scopes_from roots (wide ++ more) (ranges ++ new) t.ranges_end
+    (ts ++ s ∷ [])) here
+    ∙ ap (λ (xs : List Scope). scope_of roots wide (take (t.ranges_end - first) (drop first ranges))
+    t ∷ xs) (scopes-push roots wide more ranges new t.ranges_end ts s in_list.2 ends)
+
+more-in_list : (many more : ℕ) (c : Calls) (place : ℕ) → IsInList many c place
+    → IsInList (many + more) c place
+more-in_list many more calls.Missing place in_list = tt
+more-in_list many more calls.File place in_list = tt
+more-in_list many more calls.Line place in_list = tt
+more-in_list many more calls.Both place in_list = tt
+more-in_list many more calls.Wide place in_list = omega (arith, in_list)
+
+pub in_list-push : (many more first past new : ℕ) (ss : List StoredScope) (s : StoredScope)
+    → AreConsecutive many first past ss → s.ranges_end ≡ past + new
+    → IsInList (many + more) s.calls s.call_file
+    → AreConsecutive (many + more) first (past + new) (ss ++ s ∷ [])
+in_list-push many more first past new [] s in_list ends inside = (
+  omega (arith, in_list, ends),
+  inside,
+  ends,
+)
+in_list-push many more first past new (t ∷ ts) s in_list ends inside = (
+  in_list.0,
+  more-in_list many more t.calls t.call_file in_list.1,
+  in_list-push many more t.ranges_end past
+      new ts s in_list.2 ends inside,
+)
+
+-- The contents of the lists after one more scope.
+pub record Pushed (roots : List Root) (old new : ScopeLists) (scope : Scope) : Type 0 where
+  pub described : scopes_of roots new ≡ scopes_of roots old ++ scope ∷ []
+  pub in_list : AreConsecutive (length new.wide.items) 0 (length new.ranges.items) new.scopes.items
+
+same-scopes : (roots : List Root) {w v : List CallSite} {r q : List Range} {s t : List StoredScope}
+    → w ≡ v
+    → r ≡ q → s ≡ t → scopes_from roots w r 0 s ≡ scopes_from roots v q 0 t
+same-scopes roots {w = w} {v = v} {r = r} {q = q} {s = s} {t = t} a b c =
+    ap (λ (x : List CallSite). scopes_from roots x r 0 s) a
+    ∙ (ap (λ (x : List Range). scopes_from roots v x 0 s) b
+    ∙ ap (λ (x : List StoredScope). scopes_from roots v q 0 x) c)
+
+pub pushed : (roots : List Root) (old mid new : ScopeLists) (found : List Range)
+    (facts : ScopeFacts) → AreConsecutive (length old.wide.items) 0 (length old.ranges.items)
+    old.scopes.items
+    → mid.scopes.items ≡ old.scopes.items → mid.wide.items ≡ old.wide.items
+    → mid.ranges.items ≡ old.ranges.items ++ found → IsPushed facts mid new
+    → Pushed roots old new (facts_of roots found facts)
+pushed roots old mid new found facts in_list scopes_stay wide_stays ranges_grow is =
+    let s : StoredScope = is.s in
+    let more : List CallSite = is.packs.more in
+    let wide : new.wide.items ≡ old.wide.items ++ more =
+    is.packs.added ∙ ap (λ (w : List CallSite). w ++ more) wide_stays in
+    let ranges : new.ranges.items ≡ old.ranges.items ++ found = is.ranges ∙ ranges_grow in
+    let scopes : new.scopes.items ≡ old.scopes.items ++ s ∷ [] =
+    is.scopes ∙ ap (λ (ss : List StoredScope). ss ++ s ∷ []) scopes_stay in
+    let ends : s.ranges_end ≡ length old.ranges.items + length found =
+    omega (
+      arith,
+      is.packs.ends,
+      ap (λ (rs : List Range). length rs) ranges_grow,
+      length-append old.ranges.items found,
+    ) in
+    let counted : length new.wide.items ≡ length old.wide.items + length more =
+    omega (arith, ap (λ (w : List CallSite). length w) wide, length-append old.wide.items more)
+    in
+    let sized : length new.ranges.items ≡ length old.ranges.items + length found =
+    omega (
+      arith,
+      ap (λ (rs : List Range). length rs) ranges,
+      length-append old.ranges.items
+          found,
+    ) in
+    let inside : IsInList (length old.wide.items + length more) s.calls s.call_file =
+    subst (λ (k : ℕ). IsInList k s.calls s.call_file) counted is.packs.in_list in
+    let behind = in_list-push (length old.wide.items) (length more) 0 (length old.ranges.items)
+    (length found) old.scopes.items s in_list ends inside in
+    let described : scope_of roots (old.wide.items ++ more) found s ≡ facts_of roots found facts =
+    ap (λ (w : List CallSite). scope_of roots w found s) (sym wide)
+    ∙ is.packs.tells roots found in
+    record {
+      described = same-scopes roots wide ranges scopes
+          ∙ (scopes-push roots old.wide.items more old.ranges.items found 0 old.scopes.items
+          s in_list
+          ends ∙ ap (λ (x : Scope). scopes_of roots old ++ x ∷ []) described);
+      in_list = subst (λ (ss : List StoredScope). AreConsecutive (length new.wide.items) 0
+          (length new.ranges.items)
+          ss) (sym scopes)
+          (subst (λ (k : ℕ). AreConsecutive k 0 (length new.ranges.items) (old.scopes.items
+          ++ s ∷ []))
+          (sym counted)
+          (subst (λ (k : ℕ). AreConsecutive (length old.wide.items + length more) 0 k
+          (old.scopes.items ++ s ∷ [])) (sym sized) behind));
+    }

@@ -1,0 +1,196 @@
+-- The iterations of the pass over the scopes of all units.
+use Rattle.std.proofs.Common.{◌≡◌, ℕ, ◌+◌, ◌<◌, ◌≤◌, ◌⊎◌, inl, inr, zero, suc, List, [], ◌∷◌, ◌++◌}
+use Rattle.std.proofs.Common.{length, drop, get_or, refl, ap, sym, ◌∙◌, arith}
+use Rattle.std.specs.Prelude.{Result, Ok, Err, Some, None, slice_get, sum_by}
+use Rattle.std.proofs.lemmas.List.{map-append, length-map}
+use Rattle.std.proofs.lemmas.List.Sums.{sum_by-append}
+use Rattle.std.proofs.lemmas.Option.{slice_get_cases}
+use Rattle.dwarf_bytes.specs.declared.fault.Cause.{Cause}
+use Rattle.dwarf_bytes.specs.Items.{At, with_offset, each_from}
+use Rattle.dwarf_bytes.specs.Refusals.{at_item}
+use Rattle.dwarf_bytes.proofs.Numbers.Moves.{same-ok}
+use Rattle.dwarf_units.specs.declared.unit_headers.UnitHeader.{UnitHeader}
+use Rattle.dwarf_forms.specs.Tables.{declarations_of}
+use Rattle.dwarf_units.specs.Units.{declarations_limit}
+use Rattle.dwarf_walk.specs.Private.Rereading.{scope_entry_at}
+use Rattle.dwarf_entries.specs.Private.EntryOffsets.{IsReadIn}
+use Rattle.dwarf_entries.proofs.UnitPasses.RereadLaws.{bytes_in, scope-there}
+use Rattle.dwarf_bytes.proofs.Items.EachLaws.{made_front, each-next}
+use Rattle.dwarf_entries.specs.declared.bases.Bases.{Bases}
+use Rattle.dwarf_walk.specs.declared.unit_entries.UnitEntries.{UnitEntries}
+use Rattle.dwarf_walk.specs.declared.unit_entries.ScopeEntry.{ScopeEntry}
+use Rattle.dwarf_walk.specs.declared.unit_entries.ScopePlace.{ScopePlace}
+use Rattle.dwarf_entries.specs.declared.scope.Root.{Root}
+use Rattle.dwarf_entries.specs.declared.scope.ScopeFacts.{ScopeFacts}
+use Rattle.dwarf_entries.specs.declared.scope_lists.ScopeLists.{ScopeLists}
+use Rattle.dwarf_entries.specs.declared.unit_scopes.ScopeNumbers.{ScopeNumbers}
+use Rattle.dwarf_units.specs.Entries.{Die}
+use Rattle.dwarf_entries.specs.Private.Shared.{AddsFacts, facts_of, IsPushed}
+use Rattle.dwarf_entries.proofs.ScopePasses.SharedLaws.{scopes-length}
+use Rattle.dwarf_entries.proofs.ScopePasses.PushedScopes.{pushed}
+use Rattle.dwarf_entries.proofs.RootPasses.RootNumbers.{rooted}
+use Rattle.dwarf_walk.specs.Sections.{Sections}
+use Rattle.dwarf_entries.specs.Bases.{CompilationUnit}
+use Rattle.dwarf_entries.specs.Scopes.{scope_at, ParsedScope, ScopeSite, Scope, sites_in}
+use Rattle.dwarf_entries.specs.Scopes.{stmt_list_of, roots_from}
+use Rattle.dwarf_entries.specs.Private.Passes.{AreUnits, IsRootOf, IsScopeSite, parse_scope}
+use Rattle.dwarf_entries.specs.Private.Passes.{AreParsed}
+use Rattle.dwarf_walk.specs.Private.Stored.{StoredUnit, scope_entry, scope_places, stored_of}
+use Rattle.dwarf_entries.proofs.ScopePasses.ScopeLaws.{kept_in, unit_at}
+use Rattle.dwarf_entries.proofs.ScopePasses.SiteLaws.{SiteAt}
+
+-- A unit of the program is one of the specified units.
+pub known-unit : (units : List UnitEntries) (bases : List Bases) (us : List CompilationUnit)
+    (unit : ℕ) → AreUnits units bases us → unit < length units
+    → (u : CompilationUnit) × (slice_get us unit ≡ Some u)
+known-unit units bases us unit are within = by_case ((slice_get_cases us unit).1)
+  where
+    by_case : ((x : CompilationUnit) × (unit < length us) × (slice_get us unit ≡ Some x)
+        × (get_or us unit x ≡ x)) ⊎ ((length us ≤ unit) × (slice_get us unit ≡ None))
+        → (u : CompilationUnit) × (slice_get us unit ≡ Some u)
+    by_case (inl (x, inside, found, is)) = (x, found)
+    by_case (inr (past, none)) =
+        let sizes : length units ≡ length us = sym (length-map units stored_of)
+        ∙ (ap (λ (ks : List StoredUnit). length ks) are.same ∙ length-map us kept_in) in
+        absurd (omega (arith, sizes, within, past))
+
+pub kept-there : (units : List UnitEntries) (bases : List Bases) (us : List CompilationUnit)
+    (unit : ℕ) (u : CompilationUnit) (d : UnitEntries) → AreUnits units bases us
+    → slice_get us unit ≡ Some u → (get_or units unit d).scopes.items ≡ scope_places u.dies
+kept-there units bases us unit u d are found =
+    ap (λ (k : StoredUnit). k.scopes) ((unit_at units bases us unit u are found).entries_are d)
+
+-- The scopes of a unit before the index, after the scopes of the units before it.
+pub record JudgedSoFar (s : Sections) (us : List CompilationUnit) (u : CompilationUnit)
+    (before : List ParsedScope) (index : ℕ) (lists : ScopeLists) (left : ℕ) : Type 0 where
+  pub parsed : List ParsedScope
+  pub are_parsed : AreParsed (roots_from 0 us) parsed lists left
+  pub read : made_front parsed (each_from (parse_scope s us) parsed
+      (drop index (sites_in u u.dies)))
+      ≡ made_front before (each_from (parse_scope s us) before (sites_in u u.dies))
+
+pub judged-none : (s : Sections) (us : List CompilationUnit) (u : CompilationUnit)
+    (before : List ParsedScope) (lists : ScopeLists) (left : ℕ)
+    → AreParsed (roots_from 0 us) before lists left → JudgedSoFar s us u before 0 lists left
+judged-none s us u before lists left are = record { parsed = before; are_parsed = are; read = refl }
+
+-- A unit with a scope has entries.
+has_entries : (u : CompilationUnit) (dies : List Die) (index : ℕ) (p : ScopeSite)
+    (ps : List ScopeSite) → drop index (sites_in u dies) ≡ p ∷ ps → (die : Die) × (rest : List Die)
+    × (dies ≡ die ∷ rest)
+has_entries u [] zero p ps h = cc
+has_entries u [] (suc index) p ps h = cc
+has_entries u (die ∷ rest) index p ps h = (die, rest, refl)
+
+-- The list has as many scopes as were resolved.
+judged-count : (roots : List Root) (parsed : List ParsedScope) (lists : ScopeLists) (left : ℕ)
+    → AreParsed roots parsed lists left → length lists.scopes.items ≡ length parsed
+judged-count roots parsed lists left are =
+    sym (scopes-length roots lists.wide.items lists.ranges.items 0 lists.scopes.items)
+    ∙ (ap (λ (ss : List Scope). length ss) are.described ∙ length-map parsed (λ j. j.scope))
+
+-- The facts about the scope at an index: its site, the header of its unit, and the declarations of
+-- its table.
+pub record PlaceKnown (s : Sections) (u : CompilationUnit) (index : ℕ) (stored : ScopePlace)
+    (header : UnitHeader) : Type 0 where
+  pub site : SiteAt u index stored
+  pub same : header ≡ u.header
+  pub read : IsReadIn s u
+  pub table_is : declarations_of declarations_limit s.debug_abbrev header.abbreviations
+      ≡ Ok read.table
+
+-- The scope can be re-read from the stored data of its unit.
+pub entry-there : (s : Sections) (u : CompilationUnit) (index : ℕ) (stored : ScopePlace)
+    (header : UnitHeader) (known : PlaceKnown s u index stored header)
+    → scope_entry_at header.format known.read.table (bytes_in s header) stored.offset
+    ≡ Ok (scope_entry known.site.place.member.die known.site.place.kind)
+entry-there s u index stored header known =
+    let p = known.site in
+    let table = known.read.table in
+    ap (λ (h : UnitHeader). scope_entry_at h.format table (bytes_in s h) stored.offset) known.same
+    ∙ (ap (λ (k : ℕ). scope_entry_at u.header.format table (bytes_in s u.header) k) p.offset_is
+    ∙ scope-there s u p.stands.index p.place.member.die p.place.kind known.read p.stands.there
+    p.stands.kind_is)
+
+-- The site of a scope, after the scopes before it.
+pub is-place : (s : Sections) (us : List CompilationUnit) (u : CompilationUnit)
+    (before : List ParsedScope) (numbers : ScopeNumbers) (index : ℕ) (lists : ScopeLists) (left : ℕ)
+    (stored : ScopePlace) (header : UnitHeader) (entry : ScopeEntry)
+    → (so_far : JudgedSoFar s us u before index lists left)
+    → slice_get us numbers.unit ≡ Some u → IsRootOf us numbers.root u
+    → (known : PlaceKnown s u index stored header) → numbers.number ≡ length lists.scopes.items
+    → numbers.inside ≡ stored.inside
+    → scope_entry_at header.format known.read.table (bytes_in s header) stored.offset ≡ Ok entry
+    → IsScopeSite us numbers entry left so_far.parsed known.site.place
+is-place s us u before numbers index lists left stored header entry so_far found rooted known
+    number_is descendants_are again =
+    let p = known.site in
+    let sizes = judged-count (roots_from 0 us) so_far.parsed lists left so_far.are_parsed in
+    let dies = has_entries u u.dies index p.place (drop (index + 1) (sites_in u u.dies)) p.rest in
+    record {
+      unit_is = found ∙ ap (λ (v : CompilationUnit). Some v) (sym p.stands.unit_is);
+      root_is = rooted dies.0 dies.1 dies.2 ∙ ap (λ (v : CompilationUnit). stmt_list_of v.dies)
+          (sym p.stands.unit_is);
+      entry_is = same-ok entry (scope_entry p.place.member.die p.place.kind)
+          (sym again ∙ entry-there s u index stored header known);
+      descendants_are = descendants_are ∙ p.descendants_are;
+      number_is = omega (arith, number_is, sizes);
+      budget_is = omega (arith, so_far.are_parsed.counted);
+    }
+
+pub judged-next : (s : Sections) (us : List CompilationUnit) (u : CompilationUnit)
+    (before : List ParsedScope) (index : ℕ) (lists mid new : ScopeLists) (left after : ℕ)
+    (stored : ScopePlace) (items : ℕ) (facts : ScopeFacts)
+    → (so_far : JudgedSoFar s us u before index lists left) (p : SiteAt u index stored)
+    → AddsFacts (roots_from 0 us) (Ok (facts, items)) lists.ranges.items mid.ranges.items
+    (scope_at s us so_far.parsed p.place)
+    → mid.scopes.items ≡ lists.scopes.items → mid.wide.items ≡ lists.wide.items
+    → IsPushed facts mid new → after + items ≡ left
+    → JudgedSoFar s us u before (index + 1) new after
+judged-next s us u before index lists mid new left after stored items facts so_far p
+    (found, read, grown) scopes_stay wide_stays is counted =
+    let parsed = so_far.parsed in
+    let places = sites_in u u.dies in
+    let roots : List Root = roots_from 0 us in
+    let one : ParsedScope = record { scope = facts_of roots found facts; items = items } in
+    let here : parse_scope s us parsed p.place ≡ Ok one =
+    ap (λ (r : Result ParsedScope Cause). with_offset p.place.member.die.offset r) read in
+    let sum : sum_by (λ j. j.items) (parsed ++ one ∷ []) ≡ sum_by (λ j. j.items) parsed + items =
+    sum_by-append (λ j. j.items) parsed (one ∷ []) ∙ omega arith in
+    let behind = pushed roots lists mid new found facts so_far.are_parsed.in_list scopes_stay
+    wide_stays grown is in
+    record {
+      parsed = parsed ++ one ∷ [];
+      are_parsed = record {
+        described = behind.described ∙ (ap (λ (ss : List Scope). ss ++ facts_of roots found facts
+            ∷ [])
+            so_far.are_parsed.described ∙ sym (map-append (λ j. j.scope) parsed (one ∷ [])));
+        in_list = behind.in_list;
+        counted = omega (arith, so_far.are_parsed.counted, counted, sum);
+      };
+      read = sym (each-next (parse_scope s us) parsed p.place (drop (index + 1) places) one here)
+          ∙ (ap (λ (ps : List ScopeSite). made_front parsed (each_from (parse_scope s us)
+          parsed ps))
+          (sym p.rest) ∙ so_far.read);
+    }
+
+-- If a list is prepended to a successful result, the result is the rest of the whole list.
+pub front-ok : (before parsed : List ParsedScope) (r : Result (List ParsedScope) At)
+    → made_front before r ≡ Ok parsed → (after : List ParsedScope) × (r ≡ Ok after)
+    × (before ++ after ≡ parsed)
+front-ok before parsed (Ok after) h = (after, refl, same h)
+  where
+    same : {x y : List ParsedScope} → (let f : List ParsedScope → Result (List ParsedScope)
+        At = λ z. Ok z in
+        f x ≡ f y) → x ≡ y
+    same h = cc
+front-ok before parsed (Err e) h = cc
+
+pub front-err : (before : List ParsedScope) (r : Result (List ParsedScope) At) (e : At)
+    → made_front before r ≡ Err e → r ≡ Err e
+front-err before (Ok after) e h = cc
+front-err before (Err d) e h = h2 h
+  where
+    h2 : (let f : At → Result (List ParsedScope) At = λ z. Err z in f d ≡ f e)
+        → (let f : At → Result (List ParsedScope) At = λ z. Err z in f d ≡ f e)
+    h2 h = h

@@ -1,0 +1,133 @@
+-- The data of scopes in the lists that they share.
+use Rattle.std.proofs.Common.{◌≡◌, ℕ, zero, suc, ◌-◌, ◌<◌, ◌≤◌, List, [], ◌∷◌, length, get_or, take}
+use Rattle.std.proofs.Common.{drop, Bool, false, cond, refl, ap, sym, ◌∙◌, subst, arith}
+use Rattle.std.specs.Prelude.{Option, Some, None, slice_get, option_map, option_and_then, ◌==◌}
+use Rattle.std.specs.Option.{option_map_or}
+use Rattle.std.proofs.lemmas.Option.{slice_get_read, slice_get_past}
+use Rattle.std.proofs.Math.Dec.{eqb-suc-zero}
+use Rattle.dwarf_entries.specs.declared.calls.CallSite.{CallSite}
+use Rattle.dwarf_entries.specs.declared.calls.Calls.TheVariants as calls
+use Rattle.dwarf_entries.specs.declared.scope.Range.{Range}
+use Rattle.dwarf_entries.specs.declared.scope.Root.{Root}
+use Rattle.dwarf_entries.specs.declared.scope.Scope.{Scope as StoredScope}
+use Rattle.dwarf_entries.specs.Scopes.{Scope, call_site, root_stmt_list, scope_of, scopes_from}
+use Rattle.dwarf_entries.specs.Scopes.{ranges_at, stmt_list_at}
+use Rattle.dwarf_entries.specs.Private.Shared.{ranges_start}
+
+-- ---- the scope at an index
+
+-- The element that a lookup returns.
+pub found-at : {X : Type 0} (list items : List X) (n : ℕ) (x : X) → list ≡ items
+    → (n < length list) × ((d : X) → x ≡ get_or list n d) → slice_get items n ≡ Some x
+found-at list items n x same found = subst (λ (xs : List _). slice_get xs n ≡ Some x) same
+    (slice_get_read list (length list) n x refl found.0 (found.1 x))
+
+pub not-at : {X : Type 0} (list items : List X) (n : ℕ) → list ≡ items → length list ≤ n
+    → slice_get items n ≡ None
+not-at list items n same past = subst (λ (xs : List _). slice_get xs n ≡ None) same
+    (slice_get_past list n past)
+
+start-next : (first : ℕ) (s : StoredScope) (ss : List StoredScope) (n : ℕ) → ranges_start first (s
+    ∷ ss) (suc n)
+    ≡ ranges_start s.ranges_end ss n
+start-next first s ss zero = refl
+start-next first s ss (suc n) =
+    let e : suc (suc n) - 1 ≡ suc n = omega arith in
+    let f : suc n - 1 ≡ n = omega arith in
+    behind-first first (s ∷ ss) (suc n) ∙ (ap
+    (λ (k : ℕ). option_map_or (λ (t : StoredScope). t.ranges_end) (slice_get (s ∷ ss) k) 0) e
+    ∙ (sym (ap (λ (k : ℕ). option_map_or (λ (t : StoredScope). t.ranges_end) (slice_get ss k) 0) f)
+    ∙ sym (behind-first s.ranges_end ss n)))
+  where
+    behind-first : (first : ℕ) (ss : List StoredScope) (n : ℕ) → ranges_start first ss (suc n)
+        ≡ option_map_or (λ (t : StoredScope). t.ranges_end) (slice_get ss (suc n - 1)) 0
+    behind-first first ss n =
+        let positive : (suc n == 0) ≡ false = eqb-suc-zero n in
+        ap (λ (b : Bool). cond b first (option_map_or (λ (t : StoredScope). t.ranges_end)
+        (slice_get ss (suc n - 1)) 0)) positive
+
+pub scopes-at : (roots : List Root) (wide : List CallSite) (ranges : List Range) (first : ℕ)
+    (ss : List StoredScope) (n : ℕ)
+    → slice_get (scopes_from roots wide ranges first ss) n
+    ≡ option_map (λ s. scope_of roots wide
+    (take (s.ranges_end - ranges_start first ss n) (drop (ranges_start first ss n) ranges)) s)
+    (slice_get ss n)
+scopes-at roots wide ranges first [] n = refl
+scopes-at roots wide ranges first (s ∷ ss) zero = refl
+scopes-at roots wide ranges first (s ∷ ss) (suc n) =
+    scopes-at roots wide ranges s.ranges_end ss n
+    ∙ ap (λ (start : ℕ). option_map (λ t. scope_of roots wide
+    (take (t.ranges_end - start) (drop start ranges)) t) (slice_get ss n))
+    (sym (start-next first s ss n))
+
+pub scopes-length : (roots : List Root) (wide : List CallSite) (ranges : List Range) (first : ℕ)
+    (ss : List StoredScope) → length (scopes_from roots wide ranges first ss) ≡ length ss
+scopes-length roots wide ranges first [] = refl
+scopes-length roots wide ranges first (s ∷ ss) =
+    ap suc (scopes-length roots wide ranges s.ranges_end ss)
+
+-- The data of the scope at an index, if there is one.
+pub ranges-there : (roots : List Root) (wide : List CallSite) (ranges : List Range)
+    (ss : List StoredScope)
+    (n start : ℕ) (s : StoredScope) → slice_get ss n ≡ Some s → start ≡ ranges_start 0 ss n
+    → take (s.ranges_end - start) (drop start ranges)
+    ≡ ranges_at (scopes_from roots wide ranges 0 ss) n
+ranges-there roots wide ranges ss n start s found start_is =
+    ap (λ (k : ℕ). take (s.ranges_end - k) (drop k ranges)) start_is
+    ∙ sym (ap (λ (o : Option Scope). option_map_or (λ (t : Scope). t.ranges) o [])
+    (scopes-at roots wide ranges 0 ss n
+    ∙ ap (λ (o : Option StoredScope). option_map
+    (λ t. scope_of roots wide (take (t.ranges_end - ranges_start 0 ss n)
+    (drop (ranges_start 0 ss n) ranges)) t) o) found))
+
+pub ranges-nowhere : (roots : List Root) (wide : List CallSite) (ranges : List Range)
+    (ss : List StoredScope) (n : ℕ) → slice_get ss n ≡ None
+    → [] ≡ ranges_at (scopes_from roots wide ranges 0 ss) n
+ranges-nowhere roots wide ranges ss n none =
+    sym (ap (λ (o : Option Scope). option_map_or (λ (t : Scope). t.ranges) o [])
+    (scopes-at roots wide ranges 0 ss n
+    ∙ ap (λ (o : Option StoredScope). option_map
+    (λ t. scope_of roots wide (take (t.ranges_end - ranges_start 0 ss n)
+    (drop (ranges_start 0 ss n) ranges)) t) o) none))
+
+pub stmt_list-there : (roots : List Root) (wide : List CallSite) (ranges : List Range)
+    (ss : List StoredScope) (n : ℕ) (o : Option StoredScope) → slice_get ss n ≡ o
+    → stmt_list_at (scopes_from roots wide ranges 0 ss) n
+    ≡ option_and_then (λ (s : StoredScope). root_stmt_list roots s.root) o
+stmt_list-there roots wide ranges ss n o found =
+    ap (λ (p : Option Scope). option_and_then (λ (t : Scope). t.stmt_list) p)
+    (scopes-at roots wide ranges 0 ss n
+    ∙ ap (λ (o : Option StoredScope). option_map
+    (λ t. scope_of roots wide (take (t.ranges_end - ranges_start 0 ss n)
+    (drop (ranges_start 0 ss n) ranges)) t) o) found) ∙ by_case o
+  where
+    by_case : (o : Option StoredScope) → option_and_then (λ (t : Scope). t.stmt_list)
+        (option_map (λ t. scope_of roots wide
+        (take (t.ranges_end - ranges_start 0 ss n) (drop (ranges_start 0 ss n) ranges)) t) o)
+        ≡ option_and_then (λ (s : StoredScope). root_stmt_list roots s.root) o
+    by_case None = refl
+    by_case (Some s) = refl
+
+pub call-there : (roots : List Root) (wide : List CallSite) (ranges : List Range)
+    (ss : List StoredScope)
+    (n : ℕ) (o : Option StoredScope) (f : CallSite → Option ℕ) (g : Scope → Option ℕ)
+    → slice_get ss n ≡ o
+    → ((rs : List Range) (s : StoredScope) → g (scope_of roots wide rs s)
+    ≡ f (call_site wide s.calls s.call_file s.call_line))
+    → option_and_then g (slice_get (scopes_from roots wide ranges 0 ss) n)
+    ≡ option_and_then (λ (s : StoredScope). f (call_site wide s.calls s.call_file s.call_line)) o
+call-there roots wide ranges ss n o f g found same =
+    ap (λ (p : Option Scope). option_and_then g p)
+    (scopes-at roots wide ranges 0 ss n
+    ∙ ap (λ (o : Option StoredScope). option_map
+    (λ t. scope_of roots wide (take (t.ranges_end - ranges_start 0 ss n)
+    (drop (ranges_start 0 ss n) ranges)) t) o) found) ∙ by_case o
+  where
+    by_case : (o : Option StoredScope)
+        → option_and_then g (option_map (λ t. scope_of roots wide
+        (take (t.ranges_end - ranges_start 0 ss n) (drop (ranges_start 0 ss n) ranges)) t) o)
+        ≡ option_and_then (λ (s : StoredScope). f (call_site wide s.calls s.call_file s.call_line))
+        o
+    by_case None = refl
+    by_case (Some s) = same (take (s.ranges_end - ranges_start 0 ss n)
+        (drop (ranges_start 0 ss n) ranges)) s

@@ -1,0 +1,178 @@
+-- The pass over the scopes of all units.
+use Rattle.std.proofs.Common.{◌≡◌, ℕ, ◌+◌, ◌<◌, ◌≤◌, ◌⊎◌, inl, inr, List, [], ◌++◌, length, drop}
+use Rattle.std.proofs.Common.{get_or, cond, refl, ap, sym, ◌∙◌, subst, arith, append_assoc}
+use Rattle.std.specs.Prelude.{Result, Ok, Err, Option, Some, is_some, slice_get}
+use Rattle.std.proofs.lemmas.List.{drop_all, length-map}
+use Rattle.dwarf_bytes.specs.declared.fault.Section.TheVariants as names
+use Rattle.dwarf_bytes.specs.declared.fault.LoadFault.{LoadFault}
+use Rattle.dwarf_bytes.specs.Bind.{◌>>=◌}
+use Rattle.dwarf_bytes.specs.Items.{At, each, each_from}
+use Rattle.dwarf_bytes.specs.Refusals.{memory_fault, at_item, in_section}
+use Rattle.dwarf_bytes.proofs.Items.EachLaws.{made_front, each-end}
+use Rattle.dwarf_entries.specs.declared.bases.Bases.{Bases}
+use Rattle.dwarf_walk.specs.declared.unit_entries.UnitEntries.{UnitEntries}
+use Rattle.dwarf_walk.specs.declared.unit_entries.RootEntry.{RootEntry}
+use Rattle.dwarf_entries.specs.declared.scope.Range.{Range}
+use Rattle.dwarf_entries.specs.declared.scope.Scope.{Scope as StoredScope}
+use Rattle.dwarf_entries.specs.declared.scope_lists.ScopeLists.{ScopeLists}
+use Rattle.dwarf_entries.specs.Private.Shared.{AreConsecutive}
+use Rattle.dwarf_entries.proofs.RootPasses.RootNumbers.{RootsFrom, units-from, rooted, roots_behind}
+use Rattle.dwarf_walk.specs.Sections.{Sections}
+use Rattle.dwarf_entries.specs.Bases.{CompilationUnit}
+use Rattle.dwarf_entries.specs.Scopes.{ParsedScope, ScopeSite, Scope, items_limit, sites_in}
+use Rattle.dwarf_entries.specs.Scopes.{roots_from, scopes_from, scopes_of}
+use Rattle.dwarf_entries.specs.Private.Passes.{AreUnits, IsRootOf, parse_scope, AreParsed}
+use Rattle.dwarf_entries.specs.Private.Passes.{AddsScopes, all_sites, all_scopes}
+use Rattle.dwarf_bytes.proofs.Items.EachPlaces.{each-append}
+use Rattle.dwarf_walk.specs.Private.Stored.{StoredUnit, root_in, stored_of}
+use Rattle.dwarf_entries.proofs.ScopePasses.ScopeLaws.{kept_in, unit_at}
+use Rattle.dwarf_entries.proofs.ScopePasses.ScopesPass.{known-unit}
+
+-- ---- the loop over the units
+
+-- The scopes of the units before the index.
+pub record ScopesSoFar (s : Sections) (us : List CompilationUnit) (index root : ℕ)
+    (lists : ScopeLists) (left : ℕ) : Type 0 where
+  pub parsed : List ParsedScope
+  pub are_parsed : AreParsed (roots_from 0 us) parsed lists left
+  pub roots : RootsFrom us index root
+  pub read : made_front parsed (each_from (parse_scope s us) parsed (all_sites (drop index us)))
+      ≡ each (parse_scope s us) (all_sites us)
+
+pub scopes_none : (s : Sections) (us : List CompilationUnit) (lists : ScopeLists)
+    → lists.scopes.items ≡ [] → lists.ranges.items ≡ [] → ScopesSoFar s us 0 0 lists items_limit
+scopes_none s us lists scopes_are ranges_are =
+    record {
+      parsed = [];
+      are_parsed = none;
+      roots = record { number = 0; left = refl };
+      read =
+          no-front (each (parse_scope s us) (all_sites us));
+    }
+  where
+    none : AreParsed (roots_from 0 us) [] lists items_limit
+    none = record {
+      described = ap (λ (ss : List StoredScope). scopes_from (roots_from 0 us) lists.wide.items
+          lists.ranges.items 0 ss) scopes_are;
+      in_list = subst (λ (ss : List StoredScope). AreConsecutive (length lists.wide.items) 0
+          (length lists.ranges.items) ss) (sym scopes_are)
+          (ap (λ (rs : List Range). length rs) (sym ranges_are));
+      counted = refl;
+    }
+
+    no-front : (r : Result (List ParsedScope) At) → made_front [] r ≡ r
+    no-front (Ok x) = refl
+    no-front (Err e) = refl
+
+-- The sites from a unit on are its own sites and the sites of the units after it.
+places_from : (us : List CompilationUnit) (u : CompilationUnit) (index : ℕ)
+    → slice_get us index ≡ Some u → all_sites (drop index us) ≡ sites_in u u.dies
+    ++ all_sites (drop (index + 1) us)
+places_from us u index found = ap (λ (vs : List CompilationUnit). all_sites vs)
+    (units-from us u index found)
+
+-- The results for two concatenated lists, given the results for the first.
+stretch : (s : Sections) (us : List CompilationUnit) (parsed after : List ParsedScope)
+    (places more : List ScopeSite) → each_from (parse_scope s us) parsed places ≡ Ok after
+    → made_front parsed (each_from (parse_scope s us) parsed (places ++ more))
+    ≡ made_front (parsed ++ after) (each_from (parse_scope s us) (parsed ++ after) more)
+stretch s us parsed after places more is =
+    ap (λ (r : Result (List ParsedScope) At). made_front parsed r)
+    (each-append (parse_scope s us) parsed places more
+    ∙ ap (λ (r : Result (List ParsedScope) At). r >>= λ ys. each_from (parse_scope s us) (parsed
+    ++ ys)
+    more >>= λ zs. Ok (ys ++ zs)) is)
+    ∙ behind (each_from (parse_scope s us) (parsed ++ after) more)
+  where
+    behind : (r : Result (List ParsedScope) At) → made_front parsed (r >>= λ zs. Ok (after ++ zs))
+        ≡ made_front (parsed ++ after) r
+    behind (Ok zs) = ap (λ (js : List ParsedScope). Ok js) (sym (append_assoc parsed after zs))
+    behind (Err e) = refl
+
+pub scopes-next : (s : Sections) (units : List UnitEntries) (bases : List Bases)
+    (us : List CompilationUnit) (index root next : ℕ) (d : UnitEntries) (old lists : ScopeLists)
+    (left after : ℕ) → AreUnits units bases us → index < length units
+    → (so_far : ScopesSoFar s us index root old left)
+    → next ≡ root + cond (is_some (get_or units index d).root) 1 0
+    → ((u : CompilationUnit) (before : List ParsedScope) → slice_get us index ≡ Some u
+    → IsRootOf us root u → AreParsed (roots_from 0 us) before old left
+    → AddsScopes (Ok tt) s us (sites_in u u.dies) before lists after)
+    → ScopesSoFar s us (index + 1) next lists after
+scopes-next s units bases us index root next d old lists left after are within so_far next_is adds =
+    let u = known-unit units bases us index are within in
+    let parsed = so_far.parsed in
+    let added = adds u.0 parsed u.1 (rooted us u.0 index root so_far.roots u.1) so_far.are_parsed in
+    let root_is : (get_or units index d).root ≡ root_in u.0.dies =
+    ap (λ (k : StoredUnit). k.root) ((unit_at units bases us index u.0 are u.1).entries_are d) in
+    record {
+      parsed = parsed ++ added.0;
+      are_parsed = added.2;
+      roots = roots_behind us u.0 index root next so_far.roots u.1
+          (next_is ∙ ap (λ (r : Option RootEntry). root + cond (is_some r) 1 0) root_is);
+      read = sym (stretch s us parsed added.0 (sites_in u.0 u.0.dies)
+          (all_sites (drop (index + 1) us)) added.1)
+          ∙ (ap (λ (ps : List ScopeSite). made_front parsed (each_from (parse_scope s us)
+          parsed ps))
+          (sym (places_from us u.0 index u.1)) ∙ so_far.read);
+    }
+
+pub scopes-fault : (s : Sections) (units : List UnitEntries) (bases : List Bases)
+    (us : List CompilationUnit) (index root : ℕ) (old lists : ScopeLists) (left after : ℕ)
+    (fault : LoadFault) → AreUnits units bases us → index < length units
+    → (so_far : ScopesSoFar s us index root old left)
+    → ((u : CompilationUnit) (before : List ParsedScope) → slice_get us index ≡ Some u
+    → IsRootOf us root u → AreParsed (roots_from 0 us) before old left
+    → AddsScopes (Err fault) s us (sites_in u u.dies) before lists after)
+    → (fault ≡ memory_fault) ⊎ (in_section names.DebugInfo (all_scopes s us) ≡ Err fault)
+scopes-fault s units bases us index root old lists left after fault are within so_far adds =
+    let u = known-unit units bases us index are within in
+    by_fault u.0 u.1 (adds u.0 so_far.parsed u.1 (rooted us u.0 index root so_far.roots u.1)
+    so_far.are_parsed)
+  where
+    parsed : List ParsedScope
+    parsed = so_far.parsed
+
+    by_read : (u : CompilationUnit) → slice_get us index ≡ Some u
+        → (r : Result (List ParsedScope) At)
+        → each_from (parse_scope s us) parsed (sites_in u u.dies) ≡ r → in_section names.DebugInfo r
+        ≡ Err fault → in_section names.DebugInfo (all_scopes s us) ≡ Err fault
+    by_read u found (Ok x) is h = cc
+    by_read u found (Err e) is h =
+        let here : each_from (parse_scope s us) parsed
+        (sites_in u u.dies ++ all_sites (drop (index + 1) us)) ≡ Err e =
+        each-append (parse_scope s us) parsed (sites_in u u.dies) (all_sites (drop (index + 1) us))
+        ∙ ap (λ (r : Result (List ParsedScope) At). r >>= λ ys. each_from (parse_scope s us) (parsed
+        ++ ys)
+        (all_sites (drop (index + 1) us)) >>= λ zs. Ok (ys ++ zs)) is in
+        let all : each (parse_scope s us) (all_sites us) ≡ Err e =
+        sym so_far.read ∙ ap (λ (r : Result (List ParsedScope) At). made_front parsed r)
+        (ap (λ (ps : List ScopeSite). each_from (parse_scope s us) parsed ps)
+        (places_from us u index found) ∙ here) in
+        rw all (ap (λ (f : LoadFault). Err f) (same-fault h))
+      where
+        same-fault : {x y : LoadFault} → (let f : LoadFault → Result (List ParsedScope) LoadFault =
+            λ z. Err z in f x ≡ f y) → x ≡ y
+        same-fault h = cc
+
+    by_fault : (u : CompilationUnit) → slice_get us index ≡ Some u
+        → (fault ≡ memory_fault) ⊎ (in_section names.DebugInfo
+        (each_from (parse_scope s us) parsed (sites_in u u.dies)) ≡ Err fault)
+        → (fault ≡ memory_fault) ⊎ (in_section names.DebugInfo (all_scopes s us) ≡ Err fault)
+    by_fault u found (inl memory) = inl memory
+    by_fault u found (inr bad) = inr (by_read u found
+        (each_from (parse_scope s us) parsed (sites_in u u.dies)) refl bad)
+
+pub scopes_end : (s : Sections) (units : List UnitEntries) (bases : List Bases)
+    (us : List CompilationUnit) (index root : ℕ) (lists : ScopeLists) (left : ℕ)
+    → AreUnits units bases us → length units ≤ index → ScopesSoFar s us index root lists left
+    → in_section names.DebugInfo (all_scopes s us) ≡ Ok (scopes_of (roots_from 0 us) lists)
+scopes_end s units bases us index root lists left are past so_far =
+    let parsed = so_far.parsed in
+    let sizes : length units ≡ length us = sym (length-map units stored_of)
+    ∙ (ap (λ (ks : List StoredUnit). length ks) are.same ∙ length-map us kept_in) in
+    let none : drop index us ≡ [] = drop_all index us (omega (arith, sizes, past)) in
+    let all : each (parse_scope s us) (all_sites us) ≡ Ok parsed =
+    sym so_far.read ∙ (ap (λ (vs : List CompilationUnit). made_front parsed
+    (each_from (parse_scope s us) parsed (all_sites vs))) none ∙ each-end (parse_scope s us) parsed)
+    in
+    rw all (ap (λ (ss : List Scope). Ok ss) (sym so_far.are_parsed.described))

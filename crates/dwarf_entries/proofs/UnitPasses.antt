@@ -1,0 +1,9 @@
+pub mod BasesPass
+pub mod ContiguousUnits
+pub mod EntriesAtOffsets
+pub mod EntriesFaults
+pub mod EntriesPass
+pub mod OrderLaws
+pub mod PassLaws
+pub mod RereadLaws
+pub mod UnitOrder

@@ -1,0 +1,104 @@
+-- Re-reading the entries of a unit at their offsets.
+use Rattle.std.proofs.Common.{◌≡◌, ℕ, ◌≤◌, List, length, take, true, refl, ap, sym, ◌∙◌, arith}
+use Rattle.std.specs.Prelude.{Some, Result, Ok, ok_or, slice_get}
+use Rattle.dwarf_bytes.specs.declared.constants.TheConstants.{DW_AT_CALL_FILE, DW_AT_CALL_LINE}
+use Rattle.dwarf_bytes.specs.declared.constants.TheConstants.{DW_AT_HIGH_PC, DW_AT_LOW_PC}
+use Rattle.dwarf_bytes.specs.declared.constants.TheConstants.{DW_AT_RANGES}
+use Rattle.dwarf_bytes.specs.declared.fault.Cause.{Cause}
+use Rattle.dwarf_bytes.specs.declared.fault.Cause.TheVariants as causes
+use Rattle.dwarf_bytes.specs.declared.format.Format.{Format}
+use Rattle.dwarf_bytes.specs.Bind.{◌>>=◌}
+use Rattle.dwarf_bytes.specs.Items.{reading}
+use Rattle.dwarf_bytes.specs.Numbers.{uleb_at}
+use Rattle.dwarf_bytes.proofs.Numbers.Advance.{after-bind}
+use Rattle.dwarf_bytes.proofs.Numbers.Moves.{uleb-moves}
+use Rattle.dwarf_forms.specs.Declarations.{Declaration}
+use Rattle.dwarf_units.specs.declared.attributes.Attribute.{Attribute}
+use Rattle.dwarf_units.specs.declared.unit_headers.UnitHeader.{UnitHeader}
+use Rattle.dwarf_units.specs.Entries.{Die, entry_at}
+use Rattle.dwarf_units.specs.Private.Plans.{stored_attributes}
+use Rattle.dwarf_walk.specs.declared.unit_entries.NamedEntry.{NamedEntry}
+use Rattle.dwarf_walk.specs.declared.unit_entries.ScopeEntry.{ScopeEntry}
+use Rattle.dwarf_walk.specs.declared.scope_kind.ScopeKind.{ScopeKind}
+use Rattle.dwarf_walk.specs.Sections.{Sections}
+use Rattle.dwarf_entries.specs.Bases.{CompilationUnit}
+use Rattle.dwarf_walk.specs.ScopeEntries.{kind_of}
+use Rattle.dwarf_walk.specs.Private.Stored.{named_entry, scope_entry, scope_entry_of}
+use Rattle.dwarf_walk.specs.Private.Rereading.{scope_entry_at}
+use Rattle.dwarf_entries.specs.Private.EntryOffsets.{IsReadIn}
+use Rattle.dwarf_walk.specs.Private.Named.{entry_with, used_at, named_entry_at}
+use Rattle.dwarf_walk.proofs.StoredNodes.{value-kept, die_of_kept, names_at-kept}
+use Rattle.dwarf_walk.proofs.RereadLaws.{without_place, inside-is}
+
+-- ---- the used attributes
+
+scope-kept : (die : Die) (kind : ScopeKind) → scope_entry (die_of_kept die) kind
+    ≡ scope_entry die kind
+scope-kept die kind =
+    rw (
+      names_at-kept die,
+      value-kept die.attributes DW_AT_LOW_PC refl,
+      value-kept die.attributes DW_AT_HIGH_PC refl,
+      value-kept die.attributes DW_AT_RANGES refl,
+      value-kept die.attributes DW_AT_CALL_FILE refl,
+      value-kept die.attributes DW_AT_CALL_LINE
+          refl,
+    ) refl
+
+-- ---- the entries that were read before
+
+-- An entry that can be read is within its unit.
+entry-within : (format : Format) (table : List Declaration) (unit : List ℕ) (at : ℕ)
+    (x : (ℕ × List Attribute) × ℕ) → entry_at format table unit at ≡ Ok x → at ≤ length unit
+unfolding entry_at
+entry-within format table unit at x h =
+    after-bind (reading (uleb_at unit at)) _ x h (at ≤ length unit)
+    (λ code code_is _. let moved = uleb-moves unit at code code_is in
+    omega (arith, moved.0, moved.1))
+
+-- The bytes up to the end of a unit, by its header.
+abbrev pub bytes_in : Sections → UnitHeader → List ℕ
+bytes_in s header = take header.end s.debug_info
+
+used-there : (s : Sections) (u : CompilationUnit) (k : ℕ) (die : Die) → (read : IsReadIn s u)
+    → slice_get u.dies k ≡ Some die → used_at u.header.format read.table (bytes_in s u.header)
+    die.offset ≡ Ok (die.tag, stored_attributes true die.attributes)
+used-there s u k die read there =
+    let again = read.again k die there in
+    inside-is u.header.format read.table (bytes_in s u.header) die.offset
+    (entry-within u.header.format read.table (bytes_in s u.header) die.offset
+    ((die.tag, die.attributes), again.0) again.1)
+    ∙ ap (λ (r : Result ((ℕ × List Attribute) × ℕ) Cause). without_place r) again.1
+
+-- A scope of a unit can be re-read.
+pub scope-there : (s : Sections) (u : CompilationUnit) (k : ℕ) (die : Die) (kind : ScopeKind)
+    → (read : IsReadIn s u) → slice_get u.dies k ≡ Some die → kind_of die.tag ≡ Some kind
+    → scope_entry_at u.header.format read.table (bytes_in s u.header) die.offset
+    ≡ Ok (scope_entry die kind)
+scope-there s u k die kind read there is =
+    ap (λ (r : Result (ℕ × List Attribute) Cause). r
+    >>= λ entry. ok_or (scope_entry_of (entry_with die.offset entry)) causes.Reference)
+    (used-there s u k die read there)
+    ∙ (rw is (ap (λ (e : ScopeEntry). Ok e) (scope-kept die kind)))
+
+-- The names and the reference of an entry of a unit can be re-read.
+pub names_at-there : (s : Sections) (u : CompilationUnit) (k : ℕ) (die : Die)
+    → (read : IsReadIn s u)
+    → slice_get u.dies k ≡ Some die
+    → named_entry_at u.header.format read.table (bytes_in s u.header) die.offset
+    ≡ Ok (named_entry die)
+names_at-there s u k die read there =
+    ap (λ (r : Result (ℕ × List Attribute) Cause). r
+    >>= λ entry. Ok (named_entry (entry_with die.offset entry)))
+    (used-there s u k die read there)
+    ∙ ap (λ (e : NamedEntry). Ok e) (names_at-kept die)
+
+-- The same, given the stored header of its unit.
+pub names_at-at : (s : Sections) (u : CompilationUnit) (k : ℕ) (die : Die) (header : UnitHeader)
+    (offset : ℕ) → (read : IsReadIn s u) → header ≡ u.header → die.offset ≡ offset
+    → slice_get u.dies k ≡ Some die
+    → named_entry_at header.format read.table (bytes_in s header) offset ≡ Ok (named_entry die)
+names_at-at s u k die header offset read same place there =
+    ap (λ (h : UnitHeader). named_entry_at h.format read.table (bytes_in s h) offset) same
+    ∙ (ap (λ (o : ℕ). named_entry_at u.header.format read.table (bytes_in s u.header) o) (sym place)
+    ∙ names_at-there s u k die read there)

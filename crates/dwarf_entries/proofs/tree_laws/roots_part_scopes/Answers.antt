@@ -1,5 +1,0 @@
-use Rattle.dwarf_entries.proofs.RootScopes.{roots-part, scopes-of-roots}
-use Rattle.dwarf_entries.proofs.tree_laws.roots_part_scopes.Goals as goal
-
-pub returns : goal.returns
-returns c = record { parts = roots-part; scopes = scopes-of-roots }

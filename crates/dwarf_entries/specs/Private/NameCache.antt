@@ -1,0 +1,62 @@
+-- The cache of the names of reference targets, for the contracts of the pass over scopes.
+use Rattle.std.specs.Prelude.{◌≡◌, ℕ, ◌%◌, List, Option, Some, None, option_map, Result, Ok, get_or}
+use Rattle.dwarf_bytes.specs.declared.constants.TheConstants.{DW_AT_LINKAGE_NAME, DW_AT_NAME}
+use Rattle.dwarf_bytes.specs.declared.fault.Cause.{Cause}
+use Rattle.dwarf_bytes.specs.Bind.{◌>>=◌}
+use Rattle.dwarf_units.specs.declared.attributes.AttributeValue.{AttributeValue}
+use Rattle.dwarf_entries.specs.declared.name_cache.NameCache.{NameCache}
+use Rattle.dwarf_entries.specs.declared.name_cache.PackedNames.{PackedNames}
+use Rattle.dwarf_entries.specs.declared.origin_chains.EntryNames.{EntryNames}
+use Rattle.dwarf_entries.specs.declared.references.UnitPlace.{UnitPlace}
+use Rattle.dwarf_walk.specs.Sections.{Sections}
+use Rattle.dwarf_entries.specs.Bases.{CompilationUnit}
+use Rattle.dwarf_entries.specs.Names.{Member, target_of, chain_within, name_on}
+use Rattle.dwarf_entries.specs.Scopes.{text_by}
+use Rattle.dwarf_entries.specs.Private.Members.{member_in}
+
+-- The slot of a place.
+abbrev pub slot_of : UnitPlace → ℕ
+slot_of place = place.offset % 4096
+
+-- The place of a target, and its names.
+pub record CachedNames : Type 0 where
+  pub place : UnitPlace
+  pub names : EntryNames
+
+-- The same, from its packed form.
+abbrev pub cached_names_of : PackedNames → CachedNames
+cached_names_of packed = record {
+  place = record { unit = packed.unit; offset = packed.offset };
+  names = record {
+    name = text_by packed.name_section packed.name_offset;
+    linkage_name = text_by packed.linkage_name_section packed.linkage_name_offset;
+  };
+}
+
+-- The contents of a slot.
+abbrev pub slot_at : NameCache → ℕ → Option CachedNames
+slot_at cache slot = option_map cached_names_of (get_or cache.slots.items slot None)
+
+-- The names of an entry whose origin chain may follow at most `remaining` references.
+abbrev pub names_within : ℕ → Sections → List CompilationUnit → Member → Result EntryNames Cause
+names_within remaining s units m = do
+  path ← chain_within remaining units m
+  name ← name_on DW_AT_NAME s path
+  linkage_name ← name_on DW_AT_LINKAGE_NAME s path
+  Ok (record { name = name; linkage_name = linkage_name })
+
+-- The names of an entry that is the second one of an origin chain.
+abbrev pub second_names : Sections → List CompilationUnit → Member → Result EntryNames Cause
+second_names = names_within 15
+
+-- The names of the target of a reference in a unit.
+abbrev pub target_names : Sections → List CompilationUnit → CompilationUnit → AttributeValue
+    → Result EntryNames Cause
+target_names s units unit reference = target_of units unit reference >>= λ m. second_names s units m
+
+-- If names are cached for a place, an entry is at that place, and they are its names.
+abbrev pub IsCacheOf : Sections → List CompilationUnit → NameCache → Type 0
+IsCacheOf s units cache =
+    (slot : ℕ) (packed : CachedNames) → slot_at cache slot ≡ Some packed
+    → (m : Member) × (member_in units packed.place.unit packed.place.offset ≡ Ok m)
+    × (second_names s units m ≡ Ok packed.names)

@@ -1,0 +1,163 @@
+-- The encoding of a declaration up to its attributes, in both directions.
+use Rattle.std.proofs.Common.{◌≡◌, ◌≢◌, ℕ, ◌+◌, ◌<◌, ◌≤◌, List, [], ◌∷◌, ◌++◌, length, drop, Bool}
+use Rattle.std.proofs.Common.{true, false, cond, refl, ap, ◌∙◌, subst, arith}
+use Rattle.std.specs.Prelude.{Ok, nat_lt, nat_le, ◌==◌, if◌then◌else◌}
+use Rattle.std.specs.List.{list_any}
+use Rattle.std.proofs.lemmas.Bool.{ltb-false, leb-false}
+use Rattle.dwarf_bytes.specs.declared.fault.Cause.TheVariants as causes
+use Rattle.dwarf_bytes.specs.Numbers.{IsEncodedAt, IsUleb, u8_at, uleb_at, little_endian}
+use Rattle.dwarf_bytes.specs.Items.{Item, End, reading}
+use Rattle.dwarf_bytes.proofs.Numbers.Advance.{after-bind, after-test, reading-ok, chosen}
+use Rattle.dwarf_forms.specs.declared.declaration.Head.{Head}
+use Rattle.dwarf_forms.specs.Declarations.{Declaration}
+use Rattle.dwarf_forms.specs.Tables.{head_at}
+use Rattle.dwarf_forms.proofs.Stretches.{Stretch, stretch-of, stands-from, joined, first-part}
+use Rattle.dwarf_forms.proofs.Stretches.{second-part, within, fixed-stands, fixed-again}
+use Rattle.dwarf_bytes.proofs.Numbers.Moves.{same-item, same-end}
+use Rattle.dwarf_forms.proofs.AttributeEncodings.{uleb-read, uleb-reads, unlike, alike, differ}
+
+pub record EncodesHead (bytes : List ℕ) (head : Head) : Type 0 where
+  pub code : List ℕ
+  pub tag : List ℕ
+  pub whole : bytes ≡ (code ++ tag) ++ (if head.children then 1 else 0) ∷ []
+  pub code_is : IsUleb code head.code
+  pub tag_is : IsUleb tag head.tag
+
+-- the conditions on a declaration's head that depend on the declarations before it
+pub record HeadFits (budget : ℕ) (before : List Declaration) (code : ℕ) : Type 0 where
+  pub some : code ≢ 0
+  pub room_left : length before < budget
+  pub new : list_any (λ declaration. declaration.code == code) before ≡ false
+
+one_byte : (block : List ℕ) (value : ℕ) → length block ≡ 1 → value ≡ little_endian block
+    → block ≡ value ∷ []
+one_byte [] value len is = absurd (omega (arith, len))
+one_byte (b ∷ []) value len is = let same : b ≡ value = omega (arith, is) in
+    ap (λ (k : ℕ). k ∷ []) same
+one_byte (b ∷ c ∷ bs) value len is = absurd (omega (arith, len))
+
+flag-of : (value : ℕ) → value ≤ 1 → value ≡ (if value == 1 then 1 else 0)
+flag-of value le = by_test (value == 1) refl
+  where
+    by_test : (b : Bool) → (value == 1) ≡ b → value ≡ cond b 1 0
+    by_test true is = alike value 1 is
+    by_test false is = let apart = differ value 1 is in omega arith
+
+flag-byte : (b : Bool) → little_endian ((if b then 1 else 0) ∷ []) ≡ (if b then 1 else 0)
+flag-byte true = refl
+flag-byte false = refl
+
+flag-fits : (b : Bool) → nat_lt 1 (if b then 1 else 0) ≡ false
+flag-fits true = refl
+flag-fits false = refl
+
+flag-test : (b : Bool) → ((if b then 1 else 0) == 1) ≡ b
+flag-test true = refl
+flag-test false = refl
+
+pub head-spelled : (budget : ℕ) (section : List ℕ) (before : List Declaration) (at : ℕ)
+    (head : Head)
+    (next : ℕ) → head_at budget section before at ≡ Ok (Item head next)
+    → IsEncodedAt EncodesHead section at head next × HeadFits budget before head.code
+head-spelled budget section before at head next h =
+    let P : Type 0 = IsEncodedAt EncodesHead section at head next × HeadFits budget before head.code
+    in
+    after-bind (reading (uleb_at section at)) _ (Item head next) h P (λ code code_is h1.
+    chosen (code.0 == 0) _ _ (Ok (Item head next)) h1 P (λ _ is. cc) (λ some h2.
+    after-test (nat_le budget (length before)) causes.TooMany _ (Item head next) h2 P (λ fits h3.
+    after-test (list_any (λ declaration. declaration.code == code.0) before) causes.AbbrevTwice _
+    (Item head next) h3 P (λ once h4.
+    after-bind (reading (uleb_at section code.1)) _ (Item head next) h4 P (λ tag tag_is h5.
+    after-bind (reading (u8_at section tag.1)) _ (Item head next) h5 P (λ children children_is h6.
+    after-test (nat_lt 1 children.0) causes.Children _ (Item head next) h6 P (λ flag h7.
+    let a = uleb-read section at code code_is in
+    let b = uleb-read section code.1 tag tag_is in
+    let c = fixed-stands 1 section tag.1 children
+    (reading-ok (u8_at section tag.1) children children_is) in
+    let ab = joined section at a.front b.front code.1 tag.1 a.rest b.rest
+    (stretch-of IsUleb section at code.0 code.1 a)
+    (stretch-of IsUleb section code.1 tag.0 tag.1 b) in
+    let abc = joined section at (a.front ++ b.front) c.0 tag.1 children.1 b.rest
+    (drop 1 (drop tag.1 section)) ab c.1 in
+    let it : Head = record { code = code.0; tag = tag.0; children = children.0 == 1 } in
+    let byte : c.0 ≡ (if children.0 == 1 then 1 else 0) ∷ [] = one_byte c.0 children.0 c.2 c.3
+    ∙ ap (λ (k : ℕ). k ∷ []) (flag-of children.0 (ltb-false 1 children.0 flag)) in
+    let stands : IsEncodedAt EncodesHead section at it children.1 =
+    stands-from EncodesHead section at it children.1 ((a.front ++ b.front) ++ c.0)
+    (drop 1 (drop tag.1 section)) abc
+    (record {
+      code = a.front;
+      tag = b.front;
+      whole =
+          ap (λ (x : List ℕ). (a.front ++ b.front) ++ x) byte;
+      code_is = a.encoded;
+      tag_is =
+          b.encoded;
+    }) in
+    let good : HeadFits budget before it.code =
+    record {
+      some = differ code.0 0 some;
+      room_left = leb-false budget (length before) fits;
+      new =
+          once;
+    } in
+    let same = same-item it head children.1 next h7 in (
+      subst (λ (k : ℕ). IsEncodedAt EncodesHead section at head k) same.1
+          (subst (λ (y : Head). IsEncodedAt EncodesHead section at y children.1) same.0 stands),
+      subst (λ (y : Head). HeadFits budget before y.code) same.0 good,
+    ))))))))
+
+pub head-end : (budget : ℕ) (section : List ℕ) (before : List Declaration) (at next : ℕ)
+    → head_at budget section before at ≡ Ok (End next) → IsEncodedAt IsUleb section at 0 next
+head-end budget section before at next h =
+    let P : Type 0 = IsEncodedAt IsUleb section at 0 next in
+    after-bind (reading (uleb_at section at)) _ (End next) h P (λ code code_is h1.
+    chosen (code.0 == 0) _ _ (Ok (End next)) h1 P
+    (λ zero is. subst (λ (k : ℕ). IsEncodedAt IsUleb section at 0 k)
+    (same-end {X = Head} code.1 next is)
+    (subst (λ (k : ℕ). IsEncodedAt IsUleb section at k code.1) (alike code.0 0 zero)
+    (uleb-read section at code code_is)))
+    (λ _ h2.
+    after-test (nat_le budget (length before)) causes.TooMany _ (End next) h2 P (λ fits h3.
+    after-test (list_any (λ declaration. declaration.code == code.0) before) causes.AbbrevTwice _
+    (End next) h3 P (λ once h4.
+    after-bind (reading (uleb_at section code.1)) _ (End next) h4 P (λ tag tag_is h5.
+    after-bind (reading (u8_at section tag.1)) _ (End next) h5 P (λ children children_is h6.
+    after-test (nat_lt 1 children.0) causes.Children _ (End next) h6 P (λ flag h7. cc)))))))
+
+pub head-read : (budget : ℕ) (section : List ℕ) (before : List Declaration) (at : ℕ) (head : Head)
+    (next : ℕ) (code tag rest : List ℕ) → Stretch section at
+    ((code ++ tag) ++ (if head.children then 1 else 0) ∷ []) next rest → IsUleb code head.code
+    → IsUleb tag head.tag
+    → HeadFits budget before head.code → head_at budget section before at ≡ Ok (Item head next)
+head-read budget section before at head next code tag rest s code_is tag_is good =
+    let byte : List ℕ = (if head.children then 1 else 0) ∷ [] in
+    let two = first-part section at (code ++ tag) byte next rest s in
+    let mid = at + length (code ++ tag) in
+    let coded = uleb-reads section at head.code (at + length code)
+    (stands-from IsUleb section at head.code (at + length code) code (tag ++ (byte ++ rest))
+    (first-part section at code tag mid (byte ++ rest) two) code_is) in
+    let tagged = uleb-reads section (at + length code) head.tag mid
+    (stands-from IsUleb section (at + length code) head.tag mid tag (byte ++ rest)
+    (second-part section at code tag mid (byte ++ rest) two) tag_is) in
+    let last = second-part section at (code ++ tag) byte next rest s in
+    let end : mid + 1 ≤ length section =
+    omega (arith, within section mid byte next rest last (omega arith), last.next_is) in
+    let flagged : reading (u8_at section mid) ≡ Ok (little_endian byte, next) =
+    rw (fixed-again 1 section mid byte next rest last refl end) refl in
+    let room_left : nat_le budget (length before) ≡ false =
+    lt-leb (length before) budget good.room_left in
+    rw (
+      coded,
+      unlike head.code 0 good.some,
+      room_left,
+      good.new,
+      tagged,
+      flagged,
+      flag-byte head.children,
+      flag-fits head.children,
+      flag-test head.children,
+    ) refl
+  where
+    lt-leb : (m n : ℕ) → m < n → nat_le n m ≡ false
+    lt-leb m n h = grind arith

@@ -1,0 +1,181 @@
+-- Declarations and tables are read if and only if they are encoded and valid.
+use Rattle.std.proofs.Common.{◌≡◌, ◌≢◌, ℕ, ◌+◌, List, [], ◌∷◌, ◌++◌, length, Bool, refl, sym, ap}
+use Rattle.std.proofs.Common.{◌∙◌, subst, arith, append_assoc}
+use Rattle.std.specs.Prelude.{Result, Ok, All, AllPairs, if◌then◌else◌}
+use Rattle.dwarf_bytes.specs.declared.fault.Cause.{Cause}
+use Rattle.dwarf_bytes.specs.Bind.{◌>>=◌}
+use Rattle.dwarf_bytes.specs.Numbers.{IsEncodedAt, IsUleb}
+use Rattle.dwarf_bytes.specs.Items.{Next, Item, End}
+use Rattle.dwarf_bytes.proofs.Numbers.Advance.{after-bind}
+use Rattle.dwarf_forms.specs.declared.attribute.AttributeSpecification.{AttributeSpecification}
+use Rattle.dwarf_forms.specs.declared.declaration.Head.{Head}
+use Rattle.dwarf_forms.specs.Declarations.{Declaration, EncodesDeclaration, IsValid}
+use Rattle.dwarf_forms.specs.Tables.{attributes_at, head_at, declaration_at}
+use Rattle.dwarf_forms.proofs.Stretches.{stretch-of, stands-from, joined, first-part, second-part}
+use Rattle.dwarf_forms.proofs.Stretches.{respelled}
+use Rattle.dwarf_bytes.proofs.Numbers.Moves.{same-item, same-end}
+use Rattle.dwarf_forms.proofs.Listed.{EndStands, IsSpelled, IsRead, IsNew, all-new, new-each}
+use Rattle.dwarf_forms.proofs.Listed.{HasRoom}
+use Rattle.dwarf_forms.proofs.AttributeEncodings.{uleb-reads, IsUsable, name_of}
+use Rattle.dwarf_forms.proofs.AttributeReads.{EncodesAttributes, GoodAttributes, attributes-spelled}
+use Rattle.dwarf_forms.proofs.AttributeReads.{attributes-read}
+use Rattle.dwarf_forms.proofs.HeadEncodings.{EncodesHead, head-spelled, head-end, head-read}
+
+-- the conditions on a declaration that depend on the ones before it
+abbrev pub DeclarationFits : ℕ → List Declaration → Declaration → Type 0
+DeclarationFits budget before declaration = HasRoom budget before declaration
+    × IsNew IsValid (λ d. d.code) before declaration
+
+good-attributes : (xs : List AttributeSpecification) → GoodAttributes xs
+    → All IsUsable xs × AllPairs (λ a b. a.name ≢ b.name) xs
+good-attributes xs good = all-new IsUsable name_of [] xs (λ k d h. absurd (omega arith))
+    (λ i j d lt h. absurd (omega arith)) good
+
+usable-each : (xs : List AttributeSpecification) (code tag : ℕ) (children : Bool)
+    → IsValid (record { code = code; tag = tag; children = children; attributes = xs })
+    → GoodAttributes xs
+usable-each xs code tag children good = new-each IsUsable name_of [] xs
+    (λ k d h. (good.named k d h, good.forms k d h)) good.once
+
+pub declaration-spelled : (budget : ℕ) (section : List ℕ)
+    → IsSpelled EncodesDeclaration (λ b. IsUleb b 0) (DeclarationFits budget) section
+    (declaration_at budget section)
+declaration-spelled budget section = record { item = item; end = end }
+  where
+    item : (before : List Declaration) (at : ℕ) (x : Declaration) (next : ℕ)
+        → declaration_at budget section before at ≡ Ok (Item x next)
+        → IsEncodedAt EncodesDeclaration section at x next × DeclarationFits budget before x
+    item before at x next h = after-bind (head_at budget section before at) _ (Item x next) h
+        (IsEncodedAt EncodesDeclaration section at x next × DeclarationFits budget before x) by_head
+      where
+        by_head : (found : Next Head) → head_at budget section before at ≡ Ok found
+            → (elim found as (λ _. Result (Next Declaration) Cause) [
+              | End end ↦ Ok (End end)
+              | Item head mid ↦ attributes_at section mid
+                  >>= λ attributes. Ok (Item (record {
+                    code = head.code;
+                    tag = head.tag;
+                    children = head.children;
+                    attributes =
+                        attributes.0;
+                  }) attributes.1)
+            ]) ≡ Ok (Item x next)
+            → IsEncodedAt EncodesDeclaration section at x next × DeclarationFits budget before x
+        by_head (End end) is h = cc
+        by_head (Item head mid) is h =
+            let P : Type 0 = IsEncodedAt EncodesDeclaration section at x next
+            × DeclarationFits budget before x in
+            after-bind (attributes_at section mid) _ (Item x next) h P
+            (λ attributes attributes_are last.
+            let front = head-spelled budget section before at head mid is in
+            let others = attributes-spelled section mid attributes attributes_are in
+            let whole = joined section at front.0.front others.0.front mid attributes.1 front.0.rest
+            others.0.rest (stretch-of EncodesHead section at head mid front.0)
+            (stretch-of EncodesAttributes section mid attributes.0 attributes.1 others.0) in
+            let it : Declaration = record {
+              code = head.code;
+              tag = head.tag;
+              children = head.children;
+              attributes =
+                  attributes.0;
+            } in
+            let facts = good-attributes attributes.0 others.1 in
+            let good : IsValid it = record {
+              code = front.1.some;
+              named = λ k d h. (facts.0 k d h).0;
+              forms =
+                  λ k d h. (facts.0 k d h).1;
+              once = facts.1;
+            } in
+            let fits : DeclarationFits budget before it = (front.1.room_left, (good, front.1.new))
+            in
+            let stands : IsEncodedAt EncodesDeclaration section at it attributes.1 =
+            stands-from EncodesDeclaration section at it attributes.1
+            (front.0.front ++ others.0.front) others.0.rest whole
+            (record {
+              code = front.0.encoded.code;
+              tag = front.0.encoded.tag;
+              attributes = others.0.encoded.items;
+              end = others.0.encoded.end;
+              whole = ap (λ (b : List ℕ). b ++ others.0.front) front.0.encoded.whole
+                  ∙ (append_assoc (front.0.encoded.code ++ front.0.encoded.tag)
+                  ((if head.children then 1 else 0) ∷ []) others.0.front
+                  ∙ ap (λ (b : List ℕ). (front.0.encoded.code ++ front.0.encoded.tag)
+                  ++ ((if head.children then 1 else 0) ∷ b)) others.0.encoded.whole);
+              code_is = front.0.encoded.code_is;
+              tag_is = front.0.encoded.tag_is;
+              attributes_are = others.0.encoded.items_are;
+              ends = others.0.encoded.ends_it;
+            }) in
+            let same = same-item it x attributes.1 next last in (
+              subst (λ (k : ℕ). IsEncodedAt EncodesDeclaration section at x k) same.1
+                  (subst (λ (y : Declaration). IsEncodedAt EncodesDeclaration section at y
+                  attributes.1)
+                  same.0 stands),
+              subst (λ (y : Declaration). DeclarationFits budget before y) same.0
+                  fits,
+            ))
+
+    end : (before : List Declaration) (at next : ℕ) → declaration_at budget section before at
+        ≡ Ok (End next) → EndStands (λ b. IsUleb b 0) section at next
+    end before at next h = after-bind (head_at budget section before at) _ (End next) h
+        (EndStands (λ b. IsUleb b 0) section at next) by_head
+      where
+        by_head : (found : Next Head) → head_at budget section before at ≡ Ok found
+            → (elim found as (λ _. Result (Next Declaration) Cause) [
+              | End end ↦ Ok (End end)
+              | Item head mid ↦ attributes_at section mid
+                  >>= λ attributes. Ok (Item (record {
+                    code = head.code;
+                    tag = head.tag;
+                    children = head.children;
+                    attributes =
+                        attributes.0;
+                  }) attributes.1)
+            ]) ≡ Ok (End next)
+            → EndStands (λ b. IsUleb b 0) section at next
+        by_head (End last) is h =
+            let zero = head-end budget section before at last is in
+            subst (λ (k : ℕ). EndStands (λ b. IsUleb b 0) section at k)
+            (same-end {X = Declaration} last next h)
+            (stands-from (λ b (u : Unit {0}). IsUleb b 0) section at tt last zero.front zero.rest
+            (stretch-of IsUleb section at 0 last zero) zero.encoded)
+        by_head (Item head mid) is h = after-bind (attributes_at section mid) _ (End next) h
+            (EndStands (λ b. IsUleb b 0) section at next) (λ attributes attributes_are last. cc)
+
+pub declaration-read : (budget : ℕ) (section : List ℕ)
+    → IsRead EncodesDeclaration (λ b. IsUleb b 0) (DeclarationFits budget) section
+    (declaration_at budget section)
+declaration-read budget section = record { item = item; end = end }
+  where
+    item : (before : List Declaration) (at : ℕ) (x : Declaration) (next : ℕ)
+        → IsEncodedAt EncodesDeclaration section at x next → DeclarationFits budget before x
+        → declaration_at budget section before at ≡ Ok (Item x next)
+    item before at x next s fits =
+        let encoded = s.encoded in
+        let byte : List ℕ = (if x.children then 1 else 0) ∷ [] in
+        let front = (encoded.code ++ encoded.tag) ++ byte in
+        let behind_it = encoded.attributes ++ encoded.end in
+        let regrouped : s.front ≡ front ++ behind_it =
+        encoded.whole ∙ sym (append_assoc (encoded.code ++ encoded.tag) byte behind_it) in
+        let all = respelled section at s.front (front ++ behind_it) next s.rest regrouped
+        (stretch-of EncodesDeclaration section at x next s) in
+        let mid = at + length front in
+        let head = head-read budget section before at
+        (record { code = x.code; tag = x.tag; children = x.children }) mid encoded.code
+        encoded.tag (behind_it ++ s.rest)
+        (first-part section at front behind_it next s.rest all) encoded.code_is encoded.tag_is
+        (record { some = fits.1.0.code; room_left = fits.0; new = fits.1.1 }) in
+        let attributes = attributes-read section mid x.attributes next encoded.attributes
+        encoded.end s.rest (second-part section at front behind_it next s.rest all)
+        encoded.attributes_are encoded.ends
+        (usable-each x.attributes x.code x.tag x.children fits.1.0) in
+        rw (head, attributes) refl
+
+    end : (before : List Declaration) (at next : ℕ) → EndStands (λ b. IsUleb b 0) section at next
+        → declaration_at budget section before at ≡ Ok (End next)
+    end before at next s =
+        let zero = uleb-reads section at 0 next
+        (stands-from IsUleb section at 0 next s.front s.rest
+        (stretch-of (λ b (u : Unit {0}). IsUleb b 0) section at tt next s) s.encoded) in
+        rw zero refl

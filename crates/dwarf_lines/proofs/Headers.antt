@@ -1,0 +1,12 @@
+pub mod BoundsEncodings
+pub mod BoundsLaws
+pub mod EntryEncodings
+pub mod FieldEncodings
+pub mod FieldTurns
+pub mod FieldsWithBytes
+pub mod FormatEncodings
+pub mod HeaderEncodings
+pub mod HeadersEncoded
+pub mod ParameterEncodings
+pub mod PathEncodings
+pub mod TableEncodings

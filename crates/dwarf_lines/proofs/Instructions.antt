@@ -1,0 +1,5 @@
+pub mod EncodingLaws
+pub mod InstructionReads
+pub mod OperandEncodings
+pub mod Operands
+pub mod ReadingLaws

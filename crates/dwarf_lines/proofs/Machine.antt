@@ -1,0 +1,5 @@
+pub mod MachineLaws
+pub mod StepKinds
+pub mod StepRows
+pub mod Steps
+pub mod Turns

@@ -1,0 +1,4 @@
+pub mod Offsets
+pub mod ProgramTurns
+pub mod SectionEncodings
+pub mod WholePrograms

@@ -1,5 +1,0 @@
-use Rattle.dwarf_lines.proofs.HeadersSpelled.{header_stands, header_again}
-use Rattle.dwarf_lines.proofs.laws.headers_are_spelled.Goals as goal
-
-pub returns : goal.returns
-returns c s place header = (header_stands s place header, header_again s place header)

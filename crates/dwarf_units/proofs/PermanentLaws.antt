@@ -1,0 +1,142 @@
+-- The permanently cached tables, as one more table is added.
+use Rattle.std.proofs.Common.{◌≡◌, ◌⊎◌, inl, inr, Bool, get_or, ℕ, suc, zero, ◌+◌, ◌<◌, ◌≤◌, List}
+use Rattle.std.proofs.Common.{[], ◌∷◌, ◌++◌, length, take, length-take-le, true, false, refl, ap}
+use Rattle.std.proofs.Common.{sym, ◌∙◌, subst, arith}
+use Rattle.std.specs.Prelude.{Some, slice_get, sum_by, nat_le, if◌then◌else◌}
+use Rattle.std.specs.List.{All}
+use Rattle.std.proofs.lemmas.Grind.{common_steps}
+use Rattle.std.proofs.lemmas.List.{get_or-take, take_more, length-take}
+use Rattle.std.proofs.lemmas.List.Elements.{All-append, All-cons, All-nil}
+use Rattle.std.proofs.lemmas.List.Sums.{sum_by_push, sum_by-append}
+use Rattle.dwarf_units.specs.declared.unit_headers.UnitHeader.{UnitHeader}
+use Rattle.dwarf_units.specs.Private.Plans.{Table, table_size}
+use Rattle.dwarf_units.specs.Private.Tables.{IsAdded, IsParsedFrom, IsAt, CachedTables}
+use Rattle.dwarf_units.specs.Private.Tables.{IsCachedOrTooLarge, with_table, size_limit}
+use Rattle.dwarf_units.specs.Units.{declarations_limit}
+use Rattle.dwarf_units.proofs.StoredLaws.{take_all, take-front}
+use Rattle.dwarf_units.proofs.TableLaws.{stands-read, behind-at}
+
+-- Permanently cached tables are only appended to.
+abbrev pub Grows : CachedTables → CachedTables → Type 0
+Grows old new = (rest : List Table) × (take new.kept new.tables ≡ take old.kept old.tables ++ rest)
+
+append-none : (xs : List Table) → xs ≡ xs ++ []
+append-none [] = refl
+append-none (x ∷ xs) = ap (λ (ys : List Table). x ∷ ys) (append-none xs)
+
+got-before : (xs ys : List Table) (i : ℕ) (t : Table) → slice_get xs i ≡ Some t
+    → slice_get (xs ++ ys) i ≡ Some t
+got-before [] ys i t at = cc
+got-before (x ∷ xs) ys zero t at = at
+got-before (x ∷ xs) ys (suc i) t at = got-before xs ys i t at
+
+-- What holds for the table of a unit still holds after more tables are cached.
+pub stays-on : (old new : CachedTables) (unit : UnitHeader) → Grows old new
+    → new.section ≡ old.section → IsCachedOrTooLarge old unit → IsCachedOrTooLarge new unit
+stays-on old new unit grows same (table, at, stands, is) =
+    (table, at, subst (λ (s : List ℕ). IsParsedFrom s table) (sym same) stands, by_case is)
+  where
+    by_case : ((number : ℕ) × (slice_get (take old.kept old.tables) number ≡ Some table))
+        ⊎ (size_limit old.section < sum_by table_size (take old.kept old.tables) + table_size table)
+        → ((number : ℕ) × (slice_get (take new.kept new.tables) number ≡ Some table))
+        ⊎ (size_limit new.section < sum_by table_size (take new.kept new.tables) + table_size
+        table)
+    by_case (inl there) = inl (
+      there.0,
+      ap (λ (ts : List Table). slice_get ts there.0) grows.1
+          ∙ got-before (take old.kept old.tables) grows.0 there.0 table there.1,
+    )
+    by_case (inr large) =
+        let sum : sum_by table_size (take new.kept new.tables)
+        ≡ sum_by table_size (take old.kept old.tables) + sum_by table_size grows.0 =
+        ap (λ (ts : List Table). sum_by table_size ts) grows.1
+        ∙ sum_by-append table_size (take old.kept old.tables) grows.0 in
+        let limit : size_limit new.section ≡ size_limit old.section =
+        ap (λ (s : List ℕ). size_limit s) same in
+        inr (omega (arith, large, sum, limit))
+
+-- A table that is added for a unit stays in the cache, or exceeds the limit.
+pub stays-with : (old : CachedTables) (unit : UnitHeader) (table : Table)
+    → old.kept ≤ length old.tables → IsAt unit.format unit.abbreviations table
+    → IsParsedFrom old.section table → IsCachedOrTooLarge (with_table old table) unit
+    × Grows old (with_table old table)
+stays-with old unit table within at stands =
+    let before : List Table = take old.kept old.tables in
+    by_test before (length-take-le old.kept old.tables within) refl
+    (nat_le (sum_by table_size (before ++ table ∷ [])) (size_limit old.section)) refl
+  where
+    gt : (a b : ℕ) → nat_le a b ≡ false → b < a
+    gt a b h = grind (arith, common_steps)
+
+    by_test : (before : List Table) → length before ≡ old.kept → before ≡ take old.kept old.tables
+        → (b : Bool) → nat_le (sum_by table_size (before ++ table ∷ [])) (size_limit old.section)
+        ≡ b
+        → (let new : CachedTables = record {
+          section = old.section;
+          tables = before ++ table ∷ [];
+          kept =
+              if b then length (before ++ table ∷ []) else old.kept;
+        } in
+        IsCachedOrTooLarge new unit × Grows old new)
+    by_test before len is true fits =
+        let tables : List Table = before ++ table ∷ [] in
+        let whole : take (length tables) tables ≡ tables = take_all tables in (
+          (
+            table,
+            at,
+            stands,
+            inl (
+              length before,
+              ap (λ (ts : List Table). slice_get ts (length before)) whole
+                  ∙ behind-at before tables (length before) table refl refl,
+            ),
+          ),
+          (table ∷ [], whole ∙ ap (λ (ts : List Table). ts ++ table ∷ []) is),
+        )
+    by_test before len is false past =
+        let tables : List Table = before ++ table ∷ [] in
+        let front : take old.kept tables ≡ before =
+        subst (λ (k : ℕ). take k tables ≡ before) len (take-front before (table ∷ [])) in
+        let sum : sum_by table_size (take old.kept tables) ≡ sum_by table_size before =
+        ap (λ (ts : List Table). sum_by table_size ts) front in
+        let large : size_limit old.section < sum_by table_size tables =
+        gt (sum_by table_size tables) (size_limit old.section) past in (
+          (table, at, stands, inr (omega (arith, sum, large, sum_by_push table_size before table))),
+          ([], front ∙ (is ∙ append-none (take old.kept old.tables))),
+        )
+
+-- The same for a table that was parsed for the unit.
+pub stays-behind : (old new : CachedTables) (unit : UnitHeader) (budget left number : ℕ)
+    → old.kept ≤ length old.tables → budget ≤ declarations_limit
+    → IsAdded unit.format unit.abbreviations budget left old new number
+    → IsCachedOrTooLarge new unit × Grows old new
+stays-behind old new unit budget left number within few added =
+    let stands : IsParsedFrom old.section added.table =
+    stands-read old.section budget added.table unit.abbreviations added.at.0 added.read
+    (omega (arith, added.counted, few)) in
+    subst (λ (k : CachedTables). IsCachedOrTooLarge k unit × Grows old k) (sym added.added)
+    (stays-with old unit added.table within added.at stands)
+
+-- It holds for the units up to the next index.
+pub stays-next : (old new : CachedTables) (units : List UnitHeader) (index : ℕ) (d : UnitHeader)
+    → Grows old new → new.section ≡ old.section → index < length units
+    → IsCachedOrTooLarge new (get_or units index d) → All (IsCachedOrTooLarge old)
+    (take index units)
+    → All (IsCachedOrTooLarge new) (take (index + 1) units)
+stays-next old new units index d grows same within here all =
+    subst (λ (us : List UnitHeader). All (IsCachedOrTooLarge new) us)
+    (sym (take_more units index d within))
+    (All-append (IsCachedOrTooLarge new) (take index units) (get_or units index d ∷ [])
+    (λ k u lt. stays-on old new (get_or (take index units) k u) grows same (all k u lt))
+    (All-cons (IsCachedOrTooLarge new) (get_or units index d) [] here
+    (All-nil (IsCachedOrTooLarge new))))
+
+pub stays-end : (tables : CachedTables) (units : List UnitHeader) (index : ℕ) → length units ≤ index
+    → All (IsCachedOrTooLarge tables) (take index units) → All (IsCachedOrTooLarge tables) units
+stays-end tables units index past all = λ k u lt.
+    let here : get_or (take index units) k u ≡ get_or units k u =
+    get_or-take index units k u (omega (arith, past, lt)) in
+    subst (λ (unit : UnitHeader). IsCachedOrTooLarge tables unit) here (all k u (long k lt))
+  where
+    long : (k : ℕ) → k < length units → k < length (take index units)
+    long k lt = omega (arith, past, lt, length-take index units)

@@ -1,9 +1,0 @@
-use Rattle.std.proofs.Common.{◌∙◌}
-use Rattle.dwarf_units.proofs.kept_table.KeptTable.read.Goals as goal
-
-pub invariant_of-result : goal.invariant_of-result
-invariant_of-result c = (
-  c.in_ok-plans.ensures,
-  c.in_ok-plain.ensures c.args.format
-      (c.deref.ensures.value ∙ c.in_ok-plans.ensures),
-)

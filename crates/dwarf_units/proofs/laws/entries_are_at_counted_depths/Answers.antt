@@ -1,0 +1,5 @@
+use Rattle.dwarf_units.proofs.EntryOrder.{nodes-AreDepths}
+use Rattle.dwarf_units.proofs.laws.entries_are_at_counted_depths.Goals as goal
+
+pub returns : goal.returns
+returns c = nodes-AreDepths

@@ -1,0 +1,5 @@
+use Rattle.dwarf_units.proofs.RereadLaws.{entries-again}
+use Rattle.dwarf_units.proofs.laws.entries_are_reread.Goals as goal
+
+pub returns : goal.returns
+returns c = entries-again

@@ -1,0 +1,211 @@
+//! A cached abbreviation table and the decode plans of its unshared attributes (DWARF 5, 7.5.3).
+
+ghost use Rattle.std.specs.Prelude.{◌≡◌, ◌<◌, ◌≤◌, ◌+◌, ◌-◌, ◌*◌, ◌^◌, ◌==◌, Some, None, length};
+ghost use Rattle.std.specs.Prelude.{find, sum_by, IsTrue, ◌↔◌, IfOk, IfNone, IfSome};
+ghost use Rattle.dwarf_bytes.specs.declared.fault.Section.TheVariants as sections;
+ghost use Rattle.dwarf_bytes.specs.Refusals.{Decodes, in_section};
+ghost use Rattle.dwarf_forms.specs.Tables.{declarations_of};
+ghost use Rattle.dwarf_forms.specs.Private.SharedTables.{full_declarations};
+ghost use Rattle.dwarf_units.specs.Private.Links.{LinksGrow};
+ghost use Rattle.dwarf_units.specs.Private.FixedSizeHeads.{AreFixedSize, precomputed_head};
+ghost use Rattle.dwarf_units.specs.Private.FixedSizeHeads.{fixed_size_head};
+ghost use Rattle.dwarf_units.specs.Private.Plans.{plan_of, plan_len};
+ghost use Rattle.dwarf_units.specs.Private.SharedTables.{IsReadable, own_size, plans_of};
+
+use crate::fixed_size_head::FixedSizeHead;
+use crate::linked_lists::LinkedLists;
+use crate::plans::{Plan, plans};
+use crate::unit_headers::UnitHeader;
+use dwarf_bytes::{Format, LoadFault};
+use dwarf_forms::{AbbreviationDeclaration, AbbreviationTable};
+use std::alloc::{AllocError, Global};
+use std::marker::Model;
+
+/// The greatest abbreviation code that is encoded in one byte.
+const CODE_LIMIT: usize = 127;
+
+/// An abbreviation table, its offset in `.debug_abbrev`, and the decode plans of its unshared
+/// attributes in units of a format.
+#[derive(Drop)]
+pub(crate) struct CachedTable {
+    offset: u64,
+    format: Format,
+    table: AbbreviationTable,
+    plans: Vec<Plan>,
+    /// The heads of fixed-size entries by code. Index 0 is code 1.
+    fixed_size: Vec<Option<FixedSizeHead>>,
+}
+
+impl Model for CachedTable {
+    ghost use Rattle.std.specs.Prelude.{◌≡◌};
+    ghost use Rattle.dwarf_units.specs.Private.FixedSizeHeads.{AreFixedSize};
+    ghost use Rattle.dwarf_units.specs.Private.SharedTables.{SharedTable, plans_of};
+
+    ghost Value = { SharedTable };
+
+    ghost view = { λ t. record {
+      offset = t.offset;
+      format = t.format;
+      declarations = t.table;
+    } };
+
+    ghost invariant = { λ t. (t.plans.items ≡ plans_of t.format t.table)
+        × AreFixedSize t.format t.table t.fixed_size.items };
+}
+
+impl CachedTable {
+    /// Parses the table at an offset, as `AbbreviationTable::read` does.
+    pub(crate) fn read(
+        alloc: Global,
+        lists: &mut LinkedLists<'_>,
+        format: Format,
+        offset: u64,
+        left: &mut u64,
+    ) -> Result<CachedTable, LoadFault>
+        ensures decodes { Decodes (λ table. full_declarations lists.new.places.memoized
+            table.declarations) result
+            (in_section sections.DebugAbbrev
+            (declarations_of left.old lists.old.places.section offset)) }
+        ensures counted { IfOk result (λ table. left.new + length table.declarations ≡ left.old) }
+        ensures place { IfOk result (λ table. (table.offset ≡ offset) × (table.format ≡ format)) }
+        ensures readable { IfOk result (IsReadable lists.new) }
+        ensures grows { LinksGrow lists.old lists.new }
+    {
+        let table = lists.table(alloc, format, offset, left)?;
+        let plans = plans(alloc, format, &table)?;
+        let fixed_size = fixed_size_heads(alloc, &table, &plans)?;
+        Ok(CachedTable {
+            offset,
+            format,
+            table,
+            plans,
+            fixed_size,
+        })
+    }
+
+    /// Returns the format of the units that the table decodes.
+    pub(crate) fn format(&self) -> Format
+        ensures { result ≡ self.now.format }
+    {
+        self.format
+    }
+
+    pub(crate) fn offset(&self) -> u64
+        ensures { result ≡ self.now.offset }
+    {
+        self.offset
+    }
+
+    /// Returns the declaration of a code and the decode plan of its unshared attributes.
+    pub(crate) fn find(&self, code: u64) -> Option<(&AbbreviationDeclaration, &Plan)>
+        ensures some { IfSome result (λ found. (find
+            (λ declaration. declaration.code == code) self.now.declarations ≡ Some found.0.now)
+            × (found.1.now ≡ plan_of self.now.format found.0.now.list.own)) }
+        ensures none { IfNone result (find
+            (λ declaration. declaration.code == code) self.now.declarations ≡ None) }
+    {
+        declaration_and_plan(&self.table, &self.plans, code)
+    }
+
+    /// Returns the fixed-size head of a one-byte code, if there is one.
+    // Inlined: called for each entry.
+    #[inline(always)]
+    pub(crate) fn fixed_size(&self, code: u8) -> Option<FixedSizeHead>
+        ensures { result ≡ precomputed_head self.now code }
+    {
+        let place = usize::from(code).checked_sub(1)?;
+        *self.fixed_size.get(place)?
+    }
+
+    /// Returns the number of declarations.
+    pub(crate) fn len(&self) -> u64
+        ensures { result ≡ length self.now.declarations }
+    {
+        self.table.declarations().len() as u64
+    }
+
+    /// Returns the size of the table: the number of its declarations, unshared attributes and plan
+    /// steps.
+    pub(crate) fn size(&self) -> u128
+        ensures { result ≡ own_size self.now }
+    {
+        let attributes = attribute_count(self.table.declarations());
+        u128::from(self.len()) + attributes + step_count(&self.plans)
+    }
+
+    /// Returns whether a unit uses this table: the offset and the format are equal.
+    pub(crate) fn is_of(&self, header: &UnitHeader) -> bool
+        ensures { IsTrue result ↔ ((self.now.offset ≡ header.now.abbreviations)
+            × (self.now.format ≡ header.now.format)) }
+    {
+        self.offset == header.abbreviations && self.format == header.format
+    }
+}
+
+/// Returns the declaration of a code and its plan. `plans` is parallel to the declarations.
+fn declaration_and_plan<'a>(
+    table: &'a AbbreviationTable,
+    plans: &'a [Plan],
+    code: u64,
+) -> Option<(&'a AbbreviationDeclaration, &'a Plan)>
+    ensures some { (format : Format) → plans.now ≡ plans_of format table.now
+        → IfSome result (λ found. (find (λ declaration. declaration.code == code) table.now
+        ≡ Some found.0.now) × (found.1.now ≡ plan_of format found.0.now.list.own)) }
+    ensures none { (format : Format) → plans.now ≡ plans_of format table.now
+        → IfNone result (find (λ declaration. declaration.code == code) table.now ≡ None) }
+{
+    let place = table.position(code)?;
+    let declaration = table.declarations().get(place)?;
+    let plan = plans.get(place)?;
+    Some((declaration, plan))
+}
+
+/// Computes the fixed-size heads of the codes from 1 up to the number of declarations, at most
+/// 127.
+fn fixed_size_heads(
+    alloc: Global,
+    table: &AbbreviationTable,
+    plans: &[Plan],
+) -> Result<Vec<Option<FixedSizeHead>>, AllocError>
+    ensures { (format : Format) → plans.now ≡ plans_of format table.now
+        → IfOk result (λ heads. AreFixedSize format table.now heads.items) }
+{
+    let mut heads = Vec::new(alloc);
+    for place in 0..table.declarations().len().min(CODE_LIMIT) {
+        heads.push(fixed_size_head(table, plans, place as u64 + 1))?;
+    }
+    Ok(heads)
+}
+
+/// Returns the fixed-size head of a code, if its entries have a fixed size.
+fn fixed_size_head(table: &AbbreviationTable, plans: &[Plan], code: u64) -> Option<FixedSizeHead>
+    ensures { (format : Format) → plans.now ≡ plans_of format table.now
+        → result ≡ fixed_size_head format table.now code }
+{
+    let (declaration, plan) = declaration_and_plan(table, plans, code)?;
+    FixedSizeHead::of(declaration, plan)
+}
+
+/// Counts the unshared attributes of declarations.
+fn attribute_count(declarations: &[AbbreviationDeclaration]) -> u128
+    ensures small { result ≤ length declarations.now * (2 ^ 64 - 1) }
+    ensures sum { result ≡ sum_by (λ declaration. length declaration.list.own) declarations.now }
+{
+    let mut count = 0u128;
+    for declaration in declarations {
+        count += declaration.list().own().len() as u128;
+    }
+    count
+}
+
+/// Counts the steps of plans.
+fn step_count(plans: &[Plan]) -> u128
+    ensures small { result ≤ length plans.now * (2 ^ 64 - 2) }
+    ensures sum { result ≡ sum_by plan_len plans.now }
+{
+    let mut count = 0u128;
+    for plan in plans {
+        count += plan.len();
+    }
+    count
+}

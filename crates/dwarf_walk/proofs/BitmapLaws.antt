@@ -1,0 +1,80 @@
+-- The bitmap of entry offsets: the bits that a walk sets, and how they are looked up.
+use Rattle.std.proofs.Common.{◌≡◌, ℕ, ◌*◌, ◌/◌, ◌%◌, ◌^◌, ◌<◌, List, [], ◌++◌, length, set, get_or}
+use Rattle.std.proofs.Common.{Bool, true, false, refl, sym, ap, ◌∙◌, subst, arith, inl, inr}
+use Rattle.std.specs.Prelude.{nat_eq, ◌==◌, ◌||◌, bit_or}
+use Rattle.std.specs.List.{list_any}
+use Rattle.std.specs.Int.{bit_at, w64}
+use Rattle.std.proofs.lemmas.Bool.{cases_eq}
+use Rattle.std.proofs.lemmas.Bool.Decides.{nat_tests}
+use Rattle.std.proofs.lemmas.List.{get_or-set_same, get_or-set_other}
+use Rattle.std.proofs.lemmas.List.Folds.{list_any-append}
+use Rattle.std.proofs.lemmas.Nat.Bits.{bit_at_set_same, bit_at_set_other}
+use Rattle.dwarf_walk.specs.declared.entry_bitmap.EntryBitmap.{EntryBitmap}
+use Rattle.dwarf_walk.specs.Private.EntryBitmap.{has_entry, AddsOffsets}
+
+-- ---- bits in words
+
+-- Whether a bit is set.
+abbrev pub has : List ℕ → ℕ → Bool
+has words k = bit_at (get_or words (k / 64) 0) (k % 64) == 1
+
+set-same : (x y j k : ℕ) → x ≡ 1 → j ≡ k → nat_eq x 1 ≡ (nat_eq y 1 || ((k == j) || false))
+set-same x y j k a b = grind (arith, nat_tests)
+
+set-other : (x y j k : ℕ) → x ≡ y → (j ≡ k → ⊥) → nat_eq x 1 ≡ (nat_eq y 1 || ((k == j) || false))
+set-other x y j k a b = grind (arith, nat_tests)
+
+pub has-set : (words : List ℕ) (k v j : ℕ) → k / 64 < length words
+    → v ≡ bit_or (get_or words (k / 64) 0) (1 * 2 ^ (k % 64) % 2 ^ 64)
+    → has (set words (k / 64) v) j ≡ (has words j || ((k == j) || false))
+has-set words k v j lt is = elim (cases_eq (j / 64) (k / 64)) [
+  | inl same ↦
+      let W : ℕ → Type 0 = λ w. get_or (set words (k / 64) v) w 0 ≡ v in
+      let word : get_or (set words (k / 64) v) (j / 64) 0 ≡ v =
+      subst W (sym same) (get_or-set_same words (k / 64) v 0 lt) in
+      let within : k % 64 < 64 = omega arith in
+      elim (cases_eq (j % 64) (k % 64)) [
+        | inl bit ↦
+            let one : bit_at v (k % 64) ≡ 1 = ap (λ n. bit_at n (k % 64)) is
+            ∙ bit_at_set_same w64 (get_or words (k / 64) 0) (k % 64) within in
+            let here : bit_at (get_or (set words (k / 64) v) (j / 64) 0) (j % 64) ≡ 1 =
+            ap (λ n. bit_at n (j % 64)) word ∙ ap (bit_at v) bit ∙ one in
+            set-same _ (bit_at (get_or words (j / 64) 0) (j % 64)) j k here (omega arith)
+        | inr other ↦
+            let kept : bit_at v (j % 64) ≡ bit_at (get_or words (k / 64) 0) (j % 64) =
+            ap (λ n. bit_at n (j % 64)) is ∙ bit_at_set_other w64 (get_or words (k / 64) 0) (k % 64)
+            within (j % 64) other in
+            let here : bit_at (get_or (set words (k / 64) v) (j / 64) 0) (j % 64)
+            ≡ bit_at (get_or words (j / 64) 0) (j % 64) =
+            ap (λ n. bit_at n (j % 64)) word ∙ kept ∙ ap (λ w. bit_at (get_or words w 0) (j % 64))
+            (sym same) in
+            set-other _ _ j k here (λ e. other (ap (λ n. n % 64) e))
+      ]
+  | inr other ↦
+      let here : bit_at (get_or (set words (k / 64) v) (j / 64) 0) (j % 64)
+      ≡ bit_at (get_or words (j / 64) 0) (j % 64) =
+      ap (λ n. bit_at n (j % 64)) (get_or-set_other words (k / 64) (j / 64) v 0 other) in
+      set-other _ _ j k here (λ e. other (ap (λ n. n / 64) e))
+]
+
+-- ---- setting bits
+
+or-none : (b : Bool) → b ≡ (b || false)
+or-none true = refl
+or-none false = refl
+
+or-more : (a b c : Bool) → ((a || b) || c) ≡ (a || (b || c))
+or-more true b c = refl
+or-more false b c = refl
+
+pub adds-none : (bitmap : EntryBitmap) → AddsOffsets bitmap bitmap []
+adds-none bitmap at = or-none (has_entry bitmap at)
+
+pub adds-more : (old mid new : EntryBitmap) (xs ys : List ℕ) → AddsOffsets old mid xs
+    → AddsOffsets mid new ys
+    → AddsOffsets old new (xs ++ ys)
+adds-more old mid new xs ys first second at =
+    let p : ℕ → Bool = λ place. place == at in
+    second at ∙ (ap (λ (b : Bool). b || list_any p ys) (first at)
+    ∙ (or-more (has_entry old at) (list_any p xs) (list_any p ys)
+    ∙ ap (λ (b : Bool). has_entry old at || b) (sym (list_any-append p xs ys))))

@@ -1,0 +1,144 @@
+-- An entry with only some of its attributes stored.
+use Rattle.std.proofs.Common.{◌≡◌, ℕ, List, [], ◌∷◌, Bool, true, false, cond, refl, ap, sym, ◌∙◌}
+use Rattle.std.proofs.Common.{subst}
+use Rattle.std.specs.Prelude.{Option, Some, None, is_some, option_map, Ok, find, filter, not, ◌==◌}
+use Rattle.std.proofs.lemmas.Bool.{false≢true, eqb-true}
+use Rattle.dwarf_bytes.specs.declared.constants.TheConstants.{DW_AT_ABSTRACT_ORIGIN}
+use Rattle.dwarf_bytes.specs.declared.constants.TheConstants.{DW_AT_ADDR_BASE, DW_AT_LINKAGE_NAME}
+use Rattle.dwarf_bytes.specs.declared.constants.TheConstants.{DW_AT_LOW_PC, DW_AT_NAME}
+use Rattle.dwarf_bytes.specs.declared.constants.TheConstants.{DW_AT_RNGLISTS_BASE}
+use Rattle.dwarf_bytes.specs.declared.constants.TheConstants.{DW_AT_SPECIFICATION, DW_AT_STMT_LIST}
+use Rattle.dwarf_bytes.specs.declared.constants.TheConstants.{DW_AT_STR_OFFSETS_BASE}
+use Rattle.dwarf_bytes.specs.declared.format.Format.{Format}
+use Rattle.dwarf_forms.specs.Declarations.{Declaration}
+use Rattle.dwarf_units.specs.declared.attributes.Attribute.{Attribute}
+use Rattle.dwarf_units.specs.declared.attributes.AttributeValue.{AttributeValue}
+use Rattle.dwarf_walk.specs.declared.walk.NodeHead.{NodeHead}
+use Rattle.dwarf_walk.specs.declared.unit_entries.RootEntry.{RootEntry}
+use Rattle.dwarf_units.specs.Attributes.{is_used}
+use Rattle.dwarf_units.specs.Entries.{Die, value_of, node_at_depth}
+use Rattle.dwarf_walk.specs.Private.Stored.{named_entry, root_entry}
+use Rattle.dwarf_walk.specs.References.{or_else}
+use Rattle.dwarf_walk.specs.Private.Readers.{HasStored, IsAfterEntry, node_of, WalkState}
+use Rattle.dwarf_walk.specs.Private.Readers.{depth_after_entry, after_die, state_at}
+use Rattle.dwarf_units.specs.Private.Plans.{stored_attributes}
+use Rattle.dwarf_units.specs.Private.Used.{Used}
+
+-- The value of a used attribute is stored if used attributes are.
+pub value-kept : (xs : List Attribute) (name : ℕ) → is_used name ≡ true
+    → value_of (filter (λ a. is_used a.name) xs) name ≡ value_of xs name
+value-kept [] name used = refl
+value-kept (a ∷ xs) name used = by_used (is_used a.name) refl (value-kept xs name used)
+  where
+    rest : List Attribute
+    rest = filter (λ b. is_used b.name) xs
+
+    found : Bool → List Attribute → Option AttributeValue
+    found t ys = option_map (λ (b : Attribute). b.value)
+        (cond t (Some a) (find (λ b. b.name == name) ys))
+
+    by_name : (t : Bool) → value_of rest name ≡ value_of xs name → found t rest ≡ found t xs
+    by_name true behind = refl
+    by_name false behind = behind
+
+    by_other : (t : Bool) → (a.name == name) ≡ t → is_used a.name ≡ false
+        → value_of rest name ≡ value_of xs name → value_of rest name ≡ found t xs
+    by_other true same is behind = absurd
+        (false≢true (sym is ∙ (ap (λ (n : ℕ). is_used n) (eqb-true a.name name same) ∙ used)))
+    by_other false same is behind = behind
+
+    by_used : (u : Bool) → is_used a.name ≡ u → value_of rest name ≡ value_of xs name
+        → value_of (cond u (a ∷ rest) rest) name ≡ value_of (a ∷ xs) name
+    by_used true is behind = by_name (a.name == name) behind
+    by_used false is behind = by_other (a.name == name) refl is behind
+
+-- An entry with only its used attributes.
+abbrev pub die_of_kept : Die → Die
+die_of_kept die = record die { attributes = stored_attributes true die.attributes }
+
+root-kept : (die : Die) → root_entry (die_of_kept die) ≡ root_entry die
+root-kept die =
+    rw (
+      value-kept die.attributes DW_AT_STMT_LIST refl,
+      value-kept die.attributes DW_AT_STR_OFFSETS_BASE refl,
+      value-kept die.attributes DW_AT_ADDR_BASE refl,
+      value-kept die.attributes DW_AT_RNGLISTS_BASE refl,
+      value-kept die.attributes DW_AT_LOW_PC
+          refl,
+    ) refl
+
+pub names_at-kept : (die : Die) → named_entry (die_of_kept die) ≡ named_entry die
+names_at-kept die =
+    rw (
+      value-kept die.attributes DW_AT_ABSTRACT_ORIGIN refl,
+      value-kept die.attributes DW_AT_SPECIFICATION refl,
+      value-kept die.attributes DW_AT_NAME
+          refl,
+      value-kept die.attributes DW_AT_LINKAGE_NAME refl,
+    ) refl
+
+-- If there is already a root, a later entry does not replace it.
+root-stays : (root : Option RootEntry) (x y : RootEntry) → not (is_some root) ≡ false
+    → or_else root (Some x) ≡ or_else root (Some y)
+root-stays (Some r) x y rooted = refl
+root-stays None x y rooted = absurd (false≢true (sym rooted))
+
+-- The state after an entry depends only on its stored attributes.
+pub after-kept : (w : WalkState) (offset depth tag : ℕ) (all found : List Attribute)
+    → found ≡ stored_attributes (not (is_some w.root)) all
+    → after_die w (record { offset = offset; depth = depth; tag = tag; attributes = found })
+    ≡ after_die w (record { offset = offset; depth = depth; tag = tag; attributes = all })
+after-kept w offset depth tag all found are = by_flag (not (is_some w.root)) refl are
+  where
+    die : Die
+    die = record { offset = offset; depth = depth; tag = tag; attributes = all }
+
+    other : Die
+    other = record { offset = offset; depth = depth; tag = tag; attributes = found }
+
+    by_flag : (f : Bool) → not (is_some w.root) ≡ f → found ≡ stored_attributes f all
+        → after_die w other ≡ after_die w die
+    by_flag true is are = rw are (rw (root-kept die) refl)
+    by_flag false is are = rw (root-stays w.root (root_entry other) (root_entry die) is) refl
+
+-- A step returns the entry that is read, and stores its used attributes if there is no root yet.
+abbrev ReadsEntry : Format → List Declaration → WalkState → Bool → List ℕ → ℕ → ℕ → Option NodeHead
+    → Used → Type 0
+ReadsEntry format table w rooted unit at after found used =
+    (all : List Attribute) × (node_at_depth format table w.depth rooted unit at
+    ≡ Ok (node_of found all, after)) × HasStored (not rooted) found used all
+
+-- The state after an entry that is read. The depth is not yet updated.
+entry-kept : (format : Format) (table : List Declaration) (w kept : WalkState) (unit : List ℕ)
+    (at after : ℕ) (head : NodeHead) (used : Used)
+    → ReadsEntry format table w (is_some w.root) unit at after (Some head) used
+    → IsAfterEntry w kept at head.tag used
+    → (state_at format table w unit at ≡ Ok
+    (record kept { depth = depth_after_entry head.children w.depth }, after))
+    × (kept.depth ≡ w.depth)
+entry-kept format table w kept unit at after head used read is =
+    let keep = not (is_some w.root) in
+    let all : kept ≡ after_die w (record
+    { offset = at; depth = w.depth; tag = head.tag; attributes = read.0 }) =
+    is (stored_attributes keep read.0) read.2 ∙ after-kept w at w.depth head.tag read.0
+    (stored_attributes keep read.0) refl in
+    (rw (read.1, all) refl, ap (λ (x : WalkState). x.depth) all)
+
+-- The same for a step that has the offset of the entry and knows whether there is a root.
+pub step-kept : (format : Format) (table : List Declaration) (w kept : WalkState) (unit : List ℕ)
+    (at after : ℕ) (found : Option NodeHead) (head : NodeHead) (used : Used) (rooted : Bool)
+    (offset : ℕ)
+    → rooted ≡ is_some w.root → offset ≡ at → found ≡ Some head
+    → ReadsEntry format table w rooted unit at after found used
+    → IsAfterEntry w kept offset head.tag used
+    → (state_at format table w unit at ≡ Ok
+    (record kept { depth = depth_after_entry head.children w.depth }, after))
+    × (kept.depth ≡ w.depth)
+step-kept format table w kept unit at after found head used rooted offset known place is read
+    kept_is =
+    let first = subst (λ (r : Bool). ReadsEntry format table w r unit at after found used) known
+    read in
+    let second = subst (λ (f : Option NodeHead). ReadsEntry format table w (is_some w.root) unit at
+    after f used) is first in
+    entry-kept format table w kept unit at after head used second
+    (subst (λ (k : ℕ). IsAfterEntry w kept k head.tag used) place kept_is)

@@ -1,0 +1,12 @@
+use Rattle.std.proofs.Common.{◌≡◌, ◌≤◌, ◌<◌, ℕ, true}
+use Rattle.dwarf_walk.specs.Sections.{Sections}
+use Rattle.dwarf_walk.specs.Private.Rereading.{IsCachedAt, IsReaderOf}
+use Rattle.dwarf_walk.specs.Private.EntryBitmap.{has_entry}
+use Rattle.dwarf_walk.proofs.entry_reader.EntryReader.cache_unit.Given as goal
+
+abbrev pub invariant-loop-offset : goal.invariant-loop-offset
+invariant-loop-offset l = record {
+  reader : (s : Sections) → IsReaderOf s l.fn.self → IsReaderOf s l.self;
+  cached : (s : Sections) (at : ℕ) → IsReaderOf s l.fn.self → l.header.first ≤ at → at < l.offset
+      → has_entry l.bitmap at ≡ true → IsCachedAt s l.header l.self at;
+}

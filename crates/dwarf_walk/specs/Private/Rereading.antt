@@ -1,0 +1,75 @@
+-- Re-reading entries, for the contracts of the entry reader.
+use Rattle.std.specs.Prelude.{◌≡◌, ℕ, ◌-◌, ◌<◌, ◌≤◌, List, take, Option, Some, Result, Ok, Err}
+use Rattle.std.specs.Prelude.{ok_or, slice_get}
+use Rattle.dwarf_bytes.specs.declared.fault.Cause.{Cause}
+use Rattle.dwarf_bytes.specs.declared.fault.Cause.TheVariants as causes
+use Rattle.dwarf_bytes.specs.declared.format.Format.{Format}
+use Rattle.dwarf_bytes.specs.Bind.{◌>>=◌}
+use Rattle.dwarf_forms.specs.Declarations.{Declaration}
+use Rattle.dwarf_forms.specs.Tables.{declarations_of}
+use Rattle.dwarf_units.specs.Units.{declarations_limit}
+use Rattle.dwarf_units.specs.declared.unit_headers.UnitHeader.{UnitHeader}
+use Rattle.dwarf_units.specs.Private.Plans.{Table}
+use Rattle.dwarf_units.specs.Private.Tables.{IsAt}
+use Rattle.dwarf_units.specs.Entries.{entry_at}
+use Rattle.dwarf_bytes.specs.Refusals.{Fails}
+use Rattle.dwarf_walk.specs.declared.entry_reader.EntryReader.{EntryReader}
+use Rattle.dwarf_walk.specs.declared.entry_reader.TheConstants.{LONG}
+use Rattle.dwarf_walk.specs.declared.unit_entries.NamedEntry.{NamedEntry}
+use Rattle.dwarf_walk.specs.declared.unit_entries.ScopeEntry.{ScopeEntry}
+use Rattle.dwarf_walk.specs.declared.long_entries.LongEntry.{LongEntry}
+use Rattle.dwarf_walk.specs.Sections.{Sections}
+use Rattle.dwarf_walk.specs.Private.Stored.{scope_entry_of}
+use Rattle.dwarf_walk.specs.Private.Long.{cached_at, long_entry, AreCachedOf}
+use Rattle.dwarf_walk.specs.Private.Named.{entry_with, used_at, named_entry_at}
+
+-- The first part of what is read is the result, and the second part is in the output argument. The
+-- call may also fail because memory ran out.
+abbrev pub ReturnsAndStores : {X Y : Type 0} → Result X Cause → Y → Result (X × Y) Cause → Type 0
+ReturnsAndStores (Ok x) left outcome = outcome ≡ Ok (x, left)
+ReturnsAndStores (Err cause) left outcome = Fails cause outcome
+
+-- The size in bytes of the entry at an offset of a unit.
+abbrev pub len_at : Format → List Declaration → List ℕ → ℕ → Result ℕ Cause
+len_at format table unit offset =
+    entry_at format table unit offset >>= λ entry. Ok (entry.1 - offset)
+
+-- The table at the reader's index is the table of a unit.
+abbrev pub HasTableOf : UnitHeader → EntryReader → Type 0
+HasTableOf header reader =
+    (table : Table) × (slice_get reader.tables.tables reader.number ≡ Some table)
+    × IsAt header.format header.abbreviations table
+
+-- The table of a unit is cached permanently, and the reader has its index.
+abbrev pub HasPermanentTable : UnitHeader → EntryReader → Type 0
+HasPermanentTable header reader = HasTableOf header reader × (reader.number < reader.tables.kept)
+
+-- The entry at an offset of a unit is short enough to be re-read for each reference to it.
+abbrev pub IsShort : Format → List Declaration → List ℕ → ℕ → Type 0
+IsShort format table unit offset =
+    (len : ℕ) → len_at format table unit offset ≡ Ok len → len ≤ LONG
+
+-- The scope at an offset of a unit. An entry that is not a scope is refused as an invalid
+-- reference.
+abbrev pub scope_entry_at : Format → List Declaration → List ℕ → ℕ → Result ScopeEntry Cause
+scope_entry_at format table unit offset =
+    used_at format table unit offset
+    >>= λ entry. ok_or (scope_entry_of (entry_with offset entry)) causes.Reference
+
+-- The reader reads these sections, and its cached entries are entries of them.
+pub record IsReaderOf (s : Sections) (reader : EntryReader) : Type 0 where
+  pub section : reader.tables.section ≡ s.debug_abbrev
+  pub info : reader.info.now ≡ s.debug_info
+  pub long : AreCachedOf s.debug_abbrev s.debug_info reader.long
+
+-- The cached entry at an offset.
+abbrev pub cached_by : EntryReader → ℕ → Option LongEntry
+cached_by reader offset = cached_at reader.long offset
+
+-- If the entry at an offset of a unit can be read, it is cached.
+abbrev pub IsCachedAt : Sections → UnitHeader → EntryReader → ℕ → Type 0
+IsCachedAt s header reader offset =
+    (table : List Declaration) (entry : NamedEntry)
+    → declarations_of declarations_limit s.debug_abbrev header.abbreviations ≡ Ok table
+    → named_entry_at header.format table (take header.«end» s.debug_info) offset ≡ Ok entry
+    → cached_at reader.long offset ≡ Some (long_entry header entry)

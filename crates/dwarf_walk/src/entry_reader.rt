@@ -1,0 +1,231 @@
+//! Re-reading of entries at their offsets.
+
+ghost use Rattle.std.specs.Prelude.{◌≡◌, ◌<◌, ◌≤◌, ◌==◌, ◌⊎◌, ℕ, true, if◌then◌else◌, List, Some};
+ghost use Rattle.std.specs.Prelude.{Ok, OnOk, take};
+ghost use Rattle.dwarf_bytes.specs.declared.fault.Cause.TheVariants as causes;
+ghost use Rattle.dwarf_bytes.specs.Refusals.{Gives};
+ghost use Rattle.dwarf_forms.specs.Declarations.{Declaration};
+ghost use Rattle.dwarf_forms.specs.Tables.{declarations_of};
+ghost use Rattle.dwarf_units.specs.Units.{declarations_limit};
+ghost use Rattle.dwarf_walk.specs.declared.unit_entries.NamedEntry.{NamedEntry as Named};
+ghost use Rattle.dwarf_walk.specs.Sections.{Sections as SectionBytes, sections_of};
+ghost use Rattle.dwarf_walk.specs.Private.Rereading.{ReturnsAndStores, scope_entry_at, IsReaderOf};
+ghost use Rattle.dwarf_walk.specs.Private.Rereading.{len_at, cached_by, HasTableOf};
+ghost use Rattle.dwarf_walk.specs.Private.Rereading.{HasPermanentTable, IsShort, IsCachedAt};
+ghost use Rattle.dwarf_walk.specs.Private.EntryBitmap.{has_entry};
+ghost use Rattle.dwarf_walk.specs.Private.Long.{cached_at, long_entry};
+ghost use Rattle.dwarf_walk.specs.Private.Named.{used_by_name_at, named_entry_at};
+
+use crate::entry_bitmap::EntryBitmap;
+use crate::long_entries::LongEntries;
+use crate::scope_kind::kind_of;
+use crate::sections::Sections;
+use crate::unit_entries::{NamedEntry, ScopeEntry};
+use crate::walk::unit_bytes;
+use dwarf_bytes::{Cause, Cursor};
+use dwarf_units::{Tables, UnitHeader, UsedAttributes};
+use std::alloc::{AllocError, Global};
+
+/// The size in bytes above which an entry is cached, so that it is not re-read for each reference
+/// to it.
+const LONG: usize = 256;
+
+/// Re-reads entries of units with the cached tables. Offsets are relative to the start of
+/// `.debug_info`.
+#[derive(Drop)]
+pub struct EntryReader<'a> {
+    alloc: Global,
+    info: &'a [u8],
+    /// The abbreviation tables of the units.
+    pub tables: Tables<'a>,
+    /// The index of the table that was used last.
+    number: usize,
+    /// The used attributes of the entry that was read last.
+    found: UsedAttributes,
+    /// The size in bytes of that entry.
+    len: usize,
+    /// The cached results for long entries: their names and references.
+    pub(crate) long: LongEntries,
+}
+
+impl<'a> EntryReader<'a> {
+    /// Creates a reader of the entries in `sections`. `tables` must be the tables of its units.
+    pub fn new(alloc: Global, sections: &Sections<'a>, tables: Tables<'a>) -> EntryReader<'a>
+        requires { tables.section ≡ sections.now.debug_abbrev.now }
+        ensures { IsReaderOf (sections_of sections.now) result }
+    {
+        EntryReader {
+            alloc,
+            info: sections.debug_info,
+            tables,
+            number: 0,
+            found: UsedAttributes::none(),
+            len: 0,
+            long: LongEntries::new(alloc),
+        }
+    }
+
+    /// Reads the entry at an offset in the unit of `header` into `found`, and returns its tag.
+    fn entry(&mut self, header: &UnitHeader, offset: usize) -> Result<u64, Cause>
+        ensures entry { (table : List Declaration) → declarations_of declarations_limit
+            self.old.tables.section header.now.abbreviations ≡ Ok table
+            → ReturnsAndStores result self.new.found (used_by_name_at header.now.format table
+            (take header.now.«end» self.old.info.now) offset) }
+        ensures section { self.new.tables.section ≡ self.old.tables.section }
+        ensures info { self.new.info.now ≡ self.old.info.now }
+        ensures long { self.new.long ≡ self.old.long }
+        ensures number { OnOk result (HasTableOf header.now self.new) }
+        ensures len { OnOk result ((table : List Declaration) → declarations_of declarations_limit
+            self.old.tables.section header.now.abbreviations ≡ Ok table
+            → len_at header.now.format table (take header.now.«end» self.old.info.now) offset
+            ≡ Ok self.new.len) }
+    {
+        let number = match self.tables.number_by(self.alloc, header, self.number) {
+            Ok(number) => number,
+            Err(fault) => return Err(fault.cause),
+        };
+        self.number = number;
+        let mut cursor = Cursor::new(unit_bytes(self.info, header));
+        cursor.seek(offset)?;
+        let table = self.tables.table(number);
+        let tag = table.read_entry(&mut cursor, &mut self.found)?;
+        self.len = cursor.place().saturating_sub(offset);
+        Ok(tag)
+    }
+
+    /// Re-reads the scope at an offset in the unit of `header`. Fails with `Cause::Reference` if
+    /// the entry is not a scope.
+    pub fn scope(&mut self, header: &UnitHeader, offset: usize) -> Result<ScopeEntry, Cause>
+        ensures scope { (s : SectionBytes) (table : List Declaration) → IsReaderOf s self.old
+            → declarations_of declarations_limit s.debug_abbrev header.now.abbreviations ≡ Ok table
+            → Gives (λ entry. entry) result (scope_entry_at header.now.format table
+            (take header.now.«end» s.debug_info) offset) }
+        ensures reader { (s : SectionBytes) → IsReaderOf s self.old → IsReaderOf s self.new }
+    {
+        let tag = self.entry(header, offset)?;
+        let kind = kind_of(tag).ok_or(Cause::Reference)?;
+        Ok(ScopeEntry::of(offset, kind, &self.found))
+    }
+
+    /// Returns the names and the reference of the entry at an offset in the unit of `header`. Long
+    /// entries are read once and then cached. If the table of the unit is not cached permanently,
+    /// the first read caches all entries of the unit whose offsets are in `bitmap`.
+    // Inlined: called for each reference.
+    #[inline(always)]
+    pub fn names_at(
+        &mut self,
+        header: &UnitHeader,
+        bitmap: &EntryBitmap,
+        offset: usize,
+    ) -> Result<NamedEntry, Cause>
+        ensures holds { OnOk result ((s : SectionBytes) (table : List Declaration)
+            → IsReaderOf s self.old
+            → declarations_of declarations_limit s.debug_abbrev header.now.abbreviations ≡ Ok table
+            → header.now.first ≤ offset → offset < header.now.«end»
+            → has_entry bitmap.now offset ≡ true → IsCachedAt s header.now self.new offset
+            ⊎ (HasPermanentTable header.now self.new × IsShort header.now.format table
+            (take header.now.«end» s.debug_info) offset)) }
+        ensures cached { (entry : Named) → cached_by self.old offset
+            ≡ Some (long_entry header.now entry) → (result ≡ Ok entry) × (self.new ≡ self.old) }
+        ensures names_at { (s : SectionBytes) (table : List Declaration) → IsReaderOf s self.old
+            → declarations_of declarations_limit s.debug_abbrev header.now.abbreviations ≡ Ok table
+            → Gives (λ entry. entry) result (named_entry_at header.now.format table
+            (take header.now.«end» s.debug_info) offset) }
+        ensures reader { (s : SectionBytes) → IsReaderOf s self.old → IsReaderOf s self.new }
+    {
+        if let Some(entry) = self.long.get(header, offset) {
+            return Ok(entry);
+        }
+        let entry = self.reread_names(header, offset)?;
+        if !self.tables.stays(self.number) {
+            self.cache_unit(header, bitmap)?;
+        } else if self.len > LONG {
+            self.cache_names(header, offset, entry)?;
+        }
+        Ok(entry)
+    }
+
+    /// Caches the entries of the unit of `header` whose offsets are in `bitmap`. Entries that
+    /// cannot be read are skipped.
+    fn cache_unit(&mut self, header: &UnitHeader, bitmap: &EntryBitmap) -> Result<(), AllocError>
+        ensures reader { (s : SectionBytes) → IsReaderOf s self.old → IsReaderOf s self.new }
+        ensures cached { OnOk result ((s : SectionBytes) (at : ℕ) → IsReaderOf s self.old
+            → header.now.first ≤ at → at < header.now.«end» → has_entry bitmap.now at ≡ true
+            → IsCachedAt s header.now self.new at) }
+    {
+        for offset in header.first..header.end {
+            if bitmap.has_entry(offset) {
+                self.cache_entry(header, offset)?;
+            }
+        }
+        Ok(())
+    }
+
+    /// Caches the entry at an offset. An entry that cannot be read is skipped.
+    fn cache_entry(&mut self, header: &UnitHeader, offset: usize) -> Result<(), AllocError>
+        ensures reader { (s : SectionBytes) → IsReaderOf s self.old → IsReaderOf s self.new }
+        ensures cached { OnOk result ((s : SectionBytes) → IsReaderOf s self.old
+            → IsCachedAt s header.now self.new offset) }
+        ensures others { OnOk result ((at : ℕ) → (at ≡ offset → ⊥)
+            → cached_at self.new.long at ≡ cached_at self.old.long at) }
+    {
+        match self.reread_names(header, offset) {
+            Ok(entry) => {
+                self.cache_names(header, offset, entry)?;
+                Ok(())
+            }
+            Err(cause) => {
+                refuse_memory(cause)?;
+                Ok(())
+            }
+        }
+    }
+
+    /// Caches what was read of the entry at an offset, in the unit of `header`.
+    fn cache_names(
+        &mut self,
+        header: &UnitHeader,
+        offset: usize,
+        entry: NamedEntry,
+    ) -> Result<(), AllocError>
+        ensures cached { OnOk result ((at : _) → cached_at self.new.long at ≡ if at == offset
+            then Some (long_entry header.now entry) else cached_at self.old.long at) }
+        ensures reader { (s : SectionBytes) → IsReaderOf s self.old
+            → ((table : List Declaration) → declarations_of declarations_limit s.debug_abbrev
+            header.now.abbreviations ≡ Ok table → named_entry_at header.now.format table
+            (take header.now.«end» s.debug_info) offset ≡ Ok entry) → IsReaderOf s self.new }
+    {
+        self.long.insert(header, offset, entry)
+    }
+
+    /// Re-reads the names and the reference of an entry without using the cache.
+    // Inlined: called for each reference.
+    #[inline(always)]
+    fn reread_names(&mut self, header: &UnitHeader, offset: usize) -> Result<NamedEntry, Cause>
+        ensures names_at { (s : SectionBytes) (table : List Declaration) → IsReaderOf s self.old
+            → declarations_of declarations_limit s.debug_abbrev header.now.abbreviations ≡ Ok table
+            → Gives (λ entry. entry) result (named_entry_at header.now.format table
+            (take header.now.«end» s.debug_info) offset) }
+        ensures reader { (s : SectionBytes) → IsReaderOf s self.old → IsReaderOf s self.new }
+        ensures long { self.new.long ≡ self.old.long }
+        ensures number { OnOk result (HasTableOf header.now self.new) }
+        ensures len { OnOk result ((s : SectionBytes) (table : List Declaration)
+            → IsReaderOf s self.old
+            → declarations_of declarations_limit s.debug_abbrev header.now.abbreviations ≡ Ok table
+            → len_at header.now.format table (take header.now.«end» s.debug_info) offset
+            ≡ Ok self.new.len) }
+    {
+        self.entry(header, offset)?;
+        Ok(NamedEntry::of(offset, &self.found))
+    }
+}
+
+/// Returns an error if the cause is an allocation failure, and ignores all other causes.
+fn refuse_memory(cause: Cause) -> Result<(), AllocError>
+    ensures { OnOk result (cause ≡ causes.Memory → ⊥) }
+{
+    match cause {
+        Cause::Memory => Err(AllocError),
+        _ => Ok(()),
+    }
+}
