@@ -2,7 +2,8 @@
 -- returns the value and the offset after it, or a fault.
 use Rattle.std.specs.Prelude.{All, ◌≢◌, FitsSigned, int_le, int_lt, ◌&&◌, ◌==◌, position, ◌⊎◌}
 use Rattle.std.specs.Prelude.{option_map, Option, ◌≡◌, ℕ, ◌+◌, ◌*◌, ◌-◌, ◌%◌, ◌^◌, ◌<◌, ◌≤◌, ℤ, pos}
-use Rattle.std.specs.Prelude.{◌-ℤ◌, List, [], ◌∷◌, ◌++◌, length, take, drop, slice_index, Bool}
+use Rattle.std.specs.Prelude.{◌-ℤ◌, List, [], ◌∷◌, ◌++◌, length, take, drop, slice_index, get_or}
+use Rattle.std.specs.Prelude.{Bool}
 use Rattle.std.specs.Prelude.{Result, Ok, Err, nat_lt, nat_le, if◌then◌else◌}
 use Rattle.std.specs.Option.{option_map_or}
 use Rattle.std.specs.Int.{w64}
@@ -155,6 +156,12 @@ cstr_at bytes at =
 unfoldable pub text_at : List ℕ → ℕ → Result (List ℕ) ReadFault
 text_at section offset =
     option_map_or (λ text. Ok text) (text_front (drop offset section)) (Err Unterminated)
+
+-- the offset after the last NUL, or 0 if there is none
+pub record EndsStrings (bytes : List ℕ) (end : ℕ) : Type 0 where
+  pub within : end ≤ length bytes
+  pub last : 0 < end → (nul : ℕ) × (end ≡ nul + 1) × (get_or bytes nul 0 ≡ 0)
+  pub none_after : (k : ℕ) → end ≤ k → k < length bytes → get_or bytes k 0 ≢ 0
 
 -- the number of bytes of an initial length, and of an offset into a section (DWARF 5, 7.4)
 abbrev pub length_len : Format → ℕ

@@ -30,5 +30,5 @@ pub use format::Format;
 pub use layout::{Layout, Span};
 pub use object::Object;
 pub use tables::{TableHead, TableKind};
-pub use text::{Text, text_at};
+pub use text::{Text, strings_end, text_at};
 pub use text_index::TextIndex;

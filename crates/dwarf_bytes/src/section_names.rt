@@ -4,10 +4,10 @@
 ghost use Rattle.std.specs.Prelude.{◌≡◌, ◌<◌, Ok, Err, MatchResult, IfOk, IfSome, position};
 ghost use Rattle.dwarf_bytes.specs.Numbers.{text_at};
 ghost use Rattle.dwarf_bytes.specs.Words.{section_name};
-ghost use Rattle.dwarf_bytes.specs.Private.SectionNames.{EndsStrings, IsNumberAt, begins_with};
+ghost use Rattle.dwarf_bytes.specs.Private.SectionNames.{IsNumberAt, begins_with};
 
 use crate::fault::{ReadFault, Section};
-use bstr::ByteSlice;
+use crate::text::strings_end;
 use std::marker::Model;
 
 /// The sections to find, in the order in which their spans are stored.
@@ -32,7 +32,7 @@ pub(crate) struct SectionNames<'a> {
 
 impl<'a> Model for SectionNames<'a> {
     ghost use Rattle.std.specs.Prelude.{ℕ, List};
-    ghost use Rattle.dwarf_bytes.specs.Private.SectionNames.{EndsStrings};
+    ghost use Rattle.dwarf_bytes.specs.Numbers.{EndsStrings};
 
     ghost Value = { List ℕ };
 
@@ -62,16 +62,6 @@ impl<'a> SectionNames<'a> {
             return Err(ReadFault::Unterminated);
         }
         Ok(number_of(&self.bytes[offset as usize..]))
-    }
-}
-
-/// Returns the offset after the last NUL, or 0 if there is none.
-fn strings_end(bytes: &[u8]) -> usize
-    ensures { EndsStrings bytes.now result }
-{
-    match bytes.rfind_byte(0) {
-        Some(last) => last + 1,
-        None => 0,
     }
 }
 

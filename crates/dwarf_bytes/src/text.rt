@@ -2,7 +2,7 @@
 
 ghost use Rattle.std.specs.Prelude.{◌≡◌, ◌<◌, Ok, Err, IfSome, option_map, MatchResult, ◌==◌};
 ghost use Rattle.std.specs.Prelude.{position, length};
-ghost use Rattle.dwarf_bytes.specs.Numbers.{text_front, text_at};
+ghost use Rattle.dwarf_bytes.specs.Numbers.{text_front, text_at, EndsStrings};
 
 use crate::fault::{ReadFault, Section};
 use crate::layout::Span;
@@ -43,4 +43,15 @@ pub fn text_at(section: &[u8], offset: u64) -> Result<&[u8], ReadFault>
         return Err(ReadFault::Unterminated);
     }
     text_front(&section[offset as usize..]).ok_or(ReadFault::Unterminated)
+}
+
+/// Returns the offset after the last NUL of a section, or 0 if there is none. A string starts at each
+/// offset below it, and at no other, so such an offset is validated without reading the string.
+pub fn strings_end(bytes: &[u8]) -> usize
+    ensures { EndsStrings bytes.now result }
+{
+    match bytes.rfind_byte(0) {
+        Some(last) => last + 1,
+        None => 0,
+    }
 }

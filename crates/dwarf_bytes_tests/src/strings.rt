@@ -1,7 +1,7 @@
 //! Strings of sections, and their ends.
 
 use crate::checks::{are_equal, put, put_many};
-use dwarf_bytes::{ReadFault, Section, Span, Text, TextIndex, text_at};
+use dwarf_bytes::{ReadFault, Section, Span, Text, TextIndex, strings_end, text_at};
 use std::process::Abort;
 use std::test::*;
 
@@ -119,5 +119,20 @@ fn spans_are_of_any_bytes(rt: HostRuntime) {
             span: Span { place, len },
         };
         are_equal(&rt, (text, text.span.of(bytes)), (text, want));
+    }
+}
+
+/// The last NUL is the last byte, an inner byte, the only byte, or missing.
+#[test]
+fn strings_end_after_the_last_nul(rt: HostRuntime) {
+    let ends: [(&[u8], usize); 5] = [
+        (b"a\0bc\0", 5),
+        (b"a\0b", 2),
+        (b"\0", 1),
+        (b"ab", 0),
+        (b"", 0),
+    ];
+    for (section, end) in ends {
+        are_equal(&rt, (section, strings_end(section)), (section, end));
     }
 }

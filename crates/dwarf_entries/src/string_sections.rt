@@ -2,12 +2,10 @@
 //! section is the offset of a valid string, so the bytes of the string are not read.
 
 ghost use Rattle.std.specs.Prelude.{◌≡◌};
-ghost use Rattle.dwarf_bytes.specs.Private.SectionNames.{EndsStrings};
 ghost use Rattle.dwarf_walk.specs.Sections.{sections_of};
 ghost use Rattle.dwarf_entries.specs.Private.StringSections.{AreStringSections, text_place};
 
-use bstr::ByteSlice;
-use dwarf_bytes::ReadFault;
+use dwarf_bytes::{ReadFault, strings_end};
 use dwarf_walk::Sections;
 use std::marker::Model;
 
@@ -21,7 +19,7 @@ pub(crate) struct StringSection<'a> {
 
 impl<'a> Model for StringSection<'a> {
     ghost use Rattle.std.specs.Prelude.{ℕ, List};
-    ghost use Rattle.dwarf_bytes.specs.Private.SectionNames.{EndsStrings};
+    ghost use Rattle.dwarf_bytes.specs.Numbers.{EndsStrings};
 
     ghost Value = { List ℕ };
 
@@ -50,16 +48,6 @@ impl<'a> StringSection<'a> {
             return Err(ReadFault::Unterminated);
         }
         Ok(offset as usize)
-    }
-}
-
-/// Returns the number of bytes up to and including the last NUL.
-fn strings_end(bytes: &[u8]) -> usize
-    ensures { EndsStrings bytes.now result }
-{
-    match bytes.rfind_byte(0) {
-        Some(last) => last + 1,
-        None => 0,
     }
 }
 

@@ -12,10 +12,10 @@ use Rattle.std.proofs.lemmas.List.{get_or-drop, length-drop, take_all}
 use Rattle.dwarf_bytes.specs.declared.fault.ReadFault.TheVariants.{Unterminated}
 use Rattle.dwarf_bytes.specs.declared.fault.Section.{Section}
 use Rattle.dwarf_bytes.specs.declared.fault.Section.TheVariants as sections
-use Rattle.dwarf_bytes.specs.Numbers.{text_front, text_at}
+use Rattle.dwarf_bytes.specs.Numbers.{text_front, text_at, EndsStrings}
 use Rattle.dwarf_bytes.specs.Words.{section_name}
 use Rattle.dwarf_bytes.specs.Elf.{wanted}
-use Rattle.dwarf_bytes.specs.Private.SectionNames.{EndsStrings, begins_with, IsNumberAt}
+use Rattle.dwarf_bytes.specs.Private.SectionNames.{begins_with, IsNumberAt}
 use Rattle.dwarf_bytes.proofs.Strings.FirstNuls.{is_nul, position-skip, position-first}
 use Rattle.dwarf_bytes.proofs.Strings.FirstNuls.{position-none}
 

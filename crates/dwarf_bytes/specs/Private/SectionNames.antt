@@ -1,17 +1,11 @@
 -- Section names, for the contracts of the lookup that scans no name to its end.
-use Rattle.std.specs.Prelude.{◌≡◌, ◌≢◌, ℕ, ◌+◌, ◌<◌, ◌≤◌, ◌&&◌, ◌==◌, Bool, List, length, nat_eq}
+use Rattle.std.specs.Prelude.{◌≡◌, ℕ, ◌&&◌, ◌==◌, Bool, List, length, nat_eq}
 use Rattle.std.specs.Prelude.{nat_lt, get_or, Option, Ok, position}
 use Rattle.std.specs.List.{starts_with}
 use Rattle.std.specs.Str.{bytes_eq}
 use Rattle.dwarf_bytes.specs.Numbers.{text_at}
 use Rattle.dwarf_bytes.specs.Words.{section_name}
 use Rattle.dwarf_bytes.specs.Elf.{wanted}
-
--- the offset after the last NUL, or 0 if there is none
-pub record EndsStrings (bytes : List ℕ) (end : ℕ) : Type 0 where
-  pub within : end ≤ length bytes
-  pub last : 0 < end → (nul : ℕ) × (end ≡ nul + 1) × (get_or bytes nul 0 ≡ 0)
-  pub none_after : (k : ℕ) → end ≤ k → k < length bytes → get_or bytes k 0 ≢ 0
 
 -- whether the bytes start with the string and its NUL
 abbrev pub begins_with : List ℕ → List ℕ → Bool
