@@ -3,6 +3,8 @@ import os
 import struct
 from typing import NamedTuple
 
+from loaded_objects import UNKNOWN_RIGHTS
+
 NOTE, LOAD, EXECUTABLE = 4, 1, 1  # PT_NOTE and PT_LOAD among the types, PF_X among the flags
 FILES = 0x46494C45  # NT_FILE
 CORE = 4  # ET_CORE
@@ -37,12 +39,14 @@ def files(note):
         yield start, end, offset * page, os.fsdecode(paths[number])
 
 
-def is_executable(start, end, segments):
-    """Returns whether a mapping is executable. gdb omits the segments of code that is unchanged
-    from its file, so a mapping without a segment is executable."""
+def rights(start, end, segments):
+    """Returns the rights of a mapping, as in /proc/PID/maps. gdb omits the segments of memory that
+    is unchanged from its file, so a mapping without a segment may be executable."""
     flags = [row.flags for row in segments
              if row.kind == LOAD and row.address < end and start < row.address + row.size]
-    return not flags or any(flag & EXECUTABLE for flag in flags)
+    if not flags:
+        return UNKNOWN_RIGHTS
+    return "r-xp" if any(flag & EXECUTABLE for flag in flags) else "r--p"
 
 
 def mappings_of(path):
@@ -65,6 +69,5 @@ def mappings_of(path):
         raise ValueError("it names no mapped files")
     lines = []
     for start, end, offset, name in files(mapped[0]):
-        rights = "r-xp" if is_executable(start, end, rows) else "r--p"
-        lines.append(f"{start:x}-{end:x} {rights} {offset:08x} 00:00 0 {name}")
+        lines.append(f"{start:x}-{end:x} {rights(start, end, rows)} {offset:08x} 00:00 0 {name}")
     return lines

@@ -6,13 +6,15 @@ from pathlib import Path
 
 TOOLS = Path(__file__).resolve().parent
 BUILT = TOOLS.parent / "crates/addr2line_live/out/addr2line_live"
-INSTALLED = TOOLS.parent.parent / "bin/addr2line_live"
+INSTALLED = Path("libexec/addr2line_live")  # the folder of installed tools, in PREFIX
 
 
 def program():
     """Returns the path of the program: $ADDR2LINE_LIVE, or the one built or installed with these
     tools, or the one in PATH."""
-    beside = next((str(path) for path in (BUILT, INSTALLED) if path.exists()), None)
+    is_installed = TOOLS.parts[-2:] == INSTALLED.parts
+    path = TOOLS.parents[1] / "bin/addr2line_live" if is_installed else BUILT
+    beside = str(path) if path.exists() else None
     found = os.environ.get("ADDR2LINE_LIVE") or beside or shutil.which("addr2line_live")
     return found or "addr2line_live"
 

@@ -13,6 +13,7 @@ import struct
 from typing import NamedTuple
 
 PAGE = os.sysconf("SC_PAGE_SIZE")
+UNKNOWN_RIGHTS = "r-x?"  # of a mapping that may be executable
 LOADED, EXECUTABLE = 1, 1  # PT_LOAD among the types of segments, PF_X among their flags
 LINE = re.compile(
     r"(?P<start>[0-9a-f]+)-(?P<end>[0-9a-f]+) (?P<rights>\S{4}) (?P<offset>[0-9a-f]+)"
@@ -42,6 +43,7 @@ class Mapping(NamedTuple):
     end: int
     offset: int  # of the file, at start
     path: str
+    rights: str = "r-xp"
 
 
 def mapping_of(line):
@@ -50,7 +52,7 @@ def mapping_of(line):
     if not found or found["rights"][2] != "x":
         return None
     start, end, offset = (int(found[key], 16) for key in ("start", "end", "offset"))
-    return Mapping(start, end, offset, found["path"])
+    return Mapping(start, end, offset, found["path"], found["rights"])
 
 
 def file_of(mapping, root="", map_files=None):
@@ -84,6 +86,16 @@ def segments(path):
     return found
 
 
+def code_at(path, address, size):
+    """Returns the bytes at an address of an object; empty outside its executable segments."""
+    for segment in segments(path):
+        if 0 <= address - segment.address < segment.size:
+            with open(path, "rb") as file:
+                file.seek(segment.offset + address - segment.address)
+                return file.read(size)
+    return b""
+
+
 def base_of(mapping, executable):
     """Returns the base of the object with these executable segments, or None."""
     for segment in executable:
@@ -107,14 +119,15 @@ def name_of(path, taken):
 
 def objects_of(lines, root="", map_files=None):
     """Returns the name, base and path of each object in lines of /proc/PID/maps, and the paths of
-    other files. `root` is prepended to each path: a process may have its own root folder.
-    `map_files` is /proc/PID/map_files of a running process."""
+    other files that are mapped executable. `root` is prepended to each path: a process may have its
+    own root folder. `map_files` is /proc/PID/map_files of a running process."""
     loaded, others, taken = {}, [], set()
     for mapping in filter(None, map(mapping_of, lines)):
         path = file_of(mapping, root, map_files)
         base = base_of(mapping, segments(path)) if path else None
         if base is None:
-            others.append(root + mapping.path)
+            if mapping.rights != UNKNOWN_RIGHTS:
+                others.append(root + mapping.path)
         elif (base, mapping.path) not in loaded:
             loaded[base, mapping.path] = name_of(mapping.path, taken), base, path
     return list(loaded.values()), others

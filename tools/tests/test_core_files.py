@@ -34,9 +34,11 @@ class CoreFiles(unittest.TestCase):
         if done.returncode:
             self.skipTest("gcore may not attach here")
         core = f"{self.folder}/core.{host.pid}"
-        lines = {line.split(" ", 3)[3]: line
-                 for line in tool("loads_of_process", "--core", core).splitlines()}
+        done = subprocess.run([TOOLS / "loads_of_process", "--core", core],
+                              capture_output=True, text=True)
+        lines = {line.split(" ", 3)[3]: line for line in done.stdout.splitlines()}
         self.assertEqual(lines[str(path)], loads(host.pid)[str(path)])
+        self.assertEqual(done.stderr, "")
 
     @unittest.skipUnless(Path("/proc/sys/kernel/core_pattern").read_text() == "core\n",
                          "core files are not written to the working folder")

@@ -28,6 +28,18 @@ static inline __attribute__((always_inline)) int get(int *p, int i) { return p[i
 __attribute__((noinline)) int use(int n) { int *p = malloc(16); return get(p, n + 3); }
 int main(int count, char **words) { return use(count); }
 """
+# The handler writes the trace. The interrupted store is the first instruction of `set`, in line 8.
+FAULT = """#include <execinfo.h>
+#include <signal.h>
+#include <unistd.h>
+static void handler(int number)
+{
+    void *found[20];
+    int count = backtrace(found, 20); backtrace_symbols_fd(found, count, 1); _exit(0); }
+__attribute__((noinline)) void set(volatile int *p, int n) { *p = n; }
+__attribute__((noinline)) int crash(int *p, int n) { set(p, n); return n + 1; }
+int main(int count, char **words) { signal(SIGSEGV, handler); return crash(0, count); }
+"""
 
 
 class SymbolizeText(unittest.TestCase):
@@ -66,6 +78,19 @@ class SymbolizeText(unittest.TestCase):
                 self.assertIn(f"{path}{form}", text)
                 wanted = self.appended(text.splitlines(), self.trace_frames(path))
                 self.assertEqual(tool("symbolize_text", text=text), wanted)
+
+    def test_glibc_in_a_signal_handler(self):
+        """The interrupted instruction is the first of its function."""
+        for flags in [], ["-no-pie"]:
+            with self.subTest(flags):
+                path = self.compile("fault", FAULT, "-fomit-frame-pointer", *flags)
+                output_of(path)  # loads the unwinder
+                lines = output_of(path).splitlines()
+                shown = tool("symbolize_text", text="\n".join(lines)).splitlines()
+                found = [line.rpartition(f" at {path}.c:") for line in shown if ".c:" in line]
+                ends = [(head.rpartition(" ")[2], place) for head, _, place in found]
+                wanted = [("handler", "7"), ("set", "8"), ("crash", "9"), ("main", "10")]
+                self.assertEqual(ends, wanted)
 
     def test_glibc_with_a_prefix_and_spaces(self):
         """The form of backtrace_symbols has a space and empty parentheses at a fixed address."""
