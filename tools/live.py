@@ -29,7 +29,12 @@ class Live:
     def __init__(self, *options, path=None):
         pipes = {"stdin": subprocess.PIPE, "stdout": subprocess.PIPE}
         text = {"encoding": "utf-8", "errors": "surrogateescape"}
-        self.running = subprocess.Popen([path or program(), *options], **pipes, **text)
+        path = path or program()
+        try:
+            self.running = subprocess.Popen([path, *options], **pipes, **text)
+        except FileNotFoundError as fault:
+            reason = "not found: run make install, or set ADDR2LINE_LIVE to its path"
+            raise FileNotFoundError(fault.errno, reason, path) from None
 
     def say(self, line):
         """Returns the lines of the reply to a line. A second line that is not a command follows;
