@@ -17,7 +17,7 @@ use Rattle.dwarf_bytes.proofs.Contents.ContentLaws.{content-stands}
 use Rattle.dwarf_bytes.proofs.Contents.ContentEncodings.{content-again}
 use Rattle.dwarf_forms.specs.declared.values.ValueFault.{ValueFault}
 use Rattle.dwarf_forms.specs.declared.values.ValueFault.TheVariants.{Form}
-use Rattle.dwarf_forms.specs.Values.{Value, EncodesDirectly, EncodesIndirectly, Encodes}
+use Rattle.dwarf_forms.specs.Values.{Value, SpellsDirectly, SpellsIndirectly, Spells}
 use Rattle.dwarf_forms.specs.Values.{reading_value, direct_at, value_at}
 use Rattle.dwarf_bytes.proofs.Numbers.Moves.{same-ok}
 use Rattle.dwarf_forms.proofs.Stretches.{Stretch, stretch-of, stands-from, joined, first-part}
@@ -38,12 +38,12 @@ Direct_read f form format bytes at = elim f [
 
 pub direct-stands : (form : ℕ) (format : Format) (bytes : List ℕ) (at : ℕ) (read : Value × ℕ)
     → direct_at form format bytes at ≡ Ok read
-    → IsEncodedAt (EncodesDirectly form format) bytes at read.0 read.1
+    → IsEncodedAt (SpellsDirectly form format) bytes at read.0 read.1
 unfolding direct_at
 direct-stands form format bytes at read h = by_form (form_of form) refl h
   where
     by_form : (f : Option Shape) → form_of form ≡ f → Direct_read f form format bytes at ≡ Ok read
-        → IsEncodedAt (EncodesDirectly form format) bytes at read.0 read.1
+        → IsEncodedAt (SpellsDirectly form format) bytes at read.0 read.1
     by_form None is h = cc
     by_form (Some ImplicitConst) is h = cc
     by_form (Some Indirect) is h = cc
@@ -53,21 +53,21 @@ direct-stands form format bytes at read h = by_form (form_of form) refl h
         let s = content-stands layout format bytes at found.0.0 found.0.1
         (reading-ok (content_at layout format bytes at) found.0 found.1) in
         let value : Value = record { form = form; content = found.0.0 } in
-        subst (λ (r : Value × ℕ). IsEncodedAt (EncodesDirectly form format) bytes at r.0 r.1)
+        subst (λ (r : Value × ℕ). IsEncodedAt (SpellsDirectly form format) bytes at r.0 r.1)
         (same-ok (value, found.0.1) read found.2)
-        (stands-from (EncodesDirectly form format) bytes at value found.0.1 s.front s.rest
+        (stands-from (SpellsDirectly form format) bytes at value found.0.1 s.front s.rest
         (stretch-of (EncodesContent layout format) bytes at found.0.0 found.0.1 s)
         (layout, is, s.encoded, refl))
 
 pub direct-reads : (form : ℕ) (format : Format) (bytes : List ℕ) (at : ℕ) (value : Value) (next : ℕ)
-    → IsEncodedAt (EncodesDirectly form format) bytes at value next → direct_at form format bytes at
+    → IsEncodedAt (SpellsDirectly form format) bytes at value next → direct_at form format bytes at
     ≡ Ok (value, next)
 unfolding direct_at
 direct-reads form format bytes at value next s =
     let layout = s.encoded.0 in
     let content = content-again layout format bytes at value.content next
     (stands-from (EncodesContent layout format) bytes at value.content next s.front s.rest
-    (stretch-of (EncodesDirectly form format) bytes at value next s) s.encoded.2) in
+    (stretch-of (SpellsDirectly form format) bytes at value next s) s.encoded.2) in
     subst (λ (f : Option Shape). Direct_read f form format bytes at ≡ Ok (value, next))
     (sym s.encoded.1)
     (rw content (ap (λ (f : ℕ). Ok (record { form = f; content = value.content }, next))
@@ -76,10 +76,10 @@ direct-reads form format bytes at value next s =
 abbrev Spells_by : Option Shape → ℕ → Format → Option ℤ → List ℕ → Value → Type 0
 Spells_by f form format constant bytes value = elim f [
   | None ↦ ⊥
-  | Some (Direct layout) ↦ EncodesDirectly form format bytes value
+  | Some (Direct layout) ↦ SpellsDirectly form format bytes value
   | Some ImplicitConst ↦ (c : ℤ) × (constant ≡ Some c) × (bytes ≡ [])
       × (value ≡ record { form = form; content = Signed c })
-  | Some Indirect ↦ EncodesIndirectly format bytes value
+  | Some Indirect ↦ SpellsIndirectly format bytes value
 ]
 
 abbrev Value_read : Option Shape → ℕ → Format → Option ℤ → List ℕ → ℕ
@@ -97,21 +97,21 @@ Value_read f form format constant bytes at = elim f [
 ]
 
 form-in : (form : ℕ) (format : Format) (bytes : List ℕ) (value : Value)
-    → EncodesDirectly form format bytes value → EncodesDirectly value.form format bytes value
-form-in form format bytes value s = subst (λ (f : ℕ). EncodesDirectly f format bytes value)
+    → SpellsDirectly form format bytes value → SpellsDirectly value.form format bytes value
+form-in form format bytes value s = subst (λ (f : ℕ). SpellsDirectly f format bytes value)
     (sym s.3)
     s
 
 pub value-stands : (form : ℕ) (format : Format) (constant : Option ℤ) (bytes : List ℕ) (at : ℕ)
     (value : Value) (next : ℕ) → value_at form format constant bytes at ≡ Ok (value, next)
-    → IsEncodedAt (Encodes form format constant) bytes at value next
+    → IsEncodedAt (Spells form format constant) bytes at value next
 unfolding value_at
 value-stands form format constant bytes at value next h = by_form (form_of form) refl h
   where
     stands : (f : Option Shape) → form_of form ≡ f → (front rest : List ℕ)
         → Stretch bytes at front next rest → Spells_by f form format constant front value
-        → IsEncodedAt (Encodes form format constant) bytes at value next
-    stands f is front rest s encoded = stands-from (Encodes form format constant) bytes at
+        → IsEncodedAt (Spells form format constant) bytes at value next
+    stands f is front rest s encoded = stands-from (Spells form format constant) bytes at
         value next
         front rest s (subst (λ (f : Option Shape). Spells_by f form format constant front value)
         (sym is) encoded)
@@ -119,7 +119,7 @@ value-stands form format constant bytes at value next h = by_form (form_of form)
     by_constant : (c : Option ℤ) → constant ≡ c → form_of form ≡ Some ImplicitConst
         → (elim c as (λ _. Result (Value × ℕ) ValueFault)
         [ None ↦ Err Form | Some c ↦ Ok (record { form = form; content = Signed c }, at) ])
-        ≡ Ok (value, next) → IsEncodedAt (Encodes form format constant) bytes at value next
+        ≡ Ok (value, next) → IsEncodedAt (Spells form format constant) bytes at value next
     by_constant None memoized is h = cc
     by_constant (Some c) memoized is h =
         let same = same-ok (record { form = form; content = Signed c }, at) (value, next) h in
@@ -129,12 +129,12 @@ value-stands form format constant bytes at value next h = by_form (form_of form)
         (c, memoized, refl, sym (ap (λ (r : Value × ℕ). r.0) same))
 
     by_form : (f : Option Shape) → form_of form ≡ f → Value_read f form format constant bytes at
-        ≡ Ok (value, next) → IsEncodedAt (Encodes form format constant) bytes at value next
+        ≡ Ok (value, next) → IsEncodedAt (Spells form format constant) bytes at value next
     by_form None is h = cc
     by_form (Some (Direct layout)) is h =
         let s = direct-stands form format bytes at (value, next) h in
         stands (Some (Direct layout)) is s.front s.rest
-        (stretch-of (EncodesDirectly form format) bytes at value next s) s.encoded
+        (stretch-of (SpellsDirectly form format) bytes at value next s) s.encoded
     by_form (Some ImplicitConst) is h = by_constant constant refl is h
     by_form (Some Indirect) is h =
         let found = bind_ok (reading_value (uleb_at bytes at))
@@ -144,7 +144,7 @@ value-stands form format constant bytes at value next h = by_form (form_of form)
         let s = direct-stands found.0.0 format bytes found.0.1 (value, next) found.2 in
         let both = joined bytes at inner.front s.front found.0.1 next inner.rest s.rest
         (stretch-of IsUleb bytes at found.0.0 found.0.1 inner)
-        (stretch-of (EncodesDirectly found.0.0 format) bytes found.0.1 value next s) in
+        (stretch-of (SpellsDirectly found.0.0 format) bytes found.0.1 value next s) in
         stands (Some Indirect) is (inner.front ++ s.front) s.rest both
         (record {
           front = inner.front;
@@ -157,20 +157,20 @@ value-stands form format constant bytes at value next h = by_form (form_of form)
         })
 
 pub value-reads : (form : ℕ) (format : Format) (constant : Option ℤ) (bytes : List ℕ) (at : ℕ)
-    (value : Value) (next : ℕ) → IsEncodedAt (Encodes form format constant) bytes at value next
+    (value : Value) (next : ℕ) → IsEncodedAt (Spells form format constant) bytes at value next
     → value_at form format constant bytes at ≡ Ok (value, next)
 unfolding value_at
 value-reads form format constant bytes at value next s = by_form (form_of form) refl s.encoded
   where
     here : Stretch bytes at s.front next s.rest
-    here = stretch-of (Encodes form format constant) bytes at value next s
+    here = stretch-of (Spells form format constant) bytes at value next s
 
     by_form : (f : Option Shape) → form_of form ≡ f → Spells_by f form format constant s.front value
         → Value_read f form format constant bytes at ≡ Ok (value, next)
     by_form None is encoded = absurd encoded
     by_form (Some (Direct layout)) is encoded =
         direct-reads form format bytes at value next
-        (stands-from (EncodesDirectly form format) bytes at value next s.front s.rest here encoded)
+        (stands-from (SpellsDirectly form format) bytes at value next s.front s.rest here encoded)
     by_form (Some ImplicitConst) is encoded =
         let place : at ≡ next = omega (arith, s.next_is, ap length encoded.2) in
         rw (encoded.1, encoded.3, place) refl
@@ -182,13 +182,13 @@ value-reads form format constant bytes at value next s = by_form (form_of form) 
         (stands-from IsUleb bytes at value.form mid encoded.front (encoded.rest ++ s.rest)
         (first-part bytes at encoded.front encoded.rest next s.rest both) encoded.form_is) in
         let read = direct-reads value.form format bytes mid value next
-        (stands-from (EncodesDirectly value.form format) bytes mid value next encoded.rest s.rest
+        (stands-from (SpellsDirectly value.form format) bytes mid value next encoded.rest s.rest
         (second-part bytes at encoded.front encoded.rest next s.rest both) encoded.value_is) in
         rw (inner, read) refl
 
 -- Two encodings at the start of the same bytes are equal.
 pub one-value : (form : ℕ) (format : Format) (constant : Option ℤ) (a b x y : List ℕ) (v w : Value)
-    → Encodes form format constant a v → Encodes form format constant b w → a ++ x ≡ b ++ y
+    → Spells form format constant a v → Spells form format constant b w → a ++ x ≡ b ++ y
     → (a ≡ b) × (v ≡ w)
 one-value form format constant a b x y v w is js e =
     let first = value-reads form format constant (a ++ x) 0 v (length a)

@@ -24,28 +24,28 @@ value_of value = record { form = value.form; content = content_of value.content 
 
 -- The bytes encode the value in this form, which is neither indirect nor one whose value is in the
 -- declaration.
-abbrev pub EncodesDirectly : ℕ → Format → List ℕ → Value → Type 0
-EncodesDirectly form format bytes value =
+abbrev pub SpellsDirectly : ℕ → Format → List ℕ → Value → Type 0
+SpellsDirectly form format bytes value =
     (layout : ValueLayout) × (form_of form ≡ Some (Direct layout))
     × EncodesContent layout format bytes value.content × (value.form ≡ form)
 
 -- The bytes encode a form, followed by a value in that form.
-pub record EncodesIndirectly (format : Format) (bytes : List ℕ) (value : Value) : Type 0 where
+pub record SpellsIndirectly (format : Format) (bytes : List ℕ) (value : Value) : Type 0 where
   pub front : List ℕ
   pub rest : List ℕ
   pub whole : bytes ≡ front ++ rest
   pub form_is : IsUleb front value.form
-  pub value_is : EncodesDirectly value.form format rest value
+  pub value_is : SpellsDirectly value.form format rest value
 
 -- The bytes encode the value in this form, in a unit of the format; the constant is that of the
 -- declaration.
-abbrev pub Encodes : ℕ → Format → Option ℤ → List ℕ → Value → Type 0
-Encodes form format constant bytes value = elim (form_of form) [
+abbrev pub Spells : ℕ → Format → Option ℤ → List ℕ → Value → Type 0
+Spells form format constant bytes value = elim (form_of form) [
   | None ↦ ⊥
-  | Some (Direct layout) ↦ EncodesDirectly form format bytes value
+  | Some (Direct layout) ↦ SpellsDirectly form format bytes value
   | Some ImplicitConst ↦ (c : ℤ) × (constant ≡ Some c) × (bytes ≡ [])
       × (value ≡ record { form = form; content = Signed c })
-  | Some Indirect ↦ EncodesIndirectly format bytes value
+  | Some Indirect ↦ SpellsIndirectly format bytes value
 ]
 
 -- a read whose fault is converted into one of a value

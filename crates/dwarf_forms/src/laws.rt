@@ -12,7 +12,7 @@ ghost use Rattle.dwarf_forms.specs.declared.attribute.AttributeSpecification.{
   AttributeSpecification as Specification,
 };
 ghost use Rattle.dwarf_forms.specs.Tables.{attribute_at, attributes_at, shares_name, table_at};
-ghost use Rattle.dwarf_forms.specs.Values.{Value, Encodes, value_at};
+ghost use Rattle.dwarf_forms.specs.Values.{Value, Spells, value_at};
 
 /// A table is read if and only if an encoding of it is at the offset, it is valid, and it has at
 /// most `budget` declarations.
@@ -45,12 +45,12 @@ pub fn value_is_encoded()
         (value : Value) (next : ℕ) → (value_at form format constant bytes at ≡ Ok (
           value,
           next,
-        )) ↔ IsEncodedAt (Encodes form format constant) bytes at value next }
+        )) ↔ IsEncodedAt (Spells form format constant) bytes at value next }
 {}
 
 /// No encoding in a form is a proper prefix of another, and each encodes one value.
 pub fn value_is_unique()
     ensures { (form : ℕ) (format : Format) (constant : Option ℤ) (a b x y : List ℕ)
-        (v w : Value) → Encodes form format constant a v → Encodes form format constant b w
+        (v w : Value) → Spells form format constant a v → Spells form format constant b w
         → a ++ x ≡ b ++ y → (a ≡ b) × (v ≡ w) }
 {}
