@@ -2,6 +2,7 @@
 
 ghost use Rattle.std.specs.Prelude.{◌≡◌, Some};
 ghost use Rattle.dwarf_bytes.specs.Words.{section_name, cause_word};
+ghost use Rattle.dwarf_bytes.specs.Private.RangeOrLineWords.{range_or_line_word};
 
 use crate::fault::{Cause, Section};
 use std::fmt;
@@ -66,11 +67,22 @@ impl Cause {
             Cause::String => "string",
             Cause::Index => "index",
             Cause::Base => "base",
+            Cause::Reference => "reference",
+            Cause::OriginDepth => "origin-depth",
+            Cause::Children => "children",
+            _ => self.range_or_line_word(),
+        }
+    }
+
+    /// Returns the word of a cause of ranges or line programs, and an empty text for any other cause.
+    fn range_or_line_word(self) -> &'static str
+        ensures { result.now ≡ range_or_line_word self }
+    {
+        match self {
             Cause::RangeBackwards => "range-backwards",
             Cause::Overflow => "overflow",
             Cause::PcAndRanges => "pc-and-ranges",
-            Cause::Reference => "reference",
-            Cause::OriginDepth => "origin-depth",
+            Cause::RangeKind => "range-kind",
             Cause::LineParams => "line-params",
             Cause::OpcodeLengths => "opcode-lengths",
             Cause::Extended => "extended",
@@ -83,8 +95,7 @@ impl Cause {
             Cause::CallFile => "call-file",
             Cause::TooMany => "too-many",
             Cause::LineRange => "line-range",
-            Cause::Children => "children",
-            Cause::RangeKind => "range-kind",
+            _ => "",
         }
     }
 }
