@@ -8,7 +8,8 @@
 - The README must name each option and command.
 - The manual page and the changelog must name the version in VERSION.
 - Each definition that docs/ARCHITECTURE.md names with its file, each `make` target that a document
-  names, and each name with an underscore that a document has in backticks, must exist.
+  names, and each name with an underscore, call and `Type::name` that a document has in backticks,
+  must exist.
 - Each line of an example in docs/LIBRARY.md must be in the source that the example names.
 """
 import re
@@ -29,6 +30,8 @@ LEAST_WORDS = 3
 LEAST_EXAMPLES = 4
 # Names that documents use and no source has: a field of the ELF header.
 OTHER_NAMES = {"e_machine"}
+# Functions that only documents have: the count of binary digits, in bounds.
+OTHER_CALLS = {"bits"}
 
 
 def source(crate, file):
@@ -147,26 +150,38 @@ def documents():
     return [README, TOP / "CONTRIBUTING.md", TOP / "SECURITY.md", *pages]
 
 
-def source_names():
-    """Returns the words of the sources, and the names of their files and folders."""
-    known = set(OTHER_NAMES)
+def sources():
+    """Yields the path and the text of each source."""
     for folder in ("crates", "tools", "bench", "edits"):
         for file in (TOP / folder).rglob("*"):
             parts = file.relative_to(TOP).parts
-            if "out" in parts or "tests" in parts or not file.is_file():
-                continue
-            known.update(parts, [file.stem])
-            known.update(re.findall(r"\w+", file.read_text(errors="replace")))
-    return known
+            if "out" not in parts and "tests" not in parts and file.is_file():
+                yield parts, file.read_text(errors="replace")
+
+
+def source_names():
+    """Returns the words of the sources with the names of their files and folders, the words before
+    parentheses, and the names of functions."""
+    words, calls, functions = set(OTHER_NAMES), set(OTHER_CALLS), set()
+    for parts, text in sources():
+        words.update(parts, [parts[-1].split(".")[0]], re.findall(r"\w+", text))
+        calls.update(re.findall(r"(\w+)\(", text))
+        functions.update(re.findall(r"\b(?:fn|def|const) (\w+)|^    ([A-Z]\w*)\b", text, re.M))
+    functions = {name for pair in functions for name in pair}
+    return words, calls | functions, functions
 
 
 def names():
-    """Yields the names with underscores that documents have in backticks and no source has."""
-    known = source_names()
+    """Yields what documents have in backticks and no source has: names with underscores, calls, and
+    functions, constants and variants of types, such as `Cause::word`."""
+    words, calls, functions = source_names()
     for document in documents():
         text = re.sub(r"^```.*?^```$", "", document.read_text(), flags=re.DOTALL | re.MULTILINE)
         code = " ".join(re.findall(r"`([^`]+)`", text))
-        for name in dict.fromkeys(re.findall(r"\b[a-z][a-z0-9]*(?:_[a-z0-9]+)+\b", code)):
+        named = {name: words for name in re.findall(r"\b[a-z][a-z0-9]*(?:_[a-z0-9]+)+\b", code)}
+        named.update((name, calls) for name in re.findall(r"\b([a-z]\w+)\(", code))
+        named.update((name, functions) for name in re.findall(r"\b[A-Z]\w+::(\w*[a-z]\w*)", code))
+        for name, known in named.items():
             if name not in known:
                 yield f"{document.name}: no source has the name {name}"
 

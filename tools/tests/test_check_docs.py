@@ -71,6 +71,14 @@ class CheckDocs(unittest.TestCase):
         self.replace("docs/PROOFS.md", "`memory_fails`", "`memory_is_short`")
         self.reports("PROOFS.md: no source has the name memory_is_short")
 
+    def test_wrong_names_of_functions(self):
+        text = (self.top / "SECURITY.md").read_text()
+        calls = "`Cause::told`, `LoadFault::begun_at(fault, 3)` and `sent(&mut left)`"
+        self.write("SECURITY.md", f"{text}\nAn object is refused by {calls}.\n")
+        self.reports("SECURITY.md: no source has the name begun_at",
+                     "SECURITY.md: no source has the name sent",
+                     "SECURITY.md: no source has the name told")
+
     def test_missing_cause_of_the_manual_page(self):
         entry = ".TP\n.B two\\-roots\nA unit has two entries at depth 0.\n"
         self.replace("addr2line_live.1", entry, "")
