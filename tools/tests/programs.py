@@ -1,5 +1,6 @@
 """Helpers for the tests of the tools: the program, and objects that gcc compiles for a test."""
 import os
+import re
 import shutil
 import subprocess
 import sys
@@ -58,12 +59,15 @@ def tool(name, *arguments, text=""):
     return output_of(TOOLS / name, *arguments, text=text)
 
 
-def dwarfutil():
-    """Returns the name of an llvm-dwarfutil that reads DWARF 5, or None. Version 16 drops all lines
-    of DWARF 5."""
-    for name in ("llvm-dwarfutil", *(f"llvm-dwarfutil-{number}" for number in range(19, 30))):
-        if shutil.which(name) and "--linker" in output_of(name, "--help"):
-            return name
+def dwarfutil(compiler):
+    """Returns a command of llvm-dwarfutil for the objects of a compiler, or None. Version 17 reads
+    objects of gcc, and later versions read objects of clang with their parallel linker. The other
+    pairs lose a table of addresses, and versions before 17 lose all lines of DWARF 5."""
+    for name in ("llvm-dwarfutil", *(f"llvm-dwarfutil-{number}" for number in range(17, 30))):
+        if shutil.which(name):
+            version = int(re.search(r"version (\d+)", output_of(name, "--version"))[1])
+            if version == 17 if compiler == "gcc" else version > 17:
+                return [name, *(["--linker=parallel"] if version > 17 else [])]
     return None
 
 

@@ -18,7 +18,7 @@ from loaded_objects import segments
 
 COMPILERS = [name for name in ("gcc", "clang") if shutil.which(name)]
 LINKERS = [name for name in ("bfd", "gold", "lld", "mold") if shutil.which(f"ld.{name}")]
-DWARFUTIL = dwarfutil()
+DWARFUTIL = {compiler: dwarfutil(compiler) for compiler in COMPILERS}
 FLAGS = ["-O2", "-g", "-gdwarf-5", "-ffunction-sections", "-Wl,--gc-sections"]
 WITHOUT = "-DWITHOUT_DROPPED"
 TOMBSTONE = 0xFFFFFFFFFFFFFFFF
@@ -98,14 +98,18 @@ class MarkDropped(unittest.TestCase):
                 self.assertEqual(self.answers(copy), wanted)
                 self.assertIn("main at ", "\n".join(wanted))
 
-    @unittest.skipUnless(DWARFUTIL and "clang" in COMPILERS, "llvm-dwarfutil is not installed")
+    @unittest.skipUnless(any(DWARFUTIL.values()), "llvm-dwarfutil is not installed")
     def test_beside_llvm_dwarfutil(self):
-        for linker in LINKERS:
-            with self.subTest(linker):
-                path = self.link("app", f"-fuse-ld={linker}", compiler="clang")
-                collected = self.folder / "collected"
-                output_of(DWARFUTIL, "--garbage-collection", path, collected)
-                self.assertEqual(self.answers(self.marked(path)[0]), self.answers(collected))
+        """The answers for a marked copy are the same after llvm-dwarfutil. Of an original of gcc,
+        it retains lines of dead code at addresses that other code has."""
+        for compiler, dwarfutil in DWARFUTIL.items():
+            for linker in LINKERS if dwarfutil else ():
+                with self.subTest(compiler=compiler, linker=linker):
+                    path = self.link("app", f"-fuse-ld={linker}", compiler=compiler)
+                    copy, collected = self.marked(path)[0], self.folder / "collected"
+                    for own in (copy, path) if compiler == "clang" else (copy,):
+                        output_of(*dwarfutil, "--garbage-collection", own, collected)
+                        self.assertEqual(self.answers(copy), self.answers(collected))
 
     def test_what_changes(self):
         """Only zero bytes of debug sections change. OUT may be IN. A second run finds nothing."""

@@ -5,11 +5,11 @@ searched for sqlite3.c (the amalgamation, with sqlite3.h) and inflate.c (of zlib
 `apt-get source sqlite3 zlib` in out/sources downloads both. Then `./configure` and `make sqlite3.c`
 in the folder of sqlite3 write the amalgamation.
 
-The answers are compared with llvm-symbolizer, with llvm-dwarfutil 19 or later if it is installed,
-and with the addr2line of gimli at GIMLI_ADDR2LINE if it is set.
+The answers are compared with llvm-symbolizer, with those after llvm-dwarfutil if it is installed
+(version 17 for objects of gcc, a later one for objects of clang), and with the addr2line of gimli
+at GIMLI_ADDR2LINE if it is set.
 """
 import os
-import re
 import signal
 import sys
 import tempfile
@@ -17,7 +17,7 @@ import unittest
 from pathlib import Path
 
 sys.path.insert(0, str(Path(__file__).resolve().parent))
-from line_rows import by_address, has_addresses, live_and_dead, located, rows_of, sequences
+from line_rows import dead_sequences, located
 from programs import PROGRAM, TOOLS, TOP, output_of, tool
 from test_mark_dropped import COMPILERS, DWARFUTIL, FLAGS, LINKERS
 
@@ -26,7 +26,6 @@ from compare_replies import OPTIONS, UNKNOWN, agree, last_parts, replies, values
 from debug_files import sections
 
 GIMLI = os.environ.get("GIMLI_ADDR2LINE")
-EMPTY = (0, "end", 0)  # of a sequence without rows
 FOLDERS = os.environ.get("REAL_SOURCES", f"{TOP}/out/sources").split(":")
 MOST_ADDRESSES = 50_000  # of one program
 LIMIT = 900  # seconds for one test
@@ -84,14 +83,6 @@ def functions(frames):
     return [frames[0][0], *frames[1:]]
 
 
-def agree_with_row(frames, row, live):
-    """Returns whether the first frame has the location of a row, or of another row of code at the
-    same address."""
-    if row is None:
-        return frames == UNKNOWN
-    return (row[0], *location(frames)) in live
-
-
 def expire(*_):
     raise TimeoutError(f"the test took more than {LIMIT} seconds")
 
@@ -130,41 +121,26 @@ class Sources(unittest.TestCase):
                   and not (linker == "gold" and ends(found[address]) == ends(wanted[address]))]
         self.assertEqual(differ[:5], [])
 
-    def same_as_dwarfutil(self, path, found):
-        """llvm-dwarfutil retains rows of dead code. Its other rows have the location of each
-        address, and all functions agree. Only a row of dead code changes a location."""
-        asked, (live, dead) = addresses(path), map(rows_of, live_and_dead(path))
-        collected = self.folder / "collected"
-        for way in ("classic", "parallel"):
-            output_of(DWARFUTIL, "--garbage-collection", f"--linker={way}", path, collected)
-            rows = list(sequences(collected))
-            self.assertLessEqual(rows_of(rows), live | dead | {EMPTY})
-            kept = sorted((row for one in rows for row in one if row in live), key=by_address)
-            rest = located([kept], asked)
-            differ = [(hex(address), found[address], rest.get(address)) for address in asked
-                      if not agree_with_row(found[address], rest.get(address), live)]
-            self.assertEqual(differ[:5], [])
-            if self.is_refused(collected):
-                continue
-            all_rows, others = located(rows, asked), answers(collected, asked)
-            self.same(asked, found, others, functions)
-            differ = [address for address in asked
-                      if location(found[address]) != location(others[address])]
-            self.assertEqual({all_rows[address] for address in differ} - dead, set())
+    def collected(self, dwarfutil, path):
+        """Returns the answers for an object after llvm-dwarfutil."""
+        reduced = self.folder / "collected"
+        output_of(*dwarfutil, "--garbage-collection", path, reduced)
+        return answers(reduced, addresses(path))
 
-    def is_refused(self, collected):
-        """Returns whether the program refuses an object. Then its unit has no table of addresses,
-        as for objects of gcc and for units that are dead code."""
-        reply = output_of(PROGRAM, text=f"load app 0 {collected}\n").rstrip()
-        refused = re.fullmatch(r"refused object \.debug_info (?:base|short) at (\d+)", reply)
-        self.assertTrue(refused or reply.startswith("loaded app "), reply)
-        self.assertFalse(refused and has_addresses(collected, int(refused[1])), reply)
-        return bool(refused)
+    def same_after_dwarfutil(self, dwarfutil, path, copy, found):
+        """All answers are the same after llvm-dwarfutil. Of an object that is not marked,
+        llvm-dwarfutil retains lines of dead code at addresses that other code has. Only there may
+        a location differ, and only if the object has code below the size of dead code."""
+        asked = addresses(path)
+        self.same(asked, found, self.collected(dwarfutil, copy), list)
+        others, dead = self.collected(dwarfutil, path), located(dead_sequences(path), asked)
+        self.same(asked, found, others, functions)
+        self.same([at for at in asked if at not in dead], found, others, list)
 
     def same_lines_as_gimli(self, path, copy, found):
         """The addr2line of gimli reports the same line for each address of the copy. For the
         original, it may report a line of dead code that covers the address."""
-        asked, dead = addresses(path), located(live_and_dead(path)[1], addresses(path))
+        asked, dead = addresses(path), located(dead_sequences(path), addresses(path))
         for file, excepted in ((copy, {}), (path, dead)):
             others = last_parts(replies([GIMLI, "-e", file, *OPTIONS], asked))
             compared = [address for address in asked if address not in excepted]
@@ -176,24 +152,31 @@ class Sources(unittest.TestCase):
                   if part(found[address]) != part(others.get(address, UNKNOWN))]
         self.assertEqual(differ[:5], [])
 
+    def compare_one(self, command, linker):
+        """Links a program and compares the answers for its marked copy. Returns whether the
+        original has other answers."""
+        path, copy = self.folder / "app", self.folder / "app.marked"
+        output_of(*command, "-o", path)
+        tool("mark_dropped", path, copy)
+        found = answers(copy, addresses(copy))
+        self.same_as_llvm_symbolizer(copy, linker, found)
+        if DWARFUTIL[command[0]]:
+            self.same_after_dwarfutil(DWARFUTIL[command[0]], path, copy, found)
+        if GIMLI:
+            self.same_lines_as_gimli(path, copy, found)
+        return found != answers(path, addresses(path))
+
     def compare(self, files, main):
-        """Compares the answers for each compiler and linker."""
+        """Compares the answers for each compiler and linker, and for programs at a fixed address
+        and at any address."""
         has_changed = False
         for compiler in COMPILERS:
             objects = self.compiled(compiler, files, main)
             for linker in LINKERS:
-                with self.subTest(compiler=compiler, linker=linker):
-                    path, copy = self.folder / "app", self.folder / "app.marked"
-                    words = [*FLAGS, f"-fuse-ld={linker}", *objects, *LIBRARIES]
-                    output_of(compiler, *words, "-o", path)
-                    tool("mark_dropped", path, copy)
-                    found = answers(copy, addresses(copy))
-                    has_changed = has_changed or found != answers(path, addresses(path))
-                    self.same_as_llvm_symbolizer(copy, linker, found)
-                    if DWARFUTIL:
-                        self.same_as_dwarfutil(path, found)
-                    if GIMLI:
-                        self.same_lines_as_gimli(path, copy, found)
+                for kind in ("-pie", "-no-pie"):
+                    with self.subTest(compiler=compiler, linker=linker, kind=kind):
+                        words = [*FLAGS, kind, f"-fuse-ld={linker}", *objects, *LIBRARIES]
+                        has_changed |= self.compare_one([compiler, *words], linker)
         self.assertTrue(has_changed)
 
     @unittest.skipUnless(source("sqlite3.c"), "sqlite3.c is not in REAL_SOURCES")
