@@ -76,6 +76,11 @@ pub same-buffer : (h h' x : List ℕ) (fits : Bool) → fits ≡ false
 same-buffer h h' x true e is = absurd (false≢true (sym e))
 same-buffer h h' x false e is = is
 
+-- the same with another buffer that has the same bytes
+pub puts-same : {E : Type 0} (a b : Option (List ℕ)) (h h' h'' x : List ℕ) (r : Result (Unit {0}) E)
+    → h' ≡ h → Puts a b h' h'' r x → Puts a b h h'' r x
+puts-same a b h h' h'' x r same p = subst (λ (z : List ℕ). Puts a b z h'' r x) same p
+
 -- the buffer was written
 pub put-sent : (a b : Option (List ℕ)) (h h' h'' : List ℕ) → h' ≡ h → Appends a b h' → h'' ≡ []
     → Put a b h h'' []

@@ -9,4 +9,4 @@ mod printing;
 
 pub use numerals::address_text;
 pub use pending::{Pending, write_texts};
-pub use printing::print;
+pub use printing::{print, write_answer};

@@ -79,6 +79,13 @@ impl Pending {
         }
     }
 
+    /// Drops the buffered bytes.
+    pub fn clear(&mut self)
+        ensures { self.new ≡ [] }
+    {
+        self.bytes.clear();
+    }
+
     /// Appends a string if it fits. Returns whether it does.
     fn push(&mut self, text: &[u8]) -> bool
         ensures { self.new ≡ (if result then self.old ++ text.now else self.old) }
@@ -93,12 +100,15 @@ impl Pending {
         ensures failures { W.failures writer.new ≡ failures_after (W.failures writer.old) result }
     {
         write_all(writer, self.bytes.as_slice())?;
-        self.bytes.clear();
+        self.clear();
         Ok(())
     }
 
     /// Appends a string to the buffer. If it does not fit, the buffered bytes are written first. A
     /// string that is longer than the buffer is written at once.
+    ///
+    /// Inlined, so that a string of known length is copied without a call.
+    #[inline]
     pub fn put<W: Sink>(&mut self, text: &[u8], writer: &mut W) -> Result<(), DeviceFault>
         ensures bytes { Puts (W.written writer.old) (W.written writer.new) self.old self.new result
             text.now }
@@ -107,6 +117,16 @@ impl Pending {
         if self.push(text) {
             return Ok(());
         }
+        self.put_after_send(text, writer)
+    }
+
+    /// Writes the buffered bytes, then appends a string. A string that is longer than the buffer is
+    /// written at once.
+    fn put_after_send<W: Sink>(&mut self, text: &[u8], writer: &mut W) -> Result<(), DeviceFault>
+        ensures bytes { Puts (W.written writer.old) (W.written writer.new) self.old self.new result
+            text.now }
+        ensures failures { W.failures writer.new ≡ failures_after (W.failures writer.old) result }
+    {
         self.send(writer)?;
         if self.push(text) {
             return Ok(());

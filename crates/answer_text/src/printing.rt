@@ -110,18 +110,20 @@ fn put_answer<W: Sink>(
     put_frames(options, answer.frames(), pending, writer)
 }
 
-/// Writes an answer through a buffer.
-fn write_answer<W: Sink>(
+/// Writes an answer through a buffer, whose old content is dropped. A caller with many answers
+/// passes the same buffer for all of them.
+pub fn write_answer<W: Sink>(
     options: &Options,
     answer: &Answer<'_>,
+    pending: &mut Pending,
     writer: &mut W,
 ) -> Result<(), DeviceFault>
     ensures bytes { Writes (W.written writer.old) (W.written writer.new) result
         (answer_text options.now answer.now) }
     ensures failures { W.failures writer.new ≡ failures_after (W.failures writer.old) result }
 {
-    let mut pending = Pending::new();
-    put_answer(options, answer, &mut pending, writer)?;
+    pending.clear();
+    put_answer(options, answer, pending, writer)?;
     pending.send(writer)
 }
 
@@ -137,7 +139,7 @@ pub fn print<W: Sink>(
     ensures fault { IfErr result (λ fault. fault ≡ RunFault.Writing) }
     ensures failures { W.failures writer.new ≡ failures_after (W.failures writer.old) result }
 {
-    match write_answer(options, answer, writer) {
+    match write_answer(options, answer, &mut Pending::new(), writer) {
         Ok(()) => Ok(()),
         Err(_) => Err(RunFault::Writing),
     }

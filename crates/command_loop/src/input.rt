@@ -7,15 +7,17 @@ ghost use Rattle.command_loop.specs.Private.Progress.{state_of, ReadsOn, StopsWi
 
 use crate::line_buffer::LineBuffer;
 use crate::request::{parse_buffered, serve_request};
+use answer_text::Pending;
 use bstr::ByteSlice;
 use io_streams::{DeviceFault, Feed, Objects, Options, RunFault, Sink};
 use module_map::Modules;
 
-/// The modules and the current line.
+/// The modules, the current line, and the buffer of replies.
 #[derive(Drop)]
 pub struct Session {
     modules: Modules,
     line: LineBuffer,
+    pending: Pending,
 }
 
 impl Session {
@@ -40,7 +42,14 @@ impl Session {
             return Ok(());
         }
         let request = parse_buffered(self.line.text());
-        serve_request(options, request, &mut self.modules, writer, source)?;
+        serve_request(
+            options,
+            request,
+            &mut self.modules,
+            &mut self.pending,
+            writer,
+            source,
+        )?;
         self.line.clear();
         Ok(())
     }
@@ -95,6 +104,7 @@ pub fn serve_input<R: Feed, W: Sink, O: Objects>(
     let mut session = Session {
         modules,
         line: LineBuffer::new(),
+        pending: Pending::new(),
     };
     let mut piece = [0u8; 4096];
     // Proofs name the loop by its label.

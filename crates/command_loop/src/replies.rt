@@ -11,7 +11,7 @@ ghost use Rattle.command_loop.specs.Replies.{overlap_name};
 ghost use Rattle.module_map.specs.World.{name_at};
 
 use crate::request::Done;
-use answer_text::{Pending, address_text, print, write_texts};
+use answer_text::{Pending, address_text, write_answer, write_texts};
 use dwarf_bytes::LoadFault;
 use io_streams::{DeviceFault, Options, Sink};
 use itoa::Buffer;
@@ -169,12 +169,14 @@ fn write_list<W: Sink>(modules: &Modules, writer: &mut W) -> Result<(), DeviceFa
     pending.send(writer)
 }
 
-/// Writes the reply for the outcome of a request.
+/// Writes the reply for the outcome of a request. An answer is written through `pending`, whose old
+/// content is dropped.
 #[tactic(auto, unfolding(crate::specs::Text::text))]
 pub fn write_reply<W: Sink>(
     options: &Options,
     modules: &Modules,
     done: &Done<'_>,
+    pending: &mut Pending,
     writer: &mut W,
 ) -> Result<(), DeviceFault>
     requires { IsCurrent modules.now.world done.now }
@@ -190,11 +192,6 @@ pub fn write_reply<W: Sink>(
         Done::Unloaded(name) => write_unloaded(name, writer),
         Done::MovedTo(name, extent) => write_extent(b"moved ", name, extent, writer),
         Done::Listed => write_list(modules, writer),
-        Done::Asked(asked) => {
-            match print(options, &modules.answer(*asked), writer) {
-                Ok(()) => Ok(()),
-                Err(_) => Err(DeviceFault),
-            }
-        }
+        Done::Asked(asked) => write_answer(options, &modules.answer(*asked), pending, writer),
     }
 }

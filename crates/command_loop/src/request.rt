@@ -11,6 +11,7 @@ ghost use Rattle.command_loop.specs.Requests.Request.{Load, Unload, Move};
 
 use crate::commands::{BadLine, Command, parse_line};
 use crate::replies::write_reply;
+use answer_text::Pending;
 use io_streams::{DeviceFault, FetchFault, Objects, Options, Sink};
 use module_map::{Asked, Extent, MapFault, Modules};
 
@@ -100,10 +101,12 @@ fn act<'a, O: Objects>(
 }
 
 /// Serves a request: asks the source, changes the modules, then writes and flushes the reply.
+/// `pending` is a buffer whose content is dropped.
 pub fn serve_request<W: Sink, O: Objects>(
     options: &Options,
     request: Result<Command<'_>, BadLine>,
     modules: &mut Modules,
+    pending: &mut Pending,
     writer: &mut W,
     source: &mut O,
 ) -> Result<(), DeviceFault>
@@ -117,6 +120,6 @@ pub fn serve_request<W: Sink, O: Objects>(
     ensures failures { W.failures writer.new ≡ failures_after (W.failures writer.old) result }
 {
     let done = act(request, modules, source);
-    write_reply(options, modules, &done, writer)?;
+    write_reply(options, modules, &done, pending, writer)?;
     writer.flush()
 }

@@ -7,6 +7,7 @@ ghost use Rattle.command_loop.specs.Private.Progress.{state_of, ServedInOrder, S
 
 use crate::commands::Command;
 use crate::request::serve_request;
+use answer_text::Pending;
 use io_streams::{DeviceFault, Objects, Options, Sink};
 use module_map::Modules;
 
@@ -29,8 +30,10 @@ pub fn serve_words<W: Sink, O: Objects>(
         (map ask_of words.now) (O.asked source.new) (W.written writer.new)) }
     ensures failures { W.failures writer.new ≡ failures_after (W.failures writer.old) result }
 {
+    let mut pending = Pending::new();
     for word in words {
-        serve_request(options, Ok(Command::Ask(*word)), modules, writer, source)?;
+        let request = Ok(Command::Ask(*word));
+        serve_request(options, request, modules, &mut pending, writer, source)?;
     }
     Ok(())
 }
