@@ -70,9 +70,8 @@ pub struct FrameWalk<'a> {
     tables: ObjectTables<'a>,
     parents: &'a [u32],
     link: u64,
-    /// 1 + the index of the scope where the search for the next frame starts; 0 if no scope is
-    /// left.
-    near: usize,
+    /// The scope where the search for the next frame starts, if one is left.
+    scope: Option<usize>,
     /// The index of the outermost scope of the chain.
     top: usize,
     /// The site of the next frame.
@@ -85,14 +84,15 @@ impl<'a> Model for FrameWalk<'a> {
     ghost use Rattle.std.specs.Prelude.{List};
     ghost use Rattle.addr_table.specs.Frames.{Frame as FrameSeen};
     ghost use Rattle.addr_table.specs.Private.Views.{walk_left};
-    ghost use Rattle.addr_table.specs.Private.Walks.{IsWalk};
+    ghost use Rattle.addr_table.specs.Private.Walks.{near_of, IsWalk};
 
     ghost Value = { List FrameSeen };
 
     ghost view = { λ w. walk_left w.tables.bytes.now w.tables.lines.now w.tables.scopes.now.scopes
-        w.link w.near w.site w.alone };
+        w.link (near_of w.scope) w.site w.alone };
 
-    ghost invariant = { λ w. IsWalk w.tables.scopes.now.scopes w.parents.now w.link w.near w.top };
+    ghost invariant = { λ w. IsWalk w.tables.scopes.now.scopes w.parents.now w.link
+        (near_of w.scope) w.top };
 }
 
 impl<'a> FrameWalk<'a> {
@@ -110,7 +110,7 @@ impl<'a> FrameWalk<'a> {
                 tables,
                 parents,
                 link,
-                near: started,
+                scope: started,
                 top,
                 site,
                 alone: false,
@@ -119,7 +119,7 @@ impl<'a> FrameWalk<'a> {
                 tables,
                 parents,
                 link,
-                near: 0,
+                scope: None,
                 top: 0,
                 site,
                 alone: place.row.is_some(),
@@ -142,13 +142,12 @@ impl<'a> FrameWalk<'a> {
                 site,
             });
         }
-        let near = next_in_chain(tables.scopes, self.parents, self.link, self.top, self.near);
-        if near == 0 {
-            self.near = 0;
+        let next = next_in_chain(tables.scopes, self.parents, self.link, self.top, self.scope);
+        let Some(number) = next else {
+            self.scope = None;
             return None;
-        }
-        let number = near - 1;
-        self.near = outer(self.parents, self.top, number);
+        };
+        self.scope = outer(self.parents, self.top, number);
         self.site = FrameSite::Call(number);
         Some(Frame {
             tables,

@@ -1,11 +1,11 @@
 //! Walks the scopes of a chain from the innermost to the outermost.
 
-ghost use Rattle.std.specs.Prelude.{◌≡◌, ◌≤◌, ◌<◌, ◌^◌, length, get_or};
+ghost use Rattle.std.specs.Prelude.{◌≡◌, ◌≤◌, ◌<◌, length, get_or};
 ghost use Rattle.dwarf_entries.specs.Scopes.{Scope as ScopeSeen};
 ghost use Rattle.addr_table.specs.Chains.{is_at};
 ghost use Rattle.dwarf_entries.specs.Order.{AreInOrder};
-ghost use Rattle.addr_table.specs.Private.Walks.{HaveParents, chain_around, top_around, EndsAt};
-ghost use Rattle.addr_table.specs.Private.Walks.{IsInChain, outer_of, search_start_of};
+ghost use Rattle.addr_table.specs.Private.Walks.{HaveParents, near_of, chain_around, top_around};
+ghost use Rattle.addr_table.specs.Private.Walks.{EndsAt, IsInChain, outer_of, search_start_of};
 
 use crate::scan::is_at;
 use crate::scopes::scope_at;
@@ -22,76 +22,78 @@ fn is_scope_at(kind: ScopeKind, scopes: &Scopes, number: usize, link: u64) -> bo
     is_at(kind, scopes, scope, link, &mut Steps::default())
 }
 
-/// Returns the outermost scope of the chain among scope `near - 1` and the scopes that enclose it.
-pub(crate) fn top(scopes: &Scopes, parents: &[u32], link: u64, near: usize) -> Option<usize>
+/// Returns the scope that directly encloses a scope, if there is one.
+fn parent(parents: &[u32], number: usize) -> Option<usize>
+    requires { number < length parents.now }
+    ensures { near_of result ≡ get_or parents.now number 0 }
+{
+    (parents[number] as usize).checked_sub(1)
+}
+
+/// Returns the outermost scope of the chain among a scope and the scopes that enclose it.
+pub(crate) fn top(
+    scopes: &Scopes,
+    parents: &[u32],
+    link: u64,
+    scope: Option<usize>,
+) -> Option<usize>
     requires have { HaveParents scopes.now.scopes parents.now }
-    requires within { near ≤ length scopes.now.scopes }
-    ensures { result ≡ top_around link scopes.now.scopes near }
+    requires within { near_of scope ≤ length scopes.now.scopes }
+    ensures { result ≡ top_around link scopes.now.scopes (near_of scope) }
 {
     let mut found = None;
-    let mut near = near;
-    while near > 0 {
-        let number = near - 1;
+    let mut scope = scope;
+    while let Some(number) = scope {
         if is_scope_at(ScopeKind::Subprogram, scopes, number, link) {
             found = Some(number);
         }
-        near = parents[number] as usize;
+        scope = parent(parents, number);
     }
     found
 }
 
-/// Returns 1 + the index of the innermost scope of the chain among scope `near - 1` and the scopes
-/// that enclose it; 0 if there is none.
+/// Returns the innermost scope of the chain among a scope and the scopes that enclose it, if there
+/// is one.
 pub(crate) fn next_in_chain(
     scopes: &Scopes,
     parents: &[u32],
     link: u64,
     top: usize,
-    near: usize,
-) -> usize
+    scope: Option<usize>,
+) -> Option<usize>
     requires have { HaveParents scopes.now.scopes parents.now }
-    requires within { near ≤ length scopes.now.scopes }
-    requires ends { EndsAt link scopes.now.scopes near top }
-    ensures within { result ≤ length scopes.now.scopes }
-    ensures chain { chain_around link scopes.now.scopes result
-        ≡ chain_around link scopes.now.scopes near }
-    ensures ends { EndsAt link scopes.now.scopes result top }
-    ensures returned { IsInChain link scopes.now.scopes result top }
+    requires within { near_of scope ≤ length scopes.now.scopes }
+    requires ends { EndsAt link scopes.now.scopes (near_of scope) top }
+    ensures within { near_of result ≤ length scopes.now.scopes }
+    ensures chain { chain_around link scopes.now.scopes (near_of result)
+        ≡ chain_around link scopes.now.scopes (near_of scope) }
+    ensures ends { EndsAt link scopes.now.scopes (near_of result) top }
+    ensures returned { IsInChain link scopes.now.scopes (near_of result) top }
 {
-    let mut near = near;
-    while near > 0 {
-        let number = near - 1;
-        if number == top {
-            return near;
+    let mut scope = scope;
+    while let Some(number) = scope {
+        if number == top || is_scope_at(ScopeKind::Inlined, scopes, number, link) {
+            return scope;
         }
-        if is_scope_at(ScopeKind::Inlined, scopes, number, link) {
-            return near;
-        }
-        near = parents[number] as usize;
+        scope = parent(parents, number);
     }
-    0
+    None
 }
 
-/// Returns 1 + the index of the parent of scope `number`; 0 if it has none or is the outermost
-/// scope of the chain.
-pub(crate) fn outer(parents: &[u32], top: usize, number: usize) -> usize
+/// Returns the parent of scope `number`, or `None` if it is the outermost scope of the chain.
+pub(crate) fn outer(parents: &[u32], top: usize, number: usize) -> Option<usize>
     requires { number < length parents.now }
-    ensures { result ≡ outer_of parents.now top number }
+    ensures { near_of result ≡ outer_of parents.now top number }
 {
     if number == top {
-        0
-    } else {
-        parents[number] as usize
+        return None;
     }
+    parent(parents, number)
 }
 
-/// Returns 1 + the index of a scope if it is below `count`; 0 otherwise.
-pub(crate) fn search_start(count: usize, scope: Option<usize>) -> usize
-    requires { count < 2 ^ 63 }
-    ensures { result ≡ search_start_of count scope }
+/// Returns a scope if its number is below `count`.
+pub(crate) fn search_start(count: usize, scope: Option<usize>) -> Option<usize>
+    ensures { near_of result ≡ search_start_of count scope }
 {
-    match scope {
-        Some(number) => if number < count { number + 1 } else { 0 },
-        None => 0,
-    }
+    scope.filter(|number| *number < count)
 }

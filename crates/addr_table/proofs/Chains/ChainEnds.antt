@@ -1,19 +1,19 @@
 -- The start of a walk over a chain, and whether scopes remain.
-use Rattle.std.proofs.Common.{◌≡◌, ◌∙◌, ℕ, suc, ◌-◌, ◌<◌, ◌≤◌, List, [], ◌∷◌, ◌++◌, length, reverse}
-use Rattle.std.proofs.Common.{get_or, Bool, true, false, ◌&&◌, refl, sym, ap, subst, inl, inr}
+use Rattle.std.proofs.Common.{◌≡◌, ◌∙◌, ℕ, suc, ◌<◌, ◌≤◌, List, [], ◌∷◌, ◌++◌, length, reverse}
+use Rattle.std.proofs.Common.{get_or, Bool, true, false, ◌&&◌, refl, sym, ap, inl, inr}
 use Rattle.std.proofs.Common.{arith}
 use Rattle.std.specs.Prelude.{Option, Some, None, nat_lt, nat_le, find}
 use Rattle.std.proofs.lemmas.Bool.Decides.{nat_tests}
 use Rattle.std.proofs.lemmas.Bool.{cases_lt}
-use Rattle.std.proofs.lemmas.List.{reverse-append, get_or_default}
+use Rattle.std.proofs.lemmas.List.{reverse-append}
 use Rattle.dwarf_walk.specs.declared.scope_kind.ScopeKind.TheVariants.{Subprogram}
 use Rattle.dwarf_entries.specs.Scopes.{Scope}
 use Rattle.dwarf_entries.specs.Order.{AreNumbered}
 use Rattle.addr_table.specs.Chains.{is_at, encloses, enclosing, chain_among}
 use Rattle.addr_table.specs.Frames.{place_chain}
 use Rattle.addr_table.specs.Private.Parents.{around, IsParent}
-use Rattle.addr_table.specs.Private.Walks.{HaveParents, chain_around, top_around, search_start_of}
-use Rattle.addr_table.specs.Private.Walks.{IsWalk}
+use Rattle.addr_table.specs.Private.Walks.{HaveParents, near_of, chain_around, top_around}
+use Rattle.addr_table.specs.Private.Walks.{search_start_of, IsWalk}
 use Rattle.addr_table.proofs.Chains.ParentWalkLaws.{held-none, held-some, number_in}
 
 -- ---- whether scopes remain
@@ -88,16 +88,21 @@ pub left-empty : (scopes : List Scope) (a near : ℕ) → near ≡ 0
     → reverse (chain_around a scopes near) ≡ []
 left-empty scopes a near none = ap (λ (n : ℕ). reverse (chain_around a scopes n)) none
 
-pub parent-within : (scopes : List Scope) (nears : List ℕ) (near e : ℕ) → HaveParents scopes nears
-    → near ≤ length scopes → 0 < near
-    → get_or nears (near - 1) e ≤ length scopes
-parent-within scopes nears near e have le some =
+pub parent-within : (scopes : List Scope) (nears : List ℕ) (k : ℕ) → HaveParents scopes nears
+    → k < length scopes → get_or nears k 0 ≤ length scopes
+parent-within scopes nears k have lt =
     let all : length nears ≡ length scopes = have.all in
-    let within : near - 1 < length nears = omega arith in
-    let parent : IsParent scopes (near - 1) (get_or nears (near - 1) 0) =
-    have.parents (near - 1) within in
-    let low : get_or nears (near - 1) 0 ≤ near - 1 = parent.near_is in
-    subst (λ (p : ℕ). p ≤ length scopes) (get_or_default nears (near - 1) 0 e within) (omega arith)
+    let within : k < length nears = omega arith in
+    let parent : IsParent scopes k (get_or nears k 0) = have.parents k within in
+    let low : get_or nears k 0 ≤ k = parent.near_is in omega arith
+
+-- ---- a scope, or none
+
+pub near-some : (scope : Option ℕ) (k : ℕ) → scope ≡ Some k → near_of scope ≡ suc k
+near-some scope k is = ap near_of is
+
+pub near-below : (scope : Option ℕ) (k n : ℕ) → scope ≡ Some k → near_of scope ≤ n → k < n
+near-below scope k n is le = let near : near_of scope ≡ suc k = near-some scope k is in omega arith
 
 -- with an outermost scope the chain is not empty
 pub some-chain : (a : ℕ) (scopes : List Scope) (near top : ℕ) → top_around a scopes near ≡ Some top

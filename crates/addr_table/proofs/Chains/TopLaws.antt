@@ -1,9 +1,8 @@
 -- The outermost scope of a chain, found by following parents.
-use Rattle.std.proofs.Common.{◌≡◌, ◌∙◌, ℕ, zero, suc, ◌-◌, ◌<◌, ◌≤◌, List, [], length, get_or, Bool}
-use Rattle.std.proofs.Common.{true, false, cond, refl, sym, ap, subst, arith, zero-add}
+use Rattle.std.proofs.Common.{◌≡◌, ◌∙◌, ℕ, suc, ◌<◌, List, [], length, get_or, Bool}
+use Rattle.std.proofs.Common.{true, false, cond, refl, sym, ap, arith, zero-add}
 use Rattle.std.specs.Prelude.{Option, Some, None, find}
 use Rattle.std.specs.Option.{option_or}
-use Rattle.std.proofs.lemmas.List.{get_or_default}
 use Rattle.dwarf_walk.specs.declared.scope_kind.ScopeKind.TheVariants.{Subprogram}
 use Rattle.dwarf_entries.specs.Scopes.{Scope}
 use Rattle.addr_table.specs.Chains.{is_at}
@@ -64,21 +63,12 @@ pub top-end : (a : ℕ) (scopes : List Scope) (start near : ℕ) (found : Option
 top-end a scopes start near found h none =
     sym (h ∙ ap (λ (n : ℕ). option_or (top_around a scopes n) found) none)
 
-pub top-more : (a : ℕ) (scopes : List Scope) (nears : List ℕ) (start near : ℕ) (found : Option ℕ)
-    (b : Bool) (e : ℕ)
-    → HaveParents scopes nears → near ≤ length scopes → 0 < near → IsTop a scopes start near found
-    → ((d : Scope) → b ≡ is_at Subprogram a (get_or scopes (near - 1) d))
-    → IsTop a scopes start (get_or nears (near - 1) e) (cond b (Some (near - 1)) found)
-top-more a scopes nears start zero found b e have le some h held = absurd (omega arith)
-top-more a scopes nears start (suc k) found b e have le some h held =
-    let k_is : suc k - 1 ≡ k = omega arith in
-    let P : ℕ → Type 0 = λ n. IsTop a scopes start (get_or nears n e) (cond b (Some n) found) in
-    let H : ℕ → Type 0 = λ n. (d : Scope) → b ≡ is_at Subprogram a (get_or scopes n d) in
-    let within : k < length nears = (let all : length nears ≡ length scopes = have.all in
-    omega arith) in
-    subst P (sym k_is)
-    (subst (λ (n : ℕ). IsTop a scopes start n (cond b (Some k) found))
-    (get_or_default nears k 0 e within) (by b (subst H k_is held)))
+pub top-more : (a : ℕ) (scopes : List Scope) (nears : List ℕ) (start k : ℕ) (found : Option ℕ)
+    (b : Bool)
+    → HaveParents scopes nears → k < length scopes → IsTop a scopes start (suc k) found
+    → ((d : Scope) → b ≡ is_at Subprogram a (get_or scopes k d))
+    → IsTop a scopes start (get_or nears k 0) (cond b (Some k) found)
+top-more a scopes nears start k found b have le h held = by b held
   where
     no_scope : Scope
     no_scope =

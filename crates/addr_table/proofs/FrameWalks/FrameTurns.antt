@@ -1,5 +1,5 @@
 -- The remaining frames of a walk over a chain.
-use Rattle.std.proofs.Common.{◌≡◌, ◌≢◌, ◌∙◌, ℕ, ◌+◌, ◌-◌, ◌<◌, ◌≤◌, List, [], ◌∷◌, length, map}
+use Rattle.std.proofs.Common.{◌≡◌, ◌∙◌, ℕ, ◌+◌, ◌<◌, List, [], ◌∷◌, length, map}
 use Rattle.std.proofs.Common.{take, drop, reverse, get_or, Bool, false, refl, sym, ap, arith}
 use Rattle.std.specs.Prelude.{Option, Some, None, option_map, is_some, slice_get}
 use Rattle.std.proofs.lemmas.List.{drop_more, get_or-map, length-map}
@@ -133,16 +133,15 @@ started-none bytes lines scopes nears a scope row count near alone have total is
 -- ---- one scope more
 
 pub returned-frame : (bytes : List ℕ) (lines : Lines) (scopes : List Scope) (nears : List ℕ)
-    (a start near top next : ℕ) (site : FrameSite)
+    (a start k top next : ℕ) (site : FrameSite)
     (alone : Bool)
-    → Told a scopes nears start near top → near ≢ 0 → near ≤ length scopes → alone ≡ false
-    → next ≡ outer_of nears top (near - 1)
+    → Told a scopes nears start k top → k < length scopes → alone ≡ false
+    → next ≡ outer_of nears top k
     → walk_left bytes lines scopes a start site alone ≡ frame_view bytes lines scopes
-    (Some (near - 1)) site ∷ walk_left bytes lines scopes
-    a next (Call (near - 1)) alone
-returned-frame bytes lines scopes nears a start near top next site alone t some le off is =
-    let lt : near - 1 < length scopes = omega arith in
-    let there : slice_get scopes (near - 1) ≡ Some (get_or scopes (near - 1) no_scope) =
-    slice_get-get_or scopes (near - 1) no_scope lt in
+    (Some k) site ∷ walk_left bytes lines scopes
+    a next (Call k) alone
+returned-frame bytes lines scopes nears a start k top next site alone t lt off is =
+    let there : slice_get scopes k ≡ Some (get_or scopes k no_scope) =
+    slice_get-get_or scopes k no_scope lt in
     rw (off, is, there) (ap (λ (ss : List Scope). frames_from bytes lines ss
     (site_view bytes lines scopes site)) (t.returned no_scope))

@@ -1,10 +1,10 @@
 -- A walk over the scopes of a chain, from the innermost to the outermost.
-use Rattle.std.proofs.Common.{◌≡◌, ◌≢◌, ◌∙◌, ℕ, suc, ◌-◌, ◌<◌, ◌≤◌, List, [], ◌∷◌, ◌++◌, length}
+use Rattle.std.proofs.Common.{◌≡◌, ◌≢◌, ◌∙◌, ℕ, suc, ◌<◌, ◌≤◌, List, [], ◌∷◌, ◌++◌, length}
 use Rattle.std.proofs.Common.{reverse, get_or, true, false, nat_eq, refl, sym, ap, subst, inl, inr}
 use Rattle.std.proofs.Common.{arith, append-nil}
 use Rattle.std.specs.Prelude.{Some, None, filter}
 use Rattle.std.proofs.lemmas.Bool.Decides.{nat_tests}
-use Rattle.std.proofs.lemmas.List.{reverse-append, get_or_default}
+use Rattle.std.proofs.lemmas.List.{reverse-append}
 use Rattle.dwarf_walk.specs.declared.scope_kind.ScopeKind.TheVariants.{Subprogram, Inlined}
 use Rattle.dwarf_entries.specs.Scopes.{Scope}
 use Rattle.addr_table.specs.Chains.{is_at}
@@ -24,21 +24,15 @@ pub record Passed (a : ℕ) (scopes : List Scope) (near p top : ℕ) : Type 0 wh
   pub chain : chain_around a scopes p ≡ chain_around a scopes near
   pub ends : EndsAt a scopes p top
 
-pub pass : (a : ℕ) (scopes : List Scope) (nears : List ℕ) (near top e : ℕ)
-    → HaveParents scopes nears → near ≤ length scopes → 0 < near
-    → EndsAt a scopes near top → (near - 1) ≢ top
-    → ((d : Scope) → is_at Inlined a (get_or scopes (near - 1) d) ≡ false)
-    → Passed a scopes near (get_or nears (near - 1) e) top
-pass a scopes nears near top e have le some ends other out = elim ends [
+pub pass : (a : ℕ) (scopes : List Scope) (nears : List ℕ) (near k top : ℕ)
+    → HaveParents scopes nears → near ≡ suc k → k < length scopes
+    → EndsAt a scopes near top → k ≢ top
+    → ((d : Scope) → is_at Inlined a (get_or scopes k d) ≡ false)
+    → Passed a scopes near (get_or nears k 0) top
+pass a scopes nears near k top have is lt ends other out = elim ends [
   | inl none ↦ absurd (omega arith)
-  | inr returned ↦
-      (let k : near ≡ suc (near - 1) = omega arith in
-      let within : near - 1 < length nears =
-      (let all : length nears ≡ length scopes = have.all in omega arith) in
-      let o : Outer a scopes (near - 1) (get_or nears (near - 1) 0) near top =
-      step-outer a scopes nears (near - 1) near top have (omega arith) k returned other in
-      subst (λ (p : ℕ). Passed a scopes near p top) (get_or_default nears (near - 1) 0 e within)
-      (passed (near - 1) (get_or nears (near - 1) 0) o (omega arith) out))
+  | inr returned ↦ passed k (get_or nears k 0)
+      (step-outer a scopes nears k near top have lt is returned other) lt out
 ]
   where
     no_scope : Scope
@@ -71,30 +65,29 @@ pass a scopes nears near top e have le some ends other out = elim ends [
       ends = inr o.top_is;
     }
 
--- the next frame is of scope near - 1, and its enclosing scopes remain
-pub record Told (a : ℕ) (scopes : List Scope) (nears : List ℕ) (start near top : ℕ) : Type 0 where
-  pub walk : IsWalk scopes nears a (outer_of nears top (near - 1)) top
+-- the next frame is of scope k, and its enclosing scopes remain
+pub record Told (a : ℕ) (scopes : List Scope) (nears : List ℕ) (start k top : ℕ) : Type 0 where
+  pub walk : IsWalk scopes nears a (outer_of nears top k) top
   pub returned : (d : Scope)
-      → reverse (chain_around a scopes start) ≡ get_or scopes (near - 1) d
-      ∷ reverse (chain_around a scopes (outer_of nears top (near - 1)))
+      → reverse (chain_around a scopes start) ≡ get_or scopes k d
+      ∷ reverse (chain_around a scopes (outer_of nears top k))
 
-pub tell : (a : ℕ) (scopes : List Scope) (nears : List ℕ) (start near top : ℕ)
-    → HaveParents scopes nears → near ≤ length scopes
-    → near ≢ 0 → chain_around a scopes near ≡ chain_around a scopes start → EndsAt a scopes near top
-    → IsInChain a scopes near top → Told a scopes nears start near top
-tell a scopes nears start near top have le some chain ends returned = by returned
+pub tell : (a : ℕ) (scopes : List Scope) (nears : List ℕ) (start near k top : ℕ)
+    → HaveParents scopes nears → near ≡ suc k → near ≤ length scopes
+    → chain_around a scopes near ≡ chain_around a scopes start → EndsAt a scopes near top
+    → IsInChain a scopes near top → Told a scopes nears start k top
+tell a scopes nears start near k top have is le chain ends returned = by returned
   where
-    last_one : (k : ℕ) → near ≡ suc k → k ≡ top → Told a scopes nears start near top
-    last_one k is top_is = elim ends [
-      | inl none ↦ absurd (some none)
+    last_one : k ≡ top → Told a scopes nears start k top
+    last_one top_is = elim ends [
+      | inl none ↦ absurd (omega arith)
       | inr there ↦
-          (let k_is : near - 1 ≡ k = omega arith in
-          let outer : outer_of nears top (near - 1) ≡ 0 = out (near - 1) top (k_is ∙ top_is) in
+          (let outer : outer_of nears top k ≡ 0 = out k top top_is in
           let there_k : top_around a scopes near ≡ Some k = there ∙ ap Some (sym top_is) in
           record {
             walk = rw outer (record { have = have; within = omega arith; ends = inl refl });
             returned =
-                λ d. rw (outer, k_is)
+                λ d. rw outer
                 (ap (reverse {A = Scope})
                 (sym chain ∙ step-top a scopes nears k near d have (omega arith) is there_k));
           })
@@ -103,16 +96,14 @@ tell a scopes nears start near top have le some chain ends returned = by returne
         out : (n t : ℕ) → n ≡ t → outer_of nears t n ≡ 0
         out n t e = let same : nat_eq n t ≡ true = grind (arith, nat_tests) in rw same refl
 
-    inner : (k : ℕ) → near ≡ suc k → k ≢ top
-        → ((d : Scope) → is_at Inlined a (get_or scopes k d) ≡ true)
-        → Told a scopes nears start near top
-    inner k is other held = elim ends [
-      | inl none ↦ absurd (some none)
+    inner : k ≢ top → ((d : Scope) → is_at Inlined a (get_or scopes k d) ≡ true)
+        → Told a scopes nears start k top
+    inner other held = elim ends [
+      | inl none ↦ absurd (omega arith)
       | inr there ↦
-          (let k_is : near - 1 ≡ k = omega arith in
-          let o : Outer a scopes k (get_or nears k 0) near top =
+          (let o : Outer a scopes k (get_or nears k 0) near top =
           step-outer a scopes nears k near top have (omega arith) is there other in
-          let outer : outer_of nears top (near - 1) ≡ get_or nears k 0 = out in
+          let outer : outer_of nears top k ≡ get_or nears k 0 = out in
           record {
             walk =
                 rw outer
@@ -124,7 +115,7 @@ tell a scopes nears start near top have le some chain ends returned = by returne
                       inr o.top_is;
                 });
             returned =
-                λ d. rw (outer, k_is)
+                λ d. rw outer
                 (ap (reverse {A = Scope}) (sym chain ∙ (o.chain_is d
                 ∙ ap (λ (zs : List Scope). chain_around a scopes (get_or nears k 0) ++ zs)
                 (one_of (get_or scopes k d) (held d))))
@@ -136,14 +127,16 @@ tell a scopes nears start near top have le some chain ends returned = by returne
         one_of : (s : Scope) → is_at Inlined a s ≡ true → filter (is_at Inlined a) (s ∷ []) ≡ s ∷ []
         one_of s h = rw h refl
 
-        out : outer_of nears top (near - 1) ≡ get_or nears k 0
-        out = let k_is : near - 1 ≡ k = omega arith in let same : nat_eq k top ≡ false =
-            grind (arith, nat_tests) in rw (k_is, same) refl
+        out : outer_of nears top k ≡ get_or nears k 0
+        out = let same : nat_eq k top ≡ false = grind (arith, nat_tests) in rw same refl
 
-    by : IsInChain a scopes near top → Told a scopes nears start near top
-    by (nothing e) = absurd (some e)
-    by (outermost is) = last_one top is refl
-    by (inlined k is other held) = inner k is other held
+    by : IsInChain a scopes near top → Told a scopes nears start k top
+    by (nothing e) = absurd (omega arith)
+    by (outermost top_is) = last_one (omega arith)
+    by (inlined j j_is other held) =
+        let same : j ≡ k = omega arith in
+        inner (subst (λ (n : ℕ). n ≢ top) same other)
+        (subst (λ (n : ℕ). (d : Scope) → is_at Inlined a (get_or scopes n d) ≡ true) same held)
 
 -- if no frame is returned, none remains
 pub tell-none : (a : ℕ) (scopes : List Scope) (start near : ℕ) → near ≡ 0

@@ -13,6 +13,11 @@ pub record HaveParents (scopes : List Scope) (nears : List ℕ) : Type 0 where
   pub parents : AreParents scopes nears
   pub all : length nears ≡ length scopes
 
+-- 1 + the number of a scope; 0 for none
+abbrev pub near_of : Option ℕ → ℕ
+near_of None = 0
+near_of (Some number) = suc number
+
 -- the chain among the scope before this number and the scopes that enclose it
 abbrev pub chain_around : ℕ → List Scope → ℕ → List Scope
 chain_around a scopes near = chain_among a (around scopes near)

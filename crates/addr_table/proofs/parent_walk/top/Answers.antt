@@ -1,24 +1,28 @@
-use Rattle.std.proofs.Common.{true, false}
-use Rattle.addr_table.proofs.Chains.TopLaws.{top-more}
-use Rattle.addr_table.proofs.Chains.ChainEnds.{parent-within}
+use Rattle.std.proofs.Common.{ℕ, true, false, subst}
+use Rattle.addr_table.specs.Private.Walks.{near_of}
+use Rattle.addr_table.proofs.Chains.TopLaws.{IsTop, top-more}
+use Rattle.addr_table.proofs.Chains.ChainEnds.{parent-within, near-some, near-below}
 use Rattle.addr_table.proofs.parent_walk.top.Goals as goal
 use Rattle.addr_table.proofs.parent_walk.top.Goals.{then-is_scope_at, else-is_scope_at}
 
-pub loop-near-preserved : goal.loop-near-preserved
-loop-near-preserved c = record {
-  within = parent-within _ _ _ 0 c.requires.have c.loop-near.invariant.within c.loop-near-test.true;
-  found = elim c.if-is_scope_at.branch [
-    | then-is_scope_at w ↦
-        rw w.found-is
-        (top-more c.args.link c.args.scopes.now.scopes c.args.parents.now c.args.near
-        c.loop-near.near c.loop-near.found true 0
-        c.requires.have c.loop-near.invariant.within c.loop-near-test.true
-        c.loop-near.invariant.found w.if-is_scope_at.ensures)
-    | else-is_scope_at w ↦
-        rw w.found-is
-        (top-more c.args.link c.args.scopes.now.scopes c.args.parents.now c.args.near
-        c.loop-near.near c.loop-near.found false 0
-        c.requires.have c.loop-near.invariant.within c.loop-near-test.true
-        c.loop-near.invariant.found w.if-is_scope_at.ensures)
-  ];
-}
+pub loop-scope-preserved : goal.loop-scope-preserved
+loop-scope-preserved c =
+    let lt = near-below _ _ _ c.in-Some.is c.loop-scope.invariant.within in
+    let here = subst (λ (n : ℕ). IsTop c.args.link c.args.scopes.now.scopes
+    (near_of c.args.scope) n c.loop-scope.found)
+    (near-some _ _ c.in-Some.is) c.loop-scope.invariant.found in
+    record {
+      within = rw c.parent-scope.ensures (parent-within _ _ _ c.requires.have lt);
+      found =
+          rw c.parent-scope.ensures
+          (elim c.if-is_scope_at.branch [
+            | then-is_scope_at w ↦
+                rw w.found-is
+                (top-more c.args.link c.args.scopes.now.scopes c.args.parents.now _ _ _ true
+                c.requires.have lt here w.if-is_scope_at.ensures)
+            | else-is_scope_at w ↦
+                rw w.found-is
+                (top-more c.args.link c.args.scopes.now.scopes c.args.parents.now _ _ _ false
+                c.requires.have lt here w.if-is_scope_at.ensures)
+          ]);
+    }

@@ -1,3 +1,5 @@
+use Rattle.std.proofs.Common.{refl}
+use Rattle.addr_table.specs.Private.Walks.{near_of}
 use Rattle.addr_table.proofs.FrameWalks.WalkLaws.{Told, tell}
 use Rattle.addr_table.proofs.FrameWalks.FrameTurns.{returned-frame}
 use Rattle.addr_table.proofs.frames.FrameWalk.next.Goals as goal
@@ -5,12 +7,10 @@ use Rattle.addr_table.proofs.frames.FrameWalk.next.Goals.{After-outer-self-insid
 
 returned : (c : After-outer-self-inside)
     → Told c.self.inside.link c.self.inside.tables.scopes.now.scopes c.self.inside.parents.now
-    c.self.inside.near c.next_in_chain-near.result
-    c.self.inside.top
+    (near_of c.self.inside.scope) c.in-Some.number c.self.inside.top
 returned c =
-    tell _ _ _ _ _ _ c.self.invariant.have c.next_in_chain-near.ensures.within c.if-near-eq0.false
-    c.next_in_chain-near.ensures.chain
-    c.next_in_chain-near.ensures.ends c.next_in_chain-near.ensures.returned
+    tell _ _ _ _ _ _ _ c.self.invariant.have refl c.in-Some.ensures.within c.in-Some.ensures.chain
+    c.in-Some.ensures.ends c.in-Some.ensures.returned
 
 pub invariant_of-self-2 : goal.invariant_of-self-2
 invariant_of-self-2 c = rw c.outer-self-inside.ensures
@@ -21,6 +21,5 @@ returns c =
     rw (← c.self.view_is)
     (returned-frame c.self.inside.tables.bytes.now c.self.inside.tables.lines.now _ _ _ _ _ _ _
     c.self.inside.site _
-    (returned (goal.at.returns c).After-outer-self-inside) c.if-near-eq0.false
-    c.next_in_chain-near.ensures.within c.if-self.false
-    c.outer-self-inside.ensures)
+    (returned (goal.at.returns c).After-outer-self-inside) c.in-Some.ensures.within
+    c.if-self.false c.outer-self-inside.ensures)
