@@ -3,9 +3,10 @@
 ghost use Rattle.std.specs.Prelude.{◌≡◌, [], ◌∷◌, option_map, MatchOption};
 ghost use Rattle.std.specs.List.{join_with_byte};
 ghost use Rattle.addr_table.specs.Frames.{frames_of, place_chain};
-ghost use Rattle.addr_table.specs.Private.Walks.{HaveParents};
+ghost use Rattle.addr_table.specs.Private.Walks.{HaveParents, nears_of};
 
 use crate::object_tables::{FrameSite, ObjectTables};
+use crate::optional_index::OptionalIndex;
 use crate::parent_walk::{next_in_chain, outer, search_start, top};
 use crate::path::Path;
 use crate::place::Place;
@@ -68,7 +69,7 @@ impl<'a> Frame<'a> {
 #[derive(Drop)]
 pub struct FrameWalk<'a> {
     tables: ObjectTables<'a>,
-    parents: &'a [u32],
+    parents: &'a [OptionalIndex],
     link: u64,
     /// The scope where the search for the next frame starts, if one is left.
     scope: Option<usize>,
@@ -84,21 +85,21 @@ impl<'a> Model for FrameWalk<'a> {
     ghost use Rattle.std.specs.Prelude.{List};
     ghost use Rattle.addr_table.specs.Frames.{Frame as FrameSeen};
     ghost use Rattle.addr_table.specs.Private.Views.{walk_left};
-    ghost use Rattle.addr_table.specs.Private.Walks.{near_of, IsWalk};
+    ghost use Rattle.addr_table.specs.Private.Walks.{near_of, nears_of, IsWalk};
 
     ghost Value = { List FrameSeen };
 
     ghost view = { λ w. walk_left w.tables.bytes.now w.tables.lines.now w.tables.scopes.now.scopes
         w.link (near_of w.scope) w.site w.alone };
 
-    ghost invariant = { λ w. IsWalk w.tables.scopes.now.scopes w.parents.now w.link
-        (near_of w.scope) w.top };
+    ghost invariant = { λ w. IsWalk w.tables.scopes.now.scopes (nears_of w.parents.now)
+        w.link (near_of w.scope) w.top };
 }
 
 impl<'a> FrameWalk<'a> {
     /// Starts a walk at the scope of a place.
-    fn of(tables: ObjectTables<'a>, parents: &'a [u32], place: Place) -> FrameWalk<'a>
-        requires { HaveParents tables.scopes.now.scopes parents.now }
+    fn of(tables: ObjectTables<'a>, parents: &'a [OptionalIndex], place: Place) -> FrameWalk<'a>
+        requires { HaveParents tables.scopes.now.scopes (nears_of parents.now) }
         ensures { result ≡ frames_of tables.entry.bytes.now tables.entry.lines.now
             (place_chain place.link place.scope tables.entry.scopes.now.scopes) place.row }
     {
@@ -182,8 +183,12 @@ impl<'a> Frames<'a> {
     }
 
     /// Returns the frames of a place.
-    pub(crate) fn of(tables: ObjectTables<'a>, parents: &'a [u32], place: Place) -> Frames<'a>
-        requires { HaveParents tables.scopes.now.scopes parents.now }
+    pub(crate) fn of(
+        tables: ObjectTables<'a>,
+        parents: &'a [OptionalIndex],
+        place: Place,
+    ) -> Frames<'a>
+        requires { HaveParents tables.scopes.now.scopes (nears_of parents.now) }
         ensures { result ≡ frames_of tables.entry.bytes.now tables.entry.lines.now
             (place_chain place.link place.scope tables.entry.scopes.now.scopes) place.row }
     {

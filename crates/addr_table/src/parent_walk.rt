@@ -4,9 +4,12 @@ ghost use Rattle.std.specs.Prelude.{◌≡◌, ◌≤◌, ◌<◌, length, get_o
 ghost use Rattle.dwarf_entries.specs.Scopes.{Scope as ScopeSeen};
 ghost use Rattle.addr_table.specs.Chains.{is_at};
 ghost use Rattle.dwarf_entries.specs.Order.{AreInOrder};
-ghost use Rattle.addr_table.specs.Private.Walks.{HaveParents, near_of, chain_around, top_around};
-ghost use Rattle.addr_table.specs.Private.Walks.{EndsAt, IsInChain, outer_of, search_start_of};
+ghost use Rattle.addr_table.specs.Private.Walks.{HaveParents, near_of, nears_of, chain_around};
+ghost use Rattle.addr_table.specs.Private.Walks.{top_around, EndsAt, IsInChain, outer_of};
+ghost use Rattle.addr_table.specs.Private.Walks.{search_start_of};
 
+use crate::optional_index::OptionalIndex;
+use crate::parents::parent;
 use crate::scan::is_at;
 use crate::scopes::scope_at;
 use crate::steps::Steps;
@@ -22,22 +25,14 @@ fn is_scope_at(kind: ScopeKind, scopes: &Scopes, number: usize, link: u64) -> bo
     is_at(kind, scopes, scope, link, &mut Steps::default())
 }
 
-/// Returns the scope that directly encloses a scope, if there is one.
-fn parent(parents: &[u32], number: usize) -> Option<usize>
-    requires { number < length parents.now }
-    ensures { near_of result ≡ get_or parents.now number 0 }
-{
-    (parents[number] as usize).checked_sub(1)
-}
-
 /// Returns the outermost scope of the chain among a scope and the scopes that enclose it.
 pub(crate) fn top(
     scopes: &Scopes,
-    parents: &[u32],
+    parents: &[OptionalIndex],
     link: u64,
     scope: Option<usize>,
 ) -> Option<usize>
-    requires have { HaveParents scopes.now.scopes parents.now }
+    requires have { HaveParents scopes.now.scopes (nears_of parents.now) }
     requires within { near_of scope ≤ length scopes.now.scopes }
     ensures { result ≡ top_around link scopes.now.scopes (near_of scope) }
 {
@@ -56,12 +51,12 @@ pub(crate) fn top(
 /// is one.
 pub(crate) fn next_in_chain(
     scopes: &Scopes,
-    parents: &[u32],
+    parents: &[OptionalIndex],
     link: u64,
     top: usize,
     scope: Option<usize>,
 ) -> Option<usize>
-    requires have { HaveParents scopes.now.scopes parents.now }
+    requires have { HaveParents scopes.now.scopes (nears_of parents.now) }
     requires within { near_of scope ≤ length scopes.now.scopes }
     requires ends { EndsAt link scopes.now.scopes (near_of scope) top }
     ensures within { near_of result ≤ length scopes.now.scopes }
@@ -81,9 +76,9 @@ pub(crate) fn next_in_chain(
 }
 
 /// Returns the parent of scope `number`, or `None` if it is the outermost scope of the chain.
-pub(crate) fn outer(parents: &[u32], top: usize, number: usize) -> Option<usize>
-    requires { number < length parents.now }
-    ensures { near_of result ≡ outer_of parents.now top number }
+pub(crate) fn outer(parents: &[OptionalIndex], top: usize, number: usize) -> Option<usize>
+    requires { number < length (nears_of parents.now) }
+    ensures { near_of result ≡ outer_of (nears_of parents.now) top number }
 {
     if number == top {
         return None;

@@ -1,8 +1,9 @@
 -- The start of a walk over a chain, and whether scopes remain.
-use Rattle.std.proofs.Common.{◌≡◌, ◌∙◌, ℕ, suc, ◌<◌, ◌≤◌, List, [], ◌∷◌, ◌++◌, length, reverse}
+use Rattle.std.proofs.Common.{◌≡◌, ◌∙◌, ℕ, suc, ◌-◌, ◌<◌, ◌≤◌, List, [], ◌∷◌, ◌++◌, length, reverse}
 use Rattle.std.proofs.Common.{get_or, Bool, true, false, ◌&&◌, refl, sym, ap, inl, inr}
 use Rattle.std.proofs.Common.{arith}
 use Rattle.std.specs.Prelude.{Option, Some, None, nat_lt, nat_le, find}
+use Rattle.std.specs.Option.{SomeIff}
 use Rattle.std.proofs.lemmas.Bool.Decides.{nat_tests}
 use Rattle.std.proofs.lemmas.Bool.{cases_lt}
 use Rattle.std.proofs.lemmas.List.{reverse-append}
@@ -100,6 +101,10 @@ parent-within scopes nears k have lt =
 
 pub near-some : (scope : Option ℕ) (k : ℕ) → scope ≡ Some k → near_of scope ≡ suc k
 near-some scope k is = ap near_of is
+
+pub near-before : (scope : Option ℕ) (n : ℕ) → SomeIff scope (1 ≤ n) (n - 1) → near_of scope ≡ n
+near-before None n none = let under : ¬ (1 ≤ n) = none in omega arith
+near-before (Some k) n h = let some : 1 ≤ n = h.0 in let is : k ≡ n - 1 = h.1 in omega arith
 
 pub near-below : (scope : Option ℕ) (k n : ℕ) → scope ≡ Some k → near_of scope ≤ n → k < n
 near-below scope k n is le = let near : near_of scope ≡ suc k = near-some scope k is in omega arith

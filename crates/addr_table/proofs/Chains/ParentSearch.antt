@@ -1,11 +1,10 @@
 -- The search for the parent of a scope.
-use Rattle.std.proofs.Common.{◌≡◌, ◌∙◌, ℕ, zero, suc, ◌+◌, ◌-◌, ◌<◌, ◌≤◌, List, [], ◌∷◌, ◌++◌}
+use Rattle.std.proofs.Common.{◌≡◌, ◌∙◌, ℕ, zero, suc, ◌+◌, ◌<◌, ◌≤◌, List, [], ◌∷◌, ◌++◌}
 use Rattle.std.proofs.Common.{length, get_or, Bool, true, false, cond, ◌&&◌, ◌⊎◌, refl, sym, ap}
 use Rattle.std.proofs.Common.{subst, inl, inr, arith, append-nil, zero-add}
 use Rattle.std.specs.Prelude.{nat_lt, nat_le, filter}
 use Rattle.std.specs.List.{AllByRecursion}
 use Rattle.std.proofs.lemmas.Bool.Decides.{nat_tests}
-use Rattle.std.proofs.lemmas.List.{get_or_default}
 use Rattle.std.proofs.lemmas.List.Elements.{filter-append}
 use Rattle.dwarf_entries.specs.Scopes.{Scope}
 use Rattle.dwarf_entries.specs.Order.{AreNumbered, AreNested, AreInOrder}
@@ -174,34 +173,22 @@ parents-more scopes nears near h one i lt = cases nears i h one lt
 -- ---- the same for the ends of the program
 
 -- the candidate before near does not enclose scope i, so the search continues with its parent
-pub step-outwards : (scopes : List Scope) (nears : List ℕ) (i near past e : ℕ)
-    → AreParents scopes nears → length nears ≡ i
-    → i < length scopes → 0 < near → IsNear scopes i near
-    → ((d : Scope) → past ≡ (get_or scopes (near - 1) d).«end») → past ≤ i
-    → IsNear scopes i (get_or nears (near - 1) e)
-step-outwards scopes nears i zero past e parents len lt some h is ends = absurd (omega arith)
-step-outwards scopes nears i (suc k) past e parents len lt some h is ends =
-    let k_is : suc k - 1 ≡ k = omega arith in
+pub step-outwards : (scopes : List Scope) (nears : List ℕ) (i k past : ℕ)
+    → AreParents scopes nears → length nears ≡ i → i < length scopes → IsNear scopes i (suc k)
+    → ((d : Scope) → past ≡ (get_or scopes k d).«end») → past ≤ i
+    → IsNear scopes i (get_or nears k 0)
+step-outwards scopes nears i k past parents len lt h is ends =
     let within : suc k ≤ i = h.within in
-    let P : ℕ → Type 0 = λ n. IsNear scopes i (get_or nears n e) in
-    let E : ℕ → Type 0 = λ n. past ≡ (get_or scopes n no_scope).«end» in
-    let Q : ℕ → Type 0 = λ p. IsParent scopes k p in
-    let lt_n : k < length nears = omega arith in
-    let parent : IsParent scopes k (get_or nears k e) =
-    subst Q (get_or_default nears k 0 e lt_n) (parents k lt_n) in
-    let over : past ≡ (get_or scopes k no_scope).«end» = subst E k_is (is no_scope) in
-    subst P (sym k_is) (near-outwards scopes i k (get_or nears k e) no_scope h (omega arith) parent
-    (omega arith))
+    let over : past ≡ (get_or scopes k no_scope).«end» = is no_scope in
+    near-outwards scopes i k (get_or nears k 0) no_scope h (omega arith)
+    (parents k (omega arith)) (omega arith)
 
-pub stop-outwards : (scopes : List Scope) (i near past : ℕ) → AreInOrder scopes → i < length scopes
-    → 0 < near → IsNear scopes i near
-    → ((d : Scope) → past ≡ (get_or scopes (near - 1) d).«end») → i < past → IsParent scopes i near
-stop-outwards scopes i zero past order lt some h is beyond = absurd (omega arith)
-stop-outwards scopes i (suc k) past order lt some h is beyond =
-    let k_is : suc k - 1 ≡ k = omega arith in
+pub stop-outwards : (scopes : List Scope) (i k past : ℕ) → AreInOrder scopes → i < length scopes
+    → IsNear scopes i (suc k) → ((d : Scope) → past ≡ (get_or scopes k d).«end») → i < past
+    → IsParent scopes i (suc k)
+stop-outwards scopes i k past order lt h is beyond =
     let within : suc k ≤ i = h.within in
-    let E : ℕ → Type 0 = λ n. past ≡ (get_or scopes n no_scope).«end» in
-    let under : past ≡ (get_or scopes k no_scope).«end» = subst E k_is (is no_scope) in
+    let under : past ≡ (get_or scopes k no_scope).«end» = is no_scope in
     near-found scopes i k no_scope order h (omega arith) (omega arith)
 
 pub start-outwards : (scopes : List Scope) (i : ℕ) → AreInOrder scopes → i < length scopes

@@ -1,6 +1,6 @@
 -- A walk over the scopes of a chain, from the innermost to the outermost.
 use Rattle.std.specs.Prelude.{◌≡◌, ◌≢◌, ℕ, suc, ◌≤◌, ◌⊎◌, true, List, length, get_or, ◌==◌}
-use Rattle.std.specs.Prelude.{nat_lt, find, Option, Some, None, option_map, if◌then◌else◌}
+use Rattle.std.specs.Prelude.{nat_lt, find, map, Option, Some, None, option_map, if◌then◌else◌}
 use Rattle.dwarf_walk.specs.declared.scope_kind.ScopeKind.TheVariants.{Subprogram, Inlined}
 use Rattle.dwarf_entries.specs.Scopes.{Scope}
 use Rattle.dwarf_entries.specs.Order.{AreInOrder}
@@ -17,6 +17,9 @@ pub record HaveParents (scopes : List Scope) (nears : List ℕ) : Type 0 where
 abbrev pub near_of : Option ℕ → ℕ
 near_of None = 0
 near_of (Some number) = suc number
+
+abbrev pub nears_of : List (Option ℕ) → List ℕ
+nears_of = map near_of
 
 -- the chain among the scope before this number and the scopes that enclose it
 abbrev pub chain_around : ℕ → List Scope → ℕ → List Scope

@@ -1,5 +1,5 @@
 use Rattle.std.proofs.Common.{ℕ, true, false, subst}
-use Rattle.addr_table.specs.Private.Walks.{near_of}
+use Rattle.addr_table.specs.Private.Walks.{near_of, nears_of}
 use Rattle.addr_table.proofs.Chains.TopLaws.{IsTop, top-more}
 use Rattle.addr_table.proofs.Chains.ChainEnds.{parent-within, near-some, near-below}
 use Rattle.addr_table.proofs.parent_walk.top.Goals as goal
@@ -18,11 +18,11 @@ loop-scope-preserved c =
           (elim c.if-is_scope_at.branch [
             | then-is_scope_at w ↦
                 rw w.found-is
-                (top-more c.args.link c.args.scopes.now.scopes c.args.parents.now _ _ _ true
+                (top-more c.args.link c.args.scopes.now.scopes (nears_of c.args.parents.now) _ _ _ true
                 c.requires.have lt here w.if-is_scope_at.ensures)
             | else-is_scope_at w ↦
                 rw w.found-is
-                (top-more c.args.link c.args.scopes.now.scopes c.args.parents.now _ _ _ false
+                (top-more c.args.link c.args.scopes.now.scopes (nears_of c.args.parents.now) _ _ _ false
                 c.requires.have lt here w.if-is_scope_at.ensures)
           ]);
     }
