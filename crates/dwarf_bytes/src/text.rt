@@ -45,8 +45,8 @@ pub fn text_at(section: &[u8], offset: u64) -> Result<&[u8], ReadFault>
     text_front(&section[offset as usize..]).ok_or(ReadFault::Unterminated)
 }
 
-/// Returns the offset after the last NUL of a section, or 0 if there is none. A string starts at each
-/// offset below it, and at no other, so such an offset is validated without reading the string.
+/// Returns the offset after the last NUL of a section, or 0 if there is none. A string starts at
+/// each offset below it, and at no other, so such an offset is validated without reading the string.
 pub fn strings_end(bytes: &[u8]) -> usize
     ensures { EndsStrings bytes.now result }
 {

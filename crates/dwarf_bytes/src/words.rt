@@ -74,7 +74,7 @@ impl Cause {
         }
     }
 
-    /// Returns the word of a cause of ranges or line programs, and an empty text for any other cause.
+    /// Returns the word of a cause of ranges or line programs, or an empty text for any other.
     fn range_or_line_word(self) -> &'static str
         ensures { result.now ≡ range_or_line_word self }
     {

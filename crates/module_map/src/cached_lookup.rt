@@ -24,7 +24,8 @@ pub fn look_up(
     requires held { (d : NumberedModule) →
         start_of (slice_index_or sorted.now at d).loaded ≤ address }
     requires right { (h : NumberedModule) (e : CacheEntry) → Contains sorted.now h →
-        Contains cache.old.entries e → h.serial ≡ e.0.serial → e.1 ≡ place_in h.loaded.bytes e.0.link }
+        Contains cache.old.entries e → h.serial ≡ e.0.serial →
+        e.1 ≡ place_in h.loaded.bytes e.0.link }
     ensures place { (d : NumberedModule) → let m = (slice_index_or sorted.now at d).loaded in
         result ≡ place_in m.bytes (address - m.base) }
     ensures cached { (d : NumberedModule) (e : CacheEntry) → Contains cache.new.entries e →

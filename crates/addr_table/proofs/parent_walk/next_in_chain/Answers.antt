@@ -15,8 +15,8 @@ returns-then-number-top-clause-returned c = elim c.then-number-top.branch [
 
 pub loop-scope-preserved : goal.loop-scope-preserved
 loop-scope-preserved c =
-    let p = pass c.args.link c.args.scopes.now.scopes (nears_of c.args.parents.now) _ c.in-Some.number
-    c.args.top c.requires.have (near-some _ _ c.in-Some.is)
+    let p = pass c.args.link c.args.scopes.now.scopes (nears_of c.args.parents.now) _
+    c.in-Some.number c.args.top c.requires.have (near-some _ _ c.in-Some.is)
     (near-below _ _ _ c.in-Some.is c.loop-scope.invariant.within) c.loop-scope.invariant.ends
     c.if-number-top.false (λ d. sym (c.if-is_scope_at.ensures d)) in
     rw c.parent-scope.ensures

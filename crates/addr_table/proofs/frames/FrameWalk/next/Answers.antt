@@ -6,8 +6,9 @@ use Rattle.addr_table.proofs.frames.FrameWalk.next.Goals as goal
 use Rattle.addr_table.proofs.frames.FrameWalk.next.Goals.{After-outer-self-inside}
 
 returned : (c : After-outer-self-inside)
-    → Told c.self.inside.link c.self.inside.tables.scopes.now.scopes (nears_of c.self.inside.parents.now)
-    (near_of c.self.inside.scope) c.in-Some.number c.self.inside.top
+    → Told c.self.inside.link c.self.inside.tables.scopes.now.scopes
+    (nears_of c.self.inside.parents.now) (near_of c.self.inside.scope) c.in-Some.number
+    c.self.inside.top
 returned c =
     tell _ _ _ _ _ _ _ c.self.invariant.have refl c.in-Some.ensures.within c.in-Some.ensures.chain
     c.in-Some.ensures.ends c.in-Some.ensures.returned

@@ -12,7 +12,8 @@ returns-in_err-serve_request-clause-breaks g c =
     let p =
     err_from_is_err_and c.from_residual.result c.from_residual.ensures.1 in rw (p.1)
     (breaks-line _ _ _ _ (λ e. false≢true (c.if-is_empty.ensures.1 e))
-    (rw (c.parse_buffered-request.ensures, c.text.ensures) at c.in_err-serve_request.ensures.served))
+    (rw (c.parse_buffered-request.ensures, c.text.ensures)
+    at c.in_err-serve_request.ensures.served))
 
 pub returns-clause-goes_on : goal.returns-clause-goes_on
 returns-clause-goes_on g c =

@@ -32,7 +32,8 @@ next_is c = subst (λ n. IsNext c.args.own n c.count_started-started.result c.ne
 
 pub returns-then-end-extent : goal.returns-then-end-extent
 returns-then-end-extent c = let ends = c.if-end-extent.true in
-    met_last _ _ _ _ _ (subst AreRising c.self.view_is c.self.invariant) c.count_started-started.ensures.started
+    met_last _ _ _ _ _ (subst AreRising c.self.view_is c.self.invariant)
+    c.count_started-started.ensures.started
     c.requires _ (omega (arith, c.if-started-gt0.true)) c.if-started-own.true
     (λ d. rw (← c.end.ensures d) ends)
 
@@ -40,7 +41,8 @@ pub returns-then-start-extent : goal.returns-then-start-extent
 returns-then-start-extent c =
     let a = (goal.at.returns-then-start-extent c).After-next_index-next in
     let begins = c.if-start-extent.true in
-    met_next _ _ _ _ _ (subst AreRising c.self.view_is c.self.invariant) c.count_started-started.ensures.started
+    met_next _ _ _ _ _ (subst AreRising c.self.view_is c.self.invariant)
+    c.count_started-started.ensures.started
     c.requires (last_ends a) _ (next_is a) (omega arith) (λ d. rw (← c.start.ensures d) begins)
 
 pub returns : goal.returns
