@@ -5,7 +5,8 @@ table.py PRINTED writes docs/MEASURED.md to standard output: the machine, the ve
 and the figures of this program, of plain C and of each measured peer for loads, first answers,
 answers in a batch and in ping-pong, and memory. The peer of gimli is the program in
 GIMLI_ADDR2LINE. The ratio after a figure of another column is the factor by which this program is
-better: faster, or with less memory.
+better: faster, or with less memory. The sections of the present docs/MEASURED.md follow the table.
+They are written by hand.
 """
 import datetime
 import os
@@ -13,8 +14,10 @@ import re
 import subprocess
 import sys
 import textwrap
+from pathlib import Path
 
 OURS = "addr2line_live"
+PAGE = Path(__file__).resolve().parent.parent / "docs/MEASURED.md"
 # What the columns of bench/run.sh are, each in one sentence.
 COLUMNS = {
     "plain C": "Plain C is a program of this repository (`bench/*.c`, `bench/load.cpp`) that makes"
@@ -149,6 +152,12 @@ def explanation(programs):
     return textwrap.wrap(" ".join(sentences), 100, break_on_hyphens=False)
 
 
+def sections():
+    """Returns the sections of the present page, from the first heading on."""
+    _, heading, text = PAGE.read_text().partition("\n## ")
+    return heading + text
+
+
 def main():
     with open(sys.argv[1]) as printed:
         table = rows(printed.read().splitlines())
@@ -165,6 +174,7 @@ def main():
     for (what, unit, better), figures in in_order(table):
         cells = (cell(figures, program, unit, better) for program in programs)
         print(f"| {what} | {' | '.join(cells)} |")
+    print(sections(), end="")
 
 
 if __name__ == "__main__":

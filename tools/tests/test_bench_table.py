@@ -49,7 +49,10 @@ class Table(unittest.TestCase):
             printed.write(PRINTED)
             printed.flush()
             shown = output_of(TOP / "bench/table.py", printed.name)
-        self.assertEqual([line for line in shown.splitlines() if line.startswith("|")], ROWS)
+        table, _, sections = shown.partition("\n## ")
+        self.assertEqual([line for line in table.splitlines() if line.startswith("|")], ROWS)
+        page = (TOP / "docs/MEASURED.md").read_text()
+        self.assertEqual(sections, page.partition("\n## ")[2])
         for column in ("Plain C", "Earlier plain C", "Huge pages"):
             self.assertIn(f". {column} ", " ".join(shown.split()))
 
