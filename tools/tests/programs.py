@@ -62,7 +62,7 @@ def tool(name, *arguments, text=""):
 def dwarfutil(compiler):
     """Returns a command of llvm-dwarfutil for the objects of a compiler, or None. Version 17 reads
     objects of gcc, and later versions read objects of clang with their parallel linker. The other
-    pairs lose a table of addresses, and versions before 17 lose all lines of DWARF 5."""
+    pairs can lose a table of addresses, and versions before 17 lose all lines of DWARF 5."""
     for name in ("llvm-dwarfutil", *(f"llvm-dwarfutil-{number}" for number in range(17, 30))):
         if shutil.which(name):
             version = int(re.search(r"version (\d+)", output_of(name, "--version"))[1])
