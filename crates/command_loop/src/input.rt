@@ -12,7 +12,7 @@ use bstr::ByteSlice;
 use io_streams::{DeviceFault, Feed, Objects, Options, RunFault, Sink};
 use module_map::Modules;
 
-/// The modules, the current line, and the buffer of replies.
+/// The modules, the current line, and a buffer that all answers use.
 #[derive(Drop)]
 pub struct Session {
     modules: Modules,

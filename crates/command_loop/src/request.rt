@@ -101,7 +101,8 @@ fn act<'a, O: Objects>(
 }
 
 /// Serves a request: asks the source, changes the modules, then writes and flushes the reply.
-/// `pending` is a buffer whose content is dropped.
+/// An answer is written through `pending`, whose old content is dropped. Other replies do not use
+/// it.
 pub fn serve_request<W: Sink, O: Objects>(
     options: &Options,
     request: Result<Command<'_>, BadLine>,

@@ -1,7 +1,6 @@
 //! Objects from files.
 
 use crate::devices::{Paper, Script};
-use crate::fixtures::{LOAD, LOADED};
 use command_loop::{FetchFault, FileSource, Objects, Options, run};
 use dwarf_samples::inlined;
 use std::fs;
@@ -31,17 +30,25 @@ fn no_object_without_a_file(rt: HostRuntime) {
     }
 }
 
-/// Loads the first sample object from a file named `A`.
+/// Loads the first sample object from a file named `A`, and asks for addresses of it.
 #[test]
 fn serves_an_object_from_a_file(rt: HostRuntime) -> Result<(), Fail> {
     fs::write(&rt, "A", inlined().as_slice())?;
     let options = Options::plain(rt.alloc());
-    let mut reader = Script::new(LOAD, 4096);
+    let mut reader = Script::new(b"load a 0 A\n1000\n1003\n1004\n100f\n1010\n0\n", 4096);
     let mut writer = Paper::new();
     let mut source = FileSource::new(rt.alloc(), &rt);
     let result = run(rt.alloc(), &options, &mut reader, &mut writer, &mut source);
     fs::remove_file(&rt, "A")?;
     assert_eq!(rt; result, Ok(()));
-    assert_eq!(rt; writer.text(), LOADED);
+    let wanted = b"loaded a 0x0000000000001000-0x0000000000002000
+/src/a.c:10
+/src/a.c:10
+/src/a.c:11
+/src/a.c:11
+??:0
+??:0
+";
+    assert_eq!(rt; writer.text(), wanted.as_slice());
     Ok(())
 }

@@ -128,6 +128,28 @@ fn commands_after_the_first_object(rt: HostRuntime) -> Result<(), Fail> {
     Ok(())
 }
 
+/// Without arguments and input, the program writes nothing.
+#[test]
+fn no_input(rt: HostRuntime) -> Result<(), Fail> {
+    let alloc = rt.alloc();
+    let words = words(alloc, &[])?;
+    let mut reader = Script::new(b"", 4096);
+    let mut writer = Paper::new();
+    let mut errors = Paper::new();
+    let mut source = Shelf::new(alloc);
+    let status = program(
+        alloc,
+        &words,
+        &mut reader,
+        &mut writer,
+        &mut errors,
+        &mut source,
+    );
+    assert_eq!(rt; (status, errors.text()), (0, b"".as_slice()));
+    assert_eq!(rt; writer.text(), b"".as_slice());
+    Ok(())
+}
+
 #[test]
 fn commands_of_standard_input(rt: HostRuntime) -> Result<(), Fail> {
     let alloc = rt.alloc();
