@@ -2,5 +2,4 @@ pub mod Extents
 pub mod FoundSections
 pub mod LebPrefixes
 pub mod Nuls
-pub mod RangeOrLineWords
 pub mod SectionNames

@@ -1,5 +1,5 @@
 -- The names of sections and the reply words of causes.
-use Rattle.std.specs.Prelude.{ℕ, List, codes}
+use Rattle.std.specs.Prelude.{ℕ, List, [], codes}
 use Rattle.dwarf_bytes.specs.declared.fault.Section.{Section}
 use Rattle.dwarf_bytes.specs.declared.fault.Section.TheVariants as sections
 use Rattle.dwarf_bytes.specs.declared.fault.Cause.{Cause}
@@ -19,6 +19,27 @@ section_name sections.DebugStrOffsets = codes ".debug_str_offsets"
 section_name sections.DebugAddr = codes ".debug_addr"
 section_name sections.DebugRnglists = codes ".debug_rnglists"
 
+-- the words of the causes of ranges and line programs, and no byte for every other cause
+abbrev pub range_or_line_word : Cause → List ℕ
+range_or_line_word causes.RangeBackwards = codes "range-backwards"
+range_or_line_word causes.Overflow = codes "overflow"
+range_or_line_word causes.PcAndRanges = codes "pc-and-ranges"
+range_or_line_word causes.RangeKind = codes "range-kind"
+range_or_line_word causes.LineParams = codes "line-params"
+range_or_line_word causes.OpcodeLengths = codes "opcode-lengths"
+range_or_line_word causes.Extended = codes "extended"
+range_or_line_word causes.FileFormat = codes "file-format"
+range_or_line_word causes.DirIndex = codes "dir-index"
+range_or_line_word causes.FileIndex = codes "file-index"
+range_or_line_word causes.GoesBack = codes "goes-back"
+range_or_line_word causes.SequenceOpen = codes "sequence-open"
+range_or_line_word causes.StmtList = codes "stmt-list"
+range_or_line_word causes.CallFile = codes "call-file"
+range_or_line_word causes.TooMany = codes "too-many"
+range_or_line_word causes.LineRange = codes "line-range"
+range_or_line_word _ = []
+
+-- the reply word of a cause
 abbrev pub cause_word : Cause → List ℕ
 cause_word causes.NotElf = codes "not-elf"
 cause_word causes.Class = codes "class"
@@ -47,25 +68,10 @@ cause_word causes.TooDeep = codes "too-deep"
 cause_word causes.String = codes "string"
 cause_word causes.Index = codes "index"
 cause_word causes.Base = codes "base"
-cause_word causes.RangeBackwards = codes "range-backwards"
-cause_word causes.Overflow = codes "overflow"
-cause_word causes.PcAndRanges = codes "pc-and-ranges"
 cause_word causes.Reference = codes "reference"
 cause_word causes.OriginDepth = codes "origin-depth"
-cause_word causes.LineParams = codes "line-params"
-cause_word causes.OpcodeLengths = codes "opcode-lengths"
-cause_word causes.Extended = codes "extended"
-cause_word causes.FileFormat = codes "file-format"
-cause_word causes.DirIndex = codes "dir-index"
-cause_word causes.FileIndex = codes "file-index"
-cause_word causes.GoesBack = codes "goes-back"
-cause_word causes.SequenceOpen = codes "sequence-open"
-cause_word causes.StmtList = codes "stmt-list"
-cause_word causes.CallFile = codes "call-file"
-cause_word causes.TooMany = codes "too-many"
-cause_word causes.LineRange = codes "line-range"
 cause_word causes.Children = codes "children"
-cause_word causes.RangeKind = codes "range-kind"
+cause_word cause = range_or_line_word cause
 
 -- the cause that corresponds to a read fault
 abbrev pub cause_of : ReadFault → Cause

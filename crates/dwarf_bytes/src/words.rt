@@ -1,8 +1,7 @@
 //! The words that name sections and causes in replies.
 
 ghost use Rattle.std.specs.Prelude.{◌≡◌, Some};
-ghost use Rattle.dwarf_bytes.specs.Words.{section_name, cause_word};
-ghost use Rattle.dwarf_bytes.specs.Private.RangeOrLineWords.{range_or_line_word};
+ghost use Rattle.dwarf_bytes.specs.Words.{section_name, cause_word, range_or_line_word};
 
 use crate::fault::{Cause, Section};
 use std::fmt;
@@ -74,7 +73,7 @@ impl Cause {
         }
     }
 
-    /// Returns the word of a cause of ranges or line programs, or an empty text for any other.
+    /// Returns the word of a cause of ranges or line programs, or an empty string for any other.
     fn range_or_line_word(self) -> &'static str
         ensures { result.now ≡ range_or_line_word self }
     {
