@@ -3,11 +3,17 @@ use Rattle.std.proofs.Common.{◌≡◌, ◌∙◌, ℕ, zero, suc, min, ◌+◌
 use Rattle.std.proofs.Common.{◌++◌}
 use Rattle.std.proofs.Common.{length, map, take, drop, get_or, Bool, true, false, cond, sym, ap}
 use Rattle.std.proofs.Common.{refl, subst, arith}
-use Rattle.std.specs.Prelude.{sum_by}
+use Rattle.std.specs.Prelude.{sum_by, Some, None}
+use Rattle.std.proofs.lemmas.Bool.{ltb-false}
+use Rattle.dwarf_bytes.specs.declared.fault.LoadFault.{LoadFault}
 use Rattle.std.specs.List.Sorted.{IsStrictlyIncreasing}
 use Rattle.std.proofs.lemmas.List.{length-append, length-map, length-take, length-drop}
 use Rattle.std.proofs.lemmas.List.Sums.{sum_by-cons, length-filter, count_by-le-length}
-use Rattle.dwarf_bytes.specs.Elf.{layout}
+use Rattle.dwarf_bytes.specs.declared.fault.Cause.{Cause}
+use Rattle.dwarf_bytes.specs.declared.fault.Cause.TheVariants as causes
+use Rattle.dwarf_bytes.specs.declared.fault.Section.TheVariants as names
+use Rattle.dwarf_bytes.specs.Faults.{Item, first_fault}
+use Rattle.dwarf_bytes.specs.Elf.{layout, elf_fault, is_too_long, elf_items}
 use Rattle.dwarf_bytes.specs.declared.layout.Layout.{Layout}
 use Rattle.dwarf_lines.specs.declared.row.Row.{Row}
 use Rattle.dwarf_entries.specs.declared.scope.Range.{Range}
@@ -88,6 +94,21 @@ reaches-few rows scopes =
     length-map (covers_of rows) reach_of in
     let few = covers-few 0 rows in
     let ranges = scopes-count (length rows) (length scopes) scopes in omega arith
+
+-- an object that passes the first test of its header has at most 2^30 bytes
+pub elf-small : (bytes : List ℕ) → elf_fault bytes ≡ None → length bytes ≤ 2 ^ 30
+unfolding elf_items
+elf-small bytes none = cases (is_too_long bytes) refl _ _ none
+  where
+    cases : (b : Bool) → is_too_long bytes ≡ b → (tests : List (Bool × Cause))
+        → (items : List Item)
+        → first_fault names.Elf (record { at = 0; tests = (b, causes.TooMany) ∷ tests } ∷ items)
+        ≡ None → length bytes ≤ 2 ^ 30
+
+    impossible : (fault : LoadFault) → Some fault ≡ None → ⊥
+    impossible fault is = cc
+    cases true long tests items is = absurd (impossible _ is)
+    cases false short tests items is = ltb-false _ _ short
 
 -- a section has at most as many bytes as its object
 within : (bytes section : List ℕ) (len place : ℕ) → section ≡ take len (drop place bytes)
