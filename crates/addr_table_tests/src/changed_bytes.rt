@@ -26,7 +26,7 @@ fn is_scanned(rt: &(impl Abort + AllocGlobal), object: &[u8]) {
 
 /// Checks the sample with each value of the byte at an offset.
 fn is_changed(rt: &(impl Abort + AllocGlobal), place: usize) {
-    let mut object = *inlined();
+    let mut object = inlined();
     for value in 0..=255 {
         if let Some(byte) = object.get_mut(place) {
             *byte = value;

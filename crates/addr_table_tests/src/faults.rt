@@ -53,7 +53,7 @@ fn samples_with_a_fault(rt: HostRuntime) {
 fn a_root_of_no_program(rt: HostRuntime) {
     // the root's line program is at 1; and also with an invalid call file: the root is checked
     // first
-    let mut object = *inlined();
+    let mut object = inlined();
     object[176] = 1;
     is_refused(&rt, &object, Section::DebugInfo, Cause::StmtList, 12);
     let mut both = call_file_outside();
@@ -105,7 +105,7 @@ fn a_call_file_of_a_subprogram_is_not_checked(rt: HostRuntime) {
 #[test]
 fn out_of_memory_is_the_only_other_answer(rt: HostRuntime) -> Result<(), Fail> {
     let mut bytes = Vec::new(rt.alloc());
-    bytes.extend_from_slice(inlined())?;
+    bytes.extend_from_slice(&inlined())?;
     match Module::decode(rt.alloc(), bytes) {
         Ok(module) => are_equal(&rt, module.segments().list().len(), 4),
         Err((back, fault)) => {

@@ -51,8 +51,10 @@ fn one_unit(
 }
 
 /// Returns the line program of the first sample.
-fn line() -> &'static [u8] {
-    &inlined()[259..334]
+fn line() -> [u8; 75] {
+    let mut line = [0; 75];
+    line.copy_from_slice(&inlined()[259..334]);
+    line
 }
 
 /// Returns the linkage name of the first frame of an address.
@@ -66,7 +68,7 @@ fn two_ranges_of_a_scope_that_overlap(rt: HostRuntime) {
     // offset_pair 0 to 8 and 4 to 12, from a base of 0x1000
     let list = [5, 0, 0x10, 0, 0, 0, 0, 0, 0, 4, 0, 8, 4, 4, 12, 0];
     let entries = [4, b'f', 0, b'g', b'h', 0, 0, 0, 0, 0];
-    let bytes = one_unit(&rt, &entries, line(), &list);
+    let bytes = one_unit(&rt, &entries, &line(), &list);
     let module = module(&rt, bytes);
     answers(&rt, &module, 0x1009, &[(Some(b"f"), Some(b"/src/a.c"), 11)]);
     answers(&rt, &module, 0x1003, &[(Some(b"f"), Some(b"/src/a.c"), 10)]);
@@ -86,7 +88,7 @@ fn the_first_inlined_subroutine_and_not_the_narrowest(rt: HostRuntime) {
     put_entry(&rt, &mut entries, 3, b'n', 0x1004, 4);
     put(&rt, &mut entries, &[1, 8]);
     put(&rt, &mut entries, &[0]);
-    let module = module(&rt, one_unit(&rt, &entries, line(), &[]));
+    let module = module(&rt, one_unit(&rt, &entries, &line(), &[]));
     // file 0 is the same file as file 1
     let frames: [Expected; 2] = [
         (Some(b"w"), Some(b"/src/a.c"), 11),
@@ -106,7 +108,7 @@ fn scopes_that_start_inside_and_after_the_innermost_scope(rt: HostRuntime) {
     put_entry(&rt, &mut entries, 2, b'n', 0x1020, 36);
     put_entry(&rt, &mut entries, 5, b'j', 0x102c, 16);
     put(&rt, &mut entries, &[0]);
-    let module = module(&rt, one_unit(&rt, &entries, line(), &[]));
+    let module = module(&rt, one_unit(&rt, &entries, &line(), &[]));
     let innermost = [
         (0x1020, 2),
         (0x1024, 0),
@@ -129,7 +131,7 @@ fn a_call_without_file_and_line(rt: HostRuntime) {
     put_entry(&rt, &mut entries, 2, b'm', 0x1020, 16);
     put_entry(&rt, &mut entries, 5, b'i', 0x1020, 8);
     put(&rt, &mut entries, &[0]);
-    let module = module(&rt, one_unit(&rt, &entries, line(), &[]));
+    let module = module(&rt, one_unit(&rt, &entries, &line(), &[]));
     // no row covers the address
     answers(
         &rt,
@@ -141,8 +143,7 @@ fn a_call_without_file_and_line(rt: HostRuntime) {
 
 /// Returns the first sample's line program for the file `b.c`.
 fn other_line() -> [u8; 75] {
-    let mut line = [0; 75];
-    line.copy_from_slice(&inlined()[259..334]);
+    let mut line = line();
     // the names of files 0 and 1
     line[45] = b'b';
     line[50] = b'b';
@@ -152,7 +153,7 @@ fn other_line() -> [u8; 75] {
 #[test]
 fn a_call_file_is_of_the_unit_s_line_program(rt: HostRuntime) {
     let mut lines = Vec::new(rt.alloc());
-    put(&rt, &mut lines, line());
+    put(&rt, &mut lines, &line());
     put(&rt, &mut lines, &other_line());
     let mut entries = Vec::new(rt.alloc());
     // the second program starts at 75

@@ -8,7 +8,7 @@ use std::test::*;
 
 /// Returns the place of 0x1004 in the first sample: row 1 and scope 4.
 fn place(rt: &(impl Abort + AllocGlobal)) -> Place {
-    let module = sample(rt, inlined());
+    let module = sample(rt, &inlined());
     match find(&module, 0x1004) {
         Some(place) => place,
         None => panic!(rt; "no place"),
@@ -18,7 +18,7 @@ fn place(rt: &(impl Abort + AllocGlobal)) -> Place {
 #[test]
 fn a_place_of_a_module_with_scopes(rt: HostRuntime) {
     let place = place(&rt);
-    let mut bare = *inlined();
+    let mut bare = inlined();
     bare[543] = 0;
     let module = sample(&rt, &bare);
     are_frames(&rt, module.frames(place), &[(None, Some(b"/src/a.c"), 11)]);
@@ -42,7 +42,7 @@ fn a_place_of_a_module_with_rows(rt: HostRuntime) {
 fn a_place_of_a_module_with_other_rows(rt: HostRuntime) {
     let place = place(&rt);
     // the same scopes
-    let module = sample(&rt, two_sequences());
+    let module = sample(&rt, &two_sequences());
     let Some(frame) = module.frames(place).next() else {
         panic!(rt; "no frame");
     };

@@ -3,21 +3,22 @@
 use crate::fixtures::*;
 use addr_table::{Frames, Path};
 use dwarf_samples::{
-    dropped_main, dropped_mid, dropped_sequence, inlined, leaf_without_code, two_sequences,
+    dropped_main, dropped_mid, dropped_sequence, inlined, leaf_without_code, format_of_64_bits,
+    two_sequences,
 };
 use std::process::Abort;
 use std::test::*;
 
 /// Returns the first sample without `.debug_info`.
 fn without_entries() -> [u8; 703] {
-    let mut object = *inlined();
+    let mut object = inlined();
     object[543] = 0;
     object
 }
 
 #[test]
 fn places_of_inlined_subroutines(rt: HostRuntime) {
-    let module = sample(&rt, inlined());
+    let module = sample(&rt, &inlined());
     are_equal(&rt, (module.low(), module.high()), (0x1000, 0x2000));
     let place = find(&module, 0x1004);
     are_equal(&rt, numbers(place), Some((Some(1), Some(4))));
@@ -34,7 +35,7 @@ const MID: Expected = (Some(b"mid"), Some(b"/src/a.c"), 11);
 
 #[test]
 fn frames_of_inlined_subroutines(rt: HostRuntime) {
-    let module = sample(&rt, inlined());
+    let module = sample(&rt, &inlined());
     let leaf: Expected = (Some(b"leaf"), Some(b"/src/a.c"), 11);
     let mid: Expected = (Some(b"mid"), Some(b"/src/a.c"), 5);
     answers(&rt, &module, 0x1004, &[leaf, mid, MAIN]);
@@ -54,7 +55,7 @@ fn a_row_alone_is_a_frame_without_a_name(rt: HostRuntime) {
 #[test]
 fn the_first_covering_row_in_file_order(rt: HostRuntime) {
     // both sequences cover 0x1000 to 0x1010; the later one has line 98
-    let module = sample(&rt, two_sequences());
+    let module = sample(&rt, &two_sequences());
     let main: Expected = (Some(b"main"), Some(b"/src/a.c"), 12);
     answers(&rt, &module, 0x1000, &[main]);
     answers(&rt, &module, 0x100f, &[main]);
@@ -69,7 +70,7 @@ fn a_scope_without_code_is_passed_over(rt: HostRuntime) {
 
 #[test]
 fn the_parts_of_a_path(rt: HostRuntime) {
-    let module = sample(&rt, inlined());
+    let module = sample(&rt, &inlined());
     let Some(place) = find(&module, 0x1000) else {
         panic!(rt; "no place");
     };
@@ -104,11 +105,12 @@ fn agree_with_scan(rt: &(impl Abort + AllocGlobal), object: &[u8]) {
 
 #[test]
 fn segments_and_scan_return_the_same_places(rt: HostRuntime) {
-    agree_with_scan(&rt, inlined());
-    agree_with_scan(&rt, two_sequences());
+    agree_with_scan(&rt, &inlined());
+    agree_with_scan(&rt, &two_sequences());
     agree_with_scan(&rt, &leaf_without_code());
     agree_with_scan(&rt, &dropped_main());
     agree_with_scan(&rt, &dropped_mid());
     agree_with_scan(&rt, &dropped_sequence());
     agree_with_scan(&rt, &without_entries());
+    agree_with_scan(&rt, &format_of_64_bits());
 }

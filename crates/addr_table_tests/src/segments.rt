@@ -24,7 +24,7 @@ fn is_segment(
 
 #[test]
 fn segments_of_inlined_subroutines(rt: HostRuntime) {
-    let module = sample(&rt, inlined());
+    let module = sample(&rt, &inlined());
     let list = module.segments().list();
     are_equal(&rt, list.len(), 4);
     is_segment(&rt, list.get(0), (0x1000, 0x1004), 0, 2);
@@ -37,7 +37,7 @@ fn segments_of_inlined_subroutines(rt: HostRuntime) {
 
 #[test]
 fn a_search_halves(rt: HostRuntime) {
-    let module = sample(&rt, inlined());
+    let module = sample(&rt, &inlined());
     for link in 0x1000..0x1010 {
         let mut steps = Steps {
             compares: 100,
@@ -60,7 +60,7 @@ fn counts_stop_at_the_greatest_number(rt: HostRuntime) {
     are_equal(&rt, steps.compares, u64::MAX);
     are_equal(&rt, steps.reached(4, 5), false);
     are_equal(&rt, (steps.compares, steps.decoded), (u64::MAX, 3));
-    let module = sample(&rt, inlined());
+    let module = sample(&rt, &inlined());
     are_equal(&rt, module.find(0x1004, &mut steps).is_some(), true);
     are_equal(&rt, module.scan().find(0x1004, &mut steps).is_some(), true);
     are_equal(&rt, (steps.compares, steps.decoded), (u64::MAX, 3));

@@ -26,7 +26,7 @@ fn fault_of(rt: &(impl Abort + AllocGlobal), object: &[u8]) -> Option<LoadFault>
 
 /// Returns the first sample with another size of a section.
 fn with_size(place: usize, size: u8) -> [u8; 703] {
-    let mut object = *inlined();
+    let mut object = inlined();
     if let Some(byte) = object.get_mut(place) {
         *byte = size;
     }

@@ -2,9 +2,11 @@
 
 use crate::devices::{Paper, Script};
 use crate::fixtures::*;
+use crate::recorder::Recorder;
 use crate::shelf::Shelf;
 use command_loop::run;
 use io_streams::Options;
+use std::alloc::{AllocError, Global};
 use std::test::*;
 
 #[test]
@@ -15,7 +17,7 @@ fn loads_a_module(rt: HostRuntime) {
 #[test]
 fn a_good_load_asks_once(rt: HostRuntime) {
     let alloc = rt.alloc();
-    let lines: [(&[u8], u64); 7] = [
+    let lines: [(&[u8], usize); 7] = [
         (b"load a 0 A\n", 1),
         (b"load a 0 none\n", 1),
         (b"load a 0 A\nload a 0 A\n", 2),
@@ -24,8 +26,8 @@ fn a_good_load_asks_once(rt: HostRuntime) {
         (b"load a 0\n", 0),
         (b"1000\nlist\nunload a\nmove a 0\nx\n", 0),
     ];
-    for (input, questions) in lines {
-        let mut source = Shelf::new(alloc);
+    for (input, requests) in lines {
+        let mut source = Recorder::new(&rt, alloc, Shelf::new(alloc));
         let mut reader = Script::new(input, 4096);
         let result = run(
             alloc,
@@ -35,7 +37,7 @@ fn a_good_load_asks_once(rt: HostRuntime) {
             &mut source,
         );
         assert_eq!(rt; result, Ok(()));
-        assert_eq!(rt; source.questions, questions);
+        assert_eq!(rt; source.requests.len(), requests);
     }
 }
 
@@ -93,4 +95,34 @@ fn commands_without_modules(rt: HostRuntime) {
     for (letters, input, wanted) in rows {
         fresh(&rt, rt.alloc(), letters, input, wanted);
     }
+}
+
+/// Appends the addresses of 16 bytes of the first sample object as lines, and their answers.
+fn ask_16(
+    alloc: Global,
+    from: u64,
+    input: &mut Vec<u8>,
+    wanted: &mut Vec<u8>,
+) -> Result<(), AllocError> {
+    for offset in 0..16 {
+        let line = format!(in alloc; "{:x}\n", from.saturating_add(offset))?;
+        input.extend_from_slice(line.as_bytes())?;
+        let answer = if offset < 4 { b"/src/a.c:10\n" } else { b"/src/a.c:11\n" };
+        wanted.extend_from_slice(answer)?;
+    }
+    Ok(())
+}
+
+/// Answers are the same whether or not the cache has them, also after a move.
+#[test]
+fn cached_answers(rt: HostRuntime) -> Result<(), Fail> {
+    let alloc = rt.alloc();
+    let mut input = Vec::new(alloc);
+    let mut wanted = Vec::new(alloc);
+    ask_16(alloc, 0x11000, &mut input, &mut wanted)?;
+    ask_16(alloc, 0x11000, &mut input, &mut wanted)?;
+    input.extend_from_slice(b"move a 0x20000\n")?;
+    wanted.extend_from_slice(b"moved a 0x0000000000021000-0x0000000000022000\n")?;
+    ask_16(alloc, 0x21000, &mut input, &mut wanted)?;
+    loaded(&rt, alloc, b"", &input, &wanted)
 }

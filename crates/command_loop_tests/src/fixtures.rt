@@ -1,6 +1,7 @@
 //! Runs over devices with fixed memory, and checks of their output.
 
 use crate::devices::{Paper, Script};
+use crate::recorder::Recorder;
 use crate::shelf::Shelf;
 use command_loop::run;
 use io_streams::{Options, RunFault};
@@ -37,10 +38,12 @@ pub fn outcome(
 
 /// Compares the output for an input that is read in pieces of several sizes, with several caches.
 pub fn compare(rt: &impl Abort, options: &mut Options, alloc: Global, input: &[u8], wanted: &[u8]) {
-    for (most, cache) in [(1, 0), (7, 1), (4096, 1024)] {
+    for (most, cache) in [(1, 0), (7, 1), (64, 4), (4096, 1024)] {
         options.cache = cache;
+        let mut reader = Script::new(input, most);
         let mut writer = Paper::new();
-        let result = outcome(alloc, options, &mut Script::new(input, most), &mut writer);
+        let mut source = Recorder::new(rt, alloc, Shelf::new(alloc));
+        let result = run(alloc, options, &mut reader, &mut writer, &mut source);
         assert_eq!(rt; result, Ok(()));
         assert_eq!(rt; writer.text(), wanted);
     }

@@ -1,7 +1,7 @@
 //! Objects with units and line programs of the 64-bit format, and with dead code.
 
 use crate::fixtures::*;
-use dwarf_samples::{inlined, program_of_64_bits, unit_of_64_bits};
+use dwarf_samples::{format_of_64_bits, inlined};
 use std::alloc::{AllocError, Global};
 use std::test::*;
 
@@ -36,29 +36,24 @@ fn with_sections(alloc: Global, info: &[u8], line: &[u8]) -> Result<Vec<u8>, All
     Ok(bytes)
 }
 
-/// Builds the first sample object in the 64-bit format.
-pub fn wide(alloc: Global) -> Result<Vec<u8>, AllocError> {
-    with_sections(alloc, unit_of_64_bits(), &program_of_64_bits())
-}
-
 /// Builds the same object with the line program in the 32-bit format.
 pub fn wide_unit(alloc: Global) -> Result<Vec<u8>, AllocError> {
-    with_sections(alloc, unit_of_64_bits(), &inlined()[259..334])
+    with_sections(alloc, &format_of_64_bits()[163..275], &inlined()[259..334])
 }
 
 /// Builds an object with the unit in the 32-bit format, followed by the unit in the 64-bit format.
 pub fn both_units(alloc: Global) -> Result<Vec<u8>, AllocError> {
     let mut info = Vec::new(alloc);
     info.extend_from_slice(&inlined()[163..259])?;
-    info.extend_from_slice(unit_of_64_bits())?;
+    info.extend_from_slice(&format_of_64_bits()[163..275])?;
     with_sections(alloc, &info, &inlined()[259..334])
 }
 
 /// Builds an object with a reserved length instead of the escape value of the 64-bit format.
 pub fn reserved_length(alloc: Global) -> Result<Vec<u8>, AllocError> {
-    let mut unit = *unit_of_64_bits();
-    unit[0] = 0xf0;
-    with_sections(alloc, &unit, &program_of_64_bits())
+    let mut object = format_of_64_bits();
+    object[163] = 0xf0;
+    object.to_vec(alloc)
 }
 
 /// All frames of `leaf` inlined into `mid` inlined into `main`.

@@ -4,8 +4,6 @@
 #[cfg(test)]
 mod answers;
 #[cfg(test)]
-mod asked;
-#[cfg(test)]
 mod commands;
 #[cfg(test)]
 mod devices;
@@ -21,6 +19,8 @@ mod formats;
 mod help;
 #[cfg(test)]
 mod messages;
+#[cfg(test)]
+mod recorder;
 #[cfg(test)]
 mod refusals;
 #[cfg(test)]

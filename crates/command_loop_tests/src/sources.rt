@@ -1,8 +1,9 @@
 //! Runs whose source does not return the object. The replies are the ones without it.
 
-use crate::asked::AskedPaths;
 use crate::devices::{Paper, Script};
 use crate::fixtures::*;
+use crate::recorder::Recorder;
+use crate::shelf::Shelf;
 use command_loop::run;
 use io_streams::Options;
 use std::test::*;
@@ -12,8 +13,8 @@ use std::test::*;
 #[test]
 fn each_load_asks_once(rt: HostRuntime) {
     let alloc = rt.alloc();
-    let lines = b"load a 0 A\nload b x B\nload b 0\n1004\nlist\nunload a\nmove a 0\nload c 10 C\n";
-    let mut source = AskedPaths::new(&rt, alloc);
+    let lines = b"load a 0 A\nload b x B\nload b 0\n1004\nlist\nunload a\nmove a 0\nload c 10 none\n";
+    let mut source = Recorder::new(&rt, alloc, Shelf::new(alloc));
     let mut writer = Paper::new();
     let options = Options::plain(alloc);
     let result = run(
@@ -24,9 +25,10 @@ fn each_load_asks_once(rt: HostRuntime) {
         &mut source,
     );
     assert_eq!(rt; result, Ok(()));
-    assert_eq!(rt; source.paths.len(), 2);
-    for (path, wanted) in source.paths.iter().zip(["A", "C"]) {
-        assert_eq!(rt; path.as_str(), wanted);
+    assert_eq!(rt; source.requests.len(), 2);
+    for (request, wanted) in source.requests.iter().zip(["A", "none"]) {
+        assert_eq!(rt; request.path.as_str(), wanted);
+        assert_eq!(rt; request.result.is_ok(), wanted == "A");
     }
 }
 

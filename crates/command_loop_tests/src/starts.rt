@@ -18,19 +18,29 @@ fn words(alloc: Global, texts: &[&str]) -> Result<Vec<String>, AllocError> {
     Ok(words)
 }
 
-/// Returns the status of the program over input that cannot be read, and its output on both
-/// writers.
+/// Returns the status of the program over this input, and its output on both writers.
+fn status(
+    alloc: Global,
+    texts: &[&str],
+    reader: &mut Script<'_>,
+    writer: &mut Paper,
+    errors: &mut Paper,
+) -> Result<u8, Fail> {
+    let words = words(alloc, texts)?;
+    let mut source = Shelf::new(alloc);
+    Ok(program(alloc, &words, reader, writer, errors, &mut source))
+}
+
+/// Does the same for input that cannot be read.
 pub fn unread(
     alloc: Global,
     texts: &[&str],
     writer: &mut Paper,
     errors: &mut Paper,
 ) -> Result<u8, Fail> {
-    let words = words(alloc, texts)?;
     let mut reader = Script::new(b"11004\n", 4096);
     reader.until = 0;
-    let mut source = Shelf::new(alloc);
-    Ok(program(alloc, &words, &mut reader, writer, errors, &mut source))
+    status(alloc, texts, &mut reader, writer, errors)
 }
 
 #[test]
@@ -131,20 +141,10 @@ fn commands_after_the_first_object(rt: HostRuntime) -> Result<(), Fail> {
 /// Without arguments and input, the program writes nothing.
 #[test]
 fn no_input(rt: HostRuntime) -> Result<(), Fail> {
-    let alloc = rt.alloc();
-    let words = words(alloc, &[])?;
     let mut reader = Script::new(b"", 4096);
     let mut writer = Paper::new();
     let mut errors = Paper::new();
-    let mut source = Shelf::new(alloc);
-    let status = program(
-        alloc,
-        &words,
-        &mut reader,
-        &mut writer,
-        &mut errors,
-        &mut source,
-    );
+    let status = status(rt.alloc(), &[], &mut reader, &mut writer, &mut errors)?;
     assert_eq!(rt; (status, errors.text()), (0, b"".as_slice()));
     assert_eq!(rt; writer.text(), b"".as_slice());
     Ok(())
@@ -152,20 +152,11 @@ fn no_input(rt: HostRuntime) -> Result<(), Fail> {
 
 #[test]
 fn commands_of_standard_input(rt: HostRuntime) -> Result<(), Fail> {
-    let alloc = rt.alloc();
-    let words = words(alloc, &["-f", "--cache", "4"])?;
     let mut reader = Script::new(b"11004\nload a 0x10000 A\n11004\n", 7);
     let mut writer = Paper::new();
     let mut errors = Paper::new();
-    let mut source = Shelf::new(alloc);
-    let status = program(
-        alloc,
-        &words,
-        &mut reader,
-        &mut writer,
-        &mut errors,
-        &mut source,
-    );
+    let texts = ["-f", "--cache", "4"];
+    let status = status(rt.alloc(), &texts, &mut reader, &mut writer, &mut errors)?;
     assert_eq!(rt; (status, errors.text()), (0, b"".as_slice()));
     let wanted = b"??\n??:0\nloaded a 0x0000000000011000-0x0000000000012000\nleaf\n/src/a.c:11\n";
     assert_eq!(rt; writer.text(), wanted.as_slice());

@@ -8,7 +8,7 @@ use std::test::*;
 
 /// Returns the first sample object with some bytes changed.
 fn changed(edits: &[(usize, u8)]) -> [u8; 703] {
-    let mut object = *inlined();
+    let mut object = inlined();
     for (place, byte) in edits {
         if *place < object.len() {
             object[*place] = *byte;
@@ -40,8 +40,8 @@ fn finds_the_sections(rt: HostRuntime) {
         low: 0x1000,
         high: 0x2000,
     };
-    are_equal(&rt, Object::find(inlined()), Ok(layout));
-    are_equal(&rt, layout.debug_line.of(inlined()).len(), 75);
+    are_equal(&rt, Object::find(&inlined()), Ok(layout));
+    are_equal(&rt, layout.debug_line.of(&inlined()).len(), 75);
 }
 
 fn span(place: usize, len: usize) -> Span {

@@ -6,6 +6,7 @@ pub use crate::checks::{
 };
 use dwarf_bytes::{Cause, LoadFault, Object, Section};
 use dwarf_entries::{Range, Root, Sections, TextOffset};
+use dwarf_samples::format_of_64_bits;
 use std::process::Abort;
 use std::test::*;
 
@@ -172,4 +173,11 @@ pub fn root(offset: usize, first: usize, past: usize) -> Root {
         first,
         past,
     }
+}
+
+/// Returns the unit of the sample in the 64-bit format.
+pub fn unit_of_64_bits() -> [u8; 112] {
+    let mut unit = [0; 112];
+    unit.copy_from_slice(&format_of_64_bits()[163..275]);
+    unit
 }

@@ -3,7 +3,7 @@
 use crate::fixtures::*;
 use dwarf_bytes::{Cause, LoadFault, Section};
 use dwarf_entries::{Range, Root, ScopeKind, Sections, TextOffset};
-use dwarf_samples::{inlined, unit_of_64_bits};
+use dwarf_samples::inlined;
 use std::process::Abort;
 use std::test::*;
 
@@ -61,8 +61,9 @@ fn root_of(offset: usize, first: usize, past: usize) -> Root {
 
 #[test]
 fn a_unit_of_64_bits(rt: HostRuntime) {
-    let table = sections_of(&rt, inlined()).debug_abbrev;
-    let read = scopes_of(&rt, &sections(unit_of_64_bits(), table));
+    let sample = inlined();
+    let table = sections_of(&rt, &sample).debug_abbrev;
+    let read = scopes_of(&rt, &sections(&unit_of_64_bits(), table));
     are_equal(&rt, read.roots(), [root_of(24, 0, 5)].as_slice());
     are_scopes(&rt, &read, Some(0), &rows(0, 0, 41, 89));
 }
@@ -70,10 +71,11 @@ fn a_unit_of_64_bits(rt: HostRuntime) {
 /// Both units use the same table, and references are relative to the first byte of their own unit.
 #[test]
 fn units_of_both_formats(rt: HostRuntime) {
-    let object = sections_of(&rt, inlined());
+    let sample = inlined();
+    let object = sections_of(&rt, &sample);
     let mut info = Vec::new(rt.alloc());
     put(&rt, &mut info, object.debug_info);
-    put(&rt, &mut info, unit_of_64_bits());
+    put(&rt, &mut info, &unit_of_64_bits());
     put(&rt, &mut info, object.debug_info);
     let read = scopes_of(&rt, &sections(&info, object.debug_abbrev));
     let roots = [root_of(12, 0, 5), root_of(120, 5, 10), root_of(220, 10, 15)];
@@ -94,7 +96,8 @@ fn put_rows(rt: &impl Abort, wanted: &mut Vec<Row>, rows: [Row; 5]) {
 
 #[test]
 fn refused_lengths(rt: HostRuntime) {
-    let table = sections_of(&rt, inlined()).debug_abbrev;
+    let sample = inlined();
+    let table = sections_of(&rt, &sample).debug_abbrev;
     for (place, byte, cause) in [
         // reserved, one byte too long, and beyond all sections
         (0, 0xf0, Cause::Length),
@@ -104,7 +107,7 @@ fn refused_lengths(rt: HostRuntime) {
         (14, 4, Cause::UnitType),
         (15, 4, Cause::AddressSize),
     ] {
-        let mut info = *unit_of_64_bits();
+        let mut info = unit_of_64_bits();
         info[place] = byte;
         is_refused(&rt, &sections(&info, table), cause, 0);
     }
@@ -113,9 +116,10 @@ fn refused_lengths(rt: HostRuntime) {
 /// Truncated units of the 64-bit format.
 #[test]
 fn cut_units(rt: HostRuntime) {
-    let table = sections_of(&rt, inlined()).debug_abbrev;
+    let sample = inlined();
+    let table = sections_of(&rt, &sample).debug_abbrev;
     // without the last null entry
-    let mut info = *unit_of_64_bits();
+    let mut info = unit_of_64_bits();
     info[4] = 0x63;
     let cut = info.get(..111).unwrap_or(&[]);
     is_refused(&rt, &sections(cut, table), Cause::TreeOpen, 0);
@@ -211,13 +215,28 @@ const LISTS: [u8; 32] = [
 
 /// Returns a root with addr_base and rnglists_base, and a scope that refers to a list by index.
 fn entries_by_index(addr_base: u8, rnglists_base: u8, index: u8) -> [u8; 20] {
-    let mut entries = [0; 20];
-    entries[0] = 1;
-    entries[1] = addr_base;
-    entries[9] = rnglists_base;
-    entries[17] = 2;
-    entries[18] = index;
-    entries
+    [
+        1,
+        addr_base,
+        0,
+        0,
+        0,
+        0,
+        0,
+        0,
+        0,
+        rnglists_base,
+        0,
+        0,
+        0,
+        0,
+        0,
+        0,
+        0,
+        2,
+        index,
+        0,
+    ]
 }
 
 /// Checks the ranges of a scope, given the bases of tables in the 64-bit format and a list index.

@@ -126,7 +126,8 @@ fn has_no_origin(rt: &(impl Abort + AllocGlobal), form: u8, value: &[u8]) {
 /// References to null entries, to headers, and into the middle of entries of the first object.
 #[test]
 fn an_origin_that_is_no_entry(rt: HostRuntime) {
-    let whole = sections_of(&rt, inlined());
+    let sample = inlined();
+    let whole = sections_of(&rt, &sample);
     let mut info = [0; 96];
     info.copy_from_slice(&inlined()[163..259]);
     for origin in [0, 11, 13, 26, 91, 92, 93, 94, 95, 96, 255] {

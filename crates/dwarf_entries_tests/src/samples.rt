@@ -69,14 +69,14 @@ fn has(rt: &(impl Abort + AllocGlobal), object: &[u8], rows: &[Row]) {
 
 #[test]
 fn scopes_of_a_sample(rt: HostRuntime) {
-    has(&rt, inlined(), &rows());
+    has(&rt, &inlined(), &rows());
 }
 
 /// Shared data is looked up by the number of the scope, in whatever `Scopes` is passed.
 #[test]
 fn scopes_of_another_object(rt: HostRuntime) {
     let bare = leaf_without_code();
-    let read = scopes_of(&rt, &sections_of(&rt, inlined()));
+    let read = scopes_of(&rt, &sections_of(&rt, &inlined()));
     let Some(leaf) = read.scopes().last() else {
         panic!(rt; "no scope");
     };
@@ -104,7 +104,7 @@ fn has_data(
 
 #[test]
 fn line_programs_are_not_read(rt: HostRuntime) {
-    has(&rt, two_sequences(), &rows());
+    has(&rt, &two_sequences(), &rows());
 }
 
 #[test]
@@ -118,7 +118,7 @@ fn a_scope_without_code(rt: HostRuntime) {
 #[test]
 fn scopes_of_dropped_code(rt: HostRuntime) {
     for (start, dropped) in [(205, 2), (222, 3)] {
-        let mut object = *inlined();
+        let mut object = inlined();
         object[start..start + 8].fill(0xff);
         let mut rows = rows();
         rows[dropped].range = None;

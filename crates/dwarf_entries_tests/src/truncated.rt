@@ -36,7 +36,8 @@ fn is_cut(
 /// truncates the unit.
 #[test]
 fn a_unit_past_the_end(rt: HostRuntime) {
-    let whole = sections_of(&rt, inlined());
+    let sample = inlined();
+    let whole = sections_of(&rt, &sample);
     are_equal(&rt, whole.debug_info.len(), 96);
     for size in 1..96 {
         let cut = sections(start(whole.debug_info, size), whole.debug_abbrev);
@@ -47,7 +48,8 @@ fn a_unit_past_the_end(rt: HostRuntime) {
 
 #[test]
 fn no_unit(rt: HostRuntime) {
-    let whole = sections_of(&rt, inlined());
+    let sample = inlined();
+    let whole = sections_of(&rt, &sample);
     let read = scopes_of(&rt, &sections(&[], whole.debug_abbrev));
     let empty = (read.roots().is_empty(), read.scopes().is_empty());
     are_equal(&rt, empty, (true, true));
@@ -79,7 +81,8 @@ fn fault_of_a_unit_of(size: usize) -> Option<LoadFault> {
 
 #[test]
 fn a_unit_of_each_length(rt: HostRuntime) {
-    let whole = sections_of(&rt, inlined());
+    let sample = inlined();
+    let whole = sections_of(&rt, &sample);
     let mut info = [0; 96];
     info.copy_from_slice(&inlined()[163..259]);
     for size in 4u8..97 {
@@ -103,7 +106,8 @@ fn cut_declaration(size: usize) -> u64 {
 
 #[test]
 fn cut_abbreviation_tables(rt: HostRuntime) {
-    let whole = sections_of(&rt, inlined());
+    let sample = inlined();
+    let whole = sections_of(&rt, &sample);
     are_equal(&rt, whole.debug_abbrev.len(), 43);
     for size in 0..43 {
         let cut = sections(whole.debug_info, start(whole.debug_abbrev, size));

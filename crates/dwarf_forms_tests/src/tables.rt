@@ -76,7 +76,7 @@ fn declarations_of_a_unit(rt: HostRuntime) {
 #[test]
 fn faults_are_at_declarations(rt: HostRuntime) {
     for (place, at) in [(2, 0), (11, 9), (22, 20), (37, 35)] {
-        let mut object = *inlined();
+        let mut object = inlined();
         object[120 + place] = 2;
         is_refused(&rt, &object[120..163], Cause::Children, at);
     }

@@ -3,7 +3,7 @@
 use crate::fixtures::*;
 use dwarf_bytes::Cause;
 use dwarf_lines::{LineTables, ProgramNo};
-use dwarf_samples::program_of_64_bits;
+use dwarf_samples::format_of_64_bits;
 
 #[test]
 fn standard_opcodes_move_the_address(rt: HostRuntime) {
@@ -94,6 +94,13 @@ fn sums_are_checked_when_a_row_is_built(rt: HostRuntime) {
         &[2, 9, 1, 0, 9, 2, 8, 0, 0, 0, 0, 0, 0, 0, 0, 1, 1],
         Cause::GoesBack,
     );
+}
+
+/// Returns the line program of the sample in the 64-bit format.
+fn program_of_64_bits() -> [u8; 87] {
+    let mut line = [0; 87];
+    line.copy_from_slice(&format_of_64_bits()[275..362]);
+    line
 }
 
 #[test]

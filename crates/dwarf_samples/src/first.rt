@@ -1,13 +1,9 @@
 //! The first object.
 
-ghost use Rattle.std.specs.Prelude.{◌≡◌, length};
-
 /// An object of 703 bytes: `main` at 0x1000 to 0x1010, into which `mid` was inlined, into which
 /// `leaf` was inlined; two rows, of lines 10 and 11 of `/src/a.c`.
-pub fn inlined() -> &'static [u8; 703]
-    ensures { length result.now ≡ 703 }
-{
-    &INLINED
+pub fn inlined() -> [u8; 703] {
+    INLINED
 }
 
 const INLINED: [u8; 703] = [

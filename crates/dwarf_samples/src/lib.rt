@@ -3,15 +3,15 @@
 #![tactic(auto)]
 
 mod first;
-mod formats;
 mod second;
+mod third;
 mod variants;
 
 pub use first::inlined;
-pub use formats::{program_of_64_bits, unit_of_64_bits};
 pub use second::two_sequences;
+pub use third::format_of_64_bits;
 pub use variants::{
     call_file_outside, circular_origins, cut_abbreviations, cut_line_program, dropped_main,
     dropped_mid, dropped_sequence, leaf_without_code, many_directories_without_a_format,
-    open_dropped_sequence, origin_of_no_entry, version_four, with_linkage_name,
+    open_dropped_sequence, origin_of_no_entry, version_four,
 };

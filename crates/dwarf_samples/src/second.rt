@@ -1,13 +1,9 @@
 //! The second object.
 
-ghost use Rattle.std.specs.Prelude.{◌≡◌, length};
-
 /// The first object with two sequences of rows for the same addresses, of which the later never
 /// shows. The first changes its line twice at 0x1000.
-pub fn two_sequences() -> &'static [u8; 725]
-    ensures { length result.now ≡ 725 }
-{
-    &TWO_SEQUENCES
+pub fn two_sequences() -> [u8; 725] {
+    TWO_SEQUENCES
 }
 
 const TWO_SEQUENCES: [u8; 725] = [

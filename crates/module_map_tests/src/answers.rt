@@ -66,7 +66,7 @@ fn a_module_may_know_nothing_of_an_address(rt: HostRuntime) {
 #[test]
 fn each_of_two_modules_answers(rt: HostRuntime) {
     let mut modules = one(&rt, 0x10000, 4);
-    load(&rt, &mut modules, "b", 0x11000, two_sequences());
+    load(&rt, &mut modules, "b", 0x11000, &two_sequences());
     are_equal(&rt, line(&mut modules, 0x11000), Some(10));
     are_equal(&rt, line(&mut modules, 0x12000), Some(12));
     are_equal(&rt, line(&mut modules, 0x11000), Some(10));
@@ -82,7 +82,7 @@ fn an_old_ask_is_answered_with_something(rt: HostRuntime) {
     let asked = modules.ask(0x11004);
     unload(&rt, &mut modules, "a");
     are_equal(&rt, modules.answer(asked).frames().next().is_none(), true);
-    load(&rt, &mut modules, "b", 0, inlined());
+    load(&rt, &mut modules, "b", 0, &inlined());
     are_equal(&rt, modules.answer(asked).address(), 0x11004);
 }
 

@@ -76,7 +76,7 @@ fn a_later_load_of_a_name_answers_for_itself(rt: HostRuntime) {
     are_equal(&rt, line(&mut modules, 0x11000), Some(10));
     unload(&rt, &mut modules, "a");
     are_equal(&rt, modules.cached(), (1, 16));
-    load(&rt, &mut modules, "a", 0x10000, two_sequences());
+    load(&rt, &mut modules, "a", 0x10000, &two_sequences());
     are_equal(&rt, modules.cached(), (1, 16));
     are_equal(&rt, line(&mut modules, 0x11000), Some(12));
     are_equal(&rt, modules.cached(), (2, 16));
@@ -85,7 +85,7 @@ fn a_later_load_of_a_name_answers_for_itself(rt: HostRuntime) {
 #[test]
 fn two_modules_of_one_object(rt: HostRuntime) {
     let mut modules = one(&rt, 0x10000, 16);
-    load(&rt, &mut modules, "b", 0x20000, two_sequences());
+    load(&rt, &mut modules, "b", 0x20000, &two_sequences());
     are_equal(&rt, line(&mut modules, 0x11000), Some(10));
     are_equal(&rt, line(&mut modules, 0x21000), Some(12));
     are_equal(&rt, line(&mut modules, 0x11000), Some(10));

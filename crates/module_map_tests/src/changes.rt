@@ -52,9 +52,9 @@ fn the_greatest_address(rt: HostRuntime) {
 #[test]
 fn an_overlap_names_the_lowest_module(rt: HostRuntime) {
     let mut modules = one(&rt, 0x30000, 0);
-    load(&rt, &mut modules, "b", 0x20800, inlined());
-    load(&rt, &mut modules, "c", 0x1f000, inlined());
-    load(&rt, &mut modules, "d", 0x10000, inlined());
+    load(&rt, &mut modules, "b", 0x20800, &inlined());
+    load(&rt, &mut modules, "c", 0x1f000, &inlined());
+    load(&rt, &mut modules, "d", 0x10000, &inlined());
     // overlaps c, at 0x20000 to 0x21000, and b, at 0x21800 to 0x22800
     load_gives(&rt, &mut modules, "e", 0x1ff00, Err(MapFault::Overlap(1)));
     let Some((name, _, _)) = modules.list().nth(1) else {
@@ -105,8 +105,8 @@ fn a_move_does_not_meet_its_own_old_place(rt: HostRuntime) {
 #[test]
 fn a_move_past_others(rt: HostRuntime) {
     let mut modules = one(&rt, 0x10000, 0);
-    load(&rt, &mut modules, "b", 0x20000, inlined());
-    load(&rt, &mut modules, "c", 0x30000, two_sequences());
+    load(&rt, &mut modules, "b", 0x20000, &inlined());
+    load(&rt, &mut modules, "c", 0x30000, &two_sequences());
     move_gives(&rt, &mut modules, "a", 0x40000, from(0x41000));
     are_equal(&rt, line(&mut modules, 0x31000), Some(12));
     are_equal(&rt, line(&mut modules, 0x41000), Some(10));

@@ -63,7 +63,7 @@ pub fn move_to(rt: &impl Abort, modules: &mut Modules, name: &str, base: u64) {
 /// Loads only the first sample at a base, with a cache of `cache_entries` answers.
 pub fn one(rt: &(impl Abort + AllocGlobal), base: u64, cache_entries: usize) -> Modules {
     let mut modules = empty(rt, cache_entries);
-    load(rt, &mut modules, "a", base, inlined());
+    load(rt, &mut modules, "a", base, &inlined());
     modules
 }
 
@@ -83,7 +83,7 @@ pub fn load_gives(
     base: u64,
     wanted: Result<Extent, MapFault>,
 ) {
-    let actual = modules.load(name, base, copy(rt, inlined()));
+    let actual = modules.load(name, base, copy(rt, &inlined()));
     are_equal(rt, actual, wanted);
 }
 

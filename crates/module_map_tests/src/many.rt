@@ -12,7 +12,7 @@ fn load_number(rt: &(impl Abort + AllocGlobal), modules: &mut Modules, number: u
         panic!(rt; "out of memory");
     };
     let base = number.saturating_mul(0x1000);
-    load(rt, modules, name.as_str(), base, inlined());
+    load(rt, modules, name.as_str(), base, &inlined());
 }
 
 /// Loads modules `m0` to `m4095` of the first sample, 0x1000 apart.
