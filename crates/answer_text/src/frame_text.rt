@@ -5,7 +5,7 @@ ghost use Rattle.std.specs.List.{join_with_byte};
 ghost use Rattle.io_streams.specs.Streams.{failures_after};
 ghost use Rattle.answer_text.specs.Pending.{Puts};
 ghost use Rattle.answer_text.specs.Printable.{text_or_unknown};
-ghost use Rattle.answer_text.specs.Private.Paths.{borrowed_text};
+ghost use Rattle.answer_text.specs.Printable.{borrowed_text};
 ghost use Rattle.answer_text.specs.Text.{name_of, file_of, after_name, before_later, name_text};
 ghost use Rattle.answer_text.specs.Text.{place_text, frame_text, later_text};
 

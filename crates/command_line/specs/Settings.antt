@@ -23,7 +23,7 @@ abbrev pub is_flag : List ℕ → List Row → Bool
 is_flag id rows = option_map_or (λ text. bytes_eq text (codes "true")) (first_of id rows) Bool.false
 
 -- The capacity of the cache: the given number, or 1,024 if none is given. The parser accepts only
--- decimal numbers up to 65,536.
+-- decimal numbers from 0 to 65,536, and its text of an option has no minus sign (`-0` is `0`).
 abbrev pub IsCacheSize : Option (List ℕ) → ℕ → Type 0
 IsCacheSize None size = size ≡ 1024
 IsCacheSize (Some text) size = IsNumeral 10 (without_leading_plus text)

@@ -1,5 +1,6 @@
 pub mod Lines
 pub mod Requests
+pub mod Commands
 pub mod Devices
 pub mod Replies
 pub mod Text

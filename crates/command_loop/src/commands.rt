@@ -8,7 +8,8 @@ ghost use Rattle.command_loop.specs.Requests.{parse, is_name, is_path, fields, l
 ghost use Rattle.command_loop.specs.Requests.{move_of, list_of, checked_load, checked_move};
 ghost use Rattle.command_loop.specs.Requests.{request_of_fields, address_of, is_name_byte};
 ghost use Rattle.command_line.specs.Numbers.{number};
-ghost use Rattle.command_loop.specs.Private.Commands.{parse_result, cut_parts};
+ghost use Rattle.command_loop.specs.Commands.{parse_result};
+ghost use Rattle.command_loop.specs.Private.Commands.{cut_parts};
 ghost use Rattle.command_loop.specs.Text.{line_word};
 
 use bstr::ByteSlice;

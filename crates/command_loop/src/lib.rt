@@ -22,7 +22,7 @@ pub use io_streams::{
     Device, DeviceFault, ExeFault, Feed, FetchFault, Objects, Options, RunFault, Sink,
 };
 pub use module_map::{
-    Answer, Asked, Extent, Frame, Frames, LoadFault, MapFault, Modules, Path, Site,
+    Answer, Asked, Extent, Frame, Frames, Listing, LoadFault, MapFault, Modules, Path, Site, Steps,
 };
 pub use programs::program;
 pub use run_loop::run;

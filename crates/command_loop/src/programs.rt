@@ -2,41 +2,45 @@
 //! Faults are reported on standard error.
 
 use crate::run_loop::run;
-use answer_text::write_texts;
-use arrayvec::ArrayString;
+use answer_text::{Pending, write_texts};
 use clap::Error;
 use command_line::{CliFault, options};
 use io_streams::{DeviceFault, Feed, Objects, RunFault, Sink};
 use std::alloc::Global;
-use std::fmt::Write;
+use std::fmt;
+use std::fmt::{Display, Write};
 
-/// The prefix of each message on standard error.
-const NAME: &[u8] = b"addr2line_live: ";
+/// A message to standard error, which is formatted into a buffer.
+#[derive(Drop)]
+struct Message<'e, E: Sink> {
+    pending: Pending,
+    errors: &'e mut E,
+}
 
-/// The capacity for the message of a run fault. The longest message is the refusal of an object,
-/// with at most 73 bytes.
-const LONGEST_MESSAGE: usize = 128;
+impl<'e, E: Sink> fmt::Write for Message<'e, E> {
+    fn write_str(&mut self, text: &str) -> fmt::Result {
+        match self.pending.put(text.as_bytes(), self.errors) {
+            Ok(()) => Ok(()),
+            Err(_) => Err(fmt::Error),
+        }
+    }
+}
 
-/// Writes why the run ended to standard error, and returns status 1. A failed write is ignored.
-fn end<E: Sink>(fault: RunFault, errors: &mut E) -> u8 {
-    let mut message = ArrayString::<LONGEST_MESSAGE>::new();
-    let _ = write!(message, "{fault}");
-    let _ = write_texts(&[NAME, message.as_bytes(), b"\n"], errors);
-    let _ = errors.flush();
-    1
+/// Writes a fault to standard error, after the program's name. A failed write is ignored.
+fn report<F: Display, E: Sink>(fault: &F, errors: &mut E) {
+    let mut message = Message {
+        pending: Pending::new(),
+        errors,
+    };
+    let _ = write!(message, "addr2line_live: {fault}\n");
+    let _ = message.pending.send(message.errors);
+    let _ = message.errors.flush();
 }
 
 /// Writes a string and flushes.
 fn show<W: Sink>(text: &str, writer: &mut W) -> Result<(), DeviceFault> {
     write_texts(&[text.as_bytes()], writer)?;
     writer.flush()
-}
-
-/// Writes a message to standard error, and returns status 2.
-fn refuse<E: Sink>(texts: &[&[u8]], errors: &mut E) -> u8 {
-    let _ = write_texts(texts, errors);
-    let _ = errors.flush();
-    2
 }
 
 /// Writes help to standard output and returns status 0, or writes the fault of the arguments to
@@ -48,15 +52,18 @@ fn show_usage<W: Sink, E: Sink>(
     errors: &mut E,
 ) -> u8 {
     let Ok(text) = format!(in alloc; "{error}") else {
-        return refuse(&[NAME, b"no memory\n"], errors);
+        report(&CliFault::Memory, errors);
+        return 2;
     };
     if error.use_stderr() {
-        return refuse(&[text.as_bytes()], errors);
+        let _ = show(&text, errors);
+        return 2;
     }
-    match show(&text, writer) {
-        Ok(()) => 0,
-        Err(_) => end(RunFault::Writing, errors),
+    if show(&text, writer).is_err() {
+        report(&RunFault::Writing, errors);
+        return 1;
     }
+    0
 }
 
 /// Runs the program with the arguments of a command line, which start with the program's name.
@@ -74,13 +81,16 @@ pub fn program<R: Feed, W: Sink, E: Sink, O: Objects>(
     let options = match options(alloc, words) {
         Ok(options) => options,
         Err(CliFault::Usage(error)) => return show_usage(alloc, &error, writer, errors),
-        Err(CliFault::Address(word)) => {
-            return refuse(&[NAME, b"bad address ", word.as_bytes(), b"\n"], errors);
+        Err(fault) => {
+            report(&fault, errors);
+            return 2;
         }
-        Err(CliFault::Memory) => return refuse(&[NAME, b"no memory\n"], errors),
     };
     match run(alloc, &options, reader, writer, source) {
         Ok(()) => 0,
-        Err(fault) => end(fault, errors),
+        Err(fault) => {
+            report(&fault, errors);
+            1
+        }
     }
 }

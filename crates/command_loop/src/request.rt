@@ -3,7 +3,7 @@
 ghost use Rattle.std.specs.Prelude.{◌≡◌, ℕ, List, [], ◌∷◌, Option, option_copied, MatchResult, Ok};
 ghost use Rattle.io_streams.specs.Streams.{failures_after, Writes};
 ghost use Rattle.command_loop.specs.Output.{Exchanges};
-ghost use Rattle.command_loop.specs.Private.Commands.{parse_result};
+ghost use Rattle.command_loop.specs.Commands.{parse_result};
 ghost use Rattle.command_loop.specs.Requests.{parse_buffered};
 ghost use Rattle.command_loop.specs.Private.Progress.{state_of, ServesRequest, FailsToReply};
 ghost use Rattle.command_loop.specs.Private.Outcomes.{Performs};

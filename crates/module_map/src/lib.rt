@@ -13,7 +13,7 @@ mod loaded_module;
 mod modules;
 mod sorted;
 
-pub use addr_table::{Frame, Frames, Path, Site};
+pub use addr_table::{Frame, Frames, Path, Site, Steps};
 pub use answer::Answer;
 pub use asked::{Asked, Found};
 pub use dwarf_bytes::LoadFault;

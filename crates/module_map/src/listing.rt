@@ -24,7 +24,7 @@ impl<'a> Model for Listing<'a> {
 }
 
 impl<'a> Listing<'a> {
-    pub fn new(entries: &'a [LoadedModule]) -> Listing<'a>
+    pub(crate) fn new(entries: &'a [LoadedModule]) -> Listing<'a>
         ensures { result ≡ map (λ h. listed h.loaded) entries.entry.now }
     {
         Listing { rest: entries }

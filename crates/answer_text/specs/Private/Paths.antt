@@ -1,6 +1,5 @@
 -- Paths, part by part.
-use Rattle.std.specs.Prelude.{ℕ, List, [], ◌∷◌, map, Option, option_map}
-use Rattle.std.specs.Borrow.{Bor}
+use Rattle.std.specs.Prelude.{ℕ, List, [], ◌∷◌, map}
 use Rattle.answer_text.specs.Printable.{printable}
 
 -- the last of these parts, or the given part if there are none
@@ -11,7 +10,3 @@ last_or part (next ∷ parts) = last_or next parts
 -- a slash and a part
 abbrev pub after_slash : List ℕ → List ℕ
 after_slash part = 47 ∷ map printable part
-
--- the borrowed bytes
-abbrev pub borrowed_text : Option (Bor (List ℕ)) → Option (List ℕ)
-borrowed_text text = option_map (λ t. t.now) text

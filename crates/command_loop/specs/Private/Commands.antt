@@ -1,22 +1,6 @@
--- The request of a parsed command.
-use Rattle.std.specs.Prelude.{ℕ, List, [], Option, Some, None, Result, Ok, Err}
-use Rattle.command_loop.specs.Requests.{Request, fields}
-use Rattle.command_loop.specs.Requests.Request.{Load, Unload, Move, ListAll, Ask}
-use Rattle.command_loop.specs.declared.commands.BadLine.{BadLine}
-use Rattle.command_loop.specs.declared.commands.Command.{Command}
-use Rattle.command_loop.specs.declared.commands.Command.TheVariants as command
-
-abbrev pub request_of : Command → Request
-request_of (command.Load name base path) = Load name.now base path.now
-request_of (command.Unload name) = Unload name.now
-request_of (command.Move name base) = Move name.now base
-request_of command.List = ListAll
-request_of (command.Ask address) = Ask address
-
--- the request of a line, or the reason why there is none
-abbrev pub parse_result : Result Command BadLine → Result Request BadLine
-parse_result (Ok c) = Ok (request_of c)
-parse_result (Err bad) = Err bad
+-- The fields after the first one of a line.
+use Rattle.std.specs.Prelude.{ℕ, List, [], Option, Some, None}
+use Rattle.command_loop.specs.Requests.{fields}
 
 -- the fields after a space, if there is one
 abbrev pub cut_parts : Option (List ℕ) → List (List ℕ)
