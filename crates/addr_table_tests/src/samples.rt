@@ -3,7 +3,7 @@
 use crate::fixtures::*;
 use addr_table::{Frames, Path};
 use dwarf_samples::{
-    dropped_main, dropped_mid, dropped_sequence, inlined, leaf_without_code, format_of_64_bits,
+    dropped_main, dropped_mid, dropped_sequence, format_of_64_bits, inlined, leaf_without_code,
     two_sequences,
 };
 use std::process::Abort;
