@@ -61,8 +61,7 @@ fn root_of(offset: usize, first: usize, past: usize) -> Root {
 
 #[test]
 fn a_unit_of_64_bits(rt: HostRuntime) {
-    let sample = inlined();
-    let table = sections_of(&rt, &sample).debug_abbrev;
+    let table = &inlined()[120..163];
     let read = scopes_of(&rt, &sections(&unit_of_64_bits(), table));
     are_equal(&rt, read.roots(), [root_of(24, 0, 5)].as_slice());
     are_scopes(&rt, &read, Some(0), &rows(0, 0, 41, 89));
@@ -96,8 +95,7 @@ fn put_rows(rt: &impl Abort, wanted: &mut Vec<Row>, rows: [Row; 5]) {
 
 #[test]
 fn refused_lengths(rt: HostRuntime) {
-    let sample = inlined();
-    let table = sections_of(&rt, &sample).debug_abbrev;
+    let table = &inlined()[120..163];
     for (place, byte, cause) in [
         // reserved, one byte too long, and beyond all sections
         (0, 0xf0, Cause::Length),
@@ -116,16 +114,16 @@ fn refused_lengths(rt: HostRuntime) {
 /// Truncated units of the 64-bit format.
 #[test]
 fn cut_units(rt: HostRuntime) {
-    let sample = inlined();
-    let table = sections_of(&rt, &sample).debug_abbrev;
+    let table = &inlined()[120..163];
     // without the last null entry
-    let mut info = unit_of_64_bits();
+    let unit = unit_of_64_bits();
+    let mut info = unit;
     info[4] = 0x63;
     let cut = info.get(..111).unwrap_or(&[]);
     is_refused(&rt, &sections(cut, table), Cause::TreeOpen, 0);
     // the escape of the 64-bit format followed by fewer than eight bytes, and a truncated unit
     for size in 1..24 {
-        let cut = sections(&unit_of_64_bits()[..size], table);
+        let cut = sections(&unit[..size], table);
         is_refused(&rt, &cut, Cause::Short, 0);
     }
 }
@@ -215,28 +213,13 @@ const LISTS: [u8; 32] = [
 
 /// Returns a root with addr_base and rnglists_base, and a scope that refers to a list by index.
 fn entries_by_index(addr_base: u8, rnglists_base: u8, index: u8) -> [u8; 20] {
-    [
-        1,
-        addr_base,
-        0,
-        0,
-        0,
-        0,
-        0,
-        0,
-        0,
-        rnglists_base,
-        0,
-        0,
-        0,
-        0,
-        0,
-        0,
-        0,
-        2,
-        index,
-        0,
-    ]
+    let mut entries = [0; 20];
+    entries[0] = 1;
+    entries[1] = addr_base;
+    entries[9] = rnglists_base;
+    entries[17] = 2;
+    entries[18] = index;
+    entries
 }
 
 /// Checks the ranges of a scope, given the bases of tables in the 64-bit format and a list index.
