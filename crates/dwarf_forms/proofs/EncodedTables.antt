@@ -12,8 +12,8 @@ use Rattle.dwarf_forms.proofs.Stretches.{stretch-of, stands-from, respelled}
 use Rattle.dwarf_bytes.proofs.Numbers.Moves.{same-ok}
 use Rattle.dwarf_forms.proofs.Moves.{declaration_at-advances}
 use Rattle.dwarf_forms.proofs.Listed.{EncodesAll, spelled-list, read-list, GoodEach-map}
-use Rattle.dwarf_forms.proofs.Listed.{GoodEach-both, IsNew, all-new, new-each, HasRoom, all-room}
-use Rattle.dwarf_forms.proofs.Listed.{room-each}
+use Rattle.dwarf_forms.proofs.Listed.{GoodEach-both, IsNew, all-new, new-each, FitsBudget, all-fit}
+use Rattle.dwarf_forms.proofs.Listed.{each-fits}
 use Rattle.dwarf_forms.proofs.TableEncodings.{DeclarationFits, declaration-spelled}
 use Rattle.dwarf_forms.proofs.TableEncodings.{declaration-read}
 
@@ -35,8 +35,8 @@ table-spelled budget section at table next h =
     (λ before x good. good.1) [] table fits in
     let good = all-new IsValid (λ d. d.code) [] table (λ k d h. absurd (omega arith))
     (λ i j d lt h. absurd (omega arith)) new in
-    let few = all-room budget [] table (omega arith)
-    (GoodEach-map (DeclarationFits budget) (HasRoom budget) (λ before x good. good.0) [] table fits)
+    let few = all-fit budget [] table (omega arith)
+    (GoodEach-map (DeclarationFits budget) (FitsBudget budget) (λ before x good. good.0) [] table fits)
     in (
       stands-from EncodesTable section at table next encoded.0.front encoded.0.rest
           (stretch-of (EncodesAll EncodesDeclaration (λ b. IsUleb b 0)) section at table next
@@ -59,8 +59,8 @@ pub table_read : (budget : ℕ) (section : List ℕ) (at : ℕ) (table : List De
     → table_at budget section at ≡ Ok (table, next)
 unfolding table_at
 table_read budget section at table next s good few =
-    let fits = GoodEach-both (HasRoom budget) (IsNew IsValid (λ d. d.code)) [] table
-    (room-each budget [] table (omega (arith, few)))
+    let fits = GoodEach-both (FitsBudget budget) (IsNew IsValid (λ d. d.code)) [] table
+    (each-fits budget [] table (omega (arith, few)))
     (new-each IsValid (λ d. d.code) [] table good.each good.once) in
     let whole = respelled section at s.front (s.encoded.declarations ++ s.encoded.end) next s.rest
     s.encoded.whole (stretch-of EncodesTable section at table next s) in

@@ -206,20 +206,20 @@ new-each {X = X} P key before (x ∷ xs) all pairs =
     not_same a b h = grind arith
 
 -- fewer than `budget` elements precede the element
-abbrev pub HasRoom : {X : Type 0} → ℕ → List X → X → Type 0
-HasRoom budget before x = length before < budget
+abbrev pub FitsBudget : {X : Type 0} → ℕ → List X → X → Type 0
+FitsBudget budget before x = length before < budget
 
-pub all-room : {X : Type 0} (budget : ℕ) (before xs : List X) → length before ≤ budget
-    → GoodEach (HasRoom budget) before xs → length before + length xs ≤ budget
-all-room budget before [] le good = omega arith
-all-room budget before (x ∷ xs) le good =
+pub all-fit : {X : Type 0} (budget : ℕ) (before xs : List X) → length before ≤ budget
+    → GoodEach (FitsBudget budget) before xs → length before + length xs ≤ budget
+all-fit budget before [] le good = omega arith
+all-fit budget before (x ∷ xs) le good =
     let size = length-append before (x ∷ []) in
-    let next = all-room budget (before ++ x ∷ []) xs (omega (arith, size, good.0)) good.1 in
+    let next = all-fit budget (before ++ x ∷ []) xs (omega (arith, size, good.0)) good.1 in
     omega (arith, size, next)
 
-pub room-each : {X : Type 0} (budget : ℕ) (before xs : List X) → length before + length xs ≤ budget
-    → GoodEach (HasRoom budget) before xs
-room-each budget before [] le = tt
-room-each budget before (x ∷ xs) le =
+pub each-fits : {X : Type 0} (budget : ℕ) (before xs : List X) → length before + length xs ≤ budget
+    → GoodEach (FitsBudget budget) before xs
+each-fits budget before [] le = tt
+each-fits budget before (x ∷ xs) le =
     let size = length-append before (x ∷ []) in
-    (omega arith, room-each budget (before ++ x ∷ []) xs (omega (arith, size)))
+    (omega arith, each-fits budget (before ++ x ∷ []) xs (omega (arith, size)))

@@ -15,7 +15,7 @@ use Rattle.dwarf_forms.proofs.Stretches.{stretch-of, stands-from, joined, first-
 use Rattle.dwarf_forms.proofs.Stretches.{respelled}
 use Rattle.dwarf_bytes.proofs.Numbers.Moves.{same-item, same-end}
 use Rattle.dwarf_forms.proofs.Listed.{EndStands, IsSpelled, IsRead, IsNew, all-new, new-each}
-use Rattle.dwarf_forms.proofs.Listed.{HasRoom}
+use Rattle.dwarf_forms.proofs.Listed.{FitsBudget}
 use Rattle.dwarf_forms.proofs.AttributeEncodings.{uleb-reads, IsUsable, name_of}
 use Rattle.dwarf_forms.proofs.AttributeReads.{EncodesAttributes, GoodAttributes, attributes-spelled}
 use Rattle.dwarf_forms.proofs.AttributeReads.{attributes-read}
@@ -23,7 +23,7 @@ use Rattle.dwarf_forms.proofs.HeadEncodings.{EncodesHead, head-spelled, head-end
 
 -- the conditions on a declaration that depend on the ones before it
 abbrev pub DeclarationFits : ℕ → List Declaration → Declaration → Type 0
-DeclarationFits budget before declaration = HasRoom budget before declaration
+DeclarationFits budget before declaration = FitsBudget budget before declaration
     × IsNew IsValid (λ d. d.code) before declaration
 
 good-attributes : (xs : List AttributeSpecification) → GoodAttributes xs
