@@ -17,11 +17,11 @@ returns-clause-cached c = let was : c.in-Some.answers.entries ≡ c.args.self.no
 pub returns-clause-kept : goal.returns-clause-kept
 returns-clause-kept c = let was : c.in-Some.answers.entries ≡ c.args.self.now.entries =
     rw (← c.self.view_is, c.in-Some.is) refl in
-    let room : c.in-Some.answers.cap ≡ c.args.self.now.capacity =
+    let is_cap : c.in-Some.answers.cap ≡ c.args.self.now.capacity =
     rw (← c.self.view_is) (c.self.invariant c.in-Some.answers c.in-Some.is).0 in
     let new : List CacheEntry = c.remember.new.answers.entries in
     let Kept : List CacheEntry → ℕ → Type 0 =
     λ es cap. (new ≡ es) ⊎ (new ≡ with_answer c.args.key c.args.place
     (record { entries = es; capacity = cap })) in
     subst (λ es. Kept es c.args.self.now.capacity) was
-    (subst (λ cap. Kept c.in-Some.answers.entries cap) room c.remember.ensures.kept)
+    (subst (λ cap. Kept c.in-Some.answers.entries cap) is_cap c.remember.ensures.kept)
