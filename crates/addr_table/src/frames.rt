@@ -85,15 +85,15 @@ impl<'a> Model for FrameWalk<'a> {
     ghost use Rattle.std.specs.Prelude.{List};
     ghost use Rattle.addr_table.specs.Frames.{Frame as FrameSeen};
     ghost use Rattle.addr_table.specs.Private.Views.{walk_left};
-    ghost use Rattle.addr_table.specs.Private.Walks.{near_of, nears_of, IsWalk};
+    ghost use Rattle.addr_table.specs.Private.Walks.{parent_code, nears_of, IsWalk};
 
     ghost Value = { List FrameSeen };
 
     ghost view = { λ w. walk_left w.tables.bytes.now w.tables.lines.now w.tables.scopes.now.scopes
-        w.link (near_of w.scope) w.site w.alone };
+        w.link (parent_code w.scope) w.site w.alone };
 
     ghost invariant = { λ w. IsWalk w.tables.scopes.now.scopes (nears_of w.parents.now)
-        w.link (near_of w.scope) w.top };
+        w.link (parent_code w.scope) w.top };
 }
 
 impl<'a> FrameWalk<'a> {

@@ -117,16 +117,16 @@ well-formed bytes d is = rw is refl
 -- ---- the data stored for the object
 
 pub kept-good : (bytes : List ℕ) (sections : Layout) (lines : Lines) (tree : Tree) (rows : List Row)
-    (nears : List ℕ) (list : List Segment)
+    (codes : List ℕ) (list : List Segment)
     (calls : ℕ)
     → sections ≡ layout bytes → TreeRead bytes lines tree → RefusesAs (Ok tt)
     (cross_checks_of lines tree)
-    → rows ≡ lines.rows → AreInOrder tree.scopes → AreParents tree.scopes nears
-    → length nears ≡ length tree.scopes
+    → rows ≡ lines.rows → AreInOrder tree.scopes → AreParents tree.scopes codes
+    → length codes ≡ length tree.scopes
     → list ≡ segments_of rows tree.scopes → least_calls rows tree.scopes ≤ calls
     → calls ≤ most_calls rows tree.scopes
-    → IsDecoded bytes sections lines tree nears list calls
-kept-good bytes sections lines tree rows nears list calls is read joined rows_are order parents all
+    → IsDecoded bytes sections lines tree codes list calls
+kept-good bytes sections lines tree rows codes list calls is read joined rows_are order parents all
     segment least most = record {
       layout_is = is;
       is_decoded = all-good bytes lines tree read joined;

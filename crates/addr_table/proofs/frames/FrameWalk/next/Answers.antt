@@ -1,5 +1,5 @@
 use Rattle.std.proofs.Common.{refl}
-use Rattle.addr_table.specs.Private.Walks.{near_of, nears_of}
+use Rattle.addr_table.specs.Private.Walks.{parent_code, nears_of}
 use Rattle.addr_table.proofs.FrameWalks.WalkLaws.{Told, tell}
 use Rattle.addr_table.proofs.FrameWalks.FrameTurns.{returned-frame}
 use Rattle.addr_table.proofs.frames.FrameWalk.next.Goals as goal
@@ -7,7 +7,7 @@ use Rattle.addr_table.proofs.frames.FrameWalk.next.Goals.{After-outer-self-insid
 
 returned : (c : After-outer-self-inside)
     → Told c.self.inside.link c.self.inside.tables.scopes.now.scopes
-    (nears_of c.self.inside.parents.now) (near_of c.self.inside.scope) c.in-Some.number
+    (nears_of c.self.inside.parents.now) (parent_code c.self.inside.scope) c.in-Some.number
     c.self.inside.top
 returned c =
     tell _ _ _ _ _ _ _ c.self.invariant.have refl c.in-Some.ensures.within c.in-Some.ensures.chain
