@@ -32,7 +32,7 @@ use Rattle.dwarf_units.specs.Private.FixedSizeHeads.{fixed_size_head, fixed_size
 use Rattle.dwarf_units.specs.Private.Plans.{Table, stored_attributes, steps_at, steps_of}
 use Rattle.dwarf_units.specs.Private.SharedTables.{SharedTable, full_table}
 use Rattle.dwarf_units.proofs.JoinedSteps.{skip-within}
-use Rattle.dwarf_units.proofs.PlanLaws.{kept-is}
+use Rattle.dwarf_units.proofs.PlanLaws.{stored-is}
 use Rattle.dwarf_units.proofs.SharedTableLaws.{found-full}
 
 -- ---- the heads by code
@@ -92,31 +92,31 @@ one-byte bytes at code there small = uleb-again bytes at code (at + 1) (record {
 
 -- ---- attributes that are skipped
 
-passed-steps : (format : Format) (steps : List AttributeStep) (len : ℕ) (bytes : List ℕ) (at : ℕ)
+skipped-steps : (format : Format) (steps : List AttributeStep) (len : ℕ) (bytes : List ℕ) (at : ℕ)
     → skipped_len steps ≡ Some len → at + len ≤ length bytes → steps_at format steps bytes at
     ≡ Ok ([], at + len)
 unfolding steps_at
-passed-steps format [] len bytes at is le = let none : 0 ≡ len = same_Some 0 len is in
+skipped-steps format [] len bytes at is le = let none : 0 ≡ len = same_Some 0 len is in
     let place : at ≡ at + len = omega (arith, none) in ap (λ (k : ℕ). Ok ([], k)) place
-passed-steps format (Skip n ∷ []) len bytes at is le =
+skipped-steps format (Skip n ∷ []) len bytes at is le =
     let same : n ≡ len = same_Some n len is in
     rw (same, skip-within format len bytes at le) refl
-passed-steps format (Skip n ∷ next ∷ steps) len bytes at is le = cc
-passed-steps format (Pass s layout ∷ steps) len bytes at is le = cc
-passed-steps format (Keep n used s layout ∷ steps) len bytes at is le = cc
+skipped-steps format (Skip n ∷ next ∷ steps) len bytes at is le = cc
+skipped-steps format (Pass s layout ∷ steps) len bytes at is le = cc
+skipped-steps format (Keep n used s layout ∷ steps) len bytes at is le = cc
 
 abbrev PassesTo : Format → List AttributeSpecification → List ℕ → ℕ → ℕ → Type 0
 PassesTo format declared bytes at after =
     (attributes : List Attribute) × (attributes_at format declared bytes at
     ≡ Ok (attributes, after))
 
-passed-attributes : (format : Format) (declared : List AttributeSpecification) (len : ℕ)
+skipped-attributes : (format : Format) (declared : List AttributeSpecification) (len : ℕ)
     (bytes : List ℕ) (at : ℕ) → skipped_len (steps_of false format declared) ≡ Some len
     → at + len ≤ length bytes → PassesTo format declared bytes at (at + len)
-passed-attributes format declared len bytes at is le =
+skipped-attributes format declared len bytes at is le =
     by_read (attributes_at format declared bytes at) refl
-    (sym (kept-is false format declared bytes at (omega (arith, le)))
-    ∙ passed-steps format (steps_of false format declared) len bytes at is le)
+    (sym (stored-is false format declared bytes at (omega (arith, le)))
+    ∙ skipped-steps format (steps_of false format declared) len bytes at is le)
   where
     by_read : (read : Result (List Attribute × ℕ) Cause) → attributes_at format declared bytes at
         ≡ read → (◌>>=◌ {B = List Attribute × ℕ} read
@@ -172,12 +172,12 @@ fixed_size-stands memoized shared table depth code unit at head view is some sma
         → (let h : FixedSizeHead = record { tag = d.tag; children = d.children; len = len } in h)
         ≡ head
         → Stands
-    by_declaration d declared len found all passed same =
+    by_declaration d declared len found all skipped same =
         let len_is : len ≡ head.len = ap (λ (h : FixedSizeHead). h.len) same in
         let tag : d.tag ≡ head.tag = ap (λ (h : FixedSizeHead). h.tag) same in
         let children : d.children ≡ head.children = ap (λ (h : FixedSizeHead). h.children) same in
-        let read = passed-attributes shared.format declared head.len unit (at + 1)
-        (passed ∙ ap (λ (n : ℕ). Some n) len_is) fits in
+        let read = skipped-attributes shared.format declared head.len unit (at + 1)
+        (skipped ∙ ap (λ (n : ℕ). Some n) len_is) fits in
         let here : attributes_at shared.format (all_of memoized d.list) unit (at + 1)
         ≡ Ok (read.0, at + 1 + head.len) =
         ap (λ (l : List AttributeSpecification). attributes_at shared.format l unit (at + 1))
@@ -196,9 +196,9 @@ fixed_size-stands memoized shared table depth code unit at head view is some sma
         → skipped_len (steps_of false shared.format d.list.own) ≡ len
         → option_map (λ len. let h : FixedSizeHead =
         record { tag = d.tag; children = d.children; len = len } in h) len ≡ Some head → Stands
-    by_len d found all None passed h = cc
-    by_len d found all (Some len) passed h =
-        by_declaration d d.list.own len found all passed (same_Some _ head h)
+    by_len d found all None skipped h = cc
+    by_len d found all (Some len) skipped h =
+        by_declaration d d.list.own len found all skipped (same_Some _ head h)
 
     by_rest : (d : SharedDeclaration) → find (λ d. d.code == code) shared.declarations ≡ Some d
         → (rest : Option ℕ) → d.list.rest ≡ rest

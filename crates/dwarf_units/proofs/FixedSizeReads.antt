@@ -118,11 +118,11 @@ taken-is format s layout bytes at h = by_form (accepts s.name s.form) refl (form
 abbrev pub none_after : {X : Type 0} → X × ℕ → Result (List Attribute × ℕ) Cause
 none_after x = Ok ([], x.1)
 
-pub passed-is : (format : Format) (s : AttributeSpecification) (layout : ValueLayout)
+pub skipped-is : (format : Format) (s : AttributeSpecification) (layout : ValueLayout)
     (bytes : List ℕ) (at : ℕ) → valid_layout s ≡ Some layout
     → (reading (content_at layout format bytes at) >>= none_after)
     ≡ (attribute_at format s bytes at >>= none_after)
-passed-is format s layout bytes at h = by_read (reading (content_at layout format bytes at))
+skipped-is format s layout bytes at h = by_read (reading (content_at layout format bytes at))
     ∙ ap (λ (r : Result (Attribute × ℕ) Cause). r >>= none_after)
     (taken-is format s layout bytes at h)
   where

@@ -210,21 +210,21 @@ known-again section tables number table offset left all at same few =
     (known-stands section tables number table offset all at same) few)
 
 -- The invariant holds for a shorter list of tables, and for one more table appended.
-pub stand-before : (section : List ℕ) (tables after : List Table) (kept : ℕ)
-    → All (IsParsedFrom section) tables → after ≡ take kept tables
+pub stand-before : (section : List ℕ) (tables after : List Table) (permanent : ℕ)
+    → All (IsParsedFrom section) tables → after ≡ take permanent tables
     → All (IsParsedFrom section) after
-stand-before section tables after kept all is =
+stand-before section tables after permanent all is =
     subst (λ (ts : List Table). All (IsParsedFrom section) ts) (sym is)
-    (All-take (IsParsedFrom section) kept tables all)
+    (All-take (IsParsedFrom section) permanent tables all)
 
-pub stand-behind : (section : List ℕ) (tables after : List Table) (kept : ℕ) (table : Table)
-    → All (IsParsedFrom section) tables → IsParsedFrom section table → after ≡ take kept tables
+pub stand-behind : (section : List ℕ) (tables after : List Table) (permanent : ℕ) (table : Table)
+    → All (IsParsedFrom section) tables → IsParsedFrom section table → after ≡ take permanent tables
     ++ table
     ∷ [] → All (IsParsedFrom section) after
-stand-behind section tables after kept table all one is =
+stand-behind section tables after permanent table all one is =
     subst (λ (ts : List Table). All (IsParsedFrom section) ts) (sym is)
-    (All-append (IsParsedFrom section) (take kept tables) (table ∷ [])
-    (All-take (IsParsedFrom section) kept tables all)
+    (All-append (IsParsedFrom section) (take permanent tables) (table ∷ [])
+    (All-take (IsParsedFrom section) permanent tables all)
     (All-cons (IsParsedFrom section) table [] one (All-nil (IsParsedFrom section))))
 
 pub behind-at : (before after : List Table) (number : ℕ) (table : Table)

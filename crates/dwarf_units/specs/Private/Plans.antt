@@ -186,18 +186,18 @@ Fills (Err cause) left read old new = Fails cause (read old.bytes old.place)
 
 -- The steps that store the used attributes, and the steps that store none.
 pub record Planned : Type 0 where
-  pub kept : List AttributeStep
-  pub passed : List AttributeStep
+  pub stored : List AttributeStep
+  pub skipped : List AttributeStep
 
 abbrev pub plan_of : Format → List AttributeSpecification → Planned
 plan_of format declared = record {
-  kept = steps_of true format declared;
-  passed = steps_of false format declared;
+  stored = steps_of true format declared;
+  skipped = steps_of false format declared;
 }
 
 -- The number of steps of a plan.
 abbrev pub plan_len : Planned → ℕ
-plan_len plan = length plan.kept + length plan.passed
+plan_len plan = length plan.stored + length plan.skipped
 
 -- The table of declarations at an offset, for units of a format.
 pub record Table : Type 0 where

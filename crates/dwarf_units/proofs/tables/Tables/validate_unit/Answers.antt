@@ -11,11 +11,11 @@ returns-in-Some-clause-limit c = subst IsWithinLimit c.self.view_is
 pub returns-clause-stays : goal.returns-clause-stays
 returns-clause-stays c =
     (stays-behind c.args.self.now c.add.new.self c.args.unit.now c.args.left.now c.add.new.left _
-    (subst (λ (k : CachedTables). k.kept ≤ length k.tables) c.self.view_is
-    c.self.invariant.kept.within) c.requires c.in_ok-add.ensures.ok).0
+    (subst (λ (k : CachedTables). k.permanent ≤ length k.tables) c.self.view_is
+    c.self.invariant.permanent.within) c.requires c.in_ok-add.ensures.ok).0
 
 pub returns-clause-grows : goal.returns-clause-grows
 returns-clause-grows c =
     (stays-behind c.args.self.now c.add.new.self c.args.unit.now c.args.left.now c.add.new.left _
-    (subst (λ (k : CachedTables). k.kept ≤ length k.tables) c.self.view_is
-    c.self.invariant.kept.within) c.requires c.in_ok-add.ensures.ok).1
+    (subst (λ (k : CachedTables). k.permanent ≤ length k.tables) c.self.view_is
+    c.self.invariant.permanent.within) c.requires c.in_ok-add.ensures.ok).1
