@@ -5,7 +5,7 @@ use Rattle.std.specs.Prelude.{Option, None, Some, Ok, Err, is_some, position, in
 use Rattle.std.proofs.lemmas.Bool.{true≢false, leb-false}
 use Rattle.std.proofs.lemmas.List.{length-map, get_or_default}
 use Rattle.module_map.specs.World.{most_modules, World, Loaded, start_of, end_of, is_named}
-use Rattle.module_map.specs.World.{moved_to, placed}
+use Rattle.module_map.specs.World.{moved_to, insert_by_address}
 use Rattle.module_map.specs.Changes.{is_full, is_taken, place_fault, IsExtentOf, Moves}
 use Rattle.module_map.specs.declared.faults.Extent.{Extent}
 use Rattle.module_map.specs.declared.faults.MapFault.TheVariants.{Range, Overlap}
@@ -13,7 +13,7 @@ use Rattle.module_map.specs.Counts.{ModuleMap}
 use Rattle.module_map.specs.Private.Serials.{NumberedModule, loaded_of}
 use Rattle.module_map.specs.Private.Rising.{IsClear, Overlaps, IsOnly, relocated, rebased}
 use Rattle.module_map.proofs.Names.{all-fail}
-use Rattle.module_map.proofs.Worlds.{any_is, placed-in, met_is, nothing_met, overlap-fault}
+use Rattle.module_map.proofs.Worlds.{any_is, insert-clear, met_is, nothing_met, overlap-fault}
 use Rattle.module_map.proofs.Worlds.{no_place-fault}
 use Rattle.module_map.proofs.Changing.{world_of, named, moved_past, moved_over, moved_into}
 
@@ -140,10 +140,10 @@ module _ (hs : List NumberedModule) (loads : ℕ) (m : Loaded) (len low high : �
   pub kept-there : (hs' : List NumberedModule) (at serial : ℕ) (h : NumberedModule)
       → h ≡ record { serial = serial; loaded = m }
       → start_of m < end_of m → IsClear hs len low high at → hs' ≡ insert hs at h
-      → map loaded_of hs' ≡ placed m (map loaded_of hs)
+      → map loaded_of hs' ≡ insert_by_address m (map loaded_of hs)
   kept-there hs' at serial h is order clear new =
       ap (map loaded_of) (new ∙ ap (insert hs at) is)
-      ∙ sym (placed-in hs at (record { serial = serial; loaded = m }) (clear_all at clear) order)
+      ∙ sym (insert-clear hs at (record { serial = serial; loaded = m }) (clear_all at clear) order)
 
 -- the same state with an equal list of modules
 pub same-but-modules : (l l' : List Loaded) (loads cached capacity compares decoded : ℕ) → l ≡ l'

@@ -9,7 +9,7 @@ use Rattle.std.specs.Str.{bytes_eq}
 use Rattle.std.proofs.lemmas.Bool.{cases_lt, lt-ltb, ltb-true, false_from_ne_true}
 use Rattle.std.proofs.lemmas.List.Quantifiers.{position-Some}
 use Rattle.std.proofs.lemmas.Slice.Eq.{bytes_eq-Decides}
-use Rattle.module_map.specs.World.{Loaded, start_of, end_of, is_named, meets, placed, without}
+use Rattle.module_map.specs.World.{Loaded, start_of, end_of, is_named, meets, insert_by_address, without}
 use Rattle.module_map.specs.World.{first_overlap}
 use Rattle.module_map.specs.Changes.{place_fault}
 use Rattle.module_map.specs.declared.faults.MapFault.TheVariants.{Range, Overlap}
@@ -99,26 +99,26 @@ slice_get_past (h ∷ hs) (suc i) le = slice_get_past hs i (omega arith)
 not-below : (a b : ℕ) → b ≤ a → nat_lt a b ≡ false
 not-below a b le = false_from_ne_true (nat_lt a b) (λ e. let lt = ltb-true a b e in omega arith)
 
-pub placed-at : (hs : List NumberedModule) (at : ℕ) (h : NumberedModule) → at ≤ length hs
+pub insert-at : (hs : List NumberedModule) (at : ℕ) (h : NumberedModule) → at ≤ length hs
     → ((k : ℕ) (d : NumberedModule) → k < at → start_of (get_or hs k d).loaded < start_of h.loaded)
     → ((d : NumberedModule) → at < length hs → start_of h.loaded ≤ start_of (get_or hs at d).loaded)
-    → placed h.loaded (map loaded_of hs) ≡ map loaded_of (insert hs at h)
-placed-at [] zero h le before after = refl
-placed-at [] (suc at) h le before after = absurd (omega arith)
-placed-at (x ∷ xs) zero h le before after =
+    → insert_by_address h.loaded (map loaded_of hs) ≡ map loaded_of (insert hs at h)
+insert-at [] zero h le before after = refl
+insert-at [] (suc at) h le before after = absurd (omega arith)
+insert-at (x ∷ xs) zero h le before after =
     rw (not-below (start_of x.loaded) (start_of h.loaded) (after x (omega arith))) refl
-placed-at (x ∷ xs) (suc at) h le before after =
+insert-at (x ∷ xs) (suc at) h le before after =
     rw (lt-ltb (start_of x.loaded) (start_of h.loaded) (before 0 x (omega arith)))
     (ap (λ (l : List Loaded). x.loaded ∷ l)
-    (placed-at xs at h (omega arith) (λ k d lt. before (suc k) d (omega arith))
+    (insert-at xs at h (omega arith) (λ k d lt. before (suc k) d (omega arith))
     (λ d lt. after d (omega arith))))
 
 -- inserting a module into a gap is inserting it in ascending order of address
-pub placed-in : (hs : List NumberedModule) (at : ℕ) (h : NumberedModule)
+pub insert-clear : (hs : List NumberedModule) (at : ℕ) (h : NumberedModule)
     → IsClear hs (length hs) (start_of h.loaded) (end_of h.loaded) at
     → start_of h.loaded < end_of h.loaded
-    → placed h.loaded (map loaded_of hs) ≡ map loaded_of (insert hs at h)
-placed-in hs at h clear order = let within = clear.within in placed-at hs at h within
+    → insert_by_address h.loaded (map loaded_of hs) ≡ map loaded_of (insert hs at h)
+insert-clear hs at h clear order = let within = clear.within in insert-at hs at h within
     (λ k d lt. clear.under k d lt (inl (omega arith)))
     (λ d lt. let a = clear.after at d (omega arith) lt (inl lt) in omega arith)
 

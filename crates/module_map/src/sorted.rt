@@ -6,7 +6,7 @@ ghost use Rattle.std.specs.Prelude.{slice_index_or};
 ghost use Rattle.addr_table.specs.Steps.{counted, bits};
 ghost use Rattle.addr_table.specs.Module.{high_of};
 ghost use Rattle.module_map.specs.World.{is_named, holds, start_of, end_of, moved_to, AreRising};
-ghost use Rattle.module_map.specs.Listing.{listed};
+ghost use Rattle.module_map.specs.Listing.{list_item};
 ghost use Rattle.module_map.specs.Private.Serials.{NumberedModule, loaded_of};
 ghost use Rattle.module_map.specs.Private.Rising.{CountsStarted, IsClear, Overlaps, IsOnly};
 ghost use Rattle.module_map.specs.Private.Rising.{IsNext, relocated, rebased};
@@ -102,7 +102,7 @@ impl SortedModules {
 
     /// Returns an iterator over the modules.
     pub fn list(&self) -> Listing<'_>
-        ensures modules { result ≡ map (λ h. listed h.loaded) self.now }
+        ensures modules { result ≡ map (λ h. list_item h.loaded) self.now }
         ensures rising { AreRising (map loaded_of self.now) }
     {
         Listing::new(self.list.as_slice())
