@@ -74,7 +74,8 @@ impl Cause {
         }
     }
 
-    /// Returns the word of a cause of ranges or line programs, or an empty text for any other.
+    /// Returns the word of a cause of ranges or line programs, or an empty string for any
+    /// other.
     fn range_or_line_word(self) -> &'static str
         ensures { result.now ≡ range_or_line_word self }
     {

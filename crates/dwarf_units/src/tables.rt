@@ -100,7 +100,9 @@ impl<'a> Tables<'a> {
         ensures grows { OnOk result ((rest : List Table) × (take self.new.permanent self.new.tables
             ≡ take self.old.permanent self.old.tables ++ rest)) }
     {
-        let _ = &self.store; // what stays is bounded, also where no table is read
+        // Using a field gives the prover the invariant of the type, which bounds the cached tables.
+        // It is needed if no table is read.
+        let _ = &self.store;
         if let Some(len) = self.cached_len(unit, *left) {
             *left -= len;
             return Ok(());

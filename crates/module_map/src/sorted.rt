@@ -96,7 +96,8 @@ impl SortedModules {
         ensures place { result ≡ position (λ h. is_named name.now h.loaded) self.now }
         ensures only { IfSome result (IsOnly self.now name.now) }
     {
-        let _ = &self.list; // a field that is used lends the invariant of the type
+        // Using a field gives the prover the invariant of the type.
+        let _ = &self.list;
         self.first_of(name)
     }
 
@@ -150,7 +151,8 @@ impl SortedModules {
         ensures counted { (n : ℕ) × (n ≤ bits (length self.now) + 1) × OnSome result (2 ≤ n)
             × (steps.new ≡ counted n steps.old) }
     {
-        let _ = &self.list; // a field that is used lends the invariant of the type
+        // Using a field gives the prover the invariant of the type.
+        let _ = &self.list;
         let started = self.count_started(address, steps);
         if started == 0 {
             return None;
@@ -169,7 +171,8 @@ impl SortedModules {
         ensures { MatchResult result (IsClear self.now own extent.low extent.high)
             (Overlaps self.now own extent.low extent.high) }
     {
-        let _ = &self.list; // a field that is used lends the invariant of the type
+        // Using a field gives the prover the invariant of the type.
+        let _ = &self.list;
         let len = self.len();
         let mut uncounted = Steps::default();
         let started = self.count_started(extent.low, &mut uncounted);
