@@ -30,12 +30,12 @@ stands place k = k.place == place
 -- ---- indexes
 
 -- the invariant for the attribute with an index
-pub good-at : (section : List ℕ) (memoized seen : List MemoizedAttribute) (places : BTreeMap ℕ ℕ)
+pub valid-at : (section : List ℕ) (memoized seen : List MemoizedAttribute) (places : BTreeMap ℕ ℕ)
     (sets : List Branch) (number : ℕ) (k : MemoizedAttribute) → AreMemoized section memoized
     places sets
     → memoized ≡ seen → number < length seen → k ≡ get_or memoized number k
     → IsValidMemo section seen places sets number k
-good-at section memoized seen places sets number k are view lt is =
+valid-at section memoized seen places sets number k are view lt is =
     let within : number < length memoized = omega (arith, lt, ap length view) in
     subst (λ (ks : List MemoizedAttribute). IsValidMemo section ks places sets number k) view
     (are.each number k (slice_get_read memoized (length memoized) number k refl within is))

@@ -18,10 +18,11 @@ pub stretch-of : {X : Type 0} (Encodes : List ℕ → X → Type 0) (bytes : Lis
     (next : ℕ) (s : IsEncodedAt Encodes bytes at value next) → Stretch bytes at s.front next s.rest
 stretch-of Encodes bytes at value next s = record { parts = s.parts; next_is = s.next_is }
 
-pub stands-from : {X : Type 0} (Encodes : List ℕ → X → Type 0) (bytes : List ℕ) (at : ℕ) (value : X)
+pub encoded-from : {X : Type 0} (Encodes : List ℕ → X → Type 0) (bytes : List ℕ) (at : ℕ)
+    (value : X)
     (next : ℕ) (front rest : List ℕ) → Stretch bytes at front next rest → Encodes front value
     → IsEncodedAt Encodes bytes at value next
-stands-from Encodes bytes at value next front rest s encoded =
+encoded-from Encodes bytes at value next front rest s encoded =
     record { front = front; rest = rest; encoded = encoded; parts = s.parts; next_is = s.next_is }
 
 -- the bytes after a range start at its end
@@ -90,10 +91,10 @@ unfolding fixed_at
 fixed-again n bytes at block next rest s len fits =
     rw (block-again n bytes at block next rest s len fits) refl
 
-pub fixed-stands : (n : ℕ) (bytes : List ℕ) (at : ℕ) (read : ℕ × ℕ) → fixed_at n bytes at ≡ Ok read
+pub fixed-encoded : (n : ℕ) (bytes : List ℕ) (at : ℕ) (read : ℕ × ℕ) → fixed_at n bytes at ≡ Ok read
     → (block : List ℕ) × Stretch bytes at block read.1 (drop n (drop at bytes)) × (length block ≡ n)
     × (read.0 ≡ little_endian block)
-fixed-stands n bytes at read h =
+fixed-encoded n bytes at read h =
     let moved = fixed_at-moves n bytes at read h in
     let value : read.0 ≡ little_endian (take n (drop at bytes)) = ap (λ (r : ℕ × ℕ). r.0) moved.1 in
     let place : read.1 ≡ at + n = ap (λ (r : ℕ × ℕ). r.1) moved.1 in

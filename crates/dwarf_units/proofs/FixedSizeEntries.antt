@@ -31,28 +31,28 @@ use Rattle.dwarf_units.specs.Private.FixedSizeHeads.{precomputed_codes, skipped_
 use Rattle.dwarf_units.specs.Private.FixedSizeHeads.{fixed_size_head, fixed_size_of}
 use Rattle.dwarf_units.specs.Private.Plans.{Table, stored_attributes, steps_at, steps_of}
 use Rattle.dwarf_units.specs.Private.SharedTables.{SharedTable, full_table}
-use Rattle.dwarf_units.proofs.JoinedSteps.{skip-within}
+use Rattle.dwarf_units.proofs.MergedSteps.{skip-within}
 use Rattle.dwarf_units.proofs.PlanLaws.{stored-is}
 use Rattle.dwarf_units.proofs.SharedTableLaws.{found-full}
 
 -- ---- the heads by code
 
 -- The heads of the first codes.
-pub record PlainSoFar (format : Format) (declarations : List SharedDeclaration) (place : ℕ)
+pub record HeadsSoFar (format : Format) (declarations : List SharedDeclaration) (place : ℕ)
     (heads : List (Option FixedSizeHead)) : Type 0 where
   pub len : length heads ≡ place
   pub each : (k : ℕ) (head : Option FixedSizeHead) → slice_get heads k ≡ Some head
       → head ≡ fixed_size_head format declarations (k + 1)
 
 pub fixed_size-none : (format : Format) (declarations : List SharedDeclaration)
-    → PlainSoFar format declarations 0 []
+    → HeadsSoFar format declarations 0 []
 fixed_size-none format declarations = record { len = refl; each = λ k head at. cc }
 
 pub fixed_size-more : (format : Format) (declarations : List SharedDeclaration) (place : ℕ)
     (heads : List (Option FixedSizeHead)) (head : Option FixedSizeHead)
-    → PlainSoFar format declarations place heads → head ≡ fixed_size_head format declarations
+    → HeadsSoFar format declarations place heads → head ≡ fixed_size_head format declarations
     (place + 1)
-    → PlainSoFar format declarations (place + 1) (heads ++ head ∷ [])
+    → HeadsSoFar format declarations (place + 1) (heads ++ head ∷ [])
 fixed_size-more format declarations place heads head so_far is = record {
   len = omega (arith, so_far.len, length-append heads (head ∷ []));
   each = λ k other at. by_place k other (at-last heads head other k at);
@@ -67,7 +67,7 @@ fixed_size-more format declarations place heads head so_far is = record {
         ∙ so_far.len)))
 
 pub fixed_size-all : (format : Format) (declarations : List SharedDeclaration) (place : ℕ)
-    (heads : List (Option FixedSizeHead)) → PlainSoFar format declarations place heads
+    (heads : List (Option FixedSizeHead)) → HeadsSoFar format declarations place heads
     → place ≡ precomputed_codes declarations → AreFixedSize format declarations heads
 fixed_size-all format declarations place heads so_far all =
     record { len = so_far.len ∙ all; each = so_far.each }
@@ -149,7 +149,7 @@ same-entry : (t u : ℕ) (b c : Bool) (attributes : List Attribute) (after : ℕ
     f (Entry t b attributes, after) ≡ f (Entry u c attributes, after))
 same-entry t u b c attributes after tag children = rw (tag, children) refl
 
-pub fixed_size-stands : (memoized : List MemoizedAttribute) (shared : SharedTable) (table : Table)
+pub fixed_size-node : (memoized : List MemoizedAttribute) (shared : SharedTable) (table : Table)
     (depth code : ℕ) (unit : List ℕ) (at : ℕ) (head : FixedSizeHead) → full_table memoized shared
     ≡ table
     → fixed_size_head shared.format shared.declarations code ≡ Some head → 0 < code → code
@@ -157,7 +157,7 @@ pub fixed_size-stands : (memoized : List MemoizedAttribute) (shared : SharedTabl
     → slice_get unit at ≡ Some code
     → 0 < depth → depth ≤ depth_limit → at + 1 + head.len ≤ length unit
     → IsFixedSizeNode table depth unit at (head, at + 1 + head.len)
-fixed_size-stands memoized shared table depth code unit at head view is some small there below
+fixed_size-node memoized shared table depth code unit at head view is some small there below
     within fits =
     subst (λ (t : Table). IsFixedSizeNode t depth unit at (head, at + 1 + head.len)) view
     (by_found (find (λ d. d.code == code) shared.declarations) refl is)

@@ -14,11 +14,12 @@ use Rattle.dwarf_units.specs.Private.Tables.{IsAdded, IsParsedFrom, IsAt, Cached
 use Rattle.dwarf_units.specs.Private.Tables.{IsCachedOrTooLarge, with_table, size_limit}
 use Rattle.dwarf_units.specs.Units.{declarations_limit}
 use Rattle.dwarf_units.proofs.StoredLaws.{take_all, take-front}
-use Rattle.dwarf_units.proofs.TableLaws.{stands-read, behind-at}
+use Rattle.dwarf_units.proofs.TableLaws.{parsed-at, last-at}
 
 -- Permanently cached tables are only appended to.
 abbrev pub Grows : CachedTables → CachedTables → Type 0
-Grows old new = (rest : List Table) × (take new.permanent new.tables ≡ take old.permanent old.tables ++ rest)
+Grows old new = (rest : List Table)
+    × (take new.permanent new.tables ≡ take old.permanent old.tables ++ rest)
 
 append-none : (xs : List Table) → xs ≡ xs ++ []
 append-none [] = refl
@@ -37,7 +38,8 @@ stays-on old new unit grows same (table, at, stands, is) =
     (table, at, subst (λ (s : List ℕ). IsParsedFrom s table) (sym same) stands, by_case is)
   where
     by_case : ((number : ℕ) × (slice_get (take old.permanent old.tables) number ≡ Some table))
-        ⊎ (size_limit old.section < sum_by table_size (take old.permanent old.tables) + table_size table)
+        ⊎ (size_limit old.section < sum_by table_size (take old.permanent old.tables) + table_size
+        table)
         → ((number : ℕ) × (slice_get (take new.permanent new.tables) number ≡ Some table))
         ⊎ (size_limit new.section < sum_by table_size (take new.permanent new.tables) + table_size
         table)
@@ -68,7 +70,8 @@ stays-with old unit table within at stands =
     gt : (a b : ℕ) → nat_le a b ≡ false → b < a
     gt a b h = grind (arith, common_steps)
 
-    by_test : (before : List Table) → length before ≡ old.permanent → before ≡ take old.permanent old.tables
+    by_test : (before : List Table) → length before ≡ old.permanent → before
+        ≡ take old.permanent old.tables
         → (b : Bool) → nat_le (sum_by table_size (before ++ table ∷ [])) (size_limit old.section)
         ≡ b
         → (let new : CachedTables = record {
@@ -88,7 +91,7 @@ stays-with old unit table within at stands =
             inl (
               length before,
               ap (λ (ts : List Table). slice_get ts (length before)) whole
-                  ∙ behind-at before tables (length before) table refl refl,
+                  ∙ last-at before tables (length before) table refl refl,
             ),
           ),
           (table ∷ [], whole ∙ ap (λ (ts : List Table). ts ++ table ∷ []) is),
@@ -106,13 +109,13 @@ stays-with old unit table within at stands =
         )
 
 -- The same for a table that was parsed for the unit.
-pub stays-behind : (old new : CachedTables) (unit : UnitHeader) (budget left number : ℕ)
+pub stays-parsed : (old new : CachedTables) (unit : UnitHeader) (budget left number : ℕ)
     → old.permanent ≤ length old.tables → budget ≤ declarations_limit
     → IsAdded unit.format unit.abbreviations budget left old new number
     → IsCachedOrTooLarge new unit × Grows old new
-stays-behind old new unit budget left number within few added =
+stays-parsed old new unit budget left number within few added =
     let stands : IsParsedFrom old.section added.table =
-    stands-read old.section budget added.table unit.abbreviations added.at.0 added.read
+    parsed-at old.section budget added.table unit.abbreviations added.at.0 added.read
     (omega (arith, added.counted, few)) in
     subst (λ (k : CachedTables). IsCachedOrTooLarge k unit × Grows old k) (sym added.added)
     (stays-with old unit added.table within added.at stands)

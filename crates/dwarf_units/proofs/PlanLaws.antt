@@ -18,8 +18,8 @@ use Rattle.dwarf_units.specs.Private.Plans.{stored_attributes, stored_attributes
 use Rattle.dwarf_units.specs.Private.Plans.{steps_of, step_at, steps_at, prepend_attributes}
 use Rattle.dwarf_units.proofs.EntryAdvances.{attribute-stays}
 use Rattle.dwarf_units.proofs.PlanSteps.{step-is}
-use Rattle.dwarf_units.proofs.JoinedSteps.{prepend_attributes-none, prepend_attributes-twice}
-use Rattle.dwarf_units.proofs.JoinedSteps.{before-is}
+use Rattle.dwarf_units.proofs.MergedSteps.{prepend_attributes-none, prepend_attributes-twice}
+use Rattle.dwarf_units.proofs.MergedSteps.{before-is}
 
 -- ---- the attributes that are stored
 
@@ -51,7 +51,8 @@ filter-cons p x xs false h = rw h refl
 stored-cons : (keep : Bool) (name : ℕ) (a : Attribute) (rest : List Attribute) → a.name ≡ name
     → cond (keep && is_used name) (a ∷ []) [] ++ stored_attributes keep rest
     ≡ stored_attributes keep (a ∷ rest)
-stored-cons true name a rest h = filter-cons (λ (b : Attribute). is_used b.name) a rest (is_used name)
+stored-cons true name a rest h =
+    filter-cons (λ (b : Attribute). is_used b.name) a rest (is_used name)
     (ap is_used h)
 stored-cons false name a rest h = refl
 

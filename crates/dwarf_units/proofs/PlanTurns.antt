@@ -18,7 +18,7 @@ use Rattle.dwarf_units.specs.Private.Plans.{step_before, steps_of, Fills}
 use Rattle.dwarf_units.specs.Private.Used.{Used, used_among, with_used, used_after}
 use Rattle.dwarf_units.specs.Private.Used.{used_attributes_at}
 use Rattle.dwarf_units.proofs.PlanLaws.{stored-is, steps-both}
-use Rattle.dwarf_units.proofs.UsedLaws.{among-behind, with-none, with-twice}
+use Rattle.dwarf_units.proofs.UsedLaws.{among-append, with-none, with-twice}
 
 -- The attributes stored so far, completed by those that the remaining steps store, are the whole
 -- result.
@@ -98,7 +98,7 @@ stored-end format left bytes used place whole none so_far =
 -- Attributes that are added to an empty set are all of the result.
 used-first : (r : Result (List Attribute × ℕ) Cause) → used_after (used_among []) r
     ≡ (r >>= λ stored. Ok (used_among stored.0, stored.1))
-used-first (Ok stored) = ap (λ all. Ok (all, stored.1)) (among-behind [] stored.0)
+used-first (Ok stored) = ap (λ all. Ok (all, stored.1)) (among-append [] stored.0)
 used-first (Err e) = refl
 
 -- The unshared attributes, completed by the shared ones.
@@ -109,7 +109,8 @@ both-is : (keep : Bool) (format : Format) (own rest : List AttributeSpecificatio
     ≡ (here >>= λ next. used_after next.0
     (steps_at format (steps_of keep format rest) bytes next.1))
 both-is keep format own rest bytes first here within is =
-    ap (λ (r : Result (List Attribute × ℕ) Cause). r >>= λ stored. Ok (used_among stored.0, stored.1))
+    ap (λ (r : Result (List Attribute × ℕ) Cause). r >>=
+    λ stored. Ok (used_among stored.0, stored.1))
     (sym (stored-is keep format (own ++ rest) bytes first within)
     ∙ steps-both keep format own rest bytes first)
     ∙ (by_own (steps_at format (steps_of keep format own) bytes first)

@@ -23,23 +23,23 @@ use Rattle.dwarf_units.specs.Private.Tables.{IsWithinLimit, CachedTables, IsPars
 use Rattle.dwarf_units.specs.Private.Tables.{with_table}
 use Rattle.dwarf_units.proofs.MoreTables.{elsewhere-as}
 use Rattle.dwarf_units.proofs.SharedTableLaws.{readable-grows, tables-stay}
-use Rattle.dwarf_units.proofs.TableLaws.{behind-at, stands-read}
+use Rattle.dwarf_units.proofs.TableLaws.{last-at, parsed-at}
 
 -- ---- a shorter list of tables, and one more table appended
 
-pub resolved-before : (memoized : List MemoizedAttribute) (tables after : List SharedTable)
+pub resolved-taken : (memoized : List MemoizedAttribute) (tables after : List SharedTable)
     (permanent : ℕ)
     → after ≡ take permanent tables → full_tables memoized after
     ≡ take permanent (full_tables memoized tables)
-resolved-before memoized tables after permanent is =
+resolved-taken memoized tables after permanent is =
     ap (full_tables memoized) is ∙ sym (take-map (full_table memoized) permanent tables)
 
-pub resolved-behind : (memoized : List MemoizedAttribute) (tables after : List SharedTable)
+pub resolved-more : (memoized : List MemoizedAttribute) (tables after : List SharedTable)
     (permanent : ℕ)
     (table : SharedTable) → after ≡ take permanent tables ++ table ∷ []
     → full_tables memoized after ≡ take permanent (full_tables memoized tables)
     ++ full_table memoized table ∷ []
-resolved-behind memoized tables after permanent table is =
+resolved-more memoized tables after permanent table is =
     ap (full_tables memoized) is
     ∙ (map-append (full_table memoized) (take permanent tables) (table ∷ [])
     ∙ ap (λ (ts : List Table). ts ++ full_table memoized table ∷ [])
@@ -51,20 +51,20 @@ pub resolved-at : (memoized : List MemoizedAttribute) (tables after : List Share
     → number ≡ length (take permanent tables) → slice_get (full_tables memoized after) number
     ≡ Some (full_table memoized table)
 resolved-at memoized tables after permanent number table is at =
-    behind-at (take permanent (full_tables memoized tables)) (full_tables memoized after) number
-    (full_table memoized table) (resolved-behind memoized tables after permanent table is)
+    last-at (take permanent (full_tables memoized tables)) (full_tables memoized after) number
+    (full_table memoized table) (resolved-more memoized tables after permanent table is)
     (at ∙ (sym (length-map (take permanent tables) (full_table memoized))
     ∙ ap length (sym (take-map (full_table memoized) permanent tables))))
 
-pub readable-before : (lists : LinkedPlaces) (tables after : List SharedTable) (permanent : ℕ)
+pub readable-taken : (lists : LinkedPlaces) (tables after : List SharedTable) (permanent : ℕ)
     → All (IsReadable lists) tables → after ≡ take permanent tables → All (IsReadable lists) after
-readable-before lists tables after permanent all is =
+readable-taken lists tables after permanent all is =
     subst (All (IsReadable lists)) (sym is) (All-take (IsReadable lists) permanent tables all)
 
-pub readable-behind : (lists : LinkedPlaces) (tables after : List SharedTable) (permanent : ℕ)
+pub readable-more : (lists : LinkedPlaces) (tables after : List SharedTable) (permanent : ℕ)
     (table : SharedTable) → All (IsReadable lists) tables → IsReadable lists table
     → after ≡ take permanent tables ++ table ∷ [] → All (IsReadable lists) after
-readable-behind lists tables after permanent table all one is =
+readable-more lists tables after permanent table all one is =
     subst (All (IsReadable lists)) (sym is)
     (All-append (IsReadable lists) (take permanent tables) (table ∷ [])
     (All-take (IsReadable lists) permanent tables all)
@@ -116,7 +116,7 @@ is-new old new store view table format offset left grows are same readable at re
     ≡ Ok resolved.declarations = subst (λ (s : List ℕ). in_section sections.DebugAbbrev
     (declarations_of left s offset) ≡ Ok resolved.declarations) section read in
     let stands : IsParsedFrom old.places.section resolved =
-    stands-read old.places.section left resolved offset at.0 read
+    parsed-at old.places.section left resolved offset at.0 read
     (omega (arith, few, length-map table.declarations (full_by new))) in
     let tables : view.tables ≡ full_tables new.places.memoized store.tables.items =
     ap (λ (k : CachedTables). k.tables) (sym same ∙ sym (seen-grows old new store grows are)) in

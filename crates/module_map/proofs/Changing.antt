@@ -3,7 +3,8 @@ use Rattle.std.proofs.Common.{◌≡◌, ℕ, ◌-◌, ◌^◌, ◌<◌, ◌≤�
 use Rattle.std.proofs.Common.{get_or, refl, sym, ap, ◌∙◌, subst}
 use Rattle.std.specs.Prelude.{None, Some, Ok, Err, is_some, position, find, remove, nat_le}
 use Rattle.std.specs.Prelude.{if◌then◌else◌}
-use Rattle.module_map.specs.World.{World, Loaded, start_of, end_of, is_named, moved_to, insert_by_address}
+use Rattle.module_map.specs.World.{World, Loaded, start_of, end_of, is_named, moved_to}
+use Rattle.module_map.specs.World.{insert_by_address}
 use Rattle.module_map.specs.World.{without}
 use Rattle.module_map.specs.Changes.{place_fault, move_fault, IsMoved, IsExtentOf, Unloads, Moves}
 use Rattle.module_map.specs.declared.faults.Extent.{Extent}
@@ -97,7 +98,8 @@ module _ (hs : List NumberedModule) (loads : ℕ) (name : List ℕ) where
 
         there : insert_by_address m (without (get_or hs own d).loaded.name (map loaded_of hs))
             ≡ map loaded_of (relocated hs own at (rebased base (get_or hs own d)))
-        there = ap (λ (n : List ℕ). insert_by_address m (without n (map loaded_of hs))) (only.here d)
+        there = ap (λ (n : List ℕ). insert_by_address m (without n (map loaded_of hs)))
+            (only.here d)
             ∙ ap (insert_by_address m) (without-is name hs own only)
             ∙ insert-clear (remove hs own) (if nat_le at own then at else at - 1)
             (rebased base (get_or hs own d))

@@ -9,7 +9,8 @@ use Rattle.std.specs.Str.{bytes_eq}
 use Rattle.std.proofs.lemmas.Bool.{cases_lt, lt-ltb, ltb-true, false_from_ne_true}
 use Rattle.std.proofs.lemmas.List.Quantifiers.{position-Some}
 use Rattle.std.proofs.lemmas.Slice.Eq.{bytes_eq-Decides}
-use Rattle.module_map.specs.World.{Loaded, start_of, end_of, is_named, meets, insert_by_address, without}
+use Rattle.module_map.specs.World.{Loaded, start_of, end_of, is_named, meets, insert_by_address}
+use Rattle.module_map.specs.World.{without}
 use Rattle.module_map.specs.World.{first_overlap}
 use Rattle.module_map.specs.Changes.{place_fault}
 use Rattle.module_map.specs.declared.faults.MapFault.TheVariants.{Range, Overlap}

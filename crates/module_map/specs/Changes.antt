@@ -39,7 +39,8 @@ load_fault world m short =
     else object_fault (fault_of m.bytes) (place_fault m world.modules)))
 
 abbrev pub with_module : World → Loaded → World
-with_module world m = record { modules = insert_by_address m world.modules; loads = world.loads + 1 }
+with_module world m =
+    record { modules = insert_by_address m world.modules; loads = world.loads + 1 }
 
 abbrev pub IsExtentOf : Extent → Loaded → Type 0
 IsExtentOf extent m = (extent.low ≡ start_of m) × (extent.high ≡ end_of m)

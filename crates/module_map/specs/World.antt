@@ -45,7 +45,8 @@ meets m other = nat_lt (start_of m) (end_of other) && nat_lt (start_of other) (e
 abbrev pub insert_by_address : Loaded → List Loaded → List Loaded
 insert_by_address m [] = m ∷ []
 insert_by_address m (other ∷ others) =
-    if nat_lt (start_of other) (start_of m) then other ∷ insert_by_address m others else m ∷ other ∷ others
+    if nat_lt (start_of other) (start_of m) then other ∷ insert_by_address m others
+    else m ∷ other ∷ others
 
 -- the modules with other names
 abbrev pub without : List ℕ → List Loaded → List Loaded

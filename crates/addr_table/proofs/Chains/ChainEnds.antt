@@ -15,7 +15,7 @@ use Rattle.addr_table.specs.Frames.{place_chain}
 use Rattle.addr_table.specs.Private.Parents.{enclosing_at, IsParent}
 use Rattle.addr_table.specs.Private.Walks.{HaveParents, parent_code, chain_at, top_at}
 use Rattle.addr_table.specs.Private.Walks.{search_start_of, IsWalk}
-use Rattle.addr_table.proofs.Chains.ParentWalkLaws.{held-none, held-some, number_in}
+use Rattle.addr_table.proofs.Chains.ParentWalkLaws.{chain-none, chain-some, number_in}
 
 -- ---- whether scopes remain
 
@@ -38,7 +38,7 @@ left-none scopes codes a code top h none = elim h.ends [
         → number_in o ≡ Some top → code ≡ 0
     by None f t = cc
     by (Some s) f t =
-        let held = held-some a (enclosing_at scopes code) s f in
+        let held = chain-some a (enclosing_at scopes code) s f in
         absurd (filled s held.0 (ap (reverse {A = Scope}) (sym held.1) ∙ none))
 
 -- ---- the start
@@ -78,7 +78,7 @@ search_start-within count (Some number) = elim (cases_lt number count) [
 -- without an outermost scope the chain is empty
 pub no-chain : (a : ℕ) (scopes : List Scope) (code : ℕ) → top_at a scopes code ≡ None
     → chain_at a scopes code ≡ []
-no-chain a scopes code h = held-none a (enclosing_at scopes code)
+no-chain a scopes code h = chain-none a (enclosing_at scopes code)
     (by (find (is_at Subprogram a) (enclosing_at scopes code)) h)
   where
     by : (o : Option Scope) → number_in o ≡ None → o ≡ None
@@ -107,7 +107,8 @@ code-before None n none = let under : ¬ (1 ≤ n) = none in omega arith
 code-before (Some k) n h = let some : 1 ≤ n = h.0 in let is : k ≡ n - 1 = h.1 in omega arith
 
 pub code-below : (scope : Option ℕ) (k n : ℕ) → scope ≡ Some k → parent_code scope ≤ n → k < n
-code-below scope k n is le = let code : parent_code scope ≡ suc k = code-some scope k is in omega arith
+code-below scope k n is le = let code : parent_code scope ≡ suc k =
+    code-some scope k is in omega arith
 
 -- with an outermost scope the chain is not empty
 pub some-chain : (a : ℕ) (scopes : List Scope) (code top : ℕ) → top_at a scopes code ≡ Some top
@@ -118,4 +119,4 @@ some-chain a scopes code top h = by (find (is_at Subprogram a) (enclosing_at sco
         → number_in o ≡ Some top
         → (s : Scope) × (inner : List Scope) × (chain_at a scopes code ≡ s ∷ inner)
     by None f t = cc
-    by (Some s) f t = let held = held-some a (enclosing_at scopes code) s f in (s, held.0, held.1)
+    by (Some s) f t = let held = chain-some a (enclosing_at scopes code) s f in (s, held.0, held.1)

@@ -15,8 +15,8 @@ use Rattle.addr_table.proofs.Chains.ParentLaws.{ends_past, later-enclose, is_bef
 use Rattle.addr_table.proofs.Chains.ParentLaws.{enclosing_at-before}
 
 -- ---- the state of the search: the scopes that enclose scope i are scope i itself, and the
--- candidate and its enclosing scopes that end after i. `code` is 1 + the number of the candidate, or 0
--- for none.
+-- candidate and its enclosing scopes that end after i. `code` is 1 + the number of the candidate,
+-- or 0 for none.
 
 pub record IsCandidate (scopes : List Scope) (i code : ℕ) : Type 0 where
   pub within : code ≤ i
@@ -35,7 +35,8 @@ candidate-first scopes i order lt = record {
       (enclosing_at-before i scopes (length scopes) order.numbered);
 }
 
-pub candidate-parent : (scopes : List Scope) (i k code : ℕ) (d : Scope) → IsCandidate scopes i (suc k)
+pub candidate-parent : (scopes : List Scope) (i k code : ℕ) (d : Scope)
+    → IsCandidate scopes i (suc k)
     → k < length scopes
     → IsParent scopes k code → (get_or scopes k d).«end» ≤ i → IsCandidate scopes i code
 candidate-parent scopes i k code d h lt parent ends =
@@ -47,7 +48,8 @@ candidate-parent scopes i k code d h lt parent ends =
     ≡ filter (ends_past i) (enclosing_at scopes code) =
     ap (filter (ends_past i)) (parent.enclosing_is d)
     ∙ (filter-append (ends_past i) (enclosing_at scopes code) (get_or scopes k d ∷ [])
-    ∙ (ap (λ (zs : List Scope). filter (ends_past i) (enclosing_at scopes code) ++ zs) one ∙ append-nil
+    ∙ (ap (λ (zs : List Scope). filter (ends_past i) (enclosing_at scopes code) ++ zs) one
+    ∙ append-nil
     (filter (ends_past i) (enclosing_at scopes code)))) in
     record {
       within = omega arith;

@@ -11,7 +11,7 @@ use Rattle.dwarf_entries.specs.Scopes.{Scope}
 use Rattle.addr_table.specs.Chains.{is_at, enclosing, chain_among}
 use Rattle.addr_table.specs.Private.Parents.{enclosing_at, IsParent}
 use Rattle.addr_table.specs.Private.Walks.{HaveParents, chain_at, top_at}
-use Rattle.addr_table.proofs.FrameWalks.FrameChains.{held-more, filtered-enclose}
+use Rattle.addr_table.proofs.FrameWalks.FrameChains.{chain-more, filtered-enclose}
 use Rattle.addr_table.proofs.Chains.ParentSearch.{number-there}
 
 -- ---- searches among scopes
@@ -47,10 +47,10 @@ find-all P p (x ∷ xs) t all h = cases (p x) h (find-all P p xs t all.1)
     cases true h rest = subst P (the-same h) all.0
     cases false h rest = rest h
 
-pub held-none : (a : ℕ) (xs : List Scope) → find (is_at Subprogram a) xs ≡ None
+pub chain-none : (a : ℕ) (xs : List Scope) → find (is_at Subprogram a) xs ≡ None
     → chain_among a xs ≡ []
-held-none a [] h = refl
-held-none a (s ∷ xs) h = cases (is_at Subprogram a s) h (held-none a xs)
+chain-none a [] h = refl
+chain-none a (s ∷ xs) h = cases (is_at Subprogram a s) h (chain-none a xs)
   where
     cases : (b : Bool) → cond b (Some s) (find (is_at Subprogram a) xs) ≡ None
         → (find (is_at Subprogram a) xs ≡ None → chain_among a xs ≡ [])
@@ -58,10 +58,10 @@ held-none a (s ∷ xs) h = cases (is_at Subprogram a s) h (held-none a xs)
     cases true h rest = cc
     cases false h rest = rest h
 
-pub held-some : (a : ℕ) (xs : List Scope) (t : Scope) → find (is_at Subprogram a) xs ≡ Some t
+pub chain-some : (a : ℕ) (xs : List Scope) (t : Scope) → find (is_at Subprogram a) xs ≡ Some t
     → (inner : List Scope) × (chain_among a xs ≡ t ∷ inner)
-held-some a [] t h = cc
-held-some a (s ∷ xs) t h = cases (is_at Subprogram a s) h (held-some a xs t)
+chain-some a [] t h = cc
+chain-some a (s ∷ xs) t h = cases (is_at Subprogram a s) h (chain-some a xs t)
   where
     cases : (b : Bool) → cond b (Some s) (find (is_at Subprogram a) xs) ≡ Some t
         → (find (is_at Subprogram a) xs ≡ Some t
@@ -116,7 +116,8 @@ step-top a scopes codes k code d have lt is top =
         (option_or (find (is_at Subprogram a) (enclosing_at scopes (get_or codes k 0)))
         (cond (is_at Subprogram a (get_or scopes k d)) (Some (get_or scopes k d)) None)) ≡ Some k
     top_here =
-        sym (ap number_in (found-more a (enclosing_at scopes (get_or codes k 0)) (get_or scopes k d)))
+        sym (ap number_in (found-more a (enclosing_at scopes (get_or codes k 0))
+        (get_or scopes k d)))
         ∙ (sym (ap (λ (xs : List Scope). number_in (find (is_at Subprogram a) xs)) split)
         ∙ subst (λ (n : ℕ). top_at a scopes n ≡ Some k) is top)
 
@@ -127,12 +128,13 @@ step-top a scopes codes k code d have lt is top =
         → chain_among a (enclosing_at scopes (get_or codes k 0) ++ get_or scopes k d ∷ [])
         ≡ get_or scopes k d ∷ []
     by None f true t h =
-        held-more a (enclosing_at scopes (get_or codes k 0)) (get_or scopes k d)
+        chain-more a (enclosing_at scopes (get_or codes k 0)) (get_or scopes k d)
         ∙ (rw (find-none (is_at Subprogram a) (enclosing_at scopes (get_or codes k 0)) f, t) refl)
     by None f false t h = cc
     by (Some u) f b t h =
         let number : u.number ≡ k = the-same h in
-        let below : u.number < get_or codes k 0 = enclosing_at-below a (get_or codes k 0) scopes u f in
+        let below : u.number < get_or codes k 0 =
+        enclosing_at-below a (get_or codes k 0) scopes u f in
         let low : get_or codes k 0 ≤ k = parent.code_is in
         absurd (omega arith)
 
@@ -184,7 +186,8 @@ step-outer a scopes codes k code top have lt is returned other = record {
         ++ filter (is_at Inlined a) (get_or scopes k d ∷ [])))
         (sym is) here
       where
-        split : enclosing k scopes ≡ enclosing_at scopes (get_or codes k 0) ++ get_or scopes k d ∷ []
+        split : enclosing k scopes ≡ enclosing_at scopes (get_or codes k 0)
+            ++ get_or scopes k d ∷ []
         split = parent.enclosing_is d
 
         there : (get_or scopes k d).number ≡ k
@@ -195,11 +198,13 @@ step-outer a scopes codes k code top have lt is returned other = record {
             (cond (is_at Subprogram a (get_or scopes k d)) (Some (get_or scopes k d)) None))
             ≡ Some top
         top_here =
-            sym (ap number_in (found-more a (enclosing_at scopes (get_or codes k 0)) (get_or scopes k d)))
+            sym (ap number_in (found-more a (enclosing_at scopes (get_or codes k 0))
+            (get_or scopes k d)))
             ∙ (sym (ap (λ (xs : List Scope). number_in (find (is_at Subprogram a) xs)) split)
             ∙ subst (λ (n : ℕ). top_at a scopes n ≡ Some top) is returned)
 
-        by : (o : Option Scope) → find (is_at Subprogram a) (enclosing_at scopes (get_or codes k 0)) ≡ o
+        by : (o : Option Scope)
+            → find (is_at Subprogram a) (enclosing_at scopes (get_or codes k 0)) ≡ o
             → (b : Bool)
             → number_in (option_or o (cond b (Some (get_or scopes k d)) None)) ≡ Some top
             → (number_in o ≡ Some top) ×
@@ -210,8 +215,9 @@ step-outer a scopes codes k code top have lt is returned other = record {
         by None f false h = cc
         by (Some u) f b h = (
           h,
-          held-more a (enclosing_at scopes (get_or codes k 0)) (get_or scopes k d)
-              ∙ (rw (find-some (is_at Subprogram a) (enclosing_at scopes (get_or codes k 0)) u f) refl),
+          chain-more a (enclosing_at scopes (get_or codes k 0)) (get_or scopes k d)
+              ∙ (rw (find-some (is_at Subprogram a) (enclosing_at scopes (get_or codes k 0)) u f)
+              refl),
         )
 
         found : (number_in (find (is_at Subprogram a) (enclosing_at scopes (get_or codes k 0)))

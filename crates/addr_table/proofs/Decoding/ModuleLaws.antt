@@ -18,8 +18,8 @@ use Rattle.addr_table.specs.Frames.{first_site}
 use Rattle.addr_table.proofs.FrameWalks.SiteLaws.{site-of-frames}
 use Rattle.addr_table.specs.Private.Walks.{HaveParents}
 use Rattle.addr_table.specs.Private.Decoded.{IsDecoded}
-use Rattle.addr_table.proofs.Decoding.ExtentLaws.{elf-good, low-below-high}
-use Rattle.addr_table.proofs.Searching.SegmentListLaws.{place_among-cuts}
+use Rattle.addr_table.proofs.Decoding.ExtentLaws.{elf-valid, low-below-high}
+use Rattle.addr_table.proofs.Searching.SegmentListLaws.{place_among-segments}
 
 pub low_returned : (bytes : List ℕ) (found : Layout) → found ≡ layout bytes → found.low
     ≡ low_of bytes
@@ -38,15 +38,15 @@ pub place-returned : (bytes : List ℕ) (sections : Layout) (lines : Lines) (tre
     → place_among list link ≡ place_in bytes link
 unfolding place_in
 place-returned bytes sections lines tree codes list calls link h =
-    rw h.is_decoded (ap (λ (cs : List Segment). place_among cs link) h.cuts_are
-    ∙ place_among-cuts lines.rows tree.scopes link)
+    rw h.is_decoded (ap (λ (cs : List Segment). place_among cs link) h.segments_are
+    ∙ place_among-segments lines.rows tree.scopes link)
 
-pub cuts-returned : (bytes : List ℕ) (sections : Layout) (lines : Lines) (tree : Tree)
+pub segments-returned : (bytes : List ℕ) (sections : Layout) (lines : Lines) (tree : Tree)
     (codes : List ℕ)
     (list : List Segment) (calls : ℕ)
     → IsDecoded bytes sections lines tree codes list calls → list ≡ segments_in bytes
 unfolding segments_in
-cuts-returned bytes sections lines tree codes list calls h = rw h.is_decoded h.cuts_are
+segments-returned bytes sections lines tree codes list calls h = rw h.is_decoded h.segments_are
 
 pub least-returned : (bytes : List ℕ) (sections : Layout) (lines : Lines) (tree : Tree)
     (codes : List ℕ)
@@ -83,7 +83,7 @@ pub extent-returned : (bytes : List ℕ) (sections : Layout) (lines : Lines) (tr
     (codes : List ℕ) (list : List Segment) (calls : ℕ)
     → IsDecoded bytes sections lines tree codes list calls → low_of bytes < high_of bytes
 extent-returned bytes sections lines tree codes list calls h =
-    low-below-high bytes (elf-good bytes _ h.is_decoded)
+    low-below-high bytes (elf-valid bytes _ h.is_decoded)
 
 pub frames-returned : (bytes : List ℕ) (sections : Layout) (lines : Lines) (tree : Tree)
     (codes : List ℕ) (list : List Segment) (calls : ℕ)

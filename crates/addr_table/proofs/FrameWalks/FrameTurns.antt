@@ -23,7 +23,7 @@ use Rattle.addr_table.specs.Private.Views.{walk_left, frame_view, site_view}
 use Rattle.addr_table.specs.Private.Walks.{HaveParents, chain_at, top_at, search_start_of}
 use Rattle.addr_table.specs.Private.Walks.{outer_of}
 use Rattle.addr_table.proofs.Chains.ChainWalks.{no_scope}
-use Rattle.addr_table.proofs.FrameWalks.WalkLaws.{Told}
+use Rattle.addr_table.proofs.FrameWalks.WalkLaws.{IsNextFrame}
 use Rattle.addr_table.proofs.Chains.ChainEnds.{started-chain, no-chain, some-chain}
 
 -- ---- parts of a path
@@ -135,7 +135,7 @@ started-none bytes lines scopes codes a scope row count code alone have total is
 pub returned-frame : (bytes : List ℕ) (lines : Lines) (scopes : List Scope) (codes : List ℕ)
     (a start k top next : ℕ) (site : FrameSite)
     (alone : Bool)
-    → Told a scopes codes start k top → k < length scopes → alone ≡ false
+    → IsNextFrame a scopes codes start k top → k < length scopes → alone ≡ false
     → next ≡ outer_of codes top k
     → walk_left bytes lines scopes a start site alone ≡ frame_view bytes lines scopes
     (Some k) site ∷ walk_left bytes lines scopes

@@ -66,19 +66,20 @@ pass a scopes codes code k top have is lt ends other out = elim ends [
     }
 
 -- the next frame is of scope k, and its enclosing scopes remain
-pub record Told (a : ℕ) (scopes : List Scope) (codes : List ℕ) (start k top : ℕ) : Type 0 where
+pub record IsNextFrame (a : ℕ) (scopes : List Scope) (codes : List ℕ) (start k top : ℕ)
+    : Type 0 where
   pub walk : IsWalk scopes codes a (outer_of codes top k) top
   pub returned : (d : Scope)
       → reverse (chain_at a scopes start) ≡ get_or scopes k d
       ∷ reverse (chain_at a scopes (outer_of codes top k))
 
-pub tell : (a : ℕ) (scopes : List Scope) (codes : List ℕ) (start code k top : ℕ)
+pub frame-taken : (a : ℕ) (scopes : List Scope) (codes : List ℕ) (start code k top : ℕ)
     → HaveParents scopes codes → code ≡ suc k → code ≤ length scopes
     → chain_at a scopes code ≡ chain_at a scopes start → EndsAt a scopes code top
-    → IsInChain a scopes code top → Told a scopes codes start k top
-tell a scopes codes start code k top have is le chain ends returned = by returned
+    → IsInChain a scopes code top → IsNextFrame a scopes codes start k top
+frame-taken a scopes codes start code k top have is le chain ends returned = by returned
   where
-    last_one : k ≡ top → Told a scopes codes start k top
+    last_one : k ≡ top → IsNextFrame a scopes codes start k top
     last_one top_is = elim ends [
       | inl none ↦ absurd (omega arith)
       | inr there ↦
@@ -97,7 +98,7 @@ tell a scopes codes start code k top have is le chain ends returned = by returne
         out n t e = let same : nat_eq n t ≡ true = grind (arith, nat_tests) in rw same refl
 
     inner : k ≢ top → ((d : Scope) → is_at Inlined a (get_or scopes k d) ≡ true)
-        → Told a scopes codes start k top
+        → IsNextFrame a scopes codes start k top
     inner other held = elim ends [
       | inl none ↦ absurd (omega arith)
       | inr there ↦
@@ -130,7 +131,7 @@ tell a scopes codes start code k top have is le chain ends returned = by returne
         out : outer_of codes top k ≡ get_or codes k 0
         out = let same : nat_eq k top ≡ false = grind (arith, nat_tests) in rw same refl
 
-    by : IsInChain a scopes code top → Told a scopes codes start k top
+    by : IsInChain a scopes code top → IsNextFrame a scopes codes start k top
     by (nothing e) = absurd (omega arith)
     by (outermost top_is) = last_one (omega arith)
     by (inlined j j_is other held) =
@@ -139,8 +140,8 @@ tell a scopes codes start code k top have is le chain ends returned = by returne
         (subst (λ (n : ℕ). (d : Scope) → is_at Inlined a (get_or scopes n d) ≡ true) same held)
 
 -- if no frame is returned, none remains
-pub tell-none : (a : ℕ) (scopes : List Scope) (start code : ℕ) → code ≡ 0
+pub frame-none : (a : ℕ) (scopes : List Scope) (start code : ℕ) → code ≡ 0
     → chain_at a scopes code ≡ chain_at a scopes start
     → reverse (chain_at a scopes start) ≡ []
-tell-none a scopes start code none chain =
+frame-none a scopes start code none chain =
     ap (reverse {A = Scope}) (sym chain ∙ ap (λ (n : ℕ). chain_at a scopes n) none)

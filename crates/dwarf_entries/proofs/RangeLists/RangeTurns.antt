@@ -38,10 +38,10 @@ pub record ListedSoFar (budget : ℕ) (sections : Sections) (bases : Bases) (lis
   pub ranges_are : ranges ≡ known ++ flat_map ranges_in before
   pub read : SoFar (length lists) (list_entry_at budget sections bases lists) first before place
 
-pub listed-none : (budget : ℕ) (sections : Sections) (bases : Bases) (lists : List ℕ) (first : ℕ)
+pub list-none : (budget : ℕ) (sections : Sections) (bases : Bases) (lists : List ℕ) (first : ℕ)
     (known : List Range) → ListedSoFar budget sections bases lists first first 0 bases.low_pc known
     known
-listed-none budget sections bases lists first known =
+list-none budget sections bases lists first known =
     record {
       before = [];
       counted = refl;

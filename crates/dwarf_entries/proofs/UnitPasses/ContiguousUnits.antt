@@ -18,7 +18,7 @@ use Rattle.dwarf_units.specs.Entries.{LocatedNode, Die, is_root, depth_after, no
 use Rattle.dwarf_units.specs.Entries.{node_at, die_of, entries_of}
 use Rattle.dwarf_units.proofs.UnitLaws.{header_in-places, unit_at-moves}
 use Rattle.dwarf_units.proofs.NodeLaws.{node_at-facts}
-use Rattle.dwarf_units.proofs.EntryOrder.{listed-in}
+use Rattle.dwarf_units.proofs.EntryOrder.{list-in}
 use Rattle.dwarf_entries.specs.TreeLaws.{AreContiguous, FillsUnit}
 use Rattle.dwarf_entries.proofs.UnitPasses.OrderLaws.{HeadersInOrder, headers-in-order}
 
@@ -61,10 +61,10 @@ listed info before at (header ∷ headers) after h le =
           place rest,
     )))
 
-pub units-listed : (info : List ℕ) (headers : List UnitHeader) → headers_of info ≡ Ok headers
+pub units-contiguous : (info : List ℕ) (headers : List UnitHeader) → headers_of info ≡ Ok headers
     → AreContiguous info 0 headers
 unfolding headers_of
-units-listed info headers h =
+units-contiguous info headers h =
     after-bind (items_from (length info) (header_at info) [] 0) (λ all. Ok all.0) headers h
     (AreContiguous info 0 headers) (λ all all_is last.
     subst (AreContiguous info 0) (same-ok all.0 headers last)
@@ -97,17 +97,17 @@ all-within from size [] h = All-nil (Within size)
 all-within from size (header ∷ headers) h =
     All-cons (Within size) header headers (h.2, h.3) (all-within header.end size headers h.4)
 
-pub entries-listed : (info : List ℕ) (headers : List UnitHeader) (header : UnitHeader)
+pub entries-contiguous : (info : List ℕ) (headers : List UnitHeader) (header : UnitHeader)
     (table : List Declaration) (dies : List Die) → units_of info ≡ Ok headers
     → Contains headers header → entries_of info header table ≡ Ok dies
     → (all : List LocatedNode) × FillsUnit info header table all × (filter_map die_of all ≡ dies)
-entries-listed info headers header table dies read inside h =
+entries-contiguous info headers header table dies read inside h =
     let places = All-contains (Within (length info)) headers header
     (all-within 0 (length info) headers (headers-in-order info headers read)) inside in
     let unit : List ℕ = take header.end info in
     let size : length unit ≡ header.end = let taken = length-take header.end info in
     omega (arith, taken, places.1) in
-    listed-in info header table dies ((all : List LocatedNode) × FillsUnit info header table all
+    list-in info header table dies ((all : List LocatedNode) × FillsUnit info header table all
     × (filter_map die_of all ≡ dies)) h (λ all after stand same.
     let end_is : after ≡ header.end = filled header.format table unit [] header.first all after
     stand (omega (arith, size, places.0)) ∙ size in (

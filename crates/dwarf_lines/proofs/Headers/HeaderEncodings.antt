@@ -11,7 +11,7 @@ use Rattle.dwarf_lines.specs.Instructions.{Encoding}
 use Rattle.dwarf_lines.specs.Entries.{table_at}
 use Rattle.dwarf_lines.specs.Headers.{LineHeader, encoding_at}
 use Rattle.dwarf_lines.specs.HeaderEncodings.{EncodesTable, EncodesParameters, EncodesFields}
-use Rattle.dwarf_lines.proofs.Lists.Spans.{Stretch, stretch-of, stands-of, join, first_of, rest-of}
+use Rattle.dwarf_lines.proofs.Lists.Spans.{Stretch, stretch-of, encoded-of, join, first_of, rest-of}
 use Rattle.dwarf_lines.proofs.Headers.TableEncodings.{table-again}
 use Rattle.dwarf_lines.proofs.Headers.ParameterEncodings.{inside, encoding_again}
 use Rattle.dwarf_lines.proofs.Headers.BoundsEncodings.{cut, uncut, between}
@@ -100,7 +100,7 @@ module _ (s : LineSections) (format : Format) (start : ℕ) (fields : List ℕ) 
   encoding_is =
       let all = take header.first s.line in
       encoding_again all start header.encoding (start + length t.encoding)
-      (stands-of EncodesParameters all start header.encoding (start + length t.encoding) t.encoding
+      (encoded-of EncodesParameters all start header.encoding (start + length t.encoding) t.encoding
       (first_of all start t.encoding (t.directories ++ (t.files ++ t.unread)) header.first
       whole_there) t.encoding_is)
 
@@ -114,7 +114,7 @@ module _ (s : LineSections) (format : Format) (start : ℕ) (fields : List ℕ) 
       let all = take header.first s.line in
       let at = start + length t.encoding in
       table-again s format Directories all at header.directories (at + length t.directories)
-      (stands-of (EncodesTable s format Directories at) all at header.directories
+      (encoded-of (EncodesTable s format Directories at) all at header.directories
       (at + length t.directories) t.directories
       (first_of all at t.directories (t.files ++ t.unread) header.first behind_encoding)
       t.directories_are)
@@ -127,5 +127,5 @@ module _ (s : LineSections) (format : Format) (start : ℕ) (fields : List ℕ) 
       let table = Files (length header.directories) in
       let at = start + length t.encoding + length t.directories in
       table-again s format table all at header.files (at + length t.files)
-      (stands-of (EncodesTable s format table at) all at header.files (at + length t.files) t.files
+      (encoded-of (EncodesTable s format table at) all at header.files (at + length t.files) t.files
       (first_of all at t.files t.unread header.first behind_directories) t.files_are)

@@ -11,22 +11,22 @@ use Rattle.dwarf_lines.specs.Entries.{table_at}
 use Rattle.dwarf_lines.specs.Headers.{LineHeader, bounds_at, encoding_at, header_at}
 use Rattle.dwarf_lines.specs.HeaderEncodings.{EncodesFields, EncodesHeader}
 use Rattle.dwarf_lines.proofs.Headers.BoundsLaws.{ok-is}
-use Rattle.dwarf_lines.proofs.Lists.Spans.{Stretch, stretch-of, stands-of, join, first_of, rest-of}
+use Rattle.dwarf_lines.proofs.Lists.Spans.{Stretch, stretch-of, encoded-of, join, first_of, rest-of}
 use Rattle.dwarf_lines.proofs.Headers.TableEncodings.{table_stands}
 use Rattle.dwarf_lines.proofs.Headers.ParameterEncodings.{inside, encoding_stands}
-use Rattle.dwarf_lines.proofs.Headers.BoundsEncodings.{between, AreEncoded, bounds-stand}
+use Rattle.dwarf_lines.proofs.Headers.BoundsEncodings.{between, AreEncoded, bounds-encoded}
 use Rattle.dwarf_lines.proofs.Headers.BoundsEncodings.{bounds-again}
 use Rattle.dwarf_lines.proofs.Headers.HeaderEncodings.{fields_stand, encoding_is, directories_are}
 use Rattle.dwarf_lines.proofs.Headers.HeaderEncodings.{files_are}
 
 module _ (s : LineSections) (place : ℕ) where
   -- a program, composed of its bounds and its fields
-  program-stands : (b : ProgramBounds) (header : LineHeader) → header.first ≡ b.first
+  program-encoded : (b : ProgramBounds) (header : LineHeader) → header.first ≡ b.first
       → header.past ≡ b.past → AreEncoded s.line place b
       → (fields : List ℕ) → Stretch s.line b.fields fields b.first
       → EncodesFields s b.format b.fields fields header
       → IsEncodedAt (EncodesHeader s place) s.line place header header.past
-  program-stands b header first_is past_is t fields there fields_are =
+  program-encoded b header first_is past_is t fields there fields_are =
       let line = s.line in
       let head : List ℕ = 5 ∷ 0 ∷ 8 ∷ 0 ∷ t.header_length in
       let instructions = between line b.first b.past t.first t.past in
@@ -40,7 +40,7 @@ module _ (s : LineSections) (place : ℕ) where
       let counted_is : t.counted ≡ length fields = omega (arith, t.first_is, there.next_is) in
       let start : b.fields ≡ place + length t.unit_length + 4 + length t.header_length =
       omega (arith, t.length_there.next_is, t.head_there.next_is) in
-      stands-of (EncodesHeader s place) line place header header.past
+      encoded-of (EncodesHeader s place) line place header header.past
       (t.unit_length ++ (head ++ (fields ++ instructions.0)))
       (subst (λ (n : ℕ). Stretch line place
       (t.unit_length ++ (head ++ (fields ++ instructions.0))) n) (sym past_is) all)
@@ -74,7 +74,7 @@ module _ (s : LineSections) (place : ℕ) where
       after-bind (table_at s bounds.format (Files (length directories.0)) (take bounds.first s.line)
       directories.1) _ header h3 P (λ files files_is h4.
       let all = take bounds.first s.line in
-      let t = bounds-stand s.line place bounds bounds_is in
+      let t = bounds-encoded s.line place bounds bounds_is in
       let it : LineHeader = record {
         encoding = encoding.0;
         directories = directories.0;
@@ -92,7 +92,7 @@ module _ (s : LineSections) (place : ℕ) where
       files_is) in
       subst (λ (h : LineHeader). IsEncodedAt (EncodesHeader s place) s.line place h h.past)
       (ok-is {E = Cause} it header h4)
-      (program-stands bounds it refl refl t fields.0 fields.1 fields.2)))))
+      (program-encoded bounds it refl refl t fields.0 fields.1 fields.2)))))
 
   pub header_again : (header : LineHeader)
       → IsEncodedAt (EncodesHeader s place) s.line place header header.past

@@ -8,7 +8,7 @@ use Rattle.dwarf_bytes.specs.Items.{reading}
 use Rattle.dwarf_bytes.specs.Numbers.{IsUleb, IsSleb, IsEncodedAt, little_endian, block_at, u8_at}
 use Rattle.dwarf_bytes.specs.Numbers.{u16_at, uleb_at, sleb_at}
 use Rattle.dwarf_bytes.proofs.Numbers.Advance.{after-bind, chosen, reading-ok}
-use Rattle.dwarf_bytes.proofs.Numbers.LebEncodings.{uleb-stands, sleb-stands}
+use Rattle.dwarf_bytes.proofs.Numbers.LebEncodings.{uleb-encoded, sleb-encoded}
 use Rattle.dwarf_lines.specs.declared.instruction.Instruction.{Instruction}
 use Rattle.dwarf_lines.specs.declared.instruction.Instruction.TheVariants.{Copy, AdvancePc}
 use Rattle.dwarf_lines.specs.declared.instruction.Instruction.TheVariants.{AdvanceLine, SetFile}
@@ -22,9 +22,9 @@ use Rattle.dwarf_lines.specs.Encodings.{Encodes, copy, advance_pc, advance_line,
 use Rattle.dwarf_lines.specs.Encodings.{const_add_pc, fixed_advance_pc, passed_over, special}
 use Rattle.dwarf_lines.specs.Encodings.{end_sequence, set_address, other_extended}
 use Rattle.dwarf_lines.proofs.Headers.BoundsLaws.{ok-is}
-use Rattle.dwarf_lines.proofs.Lists.Spans.{Stretch, stretch-of, stands-of, join, block-stands}
-use Rattle.dwarf_lines.proofs.Lists.Spans.{two-bytes, fixed-stands, byte-stands}
-use Rattle.dwarf_lines.proofs.Instructions.OperandEncodings.{eqb-eq, differs, ulebs-stand}
+use Rattle.dwarf_lines.proofs.Lists.Spans.{Stretch, stretch-of, encoded-of, join, block-encoded}
+use Rattle.dwarf_lines.proofs.Lists.Spans.{two-bytes, fixed-encoded, byte-encoded}
+use Rattle.dwarf_lines.proofs.Instructions.OperandEncodings.{eqb-eq, differs, ulebs-encoded}
 
 module _ (e : Encoding) (bytes : List ℕ) (at : ℕ) where
   abbrev Stands : Instruction → ℕ → Type 0
@@ -42,11 +42,11 @@ module _ (e : Encoding) (bytes : List ℕ) (at : ℕ) where
         → Encodes e (opcode ∷ operand) i
         → Stands i next
     behind operand next i there encoded =
-        stands-of (Encodes e) bytes at i next (opcode ∷ operand)
+        encoded-of (Encodes e) bytes at i next (opcode ∷ operand)
         (join bytes at (opcode ∷ []) place operand next first there) encoded
 
     alone : (i : Instruction) → Encodes e (opcode ∷ []) i → Stands i place
-    alone i encoded = stands-of (Encodes e) bytes at i place (opcode ∷ []) first encoded
+    alone i encoded = encoded-of (Encodes e) bytes at i place (opcode ∷ []) first encoded
 
     standard_stands : (i : Instruction) (next : ℕ) → 0 < opcode → opcode < e.opcode_base
         → standard_at e opcode bytes place ≡ Ok (i, next)
@@ -60,7 +60,7 @@ module _ (e : Encoding) (bytes : List ℕ) (at : ℕ) where
         chosen (opcode == 2) _ _ (Ok (i, next)) h1 (Stands i next)
         (λ is h2. after-bind (reading (uleb_at bytes place)) _ (i, next) h2 (Stands i next)
         (λ v v_is h3.
-        let operand = uleb-stands bytes place v.0 v.1 (reading-ok (uleb_at bytes place) v v_is) in
+        let operand = uleb-encoded bytes place v.0 v.1 (reading-ok (uleb_at bytes place) v v_is) in
         let two = eqb-eq opcode 2 is in
         is_read (AdvancePc v.0) i v.1 next h3
         (behind operand.front v.1 (AdvancePc v.0)
@@ -70,7 +70,7 @@ module _ (e : Encoding) (bytes : List ℕ) (at : ℕ) where
         chosen (opcode == 3) _ _ (Ok (i, next)) h2 (Stands i next)
         (λ is h3. after-bind (reading (sleb_at bytes place)) _ (i, next) h3 (Stands i next)
         (λ v v_is h4.
-        let operand = sleb-stands bytes place v.0 v.1 (reading-ok (sleb_at bytes place) v v_is) in
+        let operand = sleb-encoded bytes place v.0 v.1 (reading-ok (sleb_at bytes place) v v_is) in
         let three = eqb-eq opcode 3 is in
         is_read (AdvanceLine v.0) i v.1 next h4
         (behind operand.front v.1 (AdvanceLine v.0)
@@ -80,7 +80,7 @@ module _ (e : Encoding) (bytes : List ℕ) (at : ℕ) where
         chosen (opcode == 4) _ _ (Ok (i, next)) h3 (Stands i next)
         (λ is h4. after-bind (reading (uleb_at bytes place)) _ (i, next) h4 (Stands i next)
         (λ v v_is h5.
-        let operand = uleb-stands bytes place v.0 v.1 (reading-ok (uleb_at bytes place) v v_is) in
+        let operand = uleb-encoded bytes place v.0 v.1 (reading-ok (uleb_at bytes place) v v_is) in
         let four = eqb-eq opcode 4 is in
         is_read (SetFile v.0) i v.1 next h5
         (behind operand.front v.1 (SetFile v.0) (stretch-of IsUleb bytes place v.0 v.1 operand)
@@ -94,7 +94,7 @@ module _ (e : Encoding) (bytes : List ℕ) (at : ℕ) where
         chosen (opcode == 9) _ _ (Ok (i, next)) h5 (Stands i next)
         (λ is h6. after-bind (reading (u16_at bytes place)) _ (i, next) h6 (Stands i next)
         (λ v v_is h7.
-        let field = fixed-stands 2 bytes place v (reading-ok (u16_at bytes place) v v_is) in
+        let field = fixed-encoded 2 bytes place v (reading-ok (u16_at bytes place) v v_is) in
         let two = two-bytes field.0 field.2 in
         let nine = eqb-eq opcode 9 is in
         let value : little_endian (two.0 ∷ two.1 ∷ []) ≡ v.0 =
@@ -107,7 +107,7 @@ module _ (e : Encoding) (bytes : List ℕ) (at : ℕ) where
         (subst (λ (n : ℕ). n < e.opcode_base) nine known))))))) (λ not9 h6.
         after-bind (after_ulebs (slice_index e.opcode_lengths (opcode - 1)) bytes place) _ (i, next)
         h6 (Stands i next) (λ after after_is h7.
-        let operands = ulebs-stand (slice_index e.opcode_lengths (opcode - 1)) bytes place after
+        let operands = ulebs-encoded (slice_index e.opcode_lengths (opcode - 1)) bytes place after
         after_is in
         is_read Skipped i after next h7 (behind operands.0 after Skipped operands.2
         (passed_over opcode known (
@@ -174,9 +174,9 @@ module _ (e : Encoding) (bytes : List ℕ) (at : ℕ) where
         after-bind (reading (block_at len.0 bytes len.1)) _ (i, next) h2 (Stands i next)
         (λ body body_is h3.
         after-bind (extended_of body.0) _ (i, next) h3 (Stands i next) (λ j j_is h4.
-        let length_there = uleb-stands bytes place len.0 len.1
+        let length_there = uleb-encoded bytes place len.0 len.1
         (reading-ok (uleb_at bytes place) len len_is) in
-        let body_there = block-stands len.0 bytes len.1 body
+        let body_there = block-encoded len.0 bytes len.1 body
         (reading-ok (block_at len.0 bytes len.1) body body_is) in
         let nonzero = differs len.0 0 some in
         is_read j i body.1 next h4 (body_stands length_there.front len.1 body.0 body.1 j zero_is
@@ -190,7 +190,7 @@ module _ (e : Encoding) (bytes : List ℕ) (at : ℕ) where
   unfolding instruction_at
   instruction_stands i next h =
       after-bind (reading (u8_at bytes at)) _ (i, next) h (Stands i next) (λ opcode opcode_is h1.
-      let first = byte-stands bytes at opcode (reading-ok (u8_at bytes at) opcode opcode_is) in
+      let first = byte-encoded bytes at opcode (reading-ok (u8_at bytes at) opcode opcode_is) in
       chosen (nat_le e.opcode_base opcode.0) _ _ (Ok (i, next)) h1 (Stands i next)
       (λ from h2. let back : (opcode.0 - e.opcode_base) + e.opcode_base ≡ opcode.0 =
       grind (arith, nat_tests) in

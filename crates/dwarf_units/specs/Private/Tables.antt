@@ -86,7 +86,8 @@ with_table k table =
 
 -- Each table is parsed from the section, and its format and offset map to its index. `budget` is
 -- the remaining budget. The temporary table, if there is one, exceeds it.
-pub record AreCached (section : List ℕ) (tables : List Table) (permanent budget : ℕ) (numbers : Numbers)
+pub record AreCached (section : List ℕ) (tables : List Table) (permanent budget : ℕ)
+    (numbers : Numbers)
     : Type 0 where
   pub stand : All (IsParsedFrom section) tables
   pub found : (i : ℕ) (table : Table) → slice_get tables i ≡ Some table
@@ -107,7 +108,8 @@ seen lists store = record {
 }
 
 pub record AreStored (lists : LinkedPlaces) (store : TableStore) : Type 0 where
-  pub permanent : AreCached lists.places.section (full_tables lists.places.memoized store.tables.items)
+  pub permanent : AreCached lists.places.section
+      (full_tables lists.places.memoized store.tables.items)
       store.permanent store.budget store.numbers
   pub readable : All (IsReadable lists) store.tables.items
 

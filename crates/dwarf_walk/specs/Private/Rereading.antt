@@ -42,7 +42,8 @@ HasTableOf header reader =
 
 -- The table of a unit is cached permanently, and the reader has its index.
 abbrev pub HasPermanentTable : UnitHeader → EntryReader → Type 0
-HasPermanentTable header reader = HasTableOf header reader × (reader.number < reader.tables.permanent)
+HasPermanentTable header reader = HasTableOf header reader
+    × (reader.number < reader.tables.permanent)
 
 -- The entry at an offset of a unit is short enough to be re-read for each reference to it.
 abbrev pub IsShort : Format → List Declaration → List ℕ → ℕ → Type 0

@@ -7,7 +7,7 @@ use Rattle.std.proofs.lemmas.List.Elements.{All-push}
 use Rattle.dwarf_forms.specs.Private.Index.{ContainsNames}
 use Rattle.dwarf_forms.specs.declared.attribute.AttributeSpecification.{AttributeSpecification}
 use Rattle.dwarf_forms.proofs.Names.{held-few, held_more}
-use Rattle.dwarf_forms.proofs.JoinedLists.{so-far-joined, so-far-refused}
+use Rattle.dwarf_forms.proofs.SuffixLists.{so-far-append, so-far-refused}
 use Rattle.dwarf_forms.proofs.Moves.{attribute_at-advances, attributes-ok, attributes-err}
 use Rattle.dwarf_bytes.proofs.Items.Turns.{so-far-item, so-far-end, so-far-fault, next-item}
 use Rattle.dwarf_bytes.proofs.Items.Turns.{next_end, next-fault, None-from-no-Some}
@@ -33,7 +33,7 @@ returns-in-Some c =
     let bytes = c.args.cursor.now.bytes in
     let inv = c.loop-number.invariant in
     let joined = rw (c.deref.ensures.value, inv.bytes) at c.in_ok-join.ensures.0 in
-    let read = so-far-joined bytes c.args.cursor.now.place c.loop-number.attributes.items
+    let read = so-far-append bytes c.args.cursor.now.place c.loop-number.attributes.items
     c.loop-number.cursor.place (attributes_from c.args.lists.now.memoized c.in-Some.number)
     c.join.new.cursor.place inv.read joined in (
       stretch-is c.args.lists.now bytes c.args.cursor.now.place c.join.new.cursor.place _ c.requires

@@ -76,7 +76,8 @@ pub returns : goal.returns
 unfolding steps_of
 returns c =
     let inv = c.loop-next.invariant in (
-      stored-end c.args.format _ c.args.cursor.now.bytes c.loop-next.found c.loop-next.cursor.place _
+      stored-end c.args.format _ c.args.cursor.now.bytes c.loop-next.found c.loop-next.cursor.place
+          _
           (rw (None-from-no-Some _ c.in_default.not-Some) refl) inv.stored,
       inv.bytes,
     )

@@ -4,8 +4,8 @@ use Rattle.dwarf_units.specs.Private.SharedTables.{full_table, full_tables}
 use Rattle.dwarf_units.proofs.StoredLaws.{sets-as, cached-truncated, cached-temporary}
 use Rattle.dwarf_units.proofs.MoreTables.{cached-permanent, seen-permanent, seen-temporary}
 use Rattle.dwarf_units.proofs.SharedTableLaws.{own_size-is}
-use Rattle.dwarf_units.proofs.StoreLaws.{readable-before, readable-behind, resolved-at}
-use Rattle.dwarf_units.proofs.StoreLaws.{resolved-before, resolved-behind}
+use Rattle.dwarf_units.proofs.StoreLaws.{readable-taken, readable-more, resolved-at}
+use Rattle.dwarf_units.proofs.StoreLaws.{resolved-taken, resolved-more}
 use Rattle.dwarf_units.proofs.table_store.TableStore.add_table.Goals as goal
 
 pub returns-in_err-number-clause-stored : goal.returns-in_err-number-clause-stored
@@ -17,12 +17,13 @@ returns-in_err-number-clause-stored c = λ lists stored new.
     let after = c.truncate_and_push.new.tables.items in
     record {
       permanent =
-          cached-truncated lists.places.section (full_tables lists.places.memoized store.tables.items)
+          cached-truncated lists.places.section
+          (full_tables lists.places.memoized store.tables.items)
           (full_tables lists.places.memoized after) store.permanent store.budget store.numbers
           c.insert.new.self c.args.table.format c.args.table.offset new.fresh sets
-          (resolved-before lists.places.memoized store.tables.items after store.permanent
+          (resolved-taken lists.places.memoized store.tables.items after store.permanent
           c.in_err-number.ensures.err) stored.permanent;
-      readable = readable-before lists store.tables.items after store.permanent stored.readable
+      readable = readable-taken lists store.tables.items after store.permanent stored.readable
           c.in_err-number.ensures.err;
     }
 
@@ -35,18 +36,19 @@ returns-then-size-self-clause-stored c = λ lists stored new.
     let after = c.truncate_and_push.new.tables.items in
     record {
       permanent =
-          cached-permanent lists.places.section (full_tables lists.places.memoized store.tables.items)
+          cached-permanent lists.places.section
+          (full_tables lists.places.memoized store.tables.items)
           (full_tables lists.places.memoized after) store.permanent store.budget c.len-self.result
           c.size-size.result store.numbers c.insert.new.self
           (full_table lists.places.memoized c.args.table) new.fresh sets new.stands
-          (resolved-behind lists.places.memoized store.tables.items after store.permanent c.args.table
+          (resolved-more lists.places.memoized store.tables.items after store.permanent c.args.table
           c.in_ok-number.ensures.ok.0)
           (c.size-size.ensures ∙ own_size-is lists.places.memoized c.args.table
           new.readable.resolved)
           c.if-size-self.true
           (c.len-self.ensures ∙ (c.truncate_and_push.new.tables.ok.0
           ∙ sym (length-map after (full_table lists.places.memoized)))) stored.permanent;
-      readable = readable-behind lists store.tables.items after store.permanent c.args.table
+      readable = readable-more lists store.tables.items after store.permanent c.args.table
           stored.readable new.readable c.in_ok-number.ensures.ok.0;
     }
 
@@ -59,16 +61,17 @@ returns-else-size-self-clause-stored c = λ lists stored new.
     let after = c.truncate_and_push.new.tables.items in
     record {
       permanent =
-          cached-temporary lists.places.section (full_tables lists.places.memoized store.tables.items)
+          cached-temporary lists.places.section
+          (full_tables lists.places.memoized store.tables.items)
           (full_tables lists.places.memoized after) store.permanent store.budget c.size-size.result
           store.numbers c.insert.new.self (full_table lists.places.memoized c.args.table) new.fresh
           sets new.stands
-          (resolved-behind lists.places.memoized store.tables.items after store.permanent c.args.table
+          (resolved-more lists.places.memoized store.tables.items after store.permanent c.args.table
           c.in_ok-number.ensures.ok.0)
           (c.size-size.ensures ∙ own_size-is lists.places.memoized c.args.table
           new.readable.resolved)
           c.if-size-self.false stored.permanent;
-      readable = readable-behind lists store.tables.items after store.permanent c.args.table
+      readable = readable-more lists store.tables.items after store.permanent c.args.table
           stored.readable new.readable c.in_ok-number.ensures.ok.0;
     }
 
@@ -79,14 +82,15 @@ returns-then-size-self-clause-ok c = λ lists stored new.
       seen-permanent _ lists.places.section (full_tables lists.places.memoized store.tables.items)
           (full_tables lists.places.memoized after) store.permanent store.budget c.len-self.result
           c.size-size.result store.numbers (full_table lists.places.memoized c.args.table) refl
-          (resolved-behind lists.places.memoized store.tables.items after store.permanent c.args.table
+          (resolved-more lists.places.memoized store.tables.items after store.permanent c.args.table
           c.in_ok-number.ensures.ok.0)
           (c.size-size.ensures ∙ own_size-is lists.places.memoized c.args.table
           new.readable.resolved)
           c.if-size-self.true
           (c.len-self.ensures ∙ (c.truncate_and_push.new.tables.ok.0
           ∙ sym (length-map after (full_table lists.places.memoized)))) stored.permanent,
-      resolved-at lists.places.memoized store.tables.items after store.permanent c.in_ok-number.number
+      resolved-at lists.places.memoized store.tables.items after store.permanent
+          c.in_ok-number.number
           c.args.table c.in_ok-number.ensures.ok.0 c.in_ok-number.ensures.ok.1,
     )
 
@@ -97,11 +101,12 @@ returns-else-size-self-clause-ok c = λ lists stored new.
       seen-temporary _ lists.places.section (full_tables lists.places.memoized store.tables.items)
           (full_tables lists.places.memoized after) store.permanent store.budget c.size-size.result
           store.numbers (full_table lists.places.memoized c.args.table) refl
-          (resolved-behind lists.places.memoized store.tables.items after store.permanent c.args.table
+          (resolved-more lists.places.memoized store.tables.items after store.permanent c.args.table
           c.in_ok-number.ensures.ok.0)
           (c.size-size.ensures ∙ own_size-is lists.places.memoized c.args.table
           new.readable.resolved)
           c.if-size-self.false stored.permanent,
-      resolved-at lists.places.memoized store.tables.items after store.permanent c.in_ok-number.number
+      resolved-at lists.places.memoized store.tables.items after store.permanent
+          c.in_ok-number.number
           c.args.table c.in_ok-number.ensures.ok.0 c.in_ok-number.ensures.ok.1,
     )
