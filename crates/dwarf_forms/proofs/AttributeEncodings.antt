@@ -15,7 +15,7 @@ use Rattle.dwarf_forms.specs.declared.attribute.AttributeSpecification.{Attribut
 use Rattle.dwarf_forms.specs.Declarations.{EncodesConstant, EncodesAttribute, EndsAttributes}
 use Rattle.dwarf_bytes.specs.declared.constants.TheConstants.{DW_FORM_IMPLICIT_CONST}
 use Rattle.dwarf_forms.specs.Tables.{constant_at, attribute_at}
-use Rattle.dwarf_forms.proofs.Stretches.{stretch-of, encoded-from, joined, nothing}
+use Rattle.dwarf_forms.proofs.Stretches.{stretch-of, encoded-from, both-parts, nothing}
 use Rattle.dwarf_bytes.proofs.Numbers.Moves.{same-ok, same-item, same-end}
 use Rattle.dwarf_forms.proofs.ListEncodings.{EndEncoded, EncodesReads, IsNew}
 
@@ -137,10 +137,11 @@ attribute-encoded section = record { item = item; end = end }
         let a = uleb-read section at name name_is in
         let b = uleb-read section name.1 form form_is in
         let c = constant-encoded form.0 section form.1 constant constant_is in
-        let ab = joined section at a.front b.front name.1 form.1 a.rest b.rest
+        let ab = both-parts section at a.front b.front name.1 form.1 a.rest b.rest
         (stretch-of IsUleb section at name.0 name.1 a)
         (stretch-of IsUleb section name.1 form.0 form.1 b) in
-        let abc = joined section at (a.front ++ b.front) c.front form.1 constant.1 b.rest c.rest ab
+        let abc = both-parts section at (a.front ++ b.front) c.front form.1 constant.1 b.rest
+            c.rest ab
         (stretch-of (EncodesConstant form.0) section form.1 constant.0 constant.1 c) in
         let it : AttributeSpecification =
         record { name = name.0; form = form.0; constant = constant.0 } in
@@ -177,7 +178,7 @@ attribute-encoded section = record { item = item; end = end }
         let a = uleb-read section at name name_is in
         let b = uleb-read section name.1 form form_is in
         let both = ended-parts name.0 form.0 zeros in
-        let ab = joined section at a.front b.front name.1 form.1 a.rest b.rest
+        let ab = both-parts section at a.front b.front name.1 form.1 a.rest b.rest
         (stretch-of IsUleb section at name.0 name.1 a)
         (stretch-of IsUleb section name.1 form.0 form.1 b) in
         subst (λ (k : ℕ). EndEncoded EndsAttributes section at k)

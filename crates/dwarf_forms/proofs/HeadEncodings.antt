@@ -11,7 +11,7 @@ use Rattle.dwarf_bytes.proofs.Numbers.Advance.{after-bind, after-test, reading-o
 use Rattle.dwarf_forms.specs.declared.declaration.Head.{Head}
 use Rattle.dwarf_forms.specs.Declarations.{Declaration}
 use Rattle.dwarf_forms.specs.Tables.{head_at}
-use Rattle.dwarf_forms.proofs.Stretches.{Stretch, stretch-of, encoded-from, joined, first-part}
+use Rattle.dwarf_forms.proofs.Stretches.{Stretch, stretch-of, encoded-from, both-parts, first-part}
 use Rattle.dwarf_forms.proofs.Stretches.{second-part, within, fixed-encoded, fixed-again}
 use Rattle.dwarf_bytes.proofs.Numbers.Moves.{same-item, same-end}
 use Rattle.dwarf_forms.proofs.AttributeEncodings.{uleb-read, uleb-reads, unlike, alike, differ}
@@ -74,10 +74,10 @@ head-encoded budget section before at head next h =
     let b = uleb-read section code.1 tag tag_is in
     let c = fixed-encoded 1 section tag.1 children
     (reading-ok (u8_at section tag.1) children children_is) in
-    let ab = joined section at a.front b.front code.1 tag.1 a.rest b.rest
+    let ab = both-parts section at a.front b.front code.1 tag.1 a.rest b.rest
     (stretch-of IsUleb section at code.0 code.1 a)
     (stretch-of IsUleb section code.1 tag.0 tag.1 b) in
-    let abc = joined section at (a.front ++ b.front) c.0 tag.1 children.1 b.rest
+    let abc = both-parts section at (a.front ++ b.front) c.0 tag.1 children.1 b.rest
     (drop 1 (drop tag.1 section)) ab c.1 in
     let it : Head = record { code = code.0; tag = tag.0; children = children.0 == 1 } in
     let byte : c.0 ≡ (if children.0 == 1 then 1 else 0) ∷ [] = one_byte c.0 children.0 c.2 c.3

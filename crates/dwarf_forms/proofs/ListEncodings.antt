@@ -12,7 +12,7 @@ use Rattle.dwarf_bytes.specs.declared.fault.Cause.{Cause}
 use Rattle.dwarf_bytes.specs.Numbers.{IsEncodedAt}
 use Rattle.dwarf_bytes.specs.Items.{Next, Item, End, Lists}
 use Rattle.dwarf_forms.specs.Declarations.{EncodesEach}
-use Rattle.dwarf_forms.proofs.Stretches.{Stretch, stretch-of, encoded-from, joined, first-part}
+use Rattle.dwarf_forms.proofs.Stretches.{Stretch, stretch-of, encoded-from, both-parts, first-part}
 use Rattle.dwarf_forms.proofs.Stretches.{second-part, respelled}
 
 -- the encoded elements, followed by the encoded end
@@ -73,7 +73,7 @@ encoded-list encodes ends good bytes step encoded before at (x ∷ xs) next h =
     let here = encoded.item before at x h.0 h.1 in
     let others = encoded-list encodes ends good bytes step encoded (before ++ x ∷ []) h.0 xs next
     h.2 in
-    let all = joined bytes at here.0.front others.0.front h.0 next here.0.rest others.0.rest
+    let all = both-parts bytes at here.0.front others.0.front h.0 next here.0.rest others.0.rest
     (stretch-of encodes bytes at x h.0 here.0)
     (stretch-of (EncodesAll encodes ends) bytes h.0 xs next others.0) in (
       encoded-from (EncodesAll encodes ends) bytes at (x ∷ xs) next (here.0.front ++ others.0.front)

@@ -26,19 +26,19 @@ encoded-from Encodes bytes at value next front rest s encoded =
     record { front = front; rest = rest; encoded = encoded; parts = s.parts; next_is = s.next_is }
 
 -- the bytes after a range start at its end
-pub behind : (bytes : List ℕ) (at : ℕ) (stretch : List ℕ) (next : ℕ) (rest : List ℕ)
+pub bytes-after : (bytes : List ℕ) (at : ℕ) (stretch : List ℕ) (next : ℕ) (rest : List ℕ)
     → Stretch bytes at stretch next rest → drop next bytes ≡ rest
-behind bytes at stretch next rest s =
+bytes-after bytes at stretch next rest s =
     ap (λ (k : ℕ). drop k bytes) s.next_is
     ∙ (sym (drop-drop (length stretch) at bytes)
     ∙ (ap (λ (b : List ℕ). drop (length stretch) b) s.parts
     ∙ drop_at stretch rest (length stretch) refl))
 
 -- two contiguous ranges form one range
-pub joined : (bytes : List ℕ) (at : ℕ) (a b : List ℕ) (mid next : ℕ) (r rest : List ℕ)
+pub both-parts : (bytes : List ℕ) (at : ℕ) (a b : List ℕ) (mid next : ℕ) (r rest : List ℕ)
     → Stretch bytes at a mid r → Stretch bytes mid b next rest → Stretch bytes at (a ++ b) next rest
-joined bytes at a b mid next r rest s t = record {
-  parts = s.parts ∙ (ap (λ (x : List ℕ). a ++ x) (sym (behind bytes at a mid r s) ∙ t.parts)
+both-parts bytes at a b mid next r rest s t = record {
+  parts = s.parts ∙ (ap (λ (x : List ℕ). a ++ x) (sym (bytes-after bytes at a mid r s) ∙ t.parts)
       ∙ sym (append_assoc a b rest));
   next_is = omega (arith, s.next_is, t.next_is, length-append a b);
 }
@@ -52,7 +52,7 @@ first-part bytes at a b next rest s = record
 pub second-part : (bytes : List ℕ) (at : ℕ) (a b : List ℕ) (next : ℕ) (rest : List ℕ)
     → Stretch bytes at (a ++ b) next rest → Stretch bytes (at + length a) b next rest
 second-part bytes at a b next rest s = record {
-  parts = behind bytes at a (at + length a) (b ++ rest) (first-part bytes at a b next rest s);
+  parts = bytes-after bytes at a (at + length a) (b ++ rest) (first-part bytes at a b next rest s);
   next_is = omega (arith, s.next_is, length-append a b);
 }
 

@@ -190,8 +190,8 @@ pub so-far-append : (section : List ℕ) (first : ℕ) (own : List AttributeSpec
     → SoFar (length section) (attribute_at section) first own at
     → without_offset (items_from (length section) (attribute_at section) own at) ≡ Ok (rest, next)
     → attributes_at section first ≡ Ok (own ++ rest, next)
-so-far-append section first own at rest next so_far joined =
-    by_read (items_from (length section) (attribute_at section) own at) so_far joined
+so-far-append section first own at rest next so_far both-parts =
+    by_read (items_from (length section) (attribute_at section) own at) so_far both-parts
   where
     by_read : (r : Result (List AttributeSpecification × ℕ) At)
         → with_front own r ≡ items_from (length section) (attribute_at section) [] first

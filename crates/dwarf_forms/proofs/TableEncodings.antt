@@ -11,7 +11,8 @@ use Rattle.dwarf_forms.specs.declared.attribute.AttributeSpecification.{Attribut
 use Rattle.dwarf_forms.specs.declared.declaration.Head.{Head}
 use Rattle.dwarf_forms.specs.Declarations.{Declaration, EncodesDeclaration, IsValid}
 use Rattle.dwarf_forms.specs.Tables.{attributes_at, head_at, declaration_at}
-use Rattle.dwarf_forms.proofs.Stretches.{stretch-of, encoded-from, joined, first-part, second-part}
+use Rattle.dwarf_forms.proofs.Stretches.{stretch-of, encoded-from, both-parts, first-part}
+use Rattle.dwarf_forms.proofs.Stretches.{second-part}
 use Rattle.dwarf_forms.proofs.Stretches.{respelled}
 use Rattle.dwarf_bytes.proofs.Numbers.Moves.{same-item, same-end}
 use Rattle.dwarf_forms.proofs.ListEncodings.{EndEncoded, EncodesReads, IsRead, IsNew, all-new}
@@ -71,7 +72,8 @@ declaration-encoded budget section = record { item = item; end = end }
             (λ attributes attributes_are last.
             let front = head-encoded budget section before at head mid is in
             let others = attributes-encoded section mid attributes attributes_are in
-            let whole = joined section at front.0.front others.0.front mid attributes.1 front.0.rest
+            let whole = both-parts section at front.0.front others.0.front mid attributes.1
+                front.0.rest
             others.0.rest (stretch-of EncodesHead section at head mid front.0)
             (stretch-of EncodesAttributes section mid attributes.0 attributes.1 others.0) in
             let it : Declaration = record {

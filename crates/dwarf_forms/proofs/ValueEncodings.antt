@@ -20,7 +20,7 @@ use Rattle.dwarf_forms.specs.declared.values.ValueFault.TheVariants.{Form}
 use Rattle.dwarf_forms.specs.Values.{Value, SpellsDirectly, SpellsIndirectly, Spells}
 use Rattle.dwarf_forms.specs.Values.{reading_value, direct_at, value_at}
 use Rattle.dwarf_bytes.proofs.Numbers.Moves.{same-ok}
-use Rattle.dwarf_forms.proofs.Stretches.{Stretch, stretch-of, encoded-from, joined, first-part}
+use Rattle.dwarf_forms.proofs.Stretches.{Stretch, stretch-of, encoded-from, both-parts, first-part}
 use Rattle.dwarf_forms.proofs.Stretches.{second-part, respelled, nothing}
 
 reading-ok : {X : Type 0} (r : Result X ReadFault) (x : X) → reading_value r ≡ Ok x → r ≡ Ok x
@@ -142,7 +142,7 @@ value-encoded form format constant bytes at value next h = by_form (form_of form
         let inner = uleb-encoded bytes at found.0.0 found.0.1
         (reading-ok (uleb_at bytes at) found.0 found.1) in
         let s = direct-encoded found.0.0 format bytes found.0.1 (value, next) found.2 in
-        let both = joined bytes at inner.front s.front found.0.1 next inner.rest s.rest
+        let both = both-parts bytes at inner.front s.front found.0.1 next inner.rest s.rest
         (stretch-of IsUleb bytes at found.0.0 found.0.1 inner)
         (stretch-of (SpellsDirectly found.0.0 format) bytes found.0.1 value next s) in
         stands (Some Indirect) is (inner.front ++ s.front) s.rest both

@@ -115,7 +115,7 @@ fn extended_in(body: &[u8]) -> Result<Instruction, Cause>
     }
 }
 
-/// Whether an extended opcode is followed by exactly one 8-byte address.
+/// Returns whether an extended opcode is followed by exactly one 8-byte address.
 fn has_address(body: &[u8]) -> bool
     ensures { result ≡ (length body.now == 9) }
 {

@@ -64,8 +64,8 @@ stored-none false = refl
 abbrev stored_one : Bool → Attribute × ℕ → Result (List Attribute × ℕ) Cause
 stored_one keeps a = Ok (cond keeps (a.0 ∷ []) [], a.1)
 
-abbrev behind : Attribute → List Attribute × ℕ → Result (List Attribute × ℕ) Cause
-behind a rest = Ok (a ∷ rest.0, rest.1)
+abbrev with_first : Attribute → List Attribute × ℕ → Result (List Attribute × ℕ) Cause
+with_first a rest = Ok (a ∷ rest.0, rest.1)
 
 abbrev stored_all : Bool → List Attribute × ℕ → Result (List Attribute × ℕ) Cause
 stored_all keep all = Ok (stored_attributes keep all.0, all.1)
@@ -85,7 +85,7 @@ stored-is keep format (s ∷ ss) bytes at le =
   where
     by_rest : (a : Attribute) → a.name ≡ s.name → (rest : Result (List Attribute × ℕ) Cause)
         → prepend_attributes (cond (keep && is_used s.name) (a ∷ []) []) (rest >>= stored_all keep)
-        ≡ ((rest >>= behind a) >>= stored_all keep)
+        ≡ ((rest >>= with_first a) >>= stored_all keep)
     by_rest a named (Ok rest) = ap (λ (all : List Attribute). Ok (all, rest.1))
         (stored-cons keep s.name a rest.0 named)
     by_rest a named (Err e) = refl
@@ -97,7 +97,8 @@ stored-is keep format (s ∷ ss) bytes at le =
         ≡ first
         → ((first >>= stored_one (keep && is_used s.name)) >>= λ first. prepend_attributes first.0
         (steps_at format (steps_of keep format ss) bytes first.1))
-        ≡ ((first >>= λ a. attributes_at format ss bytes a.1 >>= behind a.0) >>= stored_all keep)
+        ≡ ((first >>= λ a. attributes_at format ss bytes a.1 >>= with_first a.0) >>=
+            stored_all keep)
     by_first rest (Ok a) is =
         rw (rest a.1 (attribute-stays format s bytes at a le is).1)
         (by_rest a.0 (attribute-name format s bytes at a is) (attributes_at format ss bytes a.1))

@@ -36,16 +36,16 @@ rising-modules held rising = record {
       (rising.names i j (numbered d) lt (omega (arith, within, count held)));
 }
 
-held_by : (m : Loaded) (address : ℕ) → holds address m ≡ true
+holds_bounds : (m : Loaded) (address : ℕ) → holds address m ≡ true
     → (start_of m ≤ address) × (address < end_of m)
-held_by m address h = grind (arith, nat_tests, h)
+holds_bounds m address h = grind (arith, nat_tests, h)
 
 not-both : (modules : List Loaded) (address i j : ℕ) (d : Loaded) → world.AreRising modules
     → i < j → j < length modules → holds address (get_or modules i d) ≡ true
     → holds address (get_or modules j d) ≡ true → ⊥
 not-both modules address i j d rising lt within one other =
-    let first = held_by (get_or modules i d) address one in
-    let second = held_by (get_or modules j d) address other in
+    let first = holds_bounds (get_or modules i d) address one in
+    let second = holds_bounds (get_or modules j d) address other in
     let apart = rising.apart i j d lt within in
     omega (arith, first.1, second.0, apart)
 

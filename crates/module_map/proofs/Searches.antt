@@ -137,18 +137,18 @@ module _ (held : List NumberedModule) (address n : ℕ) (rising : AreRising held
   others k d lt (inl before) = test-past _ _ address (passed k d before)
   others k d lt (inr after) = test-below _ _ address (started.after k d after lt)
 
-  pub held_here : (at : ℕ) → at + 1 ≡ n → ((d : NumberedModule)
+  pub located : (at : ℕ) → at + 1 ≡ n → ((d : NumberedModule)
       → address < end_of (get_or held at d).loaded)
       → position (λ h. holds address h.loaded) held ≡ Some at
-  held_here at last ends = is_at (λ (h : NumberedModule). holds address h.loaded) held at
+  located at last ends = is_at (λ (h : NumberedModule). holds address h.loaded) held at
       (let w = started.within in omega arith)
       (λ d. test-holds _ _ address (started.before at d last) (ends d))
       (λ k d lt. test-past _ _ address (passed k d (omega arith)))
 
-  pub held_nowhere : ((at : ℕ) (d : NumberedModule) → at + 1 ≡ n
+  pub located_nowhere : ((at : ℕ) (d : NumberedModule) → at + 1 ≡ n
       → end_of (get_or held at d).loaded ≤ address)
       → position (λ h. holds address h.loaded) held ≡ None
-  held_nowhere past =
+  located_nowhere past =
       is_nowhere (λ (h : NumberedModule). holds address h.loaded) held
       (λ k d lt. at_place k d lt (cases_lt (k + 1) n) (cases_lt k n))
     where

@@ -20,18 +20,18 @@ use Rattle.module_map.proofs.Positions.{is_at, is_nowhere, position_of_map}
 use Rattle.module_map.proofs.Names.{all-fail}
 
 module _ (p : Loaded → Bool) where
-  abbrev at_held : NumberedModule → Bool
-  at_held h = p h.loaded
+  abbrev at_loaded : NumberedModule → Bool
+  at_loaded h = p h.loaded
 
   none_any : (hs : List NumberedModule) → ((k : ℕ) (d : NumberedModule) → k < length hs
-      → at_held (get_or hs k d) ≡ false)
+      → at_loaded (get_or hs k d) ≡ false)
       → list_any p (map loaded_of hs) ≡ false
   none_any [] none = refl
   none_any (h ∷ hs) none = let first = none 0 h (omega arith) in
       rw first (none_any hs (λ k d lt. none (suc k) d (omega arith)))
 
   some_any : (hs : List NumberedModule) (i : ℕ) (d : NumberedModule) → i < length hs
-      → at_held (get_or hs i d) ≡ true
+      → at_loaded (get_or hs i d) ≡ true
       → list_any p (map loaded_of hs) ≡ true
   some_any [] i d lt here = absurd (omega arith)
   some_any (h ∷ hs) zero d lt here = rw here refl
@@ -43,15 +43,15 @@ module _ (p : Loaded → Bool) where
       or_true false = refl
 
   none_found : (hs : List NumberedModule)
-      → ((k : ℕ) (d : NumberedModule) → k < length hs → at_held (get_or hs k d) ≡ false)
+      → ((k : ℕ) (d : NumberedModule) → k < length hs → at_loaded (get_or hs k d) ≡ false)
       → find p (map loaded_of hs) ≡ None
   none_found [] none = refl
   none_found (h ∷ hs) none = let first = none 0 h (omega arith) in
       rw first (none_found hs (λ k d lt. none (suc k) d (omega arith)))
 
   some_found : (hs : List NumberedModule) (i : ℕ) (d : NumberedModule) → i < length hs
-      → at_held (get_or hs i d) ≡ true
-      → ((k : ℕ) → k < i → at_held (get_or hs k d) ≡ false)
+      → at_loaded (get_or hs i d) ≡ true
+      → ((k : ℕ) → k < i → at_loaded (get_or hs k d) ≡ false)
       → find p (map loaded_of hs) ≡ Some (get_or hs i d).loaded
   some_found [] i d lt here before = absurd (omega arith)
   some_found (h ∷ hs) zero d lt here before = rw here refl
@@ -59,29 +59,30 @@ module _ (p : Loaded → Bool) where
       let first = before 0 (omega arith) in
       rw first (some_found hs i d (omega arith) here (λ k k_lt. before (suc k) (omega arith)))
 
-  in-list : (hs : List NumberedModule) (i : ℕ) → position at_held hs ≡ Some i → i < length hs
+  in-list : (hs : List NumberedModule) (i : ℕ) → position at_loaded hs ≡ Some i → i < length hs
   in-list [] i e = cc
-  in-list (h ∷ hs) i e = (position-Some at_held (h ∷ hs) i h e).0
+  in-list (h ∷ hs) i e = (position-Some at_loaded (h ∷ hs) i h e).0
 
-  any_by : (hs : List NumberedModule) (o : Option ℕ) → position at_held hs ≡ o
+  any_by : (hs : List NumberedModule) (o : Option ℕ) → position at_loaded hs ≡ o
       → is_some o ≡ list_any p (map loaded_of hs)
-  any_by hs None e = sym (none_any hs (all-fail at_held hs e))
+  any_by hs None e = sym (none_any hs (all-fail at_loaded hs e))
   any_by [] (Some i) e = cc
-  any_by (h ∷ hs) (Some i) e = let at = position-Some at_held (h ∷ hs) i h e in
+  any_by (h ∷ hs) (Some i) e = let at = position-Some at_loaded (h ∷ hs) i h e in
       sym (some_any (h ∷ hs) i h at.0 at.1)
 
-  pub any_is : (hs : List NumberedModule) → is_some (position at_held hs)
+  pub any_is : (hs : List NumberedModule) → is_some (position at_loaded hs)
       ≡ list_any p (map loaded_of hs)
-  any_is hs = any_by hs (position at_held hs) refl
+  any_is hs = any_by hs (position at_loaded hs) refl
 
-  pub found_none : (hs : List NumberedModule) → position at_held hs ≡ None
+  pub found_none : (hs : List NumberedModule) → position at_loaded hs ≡ None
       → find p (map loaded_of hs) ≡ None
-  found_none hs e = none_found hs (all-fail at_held hs e)
+  found_none hs e = none_found hs (all-fail at_loaded hs e)
 
   pub found_some : (hs : List NumberedModule) (i : ℕ) (d : NumberedModule)
-      → position at_held hs ≡ Some i
+      → position at_loaded hs ≡ Some i
       → find p (map loaded_of hs) ≡ Some (get_or hs i d).loaded
-  found_some hs i d e = let at = position-Some at_held hs i d e in some_found hs i d at.0 at.1 at.2
+  found_some hs i d e = let at =
+      position-Some at_loaded hs i d e in some_found hs i d at.0 at.1 at.2
 
 pub slice_get_map : (hs : List NumberedModule) (i : ℕ) (d : NumberedModule) → i < length hs
     → slice_get (map loaded_of hs) i ≡ Some (get_or hs i d).loaded

@@ -67,9 +67,9 @@ read_again make read x next is = rw is refl
 -- ---- a length, followed by that many bytes
 
 -- the bytes after the encoding at an offset
-pub behind : (bytes : List ℕ) (at : ℕ) (front rest : List ℕ) → drop at bytes ≡ front ++ rest
+pub bytes-after : (bytes : List ℕ) (at : ℕ) (front rest : List ℕ) → drop at bytes ≡ front ++ rest
     → drop (at + length front) bytes ≡ rest
-behind bytes at front rest parts =
+bytes-after bytes at front rest parts =
     sym (drop-drop (length front) at bytes) ∙ ap (drop (length front)) parts
     ∙ drop_at front rest (length front) refl
 
@@ -86,7 +86,7 @@ counted-encoded L bytes at block next read stands e =
     let s = stands r.0.0 r.0.1 r.1 in
     let b = block-encoded r.0.0 bytes r.0.1 block next r.2 in
     let rest-is : s.rest ≡ b.front ++ b.rest =
-    sym (behind bytes at s.front s.rest s.parts) ∙ ap (λ (n : ℕ). drop n bytes) (sym s.next_is)
+    sym (bytes-after bytes at s.front s.rest s.parts) ∙ ap (λ (n : ℕ). drop n bytes) (sym s.next_is)
     ∙ b.parts in
     let size : length block ≡ r.0.0 = ap length b.encoded.1 ∙ b.encoded.0 in
     record {
@@ -123,7 +123,7 @@ counted-again L bytes at block next read within again s =
     let left = length-drop at bytes in
     let all = ap length parts ∙ length-append len (block ++ s.rest) in
     let blocked = block-of bytes (at + length len) block s.rest (omega (arith, left, all))
-    (behind bytes at len (block ++ s.rest) parts) in
+    (bytes-after bytes at len (block ++ s.rest) parts) in
     let end : at + length len + length block ≡ next =
     omega (arith, s.next_is, ap length s.encoded.1, length-append len block) in
     rw (counted, blocked) (ap (λ (n : ℕ). Ok (block, n)) end)

@@ -14,7 +14,7 @@ use Rattle.dwarf_bytes.specs.Numbers.{IsFixed, IsLongLength, IsInitialLength, Is
 use Rattle.dwarf_bytes.specs.Numbers.{u64_at, initial_length_at}
 use Rattle.dwarf_bytes.proofs.Numbers.Advance.{after-bind, chosen}
 use Rattle.dwarf_bytes.proofs.Numbers.AtOffsets.{fixed-encoded, fixed-again}
-use Rattle.dwarf_bytes.proofs.Contents.ContentLaws.{behind}
+use Rattle.dwarf_bytes.proofs.Contents.ContentLaws.{bytes-after}
 use Rattle.dwarf_bytes.proofs.Contents.ContentEncodings.{front-within}
 
 -- the result of a read: the format, the length, and the offset after it
@@ -41,7 +41,7 @@ long-encoded : (bytes : List ℕ) (at first mid len next : ℕ) → IsEncodedAt 
     → IsEncodedAt IsLongLength bytes at len next
 long-encoded bytes at first mid len next a is b =
     let rest-is : a.rest ≡ b.front ++ b.rest =
-    sym (behind bytes at a.front a.rest a.parts) ∙ ap (λ (n : ℕ). drop n bytes) (sym a.next_is)
+    sym (bytes-after bytes at a.front a.rest a.parts) ∙ ap (λ (n : ℕ). drop n bytes) (sym a.next_is)
     ∙ b.parts in
     record {
       front = a.front ++ b.front;
@@ -108,7 +108,7 @@ initial-again Dwarf64 bytes at len next s =
     s.parts ∙ ap (λ (b : List ℕ). b ++ s.rest) t.whole ∙ append_assoc t.escape t.long s.rest in
     let mid : ℕ = at + length t.escape in
     let there : drop mid bytes ≡ t.long ++ s.rest =
-    behind bytes at t.escape (t.long ++ s.rest) parts in
+    bytes-after bytes at t.escape (t.long ++ s.rest) parts in
     let first = fixed-again 4 bytes at 0xffffffff mid
     (front-within bytes at t.escape (t.long ++ s.rest) parts (omega (arith, t.escape_is.0)))
     (record {

@@ -201,9 +201,9 @@ IsExtent bytes result =
     × (e.0 ≡ low bytes)
     × (e.1 ≡ high bytes)) (λ f. first_fault sections.Elf (load_items bytes) ≡ Some f)
 
-pub told : (bytes : List ℕ) (extent : Option (ℕ × ℕ)) (fault : LoadFault)
+pub extent-of : (bytes : List ℕ) (extent : Option (ℕ × ℕ)) (fault : LoadFault)
     → fault ≡ record { section = sections.Elf; cause = causes.NoLoad; at = 0 }
     → try_fold with_program_header None (program_headers bytes) ≡ Ok extent
     → IsExtent bytes (ok_or extent fault)
-told bytes None fault is h = extent-none bytes h ∙ ap (λ (f : LoadFault). Some f) (sym is)
-told bytes (Some e) fault is h = extent-found bytes e h
+extent-of bytes None fault is h = extent-none bytes h ∙ ap (λ (f : LoadFault). Some f) (sym is)
+extent-of bytes (Some e) fault is h = extent-found bytes e h

@@ -176,8 +176,8 @@ steps_at format [] bytes at = Ok ([], at)
 steps_at format (step ∷ steps) bytes at = step_at format step bytes at
     >>= λ first. prepend_attributes first.0 (steps_at format steps bytes first.1)
 
--- The output argument contains what is read, and the cursor is after it. The call may also fail
--- because memory ran out.
+-- The call stores the value at the cursor in the output argument and moves the cursor after it. It
+-- may also fail because memory ran out.
 abbrev pub Fills : {Y : Type 0} → Result (Unit {0}) Cause → Y
     → (List ℕ → ℕ → Result (Y × ℕ) Cause) → Position → Position → Type 0
 Fills (Ok u) left read old new =

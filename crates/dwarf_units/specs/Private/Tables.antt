@@ -34,7 +34,7 @@ table_read budget section unit =
 abbrev pub Refuses : {X Y : Type 0} → Result X LoadFault → Result Y LoadFault → Type 0
 Refuses result outcome = IfErr result (λ fault. (fault ≡ memory_fault) ⊎ (outcome ≡ Err fault))
 
--- A table is what is parsed at its offset.
+-- A table has the declarations that are parsed at its offset.
 abbrev pub IsParsedFrom : List ℕ → Table → Type 0
 IsParsedFrom section table =
     declarations_of declarations_limit section table.offset ≡ Ok table.declarations

@@ -23,8 +23,8 @@ use Rattle.dwarf_walk.specs.Private.Stored.{scope_entry_of}
 use Rattle.dwarf_walk.specs.Private.Long.{cached_at, long_entry, AreCachedOf}
 use Rattle.dwarf_walk.specs.Private.Named.{entry_with, used_at, named_entry_at}
 
--- The first part of what is read is the result, and the second part is in the output argument. The
--- call may also fail because memory ran out.
+-- The call returns the first part of the outcome and stores the second part in the output argument.
+-- It may also fail because memory ran out.
 abbrev pub ReturnsAndStores : {X Y : Type 0} → Result X Cause → Y → Result (X × Y) Cause → Type 0
 ReturnsAndStores (Ok x) left outcome = outcome ≡ Ok (x, left)
 ReturnsAndStores (Err cause) left outcome = Fails cause outcome

@@ -57,7 +57,7 @@ pub record Overlaps (held : List NumberedModule) (own low high at : ℕ) : Type 
 abbrev pub rebased : ℕ → NumberedModule → NumberedModule
 rebased base h = record h { loaded = moved_to base h.loaded }
 
--- the module at index own is removed, and a module is inserted at the gap
+-- the module at index own is removed, and a module is inserted where index at was before
 abbrev pub relocated : List NumberedModule → ℕ → ℕ → NumberedModule → List NumberedModule
 relocated held own at h = insert (remove held own) (if nat_le at own then at else at - 1) h
 

@@ -32,10 +32,10 @@ pub returns-in-Some : goal.returns-in-Some
 returns-in-Some c =
     let bytes = c.args.cursor.now.bytes in
     let inv = c.loop-number.invariant in
-    let joined = rw (c.deref.ensures.value, inv.bytes) at c.in_ok-join.ensures.0 in
+    let both-parts = rw (c.deref.ensures.value, inv.bytes) at c.in_ok-join.ensures.0 in
     let read = so-far-append bytes c.args.cursor.now.place c.loop-number.attributes.items
     c.loop-number.cursor.place (attributes_from c.args.lists.now.memoized c.in-Some.number)
-    c.join.new.cursor.place inv.read joined in (
+    c.join.new.cursor.place inv.read both-parts in (
       stretch-is c.args.lists.now bytes c.args.cursor.now.place c.join.new.cursor.place _ c.requires
           read inv.places (memoized-number c.args.lists.now.memoized c.in-Some.number _
           c.in-Some.ensures.some) (omega (arith, c.in-Some.ensures.behind, c.len.ensures))
