@@ -141,7 +141,7 @@ attribute-encoded section = record { item = item; end = end }
         (stretch-of IsUleb section at name.0 name.1 a)
         (stretch-of IsUleb section name.1 form.0 form.1 b) in
         let abc = both-parts section at (a.front ++ b.front) c.front form.1 constant.1 b.rest
-            c.rest ab
+        c.rest ab
         (stretch-of (EncodesConstant form.0) section form.1 constant.0 constant.1 c) in
         let it : AttributeSpecification =
         record { name = name.0; form = form.0; constant = constant.0 } in

@@ -13,10 +13,10 @@ use Rattle.dwarf_forms.proofs.SuffixLists.{attributes-after}
 
 -- ---- offsets
 
-pub behind-is : (section : List ℕ) (before : List AttributeSpecification) (at : ℕ)
+pub offset_after-is : (section : List ℕ) (before : List AttributeSpecification) (at : ℕ)
     (x : AttributeSpecification) (after : ℕ) → attribute_at section before at ≡ Ok (Item x after)
     → offset_after section at ≡ after
-behind-is section before at x after is =
+offset_after-is section before at x after is =
     rw (attribute-again section before [] at x after is refl) refl
 
 pub place_after-push : (section : List ℕ) (n at : ℕ) → place_after section at (suc n)
@@ -50,7 +50,8 @@ after-read section zero at xs after read le = read
 after-read section (suc n) at [] after read le = absurd (omega (arith, le))
 after-read section (suc n) at (x ∷ xs) after read le =
     let behind = attributes-after section at x xs after read in
-    let mid : offset_after section at ≡ behind.0 = behind-is section [] at x behind.0 behind.1 in
+    let mid : offset_after section at ≡ behind.0 =
+    offset_after-is section [] at x behind.0 behind.1 in
     after-read section n (offset_after section at) xs after
     (subst (λ (k : ℕ). attributes_at section k ≡ Ok (xs, after)) (sym mid) behind.2)
     (omega (arith, le))
@@ -134,7 +135,7 @@ after-more section first own x at after is read =
     length-append own (x ∷ []) ∙ omega arith in
     sym (ap (λ (n : ℕ). place_after section first n) len
     ∙ (place_after-push section (length own) first
-    ∙ (ap (λ (k : ℕ). offset_after section k) (sym is) ∙ behind-is section own at x after
+    ∙ (ap (λ (k : ℕ). offset_after section k) (sym is) ∙ offset_after-is section own at x after
     read)))
 
 -- the attributes of a list are at different offsets

@@ -73,7 +73,7 @@ declaration-encoded budget section = record { item = item; end = end }
             let front = head-encoded budget section before at head mid is in
             let others = attributes-encoded section mid attributes attributes_are in
             let whole = both-parts section at front.0.front others.0.front mid attributes.1
-                front.0.rest
+            front.0.rest
             others.0.rest (stretch-of EncodesHead section at head mid front.0)
             (stretch-of EncodesAttributes section mid attributes.0 attributes.1 others.0) in
             let it : Declaration = record {

@@ -162,8 +162,9 @@ fixed_size-node memoized shared table depth code unit at head view is some small
     subst (λ (t : Table). IsFixedSizeNode t depth unit at (head, at + 1 + head.len)) view
     (by_found (find (λ d. d.code == code) shared.declarations) refl is)
   where
-    Stands : Type 0
-    Stands = IsFixedSizeNode (full_table memoized shared) depth unit at (head, at + 1 + head.len)
+    IsNodeThere : Type 0
+    IsNodeThere = IsFixedSizeNode (full_table memoized shared) depth unit at
+        (head, at + 1 + head.len)
 
     by_declaration : (d : SharedDeclaration) (declared : List AttributeSpecification) (len : ℕ)
         → find (λ d. d.code == code) shared.declarations ≡ Some d → all_of memoized d.list
@@ -171,7 +172,7 @@ fixed_size-node memoized shared table depth code unit at head view is some small
         → skipped_len (steps_of false shared.format declared) ≡ Some len
         → (let h : FixedSizeHead = record { tag = d.tag; children = d.children; len = len } in h)
         ≡ head
-        → Stands
+        → IsNodeThere
     by_declaration d declared len found all skipped same =
         let len_is : len ≡ head.len = ap (λ (h : FixedSizeHead). h.len) same in
         let tag : d.tag ≡ head.tag = ap (λ (h : FixedSizeHead). h.tag) same in
@@ -195,7 +196,7 @@ fixed_size-node memoized shared table depth code unit at head view is some small
         → all_of memoized d.list ≡ d.list.own → (len : Option ℕ)
         → skipped_len (steps_of false shared.format d.list.own) ≡ len
         → option_map (λ len. let h : FixedSizeHead =
-        record { tag = d.tag; children = d.children; len = len } in h) len ≡ Some head → Stands
+        record { tag = d.tag; children = d.children; len = len } in h) len ≡ Some head → IsNodeThere
     by_len d found all None skipped h = cc
     by_len d found all (Some len) skipped h =
         by_declaration d d.list.own len found all skipped (same_Some _ head h)
@@ -204,12 +205,12 @@ fixed_size-node memoized shared table depth code unit at head view is some small
         → (rest : Option ℕ) → d.list.rest ≡ rest
         → cond (is_some rest) None (option_map
         (λ len. let h : FixedSizeHead = record { tag = d.tag; children = d.children; len = len } in
-        h) (skipped_len (steps_of false shared.format d.list.own))) ≡ Some head → Stands
+        h) (skipped_len (steps_of false shared.format d.list.own))) ≡ Some head → IsNodeThere
     by_rest d found (Some number) none h = cc
     by_rest d found None none h = by_len d found (rw none (append-nil d.list.own))
         (skipped_len (steps_of false shared.format d.list.own)) refl h
 
     by_found : (found : Option SharedDeclaration) → find (λ d. d.code == code) shared.declarations
-        ≡ found → option_map_or (fixed_size_of shared.format) found None ≡ Some head → Stands
+        ≡ found → option_map_or (fixed_size_of shared.format) found None ≡ Some head → IsNodeThere
     by_found None found h = cc
     by_found (Some d) found h = by_rest d found d.list.rest refl h

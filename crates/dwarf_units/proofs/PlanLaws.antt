@@ -98,7 +98,7 @@ stored-is keep format (s ∷ ss) bytes at le =
         → ((first >>= stored_one (keep && is_used s.name)) >>= λ first. prepend_attributes first.0
         (steps_at format (steps_of keep format ss) bytes first.1))
         ≡ ((first >>= λ a. attributes_at format ss bytes a.1 >>= with_first a.0) >>=
-            stored_all keep)
+        stored_all keep)
     by_first rest (Ok a) is =
         rw (rest a.1 (attribute-stays format s bytes at a le is).1)
         (by_rest a.0 (attribute-name format s bytes at a is) (attributes_at format ss bytes a.1))

@@ -66,13 +66,13 @@ advances info header table before at x after h =
     (moved.0, omega (arith, moved.1, length-take header.end info))
 
 -- The node that a step reads, given the nodes before it.
-behind-is : (format : Format) (table : List Declaration) (unit : List ℕ) (before : List LocatedNode)
+after-is : (format : Format) (table : List Declaration) (unit : List ℕ) (before : List LocatedNode)
     (at : ℕ) (x : Result (Node × ℕ) Cause) → at < length unit → IsTree before
     → node_at_depth format table (depth_after before) (is_some (root_in (filter_map die_of before)))
     unit at ≡ x
     → node_at format table unit before at
     ≡ (x >>= λ node. Ok (Item (standing before at node.0) node.1))
-behind-is format table unit before at x within tree is =
+after-is format table unit before at x within tree is =
     let test : nat_le (length unit) at ≡ false = lt-leb (length unit) at within in
     rw (test, tree.rooted, is) refl
 
@@ -130,7 +130,7 @@ walk-item info header table bitmap marked after unit at next was is same within 
     ≡ Ok (Item (standing before at node.0) node.1) =
     subst (λ (u : List ℕ). node_at header.format table u before at
     ≡ Ok (Item (standing before at node.0) node.1)) same
-    (behind-is header.format table unit before at (Ok node) within so_far.tree node_is) in
+    (after-is header.format table unit before at (Ok node) within so_far.tree node_is) in
     record {
       moves = omega (arith, moved.0, place);
       within = omega (arith, moved.1, place, ap length same);
@@ -224,7 +224,7 @@ walk-fault info header table bitmap marked unit at was cause fault same within s
     faulty : node_at header.format table (take header.end info) before at ≡ Err cause
     faulty =
         subst (λ (u : List ℕ). node_at header.format table u before at ≡ Err cause) same
-        (behind-is header.format table unit before at (Err cause) within so_far.tree
+        (after-is header.format table unit before at (Err cause) within so_far.tree
         (behind_fault (node_at_depth header.format table (depth_after before)
         (is_some (root_in (filter_map die_of before))) unit at) here))
 

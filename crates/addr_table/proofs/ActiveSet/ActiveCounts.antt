@@ -36,7 +36,7 @@ active-counts reaches opens closes p q a active h b ol oh cl ch k =
     let c1 : keyed k (take q closes) ≤ sum_by (one_upto k a) closes = taken-low k a q closes cl in
     let c2 : sum_by (one_upto k a) closes ≤ keyed k (take q closes) = taken-high k a q closes ch in
     let e : sum_by (one_upto k a) opens
-        ≡ sum_by (one_upto k a) closes + count_with_key k a reaches =
+    ≡ sum_by (one_upto k a) closes + count_with_key k a reaches =
     ends-balance reaches opens closes k a h in
     omega arith
 
@@ -54,7 +54,7 @@ close-active reaches opens closes p q a active h b oh cl k one =
     let c1 : keyed k (take (q + 1) closes) ≤ sum_by (one_upto k a) closes =
     taken-low k a (q + 1) closes cl in
     let e : sum_by (one_upto k a) opens
-        ≡ sum_by (one_upto k a) closes + count_with_key k a reaches =
+    ≡ sum_by (one_upto k a) closes + count_with_key k a reaches =
     ends-balance reaches opens closes k a h in
     omega arith
 

@@ -9,8 +9,9 @@ use Rattle.addr_table.specs.Chains.{chain_of}
 use Rattle.addr_table.specs.Places.{last, scope_at}
 use Rattle.addr_table.specs.Private.Bits.{is_filled, IsFirstIn}
 use Rattle.addr_table.specs.Private.Sweep.{IsActiveBelow, IsActiveAt}
-use Rattle.addr_table.proofs.Chains.ChainLaws.{chain-none, chain-some, inside, inside-none}
-use Rattle.addr_table.proofs.Chains.ChainLaws.{inside-some}
+use Rattle.addr_table.proofs.Chains.ChainLaws.{chain-none, chain-some, chain_inside}
+use Rattle.addr_table.proofs.Chains.ChainLaws.{chain_inside-none}
+use Rattle.addr_table.proofs.Chains.ChainLaws.{chain_inside-some}
 use Rattle.addr_table.proofs.Chains.ChainLaws.{number-at}
 
 -- ---- walking down the chain
@@ -35,8 +36,9 @@ no_scope =
 -- below scope n are not counted yet.
 pub record IsWalked (a : ℕ) (scopes : List Scope) (n before now : ℕ) : Type 0 where
   pub last_is : last (chain_of a scopes)
-      ≡ last (get_or scopes n no_scope ∷ inside a scopes n no_scope)
-  pub calls : now + length (inside a scopes n no_scope) + 1 ≤ before + length (chain_of a scopes) +
+      ≡ last (get_or scopes n no_scope ∷ chain_inside a scopes n no_scope)
+  pub calls : now + length (chain_inside a scopes n no_scope) + 1 ≤ before + length
+      (chain_of a scopes) +
       1
 
 pub walk-start : (rows a n limit before now : ℕ) (scopes : List Scope) (counts : List ℕ)
@@ -46,7 +48,7 @@ pub walk-start : (rows a n limit before now : ℕ) (scopes : List Scope) (counts
     → IsWalked a scopes n before now
 walk-start rows a n limit before now scopes counts numbered h under found le =
     let is = chain-some rows a n limit scopes counts no_scope numbered h under found in
-    let len : length (chain_of a scopes) ≡ suc (length (inside a scopes n no_scope)) =
+    let len : length (chain_of a scopes) ≡ suc (length (chain_inside a scopes n no_scope)) =
     ap length is in
     record { last_is = ap last is; calls = omega arith }
 
@@ -58,10 +60,12 @@ pub walk-more : (rows a n m limit before now after : ℕ) (scopes : List Scope) 
     (Some (rows + length scopes + m))
     → IsWalked a scopes n before now → after ≤ now + 1 → IsWalked a scopes m before after
 walk-more rows a n m limit before now after scopes counts numbered h lt under found w le =
-    let is = inside-some rows a n m limit scopes counts no_scope numbered h lt under found in
-    let len : length (inside a scopes n no_scope) ≡ suc (length (inside a scopes m no_scope)) =
+    let is = chain_inside-some rows a n m limit scopes counts no_scope numbered h lt under found in
+    let len : length (chain_inside a scopes n no_scope)
+    ≡ suc (length (chain_inside a scopes m no_scope)) =
     ap length is in
-    let was : now + length (inside a scopes n no_scope) + 1 ≤ before + length (chain_of a scopes) +
+    let was : now + length (chain_inside a scopes n no_scope) + 1 ≤ before + length
+    (chain_of a scopes) +
     1 = w.calls in
     record {
       last_is = w.last_is ∙ ap (λ (ss : List Scope). last (get_or scopes n no_scope ∷ ss))
@@ -78,9 +82,10 @@ pub walk-end : (rows a n limit before now after : ℕ) (scopes : List Scope) (co
     → IsWalked a scopes n before now → after ≤ now + 1
     → (Some n ≡ scope_at scopes a) × (after ≤ before + length (chain_of a scopes) + 1)
 walk-end rows a n limit before now after scopes counts numbered h lt fits none w le =
-    let is = inside-none rows a n limit scopes counts no_scope numbered h lt fits none in
-    let len : length (inside a scopes n no_scope) ≡ 0 = ap length is in
-    let was : now + length (inside a scopes n no_scope) + 1 ≤ before + length (chain_of a scopes) +
+    let is = chain_inside-none rows a n limit scopes counts no_scope numbered h lt fits none in
+    let len : length (chain_inside a scopes n no_scope) ≡ 0 = ap length is in
+    let was : now + length (chain_inside a scopes n no_scope) + 1 ≤ before + length
+    (chain_of a scopes) +
     1 = w.calls in
     let at = number-at 0 (length scopes) n scopes no_scope numbered lt in
     let number : (get_or scopes n no_scope).number ≡ 0 + n = at.0 in

@@ -37,9 +37,9 @@ pub record OfUnit (scopes : List Scope) (first past number : ℕ) : Type 0 where
   pub low : first ≤ number
   pub high : number < min past (length scopes)
 
-inside : (scopes : List Scope) (first past number : ℕ) → OfUnit scopes first past number
+number-within : (scopes : List Scope) (first past number : ℕ) → OfUnit scopes first past number
     → number - first < length (slice_range scopes first past)
-inside scopes first past number h =
+number-within scopes first past number h =
     let low : first ≤ number = h.low in
     let high : number < min past (length scopes) = h.high in
     let len : length (slice_range scopes first past) ≡ min (past - first) (length scopes - first) =
@@ -72,7 +72,8 @@ scopes-more lines scopes first past number d of h good =
     rw next
     (each-more (check_scope lines) (slice_range scopes first past) (number - first)
     (get_or scopes number d) tt h
-    (inside scopes first past number of) (there scopes first past number d of) (rw good refl))
+    (number-within scopes first past number of) (there scopes first past number d of)
+    (rw good refl))
 
 pub scopes-invalid : (lines : Lines) (scopes : List Scope) (first past number at : ℕ) (d : Scope)
     → OfUnit scopes first past number
@@ -84,7 +85,7 @@ scopes-invalid lines scopes first past number at d of h bad is =
     rw is
     (each-invalid (check_scope lines) (slice_range scopes first past) (number - first)
     (get_or scopes number d)
-    (causes.CallFile, (get_or scopes number d).offset) h (inside scopes first past number of)
+    (causes.CallFile, (get_or scopes number d).offset) h (number-within scopes first past number of)
     (there scopes first past number d of)
     (rw bad refl))
 

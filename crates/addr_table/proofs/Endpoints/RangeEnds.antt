@@ -36,13 +36,13 @@ above-next e f (x ∷ xs) h is lt gap = elim gap.0 [
   | inl low ↦
       let a : nat_lt e x ≡ false = grind (arith, nat_tests) in
       let b : nat_lt f x ≡ false = grind (arith, nat_tests) in
-      rw (a, b) (above-next e f xs (tail x xs h) (later low is) lt gap.1)
+      rw (a, b) (above-next e f xs (rise-rest x xs h) (later low is) lt gap.1)
   | inr high ↦ at_it high is
 ]
   where
-    tail : (x : ℕ) (xs : List ℕ) → RiseFrom x xs → Rise xs
-    tail x [] h = tt
-    tail x (y ∷ ys) h = h.1
+    rise-rest : (x : ℕ) (xs : List ℕ) → RiseFrom x xs → Rise xs
+    rise-rest x [] h = tt
+    rise-rest x (y ∷ ys) h = h.1
 
     later : x ≤ e → IsAmong f (x ∷ xs) → IsAmong f xs
     later low among = elim among [ inl same ↦ absurd (omega arith) | inr rest ↦ rest ]

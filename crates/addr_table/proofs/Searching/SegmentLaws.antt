@@ -6,14 +6,14 @@ use Rattle.addr_table.specs.Decoded.{Decoded, decoded}
 use Rattle.addr_table.specs.Places.{place_at}
 use Rattle.addr_table.specs.Segments.{Segment, AreDisjoint, segments_of, place_among}
 use Rattle.addr_table.specs.Module.{by_decoded, segments_in, most_segments_in, place_in}
-use Rattle.addr_table.proofs.Searching.SegmentListLaws.{place_among-segments, cuts_are_disjoint}
+use Rattle.addr_table.proofs.Searching.SegmentListLaws.{place_among-segments, segments_are_disjoint}
 use Rattle.addr_table.proofs.Sweeping.BoundLaws.{segments-bounded}
 
 abbrev segments_by : Result Decoded LoadFault → List Segment
 segments_by = by_decoded [] (λ d. segments_of d.lines.rows d.tree.scopes)
 
 disjoint-by : (read : Result Decoded LoadFault) → AreDisjoint (segments_by read)
-disjoint-by (Ok d) = cuts_are_disjoint d.lines.rows d.tree.scopes
+disjoint-by (Ok d) = segments_are_disjoint d.lines.rows d.tree.scopes
 disjoint-by (Err fault) = tt
 
 pub disjoint-in : (bytes : List ℕ) → AreDisjoint (segments_in bytes)

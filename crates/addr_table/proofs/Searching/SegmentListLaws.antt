@@ -240,8 +240,8 @@ segments-disjoint rows scopes (e ∷ f ∷ fs) rise =
     one (Some p) later = let same : f ≤ f = omega arith in
         (rise.0, segments-begin rows scopes f f fs same rise.1, later)
 
-pub cuts_are_disjoint : (rows : List Row) (scopes : List Scope) → AreDisjoint
+pub segments_are_disjoint : (rows : List Row) (scopes : List Scope) → AreDisjoint
     (segments_of rows scopes)
 unfolding segments_of
-cuts_are_disjoint rows scopes = segments-disjoint rows scopes (ends_of (ranges_of rows scopes))
+segments_are_disjoint rows scopes = segments-disjoint rows scopes (ends_of (ranges_of rows scopes))
     (ends_rise (ranges_of rows scopes))

@@ -53,9 +53,9 @@ rising-among z (x ∷ xs) h = elim h [
   | inr later ↦ among-more z x (rising xs) (rising-among z xs later)
 ]
 
-tail : (x : ℕ) (xs : List ℕ) → RiseFrom x xs → Rise xs
-tail x [] h = tt
-tail x (y ∷ ys) h = h.1
+rise-rest : (x : ℕ) (xs : List ℕ) → RiseFrom x xs → Rise xs
+rise-rest x [] h = tt
+rise-rest x (y ∷ ys) h = h.1
 
 abbrev pub AllAmong : List ℕ → List ℕ → Type 0
 AllAmong xs ys = AllByRecursion (λ x. IsAmong x ys) xs
@@ -80,13 +80,13 @@ fewer (x ∷ xs) (y ∷ ys) a b h = elim h.0 [
   | inl same ↦
       let up : AllByRecursion (λ z. y < z) xs =
       each-weaker (λ z. x < z) (λ z. y < z) (λ z lt. omega arith) xs (above-all x xs a) in
-      let rest = fewer xs ys (tail x xs a) (tail y ys b) (above-others y ys xs up h.1) in
+      let rest = fewer xs ys (rise-rest x xs a) (rise-rest y ys b) (above-others y ys xs up h.1) in
       omega arith
   | inr later ↦
       let lt : y < x = among-above y x ys b later in
       let up : AllByRecursion (λ z. y < z) xs =
       each-weaker (λ z. x < z) (λ z. y < z) (λ z far. omega arith) xs (above-all x xs a) in
-      let rest = fewer (x ∷ xs) ys a (tail y ys b) (later, above-others y ys xs up h.1) in
+      let rest = fewer (x ∷ xs) ys a (rise-rest y ys b) (later, above-others y ys xs up h.1) in
       omega arith
 ]
 

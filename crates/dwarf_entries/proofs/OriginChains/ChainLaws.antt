@@ -168,7 +168,7 @@ followed-next units remaining m left after found next place firsts firsts_after 
       at = again to.0 to.2;
       rest = so_far.rest ∙ (followed-on units so_far.before left after so_far.last reference left_is
           hop (Ok to.0) to.1 ∙ prepend-append so_far.before so_far.last
-              (chain_within after units to.0));
+          (chain_within after units to.0));
       stored = more (so_far.before ++ so_far.last ∷ []) to.0 so_far.stored (again to.0 to.2);
     }
 

@@ -48,9 +48,9 @@ found-encoded bytes at found h = by_front (text_front (drop at bytes)) h
     by_front None h = cc
     by_front (Some front) h = ap (λ (t : List ℕ). Ok (t, at + length t + 1)) (same-ok front found h)
 
-stands : (bytes : List ℕ) (at : ℕ) (found : List ℕ)
+text-at : (bytes : List ℕ) (at : ℕ) (found : List ℕ)
     → IsEncodedAt IsText bytes at found (at + length found + 1) → IsTextAt bytes at
-stands bytes at found s =
+text-at bytes at found s =
     let parts : drop at bytes ≡ found ++ 0 ∷ s.rest =
     s.parts ∙ ap (λ (t : List ℕ). t ++ s.rest) s.encoded.0 ∙ append_assoc found (0 ∷ [])
     s.rest in
@@ -77,7 +77,7 @@ text_in-is_text s name bytes at found bytes_are h =
     let begins : TextOffset = record { section = name; offset = at } in
     after-bind (reading (text_at bytes at)) (λ _. Ok begins) found h (IsTextOf s found)
     (λ content content_is last.
-    let here = stands bytes at content (text-encoded bytes at content (at + length content + 1)
+    let here = text-at bytes at content (text-encoded bytes at content (at + length content + 1)
     (found-encoded bytes at content (reading-ok (text_at bytes at) content content_is))) in
     let described : IsTextOf s begins = subst (λ (bs : List ℕ). IsTextAt bs at) (sym bytes_are) here
     in

@@ -60,7 +60,8 @@ each-past make before y ys h = cc
 
 -- ---- the parts of a scope, after the scopes before it
 
-pub record IsJudged (sections : Sections) (units : List CompilationUnit) (before : List ParsedScope)
+pub record IsChecked (sections : Sections) (units : List CompilationUnit)
+    (before : List ParsedScope)
     (p : ScopeSite) (j : ParsedScope) : Type 0 where
   pub found : EntryNames
   pub found_are : names_of sections units p.member ≡ Ok found
@@ -70,9 +71,9 @@ pub record IsJudged (sections : Sections) (units : List CompilationUnit) (before
 
 is-parsed : (sections : Sections) (units : List CompilationUnit) (before : List ParsedScope)
     (p : ScopeSite) (j : ParsedScope) → make sections units before p ≡ Ok j
-    → IsJudged sections units before p j
+    → IsChecked sections units before p j
 is-parsed sections units before p j h =
-    let P : Type 0 = IsJudged sections units before p j in
+    let P : Type 0 = IsChecked sections units before p j in
     after-bind (names_of sections units p.member)
     (λ found. covering_at sections before p
     >>= λ covering. Ok (checked_by before p found covering)) j
@@ -94,7 +95,7 @@ abbrev pub AreParsed : Sections → List CompilationUnit → List ParsedScope �
 AreParsed sections units before [] [] = Unit {0}
 AreParsed sections units before [] (j ∷ js) = ⊥
 AreParsed sections units before (p ∷ ps) [] = ⊥
-AreParsed sections units before (p ∷ ps) (j ∷ js) = IsJudged sections units before p j
+AreParsed sections units before (p ∷ ps) (j ∷ js) = IsChecked sections units before p j
     × AreParsed sections units (before ++ j ∷ []) ps js
 
 are-parsed : (sections : Sections) (units : List CompilationUnit) (before : List ParsedScope)

@@ -36,14 +36,15 @@ unit-start info at header h =
     after-test (nat_lt (length info) (len.1 + len.0.1)) causes.Short _ header h1 P (λ _ h2.
     (header_in-places at len.0.0 (take (len.1 + len.0.1) info) len.1 header h2).0))
 
-listed : (info : List ℕ) (before : List UnitHeader) (at : ℕ) (headers : List UnitHeader) (after : ℕ)
+list-contiguous : (info : List ℕ) (before : List UnitHeader) (at : ℕ) (headers : List UnitHeader)
+    (after : ℕ)
     → Lists (header_at info) before at headers after → at ≤ length info
     → AreContiguous info at headers
-listed info before at [] after h le =
+list-contiguous info before at [] after h le =
     chosen (nat_le (length info) at) _ _ (Ok (End after)) h (at ≡ length info)
     (λ past _. let ge = ge-from at (length info) past in omega (arith, le, ge)) (λ _ h1.
     after-bind (unit_at info at) _ (End after) h1 (at ≡ length info) (λ _ _ last. cc))
-listed info before at (header ∷ headers) after h le =
+list-contiguous info before at (header ∷ headers) after h le =
     let P : Type 0 = AreContiguous info at (header ∷ headers) in
     chosen (nat_le (length info) at) _ _ (Ok (Item header h.0)) h.1 P (λ _ is. cc) (λ _ h1.
     after-bind (unit_at info at) _ (Item header h.0) h1 P (λ found found_is last.
@@ -52,7 +53,7 @@ listed info before at (header ∷ headers) after h le =
     subst (λ (u : UnitHeader). unit_at info at ≡ Ok u) same.0 found_is in
     let moves = unit_at-moves info at header read in
     let place : h.0 ≡ header.end = sym same.1 ∙ ap (λ (u : UnitHeader). u.end) same.0 in
-    let rest = listed info (before ++ header ∷ []) h.0 headers after h.2
+    let rest = list-contiguous info (before ++ header ∷ []) h.0 headers after h.2
     (omega (arith, place, moves.1)) in (
       read,
       unit-start info at header read,
@@ -68,7 +69,7 @@ units-contiguous info headers h =
     after-bind (items_from (length info) (header_at info) [] 0) (λ all. Ok all.0) headers h
     (AreContiguous info 0 headers) (λ all all_is last.
     subst (AreContiguous info 0) (same-ok all.0 headers last)
-    (listed info [] 0 all.0 all.1 (Lists-within _ (header_at info) [] 0 all.0 all.1 all_is)
+    (list-contiguous info [] 0 all.0 all.1 (Lists-within _ (header_at info) [] 0 all.0 all.1 all_is)
     (omega arith)))
 
 -- ---- the nodes of a unit

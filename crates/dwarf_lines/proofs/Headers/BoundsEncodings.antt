@@ -20,7 +20,7 @@ use Rattle.dwarf_lines.proofs.Lists.Spans.{Stretch, stretch, stretch-of, encoded
 use Rattle.dwarf_lines.proofs.Lists.Spans.{rest-of, two-bytes, fixed-encoded, fixed-again}
 use Rattle.dwarf_lines.proofs.Lists.Spans.{byte-encoded, byte-again}
 use Rattle.dwarf_lines.proofs.Headers.PathEncodings.{offset-encoded, offset-again}
-use Rattle.dwarf_lines.proofs.Headers.ParameterEncodings.{asked-for, inside}
+use Rattle.dwarf_lines.proofs.Headers.ParameterEncodings.{asked-for, front-within}
 
 -- ---- bytes truncated at an end
 
@@ -42,7 +42,7 @@ pub uncut : (n : ℕ) (bytes : List ℕ) (at : ℕ) (front : List ℕ) (next : �
     → Stretch bytes at front next
 uncut n bytes at front next some there =
     let starts : at ≤ length (take n bytes) =
-    omega (arith, there.next_is, inside (take n bytes) at front next some there) in
+    omega (arith, there.next_is, front-within (take n bytes) at front next some there) in
     let parts : drop at bytes ≡ front ++ (drop next (take n bytes) ++ drop n bytes) =
     ap (drop at) (sym (take-append-drop n bytes))
     ∙ (drop-append-le at (take n bytes) (drop n bytes) starts
@@ -152,9 +152,9 @@ bounds-encoded line place b h =
 within-again : (bytes : List ℕ) (place found : ℕ) → found ≡ place → found ≤ length bytes
     → within bytes place ≡ Ok found
 within-again bytes place found is le =
-    let inside : nat_le place (length bytes) ≡ true =
+    let front-within : nat_le place (length bytes) ≡ true =
     fits place (length bytes) (omega (arith, is, le)) in
-    rw inside (ap (λ (n : ℕ). Ok n) (sym is))
+    rw front-within (ap (λ (n : ℕ). Ok n) (sym is))
   where
     fits : (m n : ℕ) → m ≤ n → nat_le m n ≡ true
     fits m n h = grind (arith, nat_tests)

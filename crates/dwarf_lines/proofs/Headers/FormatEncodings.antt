@@ -14,9 +14,11 @@ use Rattle.dwarf_lines.proofs.Lists.Spans.{Stretch, stretch-of, encoded-of, none
 use Rattle.dwarf_lines.proofs.Lists.Spans.{rest-of}
 
 -- if an item is read at an offset, an encoding of it is there
-abbrev pub Stands : {X : Type 0} → (ℕ → List ℕ → X → Type 0) → (List ℕ → ℕ → Result (X × ℕ) Cause)
+abbrev pub ReadsAreEncoded : {X : Type 0} → (ℕ → List ℕ → X → Type 0)
+    → (List ℕ → ℕ → Result (X × ℕ) Cause)
     → List ℕ → Type 0
-Stands {X = X} encodes item bytes = (at : ℕ) (x : X) (next : ℕ) → item bytes at ≡ Ok (x, next)
+ReadsAreEncoded {X = X} encodes item bytes = (at : ℕ) (x : X) (next : ℕ) → item bytes at
+    ≡ Ok (x, next)
     → IsEncodedAt (encodes at) bytes at x next
 
 abbrev pub IsRead : {X : Type 0} → (ℕ → List ℕ → X → Type 0) → (List ℕ → ℕ → Result (X × ℕ) Cause)
@@ -26,7 +28,7 @@ IsRead {X = X} encodes item bytes = (at : ℕ) (x : X) (next : ℕ)
 
 pub each-encoded : {X : Type 0} (encodes : ℕ → List ℕ → X → Type 0)
     (item : List ℕ → ℕ → Result (X × ℕ) Cause) (bytes : List ℕ) (count at : ℕ) (xs : List X)
-    (next : ℕ) → (0 < count → Stands encodes item bytes) → repeated_at item count bytes at
+    (next : ℕ) → (0 < count → ReadsAreEncoded encodes item bytes) → repeated_at item count bytes at
     ≡ Ok (xs, next)
     → IsEncodedAt (EncodesEach encodes at) bytes at xs next × (length xs ≡ count)
 unfolding repeated_at
@@ -79,7 +81,7 @@ each-again encodes item bytes at front (x ∷ xs) next again there some =
 
 -- ---- formats
 
-field-encoded : (bytes : List ℕ) → Stands EncodesField format_at bytes
+field-encoded : (bytes : List ℕ) → ReadsAreEncoded EncodesField format_at bytes
 unfolding format_at
 field-encoded bytes at field next h =
     let P : Type 0 = IsEncodedAt (EncodesField at) bytes at field next in

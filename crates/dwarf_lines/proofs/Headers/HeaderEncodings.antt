@@ -13,7 +13,7 @@ use Rattle.dwarf_lines.specs.Headers.{LineHeader, encoding_at}
 use Rattle.dwarf_lines.specs.HeaderEncodings.{EncodesTable, EncodesParameters, EncodesFields}
 use Rattle.dwarf_lines.proofs.Lists.Spans.{Stretch, stretch-of, encoded-of, join, first_of, rest-of}
 use Rattle.dwarf_lines.proofs.Headers.TableEncodings.{table-again}
-use Rattle.dwarf_lines.proofs.Headers.ParameterEncodings.{inside, encoding_again}
+use Rattle.dwarf_lines.proofs.Headers.ParameterEncodings.{front-within, encoding_again}
 use Rattle.dwarf_lines.proofs.Headers.BoundsEncodings.{cut, uncut, between}
 
 -- each part has at least one byte
@@ -51,7 +51,8 @@ module _ (s : LineSections) (format : Format) (start : ℕ) (header : LineHeader
       header.directories d directories) in
       let c = uncut header.first line d files.front f some last in
       let unread = between line f header.first
-      (omega (arith, inside all d files.front f some last, length-take header.first line)) le in
+      (omega (arith, front-within all d files.front f some last, length-take header.first line)) le
+      in
       let cu = join line d files.front f unread.0 header.first c unread.1 in
       let bcu = join line e directories.front d (files.front ++ unread.0) header.first b cu in
       let abcu = join line start encoding.front e (directories.front ++ (files.front ++ unread.0))

@@ -13,7 +13,7 @@ use Rattle.dwarf_lines.specs.HeaderEncodings.{EncodesFields, EncodesHeader}
 use Rattle.dwarf_lines.proofs.Headers.BoundsLaws.{ok-is}
 use Rattle.dwarf_lines.proofs.Lists.Spans.{Stretch, stretch-of, encoded-of, join, first_of, rest-of}
 use Rattle.dwarf_lines.proofs.Headers.TableEncodings.{table_stands}
-use Rattle.dwarf_lines.proofs.Headers.ParameterEncodings.{inside, encoding_stands}
+use Rattle.dwarf_lines.proofs.Headers.ParameterEncodings.{front-within, encoding-encoded}
 use Rattle.dwarf_lines.proofs.Headers.BoundsEncodings.{between, AreEncoded, bounds-encoded}
 use Rattle.dwarf_lines.proofs.Headers.BoundsEncodings.{bounds-again}
 use Rattle.dwarf_lines.proofs.Headers.HeaderEncodings.{fields_stand, encoding_is, directories_are}
@@ -85,7 +85,7 @@ module _ (s : LineSections) (place : ℕ) where
       } in
       let fields = fields_stand s bounds.format bounds.fields it encoding.1 directories.1 files.1
       (omega (arith, t.first, t.past))
-      (encoding_stands all bounds.fields encoding.0 encoding.1 encoding_is)
+      (encoding-encoded all bounds.fields encoding.0 encoding.1 encoding_is)
       (table_stands s bounds.format Directories all encoding.1 directories.0 directories.1
       directories_is)
       (table_stands s bounds.format (Files (length directories.0)) all directories.1 files.0 files.1
@@ -137,7 +137,7 @@ module _ (s : LineSections) (place : ℕ) where
           body.next_is,
           length-append t.fields t.instructions,
         );
-        past = inside line mid (head ++ (t.fields ++ t.instructions)) past (omega arith) unit;
+        past = front-within line mid (head ++ (t.fields ++ t.instructions)) past (omega arith) unit;
       }) in
       rw (
         bounds_is,

@@ -27,9 +27,9 @@ pub asked-for : (a b : ℕ) → not (a == b) ≡ false → a ≡ b
 asked-for a b h = eqb-eq a b (passed (a == b) h)
 
 -- a nonempty range ends within the bytes
-pub inside : (bytes : List ℕ) (at : ℕ) (front : List ℕ) (next : ℕ) → 0 < length front
+pub front-within : (bytes : List ℕ) (at : ℕ) (front : List ℕ) (next : ℕ) → 0 < length front
     → Stretch bytes at front next → next ≤ length bytes
-inside bytes at front next some there = omega (
+front-within bytes at front next some there = omega (
   arith,
   some,
   there.next_is,
@@ -72,10 +72,10 @@ module _ (bytes : List ℕ) where
       ∙ ap (λ (n : ℕ). Ok (lengths, n)) (sym there.next_is)) in
       rw (front, standard, block) refl
 
-  pub encoding_stands : (at : ℕ) (e : Encoding) (next : ℕ) → encoding_at bytes at ≡ Ok (e, next)
+  pub encoding-encoded : (at : ℕ) (e : Encoding) (next : ℕ) → encoding_at bytes at ≡ Ok (e, next)
       → IsEncodedAt EncodesParameters bytes at e next
   unfolding encoding_at
-  encoding_stands at e next h =
+  encoding-encoded at e next h =
       let P : Type 0 = IsEncodedAt EncodesParameters bytes at e next in
       after-bind (reading (u8_at bytes at)) _ (e, next) h P (λ minimum minimum_is h1.
       after-bind (reading (u8_at bytes minimum.1)) _ (e, next) h1 P (λ operations operations_is h2.
@@ -167,7 +167,7 @@ module _ (bytes : List ℕ) where
       let b5 = byte_first (at + 1 + 1 + 1 + 1 + 1) e.opcode_base e.opcode_lengths next b4.1 in
       let start : ℕ = at + 1 + 1 + 1 + 1 + 1 + 1 in
       let within : start ≤ length bytes =
-      inside bytes (at + 1 + 1 + 1 + 1 + 1) (e.opcode_base ∷ []) start (omega arith)
+      front-within bytes (at + 1 + 1 + 1 + 1 + 1) (e.opcode_base ∷ []) start (omega arith)
       (first_of bytes (at + 1 + 1 + 1 + 1 + 1) (e.opcode_base ∷ []) e.opcode_lengths next b4.1)
       in
       let lengths = lengths_again (e.opcode_base - 1) start e.opcode_lengths next within b5.1

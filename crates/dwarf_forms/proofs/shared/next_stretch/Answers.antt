@@ -6,7 +6,7 @@ use Rattle.dwarf_forms.specs.Private.Shared.{places_from}
 use Rattle.std.proofs.lemmas.List.Elements.{All-push}
 use Rattle.dwarf_forms.specs.Private.Index.{ContainsNames}
 use Rattle.dwarf_forms.specs.declared.attribute.AttributeSpecification.{AttributeSpecification}
-use Rattle.dwarf_forms.proofs.Names.{held-few, held_more}
+use Rattle.dwarf_forms.proofs.Names.{names-few, names_more}
 use Rattle.dwarf_forms.proofs.SuffixLists.{so-far-append, so-far-refused}
 use Rattle.dwarf_forms.proofs.Moves.{attribute_at-advances, attributes-ok, attributes-err}
 use Rattle.dwarf_bytes.proofs.Items.Turns.{so-far-item, so-far-end, so-far-fault, next-item}
@@ -107,10 +107,10 @@ loop-number-preserved c =
           (drop 32 xs)) (sym items)
           (elim c.if-len-ge-FEW.branch [
             | then-len-ge-FEW+in_ok-insert w ↦ rw w.later-is
-                (held_more own item c.loop-number.later w.insert.new.self 32 (omega arith)
+                (names_more own item c.loop-number.later w.insert.new.self 32 (omega arith)
                 w.in_ok-insert.ensures.updates.0 inv.names)
             | else-len-ge-FEW w ↦ rw w.later-is
-                (held-few own item c.loop-number.later 32 (omega arith) inv.names)
+                (names-few own item c.loop-number.later 32 (omega arith) inv.names)
           ]);
       at = rw items (after-more bytes first own item c.loop-number.cursor.place
           c.next_attribute.new.cursor.place inv.at found.0);

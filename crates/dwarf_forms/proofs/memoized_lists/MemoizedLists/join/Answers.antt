@@ -5,7 +5,7 @@ use Rattle.dwarf_bytes.specs.Position.{Position}
 use Rattle.dwarf_forms.specs.Tables.{shares_name}
 use Rattle.dwarf_forms.specs.Private.Memoized.{attributes_from}
 use Rattle.dwarf_forms.proofs.SuffixLists.{append-ok, append-err}
-use Rattle.dwarf_forms.proofs.MemoGrowth.{joins}
+use Rattle.dwarf_forms.proofs.MemoGrowth.{may-follow}
 use Rattle.dwarf_forms.proofs.Moves.{attributes_at-moves}
 use Rattle.dwarf_forms.proofs.memoized_lists.MemoizedLists.join.Goals as goal
 
@@ -14,7 +14,7 @@ returns-then-has_any c =
     let bytes = c.args.cursor.now.bytes in
     let rest = attributes_from c.args.self.now.memoized c.args.number in
     let first = c.index-first.result.now in
-    let j = joins c.self.inside.section.now c.self.inside.memoized.items c.self.inside.places
+    let j = may-follow c.self.inside.section.now c.self.inside.memoized.items c.self.inside.places
     c.self.inside.names c.args.self.now c.args.number c.args.cursor.now.place first bytes
     c.self.invariant c.self.view_is c.index-first.ensures c.requires.stands c.requires.bytes in
     let shared : shares_name c.args.own.now rest ≡ true =
@@ -27,7 +27,7 @@ returns-in_err-seek c =
     let bytes = c.args.cursor.now.bytes in
     let rest = attributes_from c.args.self.now.memoized c.args.number in
     let first = c.index-first.result.now in
-    let j = joins c.self.inside.section.now c.self.inside.memoized.items c.self.inside.places
+    let j = may-follow c.self.inside.section.now c.self.inside.memoized.items c.self.inside.places
     c.self.inside.names c.args.self.now c.args.number c.args.cursor.now.place first bytes
     c.self.invariant c.self.view_is c.index-first.ensures c.requires.stands c.requires.bytes in
     let moved = attributes_at-moves bytes c.args.cursor.now.place (rest, first.after) j.read in
@@ -38,7 +38,7 @@ returns c =
     let bytes = c.args.cursor.now.bytes in
     let rest = attributes_from c.args.self.now.memoized c.args.number in
     let first = c.index-first.result.now in
-    let j = joins c.self.inside.section.now c.self.inside.memoized.items c.self.inside.places
+    let j = may-follow c.self.inside.section.now c.self.inside.memoized.items c.self.inside.places
     c.self.inside.names c.args.self.now c.args.number c.args.cursor.now.place first bytes
     c.self.invariant c.self.view_is c.index-first.ensures c.requires.stands c.requires.bytes in
     let apart : shares_name c.args.own.now rest ≡ false =
