@@ -26,8 +26,8 @@ use Rattle.dwarf_lines.specs.HeaderEncodings.{EncodesPath, EncodesIndex, Encodes
 use Rattle.dwarf_lines.specs.HeaderEncodings.{directory, other}
 use Rattle.dwarf_lines.proofs.Headers.BoundsLaws.{ok-is}
 use Rattle.dwarf_lines.proofs.Instructions.OperandEncodings.{eqb-eq}
-use Rattle.dwarf_lines.proofs.Headers.PathEncodings.{encoded-as, path_stands, path_again}
-use Rattle.dwarf_lines.proofs.Headers.PathEncodings.{index_stands, index_again}
+use Rattle.dwarf_lines.proofs.Headers.PathEncodings.{encoded-as, path_encoded, path_again}
+use Rattle.dwarf_lines.proofs.Headers.PathEncodings.{index_encoded, index_again}
 
 module _ (s : LineSections) (format : Format) (bytes : List ℕ) (at : ℕ) where
   -- ---- fields
@@ -86,20 +86,20 @@ module _ (s : LineSections) (format : Format) (bytes : List ℕ) (at : ℕ) wher
     second_form false true x y z h not_a is = h
     second_form false false x y z h not_a is = absurd cc
 
-    pub part_stands : (field : Field) (before after : Entry) (next : ℕ)
+    pub part_encoded : (field : Field) (before after : Entry) (next : ℕ)
         → has_valid_form table field ≡ true
         → field_at s format table field before bytes at ≡ Ok (after, next)
         → IsEncodedAt (EncodesPart s format table after at) bytes at field next
         × KeptBy field before after
     unfolding field_at
-    part_stands field before after next valid h =
+    part_encoded field before after next valid h =
         let P : Type 0 = IsEncodedAt (EncodesPart s format table after at) bytes at field next
         × KeptBy field before after in
         chosen (is_path field) _ _ (Ok (after, next)) h P
         (λ is h1. after-bind (path_at s format field.form bytes at) _ (after, next) h1 P
         (λ text text_is h2.
         let it : Entry = record before { path = text.0 } in
-        let a = path_stands s format bytes at field.form text.0 text.1
+        let a = path_encoded s format bytes at field.form text.0 text.1
         (first_form (is_path field) (is_index table field) (is_text_form field.form)
         (is_index_form field.form) (is_some (layout_of field.form)) valid is) text_is in
         subst (λ (p : Entry × ℕ). IsEncodedAt (EncodesPart s format table p.0 at) bytes at field p.1
@@ -113,7 +113,7 @@ module _ (s : LineSections) (format : Format) (bytes : List ℕ) (at : ℕ) wher
         (λ is h2. after-bind (index_at field.form bytes at) _ (after, next) h2 P
         (λ index index_is h3.
         let it : Entry = record before { directory = index.0 } in
-        let a = index_stands s format bytes at field.form index.0 index.1
+        let a = index_encoded s format bytes at field.form index.0 index.1
         (second_form (is_path field) (is_index table field) (is_text_form field.form)
         (is_index_form field.form) (is_some (layout_of field.form)) valid not_path is)
         index_is in

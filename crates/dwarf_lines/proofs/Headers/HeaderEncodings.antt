@@ -27,7 +27,7 @@ some-table s format table place bytes entries is = omega (arith, ap length is.wh
 
 module _ (s : LineSections) (format : Format) (start : ℕ) (header : LineHeader) where
   -- the encoding parameters, the tables and the unread bytes fill the header
-  pub fields_stand : (e d f : ℕ) → header.first ≤ length s.line
+  pub fields_encoded : (e d f : ℕ) → header.first ≤ length s.line
       → IsEncodedAt EncodesParameters (take header.first s.line) start header.encoding e
       → IsEncodedAt (EncodesTable s format Directories e) (take header.first s.line) e
       header.directories d
@@ -35,7 +35,7 @@ module _ (s : LineSections) (format : Format) (start : ℕ) (header : LineHeader
       (take header.first s.line) d header.files f
       → (fields : List ℕ) × Stretch s.line start fields header.first
       × EncodesFields s format start fields header
-  fields_stand e d f le encoding directories files =
+  fields_encoded e d f le encoding directories files =
       let line = s.line in
       let all = take header.first line in
       let last = stretch-of (EncodesTable s format (Files (length header.directories)) d) all d

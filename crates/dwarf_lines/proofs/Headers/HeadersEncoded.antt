@@ -12,11 +12,11 @@ use Rattle.dwarf_lines.specs.Headers.{LineHeader, bounds_at, encoding_at, header
 use Rattle.dwarf_lines.specs.HeaderEncodings.{EncodesFields, EncodesHeader}
 use Rattle.dwarf_lines.proofs.Headers.BoundsLaws.{ok-is}
 use Rattle.dwarf_lines.proofs.Lists.Spans.{Stretch, stretch-of, encoded-of, join, first_of, rest-of}
-use Rattle.dwarf_lines.proofs.Headers.TableEncodings.{table_stands}
+use Rattle.dwarf_lines.proofs.Headers.TableEncodings.{table_encoded}
 use Rattle.dwarf_lines.proofs.Headers.ParameterEncodings.{front-within, encoding-encoded}
 use Rattle.dwarf_lines.proofs.Headers.BoundsEncodings.{between, AreEncoded, bounds-encoded}
 use Rattle.dwarf_lines.proofs.Headers.BoundsEncodings.{bounds-again}
-use Rattle.dwarf_lines.proofs.Headers.HeaderEncodings.{fields_stand, encoding_is, directories_are}
+use Rattle.dwarf_lines.proofs.Headers.HeaderEncodings.{fields_encoded, encoding_is, directories_are}
 use Rattle.dwarf_lines.proofs.Headers.HeaderEncodings.{files_are}
 
 module _ (s : LineSections) (place : ℕ) where
@@ -61,10 +61,10 @@ module _ (s : LineSections) (place : ℕ) where
         past_is = past_is ∙ all.next_is;
       })
 
-  pub header_stands : (header : LineHeader) → header_at s place ≡ Ok header
+  pub header_encoded : (header : LineHeader) → header_at s place ≡ Ok header
       → IsEncodedAt (EncodesHeader s place) s.line place header header.past
   unfolding header_at
-  header_stands header h =
+  header_encoded header h =
       let P : Type 0 = IsEncodedAt (EncodesHeader s place) s.line place header header.past in
       after-bind (bounds_at s.line place) _ header h P (λ bounds bounds_is h1.
       after-bind (encoding_at (take bounds.first s.line) bounds.fields) _ header h1 P
@@ -83,12 +83,13 @@ module _ (s : LineSections) (place : ℕ) where
         first = bounds.first;
         past = bounds.past;
       } in
-      let fields = fields_stand s bounds.format bounds.fields it encoding.1 directories.1 files.1
+      let fields = fields_encoded s bounds.format bounds.fields it encoding.1 directories.1 files.1
       (omega (arith, t.first, t.past))
       (encoding-encoded all bounds.fields encoding.0 encoding.1 encoding_is)
-      (table_stands s bounds.format Directories all encoding.1 directories.0 directories.1
+      (table_encoded s bounds.format Directories all encoding.1 directories.0 directories.1
       directories_is)
-      (table_stands s bounds.format (Files (length directories.0)) all directories.1 files.0 files.1
+      (table_encoded s bounds.format (Files (length directories.0)) all directories.1 files.0
+      files.1
       files_is) in
       subst (λ (h : LineHeader). IsEncodedAt (EncodesHeader s place) s.line place h h.past)
       (ok-is {E = Cause} it header h4)

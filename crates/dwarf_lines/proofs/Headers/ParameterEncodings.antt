@@ -39,10 +39,10 @@ front-within bytes at front next some there = omega (
 )
 
 module _ (bytes : List ℕ) where
-  lengths_stand : (count at : ℕ) (read : List ℕ × ℕ) → lengths_at count bytes at ≡ Ok read
+  lengths_encoded : (count at : ℕ) (read : List ℕ × ℕ) → lengths_at count bytes at ≡ Ok read
       → Stretch bytes at read.0 read.1 × (length read.0 ≡ count) × (are_standard read.0 ≡ true)
   unfolding lengths_at
-  lengths_stand count at read h =
+  lengths_encoded count at read h =
       after-test (not (are_standard (take count (drop at bytes)))) causes.OpcodeLengths _ read h
       (Stretch bytes at read.0 read.1 × (length read.0 ≡ count) × (are_standard read.0 ≡ true))
       (λ test h1.
@@ -98,7 +98,7 @@ module _ (bytes : List ℕ) where
       let b4 = byte-encoded bytes base.1 range (reading-ok (u8_at bytes base.1) range range_is) in
       let b5 = byte-encoded bytes range.1 opcode_base
       (reading-ok (u8_at bytes range.1) opcode_base opcode_base_is) in
-      let b6 = lengths_stand (opcode_base.0 - 1) opcode_base.1 lengths lengths_are in
+      let b6 = lengths_encoded (opcode_base.0 - 1) opcode_base.1 lengths lengths_are in
       let s5 = join bytes range.1 (opcode_base.0 ∷ []) opcode_base.1 lengths.0 lengths.1 b5 b6.0 in
       let s4 = join bytes base.1 (range.0 ∷ []) range.1 (opcode_base.0 ∷ lengths.0) lengths.1 b4
       s5 in

@@ -112,13 +112,13 @@ text-there texts offset text past s = by (text_front (drop offset texts))
 module _ (s : LineSections) (format : Format) (bytes : List ℕ) (at : ℕ) where
   -- ---- paths
 
-  by_offset_stands : (section : Section) (texts : List ℕ) (form : ℕ) (text : PathText) (next : ℕ)
+  by_offset_encoded : (section : Section) (texts : List ℕ) (form : ℕ) (text : PathText) (next : ℕ)
       → ((front : List ℕ) (offset past : ℕ) (found : List ℕ)
       → IsFixed (offset_len format) front offset → IsEncodedAt IsText texts offset found past
       → EncodesPath s format at form front (text_from section offset found))
       → text_by_offset format section texts bytes at ≡ Ok (text, next)
       → IsEncodedAt (EncodesPath s format at form) bytes at text next
-  by_offset_stands section texts form text next make h =
+  by_offset_encoded section texts form text next make h =
       let P : Type 0 = IsEncodedAt (EncodesPath s format at form) bytes at text next in
       after-bind (reading (offset_at format bytes at)) _ (text, next) h P (λ offset offset_is h1.
       after-bind (reading (text_at texts offset.0)) _ (text, next) h1 P (λ found found_is h2.
@@ -132,10 +132,10 @@ module _ (s : LineSections) (format : Format) (bytes : List ℕ) (at : ℕ) wher
       (text_from section offset.0 found) offset.1
       (λ front is. make front offset.0 there.0 found is there.1) a)))
 
-  pub path_stands : (form : ℕ) (text : PathText) (next : ℕ) → is_text_form form ≡ true
+  pub path_encoded : (form : ℕ) (text : PathText) (next : ℕ) → is_text_form form ≡ true
       → path_at s format form bytes at ≡ Ok (text, next)
       → IsEncodedAt (EncodesPath s format at form) bytes at text next
-  path_stands form text next valid h =
+  path_encoded form text next valid h =
       let P : Type 0 = IsEncodedAt (EncodesPath s format at form) bytes at text next in
       chosen (form == DW_FORM_STRING) _ _ (Ok (text, next)) h P
       (λ is h1. after-bind (reading (cstr_at bytes at)) _ (text, next) h1 P (λ found found_is h2.
@@ -151,12 +151,12 @@ module _ (s : LineSections) (format : Format) (bytes : List ℕ) (at : ℕ) wher
       h2) whole)))
       (λ not8 h1. chosen (form == DW_FORM_STRP) _ _ (Ok (text, next)) h1 P
       (λ is h2. rw (eqb-eq form DW_FORM_STRP is)
-      (by_offset_stands sections.DebugStr s.str DW_FORM_STRP text next
+      (by_offset_encoded sections.DebugStr s.str DW_FORM_STRP text next
       (λ front offset past found is there. strp offset past found is there) h2))
       (λ not14 h2. rw (eqb-eq form DW_FORM_LINE_STRP
       (third (form == DW_FORM_STRING) (form == DW_FORM_STRP) (form == DW_FORM_LINE_STRP) valid
       not8 not14))
-      (by_offset_stands sections.DebugLineStr s.line_str DW_FORM_LINE_STRP text next
+      (by_offset_encoded sections.DebugLineStr s.line_str DW_FORM_LINE_STRP text next
       (λ front offset past found is there. line_strp offset past found is there) h2)))
 
   pub path_again : (form : ℕ) (front : List ℕ) (text : PathText) (next : ℕ) → (rest : List ℕ)
@@ -182,10 +182,10 @@ module _ (s : LineSections) (format : Format) (bytes : List ℕ) (at : ℕ) wher
 
   -- ---- directory indexes
 
-  pub index_stands : (form index next : ℕ) → is_index_form form ≡ true
+  pub index_encoded : (form index next : ℕ) → is_index_form form ≡ true
       → index_at form bytes at ≡ Ok (index, next)
       → IsEncodedAt (EncodesIndex form) bytes at index next
-  index_stands form index next valid h =
+  index_encoded form index next valid h =
       let P : Type 0 = IsEncodedAt (EncodesIndex form) bytes at index next in
       chosen (form == DW_FORM_DATA1) _ _ (Ok (index, next)) h P
       (λ is h1. rw (eqb-eq form DW_FORM_DATA1 is)

@@ -20,7 +20,7 @@ use Rattle.dwarf_lines.proofs.Instructions.OperandEncodings.{is-not}
 use Rattle.dwarf_lines.proofs.Headers.ParameterEncodings.{passed}
 use Rattle.dwarf_lines.proofs.Headers.FormatEncodings.{each-encoded, each-again, format-encoded}
 use Rattle.dwarf_lines.proofs.Headers.FormatEncodings.{format-again}
-use Rattle.dwarf_lines.proofs.Headers.EntryEncodings.{entry_stands, entry_again}
+use Rattle.dwarf_lines.proofs.Headers.EntryEncodings.{entry_encoded, entry_again}
 
 -- the format is validated if there are entries
 checked : (count : ℕ) (valid : Bool) → (not (count == 0) && not valid) ≡ false → 0 < count
@@ -39,20 +39,20 @@ not-refused (suc count) valid h = rw (
 ) refl
 
 module _ (s : LineSections) (format : Format) (table : EntryTable) (bytes : List ℕ) where
-  entries_stand : (fields : List Field) (count at : ℕ) (entries : List Entry) (next : ℕ)
+  entries_encoded : (fields : List Field) (count at : ℕ) (entries : List Entry) (next : ℕ)
       → (0 < count → is_format table fields ≡ true)
       → repeated_at (entry_at s format table fields) count bytes at ≡ Ok (entries, next)
       → IsEncodedAt (EncodesEach (EncodesEntry s format table fields) at) bytes at entries next
       × (length entries ≡ count)
-  entries_stand fields count at entries next valid h =
+  entries_encoded fields count at entries next valid h =
       each-encoded (EncodesEntry s format table fields) (entry_at s format table fields) bytes count
-      at entries next (λ some. entry_stands s format table bytes fields (valid some)) h
+      at entries next (λ some. entry_encoded s format table bytes fields (valid some)) h
 
-  pub table_stands : (at : ℕ) (entries : List Entry) (next : ℕ) → table_at s format table bytes at
+  pub table_encoded : (at : ℕ) (entries : List Entry) (next : ℕ) → table_at s format table bytes at
       ≡ Ok (entries, next)
       → IsEncodedAt (EncodesTable s format table at) bytes at entries next
   unfolding table_at
-  table_stands at entries next h =
+  table_encoded at entries next h =
       let P : Type 0 = IsEncodedAt (EncodesTable s format table at) bytes at entries next in
       after-bind (reading (u8_at bytes at)) _ (entries, next) h P (λ size size_is h1.
       after-bind (repeated_at format_at size.0 bytes size.1) _ (entries, next) h1 P
@@ -65,7 +65,7 @@ module _ (s : LineSections) (format : Format) (table : EntryTable) (bytes : List
       let c = uleb-encoded bytes fields.1 count.0 count.1
       (reading-ok (uleb_at bytes fields.1) count count_is) in
       let valid = checked count.0 (is_format table fields.0) test in
-      let d = entries_stand fields.0 count.0 count.1 entries next valid h4 in
+      let d = entries_encoded fields.0 count.0 count.1 entries next valid h4 in
       let front = size.0 ∷ b.0.front in
       let ab = join bytes at (size.0 ∷ []) size.1 b.0.front fields.1 a
       (stretch-of (EncodesEach EncodesField size.1) bytes size.1 fields.0 fields.1 b.0) in

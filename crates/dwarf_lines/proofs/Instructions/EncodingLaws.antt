@@ -48,11 +48,11 @@ module _ (e : Encoding) (bytes : List ℕ) (at : ℕ) where
     alone : (i : Instruction) → Encodes e (opcode ∷ []) i → ReadsAreEncoded i place
     alone i encoded = encoded-of (Encodes e) bytes at i place (opcode ∷ []) first encoded
 
-    standard_stands : (i : Instruction) (next : ℕ) → 0 < opcode → opcode < e.opcode_base
+    standard_encoded : (i : Instruction) (next : ℕ) → 0 < opcode → opcode < e.opcode_base
         → standard_at e opcode bytes place ≡ Ok (i, next)
         → ReadsAreEncoded i next
     unfolding standard_at
-    standard_stands i next some known h =
+    standard_encoded i next some known h =
         chosen (opcode == 1) _ _ (Ok (i, next)) h (ReadsAreEncoded i next)
         (λ is h1. is_read Copy i place next h1
         (alone Copy (let one = eqb-eq opcode 1 is in
@@ -121,13 +121,14 @@ module _ (e : Encoding) (bytes : List ℕ) (at : ℕ) where
         ) operands.1)))))))))
 
     -- the opcode and operands of an extended instruction
-    body_stands : (len : List ℕ) (mid : ℕ) (body : List ℕ) (last : ℕ) (i : Instruction) → opcode ≡ 0
+    body_encoded : (len : List ℕ) (mid : ℕ) (body : List ℕ) (last : ℕ) (i : Instruction) → opcode
+        ≡ 0
         → IsUleb len (length body)
         → Stretch bytes place len mid → Stretch bytes mid body last → 0 < length body
         → extended_of body ≡ Ok i → ReadsAreEncoded i last
     unfolding extended_of
-    body_stands len mid [] last i zero_is len_is there body_there some h = absurd (omega arith)
-    body_stands len mid (o ∷ operands) last i zero_is len_is there body_there some h =
+    body_encoded len mid [] last i zero_is len_is there body_there some h = absurd (omega arith)
+    body_encoded len mid (o ∷ operands) last i zero_is len_is there body_there some h =
         let whole = join bytes place len mid (o ∷ operands) last there body_there in
         chosen (o == 1) _ _ (Ok i) h (ReadsAreEncoded i last)
         (λ one h1. chosen (length (o ∷ operands) == 1) _ _ (Ok i) h1 (ReadsAreEncoded i last)
@@ -165,10 +166,10 @@ module _ (e : Encoding) (bytes : List ℕ) (at : ℕ) where
         nothing [] h = refl
         nothing (b ∷ bs) h = absurd (omega (arith, h))
 
-    extended_stands : (i : Instruction) (next : ℕ) → opcode ≡ 0
+    extended_encoded : (i : Instruction) (next : ℕ) → opcode ≡ 0
         → extended_at bytes place ≡ Ok (i, next) → ReadsAreEncoded i next
     unfolding extended_at
-    extended_stands i next zero_is h =
+    extended_encoded i next zero_is h =
         after-bind (reading (uleb_at bytes place)) _ (i, next) h (ReadsAreEncoded i next)
         (λ len len_is h1.
         chosen (len.0 == 0) _ _ (Ok (i, next)) h1 (ReadsAreEncoded i next) (λ _ h2. cc) (λ some h2.
@@ -180,16 +181,16 @@ module _ (e : Encoding) (bytes : List ℕ) (at : ℕ) where
         let body_there = block-encoded len.0 bytes len.1 body
         (reading-ok (block_at len.0 bytes len.1) body body_is) in
         let nonzero = differs len.0 0 some in
-        is_read j i body.1 next h4 (body_stands length_there.front len.1 body.0 body.1 j zero_is
+        is_read j i body.1 next h4 (body_encoded length_there.front len.1 body.0 body.1 j zero_is
         (subst (λ (n : ℕ). IsUleb length_there.front n) (sym body_there.1) length_there.encoded)
         (stretch-of IsUleb bytes place len.0 len.1 length_there) body_there.0
         (omega (arith, body_there.1, nonzero)) j_is)))))
 
   -- if an instruction is read, an encoding of it is at the offset
-  pub instruction_stands : (i : Instruction) (next : ℕ) → instruction_at e bytes at ≡ Ok (i, next)
+  pub instruction_encoded : (i : Instruction) (next : ℕ) → instruction_at e bytes at ≡ Ok (i, next)
       → ReadsAreEncoded i next
   unfolding instruction_at
-  instruction_stands i next h =
+  instruction_encoded i next h =
       after-bind (reading (u8_at bytes at)) _ (i, next) h (ReadsAreEncoded i next)
       (λ opcode opcode_is h1.
       let first = byte-encoded bytes at opcode (reading-ok (u8_at bytes at) opcode opcode_is) in
@@ -202,6 +203,6 @@ module _ (e : Encoding) (bytes : List ℕ) (at : ℕ) where
       (special (opcode.0 - e.opcode_base)))))
       (λ below h2. let known : opcode.0 < e.opcode_base = grind (arith, nat_tests) in
       chosen (opcode.0 == 0) _ _ (Ok (i, next)) h2 (ReadsAreEncoded i next)
-      (λ zero_is h3. extended_stands opcode.0 opcode.1 first i next (eqb-eq opcode.0 0 zero_is) h3)
+      (λ zero_is h3. extended_encoded opcode.0 opcode.1 first i next (eqb-eq opcode.0 0 zero_is) h3)
       (λ some h3. let nonzero = differs opcode.0 0 some in
-      standard_stands opcode.0 opcode.1 first i next (omega (arith, nonzero)) known h3)))
+      standard_encoded opcode.0 opcode.1 first i next (omega (arith, nonzero)) known h3)))

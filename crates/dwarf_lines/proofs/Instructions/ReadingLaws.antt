@@ -14,7 +14,7 @@ use Rattle.dwarf_lines.specs.Encodings.{const_add_pc, fixed_advance_pc, passed_o
 use Rattle.dwarf_lines.specs.Encodings.{end_sequence, set_address, other_extended, AreEncoded}
 use Rattle.dwarf_lines.specs.Encodings.{no_instruction, and_then}
 use Rattle.dwarf_lines.proofs.Lists.Spans.{stretch, stretch-of, encoded-of, rest-is}
-use Rattle.dwarf_lines.proofs.Instructions.EncodingLaws.{instruction_stands}
+use Rattle.dwarf_lines.proofs.Instructions.EncodingLaws.{instruction_encoded}
 use Rattle.dwarf_lines.proofs.Instructions.InstructionReads.{instruction_again}
 
 -- a reading without a fault
@@ -74,7 +74,7 @@ module _ (e : Encoding) (bytes : List ℕ) where
           let clean : rest ≡ valid rest.instructions =
           ap (λ (f : Option Cause). record { instructions = rest.instructions; fault = f })
           fault in
-          let stands = instruction_stands e bytes at i next found in
+          let stands = instruction_encoded e bytes at i next found in
           let there = stretch-of (Encodes e) bytes at i next stands in
           let some = encoded-some e stands.front i stands.encoded in
           let last = there.next_is in

@@ -16,7 +16,7 @@ use Rattle.dwarf_lines.specs.Matrix.{latest_first}
 use Rattle.dwarf_lines.specs.Programs.{Program, program_at_place}
 use Rattle.dwarf_lines.specs.ProgramEncoding.{IsProgram}
 use Rattle.dwarf_lines.proofs.Headers.BoundsLaws.{ok-is, header_at-past}
-use Rattle.dwarf_lines.proofs.Headers.HeadersEncoded.{header_stands, header_again}
+use Rattle.dwarf_lines.proofs.Headers.HeadersEncoded.{header_encoded, header_again}
 use Rattle.dwarf_lines.proofs.Instructions.ReadingLaws.{reading_is_encoded, spelled_is_read}
 use Rattle.dwarf_lines.proofs.Machine.MachineLaws.{rows-by-machine}
 
@@ -98,7 +98,7 @@ program-encoded s number place program h =
     }) program h2 in
     let read : Reading = reading_of header.encoding (take header.past s.line) header.first in
     let found = matrix-is header.encoding o read rows rows_is in
-    let stands = header_stands s place header header_is in
+    let stands = header_encoded s place header header_is in
     let inside = first-inside s place header stands.front stands.encoded in
     let places = header_at-past s place header header_is in
     let size = length-take header.past s.line in
