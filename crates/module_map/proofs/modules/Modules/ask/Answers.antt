@@ -28,8 +28,8 @@ returns-in_default-clause-decoded c = let n = c.in_default.ensures in
     ap (λ s. s.decoded) n.counted.3 ∙ counted-decoded n.counted.0 _
     ∙ ap (λ v. v.decoded) c.self.view_is
 
-pub look_up-place-requires-clause-held : goal.look_up-place-requires-clause-held
-look_up-place-requires-clause-held c = begins-by c.self.inside.sorted c.args.address c.in-Some.at
+pub look_up-place-requires-clause-starts : goal.look_up-place-requires-clause-starts
+look_up-place-requires-clause-starts c = begins-by c.self.inside.sorted c.args.address c.in-Some.at
     (sym c.in-Some.ensures.place)
 
 pub invariant_of-self-2 : goal.invariant_of-self-2
