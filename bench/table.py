@@ -4,9 +4,10 @@
 table.py PRINTED writes docs/MEASURED.md to standard output: the machine, the versions and the date,
 and the figures of this program, of plain C and of each measured peer for loads, first answers,
 answers in a batch and in ping-pong, and memory. The peer of gimli is the program in
-GIMLI_ADDR2LINE. The ratio after a figure of another column is the factor by which this program is
-better: faster, or with less memory. The sections of the present docs/MEASURED.md follow the table.
-They are written by hand.
+GIMLI_ADDR2LINE. GIMLI_VERSION is its version, by default what its option --version prints. The
+ratio after a figure of another column is the factor by which this program is better: faster, or
+with less memory. The sections of the present docs/MEASURED.md follow the table. They are written by
+hand.
 """
 import datetime
 import os
@@ -121,8 +122,8 @@ def said(*command):
 
 def machine():
     """Returns the processor, the number of processors, the memory and the kernel."""
-    told = open("/proc/cpuinfo").read()
-    model = re.search(r"^model name\s*: (.*)", told, re.MULTILINE)
+    cpu_info = open("/proc/cpuinfo").read()
+    model = re.search(r"^model name\s*: (.*)", cpu_info, re.MULTILINE)
     name = model[1] if model else "an unknown processor"
     memory = int(re.search(r"MemTotal: +(\d+)", open("/proc/meminfo").read())[1]) >> 20
     kernel = os.uname().release.split("-")[0]
@@ -132,10 +133,10 @@ def machine():
 def versions():
     """Returns the version lines of the programs that are installed."""
     programs = ["gcc", "llvm-symbolizer", "eu-addr2line", "addr2line"]
-    told = [said("rt", "version"), *(said(program, "--version") for program in programs)]
-    gimli = said(os.environ.get("GIMLI_ADDR2LINE", "-"), "--version")
-    named = os.environ.get("GIMLI_VERSION", gimli)
-    return [version for version in [*told, gimli and f"addr2line of gimli: {named}"] if version]
+    found = [said("rt", "version"), *(said(program, "--version") for program in programs)]
+    path = os.environ.get("GIMLI_ADDR2LINE")
+    gimli = path and (os.environ.get("GIMLI_VERSION") or said(path, "--version"))
+    return [version for version in [*found, gimli and f"addr2line of gimli: {gimli}"] if version]
 
 
 def explanation(programs):

@@ -55,13 +55,6 @@ def entries(text):
     return found
 
 
-def word_source():
-    """Returns the source with the words of causes and sections: words.rt if it exists, else
-    fault.rt."""
-    exists = (TOP / "crates/dwarf_bytes/src/words.rt").exists()
-    return source("dwarf_bytes", "words.rt" if exists else "fault.rt")
-
-
 def variants(text, name):
     """Returns the variants of an enum in a source, each with its doc comment."""
     body = re.search(rf"^pub enum {name} {{\n(.*?)^}}", text, re.DOTALL | re.MULTILINE)[1]
@@ -71,7 +64,7 @@ def variants(text, name):
 
 def causes():
     """Yields faults in the causes and sections of malformed objects."""
-    text = word_source()
+    text = source("dwarf_bytes", "words.rt")
     words = dict(re.findall(r'Cause::(\w+) => "([a-z-]+)"', text))
     comments = variants(source("dwarf_bytes", "fault.rt"), "Cause")
     for name in sorted(words.keys() | comments.keys()):

@@ -38,7 +38,7 @@ def decoded(path):
             yield address, found["file"].rsplit("/", 1)[-1], int(found["line"])
 
 
-def kept(rows):
+def live_rows(rows):
     """Yields the rows of the sequences that are not dead code."""
     sequence = []
     for row in rows:
@@ -77,7 +77,7 @@ def main():
     measure, *paths = sys.argv[1:]
     differ = False
     for path in paths:
-        own, other, same, shown = differences(ours(measure, path), kept(decoded(path)))
+        own, other, same, shown = differences(ours(measure, path), live_rows(decoded(path)))
         print(f"{Path(path).name}: {own} rows, objdump {other}, {same} agree in place")
         print(*shown, sep="\n", end="\n" if shown else "")
         differ = differ or bool(shown)

@@ -123,9 +123,9 @@ def ranges_of(path):
     return scopes
 
 
-def spelled(ranges):
-    kept = [(start, end) for start, end in ranges if start not in (end, DROPPED)]
-    return ",".join(f"{start:x}-{end:x}" for start, end in kept) or "-"
+def range_text(ranges):
+    live = [(start, end) for start, end in ranges if start not in (end, DROPPED)]
+    return ",".join(f"{start:x}-{end:x}" for start, end in live) or "-"
 
 
 def number(text):
@@ -141,7 +141,7 @@ def shown(path):
             KINDS[attributes["tag"]],
             named(scopes, offset, "DW_AT_name"),
             named(scopes, offset, "DW_AT_linkage_name"),
-            spelled(ranges.get(offset, [])),
+            range_text(ranges.get(offset, [])),
             number(attributes.get("DW_AT_call_file", "-")),
             number(attributes.get("DW_AT_call_line", "-")),
             str(attributes["end"]),

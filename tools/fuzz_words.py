@@ -54,8 +54,8 @@ def plain(letters, path, words):
 
 def main():
     program, seed, count = sys.argv[1], sys.argv[2], int(sys.argv[3])
-    print(f"fuzz words: command lines made by chance beside a plain session; seed {seed},"
-          f" {count} lines", flush=True)
+    print(f"fuzz words: {count} generated command lines against the reference implementation;"
+          f" seed {seed}", flush=True)
     chance, start, wrong = random.Random(seed), time.monotonic(), 0
     reals = [SAMPLE.read_bytes(), REAL.read_bytes()]
     with tempfile.TemporaryDirectory() as folder:

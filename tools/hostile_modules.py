@@ -84,7 +84,7 @@ def range_list(count):
     return ".debug_rnglists", struct.pack("<IHBBI", 8 + len(pairs), 5, 8, 0, 0) + pairs
 
 
-def listed(code):
+def entry_with_list(code):
     """Returns the start of an entry that names the list."""
     return bytes([code]) + struct.pack("<I", LIST)
 
@@ -95,18 +95,18 @@ def at_base(base, children):
 
 
 def subprograms_with_one_list(items):
-    body = listed(LISTED) * 2048
+    body = entry_with_list(LISTED) * 2048
     return object_of([at_base(0, body)], range_list(items // 2048))
 
 
 def nested_scopes_with_one_list(items):
-    body = listed(NESTED) + listed(NESTED_INLINED) * (DEPTH - 1) + bytes(DEPTH)
+    body = entry_with_list(NESTED) + entry_with_list(NESTED_INLINED) * (DEPTH - 1) + bytes(DEPTH)
     return object_of([at_base(0, body)], range_list(items // DEPTH))
 
 
 def units_of_list(base, code=LISTED):
     """Returns two thousand units at different bases. Each has a scope that names the list."""
-    return [at_base(base + (number << 20), listed(code)) for number in range(1, 2001)]
+    return [at_base(base + (number << 20), entry_with_list(code)) for number in range(1, 2001)]
 
 
 def units_with_one_list(items):

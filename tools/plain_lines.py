@@ -93,21 +93,21 @@ class Machine:
     def begin(self):
         self.address, self.line, self.file = 0, 1, 1
         self.mark = self.before = None
-        self.is_first, self.is_dead = True, False
+        self.is_first, self.at_tombstone = True, False
 
     def row(self, is_end=False):
         if self.is_first:
-            self.is_dead, self.is_first = self.mark == TOP, False
+            self.at_tombstone, self.is_first = self.mark == TOP, False
         self.is_open = not is_end
-        if not self.is_dead:
-            self.judge(is_end)
+        if not self.at_tombstone:
+            self.check_row(is_end)
             file, line = (0, 0) if is_end else (self.file, self.line)
             self.rows.append(Row(self.address, self.number, file, line, is_end))
             self.before = self.address
         if is_end:
             self.begin()
 
-    def judge(self, is_end):
+    def check_row(self, is_end):
         if self.address > TOP:
             raise Bad("overflow")
         if self.before is not None and self.address < self.before:
@@ -123,7 +123,7 @@ class Machine:
         return (self.program.least * (apart // self.program.line_range),
                 self.program.line_base + apart % self.program.line_range)
 
-    def extended(self, cursor):
+    def read_extended(self, cursor):
         length = cursor.uleb()
         if length == 0:
             raise Bad("extended")
@@ -163,7 +163,7 @@ class Machine:
                 self.line += line
                 self.row()
             elif opcode == 0:
-                self.extended(cursor)
+                self.read_extended(cursor)
             else:
                 self.standard(opcode, cursor)
         if self.is_open:

@@ -36,12 +36,15 @@ static size_t row_count, scope_count, range_count, file_count;
 static char **lines_of(const char *path, size_t *count) {
     FILE *file = fopen(path, "r");
     char **lines = NULL, *line = NULL;
-    size_t room = 0, size = 0;
+    size_t capacity = 0, size = 0;
     ssize_t length;
     *count = 0;
     if (!file) { perror(path); exit(1); }
     while ((length = getline(&line, &size, file)) > 0) {
-        if (*count == room) lines = realloc(lines, (room = room ? 2 * room : 1024) * sizeof *lines);
+        if (*count == capacity) {
+            capacity = capacity ? 2 * capacity : 1024;
+            lines = realloc(lines, capacity * sizeof *lines);
+        }
         line[length - 1] = 0;
         lines[(*count)++] = line;
         line = NULL;
@@ -66,7 +69,7 @@ static int compare_texts(const void *a, const void *b) {
     return strcmp(*(char *const *)a, *(char *const *)b);
 }
 
-// The files' two numbers are told apart from their paths by a NUL.
+// Reads the files. Puts a NUL between the two numbers of each and its path.
 static void read_files(const char *path) {
     files = lines_of(path, &file_count);
     for (size_t i = 0; i < file_count; i++) strchr(strchr(files[i], '\t') + 1, '\t')[0] = 0;
@@ -82,12 +85,12 @@ static const char *file_at(const char *stmt_list, const char *number) {
 }
 
 static void read_ranges(struct scope *scope, char *text) {
-    static size_t room;
+    static size_t capacity;
     scope->first_range = range_count;
     for (char *at = text; *text != '-' && *at;) {
-        if (range_count == room) {
-            room = room ? 2 * room : 1024;
-            ranges = realloc(ranges, room * sizeof *ranges);
+        if (range_count == capacity) {
+            capacity = capacity ? 2 * capacity : 1024;
+            ranges = realloc(ranges, capacity * sizeof *ranges);
         }
         ranges[range_count].from = strtoull(at, &at, 16);
         ranges[range_count].to = strtoull(at + 1, &at, 16);
@@ -97,9 +100,9 @@ static void read_ranges(struct scope *scope, char *text) {
     scope->past_range = range_count;
 }
 
-// Ends where a scope's number is not its position, or its root stands behind it, or before the root
-// of the scope before.
-static void judge_scope(size_t position, uint64_t offset, uint64_t number, uint64_t root) {
+// Exits if a scope's number is not its index, or if its root is after it or before the root of the
+// previous scope.
+static void check_scope(size_t position, uint64_t offset, uint64_t number, uint64_t root) {
     static uint64_t last_root;
     if (number == position && last_root <= root && root <= offset) {
         last_root = root;
@@ -117,7 +120,7 @@ static void read_scopes(const char *path) {
     for (size_t i = 0; i < scope_count; i++) {
         char *fields[11], *rest = lines[i];
         for (int n = 0; n < 11; n++) fields[n] = strsep(&rest, "\t");
-        judge_scope(i, strtoull(fields[0], NULL, 16), strtoull(fields[9], NULL, 10),
+        check_scope(i, strtoull(fields[0], NULL, 16), strtoull(fields[9], NULL, 10),
                     strtoull(fields[10], NULL, 16));
         scopes[i].inlined = !strcmp(fields[1], "inlined");
         scopes[i].name = strcmp(fields[2], "-") ? fields[2] : "??";

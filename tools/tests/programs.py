@@ -43,8 +43,8 @@ def separate(path):
 
 def symbol(path, name):
     """Returns the link address of a symbol."""
-    told = [line.split() for line in output_of("nm", path).splitlines()]
-    return next(int(words[0], 16) for words in told if words[-1] == name)
+    symbols = [line.split() for line in output_of("nm", path).splitlines()]
+    return next(int(words[0], 16) for words in symbols if words[-1] == name)
 
 
 def instructions(path, function):

@@ -109,23 +109,6 @@ class CheckDocs(unittest.TestCase):
         self.reports("LIBRARY.md: an example starts with "
                      "'// crates/dwarf_lines_tests/src/columns.rt', which names no source")
 
-    def test_words_in_the_file_of_causes(self):
-        """Without words.rt, the words are read from fault.rt."""
-        folder = self.top / "crates/dwarf_bytes/src"
-        words = self.write("crates/dwarf_bytes/src/words.rt", "")
-        (folder / "words.rt").unlink()
-        faults = (folder / "fault.rt").read_text()
-        self.write("crates/dwarf_bytes/src/fault.rt", faults + words)
-        with mock.patch("check_docs.TOP", self.top):
-            self.assertEqual(list(check_docs.causes()), [])
-        self.write("crates/dwarf_bytes/src/fault.rt",
-                   faults + words.replace('"two-roots"', '"two-trees"'))
-        with mock.patch("check_docs.TOP", self.top):
-            self.assertEqual(list(check_docs.causes()), [
-                "addr2line_live.1: the cause two-trees is not explained",
-                "addr2line_live.1: two-roots is no cause",
-            ])
-
 
 class CheckWords(unittest.TestCase):
     def test_code_of_a_document_is_skipped(self):

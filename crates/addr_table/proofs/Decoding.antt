@@ -5,4 +5,4 @@ pub mod ExtentLaws
 pub mod FaultLaws
 pub mod FewLaws
 pub mod ModuleLaws
-pub mod TellLaws
+pub mod ScopeDataLaws

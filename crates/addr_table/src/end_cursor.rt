@@ -38,8 +38,8 @@ impl<'a> Model for EndCursor<'a> {
         c.next };
 }
 
-/// Returns the next endpoint of two ascending lists, and whether it is one of a row, given how many
-/// of each list were taken.
+/// Returns the next endpoint of two ascending lists, and whether it is one of a row. `row` and
+/// `scope` are the numbers of endpoints that were taken from each list.
 fn next_of(rows: &RowEnds<'_>, scopes: &EndList, row: usize, scope: usize) -> Option<(End, bool)>
     ensures { IsNext (record { rows = rows.now; scopes = scopes.now; row = row; scope = scope })
         result }

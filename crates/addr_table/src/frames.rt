@@ -3,7 +3,7 @@
 ghost use Rattle.std.specs.Prelude.{◌≡◌, [], ◌∷◌, option_map, MatchOption};
 ghost use Rattle.std.specs.List.{join_with_byte};
 ghost use Rattle.addr_table.specs.Frames.{frames_of, place_chain};
-ghost use Rattle.addr_table.specs.Private.Walks.{HaveParents, nears_of};
+ghost use Rattle.addr_table.specs.Private.Walks.{HaveParents, parent_codes};
 
 use crate::object_tables::{FrameSite, ObjectTables};
 use crate::optional_index::OptionalIndex;
@@ -85,21 +85,21 @@ impl<'a> Model for FrameWalk<'a> {
     ghost use Rattle.std.specs.Prelude.{List};
     ghost use Rattle.addr_table.specs.Frames.{Frame as FrameSeen};
     ghost use Rattle.addr_table.specs.Private.Views.{walk_left};
-    ghost use Rattle.addr_table.specs.Private.Walks.{near_of, nears_of, IsWalk};
+    ghost use Rattle.addr_table.specs.Private.Walks.{parent_code, parent_codes, IsWalk};
 
     ghost Value = { List FrameSeen };
 
     ghost view = { λ w. walk_left w.tables.bytes.now w.tables.lines.now w.tables.scopes.now.scopes
-        w.link (near_of w.scope) w.site w.alone };
+        w.link (parent_code w.scope) w.site w.alone };
 
-    ghost invariant = { λ w. IsWalk w.tables.scopes.now.scopes (nears_of w.parents.now)
-        w.link (near_of w.scope) w.top };
+    ghost invariant = { λ w. IsWalk w.tables.scopes.now.scopes (parent_codes w.parents.now)
+        w.link (parent_code w.scope) w.top };
 }
 
 impl<'a> FrameWalk<'a> {
     /// Starts a walk at the scope of a place.
     fn of(tables: ObjectTables<'a>, parents: &'a [OptionalIndex], place: Place) -> FrameWalk<'a>
-        requires { HaveParents tables.scopes.now.scopes (nears_of parents.now) }
+        requires { HaveParents tables.scopes.now.scopes (parent_codes parents.now) }
         ensures { result ≡ frames_of tables.entry.bytes.now tables.entry.lines.now
             (place_chain place.link place.scope tables.entry.scopes.now.scopes) place.row }
     {
@@ -188,7 +188,7 @@ impl<'a> Frames<'a> {
         parents: &'a [OptionalIndex],
         place: Place,
     ) -> Frames<'a>
-        requires { HaveParents tables.scopes.now.scopes (nears_of parents.now) }
+        requires { HaveParents tables.scopes.now.scopes (parent_codes parents.now) }
         ensures { result ≡ frames_of tables.entry.bytes.now tables.entry.lines.now
             (place_chain place.link place.scope tables.entry.scopes.now.scopes) place.row }
     {

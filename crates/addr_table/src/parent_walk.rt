@@ -4,8 +4,8 @@ ghost use Rattle.std.specs.Prelude.{◌≡◌, ◌≤◌, ◌<◌, length, get_o
 ghost use Rattle.dwarf_entries.specs.Scopes.{Scope as ScopeSeen};
 ghost use Rattle.addr_table.specs.Chains.{is_at};
 ghost use Rattle.dwarf_entries.specs.Order.{AreInOrder};
-ghost use Rattle.addr_table.specs.Private.Walks.{HaveParents, near_of, nears_of, chain_around};
-ghost use Rattle.addr_table.specs.Private.Walks.{top_around, EndsAt, IsInChain, outer_of};
+ghost use Rattle.addr_table.specs.Private.Walks.{HaveParents, parent_code, parent_codes, chain_at};
+ghost use Rattle.addr_table.specs.Private.Walks.{top_at, EndsAt, IsInChain, outer_of};
 ghost use Rattle.addr_table.specs.Private.Walks.{search_start_of};
 
 use crate::optional_index::OptionalIndex;
@@ -32,9 +32,9 @@ pub(crate) fn top(
     link: u64,
     scope: Option<usize>,
 ) -> Option<usize>
-    requires have { HaveParents scopes.now.scopes (nears_of parents.now) }
-    requires within { near_of scope ≤ length scopes.now.scopes }
-    ensures { result ≡ top_around link scopes.now.scopes (near_of scope) }
+    requires have { HaveParents scopes.now.scopes (parent_codes parents.now) }
+    requires within { parent_code scope ≤ length scopes.now.scopes }
+    ensures { result ≡ top_at link scopes.now.scopes (parent_code scope) }
 {
     let mut found = None;
     let mut scope = scope;
@@ -56,14 +56,14 @@ pub(crate) fn next_in_chain(
     top: usize,
     scope: Option<usize>,
 ) -> Option<usize>
-    requires have { HaveParents scopes.now.scopes (nears_of parents.now) }
-    requires within { near_of scope ≤ length scopes.now.scopes }
-    requires ends { EndsAt link scopes.now.scopes (near_of scope) top }
-    ensures within { near_of result ≤ length scopes.now.scopes }
-    ensures chain { chain_around link scopes.now.scopes (near_of result)
-        ≡ chain_around link scopes.now.scopes (near_of scope) }
-    ensures ends { EndsAt link scopes.now.scopes (near_of result) top }
-    ensures returned { IsInChain link scopes.now.scopes (near_of result) top }
+    requires have { HaveParents scopes.now.scopes (parent_codes parents.now) }
+    requires within { parent_code scope ≤ length scopes.now.scopes }
+    requires ends { EndsAt link scopes.now.scopes (parent_code scope) top }
+    ensures within { parent_code result ≤ length scopes.now.scopes }
+    ensures chain { chain_at link scopes.now.scopes (parent_code result)
+        ≡ chain_at link scopes.now.scopes (parent_code scope) }
+    ensures ends { EndsAt link scopes.now.scopes (parent_code result) top }
+    ensures returned { IsInChain link scopes.now.scopes (parent_code result) top }
 {
     let mut scope = scope;
     while let Some(number) = scope {
@@ -77,8 +77,8 @@ pub(crate) fn next_in_chain(
 
 /// Returns the parent of scope `number`, or `None` if it is the outermost scope of the chain.
 pub(crate) fn outer(parents: &[OptionalIndex], top: usize, number: usize) -> Option<usize>
-    requires { number < length (nears_of parents.now) }
-    ensures { near_of result ≡ outer_of (nears_of parents.now) top number }
+    requires { number < length (parent_codes parents.now) }
+    ensures { parent_code result ≡ outer_of (parent_codes parents.now) top number }
 {
     if number == top {
         return None;
@@ -88,7 +88,7 @@ pub(crate) fn outer(parents: &[OptionalIndex], top: usize, number: usize) -> Opt
 
 /// Returns a scope if its number is below `count`.
 pub(crate) fn search_start(count: usize, scope: Option<usize>) -> Option<usize>
-    ensures { near_of result ≡ search_start_of count scope }
+    ensures { parent_code result ≡ search_start_of count scope }
 {
     scope.filter(|number| *number < count)
 }

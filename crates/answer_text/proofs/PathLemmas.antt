@@ -104,29 +104,29 @@ printed-join part (next ∷ parts) =
     ∙ sym (map-append printable part (47 ∷ join_with_byte 47 (next ∷ parts)))
 
 -- a path whose first part is nonempty
-pub known-join : (part : List ℕ) (parts : List (List ℕ)) → part ≢ []
+pub path-nonempty : (part : List ℕ) (parts : List (List ℕ)) → part ≢ []
     → map printable part ++ flat_map after_slash parts
     ≡ text_or_unknown (Some (join_with_byte 47 (part ∷ parts)))
-known-join [] parts ne = absurd (ne refl)
-known-join (byte ∷ bytes) [] ne = printed-join (byte ∷ bytes) []
-known-join (byte ∷ bytes) (next ∷ parts) ne = printed-join (byte ∷ bytes) (next ∷ parts)
+path-nonempty [] parts ne = absurd (ne refl)
+path-nonempty (byte ∷ bytes) [] ne = printed-join (byte ∷ bytes) []
+path-nonempty (byte ∷ bytes) (next ∷ parts) ne = printed-join (byte ∷ bytes) (next ∷ parts)
 
 -- a path whose first part is empty
-pub known-after-empty : (part : List ℕ) (parts : List (List ℕ))
+pub path-after-empty : (part : List ℕ) (parts : List (List ℕ))
     → after_slash part ++ flat_map after_slash parts
     ≡ text_or_unknown (Some (join_with_byte 47 ([] ∷ part ∷ parts)))
-known-after-empty part parts = ap (λ (z : List ℕ). 47 ∷ z) (printed-join part parts)
+path-after-empty part parts = ap (λ (z : List ℕ). 47 ∷ z) (printed-join part parts)
 
 -- ---- the remaining parts of a path
 
 abbrev pub path_text : List (List ℕ) → List ℕ
 path_text parts = text_or_unknown (Some (join_with_byte 47 parts))
 
-pub first-known : (all rest : List (List ℕ)) (part : List ℕ) → all ≡ part ∷ rest → part ≢ []
+pub first-nonempty : (all rest : List (List ℕ)) (part : List ℕ) → all ≡ part ∷ rest → part ≢ []
     → map printable part ++ flat_map after_slash rest ≡ path_text all
-first-known all rest part e ne = known-join part rest ne ∙ ap path_text (sym e)
+first-nonempty all rest part e ne = path-nonempty part rest ne ∙ ap path_text (sym e)
 
-pub second-known : (all rest : List (List ℕ)) (part : List ℕ) → all ≡ part ∷ rest
+pub second-after-empty : (all rest : List (List ℕ)) (part : List ℕ) → all ≡ part ∷ rest
     → after_slash part ++ flat_map after_slash rest ≡ path_text ([] ∷ all)
-second-known all rest part e = known-after-empty part rest
+second-after-empty all rest part e = path-after-empty part rest
     ∙ ap (λ (z : List (List ℕ)). path_text ([] ∷ z)) (sym e)

@@ -13,19 +13,19 @@ use Rattle.answer_text.specs.Numerals.{address_text}
 use Rattle.io_streams.specs.declared.options.Options.{Options}
 use Rattle.answer_text.proofs.PendingLemmas.{cut-more, puts-then, cut-as, put-as, puts-as}
 
-pub cut-known : (a b : Option (List ℕ)) (h : List ℕ) (t t' : Option (List ℕ)) (rest : List ℕ)
+pub cut-same : (a b : Option (List ℕ)) (h : List ℕ) (t t' : Option (List ℕ)) (rest : List ℕ)
     → t ≡ t' → Cut a b h (text_or_unknown t)
     → Cut a b h (text_or_unknown t' ++ rest)
-cut-known a b h t t' rest e p = subst (λ (x : Option (List ℕ)). Cut a b h (text_or_unknown x
+cut-same a b h t t' rest e p = subst (λ (x : Option (List ℕ)). Cut a b h (text_or_unknown x
     ++ rest)) e
     (cut-more a b h (text_or_unknown t) rest p)
 
-pub puts-known : {E : Type 0} (a b c : Option (List ℕ)) (h h' h'' : List ℕ) (t t' : Option (List ℕ))
+pub puts-same : {E : Type 0} (a b c : Option (List ℕ)) (h h' h'' : List ℕ) (t t' : Option (List ℕ))
     (y y' : List ℕ)
     (r : Result (Unit {0}) E) → t ≡ t' → y ≡ y'
     → Put a b h h' (text_or_unknown t) → Puts b c h' h'' r y → Puts a c h h'' r (text_or_unknown t'
     ++ y')
-puts-known {E} a b c h h' h'' t t' y y' r e f p q =
+puts-same {E} a b c h h' h'' t t' y y' r e f p q =
     subst (λ (x : Option (List ℕ)). Puts a c h h'' r (text_or_unknown x ++ y')) e
     (subst (λ (z : List ℕ). Puts a c h h'' r (text_or_unknown t ++ z)) f
     (puts-then a b c h h' h'' (text_or_unknown t) y r p q))
@@ -52,7 +52,7 @@ pub cut-named : (a b : Option (List ℕ)) (h : List ℕ) (options : Options) (fr
     → Cut a b h (name_text options frame)
 cut-named a b h options frame t on e p =
     cut-as a b h _ _ (named-text options frame on)
-    (cut-known a b h t (name_of options frame) (after_name options) e p)
+    (cut-same a b h t (name_of options frame) (after_name options) e p)
 
 pub puts-named : {E : Type 0} (a b c : Option (List ℕ)) (h h' h'' : List ℕ) (options : Options)
     (frame : Frame) (t : Option (List ℕ))
@@ -62,7 +62,7 @@ pub puts-named : {E : Type 0} (a b c : Option (List ℕ)) (h h' h'' : List ℕ) 
     → Puts a c h h'' r (name_text options frame)
 puts-named a b c h h' h'' options frame t y r on e f p q =
     puts-as a c h h'' _ _ r (named-text options frame on)
-    (puts-known a b c h h' h'' t (name_of options frame) y (after_name options) r e f p q)
+    (puts-same a b c h h' h'' t (name_of options frame) y (after_name options) r e f p q)
 
 -- only the innermost frame, or also the others
 pub cut-frames : (a b : Option (List ℕ)) (h : List ℕ) (options : Options) (fs : List Frame)

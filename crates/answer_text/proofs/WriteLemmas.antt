@@ -6,7 +6,7 @@ use Rattle.std.proofs.lemmas.Bool.{ne_eqb}
 use Rattle.std.specs.Prelude.{Option, Ok}
 use Rattle.std.specs.Io.KnownBytes.{Appends, Keeps}
 use Rattle.io_streams.specs.Streams.{IsBeginning, write_failures}
-use Rattle.io_streams.proofs.StreamLemmas.{appends_kept, appends_then}
+use Rattle.io_streams.proofs.StreamLemmas.{appends_unchanged, appends_then}
 
 -- a prefix was written, and then no more
 pub stops-at : (a b c : Option (List ℕ)) (text : List ℕ) (n : ℕ) → Appends a b (take n text)
@@ -15,7 +15,7 @@ pub stops-at : (a b c : Option (List ℕ)) (text : List ℕ) (n : ℕ) → Appen
 stops-at a b c text n h k = (
   take n text,
   (drop n text, take-append-drop n text),
-  appends_kept a b c (take n text) h k,
+  appends_unchanged a b c (take n text) h k,
 )
 
 -- one more piece of a string

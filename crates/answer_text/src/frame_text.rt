@@ -56,6 +56,7 @@ fn put_name<W: Sink>(
     ensures failures { W.failures writer.new ≡ failures_after (W.failures writer.old) result }
 {
     if !options.functions {
+        // Appends nothing. The contract of `put` proves both clauses.
         return pending.put(b"", writer);
     }
     pending.put_or_unknown(printed_name(options, frame), writer)?;

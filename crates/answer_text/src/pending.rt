@@ -190,7 +190,8 @@ impl Pending {
     }
 }
 
-/// Writes several strings, buffered into as few writes as possible.
+/// Writes several strings through a buffer, which is written when a string does not fit and at the
+/// end.
 pub fn write_texts<W: Sink>(texts: &[&[u8]], writer: &mut W) -> Result<(), DeviceFault>
     ensures bytes { Writes (W.written writer.old) (W.written writer.new) result
         (flat_map (λ text. text.now) texts.now) }

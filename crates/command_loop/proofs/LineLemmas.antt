@@ -73,9 +73,9 @@ grow-step v x parts b h =
 -- any other byte is appended to the last part
 pub split-grows : (p : ℕ → Bool) (xs : List ℕ) (b : ℕ) → p b ≡ false → slice_split p (xs ++ b ∷ [])
     ≡ with_byte (slice_split p xs) b
-split-grows p [] b no_cut = rw no_cut refl
-split-grows p (x ∷ xs) b no_cut =
-    ap (λ (z : List (List ℕ)). cond (p x) ([] ∷ z) (onto_first x z)) (split-grows p xs b no_cut)
+split-grows p [] b no_segment = rw no_segment refl
+split-grows p (x ∷ xs) b no_segment =
+    ap (λ (z : List (List ℕ)). cond (p x) ([] ∷ z) (onto_first x z)) (split-grows p xs b no_segment)
     ∙ grow-step (p x) x (slice_split p xs) b (has_first p xs)
 
 pub front_of-push : (parts : List (List ℕ)) (part : List ℕ) → all_but_last (parts ++ part ∷ [])

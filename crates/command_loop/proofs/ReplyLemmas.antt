@@ -8,7 +8,7 @@ use Rattle.std.proofs.lemmas.Option.{slice_get-map}
 use Rattle.module_map.specs.World.{Loaded, name_at}
 use Rattle.module_map.specs.declared.faults.Extent.{Extent}
 use Rattle.std.specs.Io.KnownBytes.{Appends}
-use Rattle.module_map.specs.Listing.{Listed, listed, item_listed}
+use Rattle.module_map.specs.Listing.{Listed, list_item, item_data}
 use Rattle.io_streams.specs.Streams.{IsBeginning, Writes}
 use Rattle.answer_text.specs.Pending.{Put, Cut}
 use Rattle.answer_text.proofs.PendingLemmas.{puts-then, writes-all}
@@ -43,14 +43,14 @@ list-writes {E} a b c d h h' h'' items all r e f p q w =
 -- ---- one module of the list
 
 -- the item at an index of the list has the name of the module there
-pub listed-name : (item : Option (Bor (List ℕ) × Extent × ℕ)) (modules : List Loaded) (index : ℕ)
-    → option_map item_listed item ≡ slice_get (map listed modules) index
+pub item-name : (item : Option (Bor (List ℕ) × Extent × ℕ)) (modules : List Loaded) (index : ℕ)
+    → option_map item_data item ≡ slice_get (map list_item modules) index
     → option_map_or (λ i. i.0.now) item [] ≡ name_at modules index
-listed-name item modules index e = at item (slice_get modules index)
-    (e ∙ slice_get-map listed modules index)
+item-name item modules index e = at item (slice_get modules index)
+    (e ∙ slice_get-map list_item modules index)
   where
     at : (item : Option (Bor (List ℕ) × Extent × ℕ)) (m : Option Loaded)
-        → option_map item_listed item ≡ option_map listed m
+        → option_map item_data item ≡ option_map list_item m
         → option_map_or (λ i. i.0.now) item [] ≡ option_map_or (λ m. m.name) m []
     at None None e = refl
     at None (Some m) e = absurd cc

@@ -10,7 +10,7 @@ pub use Rattle.module_map.specs.Changes.{is_taken, is_full, place_fault, with_mo
 pub use Rattle.module_map.specs.Changes.{IsExtentOf, Loads, Unloads, Moves}
 pub use Rattle.module_map.specs.Answers.{asked, frames_at}
 pub use Rattle.module_map.specs.Counts.{TakesCompares, CachesAnswer, decoded_after}
-pub use Rattle.module_map.specs.Listing.{listing}
+pub use Rattle.module_map.specs.Listing.{listing, Listed, list_item}
 pub use Rattle.module_map.specs.Words.{map_word}
 pub use Rattle.io_streams.specs.Streams.{DeviceState, one_more, failures_after, write_failures}
 pub use Rattle.io_streams.specs.Streams.{fetched_of, Grows, Writes}

@@ -6,7 +6,7 @@ use Rattle.module_map.specs.Changes.{is_taken, load_fault, with_module, without_
 use Rattle.module_map.specs.Changes.{with_moved}
 use Rattle.module_map.specs.Answers.{frames_at}
 use Rattle.module_map.specs.Answers as answers
-use Rattle.module_map.specs.Listing.{Listed, listed}
+use Rattle.module_map.specs.Listing.{Listed, list_item}
 use Rattle.module_map.specs.declared.faults.MapFault.{MapFault}
 use Rattle.module_map.specs.declared.faults.MapFault.TheVariants.{NoModule, Overlap, Memory}
 use Rattle.command_loop.specs.Requests.{Request}
@@ -83,7 +83,7 @@ step world (Err bad) outcomes = record { reply = Unreadable bad; world = world }
 step world (Ok (Ask address)) outcomes =
     record { reply = Answered (answer_at world address); world = world }
 step world (Ok ListAll) outcomes =
-    record { reply = AllListed (map listed world.modules); world = world }
+    record { reply = AllListed (map list_item world.modules); world = world }
 step world (Ok (Unload name)) outcomes = unload_step world name
 step world (Ok (Move name base)) outcomes =
     move_step world name (find (is_named name) world.modules) base

@@ -3,7 +3,7 @@
 ghost use Rattle.std.specs.Prelude.{◌≡◌, ◌++◌, ◌∷◌, [], List, codes, flat_map, map};
 ghost use Rattle.io_streams.specs.Streams.{failures_after, Writes};
 ghost use Rattle.answer_text.specs.Pending.{Puts};
-ghost use Rattle.module_map.specs.Listing.{Listed, listed};
+ghost use Rattle.module_map.specs.Listing.{Listed, list_item};
 ghost use Rattle.command_loop.specs.Private.Outcomes.{reply_of, IsCurrent};
 ghost use Rattle.command_loop.specs.Text.{map_words, object_text, refusal_text};
 ghost use Rattle.command_loop.specs.Text.{extent_text, unload_text, module_text, list_text, text};
@@ -48,7 +48,7 @@ fn name_at<'a>(modules: &'a Modules, index: usize) -> &'a str
 {
     match modules.list().nth(index) {
         None => "",
-        Some(listed) => listed.0,
+        Some(item) => item.0,
     }
 }
 
@@ -151,8 +151,8 @@ fn put_modules<W: Sink>(
         result (flat_map module_text modules.entry) }
     ensures failures { W.failures writer.new ≡ failures_after (W.failures writer.old) result }
 {
-    for listed in modules {
-        put_module(listed.0, &listed.1, listed.2, pending, writer)?;
+    for item in modules {
+        put_module(item.0, &item.1, item.2, pending, writer)?;
     }
     Ok(())
 }
@@ -160,7 +160,7 @@ fn put_modules<W: Sink>(
 /// Writes the list of modules and the line that ends it.
 fn write_list<W: Sink>(modules: &Modules, writer: &mut W) -> Result<(), DeviceFault>
     ensures bytes { Writes (W.written writer.old) (W.written writer.new) result
-        (list_text (map listed modules.now.world.modules)) }
+        (list_text (map list_item modules.now.world.modules)) }
     ensures failures { W.failures writer.new ≡ failures_after (W.failures writer.old) result }
 {
     let mut pending = Pending::new();

@@ -64,7 +64,7 @@ chain_within (suc remaining) units m = elim (next_of (m.die)) [
 abbrev pub path_of : List CompilationUnit → Member → Result (List Member) Cause
 path_of = chain_within references_limit
 
--- The location of the string at an offset of a section, if it is terminated there.
+-- The location of the string at an offset of a section, if a NUL follows.
 abbrev pub text_in : Section → List ℕ → ℕ → Result TextOffset Cause
 text_in name section offset =
     reading (text_at section offset) >>= λ _. Ok (record { section = name; offset = offset })

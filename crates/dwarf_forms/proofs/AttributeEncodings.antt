@@ -9,21 +9,21 @@ use Rattle.dwarf_bytes.specs.Numbers.{IsEncodedAt, IsUleb, IsSleb, uleb_at, sleb
 use Rattle.dwarf_bytes.specs.Forms.{form_of}
 use Rattle.dwarf_bytes.specs.Items.{Item, End, reading}
 use Rattle.dwarf_bytes.proofs.Numbers.Advance.{bind_ok, after-bind, after-test, reading-ok, chosen}
-use Rattle.dwarf_bytes.proofs.Numbers.LebEncodings.{uleb-stands, uleb-again, sleb-stands}
+use Rattle.dwarf_bytes.proofs.Numbers.LebEncodings.{uleb-encoded, uleb-again, sleb-encoded}
 use Rattle.dwarf_bytes.proofs.Numbers.LebEncodings.{sleb-again}
 use Rattle.dwarf_forms.specs.declared.attribute.AttributeSpecification.{AttributeSpecification}
 use Rattle.dwarf_forms.specs.Declarations.{EncodesConstant, EncodesAttribute, EndsAttributes}
 use Rattle.dwarf_bytes.specs.declared.constants.TheConstants.{DW_FORM_IMPLICIT_CONST}
 use Rattle.dwarf_forms.specs.Tables.{constant_at, attribute_at}
-use Rattle.dwarf_forms.proofs.Stretches.{stretch-of, stands-from, joined, nothing}
+use Rattle.dwarf_forms.proofs.Stretches.{stretch-of, encoded-from, both-parts, nothing}
 use Rattle.dwarf_bytes.proofs.Numbers.Moves.{same-ok, same-item, same-end}
-use Rattle.dwarf_forms.proofs.Listed.{EndStands, IsSpelled, IsNew}
+use Rattle.dwarf_forms.proofs.ListEncodings.{EndEncoded, EncodesReads, IsNew}
 
 -- ---- numbers
 
 pub uleb-read : (section : List ℕ) (at : ℕ) (read : ℕ × ℕ) → reading (uleb_at section at) ≡ Ok read
     → IsEncodedAt IsUleb section at read.0 read.1
-uleb-read section at read h = uleb-stands section at read.0 read.1
+uleb-read section at read h = uleb-encoded section at read.0 read.1
     (reading-ok (uleb_at section at) read h)
 
 pub uleb-reads : (section : List ℕ) (at value next : ℕ) → IsEncodedAt IsUleb section at value next
@@ -41,19 +41,19 @@ differ a b h = grind arith
 
 -- ---- constants
 
-constant-stands : (form : ℕ) (section : List ℕ) (at : ℕ) (read : Option ℤ × ℕ)
+constant-encoded : (form : ℕ) (section : List ℕ) (at : ℕ) (read : Option ℤ × ℕ)
     → constant_at form section at ≡ Ok read
     → IsEncodedAt (EncodesConstant form) section at read.0 read.1
-constant-stands form section at read h =
+constant-encoded form section at read h =
     chosen (form == DW_FORM_IMPLICIT_CONST)
     (reading (sleb_at section at) >>= λ c. Ok (Some c.0, c.1)) (Ok (None, at)) (Ok read) h
     (IsEncodedAt (EncodesConstant form) section at read.0 read.1)
     (λ test is. let found = bind_ok (reading (sleb_at section at)) (λ c. Ok (Some c.0, c.1)) read
     is in
-    let stands = sleb-stands section at found.0.0 found.0.1
+    let stands = sleb-encoded section at found.0.0 found.0.1
     (reading-ok (sleb_at section at) found.0 found.1) in
     let there : IsEncodedAt (EncodesConstant form) section at (Some found.0.0) found.0.1 =
-    stands-from (EncodesConstant form) section at (Some found.0.0) found.0.1 stands.front
+    encoded-from (EncodesConstant form) section at (Some found.0.0) found.0.1 stands.front
     stands.rest
     (stretch-of IsSleb section at found.0.0 found.0.1 stands)
     (alike form DW_FORM_IMPLICIT_CONST test, stands.encoded) in
@@ -61,7 +61,8 @@ constant-stands form section at read h =
     (same-ok (Some found.0.0, found.0.1) read found.2) there)
     (λ test is. subst (λ (r : Option ℤ × ℕ). IsEncodedAt (EncodesConstant form) section at r.0 r.1)
     (same-ok (None, at) read is)
-    (stands-from (EncodesConstant form) section at None at [] (drop at section) (nothing section at)
+    (encoded-from (EncodesConstant form) section at None at [] (drop at section)
+    (nothing section at)
     (differ form DW_FORM_IMPLICIT_CONST test, refl)))
 
 pub constant-reads : (form : ℕ) (section : List ℕ) (at : ℕ) (constant : Option ℤ) (next : ℕ)
@@ -72,7 +73,7 @@ constant-reads form section at None next s =
     rw (unlike form DW_FORM_IMPLICIT_CONST s.encoded.0) (ap (λ (k : ℕ). Ok (None, k)) place)
 constant-reads form section at (Some c) next s =
     let encoded : IsEncodedAt IsSleb section at c next =
-    stands-from IsSleb section at c next s.front s.rest
+    encoded-from IsSleb section at c next s.front s.rest
     (stretch-of (EncodesConstant form) section at (Some c) next s) s.encoded.1 in
     rw (eq-eqb form DW_FORM_IMPLICIT_CONST s.encoded.0, sleb-again section at c next encoded) refl
 
@@ -112,10 +113,10 @@ ended-parts name form h = both (name == 0) (form == 0) refl refl h
     both true false p q h = cc
     both false b p q h = cc
 
-pub attribute-spelled : (section : List ℕ)
-    → IsSpelled EncodesAttribute EndsAttributes (IsNew IsUsable name_of) section
+pub attribute-encoded : (section : List ℕ)
+    → EncodesReads EncodesAttribute EndsAttributes (IsNew IsUsable name_of) section
     (attribute_at section)
-attribute-spelled section = record { item = item; end = end }
+attribute-encoded section = record { item = item; end = end }
   where
     item : (before : List AttributeSpecification) (at : ℕ) (x : AttributeSpecification) (next : ℕ)
         → attribute_at section before at ≡ Ok (Item x next)
@@ -135,16 +136,17 @@ attribute-spelled section = record { item = item; end = end }
         (λ constant constant_is h6.
         let a = uleb-read section at name name_is in
         let b = uleb-read section name.1 form form_is in
-        let c = constant-stands form.0 section form.1 constant constant_is in
-        let ab = joined section at a.front b.front name.1 form.1 a.rest b.rest
+        let c = constant-encoded form.0 section form.1 constant constant_is in
+        let ab = both-parts section at a.front b.front name.1 form.1 a.rest b.rest
         (stretch-of IsUleb section at name.0 name.1 a)
         (stretch-of IsUleb section name.1 form.0 form.1 b) in
-        let abc = joined section at (a.front ++ b.front) c.front form.1 constant.1 b.rest c.rest ab
+        let abc = both-parts section at (a.front ++ b.front) c.front form.1 constant.1 b.rest
+        c.rest ab
         (stretch-of (EncodesConstant form.0) section form.1 constant.0 constant.1 c) in
         let it : AttributeSpecification =
         record { name = name.0; form = form.0; constant = constant.0 } in
         let stands : IsEncodedAt EncodesAttribute section at it constant.1 =
-        stands-from EncodesAttribute section at it constant.1 ((a.front ++ b.front) ++ c.front)
+        encoded-from EncodesAttribute section at it constant.1 ((a.front ++ b.front) ++ c.front)
         c.rest abc
         (record {
           name = a.front;
@@ -167,21 +169,21 @@ attribute-spelled section = record { item = item; end = end }
         )))))))
 
     end : (before : List AttributeSpecification) (at next : ℕ) → attribute_at section before at
-        ≡ Ok (End next) → EndStands EndsAttributes section at next
+        ≡ Ok (End next) → EndEncoded EndsAttributes section at next
     end before at next h =
-        let P : Type 0 = EndStands EndsAttributes section at next in
+        let P : Type 0 = EndEncoded EndsAttributes section at next in
         after-bind (reading (uleb_at section at)) _ (End next) h P (λ name name_is h1.
         after-bind (reading (uleb_at section name.1)) _ (End next) h1 P (λ form form_is h2.
         chosen ((name.0 == 0) && (form.0 == 0)) _ _ (Ok (End next)) h2 P (λ zeros is.
         let a = uleb-read section at name name_is in
         let b = uleb-read section name.1 form form_is in
         let both = ended-parts name.0 form.0 zeros in
-        let ab = joined section at a.front b.front name.1 form.1 a.rest b.rest
+        let ab = both-parts section at a.front b.front name.1 form.1 a.rest b.rest
         (stretch-of IsUleb section at name.0 name.1 a)
         (stretch-of IsUleb section name.1 form.0 form.1 b) in
-        subst (λ (k : ℕ). EndStands EndsAttributes section at k)
+        subst (λ (k : ℕ). EndEncoded EndsAttributes section at k)
         (same-end {X = AttributeSpecification} form.1 next is)
-        (stands-from (λ b (u : Unit {0}). EndsAttributes b) section at tt form.1
+        (encoded-from (λ b (u : Unit {0}). EndsAttributes b) section at tt form.1
         (a.front ++ b.front) b.rest ab
         (record {
           name = a.front;

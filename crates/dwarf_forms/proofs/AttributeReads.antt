@@ -9,13 +9,14 @@ use Rattle.dwarf_forms.specs.declared.attribute.AttributeSpecification.{Attribut
 use Rattle.dwarf_forms.specs.Declarations.{EncodesConstant, EncodesAttribute, EncodesEach}
 use Rattle.dwarf_forms.specs.Declarations.{EndsAttributes}
 use Rattle.dwarf_forms.specs.Tables.{attribute_at, attributes_at}
-use Rattle.dwarf_forms.proofs.Stretches.{Stretch, stretch-of, stands-from, first-part, second-part}
+use Rattle.dwarf_forms.proofs.Stretches.{Stretch, stretch-of, encoded-from, first-part, second-part}
 use Rattle.dwarf_forms.proofs.Stretches.{respelled}
 use Rattle.dwarf_forms.proofs.Moves.{attribute_at-advances, attributes_at-lists, attributes-ok}
-use Rattle.dwarf_forms.proofs.Listed.{EncodesAll, GoodEach, EndStands, IsRead, spelled-list}
-use Rattle.dwarf_forms.proofs.Listed.{read-list, IsNew}
+use Rattle.dwarf_forms.proofs.ListEncodings.{EncodesAll, ValidEach, EndEncoded, IsRead}
+use Rattle.dwarf_forms.proofs.ListEncodings.{encoded-list}
+use Rattle.dwarf_forms.proofs.ListEncodings.{read-list, IsNew}
 use Rattle.dwarf_forms.proofs.AttributeEncodings.{uleb-reads, unlike, constant-reads, IsUsable}
-use Rattle.dwarf_forms.proofs.AttributeEncodings.{name_of, accepted, attribute-spelled}
+use Rattle.dwarf_forms.proofs.AttributeEncodings.{name_of, accepted, attribute-encoded}
 
 pub attribute-read : (section : List ℕ) → IsRead EncodesAttribute EndsAttributes
     (IsNew IsUsable name_of) section (attribute_at section)
@@ -32,17 +33,17 @@ attribute-read section = record { item = item; end = end }
         all in
         let mid = at + length (encoded.name ++ encoded.form) in
         let name = uleb-reads section at x.name (at + length encoded.name)
-        (stands-from IsUleb section at x.name (at + length encoded.name) encoded.name
+        (encoded-from IsUleb section at x.name (at + length encoded.name) encoded.name
         (encoded.form ++ (encoded.constant ++ s.rest))
         (first-part section at encoded.name encoded.form mid (encoded.constant ++ s.rest) two)
         encoded.name_is) in
         let form = uleb-reads section (at + length encoded.name) x.form mid
-        (stands-from IsUleb section (at + length encoded.name) x.form mid encoded.form
+        (encoded-from IsUleb section (at + length encoded.name) x.form mid encoded.form
         (encoded.constant ++ s.rest)
         (second-part section at encoded.name encoded.form mid (encoded.constant ++ s.rest) two)
         encoded.form_is) in
         let constant = constant-reads x.form section mid x.constant next
-        (stands-from (EncodesConstant x.form) section mid x.constant next encoded.constant s.rest
+        (encoded-from (EncodesConstant x.form) section mid x.constant next encoded.constant s.rest
         (second-part section at (encoded.name ++ encoded.form) encoded.constant next s.rest all)
         encoded.constant_is) in
         let not_end : ((x.name == 0) && (x.form == 0)) ≡ false =
@@ -57,7 +58,7 @@ attribute-read section = record { item = item; end = end }
         ) refl
 
     end : (before : List AttributeSpecification) (at next : ℕ)
-        → EndStands EndsAttributes section at next → attribute_at section before at ≡ Ok (End next)
+        → EndEncoded EndsAttributes section at next → attribute_at section before at ≡ Ok (End next)
     end before at next s =
         let encoded = s.encoded in
         let two = respelled section at s.front (encoded.name ++ encoded.form) next s.rest
@@ -65,10 +66,10 @@ attribute-read section = record { item = item; end = end }
         in
         let mid = at + length encoded.name in
         let name = uleb-reads section at 0 mid
-        (stands-from IsUleb section at 0 mid encoded.name (encoded.form ++ s.rest)
+        (encoded-from IsUleb section at 0 mid encoded.name (encoded.form ++ s.rest)
         (first-part section at encoded.name encoded.form next s.rest two) encoded.name_is) in
         let form = uleb-reads section mid 0 next
-        (stands-from IsUleb section mid 0 next encoded.form s.rest
+        (encoded-from IsUleb section mid 0 next encoded.form s.rest
         (second-part section at encoded.name encoded.form next s.rest two) encoded.form_is) in
         rw (name, form) refl
 
@@ -78,20 +79,20 @@ attribute-read section = record { item = item; end = end }
 abbrev pub EncodesAttributes : List ℕ → List AttributeSpecification → Type 0
 EncodesAttributes = EncodesAll EncodesAttribute EndsAttributes
 
-abbrev pub GoodAttributes : List AttributeSpecification → Type 0
-GoodAttributes xs = GoodEach (IsNew IsUsable name_of) [] xs
+abbrev pub ValidAttributes : List AttributeSpecification → Type 0
+ValidAttributes xs = ValidEach (IsNew IsUsable name_of) [] xs
 
-pub attributes-spelled : (section : List ℕ) (at : ℕ) (read : List AttributeSpecification × ℕ)
+pub attributes-encoded : (section : List ℕ) (at : ℕ) (read : List AttributeSpecification × ℕ)
     → attributes_at section at ≡ Ok read → IsEncodedAt EncodesAttributes section at read.0 read.1
-    × GoodAttributes read.0
-attributes-spelled section at read h =
-    spelled-list EncodesAttribute EndsAttributes (IsNew IsUsable name_of) section
-    (attribute_at section) (attribute-spelled section) [] at read.0 read.1
+    × ValidAttributes read.0
+attributes-encoded section at read h =
+    encoded-list EncodesAttribute EndsAttributes (IsNew IsUsable name_of) section
+    (attribute_at section) (attribute-encoded section) [] at read.0 read.1
     (attributes_at-lists section at read h)
 
 pub attributes-read : (section : List ℕ) (at : ℕ) (xs : List AttributeSpecification) (next : ℕ)
     (items end rest : List ℕ) → Stretch section at (items ++ end) next rest
-    → EncodesEach EncodesAttribute items xs → EndsAttributes end → GoodAttributes xs
+    → EncodesEach EncodesAttribute items xs → EndsAttributes end → ValidAttributes xs
     → attributes_at section at ≡ Ok (xs, next)
 attributes-read section at xs next items end rest s items_are ends good =
     attributes-ok section at (xs, next)

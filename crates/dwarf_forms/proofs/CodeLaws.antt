@@ -53,11 +53,11 @@ lacks xs code none i d at is =
     test)
 
 -- an entry of the map for a code that the list lacks does not affect the list
-pub index-kept : (xs : List ℕ) (moved next : BTreeMap ℕ ℕ) (code : ℕ)
+pub index-unchanged : (xs : List ℕ) (moved next : BTreeMap ℕ ℕ) (code : ℕ)
     → list_any (λ other. other == code) xs ≡ false
     → ((q : ℕ) → q ≢ code → get nat_cmp next q ≡ get nat_cmp moved q) → AreCodes xs moved
     → AreCodes xs next
-index-kept xs moved next code none others indexed = record {
+index-unchanged xs moved next code none others indexed = record {
   once = indexed.once;
   found = λ i d at. by_place i d (lacks xs code none i d at) (indexed.found i d at);
 }

@@ -17,7 +17,7 @@ use Rattle.dwarf_forms.specs.Declarations.{Declaration}
 use Rattle.dwarf_forms.specs.Tables.{head_at}
 use Rattle.dwarf_forms.specs.Private.Codes.{AreCodes, head_after}
 use Rattle.dwarf_forms.proofs.Codes.{PutsPlace, others-stay}
-use Rattle.dwarf_forms.proofs.CodeLaws.{index-kept, index-push, place-is}
+use Rattle.dwarf_forms.proofs.CodeLaws.{index-unchanged, index-push, place-is}
 
 -- ---- the map while the table grows
 
@@ -33,7 +33,7 @@ indexed-unpushed xs now after moved next code given place view same none code_is
     let fresh : list_any (λ (other : ℕ). other == code) xs ≡ false = rw view none in
     let here : PutsPlace moved next code place =
     subst (λ (k : ℕ). PutsPlace moved next k place) code_is puts in
-    indexed-same xs after next same (index-kept xs moved next code fresh
+    indexed-same xs after next same (index-unchanged xs moved next code fresh
     (others-stay moved next code place here) indexed)
 
 pub indexed-pushed : (xs now after : List ℕ) (moved next : BTreeMap ℕ ℕ) (y : ℕ) (given place : ℕ)
@@ -50,7 +50,7 @@ indexed-pushed xs now after moved next y given place view same none code_is plac
     ∙ ap (λ (k : ℕ). Some k) place-is in
     indexed-same (xs ++ y ∷ []) after next same
     (index-push xs next y fresh (inr at)
-    (index-kept xs moved next y fresh (others-stay moved next y place here) indexed))
+    (index-unchanged xs moved next y fresh (others-stay moved next y place here) indexed))
 
 pub indexed-own : (xs now after : List ℕ) (moved : BTreeMap ℕ ℕ) (y : ℕ) (given place : ℕ)
     → xs ≡ now → after ≡ xs ++ y ∷ [] → list_any (λ other. other == y) now ≡ false

@@ -8,37 +8,39 @@ use Rattle.dwarf_bytes.proofs.Items.ItemLaws.{Lists-within, items_from-Lists}
 use Rattle.dwarf_forms.specs.Declarations.{Declaration, EncodesDeclaration, EncodesTable, IsValid}
 use Rattle.dwarf_forms.specs.Declarations.{AreValid}
 use Rattle.dwarf_forms.specs.Tables.{declaration_at, table_at}
-use Rattle.dwarf_forms.proofs.Stretches.{stretch-of, stands-from, respelled}
+use Rattle.dwarf_forms.proofs.Stretches.{stretch-of, encoded-from, respelled}
 use Rattle.dwarf_bytes.proofs.Numbers.Moves.{same-ok}
 use Rattle.dwarf_forms.proofs.Moves.{declaration_at-advances}
-use Rattle.dwarf_forms.proofs.Listed.{EncodesAll, spelled-list, read-list, GoodEach-map}
-use Rattle.dwarf_forms.proofs.Listed.{GoodEach-both, IsNew, all-new, new-each, HasRoom, all-room}
-use Rattle.dwarf_forms.proofs.Listed.{room-each}
-use Rattle.dwarf_forms.proofs.TableEncodings.{DeclarationFits, declaration-spelled}
+use Rattle.dwarf_forms.proofs.ListEncodings.{EncodesAll, encoded-list, read-list, ValidEach-map}
+use Rattle.dwarf_forms.proofs.ListEncodings.{ValidEach-both, IsNew, all-new, new-each, FitsBudget}
+use Rattle.dwarf_forms.proofs.ListEncodings.{all-fit}
+use Rattle.dwarf_forms.proofs.ListEncodings.{each-fits}
+use Rattle.dwarf_forms.proofs.TableEncodings.{DeclarationFits, declaration-encoded}
 use Rattle.dwarf_forms.proofs.TableEncodings.{declaration-read}
 
 -- ---- tables
 
 -- A table is read if and only if an encoding of it is at the offset, it is valid, and it has at
 -- most `budget` declarations.
-pub table-spelled : (budget : ℕ) (section : List ℕ) (at : ℕ) (table : List Declaration) (next : ℕ)
+pub table-encoded : (budget : ℕ) (section : List ℕ) (at : ℕ) (table : List Declaration) (next : ℕ)
     → table_at budget section at ≡ Ok (table, next) → IsEncodedAt EncodesTable section at table next
     × AreValid table × (length table ≤ budget)
 unfolding table_at
-table-spelled budget section at table next h =
+table-encoded budget section at table next h =
     let lists = Lists-within (suc (length section - at)) (declaration_at budget section) [] at table
     next h in
-    let encoded = spelled-list EncodesDeclaration (λ b. IsUleb b 0) (DeclarationFits budget) section
-    (declaration_at budget section) (declaration-spelled budget section) [] at table next lists in
+    let encoded = encoded-list EncodesDeclaration (λ b. IsUleb b 0) (DeclarationFits budget) section
+    (declaration_at budget section) (declaration-encoded budget section) [] at table next lists in
     let fits = encoded.1 in
-    let new = GoodEach-map (DeclarationFits budget) (IsNew IsValid (λ d. d.code))
+    let new = ValidEach-map (DeclarationFits budget) (IsNew IsValid (λ d. d.code))
     (λ before x good. good.1) [] table fits in
     let good = all-new IsValid (λ d. d.code) [] table (λ k d h. absurd (omega arith))
     (λ i j d lt h. absurd (omega arith)) new in
-    let few = all-room budget [] table (omega arith)
-    (GoodEach-map (DeclarationFits budget) (HasRoom budget) (λ before x good. good.0) [] table fits)
+    let few = all-fit budget [] table (omega arith)
+    (ValidEach-map (DeclarationFits budget) (FitsBudget budget) (λ before x good. good.0) [] table
+    fits)
     in (
-      stands-from EncodesTable section at table next encoded.0.front encoded.0.rest
+      encoded-from EncodesTable section at table next encoded.0.front encoded.0.rest
           (stretch-of (EncodesAll EncodesDeclaration (λ b. IsUleb b 0)) section at table next
           encoded.0)
           (record {
@@ -59,8 +61,8 @@ pub table_read : (budget : ℕ) (section : List ℕ) (at : ℕ) (table : List De
     → table_at budget section at ≡ Ok (table, next)
 unfolding table_at
 table_read budget section at table next s good few =
-    let fits = GoodEach-both (HasRoom budget) (IsNew IsValid (λ d. d.code)) [] table
-    (room-each budget [] table (omega (arith, few)))
+    let fits = ValidEach-both (FitsBudget budget) (IsNew IsValid (λ d. d.code)) [] table
+    (each-fits budget [] table (omega (arith, few)))
     (new-each IsValid (λ d. d.code) [] table good.each good.once) in
     let whole = respelled section at s.front (s.encoded.declarations ++ s.encoded.end) next s.rest
     s.encoded.whole (stretch-of EncodesTable section at table next s) in

@@ -11,8 +11,8 @@ use Rattle.dwarf_bytes.proofs.Numbers.Advance.{after-bind, after-test, reading-o
 use Rattle.dwarf_forms.specs.declared.declaration.Head.{Head}
 use Rattle.dwarf_forms.specs.Declarations.{Declaration}
 use Rattle.dwarf_forms.specs.Tables.{head_at}
-use Rattle.dwarf_forms.proofs.Stretches.{Stretch, stretch-of, stands-from, joined, first-part}
-use Rattle.dwarf_forms.proofs.Stretches.{second-part, within, fixed-stands, fixed-again}
+use Rattle.dwarf_forms.proofs.Stretches.{Stretch, stretch-of, encoded-from, both-parts, first-part}
+use Rattle.dwarf_forms.proofs.Stretches.{second-part, within, fixed-encoded, fixed-again}
 use Rattle.dwarf_bytes.proofs.Numbers.Moves.{same-item, same-end}
 use Rattle.dwarf_forms.proofs.AttributeEncodings.{uleb-read, uleb-reads, unlike, alike, differ}
 
@@ -26,7 +26,7 @@ pub record EncodesHead (bytes : List ℕ) (head : Head) : Type 0 where
 -- the conditions on a declaration's head that depend on the declarations before it
 pub record HeadFits (budget : ℕ) (before : List Declaration) (code : ℕ) : Type 0 where
   pub some : code ≢ 0
-  pub room_left : length before < budget
+  pub limit-left : length before < budget
   pub new : list_any (λ declaration. declaration.code == code) before ≡ false
 
 one_byte : (block : List ℕ) (value : ℕ) → length block ≡ 1 → value ≡ little_endian block
@@ -55,11 +55,11 @@ flag-test : (b : Bool) → ((if b then 1 else 0) == 1) ≡ b
 flag-test true = refl
 flag-test false = refl
 
-pub head-spelled : (budget : ℕ) (section : List ℕ) (before : List Declaration) (at : ℕ)
+pub head-encoded : (budget : ℕ) (section : List ℕ) (before : List Declaration) (at : ℕ)
     (head : Head)
     (next : ℕ) → head_at budget section before at ≡ Ok (Item head next)
     → IsEncodedAt EncodesHead section at head next × HeadFits budget before head.code
-head-spelled budget section before at head next h =
+head-encoded budget section before at head next h =
     let P : Type 0 = IsEncodedAt EncodesHead section at head next × HeadFits budget before head.code
     in
     after-bind (reading (uleb_at section at)) _ (Item head next) h P (λ code code_is h1.
@@ -72,18 +72,18 @@ head-spelled budget section before at head next h =
     after-test (nat_lt 1 children.0) causes.Children _ (Item head next) h6 P (λ flag h7.
     let a = uleb-read section at code code_is in
     let b = uleb-read section code.1 tag tag_is in
-    let c = fixed-stands 1 section tag.1 children
+    let c = fixed-encoded 1 section tag.1 children
     (reading-ok (u8_at section tag.1) children children_is) in
-    let ab = joined section at a.front b.front code.1 tag.1 a.rest b.rest
+    let ab = both-parts section at a.front b.front code.1 tag.1 a.rest b.rest
     (stretch-of IsUleb section at code.0 code.1 a)
     (stretch-of IsUleb section code.1 tag.0 tag.1 b) in
-    let abc = joined section at (a.front ++ b.front) c.0 tag.1 children.1 b.rest
+    let abc = both-parts section at (a.front ++ b.front) c.0 tag.1 children.1 b.rest
     (drop 1 (drop tag.1 section)) ab c.1 in
     let it : Head = record { code = code.0; tag = tag.0; children = children.0 == 1 } in
     let byte : c.0 ≡ (if children.0 == 1 then 1 else 0) ∷ [] = one_byte c.0 children.0 c.2 c.3
     ∙ ap (λ (k : ℕ). k ∷ []) (flag-of children.0 (ltb-false 1 children.0 flag)) in
     let stands : IsEncodedAt EncodesHead section at it children.1 =
-    stands-from EncodesHead section at it children.1 ((a.front ++ b.front) ++ c.0)
+    encoded-from EncodesHead section at it children.1 ((a.front ++ b.front) ++ c.0)
     (drop 1 (drop tag.1 section)) abc
     (record {
       code = a.front;
@@ -97,7 +97,7 @@ head-spelled budget section before at head next h =
     let good : HeadFits budget before it.code =
     record {
       some = differ code.0 0 some;
-      room_left = leb-false budget (length before) fits;
+      limit-left = leb-false budget (length before) fits;
       new =
           once;
     } in
@@ -135,22 +135,22 @@ head-read budget section before at head next code tag rest s code_is tag_is good
     let two = first-part section at (code ++ tag) byte next rest s in
     let mid = at + length (code ++ tag) in
     let coded = uleb-reads section at head.code (at + length code)
-    (stands-from IsUleb section at head.code (at + length code) code (tag ++ (byte ++ rest))
+    (encoded-from IsUleb section at head.code (at + length code) code (tag ++ (byte ++ rest))
     (first-part section at code tag mid (byte ++ rest) two) code_is) in
     let tagged = uleb-reads section (at + length code) head.tag mid
-    (stands-from IsUleb section (at + length code) head.tag mid tag (byte ++ rest)
+    (encoded-from IsUleb section (at + length code) head.tag mid tag (byte ++ rest)
     (second-part section at code tag mid (byte ++ rest) two) tag_is) in
     let last = second-part section at (code ++ tag) byte next rest s in
     let end : mid + 1 ≤ length section =
     omega (arith, within section mid byte next rest last (omega arith), last.next_is) in
     let flagged : reading (u8_at section mid) ≡ Ok (little_endian byte, next) =
     rw (fixed-again 1 section mid byte next rest last refl end) refl in
-    let room_left : nat_le budget (length before) ≡ false =
-    lt-leb (length before) budget good.room_left in
+    let limit-left : nat_le budget (length before) ≡ false =
+    lt-leb (length before) budget good.limit-left in
     rw (
       coded,
       unlike head.code 0 good.some,
-      room_left,
+      limit-left,
       good.new,
       tagged,
       flagged,

@@ -5,11 +5,11 @@ pub mod Names
 pub mod Moves
 pub mod TableTurns
 pub mod Stretches
-pub mod Listed
+pub mod ListEncodings
 pub mod AttributeEncodings
 pub mod AttributeReads
-pub mod JoinedLaws
-pub mod JoinedLists
+pub mod SuffixLaws
+pub mod SuffixLists
 pub mod Elements
 pub mod SetLaws
 pub mod MemoListLaws

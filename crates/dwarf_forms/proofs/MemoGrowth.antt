@@ -17,35 +17,35 @@ use Rattle.dwarf_forms.specs.Private.Memoized.{is_memoized_at, rest_attributes}
 use Rattle.dwarf_forms.proofs.Codes.{PutsPlace, others-stay}
 use Rattle.dwarf_forms.proofs.Elements.{at-last}
 use Rattle.dwarf_forms.proofs.MemoListLaws.{from-last, from-stays}
-use Rattle.dwarf_forms.proofs.MemoLaws.{named, stands, unknown-apart, memoized-at, names-share}
+use Rattle.dwarf_forms.proofs.MemoLaws.{named, is_at_place, unknown-apart, memoized-at, names-share}
 use Rattle.dwarf_forms.proofs.MemoLaws.{names-stay}
 
 -- ---- a memoized list after other attributes
 
-pub record Joins (bytes : List ℕ) (place : ℕ) (sets : List Branch) (k : MemoizedAttribute)
+pub record MayFollow (bytes : List ℕ) (place : ℕ) (sets : List Branch) (k : MemoizedAttribute)
     (rest : List AttributeSpecification) : Type 0 where
   pub read : attributes_at bytes place ≡ Ok (rest, k.after)
   pub share : (own : List AttributeSpecification)
       → list_any (λ attribute. is_in sets k.names attribute.name) own ≡ shares_name own rest
 
-pub joins : (section : List ℕ) (memoized : List MemoizedAttribute) (places : BTreeMap ℕ ℕ)
+pub may-follow : (section : List ℕ) (memoized : List MemoizedAttribute) (places : BTreeMap ℕ ℕ)
     (sets : List Branch) (seen : MemoizedAttributes) (number place : ℕ) (k : MemoizedAttribute)
     (bytes : List ℕ) → AreMemoized section memoized places sets
     → record { section = section; memoized = memoized } ≡ seen → k ≡ get_or memoized number k
     → is_memoized_at seen.memoized number place ≡ true → bytes ≡ seen.section
-    → Joins bytes place sets k (attributes_from seen.memoized number)
-joins section memoized places sets seen number place k bytes are view is there same =
+    → MayFollow bytes place sets k (attributes_from seen.memoized number)
+may-follow section memoized places sets seen number place k bytes are view is there same =
     let P : MemoizedAttributes → Type 0 = λ l. is_memoized_at l.memoized number place ≡ true → bytes
     ≡ l.section
-    → Joins bytes place sets k (attributes_from l.memoized number) in
+    → MayFollow bytes place sets k (attributes_from l.memoized number) in
     subst P view here there same
   where
     by_item : (found : MemoizedAttribute) → slice_get memoized number ≡ Some found → found.place
         ≡ place
-        → found ≡ k → Joins section place sets k (attributes_from memoized number)
+        → found ≡ k → MayFollow section place sets k (attributes_from memoized number)
     by_item found at at_place one =
         let good = are.each number found at in
-        subst (λ (z : MemoizedAttribute). Joins section place sets z
+        subst (λ (z : MemoizedAttribute). MayFollow section place sets z
         (attributes_from memoized number))
         one (record {
           read = ap (λ (p : ℕ). attributes_at section p) (sym at_place) ∙ good.read;
@@ -54,10 +54,11 @@ joins section memoized places sets seen number place k bytes are view is there s
         })
 
     here : is_memoized_at memoized number place ≡ true → bytes ≡ section
-        → Joins bytes place sets k (attributes_from memoized number)
+        → MayFollow bytes place sets k (attributes_from memoized number)
     here stands same =
         let found = memoized-at memoized number place stands in
-        subst (λ (b : List ℕ). Joins b place sets k (attributes_from memoized number)) (sym same)
+        subst (λ (b : List ℕ). MayFollow b place sets k (attributes_from memoized number))
+        (sym same)
         (by_item found.0 found.1 found.2
         (sym (get_or_from_slice_get memoized number found.0 k found.1) ∙ sym is))
 

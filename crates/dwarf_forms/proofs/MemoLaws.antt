@@ -24,18 +24,18 @@ use Rattle.dwarf_forms.proofs.SetLaws.{HasMore}
 abbrev pub named : ℕ → AttributeSpecification → Bool
 named name attribute = attribute.name == name
 
-abbrev pub stands : ℕ → MemoizedAttribute → Bool
-stands place k = k.place == place
+abbrev pub is_at_place : ℕ → MemoizedAttribute → Bool
+is_at_place place k = k.place == place
 
 -- ---- indexes
 
 -- the invariant for the attribute with an index
-pub good-at : (section : List ℕ) (memoized seen : List MemoizedAttribute) (places : BTreeMap ℕ ℕ)
+pub valid-at : (section : List ℕ) (memoized seen : List MemoizedAttribute) (places : BTreeMap ℕ ℕ)
     (sets : List Branch) (number : ℕ) (k : MemoizedAttribute) → AreMemoized section memoized
     places sets
     → memoized ≡ seen → number < length seen → k ≡ get_or memoized number k
     → IsValidMemo section seen places sets number k
-good-at section memoized seen places sets number k are view lt is =
+valid-at section memoized seen places sets number k are view lt is =
     let within : number < length memoized = omega (arith, lt, ap length view) in
     subst (λ (ks : List MemoizedAttribute). IsValidMemo section ks places sets number k) view
     (are.each number k (slice_get_read memoized (length memoized) number k refl within is))
@@ -57,16 +57,16 @@ pub head-is : (xs rest : List AttributeSpecification) (x : AttributeSpecificatio
     → xs ≡ x ∷ drop 1 xs
 head-is xs rest x is = is ∙ ap (λ (ys : List AttributeSpecification). x ∷ drop 1 ys) (sym is)
 
-pub tail-is : (xs rest : List AttributeSpecification) (x : AttributeSpecification) → xs ≡ x ∷ rest
+pub rest-is : (xs rest : List AttributeSpecification) (x : AttributeSpecification) → xs ≡ x ∷ rest
     → rest ≡ drop 1 xs
-tail-is xs rest x is = sym (ap (λ (ys : List AttributeSpecification). drop 1 ys) is)
+rest-is xs rest x is = sym (ap (λ (ys : List AttributeSpecification). drop 1 ys) is)
 
 -- ---- offsets
 
 unknown-from : (memoized : List MemoizedAttribute) (place : ℕ)
     → ((number : ℕ) (k : MemoizedAttribute) → slice_get memoized number ≡ Some k → k.place ≢ place)
     → IsNotMemoized memoized place
-unknown-from memoized place apart = list_any_none (stands place) memoized
+unknown-from memoized place apart = list_any_none (is_at_place place) memoized
     (λ i d lt. unlike (get_or memoized i d).place place
     (apart i (get_or memoized i d) (slice_get-get_or memoized i d lt)))
   where
@@ -77,9 +77,9 @@ pub unknown-apart : (memoized : List MemoizedAttribute) (place number : ℕ) (k 
     → IsNotMemoized memoized place → slice_get memoized number ≡ Some k → k.place ≢ place
 unknown-apart memoized place number k unknown at same =
     let here : get_or memoized number k ≡ k = get_or_from_slice_get memoized number k k at in
-    false≢true (sym unknown ∙ list_any_at (stands place) memoized number k
+    false≢true (sym unknown ∙ list_any_at (is_at_place place) memoized number k
     (slice_get_within memoized number k at)
-    (ap (λ (z : MemoizedAttribute). stands place z) here ∙ eq-eqb k.place place same))
+    (ap (λ (z : MemoizedAttribute). is_at_place place z) here ∙ eq-eqb k.place place same))
 
 pub unknown-nowhere : (section : List ℕ) (memoized seen : List MemoizedAttribute)
     (places : BTreeMap ℕ ℕ)
@@ -109,7 +109,7 @@ unknown-elsewhere section memoized seen read places sets place number are view s
         (sym there ∙ (ap (λ (p : ℕ). get nat_cmp places p) (sym is) ∙ (are.each i k at).found))
         in
         let test : (k.place == place) ≡ false =
-        subst (λ (o : Option MemoizedAttribute). option_map_or (stands place) o false ≡ false)
+        subst (λ (o : Option MemoizedAttribute). option_map_or (is_at_place place) o false ≡ false)
         (ap (λ (n : ℕ). slice_get memoized n) one ∙ at) here in
         eqb-false k.place place test is
 
@@ -120,7 +120,7 @@ pub memoized-at : (memoized : List MemoizedAttribute) (number place : ℕ) → i
 memoized-at memoized number place is = by_item (slice_get memoized number) refl is
   where
     by_item : (o : Option MemoizedAttribute) → slice_get memoized number ≡ o
-        → option_map_or (stands place) o false ≡ true
+        → option_map_or (is_at_place place) o false ≡ true
         → (k : MemoizedAttribute) × (slice_get memoized number ≡ Some k) × (k.place ≡ place)
     by_item None at h = cc
     by_item (Some k) at h = (k, at, eqb-true k.place place h)
@@ -153,12 +153,12 @@ names-more old new set more x xs has within with_more = record {
     same : (a b : ℕ) → (a == b) ≡ (b == a)
     same a b = grind arith
 
-pub behind-names : (section : List ℕ) (memoized : List MemoizedAttribute) (places : BTreeMap ℕ ℕ)
+pub names-after : (section : List ℕ) (memoized : List MemoizedAttribute) (places : BTreeMap ℕ ℕ)
     (sets : List Branch) (next : Option ℕ) → AreMemoized section memoized places sets
     → IsMemoized memoized next
     → HasNames sets (names_from memoized next) (rest_attributes memoized next)
-behind-names section memoized places sets None are is = are.empty
-behind-names section memoized places sets (Some number) are is = by_item (slice_get memoized number)
+names-after section memoized places sets None are is = are.empty
+names-after section memoized places sets (Some number) are is = by_item (slice_get memoized number)
     refl
   where
     by_item : (o : Option MemoizedAttribute) → slice_get memoized number ≡ o

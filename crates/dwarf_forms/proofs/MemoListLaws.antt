@@ -12,25 +12,27 @@ use Rattle.dwarf_forms.specs.declared.memoized_lists.MemoizedAttribute.{Memoized
 use Rattle.dwarf_forms.specs.Private.Memoized.{IsMemoized, attributes_from, list_of, lists_after}
 use Rattle.dwarf_forms.specs.Private.Memoized.{rest_attributes}
 
-behind-length : (lists : List (List AttributeSpecification)) (ks : List MemoizedAttribute)
+lists_after-length : (lists : List (List AttributeSpecification)) (ks : List MemoizedAttribute)
     → length (lists_after lists ks) ≡ length lists + length ks
-behind-length lists [] = omega arith
-behind-length lists (k ∷ ks) =
+lists_after-length lists [] = omega arith
+lists_after-length lists (k ∷ ks) =
     let more : List AttributeSpecification = k.attribute ∷ list_of lists k.next in
-    omega (arith, behind-length (lists ++ more ∷ []) ks, length-append lists (more ∷ []))
+    omega (arith, lists_after-length (lists ++ more ∷ []) ks, length-append lists (more ∷ []))
 
-behind-front : (lists : List (List AttributeSpecification)) (ks : List MemoizedAttribute) (i : ℕ)
+lists_after-front : (lists : List (List AttributeSpecification)) (ks : List MemoizedAttribute)
+    (i : ℕ)
     → i < length lists → get_or (lists_after lists ks) i [] ≡ get_or lists i []
-behind-front lists [] i lt = refl
-behind-front lists (k ∷ ks) i lt =
+lists_after-front lists [] i lt = refl
+lists_after-front lists (k ∷ ks) i lt =
     let more : List AttributeSpecification = k.attribute ∷ list_of lists k.next in
-    behind-front (lists ++ more ∷ []) ks i (omega (arith, lt, length-append lists (more ∷ [])))
+    lists_after-front (lists ++ more ∷ []) ks i (omega (arith, lt, length-append lists (more ∷ [])))
     ∙ get_or-append lists (more ∷ []) [] i lt
 
-behind-both : (lists : List (List AttributeSpecification)) (xs ys : List MemoizedAttribute)
+lists_after-both : (lists : List (List AttributeSpecification)) (xs ys : List MemoizedAttribute)
     → lists_after lists (xs ++ ys) ≡ lists_after (lists_after lists xs) ys
-behind-both lists [] ys = refl
-behind-both lists (x ∷ xs) ys = behind-both (lists ++ (x.attribute ∷ list_of lists x.next) ∷ []) xs
+lists_after-both lists [] ys = refl
+lists_after-both lists (x ∷ xs) ys =
+    lists_after-both (lists ++ (x.attribute ∷ list_of lists x.next) ∷ []) xs
     ys
 
 pub from-stays : (memoized more : List MemoizedAttribute) (number : ℕ) → number < length memoized
@@ -38,8 +40,8 @@ pub from-stays : (memoized more : List MemoizedAttribute) (number : ℕ) → num
 unfolding attributes_from
 from-stays memoized more number lt =
     ap (λ (ls : List (List AttributeSpecification)). get_or ls number [])
-    (behind-both [] memoized more) ∙ behind-front (lists_after [] memoized) more number
-    (omega (arith, lt, behind-length [] memoized))
+    (lists_after-both [] memoized more) ∙ lists_after-front (lists_after [] memoized) more number
+    (omega (arith, lt, lists_after-length [] memoized))
 
 pub rest-stays : (memoized more : List MemoizedAttribute) (next : Option ℕ)
     → IsMemoized memoized next
@@ -59,10 +61,10 @@ pub from-last : (memoized : List MemoizedAttribute) (k : MemoizedAttribute)
 unfolding attributes_from
 from-last memoized k =
     let lists : List (List AttributeSpecification) = lists_after [] memoized in
-    let last : length memoized ≡ length lists = omega (arith, behind-length [] memoized) in
+    let last : length memoized ≡ length lists = omega (arith, lists_after-length [] memoized) in
     let made : List AttributeSpecification = k.attribute ∷ list_of lists k.next in
     ap (λ (ls : List (List AttributeSpecification)). get_or ls (length memoized) [])
-    (behind-both [] memoized (k ∷ []))
+    (lists_after-both [] memoized (k ∷ []))
     ∙ (ap (λ (n : ℕ). get_or (lists ++ made ∷ []) n []) last
     ∙ (get_or-append_seam lists made [] []
     ∙ ap (λ (ys : List AttributeSpecification). k.attribute ∷ ys) (list-is-rest memoized k.next)))

@@ -50,10 +50,10 @@ named-later xs front later n name is held first =
 -- ---- the set of the later names while the list grows
 
 -- a list of at most n names has no later ones
-pub held-few : (xs : List AttributeSpecification) (y : AttributeSpecification) (later : BTreeSet ℕ)
+pub names-few : (xs : List AttributeSpecification) (y : AttributeSpecification) (later : BTreeSet ℕ)
     (n : ℕ) → length xs < n → ContainsNames later (drop n xs)
     → ContainsNames later (drop n (xs ++ y ∷ []))
-held-few xs y later n few held name =
+names-few xs y later n few held name =
     let none : drop n xs ≡ [] = drop_all n xs (omega arith) in
     let none-more : drop n (xs ++ y ∷ []) ≡ [] =
     drop_all n (xs ++ y ∷ []) (omega (arith, length-append xs (y ∷ []))) in
@@ -61,12 +61,12 @@ held-few xs y later n few held name =
     (none ∙ sym none-more)
 
 -- a name after the first n is inserted into the set
-pub held_more : (xs : List AttributeSpecification) (y : AttributeSpecification)
+pub names_more : (xs : List AttributeSpecification) (y : AttributeSpecification)
     (later next : BTreeSet ℕ) (n : ℕ) → n ≤ length xs
     → ((q : ℕ) → contains nat_cmp next q ≡ cond (is_at (nat_cmp y.name) q) true
     (contains nat_cmp later q)) → ContainsNames later (drop n xs)
     → ContainsNames next (drop n (xs ++ y ∷ []))
-held_more xs y later next n many updates held name =
+names_more xs y later next n many updates held name =
     let more : drop n (xs ++ y ∷ []) ≡ drop n xs ++ y ∷ [] = drop-append-le n xs (y ∷ []) many in
     let any : list_any (named name) (drop n (xs ++ y ∷ []))
     ≡ (list_any (named name) (drop n xs) || ((y.name == name) || false)) =

@@ -8,15 +8,15 @@ use Rattle.dwarf_bytes.proofs.Numbers.Moves.{same-ok}
 use Rattle.dwarf_forms.specs.declared.attribute.AttributeSpecification.{AttributeSpecification}
 use Rattle.dwarf_forms.specs.Tables.{attribute_at, attributes_at}
 use Rattle.dwarf_forms.specs.Private.Shared.{AreReadAt, offset_after, place_after, places_from}
-use Rattle.dwarf_forms.proofs.JoinedLaws.{attribute-again}
-use Rattle.dwarf_forms.proofs.JoinedLists.{attributes-behind}
+use Rattle.dwarf_forms.proofs.SuffixLaws.{attribute-again}
+use Rattle.dwarf_forms.proofs.SuffixLists.{attributes-after}
 
 -- ---- offsets
 
-pub behind-is : (section : List ℕ) (before : List AttributeSpecification) (at : ℕ)
+pub offset_after-is : (section : List ℕ) (before : List AttributeSpecification) (at : ℕ)
     (x : AttributeSpecification) (after : ℕ) → attribute_at section before at ≡ Ok (Item x after)
     → offset_after section at ≡ after
-behind-is section before at x after is =
+offset_after-is section before at x after is =
     rw (attribute-again section before [] at x after is refl) refl
 
 pub place_after-push : (section : List ℕ) (n at : ℕ) → place_after section at (suc n)
@@ -43,15 +43,16 @@ places_from-at section (suc n) at (suc i) d lt =
     places_from-at section n (offset_after section at) i d (omega (arith, lt))
 
 -- the read from the offset after n attributes gives the rest of the list
-pub after-stands : (section : List ℕ) (n at : ℕ) (xs : List AttributeSpecification) (after : ℕ)
+pub after-read : (section : List ℕ) (n at : ℕ) (xs : List AttributeSpecification) (after : ℕ)
     → attributes_at section at ≡ Ok (xs, after) → n ≤ length xs
     → attributes_at section (place_after section at n) ≡ Ok (drop n xs, after)
-after-stands section zero at xs after read le = read
-after-stands section (suc n) at [] after read le = absurd (omega (arith, le))
-after-stands section (suc n) at (x ∷ xs) after read le =
-    let behind = attributes-behind section at x xs after read in
-    let mid : offset_after section at ≡ behind.0 = behind-is section [] at x behind.0 behind.1 in
-    after-stands section n (offset_after section at) xs after
+after-read section zero at xs after read le = read
+after-read section (suc n) at [] after read le = absurd (omega (arith, le))
+after-read section (suc n) at (x ∷ xs) after read le =
+    let behind = attributes-after section at x xs after read in
+    let mid : offset_after section at ≡ behind.0 =
+    offset_after-is section [] at x behind.0 behind.1 in
+    after-read section n (offset_after section at) xs after
     (subst (λ (k : ℕ). attributes_at section k ≡ Ok (xs, after)) (sym mid) behind.2)
     (omega (arith, le))
 
@@ -63,11 +64,11 @@ drop-both (suc n) i zero (x ∷ xs) is = absurd (omega (arith, is))
 drop-both (suc n) i (suc m) (x ∷ xs) is = drop-both n i m xs (omega (arith, is))
 
 -- the rest of a list is read from the offset of each attribute after the first few
-pub places-stand : (section : List ℕ) (first few : ℕ) (own rest : List AttributeSpecification)
+pub places-read : (section : List ℕ) (first few : ℕ) (own rest : List AttributeSpecification)
     (after : ℕ) (places : List ℕ) → attributes_at section first ≡ Ok (own ++ rest, after)
     → places ≡ drop few (places_from section first (length own))
     → AreReadAt section places (drop few own) rest after
-places-stand section first few own rest after places read are i d lt =
+places-read section first few own rest after places read are i d lt =
     let len : length places ≡ length own - few =
     ap length are ∙ (length-drop few (places_from section first (length own))
     ∙ ap (λ (k : ℕ). k - few) (places_from-length section (length own) first)) in
@@ -81,7 +82,7 @@ places-stand section first few own rest after places read are i d lt =
     ∙ ap (λ (ys : List AttributeSpecification). ys ++ rest)
     (sym (drop-both few i (few + i) own refl)) in
     ap (λ (k : ℕ). attributes_at section k) here
-    ∙ (after-stands section (few + i) first (own ++ rest) after read
+    ∙ (after-read section (few + i) first (own ++ rest) after read
     (omega (arith, within, length-append own rest))
     ∙ ap (λ (ys : List AttributeSpecification). Ok (ys, after)) parts)
 
@@ -134,15 +135,15 @@ after-more section first own x at after is read =
     length-append own (x ∷ []) ∙ omega arith in
     sym (ap (λ (n : ℕ). place_after section first n) len
     ∙ (place_after-push section (length own) first
-    ∙ (ap (λ (k : ℕ). offset_after section k) (sym is) ∙ behind-is section own at x after
+    ∙ (ap (λ (k : ℕ). offset_after section k) (sym is) ∙ offset_after-is section own at x after
     read)))
 
 -- the attributes of a list are at different offsets
-pub stand-apart : (section : List ℕ) (places : List ℕ)
+pub places-differ : (section : List ℕ) (places : List ℕ)
     (attributes rest : List AttributeSpecification) (after i k d : ℕ)
     → AreReadAt section places attributes rest after → length places ≡ length attributes → i < k
     → k < length places → get_or places k d ≢ get_or places i d
-stand-apart section places attributes rest after i k d stand lengths before within same =
+places-differ section places attributes rest after i k d stand lengths before within same =
     let read : Ok (drop k attributes ++ rest, after) ≡ Ok (drop i attributes ++ rest, after) =
     sym (stand k d within) ∙ (ap (λ (p : ℕ). attributes_at section p) same
     ∙ stand i d (omega (arith, before, within))) in

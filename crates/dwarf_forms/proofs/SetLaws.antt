@@ -91,9 +91,9 @@ put-few old new b (Err e) made none = omega (arith, ap length none)
 abbrev pub HasFewMore : List Branch → List Branch → ℕ → Type 0
 HasFewMore old new name = length new ≤ length old + length (digits_of 2 name) + 1
 
-pub few-behind : (old mid : List Branch) (name : ℕ) → 0 < name → HasFewMore old mid (name / 2)
+pub few-after : (old mid : List Branch) (name : ℕ) → 0 < name → HasFewMore old mid (name / 2)
     → HasFewMore old mid name
-few-behind old mid name some few = omega
+few-after old mid name some few = omega
     (arith, few, length-digits_of_step 2 name (omega arith) some)
 
 pub few-bits : (old mid new : List Branch) (name : ℕ) → 0 < name → HasFewMore old mid (name / 2)

@@ -16,7 +16,7 @@ use Rattle.dwarf_forms.specs.Private.Memoized.{MemoizedAttributes, is_memoized_a
 use Rattle.dwarf_forms.specs.Private.Shared.{IsStretch, AreReadAt, places_from}
 use Rattle.dwarf_forms.proofs.MemoListLaws.{from-last}
 use Rattle.dwarf_forms.proofs.MemoLaws.{memoized-at}
-use Rattle.dwarf_forms.proofs.PlaceLaws.{stand-apart, places-length, places-stand}
+use Rattle.dwarf_forms.proofs.PlaceLaws.{places-differ, places-length, places-read}
 
 -- ---- the attributes that were read
 
@@ -52,12 +52,12 @@ stretch-lengths lists first after stretch is =
     places-length lists.section first UNSHARED stretch.attributes.items stretch.places.items
     is.places
 
-pub stretch-stand : (lists : MemoizedAttributes) (first after : ℕ) (stretch : Stretch)
+pub stretch-read : (lists : MemoizedAttributes) (first after : ℕ) (stretch : Stretch)
     → IsStretch lists first stretch after
     → AreReadAt lists.section stretch.places.items (drop UNSHARED stretch.attributes.items)
     (rest_attributes lists.memoized stretch.rest) after
-stretch-stand lists first after stretch is =
-    places-stand lists.section first UNSHARED stretch.attributes.items
+stretch-read lists first after stretch is =
+    places-read lists.section first UNSHARED stretch.attributes.items
     (rest_attributes lists.memoized stretch.rest) after stretch.places.items is.read is.places
 
 -- if the lookup of an offset finds nothing, no memoized attribute is there
@@ -146,7 +146,7 @@ put-turn old now new attributes places rest next left k number d after e so_far 
           (get_or places i f))
           (sym put.memoized) (unknown-put now.memoized last (get_or places i f)
           (so_far.unknown i f (omega (arith, lt, is)))
-          (λ same. stand-apart old.section places attributes rest after i k d stand lengths lt
+          (λ same. places-differ old.section places attributes rest after i k d stand lengths lt
           within
           (same ∙ default places i f d (omega (arith, lt, within)))));
       grows = grows-put old now new number (get_or places k d) (get_or attributes k e) next after

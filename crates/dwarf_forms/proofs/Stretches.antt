@@ -18,26 +18,27 @@ pub stretch-of : {X : Type 0} (Encodes : List ℕ → X → Type 0) (bytes : Lis
     (next : ℕ) (s : IsEncodedAt Encodes bytes at value next) → Stretch bytes at s.front next s.rest
 stretch-of Encodes bytes at value next s = record { parts = s.parts; next_is = s.next_is }
 
-pub stands-from : {X : Type 0} (Encodes : List ℕ → X → Type 0) (bytes : List ℕ) (at : ℕ) (value : X)
+pub encoded-from : {X : Type 0} (Encodes : List ℕ → X → Type 0) (bytes : List ℕ) (at : ℕ)
+    (value : X)
     (next : ℕ) (front rest : List ℕ) → Stretch bytes at front next rest → Encodes front value
     → IsEncodedAt Encodes bytes at value next
-stands-from Encodes bytes at value next front rest s encoded =
+encoded-from Encodes bytes at value next front rest s encoded =
     record { front = front; rest = rest; encoded = encoded; parts = s.parts; next_is = s.next_is }
 
 -- the bytes after a range start at its end
-pub behind : (bytes : List ℕ) (at : ℕ) (stretch : List ℕ) (next : ℕ) (rest : List ℕ)
+pub bytes-after : (bytes : List ℕ) (at : ℕ) (stretch : List ℕ) (next : ℕ) (rest : List ℕ)
     → Stretch bytes at stretch next rest → drop next bytes ≡ rest
-behind bytes at stretch next rest s =
+bytes-after bytes at stretch next rest s =
     ap (λ (k : ℕ). drop k bytes) s.next_is
     ∙ (sym (drop-drop (length stretch) at bytes)
     ∙ (ap (λ (b : List ℕ). drop (length stretch) b) s.parts
     ∙ drop_at stretch rest (length stretch) refl))
 
 -- two contiguous ranges form one range
-pub joined : (bytes : List ℕ) (at : ℕ) (a b : List ℕ) (mid next : ℕ) (r rest : List ℕ)
+pub both-parts : (bytes : List ℕ) (at : ℕ) (a b : List ℕ) (mid next : ℕ) (r rest : List ℕ)
     → Stretch bytes at a mid r → Stretch bytes mid b next rest → Stretch bytes at (a ++ b) next rest
-joined bytes at a b mid next r rest s t = record {
-  parts = s.parts ∙ (ap (λ (x : List ℕ). a ++ x) (sym (behind bytes at a mid r s) ∙ t.parts)
+both-parts bytes at a b mid next r rest s t = record {
+  parts = s.parts ∙ (ap (λ (x : List ℕ). a ++ x) (sym (bytes-after bytes at a mid r s) ∙ t.parts)
       ∙ sym (append_assoc a b rest));
   next_is = omega (arith, s.next_is, t.next_is, length-append a b);
 }
@@ -51,7 +52,7 @@ first-part bytes at a b next rest s = record
 pub second-part : (bytes : List ℕ) (at : ℕ) (a b : List ℕ) (next : ℕ) (rest : List ℕ)
     → Stretch bytes at (a ++ b) next rest → Stretch bytes (at + length a) b next rest
 second-part bytes at a b next rest s = record {
-  parts = behind bytes at a (at + length a) (b ++ rest) (first-part bytes at a b next rest s);
+  parts = bytes-after bytes at a (at + length a) (b ++ rest) (first-part bytes at a b next rest s);
   next_is = omega (arith, s.next_is, length-append a b);
 }
 
@@ -90,10 +91,10 @@ unfolding fixed_at
 fixed-again n bytes at block next rest s len fits =
     rw (block-again n bytes at block next rest s len fits) refl
 
-pub fixed-stands : (n : ℕ) (bytes : List ℕ) (at : ℕ) (read : ℕ × ℕ) → fixed_at n bytes at ≡ Ok read
+pub fixed-encoded : (n : ℕ) (bytes : List ℕ) (at : ℕ) (read : ℕ × ℕ) → fixed_at n bytes at ≡ Ok read
     → (block : List ℕ) × Stretch bytes at block read.1 (drop n (drop at bytes)) × (length block ≡ n)
     × (read.0 ≡ little_endian block)
-fixed-stands n bytes at read h =
+fixed-encoded n bytes at read h =
     let moved = fixed_at-moves n bytes at read h in
     let value : read.0 ≡ little_endian (take n (drop at bytes)) = ap (λ (r : ℕ × ℕ). r.0) moved.1 in
     let place : read.1 ≡ at + n = ap (λ (r : ℕ × ℕ). r.1) moved.1 in

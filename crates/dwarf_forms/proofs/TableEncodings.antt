@@ -11,36 +11,39 @@ use Rattle.dwarf_forms.specs.declared.attribute.AttributeSpecification.{Attribut
 use Rattle.dwarf_forms.specs.declared.declaration.Head.{Head}
 use Rattle.dwarf_forms.specs.Declarations.{Declaration, EncodesDeclaration, IsValid}
 use Rattle.dwarf_forms.specs.Tables.{attributes_at, head_at, declaration_at}
-use Rattle.dwarf_forms.proofs.Stretches.{stretch-of, stands-from, joined, first-part, second-part}
+use Rattle.dwarf_forms.proofs.Stretches.{stretch-of, encoded-from, both-parts, first-part}
+use Rattle.dwarf_forms.proofs.Stretches.{second-part}
 use Rattle.dwarf_forms.proofs.Stretches.{respelled}
 use Rattle.dwarf_bytes.proofs.Numbers.Moves.{same-item, same-end}
-use Rattle.dwarf_forms.proofs.Listed.{EndStands, IsSpelled, IsRead, IsNew, all-new, new-each}
-use Rattle.dwarf_forms.proofs.Listed.{HasRoom}
+use Rattle.dwarf_forms.proofs.ListEncodings.{EndEncoded, EncodesReads, IsRead, IsNew, all-new}
+use Rattle.dwarf_forms.proofs.ListEncodings.{new-each}
+use Rattle.dwarf_forms.proofs.ListEncodings.{FitsBudget}
 use Rattle.dwarf_forms.proofs.AttributeEncodings.{uleb-reads, IsUsable, name_of}
-use Rattle.dwarf_forms.proofs.AttributeReads.{EncodesAttributes, GoodAttributes, attributes-spelled}
+use Rattle.dwarf_forms.proofs.AttributeReads.{EncodesAttributes, ValidAttributes}
+use Rattle.dwarf_forms.proofs.AttributeReads.{attributes-encoded}
 use Rattle.dwarf_forms.proofs.AttributeReads.{attributes-read}
-use Rattle.dwarf_forms.proofs.HeadEncodings.{EncodesHead, head-spelled, head-end, head-read}
+use Rattle.dwarf_forms.proofs.HeadEncodings.{EncodesHead, head-encoded, head-end, head-read}
 
 -- the conditions on a declaration that depend on the ones before it
 abbrev pub DeclarationFits : ℕ → List Declaration → Declaration → Type 0
-DeclarationFits budget before declaration = HasRoom budget before declaration
+DeclarationFits budget before declaration = FitsBudget budget before declaration
     × IsNew IsValid (λ d. d.code) before declaration
 
-good-attributes : (xs : List AttributeSpecification) → GoodAttributes xs
+attributes-valid : (xs : List AttributeSpecification) → ValidAttributes xs
     → All IsUsable xs × AllPairs (λ a b. a.name ≢ b.name) xs
-good-attributes xs good = all-new IsUsable name_of [] xs (λ k d h. absurd (omega arith))
+attributes-valid xs good = all-new IsUsable name_of [] xs (λ k d h. absurd (omega arith))
     (λ i j d lt h. absurd (omega arith)) good
 
 usable-each : (xs : List AttributeSpecification) (code tag : ℕ) (children : Bool)
     → IsValid (record { code = code; tag = tag; children = children; attributes = xs })
-    → GoodAttributes xs
+    → ValidAttributes xs
 usable-each xs code tag children good = new-each IsUsable name_of [] xs
     (λ k d h. (good.named k d h, good.forms k d h)) good.once
 
-pub declaration-spelled : (budget : ℕ) (section : List ℕ)
-    → IsSpelled EncodesDeclaration (λ b. IsUleb b 0) (DeclarationFits budget) section
+pub declaration-encoded : (budget : ℕ) (section : List ℕ)
+    → EncodesReads EncodesDeclaration (λ b. IsUleb b 0) (DeclarationFits budget) section
     (declaration_at budget section)
-declaration-spelled budget section = record { item = item; end = end }
+declaration-encoded budget section = record { item = item; end = end }
   where
     item : (before : List Declaration) (at : ℕ) (x : Declaration) (next : ℕ)
         → declaration_at budget section before at ≡ Ok (Item x next)
@@ -67,9 +70,10 @@ declaration-spelled budget section = record { item = item; end = end }
             × DeclarationFits budget before x in
             after-bind (attributes_at section mid) _ (Item x next) h P
             (λ attributes attributes_are last.
-            let front = head-spelled budget section before at head mid is in
-            let others = attributes-spelled section mid attributes attributes_are in
-            let whole = joined section at front.0.front others.0.front mid attributes.1 front.0.rest
+            let front = head-encoded budget section before at head mid is in
+            let others = attributes-encoded section mid attributes attributes_are in
+            let whole = both-parts section at front.0.front others.0.front mid attributes.1
+            front.0.rest
             others.0.rest (stretch-of EncodesHead section at head mid front.0)
             (stretch-of EncodesAttributes section mid attributes.0 attributes.1 others.0) in
             let it : Declaration = record {
@@ -79,7 +83,7 @@ declaration-spelled budget section = record { item = item; end = end }
               attributes =
                   attributes.0;
             } in
-            let facts = good-attributes attributes.0 others.1 in
+            let facts = attributes-valid attributes.0 others.1 in
             let good : IsValid it = record {
               code = front.1.some;
               named = λ k d h. (facts.0 k d h).0;
@@ -87,10 +91,10 @@ declaration-spelled budget section = record { item = item; end = end }
                   λ k d h. (facts.0 k d h).1;
               once = facts.1;
             } in
-            let fits : DeclarationFits budget before it = (front.1.room_left, (good, front.1.new))
+            let fits : DeclarationFits budget before it = (front.1.limit-left, (good, front.1.new))
             in
             let stands : IsEncodedAt EncodesDeclaration section at it attributes.1 =
-            stands-from EncodesDeclaration section at it attributes.1
+            encoded-from EncodesDeclaration section at it attributes.1
             (front.0.front ++ others.0.front) others.0.rest whole
             (record {
               code = front.0.encoded.code;
@@ -117,9 +121,9 @@ declaration-spelled budget section = record { item = item; end = end }
             ))
 
     end : (before : List Declaration) (at next : ℕ) → declaration_at budget section before at
-        ≡ Ok (End next) → EndStands (λ b. IsUleb b 0) section at next
+        ≡ Ok (End next) → EndEncoded (λ b. IsUleb b 0) section at next
     end before at next h = after-bind (head_at budget section before at) _ (End next) h
-        (EndStands (λ b. IsUleb b 0) section at next) by_head
+        (EndEncoded (λ b. IsUleb b 0) section at next) by_head
       where
         by_head : (found : Next Head) → head_at budget section before at ≡ Ok found
             → (elim found as (λ _. Result (Next Declaration) Cause) [
@@ -133,15 +137,15 @@ declaration-spelled budget section = record { item = item; end = end }
                         attributes.0;
                   }) attributes.1)
             ]) ≡ Ok (End next)
-            → EndStands (λ b. IsUleb b 0) section at next
+            → EndEncoded (λ b. IsUleb b 0) section at next
         by_head (End last) is h =
             let zero = head-end budget section before at last is in
-            subst (λ (k : ℕ). EndStands (λ b. IsUleb b 0) section at k)
+            subst (λ (k : ℕ). EndEncoded (λ b. IsUleb b 0) section at k)
             (same-end {X = Declaration} last next h)
-            (stands-from (λ b (u : Unit {0}). IsUleb b 0) section at tt last zero.front zero.rest
+            (encoded-from (λ b (u : Unit {0}). IsUleb b 0) section at tt last zero.front zero.rest
             (stretch-of IsUleb section at 0 last zero) zero.encoded)
         by_head (Item head mid) is h = after-bind (attributes_at section mid) _ (End next) h
-            (EndStands (λ b. IsUleb b 0) section at next) (λ attributes attributes_are last. cc)
+            (EndEncoded (λ b. IsUleb b 0) section at next) (λ attributes attributes_are last. cc)
 
 pub declaration-read : (budget : ℕ) (section : List ℕ)
     → IsRead EncodesDeclaration (λ b. IsUleb b 0) (DeclarationFits budget) section
@@ -165,17 +169,17 @@ declaration-read budget section = record { item = item; end = end }
         (record { code = x.code; tag = x.tag; children = x.children }) mid encoded.code
         encoded.tag (behind_it ++ s.rest)
         (first-part section at front behind_it next s.rest all) encoded.code_is encoded.tag_is
-        (record { some = fits.1.0.code; room_left = fits.0; new = fits.1.1 }) in
+        (record { some = fits.1.0.code; limit-left = fits.0; new = fits.1.1 }) in
         let attributes = attributes-read section mid x.attributes next encoded.attributes
         encoded.end s.rest (second-part section at front behind_it next s.rest all)
         encoded.attributes_are encoded.ends
         (usable-each x.attributes x.code x.tag x.children fits.1.0) in
         rw (head, attributes) refl
 
-    end : (before : List Declaration) (at next : ℕ) → EndStands (λ b. IsUleb b 0) section at next
+    end : (before : List Declaration) (at next : ℕ) → EndEncoded (λ b. IsUleb b 0) section at next
         → declaration_at budget section before at ≡ Ok (End next)
     end before at next s =
         let zero = uleb-reads section at 0 next
-        (stands-from IsUleb section at 0 next s.front s.rest
+        (encoded-from IsUleb section at 0 next s.front s.rest
         (stretch-of (λ b (u : Unit {0}). IsUleb b 0) section at tt next s) s.encoded) in
         rw zero refl

@@ -12,15 +12,15 @@ use Rattle.dwarf_bytes.specs.Forms.{form_of}
 use Rattle.dwarf_bytes.specs.Numbers.{IsEncodedAt, IsUleb, uleb_at}
 use Rattle.dwarf_bytes.specs.Contents.{Signed, EncodesContent, content_at}
 use Rattle.dwarf_bytes.proofs.Numbers.Advance.{bind_ok}
-use Rattle.dwarf_bytes.proofs.Numbers.LebEncodings.{uleb-stands, uleb-again}
-use Rattle.dwarf_bytes.proofs.Contents.ContentLaws.{content-stands}
+use Rattle.dwarf_bytes.proofs.Numbers.LebEncodings.{uleb-encoded, uleb-again}
+use Rattle.dwarf_bytes.proofs.Contents.ContentLaws.{content-encoded}
 use Rattle.dwarf_bytes.proofs.Contents.ContentEncodings.{content-again}
 use Rattle.dwarf_forms.specs.declared.values.ValueFault.{ValueFault}
 use Rattle.dwarf_forms.specs.declared.values.ValueFault.TheVariants.{Form}
 use Rattle.dwarf_forms.specs.Values.{Value, SpellsDirectly, SpellsIndirectly, Spells}
 use Rattle.dwarf_forms.specs.Values.{reading_value, direct_at, value_at}
 use Rattle.dwarf_bytes.proofs.Numbers.Moves.{same-ok}
-use Rattle.dwarf_forms.proofs.Stretches.{Stretch, stretch-of, stands-from, joined, first-part}
+use Rattle.dwarf_forms.proofs.Stretches.{Stretch, stretch-of, encoded-from, both-parts, first-part}
 use Rattle.dwarf_forms.proofs.Stretches.{second-part, respelled, nothing}
 
 reading-ok : {X : Type 0} (r : Result X ReadFault) (x : X) → reading_value r ≡ Ok x → r ≡ Ok x
@@ -36,11 +36,11 @@ Direct_read f form format bytes at = elim f [
   | Some Indirect ↦ Err Form
 ]
 
-pub direct-stands : (form : ℕ) (format : Format) (bytes : List ℕ) (at : ℕ) (read : Value × ℕ)
+pub direct-encoded : (form : ℕ) (format : Format) (bytes : List ℕ) (at : ℕ) (read : Value × ℕ)
     → direct_at form format bytes at ≡ Ok read
     → IsEncodedAt (SpellsDirectly form format) bytes at read.0 read.1
 unfolding direct_at
-direct-stands form format bytes at read h = by_form (form_of form) refl h
+direct-encoded form format bytes at read h = by_form (form_of form) refl h
   where
     by_form : (f : Option Shape) → form_of form ≡ f → Direct_read f form format bytes at ≡ Ok read
         → IsEncodedAt (SpellsDirectly form format) bytes at read.0 read.1
@@ -50,12 +50,12 @@ direct-stands form format bytes at read h = by_form (form_of form) refl h
     by_form (Some (Direct layout)) is h =
         let found = bind_ok (reading_value (content_at layout format bytes at))
         (λ read. Ok (record { form = form; content = read.0 }, read.1)) read h in
-        let s = content-stands layout format bytes at found.0.0 found.0.1
+        let s = content-encoded layout format bytes at found.0.0 found.0.1
         (reading-ok (content_at layout format bytes at) found.0 found.1) in
         let value : Value = record { form = form; content = found.0.0 } in
         subst (λ (r : Value × ℕ). IsEncodedAt (SpellsDirectly form format) bytes at r.0 r.1)
         (same-ok (value, found.0.1) read found.2)
-        (stands-from (SpellsDirectly form format) bytes at value found.0.1 s.front s.rest
+        (encoded-from (SpellsDirectly form format) bytes at value found.0.1 s.front s.rest
         (stretch-of (EncodesContent layout format) bytes at found.0.0 found.0.1 s)
         (layout, is, s.encoded, refl))
 
@@ -66,7 +66,7 @@ unfolding direct_at
 direct-reads form format bytes at value next s =
     let layout = s.encoded.0 in
     let content = content-again layout format bytes at value.content next
-    (stands-from (EncodesContent layout format) bytes at value.content next s.front s.rest
+    (encoded-from (EncodesContent layout format) bytes at value.content next s.front s.rest
     (stretch-of (SpellsDirectly form format) bytes at value next s) s.encoded.2) in
     subst (λ (f : Option Shape). Direct_read f form format bytes at ≡ Ok (value, next))
     (sym s.encoded.1)
@@ -102,16 +102,16 @@ form-in form format bytes value s = subst (λ (f : ℕ). SpellsDirectly f format
     (sym s.3)
     s
 
-pub value-stands : (form : ℕ) (format : Format) (constant : Option ℤ) (bytes : List ℕ) (at : ℕ)
+pub value-encoded : (form : ℕ) (format : Format) (constant : Option ℤ) (bytes : List ℕ) (at : ℕ)
     (value : Value) (next : ℕ) → value_at form format constant bytes at ≡ Ok (value, next)
     → IsEncodedAt (Spells form format constant) bytes at value next
 unfolding value_at
-value-stands form format constant bytes at value next h = by_form (form_of form) refl h
+value-encoded form format constant bytes at value next h = by_form (form_of form) refl h
   where
     stands : (f : Option Shape) → form_of form ≡ f → (front rest : List ℕ)
         → Stretch bytes at front next rest → Spells_by f form format constant front value
         → IsEncodedAt (Spells form format constant) bytes at value next
-    stands f is front rest s encoded = stands-from (Spells form format constant) bytes at
+    stands f is front rest s encoded = encoded-from (Spells form format constant) bytes at
         value next
         front rest s (subst (λ (f : Option Shape). Spells_by f form format constant front value)
         (sym is) encoded)
@@ -132,17 +132,17 @@ value-stands form format constant bytes at value next h = by_form (form_of form)
         ≡ Ok (value, next) → IsEncodedAt (Spells form format constant) bytes at value next
     by_form None is h = cc
     by_form (Some (Direct layout)) is h =
-        let s = direct-stands form format bytes at (value, next) h in
+        let s = direct-encoded form format bytes at (value, next) h in
         stands (Some (Direct layout)) is s.front s.rest
         (stretch-of (SpellsDirectly form format) bytes at value next s) s.encoded
     by_form (Some ImplicitConst) is h = by_constant constant refl is h
     by_form (Some Indirect) is h =
         let found = bind_ok (reading_value (uleb_at bytes at))
         (λ inner. direct_at inner.0 format bytes inner.1) (value, next) h in
-        let inner = uleb-stands bytes at found.0.0 found.0.1
+        let inner = uleb-encoded bytes at found.0.0 found.0.1
         (reading-ok (uleb_at bytes at) found.0 found.1) in
-        let s = direct-stands found.0.0 format bytes found.0.1 (value, next) found.2 in
-        let both = joined bytes at inner.front s.front found.0.1 next inner.rest s.rest
+        let s = direct-encoded found.0.0 format bytes found.0.1 (value, next) found.2 in
+        let both = both-parts bytes at inner.front s.front found.0.1 next inner.rest s.rest
         (stretch-of IsUleb bytes at found.0.0 found.0.1 inner)
         (stretch-of (SpellsDirectly found.0.0 format) bytes found.0.1 value next s) in
         stands (Some Indirect) is (inner.front ++ s.front) s.rest both
@@ -170,7 +170,7 @@ value-reads form format constant bytes at value next s = by_form (form_of form) 
     by_form None is encoded = absurd encoded
     by_form (Some (Direct layout)) is encoded =
         direct-reads form format bytes at value next
-        (stands-from (SpellsDirectly form format) bytes at value next s.front s.rest here encoded)
+        (encoded-from (SpellsDirectly form format) bytes at value next s.front s.rest here encoded)
     by_form (Some ImplicitConst) is encoded =
         let place : at ≡ next = omega (arith, s.next_is, ap length encoded.2) in
         rw (encoded.1, encoded.3, place) refl
@@ -179,10 +179,10 @@ value-reads form format constant bytes at value next s = by_form (form_of form) 
         encoded.whole here in
         let mid = at + length encoded.front in
         let inner = uleb-again bytes at value.form mid
-        (stands-from IsUleb bytes at value.form mid encoded.front (encoded.rest ++ s.rest)
+        (encoded-from IsUleb bytes at value.form mid encoded.front (encoded.rest ++ s.rest)
         (first-part bytes at encoded.front encoded.rest next s.rest both) encoded.form_is) in
         let read = direct-reads value.form format bytes mid value next
-        (stands-from (SpellsDirectly value.form format) bytes mid value next encoded.rest s.rest
+        (encoded-from (SpellsDirectly value.form format) bytes mid value next encoded.rest s.rest
         (second-part bytes at encoded.front encoded.rest next s.rest both) encoded.value_is) in
         rw (inner, read) refl
 

@@ -14,7 +14,7 @@ use Rattle.dwarf_lines.specs.Sections.{LineSections}
 use Rattle.dwarf_lines.specs.Instructions.{Encoding}
 use Rattle.dwarf_lines.specs.Entries.{table_at}
 
--- an offset past the end of the bytes is refused as short
+-- an offset beyond the end of the bytes is refused as short
 abbrev pub within : List ℕ → ℕ → Result ℕ Cause
 within bytes place = if nat_le place (length bytes) then Ok place else Err causes.Short
 

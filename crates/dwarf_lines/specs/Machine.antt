@@ -17,7 +17,7 @@ use Rattle.dwarf_lines.specs.Instructions.{Encoding}
 use Rattle.dwarf_lines.specs.Matrix.{address_part, is_tombstone, line_row, end_row}
 
 -- the registers that become columns of rows, the address of the last row of the sequence (0 if
--- none), whether the sequence has a row, and whether it is dead
+-- none), whether the sequence has a row, and whether it is dead code
 pub record Machine : Type 0 where
   pub address : ℕ
   pub file : ℕ
@@ -49,7 +49,7 @@ abbrev pub after_row : Machine → Machine
 after_row m = record m { previous = m.address; has_row = true }
 
 -- the registers after an address is set; before the first row of the sequence, this determines
--- whether the sequence is dead
+-- whether the sequence is dead code
 abbrev pub after_set_address : ℕ → Machine → Machine
 after_set_address address m =
     record m {
@@ -77,15 +77,15 @@ step e m Skipped = m
 abbrev pub row_of_registers : Origin → ℕ → Machine → Result (List Row) Cause
 row_of_registers o previous m = line_row o previous m.address m.line m.file >>= λ row. Ok (row ∷ [])
 
--- the rows that an instruction appends in a sequence that is not dead
+-- the rows that an instruction appends in a sequence that is not dead code
 abbrev pub appended_live : Encoding → Origin → Machine → Instruction → Result (List Row) Cause
 appended_live e o m Copy = row_of_registers o m.previous (step e m Copy)
 appended_live e o m (Special adjusted) = row_of_registers o m.previous (step e m (Special adjusted))
 appended_live e o m EndSequence = end_row o m.previous m.address >>= λ row. Ok (row ∷ [])
 appended_live e o m _ = Ok []
 
--- The rows that an instruction appends: at most one, or the first fault of the row. In a dead
--- sequence no row is appended.
+-- The rows that an instruction appends: at most one, or the first fault of the row. In a sequence
+-- of dead code no row is appended.
 abbrev pub appended : Encoding → Origin → Machine → Instruction → Result (List Row) Cause
 appended e o m i = if m.at_tombstone then Ok [] else appended_live e o m i
 

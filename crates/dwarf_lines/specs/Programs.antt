@@ -36,7 +36,7 @@ program_at_place s number place = do
     past = header.past;
   })
 
--- what is at an offset after these programs: the next program, or the end of the section
+-- the program at an offset after these programs, or the end of the section
 abbrev pub next_program : LineSections → List Program → ℕ → Result (Next Program) Cause
 next_program s before place =
     if nat_le (length s.line) place then Ok (End place)

@@ -126,7 +126,7 @@ impl Entry {
         }
     }
 
-    /// Whether the entry's directory index is within the directory table.
+    /// Returns whether the entry's directory index is within the directory table.
     pub fn has_directory(&self, table: EntryTable) -> bool
         ensures { result ≡ has_directory table self.now }
     {

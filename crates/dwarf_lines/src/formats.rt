@@ -41,7 +41,7 @@ pub fn layout_of(form: u64) -> Option<ValueLayout>
 }
 
 impl Field {
-    /// Whether the field is a path.
+    /// Returns whether the field is a path.
     pub fn is_path(self) -> bool
         ensures { result ≡ is_path self }
     {
@@ -60,7 +60,7 @@ impl Field {
         matches!(self.form, DW_FORM_DATA1 | DW_FORM_DATA2 | DW_FORM_UDATA)
     }
 
-    /// Whether the field's values have bytes. DW_FORM_flag_present has none.
+    /// Returns whether the field's values have bytes. DW_FORM_flag_present has none.
     fn has_bytes(self) -> bool
         ensures { result ≡ has_bytes self }
     {
@@ -79,7 +79,7 @@ impl Field {
 }
 
 impl EntryTable {
-    /// Whether a field is the directory index of a file.
+    /// Returns whether a field is the directory index of a file.
     pub fn is_index(self, field: Field) -> bool
         ensures { result ≡ is_index self field }
     {
@@ -101,7 +101,7 @@ impl EntryTable {
         }
     }
 
-    /// Whether the table may have this format.
+    /// Returns whether the table may have this format.
     pub fn accepts(self, fields: &[Field]) -> bool
         ensures { result ≡ is_format self fields.now }
     {

@@ -45,7 +45,7 @@ pub fn decode(header: &LineEncoding, cursor: &mut Cursor) -> Result<Instruction,
         return Ok(Instruction::Special(opcode - header.opcode_base));
     }
     if opcode == 0 {
-        return extended(cursor);
+        return read_extended(cursor);
     }
     standard(header, opcode, cursor)
 }
@@ -85,7 +85,7 @@ fn skip_ulebs(count: u8, cursor: &mut Cursor) -> Result<(), Cause>
 }
 
 #[tactic(auto, unfolding(crate::specs::Instructions::extended_at))]
-fn extended(cursor: &mut Cursor) -> Result<Instruction, Cause>
+fn read_extended(cursor: &mut Cursor) -> Result<Instruction, Cause>
     ensures reads { ReadsField (λ i. i) result extended_at cursor.old cursor.new }
     ensures moves { IfOk result (λ _. cursor.old.place ≤ cursor.new.place) }
     ensures reach { IfOk result (λ i. line_reach i ≡ 0) }
@@ -115,7 +115,7 @@ fn extended_in(body: &[u8]) -> Result<Instruction, Cause>
     }
 }
 
-/// Whether an extended opcode is followed by exactly one 8-byte address.
+/// Returns whether an extended opcode is followed by exactly one 8-byte address.
 fn has_address(body: &[u8]) -> bool
     ensures { result ≡ (length body.now == 9) }
 {

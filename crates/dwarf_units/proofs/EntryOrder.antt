@@ -30,16 +30,16 @@ nodes-AreDepths format table unit end at all after h i d within =
     (Lists-within _ (node_at format table unit) [] at all after h) i d within
 
 -- The offsets of the listed entries are increasing, up to any end at or after the end of the unit.
-pub listed-rise : (format : Format) (table : List Declaration) (unit : List ℕ) (end : ℕ)
+pub list-rises : (format : Format) (table : List Declaration) (unit : List ℕ) (end : ℕ)
     → length unit ≤ end → (before : List LocatedNode) (at : ℕ) (all : List LocatedNode) (after : ℕ)
     → Lists (node_at format table unit) before at all after
     → (from : ℕ) → from ≤ at → at ≤ end → RiseWithin from end (filter_map die_of all)
-listed-rise format table unit end size before at [] after h from le within =
+list-rises format table unit end size before at [] after h from le within =
     omega (arith, le, within)
-listed-rise format table unit end size before at (x ∷ all) after h from le within =
+list-rises format table unit end size before at (x ∷ all) after h from le within =
     let here = node_at-facts format table unit before at x h.0 h.1 in
     by_node x.offset x.depth x.node here.offset_is here.moves.0
-    (λ from le. listed-rise format table unit end size (before ++ x ∷ []) h.0 all after h.2 from
+    (λ from le. list-rises format table unit end size (before ++ x ∷ []) h.0 all after h.2 from
     le (omega (arith, here.moves.1, size)))
   where
     by_node : (offset depth : ℕ) (node : Node) → offset ≡ at → at < h.0
@@ -51,13 +51,13 @@ listed-rise format table unit end size before at (x ∷ all) after h from le wit
     by_node offset depth Null is lt rest = rest from (omega (arith, le, lt))
 
 -- The entries of a unit are the nodes of its listing that are not null.
-pub listed-in : (info : List ℕ) (header : UnitHeader) (table : List Declaration) (dies : List Die)
+pub list-in : (info : List ℕ) (header : UnitHeader) (table : List Declaration) (dies : List Die)
     (P : Type 0) → entries_of info header table ≡ Ok dies
     → ((all : List LocatedNode) (after : ℕ)
     → Lists (node_at header.format table (take header.end info)) [] header.first all after
     → filter_map die_of all ≡ dies → P) → P
 unfolding entries_of
-listed-in info header table dies P h next =
+list-in info header table dies P h next =
     after-bind (items_from header.end (node_at header.format table (take header.end info)) []
     header.first) _ dies h P (λ all all_is h1.
     after-bind (with_offset header.start (refuse_if (nat_lt 0 (depth_after all.0)) causes.TreeOpen))
@@ -71,11 +71,11 @@ pub entries-rise : (info : List ℕ) (header : UnitHeader) (table : List Declara
     (dies : List Die) → entries_of info header table ≡ Ok dies → header.start ≤ header.first
     → header.first ≤ header.end → RiseWithin header.start header.end dies
 entries-rise info header table dies h front back =
-    listed-in info header table dies (RiseWithin header.start header.end dies) h
+    list-in info header table dies (RiseWithin header.start header.end dies) h
     (λ all after listed same.
     let size = length-take header.end info in
     subst (λ (ds : List Die). RiseWithin header.start header.end ds) same
-    (listed-rise header.format table (take header.end info) header.end (omega (arith, size)) []
+    (list-rises header.format table (take header.end info) header.end (omega (arith, size)) []
     header.first all after listed header.start front back))
 
 -- Offsets that are increasing within an interval are strictly increasing.
@@ -92,10 +92,10 @@ pub offsets-rise : (info : List ℕ) (header : UnitHeader) (table : List Declara
     (dies : List Die) → entries_of info header table ≡ Ok dies
     → IsStrictlyIncreasing (map (λ (die : Die). die.offset) dies)
 offsets-rise info header table dies h =
-    listed-in info header table dies (IsStrictlyIncreasing (map (λ (die : Die). die.offset) dies)) h
+    list-in info header table dies (IsStrictlyIncreasing (map (λ (die : Die). die.offset) dies)) h
     (λ all after listed same.
     let unit : List ℕ = take header.end info in
     subst (λ (ds : List Die). IsStrictlyIncreasing (map (λ (die : Die). die.offset) ds)) same
     (increasing 0 (header.first + length unit) (filter_map die_of all)
-    (listed-rise header.format table unit (header.first + length unit) (omega arith) [] header.first
+    (list-rises header.format table unit (header.first + length unit) (omega arith) [] header.first
     all after listed 0 (omega arith) (omega arith))))

@@ -27,16 +27,16 @@ use Rattle.dwarf_units.proofs.FixedSizeReads.{none_after}
 use Rattle.dwarf_units.proofs.FixedReads.{ReadsFixed, block-fixed, same_some, value-fixed}
 use Rattle.dwarf_units.proofs.FixedReads.{constant-fixed}
 
-judged-fixed : (n : ℕ) (bytes : List ℕ) (at name : ℕ) (make : Value × ℕ → Attribute)
+checked-fixed : (n : ℕ) (bytes : List ℕ) (at name : ℕ) (make : Value × ℕ → Attribute)
     (r : Result (Value × ℕ) Cause) → ReadsFixed (λ v. is_negative_count name v.content ≡ false)
     causes.Short n bytes at r
     → ReadsFixed (λ _. Unit {0}) causes.Short n bytes at
     (r >>= λ value. refuse_if (is_negative_count name value.0.content) causes.AttrForm
     >>= λ _. Ok (make value, value.1))
-judged-fixed n bytes at name make (Ok v) h =
+checked-fixed n bytes at name make (Ok v) h =
     subst (λ (b : Bool). ReadsFixed (λ _. Unit {0}) causes.Short n bytes at
     (refuse_if b causes.AttrForm >>= λ _. Ok (make v, v.1))) (sym h.0) (tt, h.1, h.2)
-judged-fixed n bytes at name make (Err e) h = h
+checked-fixed n bytes at name make (Err e) h = h
 
 attribute-fixed : (format : Format) (s : AttributeSpecification) (n : ℕ) (bytes : List ℕ) (at : ℕ)
     → (s.form == DW_FORM_INDIRECT) ≡ false → accepts s.name s.form ≡ true
@@ -60,7 +60,7 @@ attribute-fixed format s n bytes at fixed_size fine read =
     r)
     (sym (direct-chain (s.form == DW_FORM_INDIRECT) inner s.form at (λ form. accepts s.name form)
     rest fixed_size fine))
-    (judged-fixed n bytes at s.name (make s.form)
+    (checked-fixed n bytes at s.name (make s.form)
     (reading_value (value_at s.form format s.constant bytes at)) read)
 
 pub fixed-attribute : (format : Format) (s : AttributeSpecification) (n : ℕ) (bytes : List ℕ)

@@ -31,9 +31,9 @@ use Rattle.dwarf_units.proofs.SharedTableLaws.{all-found, found-full}
 
 -- ---- a list that shares attributes has more attributes than the unshared ones
 
-some-behind : (memoized : List MemoizedAttribute) (number : ℕ) → number < length memoized
+some-after : (memoized : List MemoizedAttribute) (number : ℕ) → number < length memoized
     → 0 < length (attributes_from memoized number)
-some-behind memoized number within = by_rest (drop number memoized) refl
+some-after memoized number within = by_rest (drop number memoized) refl
   where
     by_rest : (rest : List MemoizedAttribute) → drop number memoized ≡ rest
         → 0 < length (attributes_from memoized number)
@@ -94,7 +94,7 @@ same-head memoized format d is = by_rest d.list.rest refl
           ap length same,
           length-append d.list.own (attributes_from memoized number),
           full,
-          some-behind memoized number within,
+          some-after memoized number within,
         ) in
         ap (λ (rest : Option ℕ). head-by format d.tag d.children (is_some rest) d.list.own) some
         ∙ sym (ap (λ (b : Bool). head-by format d.tag d.children b all)

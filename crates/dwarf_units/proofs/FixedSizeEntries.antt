@@ -31,28 +31,28 @@ use Rattle.dwarf_units.specs.Private.FixedSizeHeads.{precomputed_codes, skipped_
 use Rattle.dwarf_units.specs.Private.FixedSizeHeads.{fixed_size_head, fixed_size_of}
 use Rattle.dwarf_units.specs.Private.Plans.{Table, stored_attributes, steps_at, steps_of}
 use Rattle.dwarf_units.specs.Private.SharedTables.{SharedTable, full_table}
-use Rattle.dwarf_units.proofs.JoinedSteps.{skip-within}
-use Rattle.dwarf_units.proofs.PlanLaws.{kept-is}
+use Rattle.dwarf_units.proofs.MergedSteps.{skip-within}
+use Rattle.dwarf_units.proofs.PlanLaws.{stored-is}
 use Rattle.dwarf_units.proofs.SharedTableLaws.{found-full}
 
 -- ---- the heads by code
 
 -- The heads of the first codes.
-pub record PlainSoFar (format : Format) (declarations : List SharedDeclaration) (place : ℕ)
+pub record HeadsSoFar (format : Format) (declarations : List SharedDeclaration) (place : ℕ)
     (heads : List (Option FixedSizeHead)) : Type 0 where
   pub len : length heads ≡ place
   pub each : (k : ℕ) (head : Option FixedSizeHead) → slice_get heads k ≡ Some head
       → head ≡ fixed_size_head format declarations (k + 1)
 
 pub fixed_size-none : (format : Format) (declarations : List SharedDeclaration)
-    → PlainSoFar format declarations 0 []
+    → HeadsSoFar format declarations 0 []
 fixed_size-none format declarations = record { len = refl; each = λ k head at. cc }
 
 pub fixed_size-more : (format : Format) (declarations : List SharedDeclaration) (place : ℕ)
     (heads : List (Option FixedSizeHead)) (head : Option FixedSizeHead)
-    → PlainSoFar format declarations place heads → head ≡ fixed_size_head format declarations
+    → HeadsSoFar format declarations place heads → head ≡ fixed_size_head format declarations
     (place + 1)
-    → PlainSoFar format declarations (place + 1) (heads ++ head ∷ [])
+    → HeadsSoFar format declarations (place + 1) (heads ++ head ∷ [])
 fixed_size-more format declarations place heads head so_far is = record {
   len = omega (arith, so_far.len, length-append heads (head ∷ []));
   each = λ k other at. by_place k other (at-last heads head other k at);
@@ -67,7 +67,7 @@ fixed_size-more format declarations place heads head so_far is = record {
         ∙ so_far.len)))
 
 pub fixed_size-all : (format : Format) (declarations : List SharedDeclaration) (place : ℕ)
-    (heads : List (Option FixedSizeHead)) → PlainSoFar format declarations place heads
+    (heads : List (Option FixedSizeHead)) → HeadsSoFar format declarations place heads
     → place ≡ precomputed_codes declarations → AreFixedSize format declarations heads
 fixed_size-all format declarations place heads so_far all =
     record { len = so_far.len ∙ all; each = so_far.each }
@@ -92,31 +92,31 @@ one-byte bytes at code there small = uleb-again bytes at code (at + 1) (record {
 
 -- ---- attributes that are skipped
 
-passed-steps : (format : Format) (steps : List AttributeStep) (len : ℕ) (bytes : List ℕ) (at : ℕ)
+skipped-steps : (format : Format) (steps : List AttributeStep) (len : ℕ) (bytes : List ℕ) (at : ℕ)
     → skipped_len steps ≡ Some len → at + len ≤ length bytes → steps_at format steps bytes at
     ≡ Ok ([], at + len)
 unfolding steps_at
-passed-steps format [] len bytes at is le = let none : 0 ≡ len = same_Some 0 len is in
+skipped-steps format [] len bytes at is le = let none : 0 ≡ len = same_Some 0 len is in
     let place : at ≡ at + len = omega (arith, none) in ap (λ (k : ℕ). Ok ([], k)) place
-passed-steps format (Skip n ∷ []) len bytes at is le =
+skipped-steps format (Skip n ∷ []) len bytes at is le =
     let same : n ≡ len = same_Some n len is in
     rw (same, skip-within format len bytes at le) refl
-passed-steps format (Skip n ∷ next ∷ steps) len bytes at is le = cc
-passed-steps format (Pass s layout ∷ steps) len bytes at is le = cc
-passed-steps format (Keep n used s layout ∷ steps) len bytes at is le = cc
+skipped-steps format (Skip n ∷ next ∷ steps) len bytes at is le = cc
+skipped-steps format (Pass s layout ∷ steps) len bytes at is le = cc
+skipped-steps format (Keep n used s layout ∷ steps) len bytes at is le = cc
 
 abbrev PassesTo : Format → List AttributeSpecification → List ℕ → ℕ → ℕ → Type 0
 PassesTo format declared bytes at after =
     (attributes : List Attribute) × (attributes_at format declared bytes at
     ≡ Ok (attributes, after))
 
-passed-attributes : (format : Format) (declared : List AttributeSpecification) (len : ℕ)
+skipped-attributes : (format : Format) (declared : List AttributeSpecification) (len : ℕ)
     (bytes : List ℕ) (at : ℕ) → skipped_len (steps_of false format declared) ≡ Some len
     → at + len ≤ length bytes → PassesTo format declared bytes at (at + len)
-passed-attributes format declared len bytes at is le =
+skipped-attributes format declared len bytes at is le =
     by_read (attributes_at format declared bytes at) refl
-    (sym (kept-is false format declared bytes at (omega (arith, le)))
-    ∙ passed-steps format (steps_of false format declared) len bytes at is le)
+    (sym (stored-is false format declared bytes at (omega (arith, le)))
+    ∙ skipped-steps format (steps_of false format declared) len bytes at is le)
   where
     by_read : (read : Result (List Attribute × ℕ) Cause) → attributes_at format declared bytes at
         ≡ read → (◌>>=◌ {B = List Attribute × ℕ} read
@@ -149,7 +149,7 @@ same-entry : (t u : ℕ) (b c : Bool) (attributes : List Attribute) (after : ℕ
     f (Entry t b attributes, after) ≡ f (Entry u c attributes, after))
 same-entry t u b c attributes after tag children = rw (tag, children) refl
 
-pub fixed_size-stands : (memoized : List MemoizedAttribute) (shared : SharedTable) (table : Table)
+pub fixed_size-node : (memoized : List MemoizedAttribute) (shared : SharedTable) (table : Table)
     (depth code : ℕ) (unit : List ℕ) (at : ℕ) (head : FixedSizeHead) → full_table memoized shared
     ≡ table
     → fixed_size_head shared.format shared.declarations code ≡ Some head → 0 < code → code
@@ -157,13 +157,14 @@ pub fixed_size-stands : (memoized : List MemoizedAttribute) (shared : SharedTabl
     → slice_get unit at ≡ Some code
     → 0 < depth → depth ≤ depth_limit → at + 1 + head.len ≤ length unit
     → IsFixedSizeNode table depth unit at (head, at + 1 + head.len)
-fixed_size-stands memoized shared table depth code unit at head view is some small there below
+fixed_size-node memoized shared table depth code unit at head view is some small there below
     within fits =
     subst (λ (t : Table). IsFixedSizeNode t depth unit at (head, at + 1 + head.len)) view
     (by_found (find (λ d. d.code == code) shared.declarations) refl is)
   where
-    Stands : Type 0
-    Stands = IsFixedSizeNode (full_table memoized shared) depth unit at (head, at + 1 + head.len)
+    IsNodeThere : Type 0
+    IsNodeThere = IsFixedSizeNode (full_table memoized shared) depth unit at
+        (head, at + 1 + head.len)
 
     by_declaration : (d : SharedDeclaration) (declared : List AttributeSpecification) (len : ℕ)
         → find (λ d. d.code == code) shared.declarations ≡ Some d → all_of memoized d.list
@@ -171,13 +172,13 @@ fixed_size-stands memoized shared table depth code unit at head view is some sma
         → skipped_len (steps_of false shared.format declared) ≡ Some len
         → (let h : FixedSizeHead = record { tag = d.tag; children = d.children; len = len } in h)
         ≡ head
-        → Stands
-    by_declaration d declared len found all passed same =
+        → IsNodeThere
+    by_declaration d declared len found all skipped same =
         let len_is : len ≡ head.len = ap (λ (h : FixedSizeHead). h.len) same in
         let tag : d.tag ≡ head.tag = ap (λ (h : FixedSizeHead). h.tag) same in
         let children : d.children ≡ head.children = ap (λ (h : FixedSizeHead). h.children) same in
-        let read = passed-attributes shared.format declared head.len unit (at + 1)
-        (passed ∙ ap (λ (n : ℕ). Some n) len_is) fits in
+        let read = skipped-attributes shared.format declared head.len unit (at + 1)
+        (skipped ∙ ap (λ (n : ℕ). Some n) len_is) fits in
         let here : attributes_at shared.format (all_of memoized d.list) unit (at + 1)
         ≡ Ok (read.0, at + 1 + head.len) =
         ap (λ (l : List AttributeSpecification). attributes_at shared.format l unit (at + 1))
@@ -195,21 +196,21 @@ fixed_size-stands memoized shared table depth code unit at head view is some sma
         → all_of memoized d.list ≡ d.list.own → (len : Option ℕ)
         → skipped_len (steps_of false shared.format d.list.own) ≡ len
         → option_map (λ len. let h : FixedSizeHead =
-        record { tag = d.tag; children = d.children; len = len } in h) len ≡ Some head → Stands
-    by_len d found all None passed h = cc
-    by_len d found all (Some len) passed h =
-        by_declaration d d.list.own len found all passed (same_Some _ head h)
+        record { tag = d.tag; children = d.children; len = len } in h) len ≡ Some head → IsNodeThere
+    by_len d found all None skipped h = cc
+    by_len d found all (Some len) skipped h =
+        by_declaration d d.list.own len found all skipped (same_Some _ head h)
 
     by_rest : (d : SharedDeclaration) → find (λ d. d.code == code) shared.declarations ≡ Some d
         → (rest : Option ℕ) → d.list.rest ≡ rest
         → cond (is_some rest) None (option_map
         (λ len. let h : FixedSizeHead = record { tag = d.tag; children = d.children; len = len } in
-        h) (skipped_len (steps_of false shared.format d.list.own))) ≡ Some head → Stands
+        h) (skipped_len (steps_of false shared.format d.list.own))) ≡ Some head → IsNodeThere
     by_rest d found (Some number) none h = cc
     by_rest d found None none h = by_len d found (rw none (append-nil d.list.own))
         (skipped_len (steps_of false shared.format d.list.own)) refl h
 
     by_found : (found : Option SharedDeclaration) → find (λ d. d.code == code) shared.declarations
-        ≡ found → option_map_or (fixed_size_of shared.format) found None ≡ Some head → Stands
+        ≡ found → option_map_or (fixed_size_of shared.format) found None ≡ Some head → IsNodeThere
     by_found None found h = cc
     by_found (Some d) found h = by_rest d found d.list.rest refl h

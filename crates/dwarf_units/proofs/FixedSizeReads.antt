@@ -40,8 +40,8 @@ as_attribute s c = Ok (
   c.1,
 )
 
-abbrev judged : AttributeSpecification → ℕ → Value × ℕ → Result (Attribute × ℕ) Cause
-judged s form value = refuse_if (is_negative_count s.name value.0.content) causes.AttrForm
+abbrev checked : AttributeSpecification → ℕ → Value × ℕ → Result (Attribute × ℕ) Cause
+checked s form value = refuse_if (is_negative_count s.name value.0.content) causes.AttrForm
     >>= λ _. Ok (
       record {
         name = s.name;
@@ -51,11 +51,11 @@ judged s form value = refuse_if (is_negative_count s.name value.0.content) cause
       value.1,
     )
 
-not-judged : (s : AttributeSpecification) (r : Result (Content × ℕ) ReadFault) → IsFine s.name r
+checked-fine : (s : AttributeSpecification) (r : Result (Content × ℕ) ReadFault) → IsFine s.name r
     → (reading r >>= as_attribute s) ≡ (reading_value (of_value r >>= as_value s)
-    >>= judged s s.form)
-not-judged s (Ok c) fine = rw fine refl
-not-judged s (Err e) fine = refl
+    >>= checked s s.form)
+checked-fine s (Ok c) fine = rw fine refl
+checked-fine s (Err e) fine = refl
 
 memoized-is : (format : Format) (s : AttributeSpecification) (layout : ValueLayout) (bytes : List ℕ)
     (at : ℕ) → accepts s.name s.form ≡ true → form_of s.form ≡ Some (Direct layout)
@@ -64,7 +64,7 @@ memoized-is : (format : Format) (s : AttributeSpecification) (layout : ValueLayo
 memoized-is format s layout bytes at fine is memoized =
     let rest : ℕ × ℕ → Result (Attribute × ℕ) Cause =
     λ form. reading_value (value_at form.0 format s.constant bytes form.1)
-    >>= judged s form.0 in
+    >>= checked s form.0 in
     let inner : Result (ℕ × ℕ) Cause = reading (uleb_at bytes at)
     >>= λ inner. refuse_if (not (is_direct (form_of inner.0))) causes.Form >>= λ _. Ok inner in
     let chain = direct-chain (s.form == DW_FORM_INDIRECT) inner s.form at
@@ -74,9 +74,9 @@ memoized-is format s layout bytes at fine is memoized =
     ≡ (of_value (content_at layout format bytes at) >>= as_value s) =
     value-direct s.form layout format s.constant bytes at is ∙ direct-content s.form layout format
     bytes at is in
-    not-judged s (content_at layout format bytes at)
+    checked-fine s (content_at layout format bytes at)
     (memoized-fine s.name layout format bytes at memoized)
-    ∙ sym (ap (λ (r : Result (Value × ℕ) ValueFault). reading_value r >>= judged s s.form) read)
+    ∙ sym (ap (λ (r : Result (Value × ℕ) ValueFault). reading_value r >>= checked s s.form) read)
     ∙ sym chain
 
 same-layout : (l k : ValueLayout) → (let some : ValueLayout → Option ValueLayout = λ x. Some x in
@@ -118,11 +118,11 @@ taken-is format s layout bytes at h = by_form (accepts s.name s.form) refl (form
 abbrev pub none_after : {X : Type 0} → X × ℕ → Result (List Attribute × ℕ) Cause
 none_after x = Ok ([], x.1)
 
-pub passed-is : (format : Format) (s : AttributeSpecification) (layout : ValueLayout)
+pub skipped-is : (format : Format) (s : AttributeSpecification) (layout : ValueLayout)
     (bytes : List ℕ) (at : ℕ) → valid_layout s ≡ Some layout
     → (reading (content_at layout format bytes at) >>= none_after)
     ≡ (attribute_at format s bytes at >>= none_after)
-passed-is format s layout bytes at h = by_read (reading (content_at layout format bytes at))
+skipped-is format s layout bytes at h = by_read (reading (content_at layout format bytes at))
     ∙ ap (λ (r : Result (Attribute × ℕ) Cause). r >>= none_after)
     (taken-is format s layout bytes at h)
   where

@@ -13,7 +13,7 @@ pub mod FixedSizeReads
 pub mod FixedReads
 pub mod FixedAttributes
 pub mod PlanSteps
-pub mod JoinedSteps
+pub mod MergedSteps
 pub mod PlanLaws
 pub mod PlanTurns
 pub mod FixedSizeEntries

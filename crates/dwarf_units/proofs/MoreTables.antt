@@ -18,35 +18,39 @@ use Rattle.dwarf_bytes.specs.Refusals.{in_section}
 use Rattle.dwarf_forms.specs.Declarations.{Declaration}
 use Rattle.dwarf_forms.specs.Tables.{declarations_of}
 use Rattle.dwarf_units.specs.Units.{declarations_limit}
-use Rattle.dwarf_units.proofs.TableLaws.{in_section-ok, table-again, table-few, known-stands}
-use Rattle.dwarf_units.proofs.TableLaws.{stand-behind}
+use Rattle.dwarf_units.proofs.TableLaws.{in_section-ok, table-again, table-few, cached-parsed}
+use Rattle.dwarf_units.proofs.TableLaws.{parsed-after}
 use Rattle.dwarf_units.proofs.StoredLaws.{Sets, with-here, AreFound, found-short, found-push}
 use Rattle.dwarf_units.proofs.StoredLaws.{take_all}
 
 -- The invariant holds after a permanent table is added.
-pub kept-all : (section : List ℕ) (tables after : List Table) (kept budget now size : ℕ)
+pub cached-permanent : (section : List ℕ) (tables after : List Table)
+    (permanent budget now size : ℕ)
     (numbers next : Numbers) (table : Table) → AreElsewhere table.format table.offset tables
-    → Sets numbers next table.format table.offset kept → IsParsedFrom section table
-    → after ≡ take kept tables ++ table ∷ [] → size ≡ table_size table → size ≤ budget
-    → now ≡ length after → AreCached section tables kept budget numbers
+    → Sets numbers next table.format table.offset permanent → IsParsedFrom section table
+    → after ≡ take permanent tables ++ table ∷ [] → size ≡ table_size table → size ≤ budget
+    → now ≡ length after → AreCached section tables permanent budget numbers
     → AreCached section after now (budget - size) next
-kept-all section tables after kept budget now size numbers next table elsewhere sets stands
+cached-permanent section tables after permanent budget now size numbers next table elsewhere sets
+    stands
     is size_is
     fits now_is all =
-    let before : List Table = take kept tables in
+    let before : List Table = take permanent tables in
     let here : number_at next table.format table.offset ≡ Some (length before) =
-    sets table.format table.offset ∙ (with-here numbers table.format table.offset kept
-    ∙ ap (λ (k : ℕ). Some k) (sym (length-take-le kept tables all.within))) in
+    sets table.format table.offset ∙ (with-here numbers table.format table.offset permanent
+    ∙ ap (λ (k : ℕ). Some k) (sym (length-take-le permanent tables all.within))) in
     let whole : take now after ≡ after =
     subst (λ (k : ℕ). take k after ≡ after) (sym now_is) (take_all after) in
-    let sum : sum_by table_size after ≡ sum_by table_size (take kept tables) + table_size table =
+    let sum : sum_by table_size after
+    ≡ sum_by table_size (take permanent tables) + table_size table =
     ap (λ (ts : List Table). sum_by table_size ts) is
-    ∙ sum_by_push table_size (take kept tables) table in
+    ∙ sum_by_push table_size (take permanent tables) table in
     record {
-      stand = stand-behind section tables after kept table all.stand stands is;
+      stand = parsed-after section tables after permanent table all.stand stands is;
       found = subst (λ (ts : List Table). AreFound next ts) (sym is)
           (found-push before next table here
-          (found-short tables kept numbers next table.format table.offset kept all.within elsewhere
+          (found-short tables permanent numbers next table.format table.offset permanent
+          all.within elsewhere
           sets all.found));
       counted = ap (λ (ts : List Table). budget - size + sum_by table_size ts) whole
           ∙ omega (arith, sum, size_is, fits, all.counted);
@@ -56,39 +60,46 @@ kept-all section tables after kept budget now size numbers next table elsewhere 
     }
 
 -- The contents of the cache after a permanent table is added.
-pub with-all : (before : CachedTables) (section : List ℕ) (tables after : List Table)
-    (kept budget now size : ℕ) (numbers : Numbers) (table : Table)
-    → (let seen : CachedTables = record { section = section; tables = tables; kept = kept } in
+pub seen-permanent : (before : CachedTables) (section : List ℕ) (tables after : List Table)
+    (permanent budget now size : ℕ) (numbers : Numbers) (table : Table)
+    → (let seen : CachedTables =
+    record { section = section; tables = tables; permanent = permanent } in
     seen ≡ before)
-    → after ≡ take kept tables ++ table ∷ [] → size ≡ table_size table → size ≤ budget
-    → now ≡ length after → AreCached section tables kept budget numbers
-    → (let seen : CachedTables = record { section = section; tables = after; kept = now } in
+    → after ≡ take permanent tables ++ table ∷ [] → size ≡ table_size table → size ≤ budget
+    → now ≡ length after → AreCached section tables permanent budget numbers
+    → (let seen : CachedTables = record { section = section; tables = after; permanent = now } in
     seen ≡ with_table before table)
-with-all before section tables after kept budget now size numbers table view is size_is fits now_is
+seen-permanent before section tables after permanent budget now size numbers table view is size_is
+    fits now_is
     all =
-    let sum : sum_by table_size (take kept tables ++ table ∷ [])
-    ≡ sum_by table_size (take kept tables) + table_size table =
-    sum_by_push table_size (take kept tables) table in
-    let stays : nat_le (sum_by table_size (take kept tables ++ table ∷ [])) (size_limit section)
+    let sum : sum_by table_size (take permanent tables ++ table ∷ [])
+    ≡ sum_by table_size (take permanent tables) + table_size table =
+    sum_by_push table_size (take permanent tables) table in
+    let stays : nat_le (sum_by table_size (take permanent tables ++ table ∷ []))
+    (size_limit section)
     ≡ true = le_true _ _ (omega (arith, sum, size_is, fits, all.counted)) in
     rw (now_is, is) (rw (← view) (rw stays refl))
   where
     le_true : (a b : ℕ) → a ≤ b → nat_le a b ≡ true
     le_true a b h = grind (arith, common_steps)
 
-pub with_more : (before : CachedTables) (section : List ℕ) (tables after : List Table)
-    (kept budget size : ℕ) (numbers : Numbers) (table : Table)
-    → (let seen : CachedTables = record { section = section; tables = tables; kept = kept } in
+pub seen-temporary : (before : CachedTables) (section : List ℕ) (tables after : List Table)
+    (permanent budget size : ℕ) (numbers : Numbers) (table : Table)
+    → (let seen : CachedTables =
+    record { section = section; tables = tables; permanent = permanent } in
     seen ≡ before)
-    → after ≡ take kept tables ++ table ∷ [] → size ≡ table_size table → budget < size
-    → AreCached section tables kept budget numbers
-    → (let seen : CachedTables = record { section = section; tables = after; kept = kept } in
+    → after ≡ take permanent tables ++ table ∷ [] → size ≡ table_size table → budget < size
+    → AreCached section tables permanent budget numbers
+    → (let seen : CachedTables =
+    record { section = section; tables = after; permanent = permanent } in
     seen ≡ with_table before table)
-with_more before section tables after kept budget size numbers table view is size_is past all =
-    let sum : sum_by table_size (take kept tables ++ table ∷ [])
-    ≡ sum_by table_size (take kept tables) + table_size table =
-    sum_by_push table_size (take kept tables) table in
-    let stays : nat_le (sum_by table_size (take kept tables ++ table ∷ [])) (size_limit section)
+seen-temporary before section tables after permanent budget size numbers table view is size_is past
+    all =
+    let sum : sum_by table_size (take permanent tables ++ table ∷ [])
+    ≡ sum_by table_size (take permanent tables) + table_size table =
+    sum_by_push table_size (take permanent tables) table in
+    let stays : nat_le (sum_by table_size (take permanent tables ++ table ∷ []))
+    (size_limit section)
     ≡ false = le_false _ _ (omega (arith, sum, size_is, past, all.counted)) in
     rw is (rw (← view) (rw stays refl))
   where
@@ -96,7 +107,7 @@ with_more before section tables after kept budget size numbers table view is siz
     le_false a b h = grind (arith, common_steps)
 
 -- A cached table with more declarations than the remaining budget cannot be read.
-pub known-too-long : {X : Type 0} (section : List ℕ) (tables : List Table) (number len : ℕ)
+pub cached-too-long : {X : Type 0} (section : List ℕ) (tables : List Table) (number len : ℕ)
     (memoized d : Table) (offset left : ℕ) (read : List Declaration)
     → All (IsParsedFrom section) tables
     → slice_get tables number ≡ Some memoized
@@ -104,7 +115,7 @@ pub known-too-long : {X : Type 0} (section : List ℕ) (tables : List Table) (nu
     section offset)
     ≡ Ok read → left ≤ declarations_limit → len ≡ length (get_or tables number d).declarations
     → left < len → X
-known-too-long section tables number len memoized d offset left read all at same is_read few len_is
+cached-too-long section tables number len memoized d offset left read all at same is_read few len_is
     past =
     let ok : declarations_of left section offset ≡ Ok read =
     in_section-ok sections.DebugAbbrev (declarations_of left section offset) read is_read in
@@ -112,7 +123,7 @@ known-too-long section tables number len memoized d offset left read all at same
     let again : declarations_of declarations_limit section offset ≡ Ok read =
     table-again left declarations_limit section offset read ok (omega (arith, short, few)) in
     let stands : declarations_of declarations_limit section offset ≡ Ok memoized.declarations =
-    known-stands section tables number memoized offset all at same in
+    cached-parsed section tables number memoized offset all at same in
     let lens : length memoized.declarations ≡ length read =
     ap (λ (ds : List Declaration). length ds) (same-ok (sym stands ∙ again)) in
     let one : length (get_or tables number d).declarations ≡ length memoized.declarations =
@@ -133,11 +144,11 @@ elsewhere-as table format offset tables place form elsewhere i t at is =
     elsewhere i t at (is.0 ∙ place, is.1 ∙ form)
 
 -- Each table has only one index.
-pub known-once : (numbers : Numbers) (tables : List Table) (view : CachedTables) (format : Format)
+pub cached-once : (numbers : Numbers) (tables : List Table) (view : CachedTables) (format : Format)
     (offset i j : ℕ) → tables ≡ view.tables → AreFound numbers tables
     → (t : Table) → slice_get view.tables i ≡ Some t → IsAt format offset t → (u : Table)
     → slice_get view.tables j ≡ Some u → IsAt format offset u → i ≡ j
-known-once numbers tables view format offset i j same found t at is u at_other is_other =
+cached-once numbers tables view format offset i j same found t at is u at_other is_other =
     same_Some i j (sym (number_of t i at is) ∙ number_of u j at_other is_other)
   where
     number_of : (t : Table) (i : ℕ) → slice_get view.tables i ≡ Some t → IsAt format offset t

@@ -14,11 +14,12 @@ use Rattle.dwarf_units.specs.Private.Tables.{IsAdded, IsParsedFrom, IsAt, Cached
 use Rattle.dwarf_units.specs.Private.Tables.{IsCachedOrTooLarge, with_table, size_limit}
 use Rattle.dwarf_units.specs.Units.{declarations_limit}
 use Rattle.dwarf_units.proofs.StoredLaws.{take_all, take-front}
-use Rattle.dwarf_units.proofs.TableLaws.{stands-read, behind-at}
+use Rattle.dwarf_units.proofs.TableLaws.{parsed-at, last-at}
 
 -- Permanently cached tables are only appended to.
 abbrev pub Grows : CachedTables → CachedTables → Type 0
-Grows old new = (rest : List Table) × (take new.kept new.tables ≡ take old.kept old.tables ++ rest)
+Grows old new = (rest : List Table)
+    × (take new.permanent new.tables ≡ take old.permanent old.tables ++ rest)
 
 append-none : (xs : List Table) → xs ≡ xs ++ []
 append-none [] = refl
@@ -36,46 +37,48 @@ pub stays-on : (old new : CachedTables) (unit : UnitHeader) → Grows old new
 stays-on old new unit grows same (table, at, stands, is) =
     (table, at, subst (λ (s : List ℕ). IsParsedFrom s table) (sym same) stands, by_case is)
   where
-    by_case : ((number : ℕ) × (slice_get (take old.kept old.tables) number ≡ Some table))
-        ⊎ (size_limit old.section < sum_by table_size (take old.kept old.tables) + table_size table)
-        → ((number : ℕ) × (slice_get (take new.kept new.tables) number ≡ Some table))
-        ⊎ (size_limit new.section < sum_by table_size (take new.kept new.tables) + table_size
+    by_case : ((number : ℕ) × (slice_get (take old.permanent old.tables) number ≡ Some table))
+        ⊎ (size_limit old.section < sum_by table_size (take old.permanent old.tables) + table_size
+        table)
+        → ((number : ℕ) × (slice_get (take new.permanent new.tables) number ≡ Some table))
+        ⊎ (size_limit new.section < sum_by table_size (take new.permanent new.tables) + table_size
         table)
     by_case (inl there) = inl (
       there.0,
       ap (λ (ts : List Table). slice_get ts there.0) grows.1
-          ∙ got-before (take old.kept old.tables) grows.0 there.0 table there.1,
+          ∙ got-before (take old.permanent old.tables) grows.0 there.0 table there.1,
     )
     by_case (inr large) =
-        let sum : sum_by table_size (take new.kept new.tables)
-        ≡ sum_by table_size (take old.kept old.tables) + sum_by table_size grows.0 =
+        let sum : sum_by table_size (take new.permanent new.tables)
+        ≡ sum_by table_size (take old.permanent old.tables) + sum_by table_size grows.0 =
         ap (λ (ts : List Table). sum_by table_size ts) grows.1
-        ∙ sum_by-append table_size (take old.kept old.tables) grows.0 in
+        ∙ sum_by-append table_size (take old.permanent old.tables) grows.0 in
         let limit : size_limit new.section ≡ size_limit old.section =
         ap (λ (s : List ℕ). size_limit s) same in
         inr (omega (arith, large, sum, limit))
 
 -- A table that is added for a unit stays in the cache, or exceeds the limit.
 pub stays-with : (old : CachedTables) (unit : UnitHeader) (table : Table)
-    → old.kept ≤ length old.tables → IsAt unit.format unit.abbreviations table
+    → old.permanent ≤ length old.tables → IsAt unit.format unit.abbreviations table
     → IsParsedFrom old.section table → IsCachedOrTooLarge (with_table old table) unit
     × Grows old (with_table old table)
 stays-with old unit table within at stands =
-    let before : List Table = take old.kept old.tables in
-    by_test before (length-take-le old.kept old.tables within) refl
+    let before : List Table = take old.permanent old.tables in
+    by_test before (length-take-le old.permanent old.tables within) refl
     (nat_le (sum_by table_size (before ++ table ∷ [])) (size_limit old.section)) refl
   where
     gt : (a b : ℕ) → nat_le a b ≡ false → b < a
     gt a b h = grind (arith, common_steps)
 
-    by_test : (before : List Table) → length before ≡ old.kept → before ≡ take old.kept old.tables
+    by_test : (before : List Table) → length before ≡ old.permanent → before
+        ≡ take old.permanent old.tables
         → (b : Bool) → nat_le (sum_by table_size (before ++ table ∷ [])) (size_limit old.section)
         ≡ b
         → (let new : CachedTables = record {
           section = old.section;
           tables = before ++ table ∷ [];
-          kept =
-              if b then length (before ++ table ∷ []) else old.kept;
+          permanent =
+              if b then length (before ++ table ∷ []) else old.permanent;
         } in
         IsCachedOrTooLarge new unit × Grows old new)
     by_test before len is true fits =
@@ -88,31 +91,31 @@ stays-with old unit table within at stands =
             inl (
               length before,
               ap (λ (ts : List Table). slice_get ts (length before)) whole
-                  ∙ behind-at before tables (length before) table refl refl,
+                  ∙ last-at before tables (length before) table refl refl,
             ),
           ),
           (table ∷ [], whole ∙ ap (λ (ts : List Table). ts ++ table ∷ []) is),
         )
     by_test before len is false past =
         let tables : List Table = before ++ table ∷ [] in
-        let front : take old.kept tables ≡ before =
+        let front : take old.permanent tables ≡ before =
         subst (λ (k : ℕ). take k tables ≡ before) len (take-front before (table ∷ [])) in
-        let sum : sum_by table_size (take old.kept tables) ≡ sum_by table_size before =
+        let sum : sum_by table_size (take old.permanent tables) ≡ sum_by table_size before =
         ap (λ (ts : List Table). sum_by table_size ts) front in
         let large : size_limit old.section < sum_by table_size tables =
         gt (sum_by table_size tables) (size_limit old.section) past in (
           (table, at, stands, inr (omega (arith, sum, large, sum_by_push table_size before table))),
-          ([], front ∙ (is ∙ append-none (take old.kept old.tables))),
+          ([], front ∙ (is ∙ append-none (take old.permanent old.tables))),
         )
 
 -- The same for a table that was parsed for the unit.
-pub stays-behind : (old new : CachedTables) (unit : UnitHeader) (budget left number : ℕ)
-    → old.kept ≤ length old.tables → budget ≤ declarations_limit
+pub stays-parsed : (old new : CachedTables) (unit : UnitHeader) (budget left number : ℕ)
+    → old.permanent ≤ length old.tables → budget ≤ declarations_limit
     → IsAdded unit.format unit.abbreviations budget left old new number
     → IsCachedOrTooLarge new unit × Grows old new
-stays-behind old new unit budget left number within few added =
+stays-parsed old new unit budget left number within few added =
     let stands : IsParsedFrom old.section added.table =
-    stands-read old.section budget added.table unit.abbreviations added.at.0 added.read
+    parsed-at old.section budget added.table unit.abbreviations added.at.0 added.read
     (omega (arith, added.counted, few)) in
     subst (λ (k : CachedTables). IsCachedOrTooLarge k unit × Grows old k) (sym added.added)
     (stays-with old unit added.table within added.at stands)

@@ -18,8 +18,8 @@ use Rattle.dwarf_units.specs.Private.Plans.{stored_attributes, stored_attributes
 use Rattle.dwarf_units.specs.Private.Plans.{steps_of, step_at, steps_at, prepend_attributes}
 use Rattle.dwarf_units.proofs.EntryAdvances.{attribute-stays}
 use Rattle.dwarf_units.proofs.PlanSteps.{step-is}
-use Rattle.dwarf_units.proofs.JoinedSteps.{prepend_attributes-none, prepend_attributes-twice}
-use Rattle.dwarf_units.proofs.JoinedSteps.{before-is}
+use Rattle.dwarf_units.proofs.MergedSteps.{prepend_attributes-none, prepend_attributes-twice}
+use Rattle.dwarf_units.proofs.MergedSteps.{before-is}
 
 -- ---- the attributes that are stored
 
@@ -48,45 +48,46 @@ filter-cons : {X : Type 0} (p : X → Bool) (x : X) (xs : List X) (b : Bool) →
 filter-cons p x xs true h = rw h refl
 filter-cons p x xs false h = rw h refl
 
-kept-cons : (keep : Bool) (name : ℕ) (a : Attribute) (rest : List Attribute) → a.name ≡ name
+stored-cons : (keep : Bool) (name : ℕ) (a : Attribute) (rest : List Attribute) → a.name ≡ name
     → cond (keep && is_used name) (a ∷ []) [] ++ stored_attributes keep rest
     ≡ stored_attributes keep (a ∷ rest)
-kept-cons true name a rest h = filter-cons (λ (b : Attribute). is_used b.name) a rest (is_used name)
+stored-cons true name a rest h =
+    filter-cons (λ (b : Attribute). is_used b.name) a rest (is_used name)
     (ap is_used h)
-kept-cons false name a rest h = refl
+stored-cons false name a rest h = refl
 
-kept-none : (keep : Bool) → stored_attributes keep [] ≡ []
-kept-none true = refl
-kept-none false = refl
+stored-none : (keep : Bool) → stored_attributes keep [] ≡ []
+stored-none true = refl
+stored-none false = refl
 
 -- The attributes that are stored of one attribute, of those after it, and of all.
-abbrev kept_one : Bool → Attribute × ℕ → Result (List Attribute × ℕ) Cause
-kept_one keeps a = Ok (cond keeps (a.0 ∷ []) [], a.1)
+abbrev stored_one : Bool → Attribute × ℕ → Result (List Attribute × ℕ) Cause
+stored_one keeps a = Ok (cond keeps (a.0 ∷ []) [], a.1)
 
-abbrev behind : Attribute → List Attribute × ℕ → Result (List Attribute × ℕ) Cause
-behind a rest = Ok (a ∷ rest.0, rest.1)
+abbrev with_first : Attribute → List Attribute × ℕ → Result (List Attribute × ℕ) Cause
+with_first a rest = Ok (a ∷ rest.0, rest.1)
 
-abbrev kept-all : Bool → List Attribute × ℕ → Result (List Attribute × ℕ) Cause
-kept-all keep all = Ok (stored_attributes keep all.0, all.1)
+abbrev stored_all : Bool → List Attribute × ℕ → Result (List Attribute × ℕ) Cause
+stored_all keep all = Ok (stored_attributes keep all.0, all.1)
 
-pub kept-is : (keep : Bool) (format : Format) (declared : List AttributeSpecification)
+pub stored-is : (keep : Bool) (format : Format) (declared : List AttributeSpecification)
     (bytes : List ℕ) (at : ℕ) → at ≤ length bytes
     → steps_at format (steps_of keep format declared) bytes at ≡ stored_attributes_at keep format
     declared bytes at
 unfolding steps_at steps_of attributes_at
-kept-is keep format [] bytes at le = ap (λ (all : List Attribute). Ok (all, at))
-    (sym (kept-none keep))
-kept-is keep format (s ∷ ss) bytes at le =
+stored-is keep format [] bytes at le = ap (λ (all : List Attribute). Ok (all, at))
+    (sym (stored-none keep))
+stored-is keep format (s ∷ ss) bytes at le =
     before-is format (step_of keep format s) (steps_of keep format ss) bytes at
     ∙ rw (step-is keep format s bytes at le)
-    (by_first (λ place le. kept-is keep format ss bytes place le)
+    (by_first (λ place le. stored-is keep format ss bytes place le)
     (attribute_at format s bytes at) refl)
   where
     by_rest : (a : Attribute) → a.name ≡ s.name → (rest : Result (List Attribute × ℕ) Cause)
-        → prepend_attributes (cond (keep && is_used s.name) (a ∷ []) []) (rest >>= kept-all keep)
-        ≡ ((rest >>= behind a) >>= kept-all keep)
+        → prepend_attributes (cond (keep && is_used s.name) (a ∷ []) []) (rest >>= stored_all keep)
+        ≡ ((rest >>= with_first a) >>= stored_all keep)
     by_rest a named (Ok rest) = ap (λ (all : List Attribute). Ok (all, rest.1))
-        (kept-cons keep s.name a rest.0 named)
+        (stored-cons keep s.name a rest.0 named)
     by_rest a named (Err e) = refl
 
     by_first : ((place : ℕ) → place ≤ length bytes
@@ -94,9 +95,10 @@ kept-is keep format (s ∷ ss) bytes at le =
         format ss
         bytes place) → (first : Result (Attribute × ℕ) Cause) → attribute_at format s bytes at
         ≡ first
-        → ((first >>= kept_one (keep && is_used s.name)) >>= λ first. prepend_attributes first.0
+        → ((first >>= stored_one (keep && is_used s.name)) >>= λ first. prepend_attributes first.0
         (steps_at format (steps_of keep format ss) bytes first.1))
-        ≡ ((first >>= λ a. attributes_at format ss bytes a.1 >>= behind a.0) >>= kept-all keep)
+        ≡ ((first >>= λ a. attributes_at format ss bytes a.1 >>= with_first a.0) >>=
+        stored_all keep)
     by_first rest (Ok a) is =
         rw (rest a.1 (attribute-stays format s bytes at a le is).1)
         (by_rest a.0 (attribute-name format s bytes at a is) (attributes_at format ss bytes a.1))
@@ -118,14 +120,14 @@ steps-both keep format (x ∷ xs) ys bytes at =
     (steps_at format (steps_of keep format ys) bytes first.1))
     (sym (before-is format (step_of keep format x) (steps_of keep format xs) bytes at)))
   where
-    by_rest : (kept : List Attribute) (rest : Result (List Attribute × ℕ) Cause)
-        → prepend_attributes kept (rest >>= λ next. prepend_attributes next.0
+    by_rest : (stored : List Attribute) (rest : Result (List Attribute × ℕ) Cause)
+        → prepend_attributes stored (rest >>= λ next. prepend_attributes next.0
         (steps_at format (steps_of keep format ys) bytes next.1))
-        ≡ (prepend_attributes kept rest >>= λ next. prepend_attributes next.0
+        ≡ (prepend_attributes stored rest >>= λ next. prepend_attributes next.0
         (steps_at format (steps_of keep format ys) bytes next.1))
-    by_rest kept (Ok rest) = prepend_attributes-twice kept rest.0
+    by_rest stored (Ok rest) = prepend_attributes-twice stored rest.0
         (steps_at format (steps_of keep format ys) bytes rest.1)
-    by_rest kept (Err e) = refl
+    by_rest stored (Err e) = refl
 
     by_first : ((place : ℕ) → steps_at format (steps_of keep format (xs ++ ys)) bytes place
         ≡ (steps_at format (steps_of keep format xs) bytes place

@@ -23,7 +23,7 @@ use Rattle.dwarf_units.specs.Private.Names.{name_of, used_name, named_attribute}
 use Rattle.dwarf_units.proofs.NameLaws.{found-number, used-some, used-none}
 use Rattle.dwarf_units.specs.Private.Plans.{fixed_len, valid_layout, skip_of, step_of, step_at}
 use Rattle.dwarf_units.specs.Private.Plans.{stored_at}
-use Rattle.dwarf_units.proofs.FixedSizeReads.{taken-is, passed-is}
+use Rattle.dwarf_units.proofs.FixedSizeReads.{taken-is, skipped-is}
 use Rattle.dwarf_units.proofs.FixedReads.{ReadsFixed}
 use Rattle.dwarf_units.proofs.FixedAttributes.{fixed-attribute, same-place, skip-fixed}
 
@@ -115,7 +115,7 @@ step-is keep format s bytes at le = by_keep keep
         → step_at format (Pass s layout) bytes at
         ≡ (attribute_at format s bytes at >>= λ a. Ok ([], a.1))
     by_known None is = refl
-    by_known (Some layout) is = passed-is format s layout bytes at is
+    by_known (Some layout) is = skipped-is format s layout bytes at is
 
     by_len : (len : Option ℕ) → fixed_len format s ≡ len
         → step_at format (option_map_or (λ n. Skip n) len (Pass s (valid_layout s))) bytes at

@@ -17,14 +17,14 @@ use Rattle.dwarf_units.specs.Private.Plans.{step_at, steps_at, prepend_attribute
 use Rattle.dwarf_units.specs.Private.Plans.{step_before, steps_of, Fills}
 use Rattle.dwarf_units.specs.Private.Used.{Used, used_among, with_used, used_after}
 use Rattle.dwarf_units.specs.Private.Used.{used_attributes_at}
-use Rattle.dwarf_units.proofs.PlanLaws.{kept-is, steps-both}
-use Rattle.dwarf_units.proofs.UsedLaws.{among-behind, with-none, with-twice}
+use Rattle.dwarf_units.proofs.PlanLaws.{stored-is, steps-both}
+use Rattle.dwarf_units.proofs.UsedLaws.{among-append, with-none, with-twice}
 
 -- The attributes stored so far, completed by those that the remaining steps store, are the whole
 -- result.
-abbrev pub KeptSoFar : Format → List AttributeStep → List ℕ → Used → ℕ → Result (Used × ℕ) Cause
+abbrev pub StoredSoFar : Format → List AttributeStep → List ℕ → Used → ℕ → Result (Used × ℕ) Cause
     → Type 0
-KeptSoFar format left bytes used place whole = used_after used (steps_at format left bytes place)
+StoredSoFar format left bytes used place whole = used_after used (steps_at format left bytes place)
     ≡ whole
 
 used-twice : (used : Used) (xs : List Attribute) (r : Result (List Attribute × ℕ) Cause)
@@ -33,43 +33,43 @@ used-twice used xs (Ok rest) = ap (λ all. Ok (all, rest.1)) (sym (with-twice us
 used-twice used xs (Err e) = refl
 
 -- The invariant after a step succeeds.
-pub kept-more : (format : Format) (step : AttributeStep) (left behind : List AttributeStep)
-    (bytes : List ℕ) (used kept : Used) (old new : Position) (whole : Result (Used × ℕ) Cause)
+pub stored-step : (format : Format) (step : AttributeStep) (left behind : List AttributeStep)
+    (bytes : List ℕ) (used stored : Used) (old new : Position) (whole : Result (Used × ℕ) Cause)
     → left ≡ step ∷ behind → old.bytes ≡ bytes
-    → KeptSoFar format left bytes used old.place whole
-    → used_after used (step_at format step old.bytes old.place) ≡ Ok (kept, new.place)
-    → KeptSoFar format behind bytes kept new.place whole
+    → StoredSoFar format left bytes used old.place whole
+    → used_after used (step_at format step old.bytes old.place) ≡ Ok (stored, new.place)
+    → StoredSoFar format behind bytes stored new.place whole
 unfolding steps_at
-kept-more format step left behind bytes used kept old new whole parts same so_far read =
+stored-step format step left behind bytes used stored old new whole parts same so_far read =
     sym (by-step (step_at format step bytes old.place) here)
     ∙ (ap (λ (l : List AttributeStep). used_after used (steps_at format l bytes old.place))
     (sym parts) ∙ so_far)
   where
-    here : used_after used (step_at format step bytes old.place) ≡ Ok (kept, new.place)
+    here : used_after used (step_at format step bytes old.place) ≡ Ok (stored, new.place)
     here = subst (λ (b : List ℕ). used_after used (step_at format step b old.place)
-        ≡ Ok (kept, new.place)) same read
+        ≡ Ok (stored, new.place)) same read
 
-    by-step : (r : Result (List Attribute × ℕ) Cause) → used_after used r ≡ Ok (kept, new.place)
+    by-step : (r : Result (List Attribute × ℕ) Cause) → used_after used r ≡ Ok (stored, new.place)
         → used_after used (r >>= λ first. prepend_attributes first.0 (steps_at format behind bytes
         first.1))
-        ≡ used_after kept (steps_at format behind bytes new.place)
+        ≡ used_after stored (steps_at format behind bytes new.place)
     by-step (Ok step) is =
-        let both = same-ok (with_used used step.0, step.1) (kept, new.place) is in
-        let all : with_used used step.0 ≡ kept = ap (λ (x : Used × ℕ). x.0) both in
+        let both = same-ok (with_used used step.0, step.1) (stored, new.place) is in
+        let all : with_used used step.0 ≡ stored = ap (λ (x : Used × ℕ). x.0) both in
         let place : step.1 ≡ new.place = ap (λ (x : Used × ℕ). x.1) both in
         rw (← all, ← place) (used-twice used step.0 (steps_at format behind bytes step.1))
     by-step (Err e) is = cc
 
 -- The whole read fails if a step fails or memory runs out.
-pub kept-fault : (format : Format) (step : AttributeStep) (left behind : List AttributeStep)
+pub stored-fault : (format : Format) (step : AttributeStep) (left behind : List AttributeStep)
     (bytes : List ℕ) (used : Used) (old : Position) (cause : Cause)
     (whole : Result (Used × ℕ) Cause) → left ≡ step ∷ behind → old.bytes ≡ bytes
-    → KeptSoFar format left bytes used old.place whole
+    → StoredSoFar format left bytes used old.place whole
     → Fails cause (used_after used (step_at format step old.bytes old.place)) → Fails cause whole
 unfolding steps_at
-kept-fault format step left behind bytes used old cause whole parts same so_far (inl memory) =
+stored-fault format step left behind bytes used old cause whole parts same so_far (inl memory) =
     inl memory
-kept-fault format step left behind bytes used old cause whole parts same so_far (inr read) =
+stored-fault format step left behind bytes used old cause whole parts same so_far (inr read) =
     inr (sym so_far ∙ (ap (λ (l : List AttributeStep). used_after used
     (steps_at format l bytes old.place)) parts ∙ by-step (step_at format step bytes old.place)
     here))
@@ -85,11 +85,11 @@ kept-fault format step left behind bytes used old cause whole parts same so_far 
     by-step (Ok step) is = cc
     by-step (Err e) is = is
 
-pub kept-end : (format : Format) (left : List AttributeStep) (bytes : List ℕ) (used : Used)
+pub stored-end : (format : Format) (left : List AttributeStep) (bytes : List ℕ) (used : Used)
     (place : ℕ) (whole : Result (Used × ℕ) Cause) → left ≡ []
-    → KeptSoFar format left bytes used place whole → whole ≡ Ok (used, place)
+    → StoredSoFar format left bytes used place whole → whole ≡ Ok (used, place)
 unfolding steps_at
-kept-end format left bytes used place whole none so_far =
+stored-end format left bytes used place whole none so_far =
     sym so_far ∙ (ap (λ (l : List AttributeStep). used_after used (steps_at format l bytes place))
     none ∙ ap (λ (all : Used). Ok (all, place)) (with-none used))
 
@@ -97,8 +97,8 @@ kept-end format left bytes used place whole none so_far =
 
 -- Attributes that are added to an empty set are all of the result.
 used-first : (r : Result (List Attribute × ℕ) Cause) → used_after (used_among []) r
-    ≡ (r >>= λ kept. Ok (used_among kept.0, kept.1))
-used-first (Ok kept) = ap (λ all. Ok (all, kept.1)) (among-behind [] kept.0)
+    ≡ (r >>= λ stored. Ok (used_among stored.0, stored.1))
+used-first (Ok stored) = ap (λ all. Ok (all, stored.1)) (among-append [] stored.0)
 used-first (Err e) = refl
 
 -- The unshared attributes, completed by the shared ones.
@@ -109,8 +109,9 @@ both-is : (keep : Bool) (format : Format) (own rest : List AttributeSpecificatio
     ≡ (here >>= λ next. used_after next.0
     (steps_at format (steps_of keep format rest) bytes next.1))
 both-is keep format own rest bytes first here within is =
-    ap (λ (r : Result (List Attribute × ℕ) Cause). r >>= λ kept. Ok (used_among kept.0, kept.1))
-    (sym (kept-is keep format (own ++ rest) bytes first within)
+    ap (λ (r : Result (List Attribute × ℕ) Cause). r >>=
+    λ stored. Ok (used_among stored.0, stored.1))
+    (sym (stored-is keep format (own ++ rest) bytes first within)
     ∙ steps-both keep format own rest bytes first)
     ∙ (by_own (steps_at format (steps_of keep format own) bytes first)
     ∙ ap (λ (r : Result (Used × ℕ) Cause). r >>= λ next. used_after next.0
@@ -121,7 +122,7 @@ both-is keep format own rest bytes first here within is =
 
     by_own : (r : Result (List Attribute × ℕ) Cause)
         → ((r >>= λ next. prepend_attributes next.0 (behind next.1))
-        >>= λ kept. Ok (used_among kept.0, kept.1))
+        >>= λ stored. Ok (used_among stored.0, stored.1))
         ≡ (used_after (used_among []) r >>= λ next. used_after next.0 (behind next.1))
     by_own (Ok next) = sym (used-first (prepend_attributes next.0 (behind next.1)))
         ∙ used-twice (used_among []) next.0 (behind next.1)
@@ -139,24 +140,24 @@ own-fault keep format own rest bytes first cause within (inr here) =
 -- Reading the unshared and then the shared attributes stores the used attributes of the whole
 -- declaration.
 pub read-both : (keep : Bool) (format : Format) (own rest : List AttributeSpecification)
-    (old mid new : Position) (kept used : Used) (result : Result (Unit {0}) Cause)
+    (old mid new : Position) (stored used : Used) (result : Result (Unit {0}) Cause)
     → old.place ≤ length old.bytes → used_after (used_among [])
-    (steps_at format (steps_of keep format own) old.bytes old.place) ≡ Ok (kept, mid.place)
+    (steps_at format (steps_of keep format own) old.bytes old.place) ≡ Ok (stored, mid.place)
     → mid.bytes ≡ old.bytes → Fills result used
-    (λ bytes at. used_after kept (steps_at format (steps_of keep format rest) bytes at)) mid
+    (λ bytes at. used_after stored (steps_at format (steps_of keep format rest) bytes at)) mid
     new → Fills result used (used_attributes_at keep format (own ++ rest)) old new
-read-both keep format own rest old mid new kept used (Ok u) within here same behind = (
-  both-is keep format own rest old.bytes old.place (Ok (kept, mid.place)) within here
-      ∙ subst (λ (b : List ℕ). used_after kept
+read-both keep format own rest old mid new stored used (Ok u) within here same behind = (
+  both-is keep format own rest old.bytes old.place (Ok (stored, mid.place)) within here
+      ∙ subst (λ (b : List ℕ). used_after stored
       (steps_at format (steps_of keep format rest) b mid.place) ≡ Ok (used, new.place)) same
       behind.0,
   behind.1 ∙ same,
 )
-read-both keep format own rest old mid new kept used (Err cause) within here same (inl memory) =
+read-both keep format own rest old mid new stored used (Err cause) within here same (inl memory) =
     inl memory
-read-both keep format own rest old mid new kept used (Err cause) within here same (inr behind) =
-    inr (both-is keep format own rest old.bytes old.place (Ok (kept, mid.place)) within here
-    ∙ subst (λ (b : List ℕ). used_after kept
+read-both keep format own rest old mid new stored used (Err cause) within here same (inr behind) =
+    inr (both-is keep format own rest old.bytes old.place (Ok (stored, mid.place)) within here
+    ∙ subst (λ (b : List ℕ). used_after stored
     (steps_at format (steps_of keep format rest) b mid.place) ≡ Err cause) same behind)
 
 -- ---- the steps of a declaration, built from its last attribute

@@ -18,7 +18,7 @@ use Rattle.dwarf_units.specs.declared.unit_headers.UnitHeader.{UnitHeader}
 use Rattle.dwarf_units.specs.Entries.{Node, Entry, Null, LocatedNode, Die, depth_after, depth_limit}
 use Rattle.dwarf_units.specs.Entries.{is_root, attributes_at, declaration_of, node_at_depth}
 use Rattle.dwarf_units.specs.Entries.{node_at, entry_at, die_of, entries_of}
-use Rattle.dwarf_units.proofs.EntryOrder.{listed-in}
+use Rattle.dwarf_units.proofs.EntryOrder.{list-in}
 
 -- The rest of the read after the code, and after the declaration.
 abbrev with_attributes : Declaration → List Attribute × ℕ → Result ((ℕ × List Attribute) × ℕ) Cause
@@ -110,20 +110,20 @@ node_at-again format table unit before at x after h tag children attributes is =
     (ap (λ (s : LocatedNode). s.offset) same.0) here))
 
 -- This holds for every entry of a listing.
-listed-again : (format : Format) (table : List Declaration) (unit : List ℕ)
+list-reread : (format : Format) (table : List Declaration) (unit : List ℕ)
     (before : List LocatedNode)
     (at : ℕ) (all : List LocatedNode) (after : ℕ)
     → Lists (node_at format table unit) before at all after
     → (i : ℕ) (die : Die) → slice_get (filter_map die_of all) i ≡ Some die
     → IsReadAgain format table unit die.offset die.tag die.attributes
-listed-again format table unit before at [] after h i die is = absurd (none i die is)
+list-reread format table unit before at [] after h i die is = absurd (none i die is)
   where
     none : (i : ℕ) (die : Die) → slice_get [] i ≡ Some die → ⊥
     none zero die h = cc
     none (suc i) die h = cc
-listed-again format table unit before at (x ∷ all) after h i die is =
+list-reread format table unit before at (x ∷ all) after h i die is =
     by_node x.offset x.depth x.node (node_at-again format table unit before at x h.0 h.1)
-    (λ k is. listed-again format table unit (before ++ x ∷ []) h.0 all after h.2 k die is) i is
+    (λ k is. list-reread format table unit (before ++ x ∷ []) h.0 all after h.2 k die is) i is
   where
     by_node : (offset depth : ℕ) (node : Node)
         → ((tag : ℕ) (children : Bool) (attributes : List Attribute)
@@ -152,7 +152,7 @@ pub entries-again : (info : List ℕ) (header : UnitHeader) (table : List Declar
     → (after : ℕ) × (entry_at header.format table (take header.end info) die.offset
     ≡ Ok ((die.tag, die.attributes), after))
 entries-again info header table dies h i die is =
-    listed-in info header table dies (IsReadAgain header.format table (take header.end info)
+    list-in info header table dies (IsReadAgain header.format table (take header.end info)
     die.offset die.tag die.attributes) h (λ all after listed same.
-    listed-again header.format table (take header.end info) [] header.first all after listed i die
+    list-reread header.format table (take header.end info) [] header.first all after listed i die
     (subst (λ (ds : List Die). slice_get ds i ≡ Some die) (sym same) is))

@@ -102,11 +102,11 @@ put-is u has values a name slot is at found within place free = rw (← is, at)
     (sym (under-by (λ n. in_slot has values (slot_of n)) x))))
 
 -- The slot is occupied, so the attribute is ignored.
-kept-each : (has : List Bool) (values : List AttributeValue) (a : Attribute) (name : UsedName)
+stored-each : (has : List Bool) (values : List AttributeValue) (a : Attribute) (name : UsedName)
     → used_name a.name ≡ Some name → get_or has (slot_of name) false ≡ true → (x : UsedName)
     → option_or (in_slot has values (slot_of x)) (value_of (a ∷ []) (name_of x))
     ≡ in_slot has values (slot_of x)
-kept-each has values a name found taken x = by_slot (cases_eq (slot_of x) (slot_of name))
+stored-each has values a name found taken x = by_slot (cases_eq (slot_of x) (slot_of name))
   where
     by_slot : (slot_of x ≡ slot_of name) ⊎ (slot_of x ≡ slot_of name → ⊥)
         → option_or (in_slot has values (slot_of x)) (value_of (a ∷ []) (name_of x))
@@ -115,11 +115,11 @@ kept-each has values a name found taken x = by_slot (cases_eq (slot_of x) (slot_
     by_slot (inr other) = another a (name_of x) (in_slot has values (slot_of x))
         (not-found a name x found other)
 
-pub kept-is : (u : Used) (has : List Bool) (values : List AttributeValue) (a : Attribute)
+pub stored-is : (u : Used) (has : List Bool) (values : List AttributeValue) (a : Attribute)
     (name : UsedName) (slot : ℕ) → in_slots has values ≡ u → slot ≡ slot_of name
     → used_name a.name ≡ Some name → get_or has slot false ≡ true → u ≡ with_used u (a ∷ [])
 unfolding with_used
-kept-is u has values a name slot is at found taken = rw (← is)
+stored-is u has values a name slot is at found taken = rw (← is)
     (sym (same-by _ _ (λ x. ap (λ v. option_or v (value_of (a ∷ []) (name_of x)))
-    (under-by (λ n. in_slot has values (slot_of n)) x) ∙ kept-each has values a name found
+    (under-by (λ n. in_slot has values (slot_of n)) x) ∙ stored-each has values a name found
     (rw (← at) taken) x)))

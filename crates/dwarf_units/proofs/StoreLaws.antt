@@ -23,51 +23,51 @@ use Rattle.dwarf_units.specs.Private.Tables.{IsWithinLimit, CachedTables, IsPars
 use Rattle.dwarf_units.specs.Private.Tables.{with_table}
 use Rattle.dwarf_units.proofs.MoreTables.{elsewhere-as}
 use Rattle.dwarf_units.proofs.SharedTableLaws.{readable-grows, tables-stay}
-use Rattle.dwarf_units.proofs.TableLaws.{behind-at, stands-read}
+use Rattle.dwarf_units.proofs.TableLaws.{last-at, parsed-at}
 
 -- ---- a shorter list of tables, and one more table appended
 
-pub resolved-before : (memoized : List MemoizedAttribute) (tables after : List SharedTable)
-    (kept : ℕ)
-    → after ≡ take kept tables → full_tables memoized after
-    ≡ take kept (full_tables memoized tables)
-resolved-before memoized tables after kept is =
-    ap (full_tables memoized) is ∙ sym (take-map (full_table memoized) kept tables)
+pub resolved-taken : (memoized : List MemoizedAttribute) (tables after : List SharedTable)
+    (permanent : ℕ)
+    → after ≡ take permanent tables → full_tables memoized after
+    ≡ take permanent (full_tables memoized tables)
+resolved-taken memoized tables after permanent is =
+    ap (full_tables memoized) is ∙ sym (take-map (full_table memoized) permanent tables)
 
-pub resolved-behind : (memoized : List MemoizedAttribute) (tables after : List SharedTable)
-    (kept : ℕ)
-    (table : SharedTable) → after ≡ take kept tables ++ table ∷ []
-    → full_tables memoized after ≡ take kept (full_tables memoized tables)
+pub resolved-more : (memoized : List MemoizedAttribute) (tables after : List SharedTable)
+    (permanent : ℕ)
+    (table : SharedTable) → after ≡ take permanent tables ++ table ∷ []
+    → full_tables memoized after ≡ take permanent (full_tables memoized tables)
     ++ full_table memoized table ∷ []
-resolved-behind memoized tables after kept table is =
+resolved-more memoized tables after permanent table is =
     ap (full_tables memoized) is
-    ∙ (map-append (full_table memoized) (take kept tables) (table ∷ [])
+    ∙ (map-append (full_table memoized) (take permanent tables) (table ∷ [])
     ∙ ap (λ (ts : List Table). ts ++ full_table memoized table ∷ [])
-    (sym (take-map (full_table memoized) kept tables)))
+    (sym (take-map (full_table memoized) permanent tables)))
 
 pub resolved-at : (memoized : List MemoizedAttribute) (tables after : List SharedTable)
-    (kept number : ℕ)
-    (table : SharedTable) → after ≡ take kept tables ++ table ∷ []
-    → number ≡ length (take kept tables) → slice_get (full_tables memoized after) number
+    (permanent number : ℕ)
+    (table : SharedTable) → after ≡ take permanent tables ++ table ∷ []
+    → number ≡ length (take permanent tables) → slice_get (full_tables memoized after) number
     ≡ Some (full_table memoized table)
-resolved-at memoized tables after kept number table is at =
-    behind-at (take kept (full_tables memoized tables)) (full_tables memoized after) number
-    (full_table memoized table) (resolved-behind memoized tables after kept table is)
-    (at ∙ (sym (length-map (take kept tables) (full_table memoized))
-    ∙ ap length (sym (take-map (full_table memoized) kept tables))))
+resolved-at memoized tables after permanent number table is at =
+    last-at (take permanent (full_tables memoized tables)) (full_tables memoized after) number
+    (full_table memoized table) (resolved-more memoized tables after permanent table is)
+    (at ∙ (sym (length-map (take permanent tables) (full_table memoized))
+    ∙ ap length (sym (take-map (full_table memoized) permanent tables))))
 
-pub readable-before : (lists : LinkedPlaces) (tables after : List SharedTable) (kept : ℕ)
-    → All (IsReadable lists) tables → after ≡ take kept tables → All (IsReadable lists) after
-readable-before lists tables after kept all is =
-    subst (All (IsReadable lists)) (sym is) (All-take (IsReadable lists) kept tables all)
+pub readable-taken : (lists : LinkedPlaces) (tables after : List SharedTable) (permanent : ℕ)
+    → All (IsReadable lists) tables → after ≡ take permanent tables → All (IsReadable lists) after
+readable-taken lists tables after permanent all is =
+    subst (All (IsReadable lists)) (sym is) (All-take (IsReadable lists) permanent tables all)
 
-pub readable-behind : (lists : LinkedPlaces) (tables after : List SharedTable) (kept : ℕ)
+pub readable-more : (lists : LinkedPlaces) (tables after : List SharedTable) (permanent : ℕ)
     (table : SharedTable) → All (IsReadable lists) tables → IsReadable lists table
-    → after ≡ take kept tables ++ table ∷ [] → All (IsReadable lists) after
-readable-behind lists tables after kept table all one is =
+    → after ≡ take permanent tables ++ table ∷ [] → All (IsReadable lists) after
+readable-more lists tables after permanent table all one is =
     subst (All (IsReadable lists)) (sym is)
-    (All-append (IsReadable lists) (take kept tables) (table ∷ [])
-    (All-take (IsReadable lists) kept tables all)
+    (All-append (IsReadable lists) (take permanent tables) (table ∷ [])
+    (All-take (IsReadable lists) permanent tables all)
     (All-cons (IsReadable lists) table [] one (All-nil (IsReadable lists))))
 
 -- ---- more attributes are memoized
@@ -87,11 +87,11 @@ stored-grows old new store grows are =
     ≡ full_tables new.places.memoized
     store.tables.items = sym (tables-stay old new store.tables.items grows are.readable) in
     record {
-      kept =
+      permanent =
           subst (λ (s : List ℕ). AreCached s (full_tables new.places.memoized store.tables.items)
-          store.kept store.budget store.numbers) (sym grows.places.section)
-          (subst (λ (ts : List Table). AreCached old.places.section ts store.kept store.budget
-          store.numbers) tables are.kept);
+          store.permanent store.budget store.numbers) (sym grows.places.section)
+          (subst (λ (ts : List Table). AreCached old.places.section ts store.permanent store.budget
+          store.numbers) tables are.permanent);
       readable = λ k d lt. readable-grows old new _ grows (are.readable k d lt);
     }
 
@@ -116,7 +116,7 @@ is-new old new store view table format offset left grows are same readable at re
     ≡ Ok resolved.declarations = subst (λ (s : List ℕ). in_section sections.DebugAbbrev
     (declarations_of left s offset) ≡ Ok resolved.declarations) section read in
     let stands : IsParsedFrom old.places.section resolved =
-    stands-read old.places.section left resolved offset at.0 read
+    parsed-at old.places.section left resolved offset at.0 read
     (omega (arith, few, length-map table.declarations (full_by new))) in
     let tables : view.tables ≡ full_tables new.places.memoized store.tables.items =
     ap (λ (k : CachedTables). k.tables) (sym same ∙ sym (seen-grows old new store grows are)) in
@@ -163,4 +163,4 @@ is-added old new store now view table format offset budget left number grows are
 
 pub limit-of : (lists : LinkedPlaces) (store : TableStore) → AreStored lists store
     → IsWithinLimit (seen lists store)
-limit-of lists store are = (omega (arith, are.kept.counted), are.kept.one)
+limit-of lists store are = (omega (arith, are.permanent.counted), are.permanent.one)

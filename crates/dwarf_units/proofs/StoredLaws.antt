@@ -13,7 +13,7 @@ use Rattle.dwarf_units.specs.declared.numbers.Numbers.{Numbers}
 use Rattle.dwarf_units.specs.Private.Numbers.{number_at, with_number}
 use Rattle.dwarf_units.specs.Private.Plans.{Table, table_size}
 use Rattle.dwarf_units.specs.Private.Tables.{IsParsedFrom, AreElsewhere, AreCached}
-use Rattle.dwarf_units.proofs.TableLaws.{stand-before, stand-behind, behind-at}
+use Rattle.dwarf_units.proofs.TableLaws.{parsed-before, parsed-after, last-at}
 
 -- One index is set.
 abbrev pub Sets : Numbers → Numbers → Format → ℕ → ℕ → Type 0
@@ -53,21 +53,23 @@ AreFound numbers tables = (i : ℕ) (table : Table) → slice_get tables i ≡ S
     → number_at numbers table.format table.offset ≡ Some i
 
 -- A table among the first ones is a table of the list.
-taken : (tables : List Table) (kept i : ℕ) (table : Table) → kept ≤ length tables
-    → slice_get (take kept tables) i ≡ Some table → slice_get tables i ≡ Some table
-taken tables kept i table within at =
-    let len : length (take kept tables) ≡ kept = length-take-le kept tables within in
-    let before : i < kept = omega (arith, slice_get_within (take kept tables) i table at, len) in
+taken : (tables : List Table) (permanent i : ℕ) (table : Table) → permanent ≤ length tables
+    → slice_get (take permanent tables) i ≡ Some table → slice_get tables i ≡ Some table
+taken tables permanent i table within at =
+    let len : length (take permanent tables) ≡ permanent = length-take-le permanent tables within in
+    let before : i < permanent =
+    omega (arith, slice_get_within (take permanent tables) i table at, len) in
     slice_get-get_or tables i table (omega (arith, before, within))
-    ∙ ap (λ (t : Table). Some t) (sym (get_or-take kept tables i table before)
-    ∙ get_or_from_slice_get (take kept tables) i table table at)
+    ∙ ap (λ (t : Table). Some t) (sym (get_or-take permanent tables i table before)
+    ∙ get_or_from_slice_get (take permanent tables) i table table at)
 
-pub found-short : (tables : List Table) (kept : ℕ) (numbers next : Numbers) (format : Format)
-    (offset number : ℕ) → kept ≤ length tables → AreElsewhere format offset tables
+pub found-short : (tables : List Table) (permanent : ℕ) (numbers next : Numbers) (format : Format)
+    (offset number : ℕ) → permanent ≤ length tables → AreElsewhere format offset tables
     → Sets numbers next format offset number → AreFound numbers tables
-    → AreFound next (take kept tables)
-found-short tables kept numbers next format offset number within elsewhere sets found i table at =
-    let here = taken tables kept i table within at in
+    → AreFound next (take permanent tables)
+found-short tables permanent numbers next format offset number within elsewhere sets found i table
+    at =
+    let here = taken tables permanent i table within at in
     sets table.format table.offset ∙ (with-there numbers format offset number table.format
     table.offset (elsewhere i table here) ∙ found i table here)
 
@@ -98,49 +100,58 @@ take-front [] ys = refl
 take-front (x ∷ xs) ys = ap (λ (zs : List Table). x ∷ zs) (take-front xs ys)
 
 -- The invariant holds after the temporary table is removed.
-pub kept-short : (section : List ℕ) (tables after : List Table) (kept budget : ℕ)
+pub cached-truncated : (section : List ℕ) (tables after : List Table) (permanent budget : ℕ)
     (numbers next : Numbers) (format : Format) (offset : ℕ) → AreElsewhere format offset tables
-    → Sets numbers next format offset kept → after ≡ take kept tables
-    → AreCached section tables kept budget numbers → AreCached section after kept budget next
-kept-short section tables after kept budget numbers next format offset elsewhere sets is all =
-    let len : length (take kept tables) ≡ kept = length-take-le kept tables all.within in
-    let again : take kept (take kept tables) ≡ take kept tables =
-    subst (λ (k : ℕ). take k (take kept tables) ≡ take kept tables) len
-    (take_all (take kept tables)) in
-    subst (λ (ts : List Table). AreCached section ts kept budget next) (sym is) (record {
-      stand = stand-before section tables (take kept tables) kept all.stand refl;
-      found = found-short tables kept numbers next format offset kept all.within elsewhere sets
+    → Sets numbers next format offset permanent → after ≡ take permanent tables
+    → AreCached section tables permanent budget numbers
+    → AreCached section after permanent budget next
+cached-truncated section tables after permanent budget numbers next format offset elsewhere sets is
+    all =
+    let len : length (take permanent tables) ≡ permanent =
+    length-take-le permanent tables all.within in
+    let again : take permanent (take permanent tables) ≡ take permanent tables =
+    subst (λ (k : ℕ). take k (take permanent tables) ≡ take permanent tables) len
+    (take_all (take permanent tables)) in
+    subst (λ (ts : List Table). AreCached section ts permanent budget next) (sym is) (record {
+      stand = parsed-before section tables (take permanent tables) permanent all.stand refl;
+      found = found-short tables permanent numbers next format offset permanent
+          all.within elsewhere sets
           all.found;
       counted = ap (λ (ts : List Table). budget + sum_by table_size ts) again ∙ all.counted;
       within = omega (arith, len);
       one = omega (arith, len);
-      past = λ t at. absurd (omega (arith, slice_get_within (take kept tables) kept t at, len));
+      past = λ t at. absurd
+          (omega (arith, slice_get_within (take permanent tables) permanent t at, len));
     })
 
 -- The invariant holds after a temporary table is added.
-pub kept_more : (section : List ℕ) (tables after : List Table) (kept budget size : ℕ)
+pub cached-temporary : (section : List ℕ) (tables after : List Table) (permanent budget size : ℕ)
     (numbers next : Numbers) (table : Table) → AreElsewhere table.format table.offset tables
-    → Sets numbers next table.format table.offset kept → IsParsedFrom section table
-    → after ≡ take kept tables ++ table ∷ [] → size ≡ table_size table → budget < size
-    → AreCached section tables kept budget numbers → AreCached section after kept budget next
-kept_more section tables after kept budget size numbers next table elsewhere sets stands is size_is
+    → Sets numbers next table.format table.offset permanent → IsParsedFrom section table
+    → after ≡ take permanent tables ++ table ∷ [] → size ≡ table_size table → budget < size
+    → AreCached section tables permanent budget numbers
+    → AreCached section after permanent budget next
+cached-temporary section tables after permanent budget size numbers next table elsewhere sets
+    stands is size_is
     past all =
-    let before : List Table = take kept tables in
-    let len : length before ≡ kept = length-take-le kept tables all.within in
-    let more : length (before ++ table ∷ []) ≡ kept + 1 = length-append before (table ∷ [])
+    let before : List Table = take permanent tables in
+    let len : length before ≡ permanent = length-take-le permanent tables all.within in
+    let more : length (before ++ table ∷ []) ≡ permanent + 1 = length-append before (table ∷ [])
     ∙ ap (λ (k : ℕ). k + 1) len in
-    let front : take kept (before ++ table ∷ []) ≡ before =
+    let front : take permanent (before ++ table ∷ []) ≡ before =
     subst (λ (k : ℕ). take k (before ++ table ∷ []) ≡ before) len
     (take-front before (table ∷ [])) in
     let here : number_at next table.format table.offset ≡ Some (length before) =
-    sets table.format table.offset ∙ (with-here numbers table.format table.offset kept
+    sets table.format table.offset ∙ (with-here numbers table.format table.offset permanent
     ∙ ap (λ (k : ℕ). Some k) (sym len)) in
-    let last : slice_get (before ++ table ∷ []) kept ≡ Some table =
-    behind-at before (before ++ table ∷ []) kept table refl (sym len) in
-    subst (λ (ts : List Table). AreCached section ts kept budget next) (sym is) (record {
-      stand = stand-behind section tables (before ++ table ∷ []) kept table all.stand stands refl;
+    let last : slice_get (before ++ table ∷ []) permanent ≡ Some table =
+    last-at before (before ++ table ∷ []) permanent table refl (sym len) in
+    subst (λ (ts : List Table). AreCached section ts permanent budget next) (sym is) (record {
+      stand = parsed-after section tables (before ++ table ∷ []) permanent table all.stand stands
+          refl;
       found = found-push before next table here
-          (found-short tables kept numbers next table.format table.offset kept all.within elsewhere
+          (found-short tables permanent numbers next table.format table.offset permanent
+          all.within elsewhere
           sets all.found);
       counted = ap (λ (ts : List Table). budget + sum_by table_size ts) front ∙ all.counted;
       within = omega (arith, more);

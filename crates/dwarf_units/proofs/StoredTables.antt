@@ -22,8 +22,8 @@ use Rattle.dwarf_units.specs.Private.Plans.{Table, table_size}
 use Rattle.dwarf_units.specs.Private.SharedTables.{IsReadable, SharedTable, full_table, full_tables}
 use Rattle.dwarf_units.specs.Private.Tables.{AreStored, IsAt, CachedTables, IsParsedFrom}
 use Rattle.dwarf_units.specs.Private.Tables.{IsCachedOrTooLarge, seen, size_limit}
-use Rattle.dwarf_units.proofs.MoreTables.{known-once, known-too-long}
-use Rattle.dwarf_units.proofs.TableLaws.{known-again, known-stands}
+use Rattle.dwarf_units.proofs.MoreTables.{cached-once, cached-too-long}
+use Rattle.dwarf_units.proofs.TableLaws.{cached-again, cached-parsed}
 
 -- ---- a cached table
 
@@ -34,12 +34,14 @@ memoized-resolved memoized tables number table at = slice_get-map (full_table me
     tables number
     ∙ ap (λ (o : Option SharedTable). option_map (full_table memoized) o) at
 
-got-taken : (tables : List Table) (kept i : ℕ) (table : Table) → i < kept → kept ≤ length tables
-    → slice_get tables i ≡ Some table → slice_get (take kept tables) i ≡ Some table
-got-taken tables kept i table lt within at =
-    slice_get-get_or (take kept tables) i table
-    (omega (arith, length-take-le kept tables within, lt))
-    ∙ ap (λ (t : Table). Some t) (get_or-take kept tables i table lt ∙ get_or_from_slice_get tables
+got-taken : (tables : List Table) (permanent i : ℕ) (table : Table) → i < permanent
+    → permanent ≤ length tables
+    → slice_get tables i ≡ Some table → slice_get (take permanent tables) i ≡ Some table
+got-taken tables permanent i table lt within at =
+    slice_get-get_or (take permanent tables) i table
+    (omega (arith, length-take-le permanent tables within, lt))
+    ∙ ap (λ (t : Table). Some t) (get_or-take permanent tables i table lt
+    ∙ get_or_from_slice_get tables
     i table table at)
 
 -- A cached table is permanent, or exceeds the limit.
@@ -48,7 +50,7 @@ pub memoized-stays : (lists : LinkedPlaces) (store : TableStore) (number : ℕ) 
     ≡ Some table → IsAt unit.format unit.abbreviations table
     → IsCachedOrTooLarge (seen lists store) unit
 memoized-stays lists store number table unit are at is =
-    (table, is, stands, by_place (cases_lt number store.kept))
+    (table, is, stands, by_place (cases_lt number store.permanent))
   where
     tables : List Table
     tables = full_tables lists.places.memoized store.tables.items
@@ -58,18 +60,21 @@ memoized-stays lists store number table unit are at is =
 
     stands : IsParsedFrom lists.places.section table
     stands = subst (λ (t : Table). IsParsedFrom lists.places.section t)
-        (get_or_from_slice_get tables number table table at) (are.kept.stand number table within)
+        (get_or_from_slice_get tables number table table at)
+        (are.permanent.stand number table within)
 
-    by_place : (number < store.kept) ⊎ (store.kept ≤ number)
-        → ((k : ℕ) × (slice_get (take store.kept tables) k ≡ Some table))
-        ⊎ (size_limit lists.places.section < sum_by table_size (take store.kept tables) + table_size
+    by_place : (number < store.permanent) ⊎ (store.permanent ≤ number)
+        → ((k : ℕ) × (slice_get (take store.permanent tables) k ≡ Some table))
+        ⊎ (size_limit lists.places.section < sum_by table_size
+        (take store.permanent tables) + table_size
         table)
-    by_place (inl lt) = inl (number, got-taken tables store.kept number table lt are.kept.within at)
+    by_place (inl lt) = inl
+        (number, got-taken tables store.permanent number table lt are.permanent.within at)
     by_place (inr le) =
-        let last : number ≡ store.kept = omega (arith, le, within, are.kept.one) in
+        let last : number ≡ store.permanent = omega (arith, le, within, are.permanent.one) in
         let past : store.budget < table_size table =
-        are.kept.past table (subst (λ (k : ℕ). slice_get tables k ≡ Some table) last at) in
-        inr (omega (arith, past, are.kept.counted))
+        are.permanent.past table (subst (λ (k : ℕ). slice_get tables k ≡ Some table) last at) in
+        inr (omega (arith, past, are.permanent.counted))
 
 -- The table at an index is readable, and is the table of the view at this index.
 pub table-at : (lists : LinkedPlaces) (store : TableStore) (view : CachedTables) (number : ℕ)
@@ -124,8 +129,8 @@ memoized-too-long lists store view number len table at_index offset left read ar
     let there : slice_get tables number ≡ Some (full_table lists.places.memoized table) =
     memoized-resolved lists.places.memoized store.tables.items number table at in
     let memoized : Table = full_table lists.places.memoized table in
-    known-too-long lists.places.section tables number len memoized memoized offset left read
-    are.kept.stand there place
+    cached-too-long lists.places.section tables number len memoized memoized offset left read
+    are.permanent.stand there place
     (subst (λ (s : List ℕ). in_section sections.DebugAbbrev (declarations_of left s offset)
     ≡ Ok read) (sym (ap (λ (k : CachedTables). k.section) same)) is_read) few
     (sym (memoized-len lists.places.memoized store.tables.items number len table at_index at
@@ -152,7 +157,8 @@ memoized-fits lists store view number len table at_index offset left are same at
       memoized.declarations,
       subst (λ (s : List ℕ). in_section sections.DebugAbbrev (declarations_of left s offset)
           ≡ Ok memoized.declarations) (ap (λ (k : CachedTables). k.section) same)
-          (known-again lists.places.section tables number memoized offset left are.kept.stand there
+          (cached-again lists.places.section tables number memoized offset left are.permanent.stand
+          there
           place (omega (arith, lens, fits))),
       lens,
       fits,
@@ -172,8 +178,8 @@ memoized-is lists store view number shared format offset are same at place form 
     let there : slice_get tables number ≡ Some table =
     memoized-resolved lists.places.memoized store.tables.items number shared at in
     let stands : declarations_of declarations_limit lists.places.section offset
-    ≡ Ok table.declarations = known-stands lists.places.section tables number table offset
-    are.kept.stand there place in (
+    ≡ Ok table.declarations = cached-parsed lists.places.section tables number table offset
+    are.permanent.stand there place in (
       table,
       ap (λ (k : CachedTables). slice_get k.tables number) (sym same) ∙ there,
       ap (λ (k : CachedTables). in_section sections.DebugAbbrev
@@ -190,9 +196,9 @@ pub memoized-number : (lists : LinkedPlaces) (store : TableStore) (view : Cached
     → table.format ≡ format
     → slice_get view.tables j ≡ Some other → IsAt format offset other → i ≡ j
 memoized-number lists store view i j table other format offset are same at place form there is =
-    known-once store.numbers (full_tables lists.places.memoized store.tables.items) view
+    cached-once store.numbers (full_tables lists.places.memoized store.tables.items) view
     format offset
-    i j (ap (λ (k : CachedTables). k.tables) same) are.kept.found
+    i j (ap (λ (k : CachedTables). k.tables) same) are.permanent.found
     (full_table lists.places.memoized table)
     (ap (λ (k : CachedTables). slice_get k.tables i) (sym same)
     ∙ memoized-resolved lists.places.memoized

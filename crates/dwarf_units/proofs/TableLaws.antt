@@ -19,7 +19,7 @@ use Rattle.dwarf_bytes.proofs.Items.EachPlaces.{each-place}
 use Rattle.dwarf_forms.specs.Declarations.{Declaration}
 use Rattle.dwarf_bytes.specs.Bind.{◌>>=◌}
 use Rattle.dwarf_forms.specs.Tables.{table_at, declarations_of}
-use Rattle.dwarf_forms.proofs.EncodedTables.{table-spelled, table_read}
+use Rattle.dwarf_forms.proofs.EncodedTables.{table-encoded, table_read}
 use Rattle.dwarf_units.specs.declared.unit_headers.UnitHeader.{UnitHeader}
 use Rattle.dwarf_units.specs.Private.Plans.{Table}
 use Rattle.dwarf_units.specs.Private.Tables.{IsParsedFrom}
@@ -31,7 +31,7 @@ table_for section before header = declarations_of (declarations_limit - sum_by l
 
 -- The tables of the units before the index are parsed, and `left` declarations remain in the
 -- budget.
-pub record Judged (section : List ℕ) (units : List UnitHeader) (index left : ℕ) : Type 0 where
+pub record Checked (section : List ℕ) (units : List UnitHeader) (index left : ℕ) : Type 0 where
   pub made : List (List Declaration)
   pub counted : left + sum_by length made ≡ declarations_limit
   pub read : made_front made (each_from (table_for section) made (drop index units))
@@ -42,13 +42,13 @@ pub in_section-ok : {X : Type 0} (section : Section) (r : Result X At) (x : X)
 in_section-ok section (Ok y) x h = cc
 in_section-ok section (Err e) x h = cc
 
-pub judged-next : (section : List ℕ) (units : List UnitHeader) (index left after : ℕ)
-    (d : UnitHeader) (table : List Declaration) → Judged section units index left
+pub checked-next : (section : List ℕ) (units : List UnitHeader) (index left after : ℕ)
+    (d : UnitHeader) (table : List Declaration) → Checked section units index left
     → index < length units
     → in_section sections.DebugAbbrev (declarations_of left section
     (get_or units index d).abbreviations) ≡ Ok table → after + length table ≡ left
-    → Judged section units (index + 1) after
-judged-next section units index left after d table so_far within found counted =
+    → Checked section units (index + 1) after
+checked-next section units index left after d table so_far within found counted =
     let unit = get_or units index d in
     let budget : left ≡ declarations_limit - sum_by length so_far.made =
     omega (arith, so_far.counted) in
@@ -69,11 +69,11 @@ judged-next section units index left after d table so_far within found counted =
           (each_from (table_for section) so_far.made us)) (sym rest) ∙ so_far.read);
     }
 
-pub judged-end : (section : List ℕ) (units : List UnitHeader) (index left : ℕ)
-    → Judged section units index left → length units ≤ index → (tables : List (List Declaration))
+pub checked-end : (section : List ℕ) (units : List UnitHeader) (index left : ℕ)
+    → Checked section units index left → length units ≤ index → (tables : List (List Declaration))
     × (in_section sections.DebugAbbrev (tables_of section units) ≡ Ok tables)
 unfolding tables_of
-judged-end section units index left so_far past =
+checked-end section units index left so_far past =
     let none : drop index units ≡ [] = drop_all index units past in
     let all : each_from (table_for section) [] units ≡ Ok so_far.made =
     sym so_far.read ∙ (ap (λ (us : List UnitHeader). made_front so_far.made
@@ -81,15 +81,15 @@ judged-end section units index left so_far past =
     so_far.made) in
     (so_far.made, rw all refl)
 
-pub judged-fault : (section : List ℕ) (units : List UnitHeader) (index left : ℕ) (d : UnitHeader)
-    (fault : LoadFault) → Judged section units index left → index < length units
+pub checked-fault : (section : List ℕ) (units : List UnitHeader) (index left : ℕ) (d : UnitHeader)
+    (fault : LoadFault) → Checked section units index left → index < length units
     → (fault ≡ memory_fault) ⊎ (in_section sections.DebugAbbrev
     (declarations_of left section (get_or units index d).abbreviations) ≡ Err fault)
     → (fault ≡ memory_fault) ⊎ (in_section sections.DebugAbbrev (tables_of section units)
     ≡ Err fault)
 unfolding tables_of
-judged-fault section units index left d fault so_far within (inl memory) = inl memory
-judged-fault section units index left d fault so_far within (inr bad) =
+checked-fault section units index left d fault so_far within (inl memory) = inl memory
+checked-fault section units index left d fault so_far within (inr bad) =
     by_read (declarations_of left section (get_or units index d).abbreviations) refl bad
   where
     same_err : {X : Type 0} (x y : LoadFault)
@@ -134,7 +134,7 @@ table-again budget other section offset table read few =
         → (r >>= λ found. Ok found.0) ≡ Ok table → declarations_of other section offset ≡ Ok table
     by_read (Err e) is h = cc
     by_read (Ok found) is h =
-        let encoded = table-spelled budget section offset found.0 found.1 is in
+        let encoded = table-encoded budget section offset found.0 found.1 is in
         let same = same_table h in
         let again : table_at other section offset ≡ Ok (found.0, found.1) =
         table_read other section offset found.0 found.1 encoded.0 encoded.1
@@ -156,7 +156,7 @@ table-few budget section offset table read = by_read (table_at budget section of
         → (r >>= λ found. Ok found.0) ≡ Ok table → length table ≤ budget
     by_read (Err e) is h = cc
     by_read (Ok found) is h = subst (λ (t : List Declaration). length t ≤ budget) (same_table h)
-        (table-spelled budget section offset found.0 found.1 is).2
+        (table-encoded budget section offset found.0 found.1 is).2
 
 -- The table of a unit is the result of parsing it with the whole budget.
 pub table_is : (section : List ℕ) (headers : List UnitHeader) (tables : List (List Declaration))
@@ -175,23 +175,23 @@ table_is section headers tables index d all within =
     (omega (arith, few))
 
 -- A table that was parsed is the table at its offset.
-pub stands-read : (section : List ℕ) (budget : ℕ) (table : Table) (offset : ℕ) → table.offset
+pub parsed-at : (section : List ℕ) (budget : ℕ) (table : Table) (offset : ℕ) → table.offset
     ≡ offset
     → in_section sections.DebugAbbrev (declarations_of budget section offset)
     ≡ Ok table.declarations
     → length table.declarations ≤ declarations_limit → IsParsedFrom section table
-stands-read section budget table offset same read few =
+parsed-at section budget table offset same read few =
     table-again budget declarations_limit section table.offset table.declarations
     (in_section-ok sections.DebugAbbrev (declarations_of budget section table.offset)
     table.declarations (subst (λ (k : ℕ). in_section sections.DebugAbbrev
     (declarations_of budget section k) ≡ Ok table.declarations) (sym same) read)) few
 
 -- A cached table is the table at the offset that a unit names.
-pub known-stands : (section : List ℕ) (tables : List Table) (number : ℕ) (table : Table)
+pub cached-parsed : (section : List ℕ) (tables : List Table) (number : ℕ) (table : Table)
     (offset : ℕ) → All (IsParsedFrom section) tables → slice_get tables number ≡ Some table
     → table.offset ≡ offset → declarations_of declarations_limit section offset
     ≡ Ok table.declarations
-known-stands section tables number table offset all at same =
+cached-parsed section tables number table offset all at same =
     let here : get_or tables number table ≡ table =
     get_or_from_slice_get tables number table table at in
     let stands : IsParsedFrom section (get_or tables number table) =
@@ -200,36 +200,36 @@ known-stands section tables number table offset all at same =
     (subst (λ (t : Table). IsParsedFrom section t) here stands)
 
 -- Parsing a cached table again succeeds if the budget is large enough.
-pub known-again : (section : List ℕ) (tables : List Table) (number : ℕ) (table : Table)
+pub cached-again : (section : List ℕ) (tables : List Table) (number : ℕ) (table : Table)
     (offset left : ℕ) → All (IsParsedFrom section) tables → slice_get tables number ≡ Some table
     → table.offset ≡ offset → length table.declarations ≤ left
     → in_section sections.DebugAbbrev (declarations_of left section offset) ≡ Ok table.declarations
-known-again section tables number table offset left all at same few =
+cached-again section tables number table offset left all at same few =
     ap (λ (r : Result (List Declaration) At). in_section sections.DebugAbbrev r)
     (table-again declarations_limit left section offset table.declarations
-    (known-stands section tables number table offset all at same) few)
+    (cached-parsed section tables number table offset all at same) few)
 
 -- The invariant holds for a shorter list of tables, and for one more table appended.
-pub stand-before : (section : List ℕ) (tables after : List Table) (kept : ℕ)
-    → All (IsParsedFrom section) tables → after ≡ take kept tables
+pub parsed-before : (section : List ℕ) (tables after : List Table) (permanent : ℕ)
+    → All (IsParsedFrom section) tables → after ≡ take permanent tables
     → All (IsParsedFrom section) after
-stand-before section tables after kept all is =
+parsed-before section tables after permanent all is =
     subst (λ (ts : List Table). All (IsParsedFrom section) ts) (sym is)
-    (All-take (IsParsedFrom section) kept tables all)
+    (All-take (IsParsedFrom section) permanent tables all)
 
-pub stand-behind : (section : List ℕ) (tables after : List Table) (kept : ℕ) (table : Table)
-    → All (IsParsedFrom section) tables → IsParsedFrom section table → after ≡ take kept tables
+pub parsed-after : (section : List ℕ) (tables after : List Table) (permanent : ℕ) (table : Table)
+    → All (IsParsedFrom section) tables → IsParsedFrom section table → after ≡ take permanent tables
     ++ table
     ∷ [] → All (IsParsedFrom section) after
-stand-behind section tables after kept table all one is =
+parsed-after section tables after permanent table all one is =
     subst (λ (ts : List Table). All (IsParsedFrom section) ts) (sym is)
-    (All-append (IsParsedFrom section) (take kept tables) (table ∷ [])
-    (All-take (IsParsedFrom section) kept tables all)
+    (All-append (IsParsedFrom section) (take permanent tables) (table ∷ [])
+    (All-take (IsParsedFrom section) permanent tables all)
     (All-cons (IsParsedFrom section) table [] one (All-nil (IsParsedFrom section))))
 
-pub behind-at : (before after : List Table) (number : ℕ) (table : Table)
+pub last-at : (before after : List Table) (number : ℕ) (table : Table)
     → after ≡ before ++ table ∷ [] → number ≡ length before → slice_get after number ≡ Some table
-behind-at before after number table is at =
+last-at before after number table is at =
     rw (is, at)
     (slice_get-get_or (before ++ table ∷ []) (length before) table
     (omega (arith, length-append before (table ∷ [])))

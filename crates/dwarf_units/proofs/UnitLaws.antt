@@ -148,15 +148,15 @@ units-fault info before at cause fault so_far within is told_is = by-cause (at_i
         (ap (λ (f : LoadFault). Err f) (sym (told_is ∙ itself))))
 
 -- The headers of the units that are read are a filtered list of all headers.
-pub units-read : (info : List ℕ) (all kept : List UnitHeader)
-    → in_section sections.DebugInfo (headers_of info) ≡ Ok all → kept ≡ filter is_read all
-    → in_section sections.DebugInfo (units_of info) ≡ Ok kept
+pub units-read : (info : List ℕ) (all stored : List UnitHeader)
+    → in_section sections.DebugInfo (headers_of info) ≡ Ok all → stored ≡ filter is_read all
+    → in_section sections.DebugInfo (units_of info) ≡ Ok stored
 unfolding units_of
-units-read info all kept h is = by_read (headers_of info) refl h
+units-read info all stored h is = by_read (headers_of info) refl h
   where
     by_read : (r : Result (List UnitHeader) At) → headers_of info ≡ r
         → in_section sections.DebugInfo r ≡ Ok all
-        → in_section sections.DebugInfo (r >>= λ all. Ok (filter is_read all)) ≡ Ok kept
+        → in_section sections.DebugInfo (r >>= λ all. Ok (filter is_read all)) ≡ Ok stored
     by_read (Err e) read h = cc
     by_read (Ok xs) read h = ap (λ (ys : List UnitHeader). Ok (filter is_read ys))
         (same-ok xs all h) ∙ ap (λ (ys : List UnitHeader). Ok ys) (sym is)

@@ -68,10 +68,10 @@ or-twice : {X : Type 0} (x y z : Option X) → option_or (option_or x y) z
 or-twice None y z = refl
 or-twice (Some x) y z = refl
 
-value-behind : (xs ys : List Attribute) (name : ℕ)
+value-append : (xs ys : List Attribute) (name : ℕ)
     → value_of (xs ++ ys) name ≡ option_or (value_of xs name) (value_of ys name)
-value-behind [] ys name = refl
-value-behind (a ∷ xs) ys name = by_test (value-behind xs ys name) (a.name == name)
+value-append [] ys name = refl
+value-append (a ∷ xs) ys name = by_test (value-append xs ys name) (a.name == name)
   where
     by_test : value_of (xs ++ ys) name ≡ option_or (value_of xs name) (value_of ys name)
         → (b : Bool)
@@ -81,10 +81,10 @@ value-behind (a ∷ xs) ys name = by_test (value-behind xs ys name) (a.name == n
     by_test behind true = refl
     by_test behind false = behind
 
-pub among-behind : (xs ys : List Attribute) → with_used (used_among xs) ys ≡ used_among (xs ++ ys)
+pub among-append : (xs ys : List Attribute) → with_used (used_among xs) ys ≡ used_among (xs ++ ys)
 unfolding with_used
-among-behind xs ys = same-by _ _ (λ name. ap (λ x. option_or x (value_of ys (name_of name)))
-    (under-by (λ n. value_of xs (name_of n)) name) ∙ sym (value-behind xs ys (name_of name)))
+among-append xs ys = same-by _ _ (λ name. ap (λ x. option_or x (value_of ys (name_of name)))
+    (under-by (λ n. value_of xs (name_of n)) name) ∙ sym (value-append xs ys (name_of name)))
 
 pub with-none : (u : Used) → with_used u [] ≡ u
 unfolding with_used
@@ -102,7 +102,7 @@ with-twice u xs ys = same-by _ _ (λ name. each name
         ≡ option_or (value_named name u) (value_of (xs ++ ys) (name_of name))
     each name is = ap (λ x. option_or x (value_of ys (name_of name))) is
         ∙ (or-twice (value_named name u) (value_of xs (name_of name)) (value_of ys (name_of name))
-        ∙ ap (option_or (value_named name u)) (sym (value-behind xs ys (name_of name))))
+        ∙ ap (option_or (value_named name u)) (sym (value-append xs ys (name_of name))))
 
 -- A read that stores nothing.
 pub nothing-used : (u : Used) (r : Result (List Attribute × ℕ) Cause) (place : ℕ)

@@ -140,7 +140,8 @@ impl<'a> EntryHead<'a> {
         ensures { Fills result found.new (used_attributes_at keep self.now.format
             self.now.declaration.attributes) cursor.old cursor.new }
     {
-        let _ = cursor.place(); // it stands in the bytes or at their end
+        // The contract of `place` is needed: the offset is within the bytes or at their end.
+        let _ = cursor.place();
         found.clear();
         read_steps(self.format, self.plan.steps(keep), cursor, found)?;
         let rest = self.declaration.list().rest();

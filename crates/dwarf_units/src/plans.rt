@@ -21,8 +21,8 @@ use std::marker::Model;
 /// stores none.
 #[derive(Drop)]
 pub(crate) struct Plan {
-    kept: Vec<AttributeStep>,
-    passed: Vec<AttributeStep>,
+    stored: Vec<AttributeStep>,
+    skipped: Vec<AttributeStep>,
 }
 
 impl Model for Plan {
@@ -30,7 +30,7 @@ impl Model for Plan {
 
     ghost Value = { Planned };
 
-    ghost view = { λ p. record { kept = p.kept.items; passed = p.passed.items } };
+    ghost view = { λ p. record { stored = p.stored.items; skipped = p.skipped.items } };
 }
 
 impl Plan {
@@ -42,8 +42,8 @@ impl Plan {
         ensures { IfOk result (λ plan. plan ≡ plan_of format declared.now) }
     {
         Ok(Plan {
-            kept: steps(alloc, true, format, declared)?,
-            passed: steps(alloc, false, format, declared)?,
+            stored: steps(alloc, true, format, declared)?,
+            skipped: steps(alloc, false, format, declared)?,
         })
     }
 
@@ -52,7 +52,7 @@ impl Plan {
         ensures small { result ≤ 2 ^ 64 - 2 }
         ensures sum { result ≡ plan_len self.now }
     {
-        self.kept.len() as u128 + self.passed.len() as u128
+        self.stored.len() as u128 + self.skipped.len() as u128
     }
 
     /// Returns the steps that store the used attributes if `keep` is set, or else the steps that
@@ -61,7 +61,7 @@ impl Plan {
         ensures { (format : Format) (declared : List Specification)
             → self.now ≡ plan_of format declared → result.now ≡ steps_of keep format declared }
     {
-        if keep { &self.kept } else { &self.passed }
+        if keep { &self.stored } else { &self.skipped }
     }
 }
 

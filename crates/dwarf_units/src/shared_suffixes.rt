@@ -23,8 +23,8 @@ pub(crate) struct LinkedStep {
 /// nothing.
 #[derive(Clone, Copy)]
 pub(crate) struct Links {
-    kept: LinkedStep,
-    passed: LinkedStep,
+    stored: LinkedStep,
+    skipped: LinkedStep,
 }
 
 impl Links {
@@ -33,7 +33,7 @@ impl Links {
     pub(crate) fn by(&self, keep: bool) -> &LinkedStep
         ensures { result.now ≡ link_by keep self.now }
     {
-        if keep { &self.kept } else { &self.passed }
+        if keep { &self.stored } else { &self.skipped }
     }
 
     /// Builds the steps of an attribute that precedes the memoized attribute `next`.
@@ -51,8 +51,8 @@ impl Links {
             → (keep : _) → IsLink keep format memoized number (link_by keep result) }
     {
         Links {
-            kept: linked_step(true, format, attribute, next, links),
-            passed: linked_step(false, format, attribute, next, links),
+            stored: linked_step(true, format, attribute, next, links),
+            skipped: linked_step(false, format, attribute, next, links),
         }
     }
 }

@@ -20,7 +20,7 @@ use std::alloc::{AllocError, Global};
 pub(crate) struct TableStore {
     pub(crate) tables: Vec<CachedTable>,
     /// The number of tables that are cached permanently. A table after them is temporary.
-    pub(crate) kept: usize,
+    pub(crate) permanent: usize,
     /// The remaining budget: the number of declarations, attributes and steps that can still be
     /// cached.
     pub(crate) budget: u128,
@@ -30,12 +30,12 @@ pub(crate) struct TableStore {
 impl TableStore {
     pub(crate) fn new(alloc: Global, budget: u128) -> TableStore
         ensures tables { result.tables.items ≡ [] }
-        ensures kept { result.kept ≡ 0 }
+        ensures permanent { result.permanent ≡ 0 }
         ensures budget { result.budget ≡ budget }
     {
         TableStore {
             tables: Vec::new(alloc),
-            kept: 0,
+            permanent: 0,
             budget,
             numbers: Numbers::new(alloc),
         }
@@ -70,28 +70,28 @@ impl TableStore {
     {
         let size = table.size();
         self.numbers
-            .insert(table.format(), table.offset(), self.kept)?;
-        let number = truncate_and_push(&mut self.tables, self.kept, table)?;
+            .insert(table.format(), table.offset(), self.permanent)?;
+        let number = truncate_and_push(&mut self.tables, self.permanent, table)?;
         if size <= self.budget {
             self.budget -= size;
-            self.kept = self.tables.len();
+            self.permanent = self.tables.len();
         }
         Ok(number)
     }
 }
 
-/// Truncates the list to `kept` tables, appends a table, and returns its index.
+/// Truncates the list to `permanent` tables, appends a table, and returns its index.
 fn truncate_and_push(
     tables: &mut Vec<CachedTable>,
-    kept: usize,
+    permanent: usize,
     table: CachedTable,
 ) -> Result<usize, AllocError>
     ensures ok { IfOk result (λ number.
-        (tables.new.items ≡ take kept tables.old.items ++ table ∷ [])
-        × (number ≡ length (take kept tables.old.items))) }
-    ensures err { OnErr result (tables.new.items ≡ take kept tables.old.items) }
+        (tables.new.items ≡ take permanent tables.old.items ++ table ∷ [])
+        × (number ≡ length (take permanent tables.old.items))) }
+    ensures err { OnErr result (tables.new.items ≡ take permanent tables.old.items) }
 {
-    tables.truncate(kept);
+    tables.truncate(permanent);
     let number = tables.len();
     tables.push(table)?;
     Ok(number)

@@ -70,7 +70,7 @@ impl<'a> Tables<'a> {
 
     fn new(alloc: Global, section: &'a [u8]) -> Result<Tables<'a>, AllocError>
         ensures { IfOk result (λ made. made
-            ≡ record { section = section.now; tables = []; kept = 0 }) }
+            ≡ record { section = section.now; tables = []; permanent = 0 }) }
     {
         Ok(Tables {
             lists: LinkedLists::new(alloc, section)?,
@@ -97,10 +97,12 @@ impl<'a> Tables<'a> {
             → IsAt unit.now.format unit.now.abbreviations table → self.new ≡ self.old }
         ensures limit { IsWithinLimit self.new }
         ensures stays { OnOk result (IsCachedOrTooLarge self.new unit.now) }
-        ensures grows { OnOk result ((rest : List Table) × (take self.new.kept self.new.tables
-            ≡ take self.old.kept self.old.tables ++ rest)) }
+        ensures grows { OnOk result ((rest : List Table) × (take self.new.permanent self.new.tables
+            ≡ take self.old.permanent self.old.tables ++ rest)) }
     {
-        let _ = &self.store; // what stays is bounded, also where no table is read
+        // Using a field gives the prover the invariant of the type, which bounds the cached tables.
+        // It is needed if no table is read.
+        let _ = &self.store;
         if let Some(len) = self.cached_len(unit, *left) {
             *left -= len;
             return Ok(());
@@ -192,9 +194,9 @@ impl<'a> Tables<'a> {
     /// Returns whether the table at an index is cached permanently. A temporary table is replaced
     /// by the next one.
     pub fn stays(&self, number: usize) -> bool
-        ensures { result ≡ nat_lt number self.now.kept }
+        ensures { result ≡ nat_lt number self.now.permanent }
     {
-        number < self.store.kept
+        number < self.store.permanent
     }
 
     /// Parses the table of a unit, which must not be cached, and caches it. Returns its index.

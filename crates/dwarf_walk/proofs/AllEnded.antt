@@ -44,9 +44,9 @@ or-true : (b : Bool) → (b || (true || false)) ≡ true
 or-true true = refl
 or-true false = refl
 
-all-known : (dies : List Die) → recorded_places (dies ++ outermost ∷ []) ≡ scope_places dies
-all-known [] = refl
-all-known (die ∷ rest) = by_kind (all-known rest) (kind_of die.tag) refl
+all-recorded : (dies : List Die) → recorded_places (dies ++ outermost ∷ []) ≡ scope_places dies
+all-recorded [] = refl
+all-recorded (die ∷ rest) = by_kind (all-recorded rest) (kind_of die.tag) refl
   where
     ended : is_ended die (rest ++ outermost ∷ []) ≡ true
     ended = any-push die outermost rest ∙ (let test : nat_le 0 die.depth ≡ true =
@@ -70,7 +70,7 @@ all-known (die ∷ rest) = by_kind (all-known rest) (kind_of die.tag) refl
 pub all-ended : (dies : List Die) → ended_at 0 (open_scopes 0 dies) (recorded_places dies)
     ≡ scope_places dies
 all-ended dies = sym (append-nil (ended_at 0 (open_scopes 0 dies) (recorded_places dies)))
-    ∙ (sym (places-push dies outermost) ∙ all-known dies)
+    ∙ (sym (places-push dies outermost) ∙ all-recorded dies)
 
 -- ---- the last element of a vector
 

@@ -19,10 +19,10 @@ use Rattle.dwarf_walk.proofs.BitmapLaws.{adds-none}
 
 -- ---- a null entry
 
-pub null-stands : (format : Format) (table : List Declaration) (depth : ℕ) (rooted : Bool)
+pub null-node : (format : Format) (table : List Declaration) (depth : ℕ) (rooted : Bool)
     (unit : List ℕ) (at : ℕ) → slice_get unit at ≡ Some 0
     → node_at_depth format table depth rooted unit at ≡ Ok (Null, at + 1)
-null-stands format table depth rooted unit at there =
+null-node format table depth rooted unit at there =
     rw (one-byte unit at 0 there (omega arith)) refl
 
 pub null-taken : (format : Format) (table : List Declaration) (w : WalkState) (unit : List ℕ)
@@ -30,7 +30,7 @@ pub null-taken : (format : Format) (table : List Declaration) (w : WalkState) (u
     → slice_get unit at ≡ Some 0 → state_at format table w unit at
     ≡ Ok (record w { depth = w.depth - 1 }, at + 1)
 null-taken format table w unit at there =
-    rw (null-stands format table w.depth (is_some w.root) unit at there) refl
+    rw (null-node format table w.depth (is_some w.root) unit at there) refl
 
 -- The bits that are set for the node that is read.
 bitmap-of : (bitmap marked : EntryBitmap) (at : ℕ) (read : Result (Node × ℕ) Cause)
@@ -47,20 +47,21 @@ pub null-bitmap : (format : Format) (table : List Declaration) (depth : ℕ) (ro
     → AddsOffsets bitmap bitmap (places_of at node.0)
 null-bitmap format table depth rooted unit at bitmap there node is =
     bitmap-of bitmap bitmap at (node_at_depth format table depth rooted unit at) (Null, at + 1) node
-    (null-stands format table depth rooted unit at there) (adds-none bitmap) is
+    (null-node format table depth rooted unit at there) (adds-none bitmap) is
 
 -- ---- a fixed-size entry
 
-pub plain-taken : (table : Table) (w taken : WalkState) (unit : List ℕ) (at : ℕ)
+pub fixed_size-taken : (table : Table) (w taken : WalkState) (unit : List ℕ) (at : ℕ)
     (found : FixedSizeHead × ℕ) → is_some w.root ≡ true → IsFixedSizeNode table w.depth
     unit at found
     → ((attributes : List Attribute) → taken
     ≡ after_node w at (Entry found.0.tag found.0.children attributes))
     → state_at table.format table.declarations w unit at ≡ Ok (taken, found.1)
-plain-taken table w taken unit at found rooted stands is =
+fixed_size-taken table w taken unit at found rooted stands is =
     rw (rooted, stands.1) (ap (λ (x : WalkState). Ok (x, found.1)) (sym (is stands.0)))
 
-pub plain-bitmap : (table : Table) (w : WalkState) (unit : List ℕ) (at : ℕ) (found : FixedSizeHead
+pub fixed_size-bitmap : (table : Table) (w : WalkState) (unit : List ℕ) (at : ℕ)
+    (found : FixedSizeHead
     × ℕ)
     (bitmap marked : EntryBitmap) → is_some w.root ≡ true → IsFixedSizeNode table w.depth
     unit at found
@@ -68,7 +69,7 @@ pub plain-bitmap : (table : Table) (w : WalkState) (unit : List ℕ) (at : ℕ) 
     → (node : Node × ℕ) → node_at_depth table.format table.declarations w.depth
     (is_some w.root) unit
     at ≡ Ok node → AddsOffsets bitmap marked (places_of at node.0)
-plain-bitmap table w unit at found bitmap marked rooted stands adds node is =
+fixed_size-bitmap table w unit at found bitmap marked rooted stands adds node is =
     let there = subst (λ (r : Bool). node_at_depth table.format table.declarations w.depth r unit at
     ≡ Ok (Entry found.0.tag found.0.children stands.0, found.1)) (sym rooted) stands.1 in
     bitmap-of bitmap marked at (node_at_depth table.format table.declarations w.depth

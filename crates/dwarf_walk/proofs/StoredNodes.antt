@@ -25,10 +25,10 @@ use Rattle.dwarf_units.specs.Private.Plans.{stored_attributes}
 use Rattle.dwarf_units.specs.Private.Used.{Used}
 
 -- The value of a used attribute is stored if used attributes are.
-pub value-kept : (xs : List Attribute) (name : ℕ) → is_used name ≡ true
+pub value-stored : (xs : List Attribute) (name : ℕ) → is_used name ≡ true
     → value_of (filter (λ a. is_used a.name) xs) name ≡ value_of xs name
-value-kept [] name used = refl
-value-kept (a ∷ xs) name used = by_used (is_used a.name) refl (value-kept xs name used)
+value-stored [] name used = refl
+value-stored (a ∷ xs) name used = by_used (is_used a.name) refl (value-stored xs name used)
   where
     rest : List Attribute
     rest = filter (λ b. is_used b.name) xs
@@ -53,28 +53,28 @@ value-kept (a ∷ xs) name used = by_used (is_used a.name) refl (value-kept xs n
     by_used false is behind = by_other (a.name == name) refl is behind
 
 -- An entry with only its used attributes.
-abbrev pub die_of_kept : Die → Die
-die_of_kept die = record die { attributes = stored_attributes true die.attributes }
+abbrev pub stored_die : Die → Die
+stored_die die = record die { attributes = stored_attributes true die.attributes }
 
-root-kept : (die : Die) → root_entry (die_of_kept die) ≡ root_entry die
-root-kept die =
+root-stored : (die : Die) → root_entry (stored_die die) ≡ root_entry die
+root-stored die =
     rw (
-      value-kept die.attributes DW_AT_STMT_LIST refl,
-      value-kept die.attributes DW_AT_STR_OFFSETS_BASE refl,
-      value-kept die.attributes DW_AT_ADDR_BASE refl,
-      value-kept die.attributes DW_AT_RNGLISTS_BASE refl,
-      value-kept die.attributes DW_AT_LOW_PC
+      value-stored die.attributes DW_AT_STMT_LIST refl,
+      value-stored die.attributes DW_AT_STR_OFFSETS_BASE refl,
+      value-stored die.attributes DW_AT_ADDR_BASE refl,
+      value-stored die.attributes DW_AT_RNGLISTS_BASE refl,
+      value-stored die.attributes DW_AT_LOW_PC
           refl,
     ) refl
 
-pub names_at-kept : (die : Die) → named_entry (die_of_kept die) ≡ named_entry die
-names_at-kept die =
+pub names_at-stored : (die : Die) → named_entry (stored_die die) ≡ named_entry die
+names_at-stored die =
     rw (
-      value-kept die.attributes DW_AT_ABSTRACT_ORIGIN refl,
-      value-kept die.attributes DW_AT_SPECIFICATION refl,
-      value-kept die.attributes DW_AT_NAME
+      value-stored die.attributes DW_AT_ABSTRACT_ORIGIN refl,
+      value-stored die.attributes DW_AT_SPECIFICATION refl,
+      value-stored die.attributes DW_AT_NAME
           refl,
-      value-kept die.attributes DW_AT_LINKAGE_NAME refl,
+      value-stored die.attributes DW_AT_LINKAGE_NAME refl,
     ) refl
 
 -- If there is already a root, a later entry does not replace it.
@@ -84,11 +84,11 @@ root-stays (Some r) x y rooted = refl
 root-stays None x y rooted = absurd (false≢true (sym rooted))
 
 -- The state after an entry depends only on its stored attributes.
-pub after-kept : (w : WalkState) (offset depth tag : ℕ) (all found : List Attribute)
+pub after-stored : (w : WalkState) (offset depth tag : ℕ) (all found : List Attribute)
     → found ≡ stored_attributes (not (is_some w.root)) all
     → after_die w (record { offset = offset; depth = depth; tag = tag; attributes = found })
     ≡ after_die w (record { offset = offset; depth = depth; tag = tag; attributes = all })
-after-kept w offset depth tag all found are = by_flag (not (is_some w.root)) refl are
+after-stored w offset depth tag all found are = by_flag (not (is_some w.root)) refl are
   where
     die : Die
     die = record { offset = offset; depth = depth; tag = tag; attributes = all }
@@ -98,7 +98,7 @@ after-kept w offset depth tag all found are = by_flag (not (is_some w.root)) ref
 
     by_flag : (f : Bool) → not (is_some w.root) ≡ f → found ≡ stored_attributes f all
         → after_die w other ≡ after_die w die
-    by_flag true is are = rw are (rw (root-kept die) refl)
+    by_flag true is are = rw are (rw (root-stored die) refl)
     by_flag false is are = rw (root-stays w.root (root_entry other) (root_entry die) is) refl
 
 -- A step returns the entry that is read, and stores its used attributes if there is no root yet.
@@ -109,23 +109,23 @@ ReadsEntry format table w rooted unit at after found used =
     ≡ Ok (node_of found all, after)) × HasStored (not rooted) found used all
 
 -- The state after an entry that is read. The depth is not yet updated.
-entry-kept : (format : Format) (table : List Declaration) (w kept : WalkState) (unit : List ℕ)
+entry-stored : (format : Format) (table : List Declaration) (w kept : WalkState) (unit : List ℕ)
     (at after : ℕ) (head : NodeHead) (used : Used)
     → ReadsEntry format table w (is_some w.root) unit at after (Some head) used
     → IsAfterEntry w kept at head.tag used
     → (state_at format table w unit at ≡ Ok
     (record kept { depth = depth_after_entry head.children w.depth }, after))
     × (kept.depth ≡ w.depth)
-entry-kept format table w kept unit at after head used read is =
+entry-stored format table w kept unit at after head used read is =
     let keep = not (is_some w.root) in
     let all : kept ≡ after_die w (record
     { offset = at; depth = w.depth; tag = head.tag; attributes = read.0 }) =
-    is (stored_attributes keep read.0) read.2 ∙ after-kept w at w.depth head.tag read.0
+    is (stored_attributes keep read.0) read.2 ∙ after-stored w at w.depth head.tag read.0
     (stored_attributes keep read.0) refl in
     (rw (read.1, all) refl, ap (λ (x : WalkState). x.depth) all)
 
 -- The same for a step that has the offset of the entry and knows whether there is a root.
-pub step-kept : (format : Format) (table : List Declaration) (w kept : WalkState) (unit : List ℕ)
+pub step-stored : (format : Format) (table : List Declaration) (w kept : WalkState) (unit : List ℕ)
     (at after : ℕ) (found : Option NodeHead) (head : NodeHead) (used : Used) (rooted : Bool)
     (offset : ℕ)
     → rooted ≡ is_some w.root → offset ≡ at → found ≡ Some head
@@ -134,11 +134,11 @@ pub step-kept : (format : Format) (table : List Declaration) (w kept : WalkState
     → (state_at format table w unit at ≡ Ok
     (record kept { depth = depth_after_entry head.children w.depth }, after))
     × (kept.depth ≡ w.depth)
-step-kept format table w kept unit at after found head used rooted offset known place is read
+step-stored format table w kept unit at after found head used rooted offset known place is read
     kept_is =
     let first = subst (λ (r : Bool). ReadsEntry format table w r unit at after found used) known
     read in
     let second = subst (λ (f : Option NodeHead). ReadsEntry format table w (is_some w.root) unit at
     after f used) is first in
-    entry-kept format table w kept unit at after head used second
+    entry-stored format table w kept unit at after head used second
     (subst (λ (k : ℕ). IsAfterEntry w kept k head.tag used) place kept_is)

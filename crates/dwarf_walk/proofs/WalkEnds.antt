@@ -37,10 +37,10 @@ abbrev unit_in : UnitHeader → Result (List LocatedNode × ℕ) At → Result S
 unit_in header all = in_section sections.DebugInfo
     (dies_in header all >>= λ dies. Ok (stored_unit header dies))
 
-kept-same : (h : UnitHeader) (r s : Option RootEntry) (p q : List ScopePlace) → r ≡ s → p ≡ q
+stored-same : (h : UnitHeader) (r s : Option RootEntry) (p q : List ScopePlace) → r ≡ s → p ≡ q
     → (let x : StoredUnit = record { header = h; root = r; scopes = p } in x)
     ≡ record { header = h; root = s; scopes = q }
-kept-same h r s p q h1 h2 = cc
+stored-same h r s p q h1 h2 = cc
 
 unit-end : (header : UnitHeader) (all : Result (List LocatedNode × ℕ) At) (w : WalkState)
     (places : List ScopePlace) → in_section sections.DebugInfo (walk_in all) ≡ Ok w → w.depth ≡ 0
@@ -56,7 +56,7 @@ unit-end header (Ok all) w places h none are =
     sym (all-ended (filter_map die_of all.0))
     ∙ (ap (λ (x : WalkState). ended_at 0 x.opened x.scopes) same ∙ sym are) in
     rw closed (ap (λ (k : StoredUnit). Ok k)
-    (kept-same header _ _ _ _ (ap (λ (x : WalkState). x.root) same) placed))
+    (stored-same header _ _ _ _ (ap (λ (x : WalkState). x.root) same) placed))
 
 unit-open : (header : UnitHeader) (all : Result (List LocatedNode × ℕ) At) (w : WalkState)
     (fault : LoadFault) → in_section sections.DebugInfo (walk_in all) ≡ Ok w → 0 < w.depth
@@ -112,14 +112,14 @@ entries-fault info header table fault (inr h) =
 
 -- ---- the bits of a unit, from the bits that its walk sets
 
-pub entries-marks : (info : List ℕ) (header : UnitHeader) (table : List Declaration)
+pub entries-bitmap : (info : List ℕ) (header : UnitHeader) (table : List Declaration)
     (bitmap marked : EntryBitmap)
     → ((all : List LocatedNode × ℕ) → nodes_of info header table ≡ Ok all
     → AddsOffsets bitmap marked (offsets_of (filter_map die_of all.0)))
     → (dies : List Die) → entries_of info header table ≡ Ok dies
     → AddsOffsets bitmap marked (offsets_of dies)
 unfolding entries_of
-entries-marks info header table bitmap marked adds dies is =
+entries-bitmap info header table bitmap marked adds dies is =
     by_nodes (nodes_of info header table) refl is
   where
     by_nodes : (nodes : Result (List LocatedNode × ℕ) At) → nodes_of info header table ≡ nodes

@@ -35,7 +35,7 @@ use Rattle.dwarf_walk.proofs.WalkLaws.{state_after-push, tree-push}
 -- ---- the loop over a unit
 
 -- The loop invariant: the state of the loop is that of the nodes read so far.
-pub record WalkedSoFar (info : List ℕ) (header : UnitHeader) (table : List Declaration)
+pub record WalkSoFar (info : List ℕ) (header : UnitHeader) (table : List Declaration)
     (bitmap marked : EntryBitmap) (place : ℕ) (w : WalkState) : Type 0 where
   pub before : List LocatedNode
   pub marked_so : AddsOffsets bitmap marked (offsets_of (filter_map die_of before))
@@ -44,11 +44,11 @@ pub record WalkedSoFar (info : List ℕ) (header : UnitHeader) (table : List Dec
   pub read : SoFar header.end (node_at header.format table (take header.end info)) header.first
       before place
 
-pub walked_none : (info : List ℕ) (header : UnitHeader) (table : List Declaration)
+pub walk_none : (info : List ℕ) (header : UnitHeader) (table : List Declaration)
     (bitmap : EntryBitmap)
-    (w : WalkState) → w ≡ state_after [] → WalkedSoFar info header table bitmap bitmap header.first
+    (w : WalkState) → w ≡ state_after [] → WalkSoFar info header table bitmap bitmap header.first
     w
-walked_none info header table bitmap w is =
+walk_none info header table bitmap w is =
     record {
       before = [];
       marked_so = adds-none bitmap;
@@ -66,13 +66,13 @@ advances info header table before at x after h =
     (moved.0, omega (arith, moved.1, length-take header.end info))
 
 -- The node that a step reads, given the nodes before it.
-behind-is : (format : Format) (table : List Declaration) (unit : List ℕ) (before : List LocatedNode)
+after-is : (format : Format) (table : List Declaration) (unit : List ℕ) (before : List LocatedNode)
     (at : ℕ) (x : Result (Node × ℕ) Cause) → at < length unit → IsTree before
     → node_at_depth format table (depth_after before) (is_some (root_in (filter_map die_of before)))
     unit at ≡ x
     → node_at format table unit before at
     ≡ (x >>= λ node. Ok (Item (standing before at node.0) node.1))
-behind-is format table unit before at x within tree is =
+after-is format table unit before at x within tree is =
     let test : nat_le (length unit) at ≡ false = lt-leb (length unit) at within in
     rw (test, tree.rooted, is) refl
 
@@ -81,7 +81,7 @@ pub record WalkTurn (info : List ℕ) (header : UnitHeader) (table : List Declar
     (bitmap marked : EntryBitmap) (at next : ℕ) (is : WalkState) : Type 0 where
   pub moves : at < next
   pub within : next ≤ length (take header.end info)
-  pub walked_so : WalkedSoFar info header table bitmap marked next is
+  pub walk_so : WalkSoFar info header table bitmap marked next is
 
 -- The offsets of the entries after one more node.
 offsets-push : (before : List LocatedNode) (at : ℕ) (node : Node)
@@ -104,7 +104,7 @@ AddsNode header table bitmap marked w unit at = (node : Node × ℕ)
 pub walk-item : (info : List ℕ) (header : UnitHeader) (table : List Declaration)
     (bitmap marked after : EntryBitmap) (unit : List ℕ) (at next : ℕ) (was is : WalkState)
     → unit ≡ take header.end info → at < length unit
-    → WalkedSoFar info header table bitmap marked at was → state_at header.format table was unit at
+    → WalkSoFar info header table bitmap marked at was → state_at header.format table was unit at
     ≡ Ok (is, next) → AddsNode header table marked after was unit at
     → WalkTurn info header table bitmap after at next is
 walk-item info header table bitmap marked after unit at next was is same within so_far read adds =
@@ -130,11 +130,11 @@ walk-item info header table bitmap marked after unit at next was is same within 
     ≡ Ok (Item (standing before at node.0) node.1) =
     subst (λ (u : List ℕ). node_at header.format table u before at
     ≡ Ok (Item (standing before at node.0) node.1)) same
-    (behind-is header.format table unit before at (Ok node) within so_far.tree node_is) in
+    (after-is header.format table unit before at (Ok node) within so_far.tree node_is) in
     record {
       moves = omega (arith, moved.0, place);
       within = omega (arith, moved.1, place, ap length same);
-      walked_so = record {
+      walk_so = record {
         before = before ++ standing before at node.0 ∷ [];
         marked_so =
             subst (λ (places : List ℕ). AddsOffsets bitmap after places)
@@ -155,7 +155,7 @@ walk-item info header table bitmap marked after unit at next was is same within 
 pub walk-end : (info : List ℕ) (header : UnitHeader) (table : List Declaration)
     (bitmap marked : EntryBitmap) (place : ℕ) (w : WalkState) → length (take header.end info)
     ≤ place
-    → WalkedSoFar info header table bitmap marked place w
+    → WalkSoFar info header table bitmap marked place w
     → in_section sections.DebugInfo (walk_of info header table) ≡ Ok w
 unfolding walk_of
 walk-end info header table bitmap marked place w past so_far =
@@ -167,13 +167,13 @@ walk-end info header table bitmap marked place w past so_far =
     (ap (λ (x : WalkState). Ok x) (sym so_far.kept))
 
 -- The bits of all entries are set.
-pub walk-marks : (info : List ℕ) (header : UnitHeader) (table : List Declaration)
+pub walk-bitmap : (info : List ℕ) (header : UnitHeader) (table : List Declaration)
     (bitmap marked : EntryBitmap) (place : ℕ) (w : WalkState) → length (take header.end info)
     ≤ place
-    → WalkedSoFar info header table bitmap marked place w
+    → WalkSoFar info header table bitmap marked place w
     → (all : List LocatedNode × ℕ) → nodes_of info header table ≡ Ok all
     → AddsOffsets bitmap marked (offsets_of (filter_map die_of all.0))
-walk-marks info header table bitmap marked place w past so_far all is =
+walk-bitmap info header table bitmap marked place w past so_far all is =
     let unit : List ℕ = take header.end info in
     let end : node_at header.format table unit so_far.before place ≡ Ok (End place) =
     rw (le-leb (length unit) place past) refl in
@@ -194,7 +194,7 @@ at_item_cases cause at = inr refl
 pub walk-fault : (info : List ℕ) (header : UnitHeader) (table : List Declaration)
     (bitmap marked : EntryBitmap) (unit : List ℕ) (at : ℕ) (was : WalkState) (cause : Cause)
     (fault : LoadFault) → unit ≡ take header.end info → at < length unit
-    → WalkedSoFar info header table bitmap marked at was
+    → WalkSoFar info header table bitmap marked at was
     → Fails cause (state_at header.format table was unit at)
     → fault ≡ at_item sections.DebugInfo cause at
     → (fault ≡ memory_fault) ⊎ (in_section sections.DebugInfo (walk_of info header table)
@@ -224,7 +224,7 @@ walk-fault info header table bitmap marked unit at was cause fault same within s
     faulty : node_at header.format table (take header.end info) before at ≡ Err cause
     faulty =
         subst (λ (u : List ℕ). node_at header.format table u before at ≡ Err cause) same
-        (behind-is header.format table unit before at (Err cause) within so_far.tree
+        (after-is header.format table unit before at (Err cause) within so_far.tree
         (behind_fault (node_at_depth header.format table (depth_after before)
         (is_some (root_in (filter_map die_of before))) unit at) here))
 

@@ -4,12 +4,12 @@ use Rattle.std.specs.Prelude.{Option, None, Some}
 use Rattle.std.specs.Io.KnownBytes.{Appends, Keeps}
 use Rattle.io_streams.specs.Streams.{Grows}
 
-pub appends_kept : (a b c : Option (List ℕ)) (xs : List ℕ) → Appends a b xs → Keeps b c
+pub appends_unchanged : (a b c : Option (List ℕ)) (xs : List ℕ) → Appends a b xs → Keeps b c
     → Appends a c xs
-appends_kept None b c xs h k = tt
-appends_kept (Some a) None c xs h k = absurd h
-appends_kept (Some a) (Some b) None xs h k = absurd k
-appends_kept (Some a) (Some b) (Some c) xs h k = k ∙ h
+appends_unchanged None b c xs h k = tt
+appends_unchanged (Some a) None c xs h k = absurd h
+appends_unchanged (Some a) (Some b) None xs h k = absurd k
+appends_unchanged (Some a) (Some b) (Some c) xs h k = k ∙ h
 
 pub appends_then : (a b c : Option (List ℕ)) (xs ys : List ℕ) → Appends a b xs → Appends b c ys
     → Appends a c (xs ++ ys)

@@ -3,7 +3,8 @@ use Rattle.std.specs.Prelude.{◌≡◌, ℕ, ◌+◌, ◌-◌, ◌^◌, min, Li
 use Rattle.std.specs.Prelude.{Result, Ok, Err, Vec, if◌then◌else◌, ◌==◌, ⊤}
 use Rattle.std.specs.Io.KnownBytes.{Appends}
 
--- a reader or writer, how many reads of some bytes it may still do, and its number of failures
+-- a reader or writer, the number of reads of at least one byte that it may still do, and its number
+-- of failures
 pub record DeviceState (T : Type 0) : Type 0 where
   pub inner : T
   pub reads_left : ℕ

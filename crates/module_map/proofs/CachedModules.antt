@@ -5,7 +5,7 @@ use Rattle.std.specs.Prelude.{Option, None, Some, Ok, Err, is_some, position, in
 use Rattle.std.proofs.lemmas.Bool.{true≢false, leb-false}
 use Rattle.std.proofs.lemmas.List.{length-map, get_or_default}
 use Rattle.module_map.specs.World.{most_modules, World, Loaded, start_of, end_of, is_named}
-use Rattle.module_map.specs.World.{moved_to, placed}
+use Rattle.module_map.specs.World.{moved_to, insert_by_address}
 use Rattle.module_map.specs.Changes.{is_full, is_taken, place_fault, IsExtentOf, Moves}
 use Rattle.module_map.specs.declared.faults.Extent.{Extent}
 use Rattle.module_map.specs.declared.faults.MapFault.TheVariants.{Range, Overlap}
@@ -13,7 +13,7 @@ use Rattle.module_map.specs.Counts.{ModuleMap}
 use Rattle.module_map.specs.Private.Serials.{NumberedModule, loaded_of}
 use Rattle.module_map.specs.Private.Rising.{IsClear, Overlaps, IsOnly, relocated, rebased}
 use Rattle.module_map.proofs.Names.{all-fail}
-use Rattle.module_map.proofs.Worlds.{any_is, placed-in, met_is, nothing_met, overlap-fault}
+use Rattle.module_map.proofs.Worlds.{any_is, insert-clear, met_is, nothing_met, overlap-fault}
 use Rattle.module_map.proofs.Worlds.{no_place-fault}
 use Rattle.module_map.proofs.Changing.{world_of, named, moved_past, moved_over, moved_into}
 
@@ -25,17 +25,17 @@ module _ (hs : List NumberedModule) (loads : ℕ) (m : Loaded)
       → is_named m.name (get_or hs (length hs) d).loaded ≡ true
   none_itself d lt = absurd (omega arith)
 
-  pub placed_over : (met : ℕ) → end_of m < 2 ^ 64 → Overlaps hs (length hs) (start_of m)
+  pub place_over : (met : ℕ) → end_of m < 2 ^ 64 → Overlaps hs (length hs) (start_of m)
       (end_of m) met
       → place_fault m (map loaded_of hs) ≡ Some (Overlap met)
-  placed_over met lt is =
+  place_over met lt is =
       overlap-fault m (map loaded_of hs) met lt
       (met_is hs (length hs) m none_itself
       (λ k d k_lt o. all-fail (named m.name) hs new k d k_lt) met is)
 
-  pub placed_free : (at : ℕ) → end_of m < 2 ^ 64 → IsClear hs (length hs) (start_of m) (end_of m) at
+  pub place_free : (at : ℕ) → end_of m < 2 ^ 64 → IsClear hs (length hs) (start_of m) (end_of m) at
       → place_fault m (map loaded_of hs) ≡ None
-  placed_free at lt clear =
+  place_free at lt clear =
       no_place-fault m (map loaded_of hs) lt
       (nothing_met hs (length hs) m none_itself
       (λ k d k_lt o. all-fail (named m.name) hs new k d k_lt) at clear)
@@ -120,7 +120,7 @@ module _ (hs : List NumberedModule) (loads : ℕ) (m : Loaded) (len low high : �
   pub over_any : (met : ℕ) → end_of m < 2 ^ 64 → Overlaps hs len low high met
       → place_fault m (map loaded_of hs) ≡ Some (Overlap met)
   over_any met lt is =
-      placed_over hs loads m (free-name m.name hs loads free) met lt
+      place_over hs loads m (free-name m.name hs loads free) met lt
       (subst (λ n. Overlaps hs n (start_of m) (end_of m) met) all
       (subst (λ a. Overlaps hs len a (end_of m) met) from
       (subst (λ b. Overlaps hs len low b met) to is)))
@@ -134,16 +134,16 @@ module _ (hs : List NumberedModule) (loads : ℕ) (m : Loaded) (len low high : �
 
   pub free_all : (at : ℕ) → end_of m < 2 ^ 64 → IsClear hs len low high at
       → place_fault m (map loaded_of hs) ≡ None
-  free_all at lt is = placed_free hs loads m (free-name m.name hs loads free) at lt
+  free_all at lt is = place_free hs loads m (free-name m.name hs loads free) at lt
       (clear_all at is)
 
-  pub kept-there : (hs' : List NumberedModule) (at serial : ℕ) (h : NumberedModule)
+  pub stored-there : (hs' : List NumberedModule) (at serial : ℕ) (h : NumberedModule)
       → h ≡ record { serial = serial; loaded = m }
       → start_of m < end_of m → IsClear hs len low high at → hs' ≡ insert hs at h
-      → map loaded_of hs' ≡ placed m (map loaded_of hs)
-  kept-there hs' at serial h is order clear new =
+      → map loaded_of hs' ≡ insert_by_address m (map loaded_of hs)
+  stored-there hs' at serial h is order clear new =
       ap (map loaded_of) (new ∙ ap (insert hs at) is)
-      ∙ sym (placed-in hs at (record { serial = serial; loaded = m }) (clear_all at clear) order)
+      ∙ sym (insert-clear hs at (record { serial = serial; loaded = m }) (clear_all at clear) order)
 
 -- the same state with an equal list of modules
 pub same-but-modules : (l l' : List Loaded) (loads cached capacity compares decoded : ℕ) → l ≡ l'
@@ -173,9 +173,9 @@ same-but-modules l l' loads cached capacity compares decoded e =
     } in m) e
 
 -- the number of modules is below the limit
-pub room_left : (hs : List NumberedModule) (loads : ℕ) → is_full (world_of hs loads) ≡ false
+pub limit-left : (hs : List NumberedModule) (loads : ℕ) → is_full (world_of hs loads) ≡ false
     → length hs < most_modules
-room_left hs loads e = let count : length (map loaded_of hs) ≡ length hs = simp length-map in
+limit-left hs loads e = let count : length (map loaded_of hs) ≡ length hs = simp length-map in
     let first = left_false (nat_le most_modules (length (map loaded_of hs)))
     (nat_le (2 ^ 64 - 1) loads) e in
     let lt = leb-false most_modules (length (map loaded_of hs)) first in omega arith

@@ -3,7 +3,8 @@ use Rattle.std.proofs.Common.{◌≡◌, ℕ, ◌-◌, ◌^◌, ◌<◌, ◌≤�
 use Rattle.std.proofs.Common.{get_or, refl, sym, ap, ◌∙◌, subst}
 use Rattle.std.specs.Prelude.{None, Some, Ok, Err, is_some, position, find, remove, nat_le}
 use Rattle.std.specs.Prelude.{if◌then◌else◌}
-use Rattle.module_map.specs.World.{World, Loaded, start_of, end_of, is_named, moved_to, placed}
+use Rattle.module_map.specs.World.{World, Loaded, start_of, end_of, is_named, moved_to}
+use Rattle.module_map.specs.World.{insert_by_address}
 use Rattle.module_map.specs.World.{without}
 use Rattle.module_map.specs.Changes.{place_fault, move_fault, IsMoved, IsExtentOf, Unloads, Moves}
 use Rattle.module_map.specs.declared.faults.Extent.{Extent}
@@ -12,7 +13,7 @@ use Rattle.module_map.specs.declared.faults.MapFault.TheVariants.{NoModule, Rang
 use Rattle.module_map.specs.Private.Serials.{NumberedModule, loaded_of}
 use Rattle.module_map.specs.Private.Rising.{IsClear, Overlaps, IsOther, IsOnly, relocated, rebased}
 use Rattle.module_map.proofs.Removals.{clear_removed}
-use Rattle.module_map.proofs.Worlds.{any_is, found_none, found_some, placed-in, without-is}
+use Rattle.module_map.proofs.Worlds.{any_is, found_none, found_some, insert-clear, without-is}
 use Rattle.module_map.proofs.Worlds.{not-named, is-its-name, met_is, nothing_met, range-fault}
 use Rattle.module_map.proofs.Worlds.{overlap-fault, no_place-fault}
 
@@ -95,10 +96,11 @@ module _ (hs : List NumberedModule) (loads : ℕ) (name : List ℕ) where
         found : find (is_named name) (map loaded_of hs) ≡ Some (get_or hs own d).loaded
         found = found_some (is_named name) hs own d at_own
 
-        there : placed m (without (get_or hs own d).loaded.name (map loaded_of hs))
+        there : insert_by_address m (without (get_or hs own d).loaded.name (map loaded_of hs))
             ≡ map loaded_of (relocated hs own at (rebased base (get_or hs own d)))
-        there = ap (λ (n : List ℕ). placed m (without n (map loaded_of hs))) (only.here d)
-            ∙ ap (placed m) (without-is name hs own only)
-            ∙ placed-in (remove hs own) (if nat_le at own then at else at - 1)
+        there = ap (λ (n : List ℕ). insert_by_address m (without n (map loaded_of hs)))
+            (only.here d)
+            ∙ ap (insert_by_address m) (without-is name hs own only)
+            ∙ insert-clear (remove hs own) (if nat_le at own then at else at - 1)
             (rebased base (get_or hs own d))
             (clear_removed hs own (start_of m) (end_of m) at clear only.within) order

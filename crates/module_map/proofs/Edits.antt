@@ -77,55 +77,57 @@ after-new xs ys at j d b lt = by b.side
     by (inl p) = absurd (omega arith)
     by (inr p) = omega arith
 
-module _ (held : List NumberedModule) (at : ℕ) (h : NumberedModule) (rising : AreRising held)
-    (clear : IsClear held (length held) (start_of h.loaded) (end_of h.loaded) at)
+module _ (sorted : List NumberedModule) (at : ℕ) (h : NumberedModule) (rising : AreRising sorted)
+    (clear : IsClear sorted (length sorted) (start_of h.loaded) (end_of h.loaded) at)
     (sound : start_of h.loaded < end_of h.loaded)
-    (new : (k : ℕ) (d : NumberedModule) → k < length held
-    → (get_or held k d).loaded.name ≢ h.loaded.name) where
+    (new : (k : ℕ) (d : NumberedModule) → k < length sorted
+    → (get_or sorted k d).loaded.name ≢ h.loaded.name) where
   Place : ℕ → NumberedModule → Type 0
-  Place j d = Old held (insert held at h) at j d ⊎ ((j ≡ at) × (get_or (insert held at h) j d ≡ h))
+  Place j d = Old sorted (insert sorted at h) at j d
+      ⊎ ((j ≡ at) × (get_or (insert sorted at h) j d ≡ h))
 
   apart : (i j : ℕ) (d : NumberedModule) → i < j → Place i d → Place j d
-      → end_of (get_or (insert held at h) i d).loaded ≤ start_of
-      (get_or (insert held at h) j d).loaded
+      → end_of (get_or (insert sorted at h) i d).loaded ≤ start_of
+      (get_or (insert sorted at h) j d).loaded
   unfolding Place
   apart i j d lt (inl a) (inl b) =
       rw (a.same, b.same) (rising.apart a.place b.place d
-      (rises held (insert held at h) at i j d a b lt) b.within)
+      (rises sorted (insert sorted at h) at i j d a b lt) b.within)
   apart i j d lt (inl a) (inr b) =
       let w = a.within in
       let e = b.0 in
       rw (a.same, b.1) (clear.before a.place d
-      (before-new held (insert held at h) at i d a (omega arith)) (inl w))
+      (before-new sorted (insert sorted at h) at i d a (omega arith)) (inl w))
   apart i j d lt (inr a) (inl b) =
       let w = b.within in
       let e = a.0 in
       rw (a.1, b.same) (clear.after b.place d
-      (after-new held (insert held at h) at j d b (omega arith)) w (inl w))
+      (after-new sorted (insert sorted at h) at j d b (omega arith)) w (inl w))
   apart i j d lt (inr a) (inr b) = let e = a.0 in let f = b.0 in absurd (omega arith)
 
   named : (i j : ℕ) (d : NumberedModule) → i < j → Place i d → Place j d
-      → (get_or (insert held at h) i d).loaded.name ≢ (get_or (insert held at h) j d).loaded.name
+      → (get_or (insert sorted at h) i d).loaded.name ≢
+      (get_or (insert sorted at h) j d).loaded.name
   unfolding Place
   named i j d lt (inl a) (inl b) =
       rw (a.same, b.same) (rising.names a.place b.place d
-      (rises held (insert held at h) at i j d a b lt) b.within)
+      (rises sorted (insert sorted at h) at i j d a b lt) b.within)
   named i j d lt (inl a) (inr b) = rw (a.same, b.1) (new a.place d a.within)
   named i j d lt (inr a) (inl b) = rw (a.1, b.same) (λ e. new b.place d b.within (sym e))
   named i j d lt (inr a) (inr b) = let e = a.0 in let f = b.0 in absurd (omega arith)
 
   sounds : (i : ℕ) (d : NumberedModule) → Place i d
-      → start_of (get_or (insert held at h) i d).loaded < end_of
-      (get_or (insert held at h) i d).loaded
+      → start_of (get_or (insert sorted at h) i d).loaded < end_of
+      (get_or (insert sorted at h) i d).loaded
   unfolding Place
   sounds i d (inl a) = rw a.same (rising.sound a.place d a.within)
   sounds i d (inr a) = rw a.1 sound
 
-  place : (j : ℕ) (d : NumberedModule) → j < length (insert held at h) → Place j d
+  place : (j : ℕ) (d : NumberedModule) → j < length (insert sorted at h) → Place j d
   unfolding Place
-  place j d lt = spot held at h j d clear.within lt
+  place j d lt = spot sorted at h j d clear.within lt
 
-  pub rising_insert : AreRising (insert held at h)
+  pub rising_insert : AreRising (insert sorted at h)
   rising_insert = record {
     apart = λ i j d lt in'. apart i j d lt (place i d (omega arith)) (place j d in');
     sound = λ i d in'. sounds i d (place i d in');

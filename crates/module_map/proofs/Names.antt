@@ -35,12 +35,12 @@ all-fail p xs none k d lt =
     not_true true e = cc
     not_true false e = refl
 
-pub names-differ : (name : List ℕ) (held : List NumberedModule)
-    → position (λ (h : NumberedModule). is_named name h.loaded) held ≡ None
-    → (k : ℕ) (d : NumberedModule) → k < length held → (get_or held k d).loaded.name ≢ name
-names-differ name held none k d lt = λ e. let f =
-    all-fail (λ (h : NumberedModule). is_named name h.loaded) held none k d lt in
-    true≢false (sym ((bytes_eq-Decides (get_or held k d).loaded.name name).1 e) ∙ f)
+pub names-differ : (name : List ℕ) (sorted : List NumberedModule)
+    → position (λ (h : NumberedModule). is_named name h.loaded) sorted ≡ None
+    → (k : ℕ) (d : NumberedModule) → k < length sorted → (get_or sorted k d).loaded.name ≢ name
+names-differ name sorted none k d lt = λ e. let f =
+    all-fail (λ (h : NumberedModule). is_named name h.loaded) sorted none k d lt in
+    true≢false (sym ((bytes_eq-Decides (get_or sorted k d).loaded.name name).1 e) ∙ f)
 
 pub whole : {X : Type 0} (xs ys : List X) (n : ℕ) → length xs ≡ n → take n (xs ++ ys) ≡ xs
 whole [] ys n e = rw (← e) refl
@@ -48,12 +48,13 @@ whole (x ∷ xs) ys zero e = absurd (omega arith)
 whole (x ∷ xs) ys (suc n) e = ap (λ l. x ∷ l) (whole xs ys n (omega arith))
 
 -- the same list, if the moved module is overwritten at its old index first
-pub turned-set : (held items xs : List NumberedModule) (own at base : ℕ) (h was d : NumberedModule)
-    → items ≡ held → own < length held
+pub turned-set : (sorted items xs : List NumberedModule) (own at base : ℕ)
+    (h was d : NumberedModule)
+    → items ≡ sorted → own < length sorted
     → xs ≡ set items own h → h ≡ rebased base was → was ≡ get_or items own was
     → relocated xs own at (get_or xs own d)
-    ≡ relocated held own at (rebased base (get_or held own d))
-turned-set held items xs own at base h was d same lt written is old =
+    ≡ relocated sorted own at (rebased base (get_or sorted own d))
+turned-set sorted items xs own at base h was d same lt written is old =
     let there : own < length items = subst (λ (l : List NumberedModule). own < length l) (sym same)
     lt in
     ap (λ (l : List NumberedModule). relocated l own at (get_or l own d)) written
@@ -64,12 +65,12 @@ turned-set held items xs own at base h was d same lt written is old =
     ∙ ap (λ (l : List NumberedModule). relocated l own at (rebased base (get_or l own d))) same
 
 -- the first module with a name is the only one
-pub only-named : (name : List ℕ) (held : List NumberedModule) → AreRising held → (o : Option ℕ)
-    → o ≡ position (λ (h : NumberedModule). is_named name h.loaded) held
-    → IfSome o (IsOnly held name)
-only-named name held rising None e = tt
-only-named name held rising (Some own) e =
-    record { within = within held own (sym e); here = here; others = others }
+pub only-named : (name : List ℕ) (sorted : List NumberedModule) → AreRising sorted → (o : Option ℕ)
+    → o ≡ position (λ (h : NumberedModule). is_named name h.loaded) sorted
+    → IfSome o (IsOnly sorted name)
+only-named name sorted rising None e = tt
+only-named name sorted rising (Some own) e =
+    record { within = within sorted own (sym e); here = here; others = others }
   where
     within : (hs : List NumberedModule) (i : ℕ)
         → position (λ (h : NumberedModule). is_named name h.loaded) hs ≡ Some i → i < length hs
@@ -77,13 +78,13 @@ only-named name held rising (Some own) e =
     within (x ∷ xs) i e = (position-Some (λ (h : NumberedModule). is_named name h.loaded) (x ∷ xs) i
         x e).0
 
-    here : (d : NumberedModule) → (get_or held own d).loaded.name ≡ name
+    here : (d : NumberedModule) → (get_or sorted own d).loaded.name ≡ name
     here d =
-        (bytes_eq-Decides (get_or held own d).loaded.name name).0
-        (position-Some (λ (h : NumberedModule). is_named name h.loaded) held own d (sym e)).1
+        (bytes_eq-Decides (get_or sorted own d).loaded.name name).0
+        (position-Some (λ (h : NumberedModule). is_named name h.loaded) sorted own d (sym e)).1
 
-    others : (k : ℕ) (d : NumberedModule) → k < length held → IsOther own k
-        → (get_or held k d).loaded.name ≢ name
-    others k d lt (inl below) = λ same. rising.names k own d below (within held own (sym e))
+    others : (k : ℕ) (d : NumberedModule) → k < length sorted → IsOther own k
+        → (get_or sorted k d).loaded.name ≢ name
+    others k d lt (inl below) = λ same. rising.names k own d below (within sorted own (sym e))
         (same ∙ sym (here d))
     others k d lt (inr above) = λ same. rising.names own k d above lt (here d ∙ sym same)

@@ -54,119 +54,123 @@ still-rises xs ys at i j d a b lt = by a.side b.side
     by (inr p) (inl q) = absurd (omega arith)
     by (inr p) (inr q) = omega arith
 
-pub rising-remove : (held : List NumberedModule) (at : ℕ) → AreRising held → at < length held
-    → AreRising (remove held at)
-rising-remove held at rising lt = record {
-  apart = λ i j d below in'. let a = left held at i d lt (omega arith) in let b =
-      left held at j d lt in' in
+pub rising-remove : (sorted : List NumberedModule) (at : ℕ) → AreRising sorted → at < length sorted
+    → AreRising (remove sorted at)
+rising-remove sorted at rising lt = record {
+  apart = λ i j d below in'. let a = left sorted at i d lt (omega arith) in let b =
+      left sorted at j d lt in' in
       rw (a.same, b.same) (rising.apart a.place b.place d
-      (still-rises held (remove held at) at i j d a b below) b.within);
-  sound = λ i d in'. let a = left held at i d lt in' in rw a.same (rising.sound a.place d a.within);
-  names = λ i j d below in'. let a = left held at i d lt (omega arith) in let b =
-      left held at j d lt in' in
+      (still-rises sorted (remove sorted at) at i j d a b below) b.within);
+  sound = λ i d in'. let a =
+      left sorted at i d lt in' in rw a.same (rising.sound a.place d a.within);
+  names = λ i j d below in'. let a = left sorted at i d lt (omega arith) in let b =
+      left sorted at j d lt in' in
       rw (a.same, b.same) (rising.names a.place b.place d
-      (still-rises held (remove held at) at i j d a b below) b.within);
+      (still-rises sorted (remove sorted at) at i j d a b below) b.within);
 }
 
 -- ---- moving
 
-module _ (held : List NumberedModule) (own low high at : ℕ) (clear : IsClear held own low high at)
-    (lt : own < length held) where
-  clear_left : at ≤ own → IsClear (remove held own) (length (remove held own)) low high at
-  clear_left le = let n = length-remove held own lt in
+module _ (sorted : List NumberedModule) (own low high at : ℕ)
+    (clear : IsClear sorted own low high at)
+    (lt : own < length sorted) where
+  clear_left : at ≤ own → IsClear (remove sorted own) (length (remove sorted own)) low high at
+  clear_left le = let n = length-remove sorted own lt in
       record { within = omega arith; under = under; before = before; after = after }
     where
-      under : (k : ℕ) (d : NumberedModule) → k < at → IsOther (length (remove held own)) k
-          → start_of (get_or (remove held own) k d).loaded < low
-      under k d below o = rw (get_or-remove_below held own d k (omega arith) lt)
+      under : (k : ℕ) (d : NumberedModule) → k < at → IsOther (length (remove sorted own)) k
+          → start_of (get_or (remove sorted own) k d).loaded < low
+      under k d below o = rw (get_or-remove_below sorted own d k (omega arith) lt)
           (clear.under k d below (inl (omega arith)))
 
-      before : (k : ℕ) (d : NumberedModule) → k < at → IsOther (length (remove held own)) k
-          → end_of (get_or (remove held own) k d).loaded ≤ low
-      before k d below o = rw (get_or-remove_below held own d k (omega arith) lt)
+      before : (k : ℕ) (d : NumberedModule) → k < at → IsOther (length (remove sorted own)) k
+          → end_of (get_or (remove sorted own) k d).loaded ≤ low
+      before k d below o = rw (get_or-remove_below sorted own d k (omega arith) lt)
           (clear.before k d below (inl (omega arith)))
 
-      after : (k : ℕ) (d : NumberedModule) → at ≤ k → k < length (remove held own)
-          → IsOther (length (remove held own)) k
-          → high ≤ start_of (get_or (remove held own) k d).loaded
-      after k d from in' o = let n = length-remove held own lt in by (cases_lt k own)
+      after : (k : ℕ) (d : NumberedModule) → at ≤ k → k < length (remove sorted own)
+          → IsOther (length (remove sorted own)) k
+          → high ≤ start_of (get_or (remove sorted own) k d).loaded
+      after k d from in' o = let n = length-remove sorted own lt in by (cases_lt k own)
         where
-          by : (k < own) ⊎ (own ≤ k) → high ≤ start_of (get_or (remove held own) k d).loaded
-          by (inl below) = rw (get_or-remove_below held own d k below lt)
+          by : (k < own) ⊎ (own ≤ k) → high ≤ start_of (get_or (remove sorted own) k d).loaded
+          by (inl below) = rw (get_or-remove_below sorted own d k below lt)
               (clear.after k d from (omega arith) (inl below))
           by (inr above) =
-              let n = length-remove held own lt in
-              rw (get_or-remove_above held own d k above lt)
+              let n = length-remove sorted own lt in
+              rw (get_or-remove_above sorted own d k above lt)
               (clear.after (k + 1) d (omega arith) (omega arith) (inr (omega arith)))
 
-  clear_right : own < at → IsClear (remove held own) (length (remove held own)) low high (at - 1)
+  clear_right : own < at
+      → IsClear (remove sorted own) (length (remove sorted own)) low high (at - 1)
   clear_right above =
-      let n = length-remove held own lt in
+      let n = length-remove sorted own lt in
       let w = clear.within in
       record { within = omega arith; under = under; before = before; after = after }
     where
-      under : (k : ℕ) (d : NumberedModule) → k < at - 1 → IsOther (length (remove held own)) k
-          → start_of (get_or (remove held own) k d).loaded < low
+      under : (k : ℕ) (d : NumberedModule) → k < at - 1 → IsOther (length (remove sorted own)) k
+          → start_of (get_or (remove sorted own) k d).loaded < low
       under k d below o = by (cases_lt k own)
         where
-          by : (k < own) ⊎ (own ≤ k) → start_of (get_or (remove held own) k d).loaded < low
-          by (inl less) = rw (get_or-remove_below held own d k less lt)
+          by : (k < own) ⊎ (own ≤ k) → start_of (get_or (remove sorted own) k d).loaded < low
+          by (inl less) = rw (get_or-remove_below sorted own d k less lt)
               (clear.under k d (omega arith) (inl less))
-          by (inr over) = rw (get_or-remove_above held own d k over lt)
+          by (inr over) = rw (get_or-remove_above sorted own d k over lt)
               (clear.under (k + 1) d (omega arith) (inr (omega arith)))
 
-      before : (k : ℕ) (d : NumberedModule) → k < at - 1 → IsOther (length (remove held own)) k
-          → end_of (get_or (remove held own) k d).loaded ≤ low
+      before : (k : ℕ) (d : NumberedModule) → k < at - 1 → IsOther (length (remove sorted own)) k
+          → end_of (get_or (remove sorted own) k d).loaded ≤ low
       before k d below o = by (cases_lt k own)
         where
-          by : (k < own) ⊎ (own ≤ k) → end_of (get_or (remove held own) k d).loaded ≤ low
-          by (inl under) = rw (get_or-remove_below held own d k under lt)
+          by : (k < own) ⊎ (own ≤ k) → end_of (get_or (remove sorted own) k d).loaded ≤ low
+          by (inl under) = rw (get_or-remove_below sorted own d k under lt)
               (clear.before k d (omega arith) (inl under))
-          by (inr over) = rw (get_or-remove_above held own d k over lt)
+          by (inr over) = rw (get_or-remove_above sorted own d k over lt)
               (clear.before (k + 1) d (omega arith) (inr (omega arith)))
 
-      after : (k : ℕ) (d : NumberedModule) → at - 1 ≤ k → k < length (remove held own)
-          → IsOther (length (remove held own)) k
-          → high ≤ start_of (get_or (remove held own) k d).loaded
+      after : (k : ℕ) (d : NumberedModule) → at - 1 ≤ k → k < length (remove sorted own)
+          → IsOther (length (remove sorted own)) k
+          → high ≤ start_of (get_or (remove sorted own) k d).loaded
       after k d from in' o =
-          let n = length-remove held own lt in
-          rw (get_or-remove_above held own d k (omega arith) lt)
+          let n = length-remove sorted own lt in
+          rw (get_or-remove_above sorted own d k (omega arith) lt)
           (clear.after (k + 1) d (omega arith) (omega arith) (inr (omega arith)))
 
   pub landing_cases : (b : Bool) → nat_le at own ≡ b
-      → IsClear (remove held own) (length (remove held own)) low high (if b then at else at - 1)
+      → IsClear (remove sorted own) (length (remove sorted own)) low high (if b then at else at - 1)
   landing_cases true e = clear_left (leb-true at own e)
   landing_cases false e = clear_right (leb-false at own e)
 
-  pub clear_removed : IsClear (remove held own) (length (remove held own)) low high
+  pub clear_removed : IsClear (remove sorted own) (length (remove sorted own)) low high
       (if nat_le at own then at else at - 1)
   clear_removed = landing_cases (nat_le at own) refl
 
-pub others-named : (held : List NumberedModule) (own : ℕ) (rising : AreRising held)
-    (lt : own < length held) (k : ℕ) (d : NumberedModule)
-    → k < length (remove held own)
-    → (get_or (remove held own) k d).loaded.name ≢ (get_or held own d).loaded.name
-others-named held own rising lt k d in' = by (cases_lt k own)
+pub others-named : (sorted : List NumberedModule) (own : ℕ) (rising : AreRising sorted)
+    (lt : own < length sorted) (k : ℕ) (d : NumberedModule)
+    → k < length (remove sorted own)
+    → (get_or (remove sorted own) k d).loaded.name ≢ (get_or sorted own d).loaded.name
+others-named sorted own rising lt k d in' = by (cases_lt k own)
   where
-    by : (k < own) ⊎ (own ≤ k) → (get_or (remove held own) k d).loaded.name ≢
-        (get_or held own d).loaded.name
-    by (inl below) = rw (get_or-remove_below held own d k below lt) (rising.names k own d below lt)
+    by : (k < own) ⊎ (own ≤ k) → (get_or (remove sorted own) k d).loaded.name ≢
+        (get_or sorted own d).loaded.name
+    by (inl below) = rw (get_or-remove_below sorted own d k below lt)
+        (rising.names k own d below lt)
     by (inr above) =
-        let n = length-remove held own lt in
-        rw (get_or-remove_above held own d k above lt)
+        let n = length-remove sorted own lt in
+        rw (get_or-remove_above sorted own d k above lt)
         (λ e. rising.names own (k + 1) d (omega arith) (omega arith) (sym e))
 
-pub rising-turned : (held : List NumberedModule) (own at base : ℕ) (d : NumberedModule)
-    → AreRising held → own < length held
-    → IsClear held own (start_of (moved_to base (get_or held own d).loaded))
-    (end_of (moved_to base (get_or held own d).loaded)) at
-    → AreRising (relocated held own at (rebased base (get_or held own d)))
-rising-turned held own at base d rising lt clear =
-    rising_insert (remove held own) (if nat_le at own then at else at - 1)
-    (rebased base (get_or held own d)) (rising-remove held own rising lt)
-    (clear_removed held own (start_of (moved_to base (get_or held own d).loaded))
-    (end_of (moved_to base (get_or held own d).loaded)) at clear lt)
+pub rising-turned : (sorted : List NumberedModule) (own at base : ℕ) (d : NumberedModule)
+    → AreRising sorted → own < length sorted
+    → IsClear sorted own (start_of (moved_to base (get_or sorted own d).loaded))
+    (end_of (moved_to base (get_or sorted own d).loaded)) at
+    → AreRising (relocated sorted own at (rebased base (get_or sorted own d)))
+rising-turned sorted own at base d rising lt clear =
+    rising_insert (remove sorted own) (if nat_le at own then at else at - 1)
+    (rebased base (get_or sorted own d)) (rising-remove sorted own rising lt)
+    (clear_removed sorted own (start_of (moved_to base (get_or sorted own d).loaded))
+    (end_of (moved_to base (get_or sorted own d).loaded)) at clear lt)
     (let s = rising.sound own d lt in omega arith)
-    (λ k e in'. let same = get_or_default held own e d lt in
-    subst (λ (h : NumberedModule). (get_or (remove held own) k e).loaded.name ≢ h.loaded.name)
-    same (others-named held own rising lt k e in'))
+    (λ k e in'. let same = get_or_default sorted own e d lt in
+    subst (λ (h : NumberedModule). (get_or (remove sorted own) k e).loaded.name ≢ h.loaded.name)
+    same (others-named sorted own rising lt k e in'))

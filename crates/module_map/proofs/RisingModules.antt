@@ -14,38 +14,38 @@ use Rattle.module_map.specs.Private.Rising.{AreRising}
 abbrev numbered : Loaded → NumberedModule
 numbered m = record { serial = 0; loaded = m }
 
-loaded_at : (held : List NumberedModule) (i : ℕ) (d : Loaded)
-    → get_or (map loaded_of held) i d ≡ loaded_of (get_or held i (numbered d))
-loaded_at held i d = get_or-map loaded_of held i (numbered d)
+loaded_at : (sorted : List NumberedModule) (i : ℕ) (d : Loaded)
+    → get_or (map loaded_of sorted) i d ≡ loaded_of (get_or sorted i (numbered d))
+loaded_at sorted i d = get_or-map loaded_of sorted i (numbered d)
 
-count : (held : List NumberedModule) → length (map loaded_of held) ≡ length held
+count : (sorted : List NumberedModule) → length (map loaded_of sorted) ≡ length sorted
 count [] = refl
-count (h ∷ held) = ap suc (count held)
+count (h ∷ sorted) = ap suc (count sorted)
 
-pub rising-modules : (held : List NumberedModule) → AreRising held
-    → world.AreRising (map loaded_of held)
-rising-modules held rising = record {
+pub rising-modules : (sorted : List NumberedModule) → AreRising sorted
+    → world.AreRising (map loaded_of sorted)
+rising-modules sorted rising = record {
   nonempty = λ i d lt.
-      rw (loaded_at held i d)
-      (rising.sound i (numbered d) (omega (arith, lt, count held)));
+      rw (loaded_at sorted i d)
+      (rising.sound i (numbered d) (omega (arith, lt, count sorted)));
   apart = λ i j d lt within.
-      rw (loaded_at held i d, loaded_at held j d)
-      (rising.apart i j (numbered d) lt (omega (arith, within, count held)));
+      rw (loaded_at sorted i d, loaded_at sorted j d)
+      (rising.apart i j (numbered d) lt (omega (arith, within, count sorted)));
   names = λ i j d lt within.
-      rw (loaded_at held i d, loaded_at held j d)
-      (rising.names i j (numbered d) lt (omega (arith, within, count held)));
+      rw (loaded_at sorted i d, loaded_at sorted j d)
+      (rising.names i j (numbered d) lt (omega (arith, within, count sorted)));
 }
 
-held_by : (m : Loaded) (address : ℕ) → holds address m ≡ true
+holds_bounds : (m : Loaded) (address : ℕ) → holds address m ≡ true
     → (start_of m ≤ address) × (address < end_of m)
-held_by m address h = grind (arith, nat_tests, h)
+holds_bounds m address h = grind (arith, nat_tests, h)
 
 not-both : (modules : List Loaded) (address i j : ℕ) (d : Loaded) → world.AreRising modules
     → i < j → j < length modules → holds address (get_or modules i d) ≡ true
     → holds address (get_or modules j d) ≡ true → ⊥
 not-both modules address i j d rising lt within one other =
-    let first = held_by (get_or modules i d) address one in
-    let second = held_by (get_or modules j d) address other in
+    let first = holds_bounds (get_or modules i d) address one in
+    let second = holds_bounds (get_or modules j d) address other in
     let apart = rising.apart i j d lt within in
     omega (arith, first.1, second.0, apart)
 

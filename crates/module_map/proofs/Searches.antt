@@ -13,25 +13,26 @@ use Rattle.module_map.proofs.BinarySearch.{Halved, halved-none, halved-more, hal
 use Rattle.module_map.proofs.Positions.{is_at, is_nowhere}
 
 -- the number is at least `low` and at most `high`
-pub record Narrowed (held : List NumberedModule) (address low high : ℕ) (before now : Steps) : Type
+pub record Narrowed (sorted : List NumberedModule) (address low high : ℕ)
+    (before now : Steps) : Type
     0 where
   pub order : low ≤ high
-  pub within : high ≤ length held
+  pub within : high ≤ length sorted
   pub begins : (k : ℕ) (d : NumberedModule) → k + 1 ≡ low
-      → start_of (get_or held k d).loaded ≤ address
-  pub later : (k : ℕ) (d : NumberedModule) → high ≤ k → k < length held
-      → address < start_of (get_or held k d).loaded
+      → start_of (get_or sorted k d).loaded ≤ address
+  pub later : (k : ℕ) (d : NumberedModule) → high ≤ k → k < length sorted
+      → address < start_of (get_or sorted k d).loaded
   pub used : ℕ
   pub first : (low ≡ 0) ⊎ (1 ≤ used)
   pub taken : now ≡ counted used before
-  pub halved : Halved (length held) (high - low) used
+  pub halved : Halved (length sorted) (high - low) used
 
 minus-zero : (n : ℕ) → n ≡ n - 0
 minus-zero n = omega arith
 
-pub narrowed-none : (held : List NumberedModule) (address : ℕ) (steps : Steps)
-    → Narrowed held address 0 (length held) steps steps
-narrowed-none held address steps = record {
+pub narrowed-none : (sorted : List NumberedModule) (address : ℕ) (steps : Steps)
+    → Narrowed sorted address 0 (length sorted) steps steps
+narrowed-none sorted address steps = record {
   order = omega arith;
   within = omega arith;
   begins = λ k d e. absurd (omega arith);
@@ -39,17 +40,17 @@ narrowed-none held address steps = record {
   used = 0;
   first = inl refl;
   taken = refl;
-  halved = subst (λ n. Halved (length held) n 0) (minus-zero (length held))
-      (halved-none (length held));
+  halved = subst (λ n. Halved (length sorted) n 0) (minus-zero (length sorted))
+      (halved-none (length sorted));
 }
 
-pub narrowed-up : (held : List NumberedModule) (address low high middle : ℕ)
+pub narrowed-up : (sorted : List NumberedModule) (address low high middle : ℕ)
     (before now then : Steps)
-    → Narrowed held address low high before now → low < high
+    → Narrowed sorted address low high before now → low < high
     → middle ≡ low + (high - low) / 2 → ((d : NumberedModule)
-    → start_of (get_or held middle d).loaded ≤ address) → then ≡ counted 1 now
-    → Narrowed held address (middle + 1) high before then
-narrowed-up held address low high middle before now then n some is begins taken = record {
+    → start_of (get_or sorted middle d).loaded ≤ address) → then ≡ counted 1 now
+    → Narrowed sorted address (middle + 1) high before then
+narrowed-up sorted address low high middle before now then n some is begins taken = record {
   order = let o = n.order in omega arith;
   within = n.within;
   begins = λ k d e. (let same : k ≡ middle = omega arith in rw same (begins d));
@@ -57,50 +58,51 @@ narrowed-up held address low high middle before now then n some is begins taken 
   used = n.used + 1;
   first = inr (omega arith);
   taken = counted-one n.used before now then n.taken taken;
-  halved = halved-more (length held) (high - low) (high - (middle + 1)) n.used n.halved
+  halved = halved-more (length sorted) (high - low) (high - (middle + 1)) n.used n.halved
       (omega arith) (let o = n.order in omega arith);
 }
 
-pub narrowed-down : (held : List NumberedModule) (address low high middle : ℕ)
-    (before now then : Steps) → AreRising held
-    → Narrowed held address low high before now → low < high
+pub narrowed-down : (sorted : List NumberedModule) (address low high middle : ℕ)
+    (before now then : Steps) → AreRising sorted
+    → Narrowed sorted address low high before now → low < high
     → middle ≡ low + (high - low) / 2 → ((d : NumberedModule)
-    → address < start_of (get_or held middle d).loaded) → then ≡ counted 1 now
-    → Narrowed held address low middle before then
-narrowed-down held address low high middle before now then rising n some is begins taken = record {
-  order = let o = n.order in omega arith;
-  within = let o = n.order in let w = n.within in omega arith;
-  begins = n.begins;
-  later = λ k d le lt. later k d le (cases_lt middle k) lt;
-  used = n.used + 1;
-  first = inr (omega arith);
-  taken = counted-one n.used before now then n.taken taken;
-  halved = halved-more (length held) (high - low) (middle - low) n.used n.halved (omega arith)
-      (let o = n.order in omega arith);
-}
+    → address < start_of (get_or sorted middle d).loaded) → then ≡ counted 1 now
+    → Narrowed sorted address low middle before then
+narrowed-down sorted address low high middle before now then rising n some is begins taken =
+    record {
+      order = let o = n.order in omega arith;
+      within = let o = n.order in let w = n.within in omega arith;
+      begins = n.begins;
+      later = λ k d le lt. later k d le (cases_lt middle k) lt;
+      used = n.used + 1;
+      first = inr (omega arith);
+      taken = counted-one n.used before now then n.taken taken;
+      halved = halved-more (length sorted) (high - low) (middle - low) n.used n.halved (omega arith)
+          (let o = n.order in omega arith);
+    }
   where
     later : (k : ℕ) (d : NumberedModule) → middle ≤ k → (middle < k) ⊎ (k ≤ middle)
-        → k < length held
-        → address < start_of (get_or held k d).loaded
+        → k < length sorted
+        → address < start_of (get_or sorted k d).loaded
     later k d le (inr here) lt = let same : k ≡ middle = omega arith in rw same (begins d)
     later k d le (inl past) lt =
         let b = begins d in let a = rising.apart middle k d past lt in let s =
         rising.sound middle d (omega arith) in omega arith
 
-pub narrowed-all : (held : List NumberedModule) (address low high : ℕ) (before now : Steps)
-    → Narrowed held address low high before now
-    → high ≤ low → CountsStarted held address low
-narrowed-all held address low high before now n end = record {
+pub narrowed-all : (sorted : List NumberedModule) (address low high : ℕ) (before now : Steps)
+    → Narrowed sorted address low high before now
+    → high ≤ low → CountsStarted sorted address low
+narrowed-all sorted address low high before now n end = record {
   within = let o = n.order in let w = n.within in omega arith;
   before = n.begins;
   after = λ k d le in'. n.later k d (let o = n.order in omega arith) in';
 }
 
-pub narrowed-count : (held : List NumberedModule) (address low high : ℕ) (before now : Steps)
-    → Narrowed held address low high before now
-    → (n : ℕ) × (n ≤ bits (length held)) × ((low ≡ 0) ⊎ (1 ≤ n)) × (now ≡ counted n before)
-narrowed-count held address low high before now n =
-    (n.used, halved-all (length held) (high - low) n.used n.halved, n.first, n.taken)
+pub narrowed-count : (sorted : List NumberedModule) (address low high : ℕ) (before now : Steps)
+    → Narrowed sorted address low high before now
+    → (n : ℕ) × (n ≤ bits (length sorted)) × ((low ≡ 0) ⊎ (1 ≤ n)) × (now ≡ counted n before)
+narrowed-count sorted address low high before now n =
+    (n.used, halved-all (length sorted) (high - low) n.used n.halved, n.first, n.taken)
 
 -- ---- the module that contains an address
 
@@ -122,39 +124,40 @@ test-past s e a p = by (nat_le s a) (nat_lt a e) refl
     by true false t = refl
     by false false t = refl
 
-module _ (held : List NumberedModule) (address n : ℕ) (rising : AreRising held)
-    (started : CountsStarted held address n) where
+module _ (sorted : List NumberedModule) (address n : ℕ) (rising : AreRising sorted)
+    (started : CountsStarted sorted address n) where
   -- modules before the last one that starts at or before the address end at or before the address
-  pub passed : (k : ℕ) (d : NumberedModule) → k + 1 < n → end_of (get_or held k d).loaded ≤ address
+  pub passed : (k : ℕ) (d : NumberedModule) → k + 1 < n
+      → end_of (get_or sorted k d).loaded ≤ address
   passed k d lt =
       let a = rising.apart k (n - 1) d (omega arith) (let w = started.within in omega arith) in
       let b = started.before (n - 1) d (omega arith) in
       omega arith
 
   -- a module at another index does not contain the address
-  others : (k : ℕ) (d : NumberedModule) → k < length held → (k + 1 < n) ⊎ (n ≤ k)
-      → holds address (get_or held k d).loaded ≡ false
+  others : (k : ℕ) (d : NumberedModule) → k < length sorted → (k + 1 < n) ⊎ (n ≤ k)
+      → holds address (get_or sorted k d).loaded ≡ false
   others k d lt (inl before) = test-past _ _ address (passed k d before)
   others k d lt (inr after) = test-below _ _ address (started.after k d after lt)
 
-  pub held_here : (at : ℕ) → at + 1 ≡ n → ((d : NumberedModule)
-      → address < end_of (get_or held at d).loaded)
-      → position (λ h. holds address h.loaded) held ≡ Some at
-  held_here at last ends = is_at (λ (h : NumberedModule). holds address h.loaded) held at
+  pub located : (at : ℕ) → at + 1 ≡ n → ((d : NumberedModule)
+      → address < end_of (get_or sorted at d).loaded)
+      → position (λ h. holds address h.loaded) sorted ≡ Some at
+  located at last ends = is_at (λ (h : NumberedModule). holds address h.loaded) sorted at
       (let w = started.within in omega arith)
       (λ d. test-holds _ _ address (started.before at d last) (ends d))
       (λ k d lt. test-past _ _ address (passed k d (omega arith)))
 
-  pub held_nowhere : ((at : ℕ) (d : NumberedModule) → at + 1 ≡ n
-      → end_of (get_or held at d).loaded ≤ address)
-      → position (λ h. holds address h.loaded) held ≡ None
-  held_nowhere past =
-      is_nowhere (λ (h : NumberedModule). holds address h.loaded) held
+  pub located_nowhere : ((at : ℕ) (d : NumberedModule) → at + 1 ≡ n
+      → end_of (get_or sorted at d).loaded ≤ address)
+      → position (λ h. holds address h.loaded) sorted ≡ None
+  located_nowhere past =
+      is_nowhere (λ (h : NumberedModule). holds address h.loaded) sorted
       (λ k d lt. at_place k d lt (cases_lt (k + 1) n) (cases_lt k n))
     where
-      at_place : (k : ℕ) (d : NumberedModule) → k < length held → (k + 1 < n) ⊎ (n ≤ k + 1)
+      at_place : (k : ℕ) (d : NumberedModule) → k < length sorted → (k + 1 < n) ⊎ (n ≤ k + 1)
           → (k < n) ⊎ (n ≤ k)
-          → holds address (get_or held k d).loaded ≡ false
+          → holds address (get_or sorted k d).loaded ≡ false
       at_place k d lt (inl before) from = others k d lt (inl before)
       at_place k d lt (inr to) (inr after) = others k d lt (inr after)
       at_place k d lt (inr to) (inl last) = test-past _ _ address (past k d (omega arith))

@@ -50,7 +50,7 @@ module _ {X : Type 0} where
       length-remove xs own lt in omega (arith, n, m)
 
 -- a module that was there before, with the same serial number and the same bytes
-pub record Known (hs : List NumberedModule) (h : NumberedModule) : Type 0 where
+pub record WasThere (hs : List NumberedModule) (h : NumberedModule) : Type 0 where
   pub was : NumberedModule
   pub there : Contains hs was
   pub serial : was.serial ≡ h.serial
@@ -58,7 +58,7 @@ pub record Known (hs : List NumberedModule) (h : NumberedModule) : Type 0 where
 
 pub sound-alike : (hs hs' : List NumberedModule) (loads : ℕ) (es : List (CacheKey × Option Place))
     → AreSound hs loads es
-    → ((h : NumberedModule) → Contains hs' h → Known hs h) → length hs' ≤ length hs
+    → ((h : NumberedModule) → Contains hs' h → WasThere hs h) → length hs' ≤ length hs
     → AreSound hs' loads es
 sound-alike hs hs' loads es sound known fewer = record {
   few = let f = sound.few in omega arith;
@@ -91,7 +91,7 @@ sound-turned hs loads es own at base d lt sound =
     (fewer hs own (if nat_le at own then at else at - 1) (rebased base (get_or hs own d)) lt)
   where
     by : (h : NumberedModule) → Contains (remove hs own) h ⊎ (h ≡ rebased base (get_or hs own d))
-        → Known hs h
+        → WasThere hs h
     by h (inl old) = record {
       was = h;
       there = contains_remove hs own h old;
@@ -146,12 +146,13 @@ sound-insert hs loads es at h new capacity sound = record {
         absurd (omega arith)
 
 -- an answer of a loaded module is cached
-pub sound-kept : (hs : List NumberedModule) (loads : ℕ) (es es' : List (CacheKey × Option Place))
+pub sound-unchanged : (hs : List NumberedModule) (loads : ℕ)
+    (es es' : List (CacheKey × Option Place))
     (at : ℕ) (d : NumberedModule)
     → at < length hs → AreSound hs loads es
     → ((e : CacheKey × Option Place) → Contains es' e
     → Contains es e ⊎ IsAnswerOf (get_or hs at d) e) → AreSound hs loads es'
-sound-kept hs loads es es' at d lt sound cached = record {
+sound-unchanged hs loads es es' at d lt sound cached = record {
   few = sound.few;
   below = sound.below;
   one = sound.one;

@@ -9,7 +9,8 @@ use Rattle.std.specs.Str.{bytes_eq}
 use Rattle.std.proofs.lemmas.Bool.{cases_lt, lt-ltb, ltb-true, false_from_ne_true}
 use Rattle.std.proofs.lemmas.List.Quantifiers.{position-Some}
 use Rattle.std.proofs.lemmas.Slice.Eq.{bytes_eq-Decides}
-use Rattle.module_map.specs.World.{Loaded, start_of, end_of, is_named, meets, placed, without}
+use Rattle.module_map.specs.World.{Loaded, start_of, end_of, is_named, meets, insert_by_address}
+use Rattle.module_map.specs.World.{without}
 use Rattle.module_map.specs.World.{first_overlap}
 use Rattle.module_map.specs.Changes.{place_fault}
 use Rattle.module_map.specs.declared.faults.MapFault.TheVariants.{Range, Overlap}
@@ -19,18 +20,18 @@ use Rattle.module_map.proofs.Positions.{is_at, is_nowhere, position_of_map}
 use Rattle.module_map.proofs.Names.{all-fail}
 
 module _ (p : Loaded → Bool) where
-  abbrev at_held : NumberedModule → Bool
-  at_held h = p h.loaded
+  abbrev at_loaded : NumberedModule → Bool
+  at_loaded h = p h.loaded
 
   none_any : (hs : List NumberedModule) → ((k : ℕ) (d : NumberedModule) → k < length hs
-      → at_held (get_or hs k d) ≡ false)
+      → at_loaded (get_or hs k d) ≡ false)
       → list_any p (map loaded_of hs) ≡ false
   none_any [] none = refl
   none_any (h ∷ hs) none = let first = none 0 h (omega arith) in
       rw first (none_any hs (λ k d lt. none (suc k) d (omega arith)))
 
   some_any : (hs : List NumberedModule) (i : ℕ) (d : NumberedModule) → i < length hs
-      → at_held (get_or hs i d) ≡ true
+      → at_loaded (get_or hs i d) ≡ true
       → list_any p (map loaded_of hs) ≡ true
   some_any [] i d lt here = absurd (omega arith)
   some_any (h ∷ hs) zero d lt here = rw here refl
@@ -42,15 +43,15 @@ module _ (p : Loaded → Bool) where
       or_true false = refl
 
   none_found : (hs : List NumberedModule)
-      → ((k : ℕ) (d : NumberedModule) → k < length hs → at_held (get_or hs k d) ≡ false)
+      → ((k : ℕ) (d : NumberedModule) → k < length hs → at_loaded (get_or hs k d) ≡ false)
       → find p (map loaded_of hs) ≡ None
   none_found [] none = refl
   none_found (h ∷ hs) none = let first = none 0 h (omega arith) in
       rw first (none_found hs (λ k d lt. none (suc k) d (omega arith)))
 
   some_found : (hs : List NumberedModule) (i : ℕ) (d : NumberedModule) → i < length hs
-      → at_held (get_or hs i d) ≡ true
-      → ((k : ℕ) → k < i → at_held (get_or hs k d) ≡ false)
+      → at_loaded (get_or hs i d) ≡ true
+      → ((k : ℕ) → k < i → at_loaded (get_or hs k d) ≡ false)
       → find p (map loaded_of hs) ≡ Some (get_or hs i d).loaded
   some_found [] i d lt here before = absurd (omega arith)
   some_found (h ∷ hs) zero d lt here before = rw here refl
@@ -58,29 +59,30 @@ module _ (p : Loaded → Bool) where
       let first = before 0 (omega arith) in
       rw first (some_found hs i d (omega arith) here (λ k k_lt. before (suc k) (omega arith)))
 
-  in-list : (hs : List NumberedModule) (i : ℕ) → position at_held hs ≡ Some i → i < length hs
+  in-list : (hs : List NumberedModule) (i : ℕ) → position at_loaded hs ≡ Some i → i < length hs
   in-list [] i e = cc
-  in-list (h ∷ hs) i e = (position-Some at_held (h ∷ hs) i h e).0
+  in-list (h ∷ hs) i e = (position-Some at_loaded (h ∷ hs) i h e).0
 
-  any_by : (hs : List NumberedModule) (o : Option ℕ) → position at_held hs ≡ o
+  any_by : (hs : List NumberedModule) (o : Option ℕ) → position at_loaded hs ≡ o
       → is_some o ≡ list_any p (map loaded_of hs)
-  any_by hs None e = sym (none_any hs (all-fail at_held hs e))
+  any_by hs None e = sym (none_any hs (all-fail at_loaded hs e))
   any_by [] (Some i) e = cc
-  any_by (h ∷ hs) (Some i) e = let at = position-Some at_held (h ∷ hs) i h e in
+  any_by (h ∷ hs) (Some i) e = let at = position-Some at_loaded (h ∷ hs) i h e in
       sym (some_any (h ∷ hs) i h at.0 at.1)
 
-  pub any_is : (hs : List NumberedModule) → is_some (position at_held hs)
+  pub any_is : (hs : List NumberedModule) → is_some (position at_loaded hs)
       ≡ list_any p (map loaded_of hs)
-  any_is hs = any_by hs (position at_held hs) refl
+  any_is hs = any_by hs (position at_loaded hs) refl
 
-  pub found_none : (hs : List NumberedModule) → position at_held hs ≡ None
+  pub found_none : (hs : List NumberedModule) → position at_loaded hs ≡ None
       → find p (map loaded_of hs) ≡ None
-  found_none hs e = none_found hs (all-fail at_held hs e)
+  found_none hs e = none_found hs (all-fail at_loaded hs e)
 
   pub found_some : (hs : List NumberedModule) (i : ℕ) (d : NumberedModule)
-      → position at_held hs ≡ Some i
+      → position at_loaded hs ≡ Some i
       → find p (map loaded_of hs) ≡ Some (get_or hs i d).loaded
-  found_some hs i d e = let at = position-Some at_held hs i d e in some_found hs i d at.0 at.1 at.2
+  found_some hs i d e = let at =
+      position-Some at_loaded hs i d e in some_found hs i d at.0 at.1 at.2
 
 pub slice_get_map : (hs : List NumberedModule) (i : ℕ) (d : NumberedModule) → i < length hs
     → slice_get (map loaded_of hs) i ≡ Some (get_or hs i d).loaded
@@ -99,26 +101,26 @@ slice_get_past (h ∷ hs) (suc i) le = slice_get_past hs i (omega arith)
 not-below : (a b : ℕ) → b ≤ a → nat_lt a b ≡ false
 not-below a b le = false_from_ne_true (nat_lt a b) (λ e. let lt = ltb-true a b e in omega arith)
 
-pub placed-at : (hs : List NumberedModule) (at : ℕ) (h : NumberedModule) → at ≤ length hs
+pub insert-at : (hs : List NumberedModule) (at : ℕ) (h : NumberedModule) → at ≤ length hs
     → ((k : ℕ) (d : NumberedModule) → k < at → start_of (get_or hs k d).loaded < start_of h.loaded)
     → ((d : NumberedModule) → at < length hs → start_of h.loaded ≤ start_of (get_or hs at d).loaded)
-    → placed h.loaded (map loaded_of hs) ≡ map loaded_of (insert hs at h)
-placed-at [] zero h le before after = refl
-placed-at [] (suc at) h le before after = absurd (omega arith)
-placed-at (x ∷ xs) zero h le before after =
+    → insert_by_address h.loaded (map loaded_of hs) ≡ map loaded_of (insert hs at h)
+insert-at [] zero h le before after = refl
+insert-at [] (suc at) h le before after = absurd (omega arith)
+insert-at (x ∷ xs) zero h le before after =
     rw (not-below (start_of x.loaded) (start_of h.loaded) (after x (omega arith))) refl
-placed-at (x ∷ xs) (suc at) h le before after =
+insert-at (x ∷ xs) (suc at) h le before after =
     rw (lt-ltb (start_of x.loaded) (start_of h.loaded) (before 0 x (omega arith)))
     (ap (λ (l : List Loaded). x.loaded ∷ l)
-    (placed-at xs at h (omega arith) (λ k d lt. before (suc k) d (omega arith))
+    (insert-at xs at h (omega arith) (λ k d lt. before (suc k) d (omega arith))
     (λ d lt. after d (omega arith))))
 
 -- inserting a module into a gap is inserting it in ascending order of address
-pub placed-in : (hs : List NumberedModule) (at : ℕ) (h : NumberedModule)
+pub insert-clear : (hs : List NumberedModule) (at : ℕ) (h : NumberedModule)
     → IsClear hs (length hs) (start_of h.loaded) (end_of h.loaded) at
     → start_of h.loaded < end_of h.loaded
-    → placed h.loaded (map loaded_of hs) ≡ map loaded_of (insert hs at h)
-placed-in hs at h clear order = let within = clear.within in placed-at hs at h within
+    → insert_by_address h.loaded (map loaded_of hs) ≡ map loaded_of (insert hs at h)
+insert-clear hs at h clear order = let within = clear.within in insert-at hs at h within
     (λ k d lt. clear.under k d lt (inl (omega arith)))
     (λ d lt. let a = clear.after at d (omega arith) lt (inl lt) in omega arith)
 

@@ -6,7 +6,7 @@ use Rattle.std.specs.List.{list_any}
 use Rattle.addr_table.specs.Module.{fault_of}
 use Rattle.dwarf_bytes.specs.declared.fault.LoadFault.{LoadFault}
 use Rattle.module_map.specs.World.{World, most_modules, Loaded, start_of, end_of, is_named}
-use Rattle.module_map.specs.World.{placed, without, moved_to, first_overlap}
+use Rattle.module_map.specs.World.{insert_by_address, without, moved_to, first_overlap}
 use Rattle.module_map.specs.declared.faults.Extent.{Extent}
 use Rattle.module_map.specs.declared.faults.MapFault.{MapFault}
 use Rattle.module_map.specs.declared.faults.MapFault.TheVariants.{NameTaken, NoModule, Full}
@@ -39,7 +39,8 @@ load_fault world m short =
     else object_fault (fault_of m.bytes) (place_fault m world.modules)))
 
 abbrev pub with_module : World → Loaded → World
-with_module world m = record { modules = placed m world.modules; loads = world.loads + 1 }
+with_module world m =
+    record { modules = insert_by_address m world.modules; loads = world.loads + 1 }
 
 abbrev pub IsExtentOf : Extent → Loaded → Type 0
 IsExtentOf extent m = (extent.low ≡ start_of m) × (extent.high ≡ end_of m)
@@ -68,7 +69,7 @@ move_fault (Some m) world base = place_fault (moved_to base m) world.modules
 
 abbrev pub with_moved : World → Loaded → ℕ → World
 with_moved world m base =
-    record world { modules = placed (moved_to base m) (without m.name world.modules) }
+    record world { modules = insert_by_address (moved_to base m) (without m.name world.modules) }
 
 -- the module with a name is moved
 abbrev pub IsMoved : World → Option Loaded → ℕ → Extent → World → Type 0

@@ -11,14 +11,14 @@ pub record Listed : Type 0 where
   pub high : ℕ
   pub base : ℕ
 
-abbrev pub listed : Loaded → Listed
-listed m = record { name = m.name; low = start_of m; high = end_of m; base = m.base }
+abbrev pub list_item : Loaded → Listed
+list_item m = record { name = m.name; low = start_of m; high = end_of m; base = m.base }
 
 -- the modules in ascending order of address
 abbrev pub listing : World → List Listed
-listing world = map listed world.modules
+listing world = map list_item world.modules
 
 -- the data of a list item
-abbrev pub item_listed : Bor (List ℕ) × Extent × ℕ → Listed
-item_listed item =
+abbrev pub item_data : Bor (List ℕ) × Extent × ℕ → Listed
+item_data item =
     record { name = item.0.now; low = item.1.low; high = item.1.high; base = item.2 }

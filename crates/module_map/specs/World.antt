@@ -42,10 +42,11 @@ abbrev pub meets : Loaded → Loaded → Bool
 meets m other = nat_lt (start_of m) (end_of other) && nat_lt (start_of other) (end_of m)
 
 -- the modules with one more inserted, in ascending order of address
-abbrev pub placed : Loaded → List Loaded → List Loaded
-placed m [] = m ∷ []
-placed m (other ∷ others) =
-    if nat_lt (start_of other) (start_of m) then other ∷ placed m others else m ∷ other ∷ others
+abbrev pub insert_by_address : Loaded → List Loaded → List Loaded
+insert_by_address m [] = m ∷ []
+insert_by_address m (other ∷ others) =
+    if nat_lt (start_of other) (start_of m) then other ∷ insert_by_address m others
+    else m ∷ other ∷ others
 
 -- the modules with other names
 abbrev pub without : List ℕ → List Loaded → List Loaded

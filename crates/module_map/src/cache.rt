@@ -57,8 +57,9 @@ fn recall(answers: &mut LruCache<CacheKey, Option<Place>>, key: CacheKey) -> Opt
 
 /// Caches an answer if memory allows. If the cache is full, evicts the least recently used answer.
 fn remember(answers: &mut LruCache<CacheKey, Option<Place>>, key: CacheKey, place: Option<Place>)
-    ensures kept { (answers.new.entries ≡ answers.old.entries) ⊎ (answers.new.entries ≡ with_answer
-        key place (record { entries = answers.old.entries; capacity = answers.old.cap })) }
+    ensures change { (answers.new.entries ≡ answers.old.entries)
+        ⊎ (answers.new.entries ≡ with_answer key place
+        (record { entries = answers.old.entries; capacity = answers.old.cap })) }
     ensures cached { (e : CacheEntry) → Contains answers.new.entries e →
         Contains answers.old.entries e ⊎ (e ≡ (key, place)) }
     ensures grows { (length answers.old.entries ≤ length answers.new.entries)
@@ -119,7 +120,7 @@ impl Cache {
     /// Caches an answer if memory allows. If the cache is full, evicts the least recently used
     /// answer.
     pub fn put(&mut self, key: CacheKey, place: Option<Place>)
-        ensures kept { (self.new.entries ≡ self.old.entries)
+        ensures change { (self.new.entries ≡ self.old.entries)
             ⊎ (self.new.entries ≡ with_answer key place self.old) }
         ensures cached { (e : CacheEntry) → Contains self.new.entries e →
             Contains self.old.entries e ⊎ (e ≡ (key, place)) }

@@ -21,7 +21,7 @@ pub fn look_up(
     address: u64,
 ) -> Option<Place>
     requires within { at < length sorted.now }
-    requires held { (d : NumberedModule) →
+    requires starts { (d : NumberedModule) →
         start_of (slice_index_or sorted.now at d).loaded ≤ address }
     requires right { (h : NumberedModule) (e : CacheEntry) → Contains sorted.now h →
         Contains cache.old.entries e → h.serial ≡ e.0.serial →

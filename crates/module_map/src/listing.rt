@@ -1,7 +1,7 @@
 //! Iteration over the modules.
 
 ghost use Rattle.std.specs.Prelude.{◌≡◌, map};
-ghost use Rattle.module_map.specs.Listing.{listed};
+ghost use Rattle.module_map.specs.Listing.{list_item};
 
 use crate::faults::Extent;
 use crate::loaded_module::LoadedModule;
@@ -16,16 +16,16 @@ pub struct Listing<'a> {
 
 impl<'a> Model for Listing<'a> {
     ghost use Rattle.std.specs.Prelude.{List, map};
-    ghost use Rattle.module_map.specs.Listing.{Listed, listed};
+    ghost use Rattle.module_map.specs.Listing.{Listed, list_item};
 
     ghost Value = { List Listed };
 
-    ghost view = { λ l. map (λ h. listed h.loaded) l.rest.now };
+    ghost view = { λ l. map (λ h. list_item h.loaded) l.rest.now };
 }
 
 impl<'a> Listing<'a> {
     pub(crate) fn new(entries: &'a [LoadedModule]) -> Listing<'a>
-        ensures { result ≡ map (λ h. listed h.loaded) entries.entry.now }
+        ensures { result ≡ map (λ h. list_item h.loaded) entries.entry.now }
     {
         Listing { rest: entries }
     }
@@ -34,11 +34,11 @@ impl<'a> Listing<'a> {
 impl<'a> Iterator for Listing<'a> {
     ghost use Rattle.std.specs.Prelude.{List};
     ghost use Rattle.std.specs.Iterator.{YieldsFirstBy, item_count};
-    ghost use Rattle.module_map.specs.Listing.{item_listed};
+    ghost use Rattle.module_map.specs.Listing.{item_data};
 
     type Item = (&'a str, Extent, u64);
 
-    ghost next_gives = { YieldsFirstBy item_listed (λ s. s) };
+    ghost next_gives = { YieldsFirstBy item_data (λ s. s) };
 
     ghost remaining = { item_count (λ s. s) };
 

@@ -82,7 +82,7 @@ impl Modules {
     pub fn steps(&self) -> Steps
         ensures { (result.compares ≡ self.now.compares) × (result.decoded ≡ self.now.decoded) }
     {
-        self.steps // compares of the last ask, bytes of all loads
+        self.steps // comparisons of the last ask, bytes of all loads
     }
 
     /// Returns the number of cached answers and the capacity of the cache.

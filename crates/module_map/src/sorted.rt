@@ -6,7 +6,7 @@ ghost use Rattle.std.specs.Prelude.{slice_index_or};
 ghost use Rattle.addr_table.specs.Steps.{counted, bits};
 ghost use Rattle.addr_table.specs.Module.{high_of};
 ghost use Rattle.module_map.specs.World.{is_named, holds, start_of, end_of, moved_to, AreRising};
-ghost use Rattle.module_map.specs.Listing.{listed};
+ghost use Rattle.module_map.specs.Listing.{list_item};
 ghost use Rattle.module_map.specs.Private.Serials.{NumberedModule, loaded_of};
 ghost use Rattle.module_map.specs.Private.Rising.{CountsStarted, IsClear, Overlaps, IsOnly};
 ghost use Rattle.module_map.specs.Private.Rising.{IsNext, relocated, rebased};
@@ -96,13 +96,14 @@ impl SortedModules {
         ensures place { result ≡ position (λ h. is_named name.now h.loaded) self.now }
         ensures only { IfSome result (IsOnly self.now name.now) }
     {
-        let _ = &self.list; // a field that is used lends the invariant of the type
+        // Using a field gives the prover the invariant of the type.
+        let _ = &self.list;
         self.first_of(name)
     }
 
     /// Returns an iterator over the modules.
     pub fn list(&self) -> Listing<'_>
-        ensures modules { result ≡ map (λ h. listed h.loaded) self.now }
+        ensures modules { result ≡ map (λ h. list_item h.loaded) self.now }
         ensures rising { AreRising (map loaded_of self.now) }
     {
         Listing::new(self.list.as_slice())
@@ -150,7 +151,8 @@ impl SortedModules {
         ensures counted { (n : ℕ) × (n ≤ bits (length self.now) + 1) × OnSome result (2 ≤ n)
             × (steps.new ≡ counted n steps.old) }
     {
-        let _ = &self.list; // a field that is used lends the invariant of the type
+        // Using a field gives the prover the invariant of the type.
+        let _ = &self.list;
         let started = self.count_started(address, steps);
         if started == 0 {
             return None;
@@ -169,7 +171,8 @@ impl SortedModules {
         ensures { MatchResult result (IsClear self.now own extent.low extent.high)
             (Overlaps self.now own extent.low extent.high) }
     {
-        let _ = &self.list; // a field that is used lends the invariant of the type
+        // Using a field gives the prover the invariant of the type.
+        let _ = &self.list;
         let len = self.len();
         let mut uncounted = Steps::default();
         let started = self.count_started(extent.low, &mut uncounted);

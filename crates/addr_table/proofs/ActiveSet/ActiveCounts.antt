@@ -16,25 +16,27 @@ use Rattle.addr_table.specs.Private.Bits.{is_filled}
 use Rattle.addr_table.specs.Private.Active.{ActiveSet, one_more}
 use Rattle.addr_table.specs.Private.Sweep.{Reach, AreEnds, UpTo, Above, keyed, IsBalanced}
 use Rattle.addr_table.proofs.Endpoints.TakenLaws.{one-if, one_of, one_upto, taken-high, taken-low}
-use Rattle.addr_table.proofs.Sweeping.CountLaws.{one_held, held, ends-balance}
+use Rattle.addr_table.proofs.Sweeping.CountLaws.{one_with_key, count_with_key, ends-balance}
 
 -- ---- the active set
 
 -- after all endpoints up to an address, each count is the number of ranges that contain the address
-pub active-held : (reaches : List Reach) (opens closes : List End) (p q a : ℕ) (active : ActiveSet)
+pub active-counts : (reaches : List Reach) (opens closes : List End) (p q a : ℕ)
+    (active : ActiveSet)
     → AreEnds reaches opens closes
     → IsBalanced opens closes p q active
     → UpTo a (take p opens) → Above a (drop p opens) → UpTo a (take q closes)
     → Above a (drop q closes) → (k : ℕ)
-    → get_or active.counts k 0 ≡ held k a reaches
-active-held reaches opens closes p q a active h b ol oh cl ch k =
+    → get_or active.counts k 0 ≡ count_with_key k a reaches
+active-counts reaches opens closes p q a active h b ol oh cl ch k =
     let balance : get_or active.counts k 0 + keyed k (take q closes) ≡ keyed k (take p opens) =
     b.balance k in
     let o1 : keyed k (take p opens) ≤ sum_by (one_upto k a) opens = taken-low k a p opens ol in
     let o2 : sum_by (one_upto k a) opens ≤ keyed k (take p opens) = taken-high k a p opens oh in
     let c1 : keyed k (take q closes) ≤ sum_by (one_upto k a) closes = taken-low k a q closes cl in
     let c2 : sum_by (one_upto k a) closes ≤ keyed k (take q closes) = taken-high k a q closes ch in
-    let e : sum_by (one_upto k a) opens ≡ sum_by (one_upto k a) closes + held k a reaches =
+    let e : sum_by (one_upto k a) opens
+    ≡ sum_by (one_upto k a) closes + count_with_key k a reaches =
     ends-balance reaches opens closes k a h in
     omega arith
 
@@ -51,7 +53,8 @@ close-active reaches opens closes p q a active h b oh cl k one =
     let o2 : sum_by (one_upto k a) opens ≤ keyed k (take p opens) = taken-high k a p opens oh in
     let c1 : keyed k (take (q + 1) closes) ≤ sum_by (one_upto k a) closes =
     taken-low k a (q + 1) closes cl in
-    let e : sum_by (one_upto k a) opens ≡ sum_by (one_upto k a) closes + held k a reaches =
+    let e : sum_by (one_upto k a) opens
+    ≡ sum_by (one_upto k a) closes + count_with_key k a reaches =
     ends-balance reaches opens closes k a h in
     omega arith
 
@@ -171,14 +174,14 @@ count-few opens closes p q active k b =
     count_by-le-length (λ (e : End). e.key == k) (take p opens) in omega arith
 
 -- whether a range with a key contains an address
-pub held-any : (k a : ℕ) (reaches : List Reach) → nat_lt 0 (held k a reaches)
+pub count-any : (k a : ℕ) (reaches : List Reach) → nat_lt 0 (count_with_key k a reaches)
     ≡ list_any (λ r. (r.key == k) && holds a r.range) reaches
-held-any k a [] = refl
-held-any k a (r ∷ reaches) =
-    let sum : held k a (r ∷ reaches) ≡ one_held k a r + held k a reaches =
-    sum_by-cons (one_held k a) r reaches in
-    ap (nat_lt 0) sum ∙ step ((r.key == k) && holds a r.range) (held k a reaches)
-    ∙ ap (λ b. ((r.key == k) && holds a r.range) || b) (held-any k a reaches)
+count-any k a [] = refl
+count-any k a (r ∷ reaches) =
+    let sum : count_with_key k a (r ∷ reaches) ≡ one_with_key k a r + count_with_key k a reaches =
+    sum_by-cons (one_with_key k a) r reaches in
+    ap (nat_lt 0) sum ∙ step ((r.key == k) && holds a r.range) (count_with_key k a reaches)
+    ∙ ap (λ b. ((r.key == k) && holds a r.range) || b) (count-any k a reaches)
   where
     step : (b : Bool) (n : ℕ) → nat_lt 0 (one-if b + n) ≡ (b || nat_lt 0 n)
     step true n = grind (arith, nat_tests)
@@ -191,8 +194,8 @@ pub active-any : (reaches : List Reach) (opens closes : List End) (p q a : ℕ) 
     → Above a (drop q closes) → (k : ℕ)
     → is_filled active.counts k ≡ list_any (λ r. (r.key == k) && holds a r.range) reaches
 active-any reaches opens closes p q a active h b ol oh cl ch k =
-    ap (nat_lt 0) (active-held reaches opens closes p q a active h b ol oh cl ch k)
-    ∙ held-any k a reaches
+    ap (nat_lt 0) (active-counts reaches opens closes p q a active h b ol oh cl ch k)
+    ∙ count-any k a reaches
 
 -- in an ascending list, all endpoints are above an address from the first such endpoint on
 pub rest-above : (ends : List End) (p a : ℕ) (d : End) → IsNonDecreasingBy (λ (e : End). e.at) ends

@@ -8,9 +8,9 @@ use Rattle.std.proofs.lemmas.List.{length-set, length-replicate, get_or-replicat
 use Rattle.addr_table.specs.Private.Bits.{has, is_filled, Summarizes, IsFirstFrom, IsFirstIn}
 use Rattle.addr_table.specs.Private.Active.{IsIndexed}
 use Rattle.addr_table.proofs.ActiveSet.FirstBits.{not-filled}
-use Rattle.addr_table.proofs.ActiveSet.FilledLaws.{summary-set, summary-clear, summary-kept}
+use Rattle.addr_table.proofs.ActiveSet.FilledLaws.{summary-set, summary-clear, summary-unchanged}
 use Rattle.addr_table.proofs.ActiveSet.FilledLaws.{filled-put}
-use Rattle.addr_table.proofs.ActiveSet.FilledLaws.{filled-zero, filled-kept, has-filled}
+use Rattle.addr_table.proofs.ActiveSet.FilledLaws.{filled-zero, filled-unchanged, has-filled}
 
 -- one bit is set, or cleared; the other bits are unchanged
 abbrev pub SetsBit : List ℕ → List ℕ → ℕ → Type 0
@@ -85,15 +85,15 @@ key-within counts words blocks groups key h lt =
     let x : key / 64 / 64 < length blocks = omega arith in
     (w, x, omega arith)
 
-pub indexed-kept : (counts words blocks groups : List ℕ) (key v : ℕ)
+pub indexed-unchanged : (counts words blocks groups : List ℕ) (key v : ℕ)
     → IsIndexed counts words blocks groups → key < length counts → 0 < v
     → 0 < get_or counts key 0
     → IsIndexed (set counts key v) words blocks groups
-indexed-kept counts words blocks groups key v h lt some old =
+indexed-unchanged counts words blocks groups key v h lt some old =
     let lc = length-set counts key v in
     record {
-      words_are = summary-kept counts words _ h.words_are
-          (λ w. filled-kept counts key v w lt some old);
+      words_are = summary-unchanged counts words _ h.words_are
+          (λ w. filled-unchanged counts key v w lt some old);
       blocks_are = h.blocks_are;
       groups_are = h.groups_are;
       words_are_enough = let q = h.words_are_enough in rw lc q;
@@ -111,7 +111,7 @@ indexed-word counts words blocks groups words' key h lt lw cw fw =
     record {
       words_are = summary-clear counts words _ words' key h.words_are
           (λ w. filled-zero counts key w lt) cw;
-      blocks_are = summary-kept words blocks words' h.blocks_are fw;
+      blocks_are = summary-unchanged words blocks words' h.blocks_are fw;
       groups_are = h.groups_are;
       words_are_enough = let q = h.words_are_enough in rw (lc, lw) q;
       blocks_are_enough = let q = h.blocks_are_enough in rw lw q;
@@ -132,7 +132,7 @@ indexed-block counts words blocks groups words' blocks' key h lt lw lb cw ew cb 
       words_are = summary-clear counts words _ words' key h.words_are
           (λ w. filled-zero counts key w lt) cw;
       blocks_are = summary-clear words blocks words' blocks' (key / 64) h.blocks_are ew cb;
-      groups_are = summary-kept blocks groups blocks' h.groups_are fb;
+      groups_are = summary-unchanged blocks groups blocks' h.groups_are fb;
       words_are_enough = let q = h.words_are_enough in rw (lc, lw) q;
       blocks_are_enough = let q = h.blocks_are_enough in rw (lw, lb) q;
       groups_are_enough = let q = h.groups_are_enough in rw lb q;

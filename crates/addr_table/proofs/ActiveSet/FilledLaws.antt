@@ -26,10 +26,10 @@ summary-clear lower upper lower' upper' i h filled bits =
     record { same = λ k. bits k ∙ ap (λ b. not (k == i) && b) (h.same k) ∙ sym (filled k) }
 
 -- the same numbers are 0
-pub summary-kept : (lower upper lower' : List ℕ) → Summarizes lower upper
+pub summary-unchanged : (lower upper lower' : List ℕ) → Summarizes lower upper
     → ((w : ℕ) → is_filled lower' w ≡ is_filled lower w)
     → Summarizes lower' upper
-summary-kept lower upper lower' h filled = record { same = λ k. h.same k ∙ sym (filled k) }
+summary-unchanged lower upper lower' h filled = record { same = λ k. h.same k ∙ sym (filled k) }
 
 -- ---- replacing a number of a list
 
@@ -67,9 +67,9 @@ filled-zero xs i w lt = elim (cases_eq w i) [
 ]
 
 -- a nonzero number by another
-pub filled-kept : (xs : List ℕ) (i v w : ℕ) → i < length xs → 0 < v → 0 < get_or xs i 0
+pub filled-unchanged : (xs : List ℕ) (i v w : ℕ) → i < length xs → 0 < v → 0 < get_or xs i 0
     → is_filled (set xs i v) w ≡ is_filled xs w
-filled-kept xs i v w lt some old = elim (cases_eq w i) [
+filled-unchanged xs i v w lt some old = elim (cases_eq w i) [
   | inl same ↦
       let here : get_or (set xs i v) w 0 ≡ v = read-put xs i v w lt same in
       let there : get_or xs w 0 ≡ get_or xs i 0 = ap (λ u. get_or xs u 0) same in

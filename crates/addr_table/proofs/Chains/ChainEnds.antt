@@ -12,10 +12,10 @@ use Rattle.dwarf_entries.specs.Scopes.{Scope}
 use Rattle.dwarf_entries.specs.Order.{AreNumbered}
 use Rattle.addr_table.specs.Chains.{is_at, encloses, enclosing, chain_among}
 use Rattle.addr_table.specs.Frames.{place_chain}
-use Rattle.addr_table.specs.Private.Parents.{around, IsParent}
-use Rattle.addr_table.specs.Private.Walks.{HaveParents, near_of, chain_around, top_around}
+use Rattle.addr_table.specs.Private.Parents.{enclosing_at, IsParent}
+use Rattle.addr_table.specs.Private.Walks.{HaveParents, parent_code, chain_at, top_at}
 use Rattle.addr_table.specs.Private.Walks.{search_start_of, IsWalk}
-use Rattle.addr_table.proofs.Chains.ParentWalkLaws.{held-none, held-some, number_in}
+use Rattle.addr_table.proofs.Chains.ParentWalkLaws.{chain-none, chain-some, number_in}
 
 -- ---- whether scopes remain
 
@@ -26,19 +26,19 @@ filled s xs h = full (reverse xs) (sym (reverse-append (s ∷ []) xs) ∙ h)
     full [] h = cc
     full (y ∷ ys) h = cc
 
-pub left-none : (scopes : List Scope) (nears : List ℕ) (a near top : ℕ)
-    → IsWalk scopes nears a near top
-    → reverse (chain_around a scopes near) ≡ [] → near ≡ 0
-left-none scopes nears a near top h none = elim h.ends [
+pub left-none : (scopes : List Scope) (codes : List ℕ) (a code top : ℕ)
+    → IsWalk scopes codes a code top
+    → reverse (chain_at a scopes code) ≡ [] → code ≡ 0
+left-none scopes codes a code top h none = elim h.ends [
   | inl e ↦ e
-  | inr there ↦ by (find (is_at Subprogram a) (around scopes near)) refl there
+  | inr there ↦ by (find (is_at Subprogram a) (enclosing_at scopes code)) refl there
 ]
   where
-    by : (o : Option Scope) → find (is_at Subprogram a) (around scopes near) ≡ o
-        → number_in o ≡ Some top → near ≡ 0
+    by : (o : Option Scope) → find (is_at Subprogram a) (enclosing_at scopes code) ≡ o
+        → number_in o ≡ Some top → code ≡ 0
     by None f t = cc
     by (Some s) f t =
-        let held = held-some a (around scopes near) s f in
+        let held = chain-some a (enclosing_at scopes code) s f in
         absurd (filled s held.0 (ap (reverse {A = Scope}) (sym held.1) ∙ none))
 
 -- ---- the start
@@ -54,11 +54,11 @@ past-end m total number (s ∷ xs) h le =
     beyond : (b : Bool) (e : ℕ) → e ≤ number → (b && nat_lt number e) ≡ false
     beyond b e le = grind (arith, nat_tests)
 
-pub started-chain : (a : ℕ) (scopes : List Scope) (nears : List ℕ) (scope : Option ℕ)
-    → HaveParents scopes nears
-    → place_chain a scope scopes ≡ chain_around a scopes (search_start_of (length scopes) scope)
-started-chain a scopes nears None have = refl
-started-chain a scopes nears (Some number) have = elim (cases_lt number (length scopes)) [
+pub started-chain : (a : ℕ) (scopes : List Scope) (codes : List ℕ) (scope : Option ℕ)
+    → HaveParents scopes codes
+    → place_chain a scope scopes ≡ chain_at a scopes (search_start_of (length scopes) scope)
+started-chain a scopes codes None have = refl
+started-chain a scopes codes (Some number) have = elim (cases_lt number (length scopes)) [
   | inl lt ↦ (let inside : nat_lt number (length scopes) ≡ true = grind (arith, nat_tests) in
       rw inside refl)
   | inr le ↦
@@ -76,46 +76,47 @@ search_start-within count (Some number) = elim (cases_lt number count) [
 ]
 
 -- without an outermost scope the chain is empty
-pub no-chain : (a : ℕ) (scopes : List Scope) (near : ℕ) → top_around a scopes near ≡ None
-    → chain_around a scopes near ≡ []
-no-chain a scopes near h = held-none a (around scopes near)
-    (by (find (is_at Subprogram a) (around scopes near)) h)
+pub no-chain : (a : ℕ) (scopes : List Scope) (code : ℕ) → top_at a scopes code ≡ None
+    → chain_at a scopes code ≡ []
+no-chain a scopes code h = chain-none a (enclosing_at scopes code)
+    (by (find (is_at Subprogram a) (enclosing_at scopes code)) h)
   where
     by : (o : Option Scope) → number_in o ≡ None → o ≡ None
     by None h = refl
     by (Some s) h = cc
 
-pub left-empty : (scopes : List Scope) (a near : ℕ) → near ≡ 0
-    → reverse (chain_around a scopes near) ≡ []
-left-empty scopes a near none = ap (λ (n : ℕ). reverse (chain_around a scopes n)) none
+pub left-empty : (scopes : List Scope) (a code : ℕ) → code ≡ 0
+    → reverse (chain_at a scopes code) ≡ []
+left-empty scopes a code none = ap (λ (n : ℕ). reverse (chain_at a scopes n)) none
 
-pub parent-within : (scopes : List Scope) (nears : List ℕ) (k : ℕ) → HaveParents scopes nears
-    → k < length scopes → get_or nears k 0 ≤ length scopes
-parent-within scopes nears k have lt =
-    let all : length nears ≡ length scopes = have.all in
-    let within : k < length nears = omega arith in
-    let parent : IsParent scopes k (get_or nears k 0) = have.parents k within in
-    let low : get_or nears k 0 ≤ k = parent.near_is in omega arith
+pub parent-within : (scopes : List Scope) (codes : List ℕ) (k : ℕ) → HaveParents scopes codes
+    → k < length scopes → get_or codes k 0 ≤ length scopes
+parent-within scopes codes k have lt =
+    let all : length codes ≡ length scopes = have.all in
+    let within : k < length codes = omega arith in
+    let parent : IsParent scopes k (get_or codes k 0) = have.parents k within in
+    let low : get_or codes k 0 ≤ k = parent.code_is in omega arith
 
 -- ---- a scope, or none
 
-pub near-some : (scope : Option ℕ) (k : ℕ) → scope ≡ Some k → near_of scope ≡ suc k
-near-some scope k is = ap near_of is
+pub code-some : (scope : Option ℕ) (k : ℕ) → scope ≡ Some k → parent_code scope ≡ suc k
+code-some scope k is = ap parent_code is
 
-pub near-before : (scope : Option ℕ) (n : ℕ) → SomeIff scope (1 ≤ n) (n - 1) → near_of scope ≡ n
-near-before None n none = let under : ¬ (1 ≤ n) = none in omega arith
-near-before (Some k) n h = let some : 1 ≤ n = h.0 in let is : k ≡ n - 1 = h.1 in omega arith
+pub code-before : (scope : Option ℕ) (n : ℕ) → SomeIff scope (1 ≤ n) (n - 1) → parent_code scope ≡ n
+code-before None n none = let under : ¬ (1 ≤ n) = none in omega arith
+code-before (Some k) n h = let some : 1 ≤ n = h.0 in let is : k ≡ n - 1 = h.1 in omega arith
 
-pub near-below : (scope : Option ℕ) (k n : ℕ) → scope ≡ Some k → near_of scope ≤ n → k < n
-near-below scope k n is le = let near : near_of scope ≡ suc k = near-some scope k is in omega arith
+pub code-below : (scope : Option ℕ) (k n : ℕ) → scope ≡ Some k → parent_code scope ≤ n → k < n
+code-below scope k n is le = let code : parent_code scope ≡ suc k =
+    code-some scope k is in omega arith
 
 -- with an outermost scope the chain is not empty
-pub some-chain : (a : ℕ) (scopes : List Scope) (near top : ℕ) → top_around a scopes near ≡ Some top
-    → (s : Scope) × (inner : List Scope) × (chain_around a scopes near ≡ s ∷ inner)
-some-chain a scopes near top h = by (find (is_at Subprogram a) (around scopes near)) refl h
+pub some-chain : (a : ℕ) (scopes : List Scope) (code top : ℕ) → top_at a scopes code ≡ Some top
+    → (s : Scope) × (inner : List Scope) × (chain_at a scopes code ≡ s ∷ inner)
+some-chain a scopes code top h = by (find (is_at Subprogram a) (enclosing_at scopes code)) refl h
   where
-    by : (o : Option Scope) → find (is_at Subprogram a) (around scopes near) ≡ o
+    by : (o : Option Scope) → find (is_at Subprogram a) (enclosing_at scopes code) ≡ o
         → number_in o ≡ Some top
-        → (s : Scope) × (inner : List Scope) × (chain_around a scopes near ≡ s ∷ inner)
+        → (s : Scope) × (inner : List Scope) × (chain_at a scopes code ≡ s ∷ inner)
     by None f t = cc
-    by (Some s) f t = let held = held-some a (around scopes near) s f in (s, held.0, held.1)
+    by (Some s) f t = let held = chain-some a (enclosing_at scopes code) s f in (s, held.0, held.1)

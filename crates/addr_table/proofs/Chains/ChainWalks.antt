@@ -9,8 +9,9 @@ use Rattle.addr_table.specs.Chains.{chain_of}
 use Rattle.addr_table.specs.Places.{last, scope_at}
 use Rattle.addr_table.specs.Private.Bits.{is_filled, IsFirstIn}
 use Rattle.addr_table.specs.Private.Sweep.{IsActiveBelow, IsActiveAt}
-use Rattle.addr_table.proofs.Chains.ChainLaws.{chain-none, chain-some, inside, inside-none}
-use Rattle.addr_table.proofs.Chains.ChainLaws.{inside-some}
+use Rattle.addr_table.proofs.Chains.ChainLaws.{chain-none, chain-some, chain_inside}
+use Rattle.addr_table.proofs.Chains.ChainLaws.{chain_inside-none}
+use Rattle.addr_table.proofs.Chains.ChainLaws.{chain_inside-some}
 use Rattle.addr_table.proofs.Chains.ChainLaws.{number-at}
 
 -- ---- walking down the chain
@@ -35,33 +36,36 @@ no_scope =
 -- below scope n are not counted yet.
 pub record IsWalked (a : ℕ) (scopes : List Scope) (n before now : ℕ) : Type 0 where
   pub last_is : last (chain_of a scopes)
-      ≡ last (get_or scopes n no_scope ∷ inside a scopes n no_scope)
-  pub calls : now + length (inside a scopes n no_scope) + 1 ≤ before + length (chain_of a scopes) +
+      ≡ last (get_or scopes n no_scope ∷ chain_inside a scopes n no_scope)
+  pub calls : now + length (chain_inside a scopes n no_scope) + 1 ≤ before + length
+      (chain_of a scopes) +
       1
 
-pub walked-start : (rows a n limit before now : ℕ) (scopes : List Scope) (counts : List ℕ)
+pub walk-start : (rows a n limit before now : ℕ) (scopes : List Scope) (counts : List ℕ)
     → AreNumbered 0 (length scopes) scopes
     → IsActiveBelow rows scopes limit a counts → n < limit
     → IsFirstIn (is_filled counts) rows (rows + length scopes) (Some (rows + n)) → now ≤ before + 1
     → IsWalked a scopes n before now
-walked-start rows a n limit before now scopes counts numbered h under found le =
+walk-start rows a n limit before now scopes counts numbered h under found le =
     let is = chain-some rows a n limit scopes counts no_scope numbered h under found in
-    let len : length (chain_of a scopes) ≡ suc (length (inside a scopes n no_scope)) =
+    let len : length (chain_of a scopes) ≡ suc (length (chain_inside a scopes n no_scope)) =
     ap length is in
     record { last_is = ap last is; calls = omega arith }
 
-pub walked-more : (rows a n m limit before now after : ℕ) (scopes : List Scope) (counts : List ℕ)
+pub walk-more : (rows a n m limit before now after : ℕ) (scopes : List Scope) (counts : List ℕ)
     → AreNumbered 0 (length scopes) scopes
     → IsActiveBelow rows scopes limit a counts → n < length scopes → m < limit
     → IsFirstIn (is_filled counts) (rows + length scopes + n + 1)
     (rows + length scopes + (get_or scopes n no_scope).«end»)
     (Some (rows + length scopes + m))
     → IsWalked a scopes n before now → after ≤ now + 1 → IsWalked a scopes m before after
-walked-more rows a n m limit before now after scopes counts numbered h lt under found w le =
-    let is = inside-some rows a n m limit scopes counts no_scope numbered h lt under found in
-    let len : length (inside a scopes n no_scope) ≡ suc (length (inside a scopes m no_scope)) =
+walk-more rows a n m limit before now after scopes counts numbered h lt under found w le =
+    let is = chain_inside-some rows a n m limit scopes counts no_scope numbered h lt under found in
+    let len : length (chain_inside a scopes n no_scope)
+    ≡ suc (length (chain_inside a scopes m no_scope)) =
     ap length is in
-    let was : now + length (inside a scopes n no_scope) + 1 ≤ before + length (chain_of a scopes) +
+    let was : now + length (chain_inside a scopes n no_scope) + 1 ≤ before + length
+    (chain_of a scopes) +
     1 = w.calls in
     record {
       last_is = w.last_is ∙ ap (λ (ss : List Scope). last (get_or scopes n no_scope ∷ ss))
@@ -69,7 +73,7 @@ walked-more rows a n m limit before now after scopes counts numbered h lt under 
       calls = omega arith;
     }
 
-pub walked-end : (rows a n limit before now after : ℕ) (scopes : List Scope) (counts : List ℕ)
+pub walk-end : (rows a n limit before now after : ℕ) (scopes : List Scope) (counts : List ℕ)
     → AreNumbered 0 (length scopes) scopes
     → IsActiveBelow rows scopes limit a counts → n < length scopes
     → (get_or scopes n no_scope).«end» ≤ limit
@@ -77,10 +81,11 @@ pub walked-end : (rows a n limit before now after : ℕ) (scopes : List Scope) (
     (rows + length scopes + (get_or scopes n no_scope).«end») None
     → IsWalked a scopes n before now → after ≤ now + 1
     → (Some n ≡ scope_at scopes a) × (after ≤ before + length (chain_of a scopes) + 1)
-walked-end rows a n limit before now after scopes counts numbered h lt fits none w le =
-    let is = inside-none rows a n limit scopes counts no_scope numbered h lt fits none in
-    let len : length (inside a scopes n no_scope) ≡ 0 = ap length is in
-    let was : now + length (inside a scopes n no_scope) + 1 ≤ before + length (chain_of a scopes) +
+walk-end rows a n limit before now after scopes counts numbered h lt fits none w le =
+    let is = chain_inside-none rows a n limit scopes counts no_scope numbered h lt fits none in
+    let len : length (chain_inside a scopes n no_scope) ≡ 0 = ap length is in
+    let was : now + length (chain_inside a scopes n no_scope) + 1 ≤ before + length
+    (chain_of a scopes) +
     1 = w.calls in
     let at = number-at 0 (length scopes) n scopes no_scope numbered lt in
     let number : (get_or scopes n no_scope).number ≡ 0 + n = at.0 in
@@ -91,12 +96,12 @@ walked-end rows a n limit before now after scopes counts numbered h lt fits none
       omega arith,
     )
 
-pub walked-none : (rows a before now : ℕ) (scopes : List Scope) (counts : List ℕ)
+pub walk-none : (rows a before now : ℕ) (scopes : List Scope) (counts : List ℕ)
     → AreNumbered 0 (length scopes) scopes
     → IsActiveAt rows scopes a counts
     → IsFirstIn (is_filled counts) rows (rows + length scopes) None → now ≤ before + 1
     → (None ≡ scope_at scopes a) × (now ≤ before + length (chain_of a scopes) + 1)
-walked-none rows a before now scopes counts numbered h none le =
+walk-none rows a before now scopes counts numbered h none le =
     let is = chain-none rows a scopes counts no_scope numbered h none in
     (sym (ap (λ (ss : List Scope). option_map (λ s. s.number) (last ss)) is), omega arith)
 
@@ -115,7 +120,7 @@ pub start-walk : (rows total a key n limit before now : ℕ) (scopes : List Scop
 start-walk rows total a key n limit before now scopes counts is numbered h under found key_is le =
     let T : ℕ → Type 0 = λ t. IsFirstIn (is_filled counts) rows (rows + t) (Some key) in
     let K : ℕ → Type 0 = λ k. IsFirstIn (is_filled counts) rows (rows + length scopes) (Some k) in
-    walked-start rows a n limit before now scopes counts (numbered-all total scopes is numbered) h
+    walk-start rows a n limit before now scopes counts (numbered-all total scopes is numbered) h
     under (subst K key_is (subst T is found)) le
 
 pub no-walk : (rows total a before now : ℕ) (scopes : List Scope) (counts : List ℕ)
@@ -125,7 +130,7 @@ pub no-walk : (rows total a before now : ℕ) (scopes : List Scope) (counts : Li
     → (None ≡ scope_at scopes a) × (now ≤ before + length (chain_of a scopes) + 1)
 no-walk rows total a before now scopes counts is numbered h none le =
     let T : ℕ → Type 0 = λ t. IsFirstIn (is_filled counts) rows (rows + t) None in
-    walked-none rows a before now scopes counts (numbered-all total scopes is numbered) h
+    walk-none rows a before now scopes counts (numbered-all total scopes is numbered) h
     (subst T is none) le
 
 pub more-walk : (rows total a key n m past limit before now after : ℕ) (scopes : List Scope)
@@ -147,7 +152,7 @@ more-walk rows total a key n m past limit before now after scopes counts counts'
     let T : ℕ → Type 0 =
     λ t. IsFirstIn (is_filled counts) (rows + t + n + 1)
     (rows + t + (get_or scopes n no_scope).«end») (Some (rows + t + m)) in
-    walked-more rows a n m limit before now after scopes counts
+    walk-more rows a n m limit before now after scopes counts
     (numbered-all total scopes is numbered) h (omega arith) under
     (subst T is (subst P past_is (subst K key_is (subst C same found)))) w le
 
@@ -166,7 +171,7 @@ end-walk rows total a n past limit before now after scopes counts counts' is num
     None in
     let T : ℕ → Type 0 = λ t. IsFirstIn (is_filled counts) (rows + t + n + 1)
     (rows + t + (get_or scopes n no_scope).«end») None in
-    walked-end rows a n limit before now after scopes counts (numbered-all total scopes is numbered)
+    walk-end rows a n limit before now after scopes counts (numbered-all total scopes is numbered)
     h (omega arith) (omega arith)
     (subst T is (subst P past_is (subst C same none))) w le
 

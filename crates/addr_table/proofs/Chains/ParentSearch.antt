@@ -10,44 +10,47 @@ use Rattle.dwarf_entries.specs.Scopes.{Scope}
 use Rattle.dwarf_entries.specs.Order.{AreNumbered, AreNested, AreInOrder}
 use Rattle.addr_table.proofs.Chains.ChainWalks.{no_scope}
 use Rattle.addr_table.specs.Chains.{encloses, enclosing}
-use Rattle.addr_table.specs.Private.Parents.{around, IsParent, AreParents}
+use Rattle.addr_table.specs.Private.Parents.{enclosing_at, IsParent, AreParents}
 use Rattle.addr_table.proofs.Chains.ParentLaws.{ends_past, later-enclose, is_before, itself-last}
-use Rattle.addr_table.proofs.Chains.ParentLaws.{before-around}
+use Rattle.addr_table.proofs.Chains.ParentLaws.{enclosing_at-before}
 
--- ---- the state of the search: the scopes that enclose scope i are scope i itself and the scopes
--- around near that end after it
+-- ---- the state of the search: the scopes that enclose scope i are scope i itself, and the
+-- candidate and its enclosing scopes that end after i. `code` is 1 + the number of the candidate,
+-- or 0 for none.
 
-pub record IsNear (scopes : List Scope) (i near : ℕ) : Type 0 where
-  pub within : near ≤ i
-  pub rest : (d : Scope) → enclosing i scopes ≡ filter (ends_past i) (around scopes near)
+pub record IsCandidate (scopes : List Scope) (i code : ℕ) : Type 0 where
+  pub within : code ≤ i
+  pub rest : (d : Scope) → enclosing i scopes ≡ filter (ends_past i) (enclosing_at scopes code)
       ++ get_or scopes i d ∷ []
 
-pub near-first : (scopes : List Scope) (i : ℕ) → AreInOrder scopes → i < length scopes
-    → IsNear scopes i i
-near-first scopes i order lt = record {
+pub candidate-first : (scopes : List Scope) (i : ℕ) → AreInOrder scopes → i < length scopes
+    → IsCandidate scopes i i
+candidate-first scopes i order lt = record {
   within = omega arith;
   rest =
       λ d. subst (λ n. enclosing n scopes ≡ filter (is_before n) scopes ++ get_or scopes i d ∷ [])
       (zero-add i)
       (itself-last 0 (length scopes) i scopes d order.numbered lt)
       ∙ ap (λ (zs : List Scope). zs ++ get_or scopes i d ∷ [])
-      (before-around i scopes (length scopes) order.numbered);
+      (enclosing_at-before i scopes (length scopes) order.numbered);
 }
 
-pub near-outwards : (scopes : List Scope) (i k near : ℕ) (d : Scope) → IsNear scopes i (suc k)
+pub candidate-parent : (scopes : List Scope) (i k code : ℕ) (d : Scope)
+    → IsCandidate scopes i (suc k)
     → k < length scopes
-    → IsParent scopes k near → (get_or scopes k d).«end» ≤ i → IsNear scopes i near
-near-outwards scopes i k near d h lt parent ends =
+    → IsParent scopes k code → (get_or scopes k d).«end» ≤ i → IsCandidate scopes i code
+candidate-parent scopes i k code d h lt parent ends =
     let inside : suc k ≤ i = h.within in
-    let low : near ≤ k = parent.near_is in
+    let low : code ≤ k = parent.code_is in
     let out : ends_past i (get_or scopes k d) ≡ false = past i (get_or scopes k d).«end» ends in
     let one : filter (ends_past i) (get_or scopes k d ∷ []) ≡ [] = rw out refl in
     let same : filter (ends_past i) (enclosing k scopes)
-    ≡ filter (ends_past i) (around scopes near) =
-    ap (filter (ends_past i)) (parent.around_is d)
-    ∙ (filter-append (ends_past i) (around scopes near) (get_or scopes k d ∷ [])
-    ∙ (ap (λ (zs : List Scope). filter (ends_past i) (around scopes near) ++ zs) one ∙ append-nil
-    (filter (ends_past i) (around scopes near)))) in
+    ≡ filter (ends_past i) (enclosing_at scopes code) =
+    ap (filter (ends_past i)) (parent.enclosing_is d)
+    ∙ (filter-append (ends_past i) (enclosing_at scopes code) (get_or scopes k d ∷ [])
+    ∙ (ap (λ (zs : List Scope). filter (ends_past i) (enclosing_at scopes code) ++ zs) one
+    ∙ append-nil
+    (filter (ends_past i) (enclosing_at scopes code)))) in
     record {
       within = omega arith;
       rest =
@@ -121,25 +124,25 @@ all-past m total (suc k) i (s ∷ xs) d h n lt past =
     cases true t rest = rw (wide t) (ap (λ (zs : List Scope). s ∷ zs) rest)
     cases false t rest = rest
 
-pub near-found : (scopes : List Scope) (i k : ℕ) (d : Scope) → AreInOrder scopes
-    → IsNear scopes i (suc k) → k < length scopes
+pub candidate-found : (scopes : List Scope) (i k : ℕ) (d : Scope) → AreInOrder scopes
+    → IsCandidate scopes i (suc k) → k < length scopes
     → i < (get_or scopes k d).«end» → IsParent scopes i (suc k)
-near-found scopes i k d order h lt past =
-    let all : filter (ends_past i) (around scopes (suc k)) ≡ around scopes (suc k) =
+candidate-found scopes i k d order h lt past =
+    let all : filter (ends_past i) (enclosing_at scopes (suc k)) ≡ enclosing_at scopes (suc k) =
     subst (λ n. filter (ends_past i) (enclosing n scopes) ≡ enclosing n scopes) (zero-add k)
     (all-past 0 (length scopes) k i scopes d order.numbered order.nested lt past) in
     record {
-      near_is = h.within;
-      around_is =
+      code_is = h.within;
+      enclosing_is =
           λ e. h.rest e ∙ ap (λ (zs : List Scope). zs ++ get_or scopes i e ∷ []) all;
     }
 
 -- ---- one parent more
 
-pub parents-more : (scopes : List Scope) (nears : List ℕ) (near : ℕ) → AreParents scopes nears
-    → IsParent scopes (length nears) near
-    → AreParents scopes (nears ++ near ∷ [])
-parents-more scopes nears near h one i lt = cases nears i h one lt
+pub parents-more : (scopes : List Scope) (codes : List ℕ) (code : ℕ) → AreParents scopes codes
+    → IsParent scopes (length codes) code
+    → AreParents scopes (codes ++ code ∷ [])
+parents-more scopes codes code h one i lt = cases codes i h one lt
   where
     last_of : (i n : ℕ) (xs : List ℕ) → i < length (xs ++ n ∷ [])
         → (i < length xs) ⊎ (i ≡ length xs)
@@ -159,38 +162,38 @@ parents-more scopes nears near h one i lt = cases nears i h one lt
     at_end n [] = refl
     at_end n (x ∷ xs) = at_end n xs
 
-    cases : (nears : List ℕ) (i : ℕ) → AreParents scopes nears → IsParent scopes (length nears) near
-        → i < length (nears ++ near ∷ [])
-        → IsParent scopes i (get_or (nears ++ near ∷ []) i 0)
-    cases nears i h one lt = elim (last_of i near nears lt) [
+    cases : (codes : List ℕ) (i : ℕ) → AreParents scopes codes → IsParent scopes (length codes) code
+        → i < length (codes ++ code ∷ [])
+        → IsParent scopes i (get_or (codes ++ code ∷ []) i 0)
+    cases codes i h one lt = elim (last_of i code codes lt) [
       | inl l ↦ (let P : ℕ → Type 0 = λ p. IsParent scopes i p in
-          subst P (sym (early i near nears l)) (h i l))
-      | inr e ↦ (let Q : ℕ → Type 0 = λ j. IsParent scopes j (get_or (nears ++ near ∷ []) j 0) in
-          let P : ℕ → Type 0 = λ p. IsParent scopes (length nears) p in
-          subst Q (sym e) (subst P (sym (at_end near nears)) one))
+          subst P (sym (early i code codes l)) (h i l))
+      | inr e ↦ (let Q : ℕ → Type 0 = λ j. IsParent scopes j (get_or (codes ++ code ∷ []) j 0) in
+          let P : ℕ → Type 0 = λ p. IsParent scopes (length codes) p in
+          subst Q (sym e) (subst P (sym (at_end code codes)) one))
     ]
 
 -- ---- the same for the ends of the program
 
--- the candidate before near does not enclose scope i, so the search continues with its parent
-pub step-outwards : (scopes : List Scope) (nears : List ℕ) (i k past : ℕ)
-    → AreParents scopes nears → length nears ≡ i → i < length scopes → IsNear scopes i (suc k)
+-- candidate k does not enclose scope i, so the search continues with its parent
+pub search-step : (scopes : List Scope) (codes : List ℕ) (i k past : ℕ)
+    → AreParents scopes codes → length codes ≡ i → i < length scopes → IsCandidate scopes i (suc k)
     → ((d : Scope) → past ≡ (get_or scopes k d).«end») → past ≤ i
-    → IsNear scopes i (get_or nears k 0)
-step-outwards scopes nears i k past parents len lt h is ends =
+    → IsCandidate scopes i (get_or codes k 0)
+search-step scopes codes i k past parents len lt h is ends =
     let within : suc k ≤ i = h.within in
     let over : past ≡ (get_or scopes k no_scope).«end» = is no_scope in
-    near-outwards scopes i k (get_or nears k 0) no_scope h (omega arith)
+    candidate-parent scopes i k (get_or codes k 0) no_scope h (omega arith)
     (parents k (omega arith)) (omega arith)
 
-pub stop-outwards : (scopes : List Scope) (i k past : ℕ) → AreInOrder scopes → i < length scopes
-    → IsNear scopes i (suc k) → ((d : Scope) → past ≡ (get_or scopes k d).«end») → i < past
+pub search-stop : (scopes : List Scope) (i k past : ℕ) → AreInOrder scopes → i < length scopes
+    → IsCandidate scopes i (suc k) → ((d : Scope) → past ≡ (get_or scopes k d).«end») → i < past
     → IsParent scopes i (suc k)
-stop-outwards scopes i k past order lt h is beyond =
+search-stop scopes i k past order lt h is beyond =
     let within : suc k ≤ i = h.within in
     let under : past ≡ (get_or scopes k no_scope).«end» = is no_scope in
-    near-found scopes i k no_scope order h (omega arith) (omega arith)
+    candidate-found scopes i k no_scope order h (omega arith) (omega arith)
 
-pub start-outwards : (scopes : List Scope) (i : ℕ) → AreInOrder scopes → i < length scopes
-    → IsNear scopes i i
-start-outwards scopes i order lt = near-first scopes i order lt
+pub search-start : (scopes : List Scope) (i : ℕ) → AreInOrder scopes → i < length scopes
+    → IsCandidate scopes i i
+search-start scopes i order lt = candidate-first scopes i order lt

@@ -6,8 +6,8 @@ use Rattle.std.specs.Option.{option_or}
 use Rattle.dwarf_walk.specs.declared.scope_kind.ScopeKind.TheVariants.{Subprogram}
 use Rattle.dwarf_entries.specs.Scopes.{Scope}
 use Rattle.addr_table.specs.Chains.{is_at}
-use Rattle.addr_table.specs.Private.Parents.{around, IsParent}
-use Rattle.addr_table.specs.Private.Walks.{HaveParents, top_around}
+use Rattle.addr_table.specs.Private.Parents.{enclosing_at, IsParent}
+use Rattle.addr_table.specs.Private.Walks.{HaveParents, top_at}
 use Rattle.addr_table.proofs.Chains.ParentSearch.{number-there}
 use Rattle.addr_table.proofs.Chains.ParentWalkLaws.{found-more, number_in}
 
@@ -27,20 +27,20 @@ number-or None p = refl
 number-or (Some s) p = refl
 
 -- the outermost scope after one step to the parent
-top-split : (a : ℕ) (scopes : List Scope) (nears : List ℕ) (k : ℕ) (d : Scope)
-    → HaveParents scopes nears → k < length scopes
-    → top_around a scopes (suc k) ≡ option_or (top_around a scopes (get_or nears k 0))
+top-split : (a : ℕ) (scopes : List Scope) (codes : List ℕ) (k : ℕ) (d : Scope)
+    → HaveParents scopes codes → k < length scopes
+    → top_at a scopes (suc k) ≡ option_or (top_at a scopes (get_or codes k 0))
     (cond (is_at Subprogram a (get_or scopes k d)) (Some k) None)
-top-split a scopes nears k d have lt =
-    ap (λ (xs : List Scope). number_in (find (is_at Subprogram a) xs)) (parent.around_is d)
-    ∙ (ap number_in (found-more a (around scopes (get_or nears k 0)) (get_or scopes k d))
-    ∙ (number-or (find (is_at Subprogram a) (around scopes (get_or nears k 0)))
+top-split a scopes codes k d have lt =
+    ap (λ (xs : List Scope). number_in (find (is_at Subprogram a) xs)) (parent.enclosing_is d)
+    ∙ (ap number_in (found-more a (enclosing_at scopes (get_or codes k 0)) (get_or scopes k d))
+    ∙ (number-or (find (is_at Subprogram a) (enclosing_at scopes (get_or codes k 0)))
     (cond (is_at Subprogram a (get_or scopes k d)) (Some (get_or scopes k d)) None)
-    ∙ ap (option_or (top_around a scopes (get_or nears k 0)))
+    ∙ ap (option_or (top_at a scopes (get_or codes k 0)))
     (inside (is_at Subprogram a (get_or scopes k d)))))
   where
-    parent : IsParent scopes k (get_or nears k 0)
-    parent = have.parents k (let all : length nears ≡ length scopes = have.all in omega arith)
+    parent : IsParent scopes k (get_or codes k 0)
+    parent = have.parents k (let all : length codes ≡ length scopes = have.all in omega arith)
 
     there : (get_or scopes k d).number ≡ k
     there = number-there 0 (length scopes) k scopes d have.order.numbered lt ∙ zero-add k
@@ -51,24 +51,24 @@ top-split a scopes nears k d have lt =
 
 -- after some steps from a number
 abbrev pub IsTop : ℕ → List Scope → ℕ → ℕ → Option ℕ → Type 0
-IsTop a scopes start near found = top_around a scopes start ≡ option_or (top_around a scopes near)
+IsTop a scopes start code found = top_at a scopes start ≡ option_or (top_at a scopes code)
     found
 
 pub top-start : (a : ℕ) (scopes : List Scope) (start : ℕ) → IsTop a scopes start start None
-top-start a scopes start = sym (or-none (top_around a scopes start))
+top-start a scopes start = sym (or-none (top_at a scopes start))
 
-pub top-end : (a : ℕ) (scopes : List Scope) (start near : ℕ) (found : Option ℕ)
-    → IsTop a scopes start near found → near ≡ 0
-    → found ≡ top_around a scopes start
-top-end a scopes start near found h none =
-    sym (h ∙ ap (λ (n : ℕ). option_or (top_around a scopes n) found) none)
+pub top-end : (a : ℕ) (scopes : List Scope) (start code : ℕ) (found : Option ℕ)
+    → IsTop a scopes start code found → code ≡ 0
+    → found ≡ top_at a scopes start
+top-end a scopes start code found h none =
+    sym (h ∙ ap (λ (n : ℕ). option_or (top_at a scopes n) found) none)
 
-pub top-more : (a : ℕ) (scopes : List Scope) (nears : List ℕ) (start k : ℕ) (found : Option ℕ)
+pub top-more : (a : ℕ) (scopes : List Scope) (codes : List ℕ) (start k : ℕ) (found : Option ℕ)
     (b : Bool)
-    → HaveParents scopes nears → k < length scopes → IsTop a scopes start (suc k) found
+    → HaveParents scopes codes → k < length scopes → IsTop a scopes start (suc k) found
     → ((d : Scope) → b ≡ is_at Subprogram a (get_or scopes k d))
-    → IsTop a scopes start (get_or nears k 0) (cond b (Some k) found)
-top-more a scopes nears start k found b have le h held = by b held
+    → IsTop a scopes start (get_or codes k 0) (cond b (Some k) found)
+top-more a scopes codes start k found b have le h held = by b held
   where
     no_scope : Scope
     no_scope =
@@ -86,17 +86,17 @@ top-more a scopes nears start k found b have le h held = by b held
         }
 
     split : (b : Bool) → ((d : Scope) → b ≡ is_at Subprogram a (get_or scopes k d))
-        → top_around a scopes start ≡ option_or
-        (option_or (top_around a scopes (get_or nears k 0)) (cond b (Some k) None)) found
+        → top_at a scopes start ≡ option_or
+        (option_or (top_at a scopes (get_or codes k 0)) (cond b (Some k) None)) found
     split b held =
         h
         ∙ ap (λ (o : Option ℕ). option_or o found)
-        (top-split a scopes nears k no_scope have le
-        ∙ ap (λ (c : Bool). option_or (top_around a scopes (get_or nears k 0))
+        (top-split a scopes codes k no_scope have le
+        ∙ ap (λ (c : Bool). option_or (top_at a scopes (get_or codes k 0))
         (cond c (Some k) None)) (sym (held no_scope)))
 
     by : (b : Bool) → ((d : Scope) → b ≡ is_at Subprogram a (get_or scopes k d))
-        → IsTop a scopes start (get_or nears k 0) (cond b (Some k) found)
-    by true held = split true held ∙ or-some k (top_around a scopes (get_or nears k 0)) found
+        → IsTop a scopes start (get_or codes k 0) (cond b (Some k) found)
+    by true held = split true held ∙ or-some k (top_at a scopes (get_or codes k 0)) found
     by false held = split false held ∙ ap (λ (o : Option ℕ). option_or o found)
-        (or-none (top_around a scopes (get_or nears k 0)))
+        (or-none (top_at a scopes (get_or codes k 0)))

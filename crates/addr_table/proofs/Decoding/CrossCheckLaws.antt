@@ -18,7 +18,7 @@ use Rattle.dwarf_lines.specs.Lines.{Lines}
 use Rattle.addr_table.specs.CrossChecks.{is_bad_root, is_bad_call, is_bad_scope, check_scope}
 use Rattle.addr_table.specs.CrossChecks.{check_unit}
 use Rattle.addr_table.specs.CrossChecks.{cross_checks_of, RefusesAs}
-use Rattle.addr_table.proofs.Decoding.EachTurns.{EachSoFar, each_none, each-more, each-bad}
+use Rattle.addr_table.proofs.Decoding.EachTurns.{EachSoFar, each_none, each-more, each-invalid}
 use Rattle.addr_table.proofs.Decoding.EachTurns.{each-over}
 
 -- the scopes of a unit before a number are valid
@@ -37,9 +37,9 @@ pub record OfUnit (scopes : List Scope) (first past number : ℕ) : Type 0 where
   pub low : first ≤ number
   pub high : number < min past (length scopes)
 
-inside : (scopes : List Scope) (first past number : ℕ) → OfUnit scopes first past number
+number-within : (scopes : List Scope) (first past number : ℕ) → OfUnit scopes first past number
     → number - first < length (slice_range scopes first past)
-inside scopes first past number h =
+number-within scopes first past number h =
     let low : first ≤ number = h.low in
     let high : number < min past (length scopes) = h.high in
     let len : length (slice_range scopes first past) ≡ min (past - first) (length scopes - first) =
@@ -72,19 +72,20 @@ scopes-more lines scopes first past number d of h good =
     rw next
     (each-more (check_scope lines) (slice_range scopes first past) (number - first)
     (get_or scopes number d) tt h
-    (inside scopes first past number of) (there scopes first past number d of) (rw good refl))
+    (number-within scopes first past number of) (there scopes first past number d of)
+    (rw good refl))
 
-pub scopes-bad : (lines : Lines) (scopes : List Scope) (first past number at : ℕ) (d : Scope)
+pub scopes-invalid : (lines : Lines) (scopes : List Scope) (first past number at : ℕ) (d : Scope)
     → OfUnit scopes first past number
     → ScopesSoFar lines scopes first past number → is_bad_scope lines (get_or scopes number d)
     ≡ true
     → at ≡ (get_or scopes number d).offset
     → each (λ _ s. check_scope lines s) (slice_range scopes first past) ≡ Err (causes.CallFile, at)
-scopes-bad lines scopes first past number at d of h bad is =
+scopes-invalid lines scopes first past number at d of h bad is =
     rw is
-    (each-bad (check_scope lines) (slice_range scopes first past) (number - first)
+    (each-invalid (check_scope lines) (slice_range scopes first past) (number - first)
     (get_or scopes number d)
-    (causes.CallFile, (get_or scopes number d).offset) h (inside scopes first past number of)
+    (causes.CallFile, (get_or scopes number d).offset) h (number-within scopes first past number of)
     (there scopes first past number d of)
     (rw bad refl))
 
@@ -99,17 +100,18 @@ scopes-over lines scopes first past number h past_is =
     each-over (check_scope lines) (slice_range scopes first past) (number - first) h (omega arith)
 
 -- a unit
-pub unit-bad : (lines : Lines) (scopes : List Scope) (root : Root) → is_bad_root lines root ≡ true
+pub unit-invalid : (lines : Lines) (scopes : List Scope) (root : Root) → is_bad_root lines root
+    ≡ true
     → check_unit lines scopes root ≡ Err (causes.StmtList, root.offset)
-unit-bad lines scopes root bad = rw bad refl
+unit-invalid lines scopes root bad = rw bad refl
 
-pub unit-good : (lines : Lines) (scopes : List Scope) (root : Root)
+pub unit-valid : (lines : Lines) (scopes : List Scope) (root : Root)
     (outcome : Result (Unit {0}) LoadFault)
     → is_bad_root lines root ≡ false
     → RefusesAs outcome (each (λ _ s. check_scope lines s)
     (slice_range scopes root.first root.past))
     → RefusesAs outcome (check_unit lines scopes root)
-unit-good lines scopes root outcome good h = rw good h
+unit-valid lines scopes root outcome good h = rw good h
 
 -- unit by unit
 abbrev pub UnitsSoFar : Lines → List Scope → List Root → ℕ → Type 0
@@ -134,16 +136,16 @@ units-more lines tree roots i d u are h lt good =
     let t = root-there tree roots i d are lt in
     each-more (check_unit lines tree.scopes) tree.roots i (get_or roots i d) good.0 h t.0 t.1 good.1
 
-pub units-bad : (lines : Lines) (tree : Tree) (roots : List Root) (i : ℕ) (d : Root)
+pub units-invalid : (lines : Lines) (tree : Tree) (roots : List Root) (i : ℕ) (d : Root)
     (fault : LoadFault) → roots ≡ tree.roots
     → UnitsSoFar lines tree.scopes tree.roots i → i < length roots
     → RefusesAs (Err fault) (check_unit lines tree.scopes (get_or roots i d))
     → RefusesAs (Err fault) (cross_checks_of lines tree)
 unfolding cross_checks_of
-units-bad lines tree roots i d fault are h lt bad =
+units-invalid lines tree roots i d fault are h lt bad =
     let t = root-there tree roots i d are lt in (
       bad.0,
-      each-bad (check_unit lines tree.scopes) tree.roots i (get_or roots i d)
+      each-invalid (check_unit lines tree.scopes) tree.roots i (get_or roots i d)
           (fault.cause, fault.at) h t.0 t.1 bad.1,
     )
 
@@ -157,14 +159,14 @@ units-over lines tree roots i are h past =
 
 -- ---- the data of a scope of the program
 
-pub returned-bad : (lines : Lines) (scopes : List Scope) (k : Kept) (s : Scope) (b : Bool)
+pub returned-invalid : (lines : Lines) (scopes : List Scope) (k : Kept) (s : Scope) (b : Bool)
     → HasDataOf scopes k s
     → b ≡ (is_kind Inlined (own_of k).kind && is_bad_call lines
     (call_file_at scopes (own_of k).number)
     (stmt_list_at scopes (own_of k).number))
     → b ≡ is_bad_scope lines s
 unfolding is_bad_scope
-returned-bad lines scopes k s b tells is =
+returned-invalid lines scopes k s b tells is =
     is
     ∙ (ap (λ (o : Own). is_kind Inlined o.kind && is_bad_call lines
     (call_file_at scopes (own_of k).number)

@@ -56,16 +56,16 @@ entries-read bytes found is = ap (sections_in bytes) is
 
 -- ---- a fault of each pass, if all passes before it succeed
 
-pub elf-bad : (bytes : List ℕ) (fault : LoadFault) → elf_fault bytes ≡ Some fault
+pub elf-invalid : (bytes : List ℕ) (fault : LoadFault) → elf_fault bytes ≡ Some fault
     → fault_of bytes ≡ Some fault
 unfolding fault_of decoded
-elf-bad bytes fault e = rw e refl
+elf-invalid bytes fault e = rw e refl
 
-pub lines-bad : (bytes : List ℕ) (s : LineSections) (fault : LoadFault) → elf_fault bytes ≡ None
+pub lines-invalid : (bytes : List ℕ) (s : LineSections) (fault : LoadFault) → elf_fault bytes ≡ None
     → s ≡ line_sections bytes
     → lines_in s ≡ Err fault → fault_of bytes ≡ Some fault
 unfolding fault_of decoded
-lines-bad bytes s fault e is bad = rw (e, ap lines_in (sym is) ∙ bad) refl
+lines-invalid bytes s fault e is bad = rw (e, ap lines_in (sym is) ∙ bad) refl
 
 -- the results of decoding after the line programs, after the entries, and after the cross-checks
 pub record LinesRead (bytes : List ℕ) (lines : Lines) : Type 0 where
@@ -76,39 +76,40 @@ pub record TreeRead (bytes : List ℕ) (lines : Lines) (tree : Tree) : Type 0 wh
   pub behind : LinesRead bytes lines
   pub tree-is : tree_of (entry_sections bytes) ≡ Ok tree
 
-pub lines-good : (bytes : List ℕ) (s : LineSections) (lines : Lines) → elf_fault bytes ≡ None
+pub lines-valid : (bytes : List ℕ) (s : LineSections) (lines : Lines) → elf_fault bytes ≡ None
     → s ≡ line_sections bytes
     → lines_in s ≡ Ok lines → LinesRead bytes lines
-lines-good bytes s lines e is good = record { elf = e; lines-are = ap lines_in (sym is) ∙ good }
+lines-valid bytes s lines e is good = record { elf = e; lines-are = ap lines_in (sym is) ∙ good }
 
-pub tree-bad : (bytes : List ℕ) (lines : Lines) (s : Sections) (fault : LoadFault)
+pub tree-invalid : (bytes : List ℕ) (lines : Lines) (s : Sections) (fault : LoadFault)
     → LinesRead bytes lines → s ≡ entry_sections bytes
     → tree_of s ≡ Err fault → fault_of bytes ≡ Some fault
 unfolding fault_of decoded
-tree-bad bytes lines s fault h is bad = rw (h.elf, h.lines-are, ap tree_of (sym is) ∙ bad) refl
+tree-invalid bytes lines s fault h is bad = rw (h.elf, h.lines-are, ap tree_of (sym is) ∙ bad) refl
 
-pub tree-good : (bytes : List ℕ) (lines : Lines) (s : Sections) (tree : Tree)
+pub tree-valid : (bytes : List ℕ) (lines : Lines) (s : Sections) (tree : Tree)
     → LinesRead bytes lines → s ≡ entry_sections bytes
     → tree_of s ≡ Ok tree → TreeRead bytes lines tree
-tree-good bytes lines s tree h is good = record { behind = h; tree-is = ap tree_of (sym is) ∙ good }
+tree-valid bytes lines s tree h is good =
+    record { behind = h; tree-is = ap tree_of (sym is) ∙ good }
 
 of-section : (fault : LoadFault) (section : Section) → fault.section ≡ section
     → record { section = section; cause = fault.cause; at = fault.at } ≡ fault
 of-section fault section is = rw (← is) refl
 
-pub joins-bad : (bytes : List ℕ) (lines : Lines) (tree : Tree) (fault : LoadFault)
+pub cross_checks-invalid : (bytes : List ℕ) (lines : Lines) (tree : Tree) (fault : LoadFault)
     → TreeRead bytes lines tree
     → RefusesAs (Err fault) (cross_checks_of lines tree) → fault_of bytes ≡ Some fault
 unfolding fault_of decoded
-joins-bad bytes lines tree fault h bad =
+cross_checks-invalid bytes lines tree fault h bad =
     rw (h.behind.elf, h.behind.lines-are, h.tree-is, bad.1)
     (ap (λ (f : LoadFault). Some f) (of-section fault names.DebugInfo bad.0))
 
-pub all-good : (bytes : List ℕ) (lines : Lines) (tree : Tree) → TreeRead bytes lines tree
+pub all-valid : (bytes : List ℕ) (lines : Lines) (tree : Tree) → TreeRead bytes lines tree
     → RefusesAs (Ok tt) (cross_checks_of lines tree)
     → decoded bytes ≡ Ok (record { lines = lines; tree = tree })
 unfolding decoded
-all-good bytes lines tree h good = rw (h.behind.elf, h.behind.lines-are, h.tree-is, good.1) refl
+all-valid bytes lines tree h good = rw (h.behind.elf, h.behind.lines-are, h.tree-is, good.1) refl
 
 pub well-formed : (bytes : List ℕ) (d : Decoded) → decoded bytes ≡ Ok d → IsWellFormed bytes
 unfolding IsWellFormed
@@ -116,24 +117,26 @@ well-formed bytes d is = rw is refl
 
 -- ---- the data stored for the object
 
-pub kept-good : (bytes : List ℕ) (sections : Layout) (lines : Lines) (tree : Tree) (rows : List Row)
-    (nears : List ℕ) (list : List Segment)
+pub decoded-valid : (bytes : List ℕ) (sections : Layout) (lines : Lines) (tree : Tree)
+    (rows : List Row)
+    (codes : List ℕ) (list : List Segment)
     (calls : ℕ)
     → sections ≡ layout bytes → TreeRead bytes lines tree → RefusesAs (Ok tt)
     (cross_checks_of lines tree)
-    → rows ≡ lines.rows → AreInOrder tree.scopes → AreParents tree.scopes nears
-    → length nears ≡ length tree.scopes
+    → rows ≡ lines.rows → AreInOrder tree.scopes → AreParents tree.scopes codes
+    → length codes ≡ length tree.scopes
     → list ≡ segments_of rows tree.scopes → least_calls rows tree.scopes ≤ calls
     → calls ≤ most_calls rows tree.scopes
-    → IsDecoded bytes sections lines tree nears list calls
-kept-good bytes sections lines tree rows nears list calls is read joined rows_are order parents all
+    → IsDecoded bytes sections lines tree codes list calls
+decoded-valid bytes sections lines tree rows codes list calls is read joined rows_are order parents
+    all
     segment least most = record {
       layout_is = is;
-      is_decoded = all-good bytes lines tree read joined;
+      is_decoded = all-valid bytes lines tree read joined;
       order = order;
       parents_are = parents;
       parents_all = all;
-      cuts_are = rw (← rows_are) segment;
+      segments_are = rw (← rows_are) segment;
       least = rw (← rows_are) least;
       most = rw (← rows_are) most;
     }

@@ -18,8 +18,8 @@ use Rattle.addr_table.specs.Frames.{first_site}
 use Rattle.addr_table.proofs.FrameWalks.SiteLaws.{site-of-frames}
 use Rattle.addr_table.specs.Private.Walks.{HaveParents}
 use Rattle.addr_table.specs.Private.Decoded.{IsDecoded}
-use Rattle.addr_table.proofs.Decoding.ExtentLaws.{elf-good, low-below-high}
-use Rattle.addr_table.proofs.Searching.SegmentListLaws.{place_among-cuts}
+use Rattle.addr_table.proofs.Decoding.ExtentLaws.{elf-valid, low-below-high}
+use Rattle.addr_table.proofs.Searching.SegmentListLaws.{place_among-segments}
 
 pub low_returned : (bytes : List ℕ) (found : Layout) → found ≡ layout bytes → found.low
     ≡ low_of bytes
@@ -32,46 +32,46 @@ unfolding high_of layout
 high_returned bytes found is = ap (λ (z : Layout). z.high) is
 
 pub place-returned : (bytes : List ℕ) (sections : Layout) (lines : Lines) (tree : Tree)
-    (nears : List ℕ)
+    (codes : List ℕ)
     (list : List Segment) (calls link : ℕ)
-    → IsDecoded bytes sections lines tree nears list calls
+    → IsDecoded bytes sections lines tree codes list calls
     → place_among list link ≡ place_in bytes link
 unfolding place_in
-place-returned bytes sections lines tree nears list calls link h =
-    rw h.is_decoded (ap (λ (cs : List Segment). place_among cs link) h.cuts_are
-    ∙ place_among-cuts lines.rows tree.scopes link)
+place-returned bytes sections lines tree codes list calls link h =
+    rw h.is_decoded (ap (λ (cs : List Segment). place_among cs link) h.segments_are
+    ∙ place_among-segments lines.rows tree.scopes link)
 
-pub cuts-returned : (bytes : List ℕ) (sections : Layout) (lines : Lines) (tree : Tree)
-    (nears : List ℕ)
+pub segments-returned : (bytes : List ℕ) (sections : Layout) (lines : Lines) (tree : Tree)
+    (codes : List ℕ)
     (list : List Segment) (calls : ℕ)
-    → IsDecoded bytes sections lines tree nears list calls → list ≡ segments_in bytes
+    → IsDecoded bytes sections lines tree codes list calls → list ≡ segments_in bytes
 unfolding segments_in
-cuts-returned bytes sections lines tree nears list calls h = rw h.is_decoded h.cuts_are
+segments-returned bytes sections lines tree codes list calls h = rw h.is_decoded h.segments_are
 
 pub least-returned : (bytes : List ℕ) (sections : Layout) (lines : Lines) (tree : Tree)
-    (nears : List ℕ)
+    (codes : List ℕ)
     (list : List Segment) (calls : ℕ)
-    → IsDecoded bytes sections lines tree nears list calls → least_calls_in bytes ≤ calls
+    → IsDecoded bytes sections lines tree codes list calls → least_calls_in bytes ≤ calls
 unfolding least_calls_in
-least-returned bytes sections lines tree nears list calls h = rw h.is_decoded h.least
+least-returned bytes sections lines tree codes list calls h = rw h.is_decoded h.least
 
 pub most-returned : (bytes : List ℕ) (sections : Layout) (lines : Lines) (tree : Tree)
-    (nears : List ℕ)
+    (codes : List ℕ)
     (list : List Segment) (calls : ℕ)
-    → IsDecoded bytes sections lines tree nears list calls → calls ≤ most_calls_in bytes
+    → IsDecoded bytes sections lines tree codes list calls → calls ≤ most_calls_in bytes
 unfolding most_calls_in
-most-returned bytes sections lines tree nears list calls h = rw h.is_decoded h.most
+most-returned bytes sections lines tree codes list calls h = rw h.is_decoded h.most
 
 -- the row and the scope that a linear scan finds are the place
 pub place-scanned : (bytes : List ℕ) (sections : Layout) (lines : Lines) (tree : Tree)
-    (nears : List ℕ) (list : List Segment) (calls : ℕ)
+    (codes : List ℕ) (list : List Segment) (calls : ℕ)
     (rows : List Row) (scopes : List Scope) (row scope : Option ℕ) (link : ℕ)
-    → IsDecoded bytes sections lines tree nears list calls
+    → IsDecoded bytes sections lines tree codes list calls
     → rows ≡ lines.rows → scopes ≡ tree.scopes → row ≡ row_at rows link
     → scope ≡ scope_at scopes link
     → place_of row scope link ≡ place_in bytes link
 unfolding place_in place_at
-place-scanned bytes sections lines tree nears list calls rows scopes row scope link h rows_are
+place-scanned bytes sections lines tree codes list calls rows scopes row scope link h rows_are
     scopes_are row_is scope-is =
     let R : row ≡ row_at lines.rows link =
     row_is ∙ ap (λ (rs : List Row). row_at rs link) rows_are in
@@ -80,32 +80,32 @@ place-scanned bytes sections lines tree nears list calls rows scopes row scope l
     rw (h.is_decoded, R, S) refl
 
 pub extent-returned : (bytes : List ℕ) (sections : Layout) (lines : Lines) (tree : Tree)
-    (nears : List ℕ) (list : List Segment) (calls : ℕ)
-    → IsDecoded bytes sections lines tree nears list calls → low_of bytes < high_of bytes
-extent-returned bytes sections lines tree nears list calls h =
-    low-below-high bytes (elf-good bytes _ h.is_decoded)
+    (codes : List ℕ) (list : List Segment) (calls : ℕ)
+    → IsDecoded bytes sections lines tree codes list calls → low_of bytes < high_of bytes
+extent-returned bytes sections lines tree codes list calls h =
+    low-below-high bytes (elf-valid bytes _ h.is_decoded)
 
 pub frames-returned : (bytes : List ℕ) (sections : Layout) (lines : Lines) (tree : Tree)
-    (nears : List ℕ) (list : List Segment) (calls : ℕ)
+    (codes : List ℕ) (list : List Segment) (calls : ℕ)
     (place : Place)
-    → IsDecoded bytes sections lines tree nears list calls
+    → IsDecoded bytes sections lines tree codes list calls
     → frames_of bytes lines (place_chain place.link place.scope tree.scopes) place.row
     ≡ frames_in bytes place
 unfolding frames_in frames_at
-frames-returned bytes sections lines tree nears list calls place h = rw h.is_decoded refl
+frames-returned bytes sections lines tree codes list calls place h = rw h.is_decoded refl
 
 pub parents-returned : (bytes : List ℕ) (sections : Layout) (lines : Lines) (tree : Tree)
-    (nears : List ℕ) (list : List Segment) (calls : ℕ)
-    → IsDecoded bytes sections lines tree nears list calls → HaveParents tree.scopes nears
-parents-returned bytes sections lines tree nears list calls h =
+    (codes : List ℕ) (list : List Segment) (calls : ℕ)
+    → IsDecoded bytes sections lines tree codes list calls → HaveParents tree.scopes codes
+parents-returned bytes sections lines tree codes list calls h =
     record { order = h.order; parents = h.parents_are; all = h.parents_all }
 
 pub site-returned : (bytes : List ℕ) (sections : Layout) (lines : Lines) (tree : Tree)
-    (nears : List ℕ) (list : List Segment) (calls : ℕ)
+    (codes : List ℕ) (list : List Segment) (calls : ℕ)
     (place : Place)
-    → IsDecoded bytes sections lines tree nears list calls
+    → IsDecoded bytes sections lines tree codes list calls
     → row_site bytes lines place.row ≡ first_site (frames_in bytes place)
 unfolding frames_in frames_at
-site-returned bytes sections lines tree nears list calls place h =
+site-returned bytes sections lines tree codes list calls place h =
     rw h.is_decoded (sym (site-of-frames bytes lines
     (place_chain place.link place.scope tree.scopes) place.row))

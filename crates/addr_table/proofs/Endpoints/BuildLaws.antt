@@ -27,7 +27,7 @@ use Rattle.addr_table.proofs.ActiveSet.ActiveLaws.{zeros_of, zeros}
 use Rattle.addr_table.specs.Private.RowOrder.{covering_from, row_end}
 use Rattle.addr_table.proofs.Endpoints.MergeLaws.{merged-permutation, merged-rises}
 use Rattle.addr_table.proofs.Endpoints.RowEndLaws.{starts-are, ends-are}
-use Rattle.addr_table.proofs.Scanning.Lists.{each-joined}
+use Rattle.addr_table.proofs.Scanning.Lists.{each-append}
 use Rattle.addr_table.proofs.ActiveSet.FirstLaws.{RiseBy}
 use Rattle.addr_table.proofs.Sweeping.KeyLaws.{covers-rise}
 use Rattle.addr_table.proofs.Sweeping.ScopeKeys.{NumbersBelow, numbers-below}
@@ -151,7 +151,7 @@ scopes-below : (rows total : ℕ) (scopes : List Scope) → NumbersBelow total s
     → KeysBelow (rows + total + total) (scope_reaches rows total scopes)
 scopes-below rows total [] h = tt
 scopes-below rows total (s ∷ scopes) h =
-    each-joined (λ (r : Reach). r.key < rows + total + total) (reaches_in rows total s)
+    each-append (λ (r : Reach). r.key < rows + total + total) (reaches_in rows total s)
     (scope_reaches rows total scopes)
     (one-below (rows + total + total) (key_of rows total s.kind s.number) s.ranges
     (key-below rows total s.number s.kind h.0))
@@ -167,7 +167,7 @@ keys-below rows scopes numbered =
     (row_reaches rows ++ scope_reaches (length rows) (length scopes) scopes)
     (All-from_recursion (λ (r : Reach). r.key < length rows + length scopes + length scopes)
     (row_reaches rows ++ scope_reaches (length rows) (length scopes) scopes)
-    (each-joined (λ (r : Reach). r.key < length rows + length scopes + length scopes)
+    (each-append (λ (r : Reach). r.key < length rows + length scopes + length scopes)
     (row_reaches rows)
     (scope_reaches (length rows) (length scopes) scopes)
     (rows-below (length rows + length scopes + length scopes) 0 (length rows) (covers_of rows)

@@ -36,13 +36,13 @@ above-next e f (x ∷ xs) h is lt gap = elim gap.0 [
   | inl low ↦
       let a : nat_lt e x ≡ false = grind (arith, nat_tests) in
       let b : nat_lt f x ≡ false = grind (arith, nat_tests) in
-      rw (a, b) (above-next e f xs (tail x xs h) (later low is) lt gap.1)
+      rw (a, b) (above-next e f xs (rise-rest x xs h) (later low is) lt gap.1)
   | inr high ↦ at_it high is
 ]
   where
-    tail : (x : ℕ) (xs : List ℕ) → RiseFrom x xs → Rise xs
-    tail x [] h = tt
-    tail x (y ∷ ys) h = h.1
+    rise-rest : (x : ℕ) (xs : List ℕ) → RiseFrom x xs → Rise xs
+    rise-rest x [] h = tt
+    rise-rest x (y ∷ ys) h = h.1
 
     later : x ≤ e → IsAmong f (x ∷ xs) → IsAmong f xs
     later low among = elim among [ inl same ↦ absurd (omega arith) | inr rest ↦ rest ]
@@ -92,9 +92,9 @@ among-put x (y ∷ ys) = cases (nat_lt x y) (nat_eq x y) refl (among-put x ys)
     cases false true is rest = inl (grind (arith, nat_tests))
     cases false false is rest = inr rest
 
-pub among-kept : (z x : ℕ) (ys : List ℕ) → IsAmong z ys → IsAmong z (with_end x ys)
-among-kept z x [] h = absurd h
-among-kept z x (y ∷ ys) h = cases (nat_lt x y) (nat_eq x y) (among-kept z x ys)
+pub among-more : (z x : ℕ) (ys : List ℕ) → IsAmong z ys → IsAmong z (with_end x ys)
+among-more z x [] h = absurd h
+among-more z x (y ∷ ys) h = cases (nat_lt x y) (nat_eq x y) (among-more z x ys)
   where
     cases : (less same : Bool) → (IsAmong z ys → IsAmong z (with_end x ys))
         → IsAmong z (cond less (x ∷ y ∷ ys) (cond same (y ∷ ys) (y ∷ with_end x ys)))
@@ -111,16 +111,16 @@ ends-among [] = tt
 ends-among (r ∷ rs) = (
   (
     among-put r.from (with_end r.to (ends_of rs)),
-    among-kept r.to r.from (with_end r.to (ends_of rs)) (among-put r.to (ends_of rs)),
+    among-more r.to r.from (with_end r.to (ends_of rs)) (among-put r.to (ends_of rs)),
   ),
   each-weaker (λ (x : Range). IsAmong x.from (ends_of rs) × IsAmong x.to (ends_of rs))
       (λ (x : Range). IsAmong x.from (with_end r.from (with_end r.to (ends_of rs))) × IsAmong x.to
       (with_end r.from (with_end r.to (ends_of rs))))
       (λ x h. (
-        among-kept x.from r.from (with_end r.to (ends_of rs))
-            (among-kept x.from r.to (ends_of rs) h.0),
-        among-kept x.to r.from
-            (with_end r.to (ends_of rs)) (among-kept x.to r.to (ends_of rs) h.1),
+        among-more x.from r.from (with_end r.to (ends_of rs))
+            (among-more x.from r.to (ends_of rs) h.0),
+        among-more x.to r.from
+            (with_end r.to (ends_of rs)) (among-more x.to r.to (ends_of rs) h.1),
       ))
       rs (ends-among rs),
 )
@@ -166,11 +166,11 @@ rows-same : (cs : List Cover)
 rows-same [] = refl
 rows-same (c ∷ cs) = ap (λ (zs : List Range). c.range ∷ zs) (rows-same cs)
 
-map-joined : (xs ys : List Reach)
+ranges-append : (xs ys : List Reach)
     → map (λ (r : Reach). r.range) (xs ++ ys) ≡ map (λ (r : Reach). r.range) xs
     ++ map (λ (r : Reach). r.range) ys
-map-joined [] ys = refl
-map-joined (x ∷ xs) ys = ap (λ (zs : List Range). x.range ∷ zs) (map-joined xs ys)
+ranges-append [] ys = refl
+ranges-append (x ∷ xs) ys = ap (λ (zs : List Range). x.range ∷ zs) (ranges-append xs ys)
 
 one-same : (k : ℕ) (rs : List Range) → map (λ (r : Reach). r.range)
     (map (λ r. record { key = k; range = r }) rs) ≡ rs
@@ -181,7 +181,7 @@ scopes-same : (rows total : ℕ) (scopes : List Scope)
     → map (λ (r : Reach). r.range) (scope_reaches rows total scopes) ≡ scope_ranges scopes
 scopes-same rows total [] = refl
 scopes-same rows total (s ∷ scopes) =
-    map-joined (reaches_in rows total s) (scope_reaches rows total scopes)
+    ranges-append (reaches_in rows total s) (scope_reaches rows total scopes)
     ∙ ap (λ (zs : List Range). zs ++ map (λ (r : Reach). r.range) (scope_reaches rows total scopes))
     (one-same (key_of rows total s.kind s.number) s.ranges)
     ∙ ap (λ (zs : List Range). s.ranges ++ zs) (scopes-same rows total scopes)
@@ -192,7 +192,7 @@ unfolding reaches_of
 reaches-ranges rows scopes =
     filtered-ranges (row_reaches rows ++ scope_reaches (length rows) (length scopes) scopes)
     ∙ ap (filter is_nonempty)
-    (map-joined (row_reaches rows) (scope_reaches (length rows) (length scopes) scopes)
+    (ranges-append (row_reaches rows) (scope_reaches (length rows) (length scopes) scopes)
     ∙ ap (λ (zs : List Range). zs ++ map (λ (r : Reach). r.range)
     (scope_reaches (length rows) (length scopes) scopes))
     (rows-same (covers_of rows))

@@ -10,18 +10,19 @@ use Rattle.dwarf_entries.specs.Scopes.{Scope}
 use Rattle.dwarf_entries.specs.Order.{AreInOrder}
 use Rattle.addr_table.specs.Chains.{is_at, chain_of, encloses, enclosing, chain_among}
 use Rattle.addr_table.specs.Places.{last}
-use Rattle.addr_table.proofs.FrameWalks.FrameLaws.{AllKept, of-kept, AllEnclose, of-all, Enclosed}
+use Rattle.addr_table.proofs.FrameWalks.FrameLaws.{AllChosen, chain_of-filter, AllEnclose, of-all}
+use Rattle.addr_table.proofs.FrameWalks.FrameLaws.{Enclosed}
 use Rattle.addr_table.proofs.FrameWalks.FrameLaws.{empty}
 use Rattle.addr_table.proofs.FrameWalks.FrameLaws.{whole, of-encloses}
 
 -- ---- the theorem
 
-enclosed-kept : (j : ℕ) (xs : List Scope) → AllEnclose j xs → AllKept (encloses j) xs
-enclosed-kept j [] h = tt
-enclosed-kept j (s ∷ xs) h = (
+enclosed-filter : (j : ℕ) (xs : List Scope) → AllEnclose j xs → AllChosen (encloses j) xs
+enclosed-filter j [] h = tt
+enclosed-filter j (s ∷ xs) h = (
   let low : s.number ≤ j = h.0.0 in let high : j < s.«end» = h.0.1 in
       grind (arith, nat_tests),
-  enclosed-kept j xs h.1,
+  enclosed-filter j xs h.1,
 )
 
 pub filtered-enclose : (j : ℕ) (xs : List Scope) → AllEnclose j (enclosing j xs)
@@ -53,7 +54,8 @@ chain-enclosing a scopes t order is = by
     from : AllEnclose t.number (chain_of a scopes)
         → chain_of a scopes ≡ chain_among a (enclosing t.number scopes)
     from all =
-        sym (of-kept (encloses t.number) a scopes (enclosed-kept t.number (chain_of a scopes) all))
+        sym (chain_of-filter (encloses t.number) a scopes
+        (enclosed-filter t.number (chain_of a scopes) all))
         ∙ of-all a t.number (enclosing t.number scopes) (filtered-enclose t.number scopes)
 
     by : Enclosed (chain_of a scopes) → chain_of a scopes
@@ -76,12 +78,12 @@ chain-enclosing a scopes t order is = by
 -- One more nested scope is in the chain if it is an inlined subroutine that contains the address
 -- and a subprogram before it contains the address, or if it is the first subprogram that contains
 -- the address.
-pub held-more : (a : ℕ) (xs : List Scope) (s : Scope)
+pub chain-more : (a : ℕ) (xs : List Scope) (s : Scope)
     → chain_among a (xs ++ s ∷ []) ≡ cond (list_any (is_at Subprogram a) xs)
     (chain_among a xs ++ filter (is_at Inlined a) (s ∷ []))
     (chain_among a (s ∷ []))
-held-more a [] s = refl
-held-more a (x ∷ xs) s = cases (is_at Subprogram a x) (held-more a xs s)
+chain-more a [] s = refl
+chain-more a (x ∷ xs) s = cases (is_at Subprogram a x) (chain-more a xs s)
   where
     cases : (b : Bool)
         → chain_among a (xs ++ s ∷ []) ≡ cond (list_any (is_at Subprogram a) xs)

@@ -13,28 +13,28 @@ use Rattle.addr_table.proofs.Scanning.Lists.{each-weaker}
 
 -- ---- a chain among fewer scopes
 
-abbrev pub AllKept : (Scope → Bool) → List Scope → Type 0
-AllKept keep xs = AllByRecursion (λ s. keep s ≡ true) xs
+abbrev pub AllChosen : (Scope → Bool) → List Scope → Type 0
+AllChosen keep xs = AllByRecursion (λ s. keep s ≡ true) xs
 
 -- scopes that are not in the chain may be left out
-pub below-kept : (keep : Scope → Bool) (a end : ℕ) (xs : List Scope)
-    → AllKept keep (chain_below a end xs)
+pub below-filter : (keep : Scope → Bool) (a end : ℕ) (xs : List Scope)
+    → AllChosen keep (chain_below a end xs)
     → chain_below a end (filter keep xs) ≡ chain_below a end xs
 unfolding chain_below
-below-kept keep a end [] h = refl
-below-kept keep a end (s ∷ later) h =
+below-filter keep a end [] h = refl
+below-filter keep a end (s ∷ later) h =
     cases (nat_lt s.number end && is_at Inlined a s) refl (keep s) refl h
-    (below-kept keep a s.«end» later) (below-kept keep a end later)
+    (below-filter keep a s.«end» later) (below-filter keep a end later)
   where
     dropped : false ≡ true → ⊥
     dropped e = cc
 
     cases : (taken : Bool) → (nat_lt s.number end && is_at Inlined a s) ≡ taken → (kept : Bool)
         → keep s ≡ kept
-        → AllKept keep (cond taken (s ∷ chain_below a s.«end» later) (chain_below a end later))
-        → (AllKept keep (chain_below a s.«end» later) → chain_below a s.«end» (filter keep later)
+        → AllChosen keep (cond taken (s ∷ chain_below a s.«end» later) (chain_below a end later))
+        → (AllChosen keep (chain_below a s.«end» later) → chain_below a s.«end» (filter keep later)
         ≡ chain_below a s.«end» later)
-        → (AllKept keep (chain_below a end later) → chain_below a end (filter keep later)
+        → (AllChosen keep (chain_below a end later) → chain_below a end (filter keep later)
         ≡ chain_below a end later)
         → chain_below a end (cond kept (s ∷ filter keep later) (filter keep later))
         ≡ cond taken (s ∷ chain_below a s.«end» later)
@@ -44,24 +44,25 @@ below-kept keep a end (s ∷ later) h =
     cases false t true k h inside after = rw t (after h)
     cases false t false k h inside after = after h
 
-pub of-kept : (keep : Scope → Bool) (a : ℕ) (xs : List Scope) → AllKept keep (chain_of a xs)
+pub chain_of-filter : (keep : Scope → Bool) (a : ℕ) (xs : List Scope)
+    → AllChosen keep (chain_of a xs)
     → chain_of a (filter keep xs) ≡ chain_of a xs
 unfolding chain_of
-of-kept keep a [] h = refl
-of-kept keep a (s ∷ later) h = cases (is_at Subprogram a s) refl (keep s) refl h
-    (of-kept keep a later)
+chain_of-filter keep a [] h = refl
+chain_of-filter keep a (s ∷ later) h = cases (is_at Subprogram a s) refl (keep s) refl h
+    (chain_of-filter keep a later)
   where
     dropped : false ≡ true → ⊥
     dropped e = cc
 
     cases : (taken : Bool) → is_at Subprogram a s ≡ taken → (kept : Bool) → keep s ≡ kept
-        → AllKept keep (cond taken (s ∷ chain_below a s.«end» later) (chain_of a later))
-        → (AllKept keep (chain_of a later) → chain_of a (filter keep later) ≡ chain_of a later)
+        → AllChosen keep (cond taken (s ∷ chain_below a s.«end» later) (chain_of a later))
+        → (AllChosen keep (chain_of a later) → chain_of a (filter keep later) ≡ chain_of a later)
         → chain_of a (cond kept (s ∷ filter keep later) (filter keep later))
         ≡ cond taken (s ∷ chain_below a s.«end» later)
         (chain_of a later)
     cases true t true k h after = rw t (ap (λ (xs : List Scope). s ∷ xs)
-        (below-kept keep a s.«end» later h.1))
+        (below-filter keep a s.«end» later h.1))
     cases true t false k h after = absurd (dropped (sym k ∙ h.0))
     cases false t true k h after = rw t (after h)
     cases false t false k h after = after h

@@ -20,10 +20,10 @@ use Rattle.addr_table.specs.declared.object_tables.FrameSite.TheVariants.{Row, C
 use Rattle.addr_table.specs.Frames.{line_sections, text_section, file_path, place_chain, row_site}
 use Rattle.addr_table.specs.Frames.{frames_from, frames_of}
 use Rattle.addr_table.specs.Private.Views.{walk_left, frame_view, site_view}
-use Rattle.addr_table.specs.Private.Walks.{HaveParents, chain_around, top_around, search_start_of}
+use Rattle.addr_table.specs.Private.Walks.{HaveParents, chain_at, top_at, search_start_of}
 use Rattle.addr_table.specs.Private.Walks.{outer_of}
 use Rattle.addr_table.proofs.Chains.ChainWalks.{no_scope}
-use Rattle.addr_table.proofs.FrameWalks.WalkLaws.{Told}
+use Rattle.addr_table.proofs.FrameWalks.WalkLaws.{IsNextFrame}
 use Rattle.addr_table.proofs.Chains.ChainEnds.{started-chain, no-chain, some-chain}
 
 -- ---- parts of a path
@@ -93,19 +93,19 @@ from-chain : (bytes : List ℕ) (lines : Lines) (chain : List Scope) (row : Opti
     ≡ frames_of bytes lines chain row
 from-chain bytes lines chain row s inner is = rw is refl
 
-pub started-some : (bytes : List ℕ) (lines : Lines) (scopes : List Scope) (nears : List ℕ) (a : ℕ)
-    (scope row : Option ℕ) (count near top : ℕ)
-    → HaveParents scopes nears → count ≡ length scopes → near ≡ search_start_of count scope
-    → Some top ≡ top_around a scopes near
-    → walk_left bytes lines scopes a near (Row row) false
+pub started-some : (bytes : List ℕ) (lines : Lines) (scopes : List Scope) (codes : List ℕ) (a : ℕ)
+    (scope row : Option ℕ) (count code top : ℕ)
+    → HaveParents scopes codes → count ≡ length scopes → code ≡ search_start_of count scope
+    → Some top ≡ top_at a scopes code
+    → walk_left bytes lines scopes a code (Row row) false
     ≡ frames_of bytes lines (place_chain a scope scopes) row
-started-some bytes lines scopes nears a scope row count near top have total is returned =
-    let here : place_chain a scope scopes ≡ chain_around a scopes near =
-    started-chain a scopes nears scope have
-    ∙ sym (ap (λ (n : ℕ). chain_around a scopes n)
+started-some bytes lines scopes codes a scope row count code top have total is returned =
+    let here : place_chain a scope scopes ≡ chain_at a scopes code =
+    started-chain a scopes codes scope have
+    ∙ sym (ap (λ (n : ℕ). chain_at a scopes n)
     (is ∙ ap (λ (n : ℕ). search_start_of n scope) total)) in
-    let full = some-chain a scopes near top (sym returned) in
-    from-chain bytes lines (chain_around a scopes near) row full.0 full.1 full.2
+    let full = some-chain a scopes code top (sym returned) in
+    from-chain bytes lines (chain_at a scopes code) row full.0 full.1 full.2
     ∙ ap (λ (chain : List Scope). frames_of bytes lines chain row) (sym here)
 
 alone-row : (bytes : List ℕ) (lines : Lines) (scopes : List Scope) (a : ℕ) (row : Option ℕ)
@@ -113,34 +113,34 @@ alone-row : (bytes : List ℕ) (lines : Lines) (scopes : List Scope) (a : ℕ) (
 alone-row bytes lines scopes a None = refl
 alone-row bytes lines scopes a (Some n) = refl
 
-pub started-none : (bytes : List ℕ) (lines : Lines) (scopes : List Scope) (nears : List ℕ) (a : ℕ)
-    (scope row : Option ℕ) (count near : ℕ)
+pub started-none : (bytes : List ℕ) (lines : Lines) (scopes : List Scope) (codes : List ℕ) (a : ℕ)
+    (scope row : Option ℕ) (count code : ℕ)
     (alone : Bool)
-    → HaveParents scopes nears → count ≡ length scopes → near ≡ search_start_of count scope
-    → None ≡ top_around a scopes near → alone ≡ is_some row
+    → HaveParents scopes codes → count ≡ length scopes → code ≡ search_start_of count scope
+    → None ≡ top_at a scopes code → alone ≡ is_some row
     → walk_left bytes lines scopes a 0 (Row row) alone
     ≡ frames_of bytes lines (place_chain a scope scopes) row
-started-none bytes lines scopes nears a scope row count near alone have total is returned row_is =
-    let here : place_chain a scope scopes ≡ chain_around a scopes near =
-    started-chain a scopes nears scope have
-    ∙ sym (ap (λ (n : ℕ). chain_around a scopes n)
+started-none bytes lines scopes codes a scope row count code alone have total is returned row_is =
+    let here : place_chain a scope scopes ≡ chain_at a scopes code =
+    started-chain a scopes codes scope have
+    ∙ sym (ap (λ (n : ℕ). chain_at a scopes n)
     (is ∙ ap (λ (n : ℕ). search_start_of n scope) total)) in
-    let none : place_chain a scope scopes ≡ [] = here ∙ no-chain a scopes near (sym returned) in
+    let none : place_chain a scope scopes ≡ [] = here ∙ no-chain a scopes code (sym returned) in
     ap (λ (b : Bool). walk_left bytes lines scopes a 0 (Row row) b) row_is
     ∙ (alone-row bytes lines scopes a row
     ∙ ap (λ (chain : List Scope). frames_of bytes lines chain row) (sym none))
 
 -- ---- one scope more
 
-pub returned-frame : (bytes : List ℕ) (lines : Lines) (scopes : List Scope) (nears : List ℕ)
+pub returned-frame : (bytes : List ℕ) (lines : Lines) (scopes : List Scope) (codes : List ℕ)
     (a start k top next : ℕ) (site : FrameSite)
     (alone : Bool)
-    → Told a scopes nears start k top → k < length scopes → alone ≡ false
-    → next ≡ outer_of nears top k
+    → IsNextFrame a scopes codes start k top → k < length scopes → alone ≡ false
+    → next ≡ outer_of codes top k
     → walk_left bytes lines scopes a start site alone ≡ frame_view bytes lines scopes
     (Some k) site ∷ walk_left bytes lines scopes
     a next (Call k) alone
-returned-frame bytes lines scopes nears a start k top next site alone t lt off is =
+returned-frame bytes lines scopes codes a start k top next site alone t lt off is =
     let there : slice_get scopes k ≡ Some (get_or scopes k no_scope) =
     slice_get-get_or scopes k no_scope lt in
     rw (off, is, there) (ap (λ (ss : List Scope). frames_from bytes lines ss

@@ -38,17 +38,17 @@ chain-place_of a scopes order = by (last (chain_of a scopes)) refl
     by None is = sym (last-none (chain_of a scopes) is)
     by (Some t) is = sym (chain-enclosing a scopes t order is)
 
-placed-frames : (bytes : List ℕ) (lines : Lines) (tree : Tree) (a : ℕ) (row scope : Option ℕ)
+place-frames : (bytes : List ℕ) (lines : Lines) (tree : Tree) (a : ℕ) (row scope : Option ℕ)
     → option_map_or (frames_at bytes lines tree) (place_of row scope a) []
     ≡ frames_of bytes lines (place_chain a scope tree.scopes) row
 unfolding frames_at
-placed-frames bytes lines tree a None None = refl
-placed-frames bytes lines tree a None (Some scope) = refl
-placed-frames bytes lines tree a (Some row) scope = refl
+place-frames bytes lines tree a None None = refl
+place-frames bytes lines tree a None (Some scope) = refl
+place-frames bytes lines tree a (Some row) scope = refl
 
 -- the rest of decoding after the entries
-abbrev behind_tree : Lines → Tree → Result Decoded LoadFault
-behind_tree lines tree = in_section names.DebugInfo (cross_checks_of lines tree)
+abbrev after_tree : Lines → Tree → Result Decoded LoadFault
+after_tree lines tree = in_section names.DebugInfo (cross_checks_of lines tree)
     >>= λ _. Ok (record { lines = lines; tree = tree })
 
 pub order-decoded : (bytes : List ℕ) (d : Decoded) → decoded bytes ≡ Ok d → AreInOrder d.tree.scopes
@@ -65,7 +65,7 @@ order-decoded bytes d is = by_elf (elf_fault bytes) is
     by_joins lines tree (Err e) h = cc
 
     by_tree : (lines : Lines) (r : Result Tree LoadFault) → tree_of (entry_sections bytes) ≡ r
-        → (r >>= behind_tree lines) ≡ Ok d
+        → (r >>= after_tree lines) ≡ Ok d
         → AreInOrder d.tree.scopes
     by_tree lines (Ok tree) t h =
         subst (λ (z : Tree). AreInOrder z.scopes)
@@ -74,14 +74,14 @@ order-decoded bytes d is = by_elf (elf_fault bytes) is
     by_tree lines (Err e) t h = cc
 
     by_lines : (r : Result Lines LoadFault)
-        → (r >>= λ lines. tree_of (entry_sections bytes) >>= behind_tree lines) ≡ Ok d
+        → (r >>= λ lines. tree_of (entry_sections bytes) >>= after_tree lines) ≡ Ok d
         → AreInOrder d.tree.scopes
     by_lines (Ok lines) h = by_tree lines (tree_of (entry_sections bytes)) refl h
     by_lines (Err e) h = cc
 
     by_elf : (o : Option LoadFault)
         → (unless o bytes >>= λ _. lines_in (line_sections bytes)
-        >>= λ lines. tree_of (entry_sections bytes) >>= behind_tree lines) ≡ Ok d
+        >>= λ lines. tree_of (entry_sections bytes) >>= after_tree lines) ≡ Ok d
         → AreInOrder d.tree.scopes
     by_elf None h = by_lines (lines_in (line_sections bytes)) h
     by_elf (Some e) h = cc
@@ -97,7 +97,7 @@ scan-place bytes a = by (decoded bytes) refl
         (λ place. by_decoded [] (λ d. frames_at bytes d.lines d.tree place) r)
         (by_decoded None (λ d. place_at d.lines.rows d.tree.scopes a) r) []
     by (Ok d) is =
-        sym (placed-frames bytes d.lines d.tree a (row_at d.lines.rows a) (scope_at d.tree.scopes a)
+        sym (place-frames bytes d.lines d.tree a (row_at d.lines.rows a) (scope_at d.tree.scopes a)
         ∙ ap (λ (chain : List Scope). frames_of bytes d.lines chain (row_at d.lines.rows a))
         (chain-place_of a d.tree.scopes (order-decoded bytes d is)))
     by (Err e) is = refl

@@ -9,7 +9,7 @@ use Rattle.std.proofs.lemmas.List.{get_or_default}
 use Rattle.std.proofs.Math.ListN.{get_or-eq_default}
 use Rattle.addr_table.specs.Segments.{Segment, AreDisjoint}
 use Rattle.addr_table.specs.Private.Buckets.{bucket_of, AreBuckets, AreBounds, Fills}
-use Rattle.addr_table.proofs.Searching.SearchLaws.{no_cut, each_at}
+use Rattle.addr_table.proofs.Searching.SearchLaws.{no_segment, each_at}
 
 by_lt : {X : Type 0} (a b : ℕ) → (a < b → X) → (b ≤ a → X) → X
 by_lt a b f g = elim (cases_lt a b) [ inl lt ↦ f lt | inr le ↦ g le ]
@@ -65,8 +65,8 @@ bounds-of list low shift a n b c counts h is b_is more =
     let order : get_or counts b n ≤ get_or counts c n =
     by_lt (get_or counts c n) (get_or counts b n)
     (λ less.
-    let l = lower.1 (get_or counts c n) no_cut less in
-    let u = upper.2 (get_or counts c n) no_cut (omega arith)
+    let l = lower.1 (get_or counts c n) no_segment less in
+    let u = upper.2 (get_or counts c n) no_segment (omega arith)
     (let most = lower.0 in omega (arith, most, less, is)) in
     absurd (omega (arith, l, u, more)))
     (λ le. le) in

@@ -172,15 +172,15 @@ pub counted-all : (n s : ℕ) (old new : Steps) → s ≡ 0 → Counted n s old 
 counted-all n s old new none h =
     (h.0, h.1.bits, λ lt. h.1.some (omega (arith, none, lt)), h.2)
 
-abbrev pub no_cut : Segment
-no_cut = record { from = 0; to = 0; row = None; scope = None }
+abbrev pub no_segment : Segment
+no_segment = record { from = 0; to = 0; row = None; scope = None }
 
 pub found-nothing : (list : List Segment) (a n : ℕ) → AreDisjoint list → CountsStarted list a n
-    → ((m : ℕ) → m + 1 ≡ n → (get_or list m no_cut).to ≤ a) → place_among list a ≡ None
+    → ((m : ℕ) → m + 1 ≡ n → (get_or list m no_segment).to ≤ a) → place_among list a ≡ None
 found-nothing list a n h started past =
     ap (λ (found : Option Segment). option_and_then
     (λ segment. place_of segment.row segment.scope a) found)
-    (none-at list n no_cut a h started.within past (started.after no_cut))
+    (none-at list n no_segment a h started.within past (started.after no_segment))
 
 pub found-place : (list : List Segment) (a n m : ℕ) (d : Segment) → AreDisjoint list
     → CountsStarted list a n
@@ -199,9 +199,9 @@ segment-past segments a n seg e r h started some to is past =
     found-nothing segments a n h started (λ m last.
     let same : m ≡ n - 1 = omega arith in
     let within : n ≤ length segments = started.within in
-    let here : get_or segments (n - 1) no_cut ≡ seg =
-    get_or_default segments (n - 1) no_cut e (omega arith) ∙ sym is in
-    let P : ℕ → Type 0 = λ k. (get_or segments k no_cut).to ≤ a in
+    let here : get_or segments (n - 1) no_segment ≡ seg =
+    get_or_default segments (n - 1) no_segment e (omega arith) ∙ sym is in
+    let P : ℕ → Type 0 = λ k. (get_or segments k no_segment).to ≤ a in
     let Q : Segment → Type 0 = λ segment. segment.to ≤ a in
     let R : ℕ → Type 0 = λ k. k ≤ a in
     subst P (sym same) (subst Q (sym here) (subst R to past)))
@@ -215,14 +215,14 @@ pub segment-found : (segments : List Segment) (a n : ℕ) (seg e : Segment) (r :
 segment-found segments a n seg e r row scope placed h started some to row_is scope-is is inside
     placed_is =
     let within : n ≤ length segments = started.within in
-    let here : get_or segments (n - 1) no_cut ≡ seg =
-    get_or_default segments (n - 1) no_cut e (omega arith) ∙ sym is in
+    let here : get_or segments (n - 1) no_segment ≡ seg =
+    get_or_default segments (n - 1) no_segment e (omega arith) ∙ sym is in
     let Q : Segment → Type 0 = λ segment. a < segment.to in
     let R : ℕ → Type 0 = λ k. a < k in
     placed_is ∙ ap (λ (o : Option ℕ). place_of o scope a) row_is
     ∙ ap (λ (o : Option ℕ). place_of seg.row o a) scope-is
     ∙ ap (λ (segment : Segment). place_of segment.row segment.scope a) (sym here)
-    ∙ sym (found-place segments a n (n - 1) no_cut h started (omega arith)
+    ∙ sym (found-place segments a n (n - 1) no_segment h started (omega arith)
     (subst Q (sym here) (subst R to inside)))
 
 -- the number of comparisons that find a place among segments

@@ -16,7 +16,7 @@ use Rattle.addr_table.specs.Places.{scope_at, place_of, place_at}
 use Rattle.addr_table.specs.Segments.{ranges_of, with_end, ends_of, Segment, segment_of}
 use Rattle.addr_table.specs.Segments.{segments_between, segments_of}
 use Rattle.addr_table.specs.Segments.{is_in, place_among, AreDisjoint}
-use Rattle.addr_table.proofs.Scanning.Lists.{each-weaker, each-joined}
+use Rattle.addr_table.proofs.Scanning.Lists.{each-weaker, each-append}
 use Rattle.addr_table.proofs.Sweeping.Constant.{IsApart, constant_between_ends, nothing-outside}
 
 -- ---- ascending numbers
@@ -104,37 +104,37 @@ splits-apart e f a fs rise lt x h = elim h [
 
 -- ---- segments that do not contain an address
 
-pub not-in-cut : (a e f : ℕ) (p : Option Place) (later : List Segment)
+pub not-in-segment : (a e f : ℕ) (p : Option Place) (later : List Segment)
     → (nat_le e a && nat_lt a f) ≡ false
     → find (is_in a) (segment_of e f p ++ later) ≡ find (is_in a) later
-not-in-cut a e f None later h = refl
-not-in-cut a e f (Some p) later h = rw h refl
+not-in-segment a e f None later h = refl
+not-in-segment a e f (Some p) later h = rw h refl
 
-pub cuts-above : (rows : List Row) (scopes : List Scope) (a f : ℕ) (fs : List ℕ) → a < f
+pub segments-above : (rows : List Row) (scopes : List Scope) (a f : ℕ) (fs : List ℕ) → a < f
     → RiseFrom f fs
     → find (is_in a) (segments_between rows scopes (f ∷ fs)) ≡ None
-cuts-above rows scopes a f [] lt h = refl
-cuts-above rows scopes a f (g ∷ gs) lt h =
+segments-above rows scopes a f [] lt h = refl
+segments-above rows scopes a f (g ∷ gs) lt h =
     let out : (nat_le f a && nat_lt a g) ≡ false = grind (arith, nat_tests) in
     let q : f < g = h.0 in
     let further : a < g = omega arith in
-    not-in-cut a f g (place_at rows scopes f) (segments_between rows scopes (g ∷ gs)) out
-    ∙ cuts-above rows scopes a g gs further h.1
+    not-in-segment a f g (place_at rows scopes f) (segments_between rows scopes (g ∷ gs)) out
+    ∙ segments-above rows scopes a g gs further h.1
 
 -- ---- the place of an address, among the segments
 
 -- the place that place_among makes from a search result
-abbrev pub told_by : ℕ → Option Segment → Option Place
-told_by a found = option_and_then (λ segment. place_of segment.row segment.scope a) found
+abbrev pub place_by : ℕ → Option Segment → Option Place
+place_by a found = option_and_then (λ segment. place_of segment.row segment.scope a) found
 
 -- if a segment contains the address and has its row and scope, the search gives its place
-pub in-cut : (a e f : ℕ) (row scope : Option ℕ) (later : List Segment)
+pub in-segment : (a e f : ℕ) (row scope : Option ℕ) (later : List Segment)
     → (nat_le e a && nat_lt a f) ≡ true → find (is_in a) later ≡ None
-    → told_by a (find (is_in a) (segment_of e f (place_of row scope e) ++ later))
+    → place_by a (find (is_in a) (segment_of e f (place_of row scope e) ++ later))
     ≡ place_of row scope a
-in-cut a e f None None later h none = rw none refl
-in-cut a e f None (Some scope) later h none = rw h refl
-in-cut a e f (Some row) scope later h none = rw h refl
+in-segment a e f None None later h none = rw none refl
+in-segment a e f None (Some scope) later h none = rw h refl
+in-segment a e f (Some row) scope later h none = rw h refl
 
 pub place-nowhere : (rows : List Row) (scopes : List Scope) (a : ℕ)
     → (row_at rows a ≡ None) × (chain_of a scopes ≡ [])
@@ -142,47 +142,48 @@ pub place-nowhere : (rows : List Row) (scopes : List Scope) (a : ℕ)
 unfolding place_at
 place-nowhere rows scopes a h = rw (h.0, h.1) refl
 
-pub place_in-cuts : (rows : List Row) (scopes : List Scope) (a e : ℕ) (ends : List ℕ)
+pub place_in-segments : (rows : List Row) (scopes : List Scope) (a e : ℕ) (ends : List ℕ)
     → RiseFrom e ends → e ≤ a
     → AllByRecursion (Splits e ends) (ends_of (ranges_of rows scopes))
-    → told_by a (find (is_in a) (segments_between rows scopes (e ∷ ends))) ≡ place_at rows scopes a
+    → place_by a (find (is_in a) (segments_between rows scopes (e ∷ ends))) ≡ place_at rows scopes a
 unfolding place_at
-place_in-cuts rows scopes a e [] rise le splits =
+place_in-segments rows scopes a e [] rise le splits =
     let below : AllByRecursion (λ x. x ≤ a) (ends_of (ranges_of rows scopes)) =
     each-weaker (Splits e []) (λ x. x ≤ a)
     (λ x h. elim h [ inl low ↦ omega arith | inr none ↦ absurd none ])
     (ends_of (ranges_of rows scopes)) splits in
     sym (place-nowhere rows scopes a (nothing-outside rows scopes a (inr below)))
-place_in-cuts rows scopes a e (f ∷ fs) rise le splits = elim (cases_lt a f) [
+place_in-segments rows scopes a e (f ∷ fs) rise le splits = elim (cases_lt a f) [
   | inl lt ↦
       let held : (nat_le e a && nat_lt a f) ≡ true = grind (arith, nat_tests) in
       let same =
       constant_between_ends rows scopes e a le
       (each-weaker (Splits e (f ∷ fs)) (IsApart e a) (splits-apart e f a fs rise lt)
       (ends_of (ranges_of rows scopes)) splits) in
-      in-cut a e f (row_at rows e) (scope_at scopes e) (segments_between rows scopes (f ∷ fs)) held
-      (cuts-above rows scopes a f fs lt rise.1)
+      in-segment a e f (row_at rows e) (scope_at scopes e) (segments_between rows scopes (f ∷ fs))
+      held
+      (segments-above rows scopes a f fs lt rise.1)
       ∙ rw (same.0, same.1) refl
   | inr ge ↦
       let out : (nat_le e a && nat_lt a f) ≡ false = grind (arith, nat_tests) in
       let q : e < f = rise.0 in
-      ap (told_by a) (not-in-cut a e f (place_at rows scopes e) (segments_between rows scopes
+      ap (place_by a) (not-in-segment a e f (place_at rows scopes e) (segments_between rows scopes
       (f ∷ fs))
       out)
-      ∙ place_in-cuts rows scopes a f fs rise.1 ge
+      ∙ place_in-segments rows scopes a f fs rise.1 ge
       (each-weaker (Splits e (f ∷ fs)) (Splits f fs) (splits-next e f fs q)
       (ends_of (ranges_of rows scopes)) splits)
 ]
 
 -- the theorem: the segments give the place of every address
-pub place_among-cuts : (rows : List Row) (scopes : List Scope) (a : ℕ)
+pub place_among-segments : (rows : List Row) (scopes : List Scope) (a : ℕ)
     → place_among (segments_of rows scopes) a ≡ place_at rows scopes a
 unfolding segments_of
-place_among-cuts rows scopes a = by_ends (ends_of (ranges_of rows scopes)) refl
+place_among-segments rows scopes a = by_ends (ends_of (ranges_of rows scopes)) refl
     (ends_rise (ranges_of rows scopes))
   where
     by_ends : (ends : List ℕ) → ends_of (ranges_of rows scopes) ≡ ends → Rise ends
-        → told_by a (find (is_in a) (segments_between rows scopes ends)) ≡ place_at rows scopes a
+        → place_by a (find (is_in a) (segments_between rows scopes ends)) ≡ place_at rows scopes a
     by_ends [] is rise =
         let none : AllByRecursion (λ x. a < x) (ends_of (ranges_of rows scopes)) = rw is tt in
         sym (place-nowhere rows scopes a (nothing-outside rows scopes a (inl none)))
@@ -195,7 +196,7 @@ place_among-cuts rows scopes a = by_ends (ends_of (ranges_of rows scopes)) refl
                 (λ x h. let far : e < x = among-above e x ends rise h in omega arith) ends
                 (each-among ends),
           ) in
-          ap (told_by a) (cuts-above rows scopes a e ends lt rise)
+          ap (place_by a) (segments-above rows scopes a e ends lt rise)
           ∙ sym (place-nowhere rows scopes a
           (nothing-outside rows scopes a (inl (subst P (sym is) above))))
       | inr ge ↦
@@ -206,41 +207,41 @@ place_among-cuts rows scopes a = by_ends (ends_of (ranges_of rows scopes)) refl
             each-weaker (λ x. IsAmong x ends) (Splits e ends) (λ x h. inr h) ends
                 (each-among ends),
           ) in
-          place_in-cuts rows scopes a e ends rise ge (subst P (sym is) splits)
+          place_in-segments rows scopes a e ends rise ge (subst P (sym is) splits)
     ]
 
 -- ---- segments are in ascending order
 
-pub cuts-begin : (rows : List Row) (scopes : List Scope) (m e : ℕ) (ends : List ℕ) → m ≤ e
+pub segments-begin : (rows : List Row) (scopes : List Scope) (m e : ℕ) (ends : List ℕ) → m ≤ e
     → RiseFrom e ends
     → AllByRecursion (λ c. m ≤ c.from) (segments_between rows scopes (e ∷ ends))
-cuts-begin rows scopes m e [] le rise = tt
-cuts-begin rows scopes m e (f ∷ fs) le rise =
+segments-begin rows scopes m e [] le rise = tt
+segments-begin rows scopes m e (f ∷ fs) le rise =
     let q : e < f = rise.0 in
     let further : m ≤ f = omega arith in
-    each-joined (λ (c : Segment). m ≤ c.from) (segment_of e f (place_at rows scopes e))
+    each-append (λ (c : Segment). m ≤ c.from) (segment_of e f (place_at rows scopes e))
     (segments_between rows scopes (f ∷ fs))
-    (one (place_at rows scopes e)) (cuts-begin rows scopes m f fs further rise.1)
+    (one (place_at rows scopes e)) (segments-begin rows scopes m f fs further rise.1)
   where
     one : (p : Option Place) → AllByRecursion (λ (c : Segment). m ≤ c.from) (segment_of e f p)
     one None = tt
     one (Some p) = (le, tt)
 
-pub cuts-disjoint : (rows : List Row) (scopes : List Scope) (ends : List ℕ) → Rise ends
+pub segments-disjoint : (rows : List Row) (scopes : List Scope) (ends : List ℕ) → Rise ends
     → AreDisjoint (segments_between rows scopes ends)
-cuts-disjoint rows scopes [] rise = tt
-cuts-disjoint rows scopes (e ∷ []) rise = tt
-cuts-disjoint rows scopes (e ∷ f ∷ fs) rise =
-    one (place_at rows scopes e) (cuts-disjoint rows scopes (f ∷ fs) rise.1)
+segments-disjoint rows scopes [] rise = tt
+segments-disjoint rows scopes (e ∷ []) rise = tt
+segments-disjoint rows scopes (e ∷ f ∷ fs) rise =
+    one (place_at rows scopes e) (segments-disjoint rows scopes (f ∷ fs) rise.1)
   where
     one : (p : Option Place) → AreDisjoint (segments_between rows scopes (f ∷ fs))
         → AreDisjoint (segment_of e f p ++ segments_between rows scopes (f ∷ fs))
     one None later = later
     one (Some p) later = let same : f ≤ f = omega arith in
-        (rise.0, cuts-begin rows scopes f f fs same rise.1, later)
+        (rise.0, segments-begin rows scopes f f fs same rise.1, later)
 
-pub cuts_are_disjoint : (rows : List Row) (scopes : List Scope) → AreDisjoint
+pub segments_are_disjoint : (rows : List Row) (scopes : List Scope) → AreDisjoint
     (segments_of rows scopes)
 unfolding segments_of
-cuts_are_disjoint rows scopes = cuts-disjoint rows scopes (ends_of (ranges_of rows scopes))
+segments_are_disjoint rows scopes = segments-disjoint rows scopes (ends_of (ranges_of rows scopes))
     (ends_rise (ranges_of rows scopes))

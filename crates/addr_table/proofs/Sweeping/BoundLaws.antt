@@ -14,11 +14,11 @@ use Rattle.addr_table.specs.Rows.{Cover, covers_from}
 use Rattle.addr_table.specs.Places.{place_at}
 use Rattle.addr_table.specs.Segments.{is_nonempty, row_ranges, scope_ranges, ranges_of, with_end}
 use Rattle.addr_table.specs.Segments.{ends_of, segment_of, segments_between, segments_of}
-use Rattle.addr_table.proofs.Scanning.Lists.{each-weaker, each-joined}
+use Rattle.addr_table.proofs.Scanning.Lists.{each-weaker, each-append}
 use Rattle.addr_table.proofs.Searching.SegmentListLaws.{Rise, RiseFrom, ends_rise, with_end-rise}
 use Rattle.addr_table.proofs.Searching.SegmentListLaws.{IsAmong}
 use Rattle.addr_table.proofs.Searching.SegmentListLaws.{among-above, each-among}
-use Rattle.addr_table.proofs.Endpoints.RangeEnds.{ends-all, among-put, among-kept}
+use Rattle.addr_table.proofs.Endpoints.RangeEnds.{ends-all, among-put, among-more}
 
 -- ---- an ascending list without duplicates is no longer than a list that contains its numbers
 
@@ -50,12 +50,12 @@ rising-among z [] h = absurd h
 rising-among z (x ∷ xs) h = elim h [
   | inl same ↦ let A : ℕ → Type 0 = λ n. IsAmong n (with_end x (rising xs)) in
       subst A (sym same) (among-put x (rising xs))
-  | inr later ↦ among-kept z x (rising xs) (rising-among z xs later)
+  | inr later ↦ among-more z x (rising xs) (rising-among z xs later)
 ]
 
-tail : (x : ℕ) (xs : List ℕ) → RiseFrom x xs → Rise xs
-tail x [] h = tt
-tail x (y ∷ ys) h = h.1
+rise-rest : (x : ℕ) (xs : List ℕ) → RiseFrom x xs → Rise xs
+rise-rest x [] h = tt
+rise-rest x (y ∷ ys) h = h.1
 
 abbrev pub AllAmong : List ℕ → List ℕ → Type 0
 AllAmong xs ys = AllByRecursion (λ x. IsAmong x ys) xs
@@ -80,13 +80,13 @@ fewer (x ∷ xs) (y ∷ ys) a b h = elim h.0 [
   | inl same ↦
       let up : AllByRecursion (λ z. y < z) xs =
       each-weaker (λ z. x < z) (λ z. y < z) (λ z lt. omega arith) xs (above-all x xs a) in
-      let rest = fewer xs ys (tail x xs a) (tail y ys b) (above-others y ys xs up h.1) in
+      let rest = fewer xs ys (rise-rest x xs a) (rise-rest y ys b) (above-others y ys xs up h.1) in
       omega arith
   | inr later ↦
       let lt : y < x = among-above y x ys b later in
       let up : AllByRecursion (λ z. y < z) xs =
       each-weaker (λ z. x < z) (λ z. y < z) (λ z far. omega arith) xs (above-all x xs a) in
-      let rest = fewer (x ∷ xs) ys a (tail y ys b) (later, above-others y ys xs up h.1) in
+      let rest = fewer (x ∷ xs) ys a (rise-rest y ys b) (later, above-others y ys xs up h.1) in
       omega arith
 ]
 
@@ -146,10 +146,10 @@ right-among : (z : ℕ) (xs ys : List ℕ) → IsAmong z ys → IsAmong z (xs ++
 right-among z [] ys h = h
 right-among z (x ∷ xs) ys h = inr (right-among z xs ys h)
 
-kept-among : (ends : List ℕ) (rs : List Range) → BothAmong ends rs
+both-among : (ends : List ℕ) (rs : List Range) → BothAmong ends rs
     → BothAmong ends (filter is_nonempty rs)
-kept-among ends [] h = tt
-kept-among ends (r ∷ rs) h = cases (is_nonempty r) (kept-among ends rs h.1)
+both-among ends [] h = tt
+both-among ends (r ∷ rs) h = cases (is_nonempty r) (both-among ends rs h.1)
   where
     cases : (b : Bool) → BothAmong ends (filter is_nonempty rs)
         → BothAmong ends (cond b (r ∷ filter is_nonempty rs) (filter is_nonempty rs))
@@ -165,7 +165,7 @@ ends-few rows scopes =
     let A : ℕ → Type 0 = λ z. IsAmong z (rising (all_ends rows scopes)) in
     let L : ℕ → Type 0 = λ z. IsAmong z (all_ends rows scopes) in
     let whole : BothAmong (all_ends rows scopes) (row_ranges rows ++ scope_ranges scopes) =
-    each-joined (λ (r : Range). L r.from × L r.to) (row_ranges rows) (scope_ranges scopes)
+    each-append (λ (r : Range). L r.from × L r.to) (row_ranges rows) (scope_ranges scopes)
     (each-weaker (λ (r : Range). IsAmong r.from (addresses rows) × IsAmong r.to (addresses rows))
     (λ (r : Range). L r.from × L r.to)
     (λ r k. (
@@ -180,7 +180,7 @@ ends-few rows scopes =
       right-among
           r.to (addresses rows) (both_ends (scope_ranges scopes)) k.1,
     )) (scope_ranges scopes) (ranges-among (scope_ranges scopes))) in
-    let kept = kept-among (all_ends rows scopes) (row_ranges rows ++ scope_ranges scopes) whole in
+    let kept = both-among (all_ends rows scopes) (row_ranges rows ++ scope_ranges scopes) whole in
     let all = ends-all L (ranges_of rows scopes) kept in
     let up : AllAmong (ends_of (ranges_of rows scopes)) (rising (all_ends rows scopes)) =
     each-weaker L A (λ z h. rising-among z (all_ends rows scopes) h)
@@ -207,12 +207,12 @@ scope-length (s ∷ scopes) =
     sum_by-cons (λ (s : Scope). length s.ranges) s scopes in
     let c = scope-length scopes in omega arith
 
-cuts-few : (rows : List Row) (scopes : List Scope) (ends : List ℕ)
+segments-few : (rows : List Row) (scopes : List Scope) (ends : List ℕ)
     → length (segments_between rows scopes ends) ≤ length ends
-cuts-few rows scopes [] = omega arith
-cuts-few rows scopes (e ∷ []) = omega arith
-cuts-few rows scopes (e ∷ f ∷ ends) =
-    let rest = cuts-few rows scopes (f ∷ ends) in
+segments-few rows scopes [] = omega arith
+segments-few rows scopes (e ∷ []) = omega arith
+segments-few rows scopes (e ∷ f ∷ ends) =
+    let rest = segments-few rows scopes (f ∷ ends) in
     let joined : length (segment_of e f (place_at rows scopes e) ++ segments_between rows scopes
     (f ∷ ends))
     ≡ length
@@ -226,11 +226,11 @@ cuts-few rows scopes (e ∷ f ∷ ends) =
     one (Some p) = omega arith
 
 -- the theorem: at most two segments for each range, and one for each row
-pub cuts-bounded : (rows : List Row) (scopes : List Scope)
+pub segments-bounded : (rows : List Row) (scopes : List Scope)
     → length (segments_of rows scopes) ≤ 2 * sum_by (λ s. length s.ranges) scopes + length rows
 unfolding segments_of
-cuts-bounded rows scopes =
-    let a = cuts-few rows scopes (ends_of (ranges_of rows scopes)) in
+segments-bounded rows scopes =
+    let a = segments-few rows scopes (ends_of (ranges_of rows scopes)) in
     let b = ends-few rows scopes in
     let c : length (all_ends rows scopes) ≡ length (addresses rows) + length
     (both_ends (scope_ranges scopes)) =

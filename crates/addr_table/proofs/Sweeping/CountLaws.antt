@@ -16,18 +16,18 @@ use Rattle.addr_table.proofs.Endpoints.TakenLaws.{one-if, one_upto, sum-mapped}
 -- ---- ranges that start and end
 
 -- 1 if a range has a key and contains an address
-abbrev pub one_held : ℕ → ℕ → Reach → ℕ
-one_held k a r = one-if ((r.key == k) && holds a r.range)
+abbrev pub one_with_key : ℕ → ℕ → Reach → ℕ
+one_with_key k a r = one-if ((r.key == k) && holds a r.range)
 
-abbrev pub held : ℕ → ℕ → List Reach → ℕ
-held k a reaches = sum_by (one_held k a) reaches
+abbrev pub count_with_key : ℕ → ℕ → List Reach → ℕ
+count_with_key k a reaches = sum_by (one_with_key k a) reaches
 
 -- the number of ranges that started equals the number that ended plus the number that contain the
 -- address
 pub started-ended : (k a : ℕ) (reaches : List Reach)
     → AllByRecursion (λ (r : Reach). r.range.from < r.range.to) reaches
     → sum_by (λ r. one_upto k a (open_of r)) reaches ≡ sum_by (λ r. one_upto k a (close_of r))
-    reaches + held k a reaches
+    reaches + count_with_key k a reaches
 started-ended k a [] h = refl
 started-ended k a (r ∷ reaches) h =
     let x : sum_by (λ r. one_upto k a (open_of r)) (r ∷ reaches) ≡ one_upto k a (open_of r) + sum_by
@@ -38,12 +38,12 @@ started-ended k a (r ∷ reaches) h =
     sum_by (λ r. one_upto k a (close_of r))
     reaches =
     sum_by-cons (λ r. one_upto k a (close_of r)) r reaches in
-    let z : held k a (r ∷ reaches) ≡ one_held k a r + held k a reaches =
-    sum_by-cons (one_held k a) r reaches in
+    let z : count_with_key k a (r ∷ reaches) ≡ one_with_key k a r + count_with_key k a reaches =
+    sum_by-cons (one_with_key k a) r reaches in
     let rest : sum_by (λ r. one_upto k a (open_of r)) reaches
-    ≡ sum_by (λ r. one_upto k a (close_of r)) reaches + held k a reaches =
+    ≡ sum_by (λ r. one_upto k a (close_of r)) reaches + count_with_key k a reaches =
     started-ended k a reaches h.1 in
-    let this : one_upto k a (open_of r) ≡ one_upto k a (close_of r) + one_held k a r =
+    let this : one_upto k a (open_of r) ≡ one_upto k a (close_of r) + one_with_key k a r =
     one (r.key == k) r.range.from r.range.to h.0 in
     omega arith
   where
@@ -69,7 +69,7 @@ started-ended k a (r ∷ reaches) h =
 -- the same for endpoints in ascending order
 pub ends-balance : (reaches : List Reach) (opens closes : List End) (k a : ℕ)
     → AreEnds reaches opens closes
-    → sum_by (one_upto k a) opens ≡ sum_by (one_upto k a) closes + held k a reaches
+    → sum_by (one_upto k a) opens ≡ sum_by (one_upto k a) closes + count_with_key k a reaches
 ends-balance reaches opens closes k a h =
     let o : sum_by (one_upto k a) opens ≡ sum_by (one_upto k a) (map open_of reaches) =
     sum_by-IsPermutation (one_upto k a) (map open_of reaches) opens h.opens_are in

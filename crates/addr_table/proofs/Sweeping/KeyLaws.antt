@@ -75,27 +75,27 @@ covers-rise n total (row ∷ next ∷ rows) le =
         let e : suc n ≡ n + 1 = omega arith in (omega arith, omega arith, subst R e h)
 
 -- whether a range has a key and contains an address
-abbrev pub held_by : ℕ → ℕ → Reach → Bool
-held_by k a r = (r.key == k) && holds a r.range
+abbrev pub has_key : ℕ → ℕ → Reach → Bool
+has_key k a r = (r.key == k) && holds a r.range
 
-empty-not-held : (k a : ℕ) (r : Reach) → is_nonempty r.range ≡ false → held_by k a r ≡ false
-empty-not-held k a r h = let none : holds a r.range ≡ false = holds-empty a r.range h in
+empty-without-key : (k a : ℕ) (r : Reach) → is_nonempty r.range ≡ false → has_key k a r ≡ false
+empty-without-key k a r h = let none : holds a r.range ≡ false = holds-empty a r.range h in
     rw none (never (r.key == k))
   where
     never : (b : Bool) → (b && false) ≡ false
     never true = refl
     never false = refl
 
-pub held-parts : (k a : ℕ) (rows : List Row) (scopes : List Scope)
-    → list_any (held_by k a)
-    (reaches_of rows scopes) ≡ (list_any (held_by k a) (row_reaches rows) || list_any (held_by k a)
+pub has_key-parts : (k a : ℕ) (rows : List Row) (scopes : List Scope)
+    → list_any (has_key k a)
+    (reaches_of rows scopes) ≡ (list_any (has_key k a) (row_reaches rows) || list_any (has_key k a)
     (scope_reaches (length rows) (length scopes) scopes))
 unfolding reaches_of
-held-parts k a rows scopes =
-    any-filter (held_by k a) (λ r. is_nonempty r.range)
+has_key-parts k a rows scopes =
+    any-filter (has_key k a) (λ r. is_nonempty r.range)
     (row_reaches rows ++ scope_reaches (length rows) (length scopes) scopes)
-    (empty-not-held k a)
-    ∙ list_any-append (held_by k a) (row_reaches rows)
+    (empty-without-key k a)
+    ∙ list_any-append (has_key k a) (row_reaches rows)
     (scope_reaches (length rows) (length scopes) scopes)
 
 other-keys : (a k : ℕ) (b : Bool) → (a ≡ k → ⊥) → ((a == k) && b) ≡ false
@@ -113,9 +113,9 @@ rows-none k a n total (c ∷ cs) h le =
     (rows-none k a (c.row + 1) total cs h.2 le)
 
 one-none : (k a rows total : ℕ) (s : Scope) → k < rows
-    → list_any (held_by k a) (reaches_in rows total s) ≡ false
+    → list_any (has_key k a) (reaches_in rows total s) ≡ false
 one-none k a rows total s lt =
-    any-map (held_by k a) (λ r. record { key = key_of rows total s.kind s.number; range = r })
+    any-map (has_key k a) (λ r. record { key = key_of rows total s.kind s.number; range = r })
     s.ranges ∙ each s.ranges
   where
     far : (kind : ScopeKind) → key_of rows total kind s.number ≡ k → ⊥
@@ -129,11 +129,11 @@ one-none k a rows total s lt =
         (each rs)
 
 scopes-none : (k a rows total : ℕ) (scopes : List Scope) → k < rows
-    → list_any (held_by k a) (scope_reaches rows total scopes) ≡ false
-scopes-none k a rows total scopes lt = any-flat (held_by k a) (reaches_in rows total) scopes
+    → list_any (has_key k a) (scope_reaches rows total scopes) ≡ false
+scopes-none k a rows total scopes lt = any-flat (has_key k a) (reaches_in rows total) scopes
     ∙ each scopes
   where
-    each : (ss : List Scope) → list_any (λ s. list_any (held_by k a) (reaches_in rows total s)) ss
+    each : (ss : List Scope) → list_any (λ s. list_any (has_key k a) (reaches_in rows total s)) ss
         ≡ false
     each [] = refl
     each (s ∷ ss) = rw (one-none k a rows total s lt) (each ss)
@@ -144,15 +144,15 @@ or_false false = refl
 
 -- the active rows
 pub rows-active : (rows : List Row) (scopes : List Scope) (a : ℕ) (counts : List ℕ)
-    → ((k : ℕ) → is_filled counts k ≡ list_any (held_by k a) (reaches_of rows scopes))
+    → ((k : ℕ) → is_filled counts k ≡ list_any (has_key k a) (reaches_of rows scopes))
     → AreRowsActiveAt rows a counts
 rows-active rows scopes a counts h = record {
   active = λ n lt.
-      h n ∙ held-parts n a rows scopes
-      ∙ ap (λ b. list_any (held_by n a) (row_reaches rows) || b)
+      h n ∙ has_key-parts n a rows scopes
+      ∙ ap (λ b. list_any (has_key n a) (row_reaches rows) || b)
       (scopes-none n a (length rows) (length scopes) scopes lt)
-      ∙ or_false (list_any (held_by n a) (row_reaches rows))
-      ∙ any-map (held_by n a) (λ (c : Cover). record { key = c.row; range = c.range })
+      ∙ or_false (list_any (has_key n a) (row_reaches rows))
+      ∙ any-map (has_key n a) (λ (c : Cover). record { key = c.row; range = c.range })
       (covers_of rows);
 }
 

@@ -14,8 +14,8 @@ use Rattle.addr_table.specs.Chains.{is_kind, is_at}
 use Rattle.addr_table.specs.Private.Bits.{is_filled}
 use Rattle.addr_table.specs.Private.Sweep.{key_of, reaches_in, scope_reaches, reaches_of}
 use Rattle.addr_table.specs.Private.Sweep.{IsActiveAt}
-use Rattle.addr_table.proofs.Sweeping.KeyLaws.{any-map, any-flat, any-both, covers-rise, held_by}
-use Rattle.addr_table.proofs.Sweeping.KeyLaws.{held-parts}
+use Rattle.addr_table.proofs.Sweeping.KeyLaws.{any-map, any-flat, any-both, covers-rise, has_key}
+use Rattle.addr_table.proofs.Sweeping.KeyLaws.{has_key-parts}
 use Rattle.addr_table.proofs.Sweeping.KeyLaws.{rows-none}
 
 -- ---- the keys of scopes
@@ -56,10 +56,10 @@ and-assoc true y z = refl
 and-assoc false y z = refl
 
 scope-one : (rows total a n : ℕ) (kind : ScopeKind) (s : Scope) → s.number < total → n < total
-    → list_any (held_by (key_of rows total kind n) a) (reaches_in rows total s)
+    → list_any (has_key (key_of rows total kind n) a) (reaches_in rows total s)
     ≡ ((s.number == n) && is_at kind a s)
 scope-one rows total a n kind s lt below =
-    any-map (held_by (key_of rows total kind n) a)
+    any-map (has_key (key_of rows total kind n) a)
     (λ r. record { key = key_of rows total s.kind s.number; range = r }) s.ranges
     ∙ any-both (key_of rows total s.kind s.number == key_of rows total kind n) (holds a) s.ranges
     ∙ ap (λ b. b && list_any (holds a) s.ranges) (scope-key rows total n kind s lt below)
@@ -78,14 +78,14 @@ numbers-below m total (s ∷ later) h =
 
 scopes-at : (rows total a n : ℕ) (kind : ScopeKind) (scopes : List Scope)
     → NumbersBelow total scopes → n < total
-    → list_any (held_by (key_of rows total kind n) a) (scope_reaches rows total scopes)
+    → list_any (has_key (key_of rows total kind n) a) (scope_reaches rows total scopes)
     ≡ list_any (λ s. (s.number == n) && is_at kind a s)
     scopes
 scopes-at rows total a n kind scopes h below =
-    any-flat (held_by (key_of rows total kind n) a) (reaches_in rows total) scopes ∙ each scopes h
+    any-flat (has_key (key_of rows total kind n) a) (reaches_in rows total) scopes ∙ each scopes h
   where
     each : (ss : List Scope) → NumbersBelow total ss
-        → list_any (λ s. list_any (held_by (key_of rows total kind n) a) (reaches_in rows total s))
+        → list_any (λ s. list_any (has_key (key_of rows total kind n) a) (reaches_in rows total s))
         ss ≡ list_any
         (λ s. (s.number == n) && is_at kind a s) ss
     each [] h = refl
@@ -99,17 +99,17 @@ key-above rows total n Inlined = omega arith
 pub kind-active : (rows : List Row) (scopes : List Scope) (a : ℕ) (counts : List ℕ)
     (kind : ScopeKind)
     → NumbersBelow (length scopes) scopes
-    → ((k : ℕ) → is_filled counts k ≡ list_any (held_by k a) (reaches_of rows scopes))
+    → ((k : ℕ) → is_filled counts k ≡ list_any (has_key k a) (reaches_of rows scopes))
     → (n : ℕ) → n < length scopes
     → is_filled counts (key_of (length rows) (length scopes) kind n)
     ≡ list_any (λ s. (s.number == n) && is_at kind a s) scopes
 kind-active rows scopes a counts kind numbers h n lt =
     let k : ℕ = key_of (length rows) (length scopes) kind n in
     h (key_of (length rows) (length scopes) kind n)
-    ∙ held-parts (key_of (length rows) (length scopes) kind n) a rows scopes
-    ∙ ap (λ b. b || list_any (held_by (key_of (length rows) (length scopes) kind n) a)
+    ∙ has_key-parts (key_of (length rows) (length scopes) kind n) a rows scopes
+    ∙ ap (λ b. b || list_any (has_key (key_of (length rows) (length scopes) kind n) a)
     (scope_reaches (length rows) (length scopes) scopes))
-    (any-map (held_by (key_of (length rows) (length scopes) kind n) a)
+    (any-map (has_key (key_of (length rows) (length scopes) kind n) a)
     (λ (c : Cover). record { key = c.row; range = c.range })
     (covers_of rows)
     ∙ rows-none (key_of (length rows) (length scopes) kind n) a 0 (length rows) (covers_of rows)
@@ -119,7 +119,7 @@ kind-active rows scopes a counts kind numbers h n lt =
 
 pub scopes-active : (rows : List Row) (scopes : List Scope) (a : ℕ) (counts : List ℕ)
     → AreNumbered 0 (length scopes) scopes
-    → ((k : ℕ) → is_filled counts k ≡ list_any (held_by k a) (reaches_of rows scopes))
+    → ((k : ℕ) → is_filled counts k ≡ list_any (has_key k a) (reaches_of rows scopes))
     → IsActiveAt (length rows) scopes a counts
 scopes-active rows scopes a counts numbered h =
     let numbers = numbers-below 0 (length scopes) scopes numbered in

@@ -1,4 +1,4 @@
--- The table of buckets: how many segments start in lower buckets.
+-- The table of buckets: the number of segments that start in lower buckets.
 use Rattle.std.specs.Prelude.{◌≡◌, ℕ, ◌+◌, ◌-◌, ◌/◌, ◌^◌, ◌<◌, ◌≤◌, List, length}
 use Rattle.std.specs.Prelude.{slice_index, slice_index_or}
 use Rattle.addr_table.specs.Segments.{Segment}

@@ -16,7 +16,7 @@ abbrev pub merged : List End → List End → List End
 merged [] ys = ys
 merged (x ∷ xs) ys = merged_from x (merged xs) ys
 
--- a cursor over two lists of endpoints, and how many of each were taken
+-- a cursor over two lists of endpoints, and the number taken from each
 pub record Cursor : Type 0 where
   pub rows : List End
   pub scopes : List End
@@ -30,7 +30,7 @@ ends_in c = merged c.rows c.scopes
 abbrev pub taken_of : Cursor → ℕ
 taken_of c = c.row + c.scope
 
--- both lists are ascending, and the endpoints that are left are those that are left of each list
+-- Both lists are ascending. The rest of the merged list is the merge of the rests of both lists.
 pub record IsMerging (rows scopes : List End) (row scope : ℕ) : Type 0 where
   pub rows_rise : IsNonDecreasingBy (λ (e : End). e.at) rows
   pub scopes_rise : IsNonDecreasingBy (λ (e : End). e.at) scopes
@@ -38,7 +38,7 @@ pub record IsMerging (rows scopes : List End) (row scope : ℕ) : Type 0 where
   pub scope_within : scope ≤ length scopes
   pub left : drop (row + scope) (merged rows scopes) ≡ merged (drop row rows) (drop scope scopes)
 
--- the next endpoint, which is one of a row, or one of a scope
+-- the next endpoint, and whether it is one of a row (true) or of a scope (false)
 abbrev pub IsHead : Cursor → End → Bool → Type 0
 IsHead c e true = (c.row < length c.rows) × ((d : End) → e ≡ slice_index_or c.rows c.row d)
     × ((d : End) → c.scope < length c.scopes → e.at ≤ (slice_index_or c.scopes c.scope d).at)
@@ -48,7 +48,7 @@ IsHead c e false = (c.scope < length c.scopes)
     × ((d : End) → c.row < length c.rows → e.at < (slice_index_or c.rows c.row d).at)
     × (c.scope + 1 < 2 ^ 64)
 
--- what is next: an endpoint, and whether it is one of a row; nothing if all were taken
+-- the next endpoint, and whether it is one of a row; none if all were taken
 abbrev pub IsNext : Cursor → Option (End × Bool) → Type 0
 IsNext c None = (length c.rows ≤ c.row) × (length c.scopes ≤ c.scope)
 IsNext c (Some h) = IsHead c h.0 h.1

@@ -11,7 +11,7 @@ use Rattle.addr_table.specs.declared.object_tables.FrameSite.{FrameSite}
 use Rattle.addr_table.specs.declared.object_tables.FrameSite.TheVariants.{Row, Call}
 use Rattle.addr_table.specs.Frames.{Frame, Site, nowhere, frame_at, row_site, call_site}
 use Rattle.addr_table.specs.Frames.{frames_from}
-use Rattle.addr_table.specs.Private.Walks.{chain_around}
+use Rattle.addr_table.specs.Private.Walks.{chain_at}
 
 -- the remaining parts of a path
 abbrev pub parts_left : LineSections → List Text → ℕ → List (List ℕ)
@@ -35,12 +35,13 @@ abbrev pub row_frame : Bool → List ℕ → Site → List Frame
 row_frame true bytes site = frame_at bytes None None site ∷ []
 row_frame false bytes site = []
 
--- the remaining frames of a walk over a chain: the remaining scopes are the ones around near
+-- the remaining frames of a walk over a chain: those of the scope of `code` and its enclosing
+-- scopes
 abbrev pub walk_left : List ℕ → Lines → List Scope → ℕ → ℕ → FrameSite → Bool → List Frame
-walk_left bytes lines scopes link near site alone =
+walk_left bytes lines scopes link code site alone =
     let here = site_view bytes lines scopes site in
     row_frame alone bytes here
-    ++ frames_from bytes lines (reverse (chain_around link scopes near)) here
+    ++ frames_from bytes lines (reverse (chain_at link scopes code)) here
 
 -- the remaining frames of a walk, if there is one
 abbrev pub frames_left : Option (List Frame) → List Frame

@@ -2,7 +2,7 @@
 use Rattle.std.specs.Prelude.{◌≡◌, List, map, Result, ⊤}
 use Rattle.module_map.specs.World.{World}
 use Rattle.module_map.specs.Answers.{asked}
-use Rattle.module_map.specs.Listing.{listed}
+use Rattle.module_map.specs.Listing.{list_item}
 use Rattle.command_loop.specs.declared.commands.BadLine.{BadLine}
 use Rattle.command_loop.specs.declared.request.Done.{Done}
 use Rattle.command_loop.specs.declared.request.Done.TheVariants as done
@@ -20,7 +20,7 @@ reply_of world (done.Refused fault) = Refused fault (overlap_name world fault)
 reply_of world (done.LoadedAt name extent) = LoadedAt name.now extent.low extent.high
 reply_of world (done.Unloaded name) = Unloaded name.now
 reply_of world (done.MovedTo name extent) = MovedTo name.now extent.low extent.high
-reply_of world done.Listed = AllListed (map listed world.modules)
+reply_of world done.Listed = AllListed (map list_item world.modules)
 reply_of world (done.Asked found) = Answered (answer_at world found.address)
 
 -- the result of an ask is the current result of the modules

@@ -14,9 +14,9 @@ use Rattle.dwarf_bytes.specs.Numbers.{IsFixed, IsText, IsUleb, IsSleb, IsEncoded
 use Rattle.dwarf_bytes.specs.Numbers.{fixed_at, uleb_at, sleb_at, cstr_at}
 use Rattle.dwarf_bytes.specs.Contents.{Content, Number, Signed, Bytes, EncodesContent, read_as}
 use Rattle.dwarf_bytes.specs.Contents.{content_at}
-use Rattle.dwarf_bytes.proofs.Numbers.LebEncodings.{bind_ok, uleb-stands, sleb-stands}
-use Rattle.dwarf_bytes.proofs.Numbers.AtOffsets.{IsBlock, block-stands, block-of, fixed-stands}
-use Rattle.dwarf_bytes.proofs.Strings.StringLaws.{text-stands}
+use Rattle.dwarf_bytes.proofs.Numbers.LebEncodings.{bind_ok, uleb-encoded, sleb-encoded}
+use Rattle.dwarf_bytes.proofs.Numbers.AtOffsets.{IsBlock, block-encoded, block-of, fixed-encoded}
+use Rattle.dwarf_bytes.proofs.Strings.StringLaws.{text-encoded}
 
 same-content : (x y : Content × ℕ) → (let f : Content × ℕ → Result (Content × ℕ) ReadFault =
     λ z. Ok z in f x ≡ f y)
@@ -39,14 +39,14 @@ standing-as S T bytes at x y next as_other s =
     }
 
 -- if a value is read as a content, an encoding of the content is at the offset
-read-stands : {X : Type 0} (S : List ℕ → X → Type 0) (T : List ℕ → Content → Type 0)
+read-encoded : {X : Type 0} (S : List ℕ → X → Type 0) (T : List ℕ → Content → Type 0)
     (make : X → Content)
     (bytes : List ℕ) (at : ℕ) (content : Content) (next : ℕ)
     → ((front : List ℕ) (x : X) → S front x → T front (make x)) → (read : Result (X × ℕ) ReadFault)
     → ((x : X) (n : ℕ) → read ≡ Ok (x, n) → IsEncodedAt S bytes at x n)
     → read_as make read ≡ Ok (content, next)
     → IsEncodedAt T bytes at content next
-read-stands {X = X} S T make bytes at content next as_content read stands e =
+read-encoded {X = X} S T make bytes at content next as_content read stands e =
     let r = bind_ok read (λ x. Ok (make x.0, x.1)) (content, next) e in
     let pairs = same-content (make r.0.0, r.0.1) (content, next) r.2 in
     let here = standing-as S T bytes at r.0.0 (make r.0.0) r.0.1
@@ -67,9 +67,9 @@ read_again make read x next is = rw is refl
 -- ---- a length, followed by that many bytes
 
 -- the bytes after the encoding at an offset
-pub behind : (bytes : List ℕ) (at : ℕ) (front rest : List ℕ) → drop at bytes ≡ front ++ rest
+pub bytes-after : (bytes : List ℕ) (at : ℕ) (front rest : List ℕ) → drop at bytes ≡ front ++ rest
     → drop (at + length front) bytes ≡ rest
-behind bytes at front rest parts =
+bytes-after bytes at front rest parts =
     sym (drop-drop (length front) at bytes) ∙ ap (drop (length front)) parts
     ∙ drop_at front rest (length front) refl
 
@@ -77,16 +77,16 @@ behind bytes at front rest parts =
 abbrev IsCounted : (List ℕ → ℕ → Type 0) → List ℕ → List ℕ → Type 0
 IsCounted L bytes block = (len : List ℕ) × (bytes ≡ len ++ block) × L len (length block)
 
-counted-stands : (L : List ℕ → ℕ → Type 0) (bytes : List ℕ) (at : ℕ) (block : List ℕ) (next : ℕ)
+counted-encoded : (L : List ℕ → ℕ → Type 0) (bytes : List ℕ) (at : ℕ) (block : List ℕ) (next : ℕ)
     (read : Result (ℕ × ℕ) ReadFault) → ((x n : ℕ) → read ≡ Ok (x, n) → IsEncodedAt L bytes at x n)
     → (read >>= λ len. block_at len.0 bytes len.1) ≡ Ok (block, next)
     → IsEncodedAt (IsCounted L) bytes at block next
-counted-stands L bytes at block next read stands e =
+counted-encoded L bytes at block next read stands e =
     let r = bind_ok read (λ len. block_at len.0 bytes len.1) (block, next) e in
     let s = stands r.0.0 r.0.1 r.1 in
-    let b = block-stands r.0.0 bytes r.0.1 block next r.2 in
+    let b = block-encoded r.0.0 bytes r.0.1 block next r.2 in
     let rest-is : s.rest ≡ b.front ++ b.rest =
-    sym (behind bytes at s.front s.rest s.parts) ∙ ap (λ (n : ℕ). drop n bytes) (sym s.next_is)
+    sym (bytes-after bytes at s.front s.rest s.parts) ∙ ap (λ (n : ℕ). drop n bytes) (sym s.next_is)
     ∙ b.parts in
     let size : length block ≡ r.0.0 = ap length b.encoded.1 ∙ b.encoded.0 in
     record {
@@ -123,7 +123,7 @@ counted-again L bytes at block next read within again s =
     let left = length-drop at bytes in
     let all = ap length parts ∙ length-append len (block ++ s.rest) in
     let blocked = block-of bytes (at + length len) block s.rest (omega (arith, left, all))
-    (behind bytes at len (block ++ s.rest) parts) in
+    (bytes-after bytes at len (block ++ s.rest) parts) in
     let end : at + length len + length block ≡ next =
     omega (arith, s.next_is, ap length s.encoded.1, length-append len block) in
     rw (counted, blocked) (ap (λ (n : ℕ). Ok (block, n)) end)
@@ -137,21 +137,21 @@ counted-as bytes (Err e) = refl
 
 -- ---- each layout
 
-pub content-stands : (layout : ValueLayout) (format : Format) (bytes : List ℕ) (at : ℕ)
+pub content-encoded : (layout : ValueLayout) (format : Format) (bytes : List ℕ) (at : ℕ)
     (content : Content) (next : ℕ)
     → content_at layout format bytes at ≡ Ok (content, next)
     → IsEncodedAt (EncodesContent layout format) bytes at content next
 unfolding content_at
-content-stands (layouts.Fixed width) format bytes at content next e =
-    read-stands (IsFixed (byte_len width)) _ Number bytes at content next (λ front x s. s)
-    (fixed_at (byte_len width) bytes at) (λ x n h. fixed-stands (byte_len width) bytes at x n h) e
-content-stands layouts.Offset Dwarf32 bytes at content next e =
-    read-stands (IsFixed 4) _ Number bytes at content next (λ front x s. s) (fixed_at 4 bytes at)
-    (λ x n h. fixed-stands 4 bytes at x n h) e
-content-stands layouts.Offset Dwarf64 bytes at content next e =
-    read-stands (IsFixed 8) _ Number bytes at content next (λ front x s. s) (fixed_at 8 bytes at)
-    (λ x n h. fixed-stands 8 bytes at x n h) e
-content-stands layouts.Present format bytes at content next e =
+content-encoded (layouts.Fixed width) format bytes at content next e =
+    read-encoded (IsFixed (byte_len width)) _ Number bytes at content next (λ front x s. s)
+    (fixed_at (byte_len width) bytes at) (λ x n h. fixed-encoded (byte_len width) bytes at x n h) e
+content-encoded layouts.Offset Dwarf32 bytes at content next e =
+    read-encoded (IsFixed 4) _ Number bytes at content next (λ front x s. s) (fixed_at 4 bytes at)
+    (λ x n h. fixed-encoded 4 bytes at x n h) e
+content-encoded layouts.Offset Dwarf64 bytes at content next e =
+    read-encoded (IsFixed 8) _ Number bytes at content next (λ front x s. s) (fixed_at 8 bytes at)
+    (λ x n h. fixed-encoded 8 bytes at x n h) e
+content-encoded layouts.Present format bytes at content next e =
     let pairs = same-content (Number 1, at) (content, next) e in
     let here : IsEncodedAt (EncodesContent layouts.Present format) bytes at (Number 1) at =
     record {
@@ -167,29 +167,29 @@ content-stands layouts.Present format bytes at content next e =
     (ap (λ (p : Content × ℕ). p.1) pairs) here in
     subst (λ (c : Content). IsEncodedAt (EncodesContent layouts.Present format) bytes at c next)
     (ap (λ (p : Content × ℕ). p.0) pairs) whole
-content-stands layouts.Signed format bytes at content next e =
-    read-stands IsSleb _ Signed bytes at content next (λ front x s. s) (sleb_at bytes at)
-    (λ x n h. sleb-stands bytes at x n h) e
-content-stands layouts.Unsigned format bytes at content next e =
-    read-stands IsUleb _ Number bytes at content next (λ front x s. s) (uleb_at bytes at)
-    (λ x n h. uleb-stands bytes at x n h) e
-content-stands layouts.Text format bytes at content next e =
-    read-stands IsText _ Bytes bytes at content next (λ front x s. s) (cstr_at bytes at)
-    (λ x n h. text-stands bytes at x n h) e
-content-stands layouts.Sixteen format bytes at content next e =
-    read-stands (IsBlock 16) _ Bytes bytes at content next (λ front x s. s) (block_at 16 bytes at)
-    (λ x n h. block-stands 16 bytes at x n h) e
-content-stands (layouts.Block width) format bytes at content next e =
-    read-stands (IsCounted (IsFixed (byte_len width))) _ Bytes bytes at content next
+content-encoded layouts.Signed format bytes at content next e =
+    read-encoded IsSleb _ Signed bytes at content next (λ front x s. s) (sleb_at bytes at)
+    (λ x n h. sleb-encoded bytes at x n h) e
+content-encoded layouts.Unsigned format bytes at content next e =
+    read-encoded IsUleb _ Number bytes at content next (λ front x s. s) (uleb_at bytes at)
+    (λ x n h. uleb-encoded bytes at x n h) e
+content-encoded layouts.Text format bytes at content next e =
+    read-encoded IsText _ Bytes bytes at content next (λ front x s. s) (cstr_at bytes at)
+    (λ x n h. text-encoded bytes at x n h) e
+content-encoded layouts.Sixteen format bytes at content next e =
+    read-encoded (IsBlock 16) _ Bytes bytes at content next (λ front x s. s) (block_at 16 bytes at)
+    (λ x n h. block-encoded 16 bytes at x n h) e
+content-encoded (layouts.Block width) format bytes at content next e =
+    read-encoded (IsCounted (IsFixed (byte_len width))) _ Bytes bytes at content next
     (λ front x s. s)
     (fixed_at (byte_len width) bytes at >>= λ len. block_at len.0 bytes len.1)
-    (λ x n h. counted-stands (IsFixed (byte_len width)) bytes at x n
+    (λ x n h. counted-encoded (IsFixed (byte_len width)) bytes at x n
     (fixed_at (byte_len width) bytes at)
-    (λ y m g. fixed-stands (byte_len width) bytes at y m g) h)
+    (λ y m g. fixed-encoded (byte_len width) bytes at y m g) h)
     (sym (counted-as bytes (fixed_at (byte_len width) bytes at)) ∙ e)
-content-stands layouts.LongBlock format bytes at content next e =
-    read-stands (IsCounted IsUleb) _ Bytes bytes at content next (λ front x s. s)
+content-encoded layouts.LongBlock format bytes at content next e =
+    read-encoded (IsCounted IsUleb) _ Bytes bytes at content next (λ front x s. s)
     (uleb_at bytes at >>= λ len. block_at len.0 bytes len.1)
-    (λ x n h. counted-stands IsUleb bytes at x n (uleb_at bytes at)
-    (λ y m g. uleb-stands bytes at y m g) h)
+    (λ x n h. counted-encoded IsUleb bytes at x n (uleb_at bytes at)
+    (λ y m g. uleb-encoded bytes at y m g) h)
     (sym (counted-as bytes (uleb_at bytes at)) ∙ e)

@@ -38,10 +38,10 @@ block-by false n bytes at block next test e =
       next_is = ap (λ (p : List ℕ × ℕ). p.1) (sym pairs) ∙ ap (λ (m : ℕ). at + m) (sym size);
     }
 
-pub block-stands : (n : ℕ) (bytes : List ℕ) (at : ℕ) (block : List ℕ) (next : ℕ)
+pub block-encoded : (n : ℕ) (bytes : List ℕ) (at : ℕ) (block : List ℕ) (next : ℕ)
     → block_at n bytes at ≡ Ok (block, next) → IsEncodedAt (IsBlock n) bytes at block next
 unfolding block_at
-block-stands n bytes at block next e = block-by (ltb (length bytes) (at + n)) n bytes at block next
+block-encoded n bytes at block next e = block-by (ltb (length bytes) (at + n)) n bytes at block next
     refl e
 
 -- bytes at an offset are read as a block
@@ -56,14 +56,14 @@ block-of bytes at front rest within parts =
     le-ltb _ _ (omega (arith, left, all)) in
     rw (there, parts, take_at front rest (length front) refl) refl
 
-pub fixed-stands : (n : ℕ) (bytes : List ℕ) (at value next : ℕ)
+pub fixed-encoded : (n : ℕ) (bytes : List ℕ) (at value next : ℕ)
     → fixed_at n bytes at ≡ Ok (value, next)
     → IsEncodedAt (IsFixed n) bytes at value next
 unfolding fixed_at
-fixed-stands n bytes at value next e =
+fixed-encoded n bytes at value next e =
     let b = bind_ok (block_at n bytes at) (λ block. Ok (little_endian block.0, block.1))
     (value, next) e in
-    let s = block-stands n bytes at b.0.0 b.0.1 b.1 in
+    let s = block-encoded n bytes at b.0.0 b.0.1 b.1 in
     let pairs = same_number (little_endian b.0.0, b.0.1) (value, next) b.2 in
     record {
       front = s.front;

@@ -119,10 +119,10 @@ one-leb a b x y is js e =
 
 -- ---- unsigned
 
-pub uleb-stands : (bytes : List ℕ) (at value next : ℕ) → uleb_at bytes at ≡ Ok (value, next)
+pub uleb-encoded : (bytes : List ℕ) (at value next : ℕ) → uleb_at bytes at ≡ Ok (value, next)
     → IsEncodedAt IsUleb bytes at value next
 unfolding uleb_at
-uleb-stands bytes at value next e =
+uleb-encoded bytes at value next e =
     let b = bind_ok (leb_front (drop at bytes)) (λ leb. cond (ltb (uleb_value leb) (2 ^ 64))
     (Ok (uleb_value leb, at + length leb)) (Err Leb)) (value, next) e in
     let front = front_ok (drop at bytes) b.0 b.1 in
@@ -165,11 +165,11 @@ fits-of-tests z e = grind arith
 pub tests-of-fits : (z : ℤ) → FitsSigned w64 z → fits_i64 z ≡ true
 tests-of-fits z e = grind arith
 
-pub sleb-stands : (bytes : List ℕ) (at : ℕ) (value : ℤ) (next : ℕ)
+pub sleb-encoded : (bytes : List ℕ) (at : ℕ) (value : ℤ) (next : ℕ)
     → sleb_at bytes at ≡ Ok (value, next)
     → IsEncodedAt IsSleb bytes at value next
 unfolding sleb_at
-sleb-stands bytes at value next e =
+sleb-encoded bytes at value next e =
     let b = bind_ok (leb_front (drop at bytes)) (λ leb. cond (fits_i64 (sleb_value leb))
     (Ok (sleb_value leb, at + length leb)) (Err Leb)) (value, next) e in
     let front = front_ok (drop at bytes) b.0 b.1 in

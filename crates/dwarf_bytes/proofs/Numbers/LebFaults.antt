@@ -57,8 +57,8 @@ unfolding leb_front
 front-fault bytes fault e =
     front-by (ltb (prefix_len goes_on (take 10 bytes)) (length (take 10 bytes))) bytes fault refl e
 
-pub cut-front : (bytes : List ℕ) → IsTruncatedLeb bytes → leb_front bytes ≡ Err Short
-cut-front bytes h =
+pub truncated-front : (bytes : List ℕ) → IsTruncatedLeb bytes → leb_front bytes ≡ Err Short
+truncated-front bytes h =
     let all : take 10 bytes ≡ bytes = take_all 10 bytes (omega (arith, h.0)) in
     leb_front-open bytes (subst GoOn (sym all) h.1) ∙ ap (λ (t : Bool). Err (cond t Short Leb))
     (lt-ltb _ _ h.0)
@@ -141,10 +141,10 @@ uleb-fault bytes at fault e =
     uleb-over
     (leb_front (drop at bytes)) refl fault e
 
-pub uleb-cut : (bytes : List ℕ) (at : ℕ) → IsTruncatedLeb (drop at bytes) → uleb_at bytes at
+pub uleb-truncated : (bytes : List ℕ) (at : ℕ) → IsTruncatedLeb (drop at bytes) → uleb_at bytes at
     ≡ Err Short
 unfolding uleb_at
-uleb-cut bytes at h = rw (cut-front (drop at bytes) h) refl
+uleb-truncated bytes at h = rw (truncated-front (drop at bytes) h) refl
 
 pub uleb-leb : (bytes : List ℕ) (at : ℕ) → IsEndlessLeb (drop at bytes)
     ⊎ IsOverLeb IsOverUleb (drop at bytes)
@@ -176,10 +176,10 @@ sleb-fault bytes at fault e =
     sleb-over
     (leb_front (drop at bytes)) refl fault e
 
-pub sleb-cut : (bytes : List ℕ) (at : ℕ) → IsTruncatedLeb (drop at bytes) → sleb_at bytes at
+pub sleb-truncated : (bytes : List ℕ) (at : ℕ) → IsTruncatedLeb (drop at bytes) → sleb_at bytes at
     ≡ Err Short
 unfolding sleb_at
-sleb-cut bytes at h = rw (cut-front (drop at bytes) h) refl
+sleb-truncated bytes at h = rw (truncated-front (drop at bytes) h) refl
 
 pub sleb-leb : (bytes : List ℕ) (at : ℕ) → IsEndlessLeb (drop at bytes)
     ⊎ IsOverLeb IsOverSleb (drop at bytes)

@@ -13,8 +13,8 @@ use Rattle.dwarf_bytes.specs.declared.format.Format.TheVariants.{Dwarf32, Dwarf6
 use Rattle.dwarf_bytes.specs.Numbers.{IsFixed, IsLongLength, IsInitialLength, IsEncodedAt, u32_at}
 use Rattle.dwarf_bytes.specs.Numbers.{u64_at, initial_length_at}
 use Rattle.dwarf_bytes.proofs.Numbers.Advance.{after-bind, chosen}
-use Rattle.dwarf_bytes.proofs.Numbers.AtOffsets.{fixed-stands, fixed-again}
-use Rattle.dwarf_bytes.proofs.Contents.ContentLaws.{behind}
+use Rattle.dwarf_bytes.proofs.Numbers.AtOffsets.{fixed-encoded, fixed-again}
+use Rattle.dwarf_bytes.proofs.Contents.ContentLaws.{bytes-after}
 use Rattle.dwarf_bytes.proofs.Contents.ContentEncodings.{front-within}
 
 -- the result of a read: the format, the length, and the offset after it
@@ -35,13 +35,13 @@ is-escape : (n : ℕ) → (n == 0xffffffff) ≡ true → n ≡ 0xffffffff
 is-escape n h = grind (arith, nat_tests)
 
 -- four bytes followed by eight
-long-stands : (bytes : List ℕ) (at first mid len next : ℕ) → IsEncodedAt (IsFixed 4) bytes at
+long-encoded : (bytes : List ℕ) (at first mid len next : ℕ) → IsEncodedAt (IsFixed 4) bytes at
     first mid
     → first ≡ 0xffffffff → IsEncodedAt (IsFixed 8) bytes mid len next
     → IsEncodedAt IsLongLength bytes at len next
-long-stands bytes at first mid len next a is b =
+long-encoded bytes at first mid len next a is b =
     let rest-is : a.rest ≡ b.front ++ b.rest =
-    sym (behind bytes at a.front a.rest a.parts) ∙ ap (λ (n : ℕ). drop n bytes) (sym a.next_is)
+    sym (bytes-after bytes at a.front a.rest a.parts) ∙ ap (λ (n : ℕ). drop n bytes) (sym a.next_is)
     ∙ b.parts in
     record {
       front = a.front ++ b.front;
@@ -58,13 +58,13 @@ long-stands bytes at first mid len next a is b =
       next_is = omega (arith, a.next_is, b.next_is, length-append a.front b.front);
     }
 
-pub initial-stands : (bytes : List ℕ) (at : ℕ) (read : Read) → initial_length_at bytes at ≡ Ok read
+pub initial-encoded : (bytes : List ℕ) (at : ℕ) (read : Read) → initial_length_at bytes at ≡ Ok read
     → IsEncodedAt (IsInitialLength read.0.0) bytes at read.0.1 read.1
 unfolding initial_length_at
-initial-stands bytes at read h =
+initial-encoded bytes at read h =
     let Q : Read → Type 0 = λ (r : Read). IsEncodedAt (IsInitialLength r.0.0) bytes at r.0.1 r.1 in
     after-bind (u32_at bytes at) (by_first bytes) read h (Q read) (λ first first_is h1.
-    let a = fixed-stands 4 bytes at first.0 first.1 first_is in
+    let a = fixed-encoded 4 bytes at first.0 first.1 first_is in
     chosen (nat_lt first.0 0xfffffff0) _ _ (Ok read) h1 (Q read)
     (λ small e.
     let it : Q ((Dwarf32, first.0), first.1) =
@@ -81,8 +81,8 @@ initial-stands bytes at read h =
     (Q read)
     (λ long long_is h4.
     let it : Q ((Dwarf64, long.0), long.1) =
-    long-stands bytes at first.0 first.1 long.0 long.1 a (is-escape first.0 escape)
-    (fixed-stands 8 bytes first.1 long.0 long.1 long_is) in
+    long-encoded bytes at first.0 first.1 long.0 long.1 a (is-escape first.0 escape)
+    (fixed-encoded 8 bytes first.1 long.0 long.1 long_is) in
     subst Q (same-read ((Dwarf64, long.0), long.1) read h4) it))
     (λ _ e. cc)))
 
@@ -108,7 +108,7 @@ initial-again Dwarf64 bytes at len next s =
     s.parts ∙ ap (λ (b : List ℕ). b ++ s.rest) t.whole ∙ append_assoc t.escape t.long s.rest in
     let mid : ℕ = at + length t.escape in
     let there : drop mid bytes ≡ t.long ++ s.rest =
-    behind bytes at t.escape (t.long ++ s.rest) parts in
+    bytes-after bytes at t.escape (t.long ++ s.rest) parts in
     let first = fixed-again 4 bytes at 0xffffffff mid
     (front-within bytes at t.escape (t.long ++ s.rest) parts (omega (arith, t.escape_is.0)))
     (record {
@@ -130,10 +130,10 @@ initial-again Dwarf64 bytes at len next s =
     }) in
     rw (first, long) refl
 
-spelled-length : (format : Format) (bytes : List ℕ) (len : ℕ) → IsInitialLength format bytes len
+encoded-length : (format : Format) (bytes : List ℕ) (len : ℕ) → IsInitialLength format bytes len
     → 0 < length bytes
-spelled-length Dwarf32 bytes len s = omega (arith, s.0.0)
-spelled-length Dwarf64 bytes len s = omega
+encoded-length Dwarf32 bytes len s = omega (arith, s.0.0)
+encoded-length Dwarf64 bytes len s = omega
     (arith, s.escape_is.0, ap length s.whole, length-append s.escape s.long)
 
 -- the offset after an initial length: greater than the one before, and not past the end
@@ -141,8 +141,8 @@ pub initial_length_at-moves : (bytes : List ℕ) (at : ℕ) (read : Read)
     → initial_length_at bytes at ≡ Ok read
     → (at < read.1) × (read.1 ≤ length bytes)
 initial_length_at-moves bytes at read h =
-    let s = initial-stands bytes at read h in
-    let size = spelled-length read.0.0 s.front read.0.1 s.encoded in
+    let s = initial-encoded bytes at read h in
+    let size = encoded-length read.0.0 s.front read.0.1 s.encoded in
     let all = ap length s.parts in (
       omega (arith, s.next_is, size),
       omega (

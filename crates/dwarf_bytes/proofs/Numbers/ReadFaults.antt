@@ -35,10 +35,10 @@ unfolding fixed_at block_at
 fixed-fault n bytes at fault e =
     fixed-fault_by (ltb (length bytes) (at + n)) n bytes at fault refl e
 
-pub fixed-cut : (n : ℕ) (bytes : List ℕ) (at : ℕ) (fault : ReadFault)
+pub fixed-truncated : (n : ℕ) (bytes : List ℕ) (at : ℕ) (fault : ReadFault)
     → (fault ≡ Short) × (length bytes < at + n) → fixed_at n bytes at ≡ Err fault
 unfolding fixed_at block_at
-fixed-cut n bytes at fault h = rw (lt-ltb _ _ h.1) (ap (λ (f : ReadFault). Err f) (sym h.0))
+fixed-truncated n bytes at fault h = rw (lt-ltb _ _ h.1) (ap (λ (f : ReadFault). Err f) (sym h.0))
 
 -- ---- initial lengths
 
@@ -129,13 +129,13 @@ length-fault bytes at fault e =
     length-fault_by (ltb (length bytes) (at + 4)) bytes at fault refl
     (sym (length-is-by (ltb (length bytes) (at + 4)) bytes at refl) ∙ e)
 
-cut-short-by : (cut : Bool) (bytes : List ℕ) (at : ℕ) → ltb (length bytes) (at + 4) ≡ cut
+truncated-by : (cut : Bool) (bytes : List ℕ) (at : ℕ) → ltb (length bytes) (at + 4) ≡ cut
     → IsTruncatedLength (drop at bytes) → length_by cut bytes at ≡ Err Short
-cut-short-by true bytes at is h = refl
-cut-short-by false bytes at is (inl few) =
+truncated-by true bytes at is h = refl
+truncated-by false bytes at is (inl few) =
     let size = length-drop at bytes in
     let whole = ltb-false _ _ is in absurd (omega (arith, size, few, whole))
-cut-short-by false bytes at is (inr long) =
+truncated-by false bytes at is (inr long) =
     let size = length-drop at bytes in
     let cut : ltb (length bytes) (at + 4 + 8) ≡ true =
     lt-ltb _ _ (omega (arith, size, long.1)) in
@@ -144,11 +144,11 @@ cut-short-by false bytes at is (inr long) =
     let escape : (first_four bytes at == 0xffffffff) ≡ true = eq-eqb _ _ long.0 in
     rw (large, escape, cut) refl
 
-pub length-cut : (bytes : List ℕ) (at : ℕ) → IsTruncatedLength (drop at bytes)
+pub length-truncated : (bytes : List ℕ) (at : ℕ) → IsTruncatedLength (drop at bytes)
     → initial_length_at bytes at ≡ Err Short
-length-cut bytes at h =
+length-truncated bytes at h =
     length-is-by (ltb (length bytes) (at + 4)) bytes at refl
-    ∙ cut-short-by (ltb (length bytes) (at + 4)) bytes at refl h
+    ∙ truncated-by (ltb (length bytes) (at + 4)) bytes at refl h
 
 pub length-reserved : (bytes : List ℕ) (at : ℕ) → IsReservedLength (drop at bytes)
     → initial_length_at bytes at ≡ Err Length

@@ -43,14 +43,15 @@ extents (header ∷ headers) extent =
     (extents headers) refl refl
 
 -- folding joined over the headers gives the minimum and the maximum
-pub joined-all : (headers : List ProgramHeader) (low high : ℕ)
+pub segments-extent : (headers : List ProgramHeader) (low high : ℕ)
     → fold with_segment (Some (low, high)) headers ≡ Some (
       fold min low (map (λ h. h.vaddr) headers),
       fold max high
           (map load_end headers),
     )
-joined-all [] low high = refl
-joined-all (h ∷ headers) low high = joined-all headers (min low h.vaddr) (max high (load_end h))
+segments-extent [] low high = refl
+segments-extent (h ∷ headers) low high =
+    segments-extent headers (min low h.vaddr) (max high (load_end h))
 
 -- ---- the pass over all load segments
 
@@ -80,7 +81,7 @@ parts : (hs : List ProgramHeader) (e : ℕ × ℕ) → fold with_segment None hs
     × (e.1 ≡ unwrap_or (reduce max (map load_end hs)) 0)
 parts [] e h = absurd cc
 parts (x ∷ hs) e h =
-    let all = sym (joined-all hs x.vaddr (load_end x)) ∙ h in (
+    let all = sym (segments-extent hs x.vaddr (load_end x)) ∙ h in (
       refl,
       ap (λ (o : Option (ℕ × ℕ)). (unwrap_or o (0, 0)).0) (sym all),
       ap
@@ -89,7 +90,7 @@ parts (x ∷ hs) e h =
 
 none : (hs : List ProgramHeader) → fold with_segment None hs ≡ None → is_empty hs ≡ true
 none [] h = refl
-none (x ∷ hs) h = let all = sym (joined-all hs x.vaddr (load_end x)) ∙ h in absurd cc
+none (x ∷ hs) h = let all = sym (segments-extent hs x.vaddr (load_end x)) ∙ h in absurd cc
 
 pub extent-found : (bytes : List ℕ) (e : ℕ × ℕ) → try_fold with_program_header None
     (program_headers bytes)
@@ -116,12 +117,12 @@ extent-none bytes h =
     first_fault-append sections.Elf (map load_item (loads bytes)) (no_load_item bytes ∷ [])
     ∙ rw (all.0, p) refl
 
-pub extent-bad : (bytes : List ℕ) (f : LoadFault) → try_fold with_program_header None
+pub extent-invalid : (bytes : List ℕ) (f : LoadFault) → try_fold with_program_header None
     (program_headers bytes)
     ≡ Err f
     → first_fault sections.Elf (load_items bytes) ≡ Some f
 unfolding load_items loads
-extent-bad bytes f h =
+extent-invalid bytes f h =
     let all = unless-err _ _ _ (sym (extents (program_headers bytes) None) ∙ h) in
     first_fault-append sections.Elf (map load_item (loads bytes)) (no_load_item bytes ∷ [])
     ∙ rw all refl
@@ -194,14 +195,15 @@ walk-ends bytes header k extent all same le so_far =
     (headers-end bytes k (subst (λ (h : FileHeader). h.phnum ≤ k) same le))
 
 -- the result of the pass
-abbrev pub Tells : List ℕ → Result (ℕ × ℕ) LoadFault → Type 0
-Tells bytes result = MatchResult result (λ e. (first_fault sections.Elf (load_items bytes) ≡ None)
+abbrev pub IsExtent : List ℕ → Result (ℕ × ℕ) LoadFault → Type 0
+IsExtent bytes result =
+    MatchResult result (λ e. (first_fault sections.Elf (load_items bytes) ≡ None)
     × (e.0 ≡ low bytes)
     × (e.1 ≡ high bytes)) (λ f. first_fault sections.Elf (load_items bytes) ≡ Some f)
 
-pub told : (bytes : List ℕ) (extent : Option (ℕ × ℕ)) (fault : LoadFault)
+pub extent-of : (bytes : List ℕ) (extent : Option (ℕ × ℕ)) (fault : LoadFault)
     → fault ≡ record { section = sections.Elf; cause = causes.NoLoad; at = 0 }
     → try_fold with_program_header None (program_headers bytes) ≡ Ok extent
-    → Tells bytes (ok_or extent fault)
-told bytes None fault is h = extent-none bytes h ∙ ap (λ (f : LoadFault). Some f) (sym is)
-told bytes (Some e) fault is h = extent-found bytes e h
+    → IsExtent bytes (ok_or extent fault)
+extent-of bytes None fault is h = extent-none bytes h ∙ ap (λ (f : LoadFault). Some f) (sym is)
+extent-of bytes (Some e) fault is h = extent-found bytes e h

@@ -29,21 +29,21 @@ fault-is bytes = first_fault-append sections.Elf (header_item bytes ∷ load_ite
 at_start : Option Cause → Option LoadFault
 at_start o = option_map (λ cause. record { section = sections.Elf; cause = cause; at = 0 }) o
 
-pub header-bad : (bytes : List ℕ) (cause : Cause) (fault : LoadFault)
+pub header-invalid : (bytes : List ℕ) (cause : Cause) (fault : LoadFault)
     → first_failure (header_tests bytes) ≡ Some cause
     → fault ≡ record { section = sections.Elf; cause = cause; at = 0 }
     → elf_fault bytes ≡ Some fault
 unfolding at_start
-header-bad bytes cause fault first is =
+header-invalid bytes cause fault first is =
     fault-is bytes ∙ ap (λ (o : Option Cause). option_or
     (option_or (at_start o) (first_fault sections.Elf (load_items bytes)))
     (first_fault sections.Elf (section_items bytes))) first
     ∙ ap (λ (f : LoadFault). Some f) (sym is)
 
-pub loads-bad : (bytes : List ℕ) (fault : LoadFault) → first_failure (header_tests bytes) ≡ None
+pub loads-invalid : (bytes : List ℕ) (fault : LoadFault) → first_failure (header_tests bytes) ≡ None
     → first_fault sections.Elf (load_items bytes) ≡ Some fault → elf_fault bytes ≡ Some fault
 unfolding at_start
-loads-bad bytes fault header bad =
+loads-invalid bytes fault header bad =
     fault-is bytes ∙ ap (λ (o : Option Cause). option_or
     (option_or (at_start o) (first_fault sections.Elf (load_items bytes)))
     (first_fault sections.Elf (section_items bytes))) header

@@ -87,14 +87,14 @@ wanted-at bytes k name named =
     (λ s. option_map_or (λ n. bytes_eq n (section_name s)) o false) wanted) named
 
 -- a wanted section
-pub judged : (bytes : List ℕ) (k i : ℕ) (name : List ℕ) (entry : SectionHeader)
+pub checked : (bytes : List ℕ) (k i : ℕ) (name : List ℕ) (entry : SectionHeader)
     (found : List (Option Span))
     → name_of bytes k ≡ Some name → Some i ≡ position (is_name name) wanted
     → entry ≡ section_header bytes k
     → found ≡ spans_before bytes k → item_fault sections.Elf (section_item bytes k)
     ≡ in_file bytes entry false
     (is_some (get_or found i None)) true
-judged bytes k i name entry found named number e f =
+checked bytes k i name entry found named number e f =
     let is_only = number-some name i number in
     let seen = seen-is bytes k i name named is_only
     ∙ ap (λ (spans : List (Option Span)). is_some (get_or spans i None)) (sym f) in

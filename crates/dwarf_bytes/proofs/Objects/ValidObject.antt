@@ -24,13 +24,14 @@ or_none None b h = (refl, h)
 or_none (Some x) b h = absurd cc
 
 -- the three parts of a valid object: without a fault of the object, none has a fault
-good-loads : (bytes : List ℕ) → elf_fault bytes ≡ None → first_fault sections.Elf (load_items bytes)
+loads-valid : (bytes : List ℕ) → elf_fault bytes ≡ None
+    → first_fault sections.Elf (load_items bytes)
     ≡ None
-good-loads bytes h = (or_none _ _ (or_none _ _ (sym (fault-is bytes) ∙ h)).0).1
+loads-valid bytes h = (or_none _ _ (or_none _ _ (sym (fault-is bytes) ∙ h)).0).1
 
-pub good-sections : (bytes : List ℕ) → elf_fault bytes ≡ None
+pub sections-valid : (bytes : List ℕ) → elf_fault bytes ≡ None
     → first_fault sections.Elf (section_items bytes) ≡ None
-good-sections bytes h = (or_none _ _ (sym (fault-is bytes) ∙ h)).1
+sections-valid bytes h = (or_none _ _ (sym (fault-is bytes) ∙ h)).1
 
 -- ---- the address range
 
@@ -38,7 +39,7 @@ some-loads : (bytes : List ℕ) → elf_fault bytes ≡ None → is_empty (loads
 unfolding load_items
 some-loads bytes h =
     let parts = or_none _ _ (sym (first_fault-append sections.Elf (map load_item (loads bytes))
-    (no_load_item bytes ∷ [])) ∙ good-loads bytes h) in
+    (no_load_item bytes ∷ [])) ∙ loads-valid bytes h) in
     by (is_empty (loads bytes)) ((or_none _ _ parts.1).0)
   where
     by : (t : Bool) → option_map (λ (cause : Cause). let f : LoadFault = record {

@@ -21,20 +21,21 @@ use Rattle.dwarf_bytes.specs.Elf.{is_named, name_of, section_header, section_spa
 use Rattle.dwarf_bytes.specs.Elf.{IsInside, AreInside, layout}
 use Rattle.dwarf_bytes.specs.ElfLaws.{IsOneSection, IsNoSection}
 use Rattle.dwarf_bytes.proofs.Objects.Extent.{first_fault-append}
-use Rattle.dwarf_bytes.proofs.Objects.ValidObject.{or_none, good-sections}
+use Rattle.dwarf_bytes.proofs.Objects.ValidObject.{or_none, sections-valid}
 
 -- ---- the sections
 
-good-items : (f : ℕ → Item) (n a : ℕ) → first_fault sections.Elf (map f (range_with_len a n)) ≡ None
+items-valid : (f : ℕ → Item) (n a : ℕ) → first_fault sections.Elf (map f (range_with_len a n))
+    ≡ None
     → (i : ℕ) → i < n
     → item_fault sections.Elf (f (a + i)) ≡ None
-good-items f zero a h i lt = absurd (omega arith)
-good-items f (suc n) a h zero lt = let same : a ≡ a + 0 =
+items-valid f zero a h i lt = absurd (omega arith)
+items-valid f (suc n) a h zero lt = let same : a ≡ a + 0 =
     omega arith in subst (λ (k : ℕ). item_fault sections.Elf (f k) ≡ None) same (or_none _ _ h).0
-good-items f (suc n) a h (suc i) lt =
+items-valid f (suc n) a h (suc i) lt =
     let same : a + 1 + i ≡ a + suc i = omega arith in
     subst (λ (k : ℕ). item_fault sections.Elf (f k) ≡ None) same
-    (good-items f n (a + 1) (or_none _ _ h).1 i (omega arith))
+    (items-valid f n (a + 1) (or_none _ _ h).1 i (omega arith))
 
 -- the result of a search in a range of numbers
 pub record IsFirst (p : ℕ → Bool) (a n k : ℕ) : Type 0 where
@@ -80,19 +81,19 @@ find_none p (suc n) a e k le lt = none-from p n a (p a) refl e (find_none p n (a
     (first-or k a le) lt
 
 -- each section header of a valid object is valid
-good-headers : (bytes : List ℕ) → elf_fault bytes ≡ None → (k : ℕ) → k < (file_header bytes).shnum
+headers-valid : (bytes : List ℕ) → elf_fault bytes ≡ None → (k : ℕ) → k < (file_header bytes).shnum
     → item_fault sections.Elf (section_item bytes k) ≡ None
 unfolding section_items
-good-headers bytes h k lt =
+headers-valid bytes h k lt =
     let parts : (first_fault sections.Elf
     (cond (has_sections (file_header bytes)) (names_item bytes ∷ []) []) ≡ None)
     × (first_fault sections.Elf (map (section_item bytes) (section_numbers bytes)) ≡ None) =
     or_none _ _ (sym (first_fault-append sections.Elf
     (cond (has_sections (file_header bytes)) (names_item bytes ∷ []) [])
-    (map (section_item bytes) (section_numbers bytes))) ∙ good-sections bytes h) in
+    (map (section_item bytes) (section_numbers bytes))) ∙ sections-valid bytes h) in
     let zero_on : 0 + k ≡ k = omega arith in
     subst (λ (j : ℕ). item_fault sections.Elf (section_item bytes j) ≡ None) zero_on
-    (good-items (section_item bytes) (file_header bytes).shnum 0 parts.1 k lt)
+    (items-valid (section_item bytes) (file_header bytes).shnum 0 parts.1 k lt)
 
 -- every section other than the ELF tables is a wanted one
 wanted-any : (s : Section) → s ≢ sections.Elf → (p : Section → Bool) → p s ≡ true
@@ -129,10 +130,10 @@ tests-pass false false false true outside at h = absurd cc
 tests-pass false false false false true at h = absurd cc
 tests-pass false false false false false at h = (refl, refl, refl, refl)
 
-good-header : (bytes : List ℕ) (k : ℕ) (s : Section) → elf_fault bytes ≡ None
+header-valid : (bytes : List ℕ) (k : ℕ) (s : Section) → elf_fault bytes ≡ None
     → k < (file_header bytes).shnum
     → s ≢ sections.Elf → is_named bytes k s ≡ true → IsGoodHeader bytes k
-good-header bytes k s h lt ne named =
+header-valid bytes k s h lt ne named =
     let header = section_header bytes k in
     let here : is_wanted bytes k ≡ true = wanted-any s ne (λ t. is_named bytes k t) named in
     let item = subst (λ (b : Bool). item_fault sections.Elf
@@ -143,7 +144,7 @@ good-header bytes k s h lt ne named =
           (b && is_compressed header, causes.Compressed) ∷
           (b && is_outside bytes header.offset header.size, causes.Table) ∷ [];
     }) ≡ None) here
-    (good-headers bytes h k lt) in
+    (headers-valid bytes h k lt) in
     let t = tests-pass _ _ _ _ _ header.at item in
     record { fresh = t.0; has_bits = t.1; plain = t.2; inside = ltb-false _ _ t.3 }
 
@@ -168,10 +169,10 @@ only-one bytes j k s h jn kn ne first second = by (cases_lt j k) (cases_lt k j)
   where
     by : (j < k) ⊎ (k ≤ j) → (k < j) ⊎ (j ≤ k) → j ≡ k
     by (inl lt) other = absurd (let seen = seen-by bytes j k s lt ne first second in let fresh =
-        (good-header bytes k s h kn ne second).fresh in cc)
+        (header-valid bytes k s h kn ne second).fresh in cc)
     by (inr le) (inl lt) =
         absurd (let seen = seen-by bytes k j s lt ne second first in let fresh =
-        (good-header bytes j s h jn ne first).fresh in cc)
+        (header-valid bytes j s h jn ne first).fresh in cc)
     by (inr le) (inr ge) = omega arith
 
 pub section_is_one : (bytes : List ℕ) (s : Section) → elf_fault bytes ≡ None → s ≢ sections.Elf
@@ -191,7 +192,7 @@ section_is_one bytes s h ne = by (find (λ k. is_named bytes k s) (section_numbe
     by (Some n) is =
         let f = find-first (λ j. is_named bytes j s) (file_header bytes).shnum 0 n is in
         let lt : n < (file_header bytes).shnum = omega (arith, f.high) in
-        let g = good-header bytes n s h lt ne f.passes in
+        let g = header-valid bytes n s h lt ne f.passes in
         inl (record {
           number = n;
           is_number = lt;

@@ -146,29 +146,29 @@ added at j None = refl
 added at j (Some n) = ap (λ (k : ℕ). Some k) (omega arith)
 
 -- without a NUL in the next block_len bytes, a search may start at any offset among them
-pub nul-behind : (section : List ℕ) (at j : ℕ) → j ≤ block_len
+pub nul-after : (section : List ℕ) (at j : ℕ) → j ≤ block_len
     → position is_nul (take block_len (drop at section)) ≡ None
     → nul_from section at ≡ nul_from section (at + j)
-nul-behind section at j near none =
+nul-after section at j near none =
     ap (λ (o : Option ℕ). option_map (λ n. at + n) o)
     (none-ahead is_nul (drop at section) block_len j near none)
     ∙ (ap (λ (xs : List ℕ). option_map (λ n. at + n) (option_map (λ n. j + n) (position is_nul xs)))
     (drop-drop j at section) ∙ added at j (position is_nul (drop (at + j) section)))
 
-pub nul-near : (section : List ℕ) (at nul : ℕ)
+pub nul-in-block : (section : List ℕ) (at nul : ℕ)
     → Some nul ≡ option_map (λ n. at + n) (position is_nul (take block_len (drop at section)))
     → Some nul ≡ nul_from section at
-nul-near section at nul h = by_found (position is_nul (take block_len (drop at section))) refl h
+nul-in-block section at nul h = by_found (position is_nul (take block_len (drop at section))) refl h
   where
     by_found : (o : Option ℕ) → position is_nul (take block_len (drop at section)) ≡ o
         → Some nul ≡ option_map (λ n. at + n) o → Some nul ≡ nul_from section at
     by_found None is h = cc
     by_found (Some n) is h = rw (some-ahead is_nul (drop at section) block_len n is) h
 
-pub none-near : (section : List ℕ) (at : ℕ) → None ≡ option_map (λ n. at + n)
+pub none-in-block : (section : List ℕ) (at : ℕ) → None ≡ option_map (λ n. at + n)
     (position is_nul (take block_len (drop at section)))
     → position is_nul (take block_len (drop at section)) ≡ None
-none-near section at h = by_found (position is_nul (take block_len (drop at section))) h
+none-in-block section at h = by_found (position is_nul (take block_len (drop at section))) h
   where
     by_found : (o : Option ℕ) → None ≡ option_map (λ n. at + n) o → o ≡ None
     by_found None h = refl

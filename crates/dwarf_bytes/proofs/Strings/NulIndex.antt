@@ -11,7 +11,7 @@ use Rattle.dwarf_bytes.specs.declared.fault.ReadFault.{ReadFault}
 use Rattle.dwarf_bytes.specs.declared.fault.ReadFault.TheVariants.{Unterminated}
 use Rattle.dwarf_bytes.specs.Numbers.{text_front, text_at}
 use Rattle.dwarf_bytes.specs.Private.Nuls.{nul_from, block_len, nuls_from, AreNuls}
-use Rattle.dwarf_bytes.proofs.Strings.FirstNuls.{is_nul, nul-behind, nul-near, none-near}
+use Rattle.dwarf_bytes.proofs.Strings.FirstNuls.{is_nul, nul-after, nul-in-block, none-in-block}
 use Rattle.dwarf_bytes.proofs.Strings.FirstNuls.{nul-outside}
 
 -- ---- the index
@@ -39,9 +39,9 @@ nuls-get section block (suc count) (suc i) found h =
     (omega arith)
 
 -- the next block starts at most block_len bytes after an offset
-near-block : (at : ℕ) → (at < block_len * (at / block_len + 1))
+block-bounds : (at : ℕ) → (at < block_len * (at / block_len + 1))
     × (block_len * (at / block_len + 1) ≤ at + block_len)
-near-block at = (omega arith, omega arith)
+block-bounds at = (omega arith, omega arith)
 
 -- without a NUL in the next block_len bytes, the index contains the first one
 pub nul-indexed : (section : List ℕ) (nuls : List (Option ℕ)) (at : ℕ) (found : Option ℕ)
@@ -51,12 +51,12 @@ pub nul-indexed : (section : List ℕ) (nuls : List (Option ℕ)) (at : ℕ) (fo
     → found ≡ nul_from section at
 nul-indexed section nuls at found are none there =
     let block : ℕ = at / block_len + 1 in
-    let near = near-block at in
+    let near = block-bounds at in
     let j : ℕ = block_len * block - at in
     let place : at + j ≡ block_len * (0 + block) = omega (arith, near.0) in
     let told = nuls-get section 0 are.count block found
     (ap (λ (ns : List (Option ℕ)). slice_get ns block) (sym are.nuls_are) ∙ there) in
-    told ∙ sym (nul-behind section at j (omega (arith, near.1)) none
+    told ∙ sym (nul-after section at j (omega (arith, near.1)) none
     ∙ ap (λ (k : ℕ). nul_from section k) place)
 
 pub nul-unindexed : (section : List ℕ) (nuls : List (Option ℕ)) (at : ℕ) → AreNuls section nuls
@@ -64,19 +64,19 @@ pub nul-unindexed : (section : List ℕ) (nuls : List (Option ℕ)) (at : ℕ) �
     → None ≡ nul_from section at
 nul-unindexed section nuls at are none past =
     let block : ℕ = at / block_len + 1 in
-    let near = near-block at in
+    let near = block-bounds at in
     let j : ℕ = block_len * block - at in
     let place : at + j ≡ block_len * block = omega (arith, near.0) in
     let sizes : length nuls ≡ are.count =
     ap (λ (ns : List (Option ℕ)). length ns) are.nuls_are ∙ nuls-length section 0 are.count in
     let beyond : length section ≤ at + j = omega (arith, place, are.all, sizes, past) in
-    sym (nul-behind section at j (omega (arith, near.1)) none ∙ nul-outside section (at + j) beyond)
+    sym (nul-after section at j (omega (arith, near.1)) none ∙ nul-outside section (at + j) beyond)
 
 -- without a NUL in the next block_len bytes, the index entry is the first NUL, if there is one
-pub nul-told : (section : List ℕ) (nuls : List (Option ℕ)) (at : ℕ) → AreNuls section nuls
+pub nul-from-index : (section : List ℕ) (nuls : List (Option ℕ)) (at : ℕ) → AreNuls section nuls
     → None ≡ option_map (λ n. at + n) (position is_nul (take block_len (drop at section)))
     → unwrap_or (slice_get nuls (at / block_len + 1)) None ≡ nul_from section at
-nul-told section nuls at are h =
+nul-from-index section nuls at are h =
     by_found (slice_get nuls (at / block_len + 1)) refl
     ((slice_get_cases nuls (at / block_len + 1)).1)
   where
@@ -86,17 +86,19 @@ nul-told section nuls at are h =
         × (get_or nuls (at / block_len + 1) x ≡ x)) ⊎
         ((length nuls ≤ at / block_len + 1) × (slice_get nuls (at / block_len + 1) ≡ None))
         → unwrap_or found None ≡ nul_from section at
-    by_found (Some found) is cases = nul-indexed section nuls at found are (none-near section at h)
+    by_found (Some found) is cases =
+        nul-indexed section nuls at found are (none-in-block section at h)
         is
-    by_found None is (inr past) = nul-unindexed section nuls at are (none-near section at h) past.0
+    by_found None is (inr past) =
+        nul-unindexed section nuls at are (none-in-block section at h) past.0
     by_found None is (inl there) = absurd (never (sym is ∙ there.2))
       where
         never : None ≡ (let f : Option ℕ → Option (Option ℕ) = λ z. Some z in f there.0) → ⊥
         never h = cc
 
-pub near-outside : (section : List ℕ) (at : ℕ) → length section ≤ at
+pub nul-past-end : (section : List ℕ) (at : ℕ) → length section ≤ at
     → None ≡ option_map (λ n. at + n) (position is_nul (take block_len (drop at section)))
-near-outside section at past =
+nul-past-end section at past =
     ap (λ (xs : List ℕ). option_map (λ n. at + n) (position is_nul (take block_len xs)))
     (sym (drop_all at section past))
 
@@ -127,10 +129,11 @@ nul-or : (section : List ℕ) (at after : ℕ) (near behind : Option ℕ)
     → near ≡ option_map (λ n. at + n) (position is_nul (take block_len (drop at section)))
     → behind ≡ nul_from section after → after ≡ at + block_len
     → option_or near behind ≡ nul_from section at
-nul-or section at after (Some nul) behind near_is behind_is next = nul-near section at nul near_is
+nul-or section at after (Some nul) behind near_is behind_is next =
+    nul-in-block section at nul near_is
 nul-or section at after None behind near_is behind_is next =
     behind_is ∙ (ap (λ (k : ℕ). nul_from section k) next
-    ∙ sym (nul-behind section at block_len (omega arith) (none-near section at near_is)))
+    ∙ sym (nul-after section at block_len (omega arith) (none-in-block section at near_is)))
 
 pub nuls-next : (section : List ℕ) (nuls : List (Option ℕ)) (block at : ℕ) (behind near : Option ℕ)
     → BuiltNuls section nuls block behind → 0 < block → at ≡ (block - 1) * block_len

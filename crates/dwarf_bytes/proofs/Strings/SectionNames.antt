@@ -20,10 +20,10 @@ use Rattle.dwarf_bytes.proofs.Strings.FirstNuls.{is_nul, position-skip, position
 use Rattle.dwarf_bytes.proofs.Strings.FirstNuls.{position-none}
 
 -- no string starts after the last NUL
-pub behind-all : (names : List ℕ) (end offset : ℕ) → EndsStrings names end → end ≤ offset
+pub string-after-end : (names : List ℕ) (end offset : ℕ) → EndsStrings names end → end ≤ offset
     → text_at names offset ≡ Err Unterminated
 unfolding text_at text_front
-behind-all names end offset ends behind =
+string-after-end names end offset ends behind =
     let none : position is_nul (drop offset names) ≡ None =
     position-none is_nul (drop offset names) (λ k lt.
     let size = length-drop offset names in
@@ -192,16 +192,16 @@ front-is (b ∷ bytes) (t ∷ text) name plain h =
 
 -- ---- the wanted names
 
-name-plain : (section : Section) → HasNoNul (section_name section)
-name-plain sections.Elf = refl
-name-plain sections.DebugInfo = refl
-name-plain sections.DebugAbbrev = refl
-name-plain sections.DebugLine = refl
-name-plain sections.DebugLineStr = refl
-name-plain sections.DebugStr = refl
-name-plain sections.DebugStrOffsets = refl
-name-plain sections.DebugAddr = refl
-name-plain sections.DebugRnglists = refl
+name-without-nul : (section : Section) → HasNoNul (section_name section)
+name-without-nul sections.Elf = refl
+name-without-nul sections.DebugInfo = refl
+name-without-nul sections.DebugAbbrev = refl
+name-without-nul sections.DebugLine = refl
+name-without-nul sections.DebugLineStr = refl
+name-without-nul sections.DebugStr = refl
+name-without-nul sections.DebugStrOffsets = refl
+name-without-nul sections.DebugAddr = refl
+name-without-nul sections.DebugRnglists = refl
 
 same-prefix : {X : Type 0} (p q : X → Bool) → ((x : X) → p x ≡ q x) → (xs : List X)
     → prefix_len p xs ≡ prefix_len q xs
@@ -233,6 +233,6 @@ number-at names end offset number ends before number_is =
           wanted) rest
           ∙ same-position (λ s. begins_with (drop offset names) (section_name s))
           (λ s. bytes_eq there.0 (section_name s))
-          (λ s. front-is (drop offset names) (section_name s) there.0 (name-plain s) there.2)
+          (λ s. front-is (drop offset names) (section_name s) there.0 (name-without-nul s) there.2)
           wanted),
     )

@@ -76,13 +76,13 @@ text_by found n bytes at =
     (option_map (λ k. take k bytes) (cond found (Some n) None))
     (Err Unterminated)
 
-stands-by : (found : Bool) (bytes rest : List ℕ) (at : ℕ) (text : List ℕ) (next : ℕ)
+encoded-by : (found : Bool) (bytes rest : List ℕ) (at : ℕ) (text : List ℕ) (next : ℕ)
     → rest ≡ drop at bytes
     → ltb (text_len rest) (length rest) ≡ found → text_by found (text_len rest) rest at
     ≡ Ok (text, next)
     → IsEncodedAt IsText bytes at text next
-stands-by false bytes rest at text next same test e = absurd cc
-stands-by true bytes rest at text next same test e =
+encoded-by false bytes rest at text next same test e = absurd cc
+encoded-by true bytes rest at text next same test e =
     let lt = ltb-true _ _ test in
     let n = text_len rest in
     let pairs = same-text (take n rest, at + length (take n rest) + 1) (text, next) e in
@@ -102,12 +102,12 @@ stands-by true bytes rest at text next same test e =
           ∙ omega (arith, length-append text (0 ∷ []));
     }
 
-pub text-stands : (bytes : List ℕ) (at : ℕ) (text : List ℕ) (next : ℕ)
+pub text-encoded : (bytes : List ℕ) (at : ℕ) (text : List ℕ) (next : ℕ)
     → cstr_at bytes at ≡ Ok (text, next)
     → IsEncodedAt IsText bytes at text next
 unfolding cstr_at text_front
-text-stands bytes at text next e =
-    stands-by (ltb (text_len (drop at bytes)) (length (drop at bytes))) bytes (drop at bytes) at
+text-encoded bytes at text next e =
+    encoded-by (ltb (text_len (drop at bytes)) (length (drop at bytes))) bytes (drop at bytes) at
     text next refl refl e
 
 pub text-again : (bytes : List ℕ) (at : ℕ) (text : List ℕ) (next : ℕ)

@@ -29,8 +29,8 @@ use Rattle.dwarf_entries.proofs.OriginChains.ChainStrings.{both_names}
 
 -- ---- the cached names
 
-abbrev led_by : UnitPlace → EntryNames → CachedNames
-led_by place names = record { place = place; names = names }
+abbrev cached_names : UnitPlace → EntryNames → CachedNames
+cached_names place names = record { place = place; names = names }
 
 pub cache-none : (s : Sections) (units : List CompilationUnit) (cache : NameCache)
     → ((slot : ℕ) → slot_at cache slot ≡ None) → IsCacheOf s units cache
@@ -43,7 +43,7 @@ cache-none s units cache none slot packed is = absurd (never (sym is ∙ none sl
 pub cache-more : (s : Sections) (units : List CompilationUnit) (old new : NameCache)
     (place : UnitPlace) (names : EntryNames) → IsCacheOf s units old
     → ((slot : ℕ) → slot_at new slot ≡ if (slot == slot_of place) && are_narrow place names then
-    Some (led_by place names) else slot_at old slot)
+    Some (cached_names place names) else slot_at old slot)
     → (m : Member) → member_in units place.unit place.offset ≡ Ok m → second_names s units m
     ≡ Ok names
     → IsCacheOf s units new
@@ -51,11 +51,12 @@ cache-more s units old new place names knew put m there led_is slot packed is =
     by_test ((slot == slot_of place) && are_narrow place names) (sym (put slot) ∙ is)
   where
     by_test : (here : Bool) → (let o : Option CachedNames =
-        if here then Some (led_by place names) else slot_at old slot in o ≡ Some packed)
+        if here then Some (cached_names place names) else slot_at old slot in o ≡ Some packed)
         → (m : Member) × (member_in units packed.place.unit packed.place.offset ≡ Ok m)
         × (second_names s units m ≡ Ok packed.names)
     by_test true h =
-        let same : led_by place names ≡ packed = same_Some (led_by place names) packed h in
+        let same : cached_names place names ≡ packed =
+        same_Some (cached_names place names) packed h in
         subst (λ (l : CachedNames). (m : Member) × (member_in units l.place.unit l.place.offset
         ≡ Ok m)
         × (second_names s units m ≡ Ok l.names)) same (m, there, led_is)
@@ -113,31 +114,33 @@ names-by-reference s units number entry m reference at (next, no_name, no_linkag
 
 -- ---- the names of the target of a reference
 
-abbrev led_from : Sections → List CompilationUnit → Result Member Cause → Result EntryNames Cause
-led_from s units target = target >>= λ m. second_names s units m
+abbrev names_from : Sections → List CompilationUnit → Result Member Cause → Result EntryNames Cause
+names_from s units target = target >>= λ m. second_names s units m
 
 pub packed-cache : (s : Sections) (units : List CompilationUnit) (u : CompilationUnit)
     (reference : AttributeValue) (place : UnitPlace) (names : EntryNames) (cache : NameCache)
     → IsCacheOf s units cache
-    → slot_at cache (slot_of place) ≡ Some (led_by place names)
+    → slot_at cache (slot_of place) ≡ Some (cached_names place names)
     → LeadsTo units (Some place) (target_of units u reference) → target_names s units u reference
     ≡ Ok names
 packed-cache s units u reference place names cache knew is leads =
-    let at = knew (slot_of place) (led_by place names) is in ap (led_from s units) (leads ∙ at.1)
+    let at = knew (slot_of place) (cached_names place names) is in ap (names_from s units)
+    (leads ∙ at.1)
     ∙ at.2
 
 pub packed-nowhere : (s : Sections) (units : List CompilationUnit) (u : CompilationUnit)
     (reference : AttributeValue) → target_of units u reference ≡ Err causes.Reference
     → target_names s units u reference ≡ Err causes.Reference
-packed-nowhere s units u reference lost = ap (led_from s units) lost
+packed-nowhere s units u reference lost = ap (names_from s units) lost
 
 pub packed-names : (s : Sections) (units : List CompilationUnit) (u : CompilationUnit)
     (reference : AttributeValue) (m : Member) (names : EntryNames) → target_of units u reference
     ≡ Ok m → second_names s units m ≡ Ok names → target_names s units u reference ≡ Ok names
-packed-names s units u reference m names target is = ap (led_from s units) target ∙ is
+packed-names s units u reference m names target is = ap (names_from s units) target ∙ is
 
 pub packed-fails : (s : Sections) (units : List CompilationUnit) (u : CompilationUnit)
     (reference : AttributeValue) (m : Member) (cause : Cause) → target_of units u reference ≡ Ok m
     → Fails cause (second_names s units m) → Fails cause (target_names s units u reference)
 packed-fails s units u reference m cause target (inl memory) = inl memory
-packed-fails s units u reference m cause target (inr bad) = inr (ap (led_from s units) target ∙ bad)
+packed-fails s units u reference m cause target (inr bad) =
+    inr (ap (names_from s units) target ∙ bad)

@@ -70,8 +70,8 @@ first-more units name number path m known value is value_is h result result_is =
 -- ---- the loop
 
 -- Prepends these entries to an origin chain.
-abbrev behind : List Member → Result (List Member) Cause → Result (List Member) Cause
-behind before r = r >>= λ rest. Ok (before ++ rest)
+abbrev prepend : List Member → Result (List Member) Cause → Result (List Member) Cause
+prepend before r = r >>= λ rest. Ok (before ++ rest)
 
 -- The loop invariant: the entries of the chain up to the last one, and the first names among them.
 pub record Followed (units : List CompilationUnit) (remaining : ℕ) (m : Member) (left : ℕ)
@@ -79,7 +79,7 @@ pub record Followed (units : List CompilationUnit) (remaining : ℕ) (m : Member
   pub before : List Member
   pub last : Member
   pub at : IsMember units found.unit found.entry last
-  pub rest : chain_within remaining units m ≡ behind before (chain_within left units last)
+  pub rest : chain_within remaining units m ≡ prepend before (chain_within left units last)
   pub stored : AreFirst units firsts (before ++ last ∷ [])
 
 pub followed-none : (units : List CompilationUnit) (remaining : ℕ) (m : Member) (found : UnitEntry)
@@ -94,7 +94,7 @@ followed-none units remaining m found firsts at stored =
       stored = stored;
     }
   where
-    whole : (r : Result (List Member) Cause) → r ≡ behind [] r
+    whole : (r : Result (List Member) Cause) → r ≡ prepend [] r
     whole (Ok path) = refl
     whole (Err e) = refl
 
@@ -107,11 +107,11 @@ next-is units found last next at is = sym (ap (λ (e : NamedEntry). e.next) at.e
 abbrev pub in_front : Member → Result (List Member) Cause → Result (List Member) Cause
 in_front m r = r >>= λ rest. Ok (m ∷ rest)
 
-joined : (before : List Member) (last : Member) (r : Result (List Member) Cause)
-    → behind before (in_front last r) ≡ behind (before ++ last ∷ []) r
-joined before last (Ok rest) = ap (λ (path : List Member). Ok path)
+prepend-append : (before : List Member) (last : Member) (r : Result (List Member) Cause)
+    → prepend before (in_front last r) ≡ prepend (before ++ last ∷ []) r
+prepend-append before last (Ok rest) = ap (λ (path : List Member). Ok path)
     (sym (append_assoc before (last ∷ []) rest))
-joined before last (Err e) = refl
+prepend-append before last (Err e) = refl
 
 -- The origin chain of an entry with a reference, if one more reference may be followed.
 pub stepped : (units : List CompilationUnit) (after : ℕ) (last : Member)
@@ -126,14 +126,14 @@ stepped units after last reference is = rw (is, chain_within) refl
 followed-on : (units : List CompilationUnit) (before : List Member) (left after : ℕ) (last : Member)
     (reference : AttributeValue) → after + 1 ≡ left → next_of last.die ≡ Some reference
     → (target : Result Member Cause) → target_of units last.unit reference ≡ target
-    → behind before (chain_within left units last)
-    ≡ behind before (target >>= λ next. in_front last (chain_within after units next))
+    → prepend before (chain_within left units last)
+    ≡ prepend before (target >>= λ next. in_front last (chain_within after units next))
 followed-on units before left after last reference left_is is target target_is =
     let one : left ≡ suc after = omega (arith, left_is) in
-    ap (λ (k : ℕ). behind before (chain_within k units last)) one
-    ∙ (ap (λ (r : Result (List Member) Cause). behind before r)
+    ap (λ (k : ℕ). prepend before (chain_within k units last)) one
+    ∙ (ap (λ (r : Result (List Member) Cause). prepend before r)
     (stepped units after last reference is)
-    ∙ ap (λ (t : Result Member Cause). behind before
+    ∙ ap (λ (t : Result Member Cause). prepend before
     (t >>= λ next. in_front last (chain_within after units next))) target_is)
 
 pub ended : (units : List CompilationUnit) (left : ℕ) (last : Member) → next_of last.die ≡ None
@@ -167,7 +167,8 @@ followed-next units remaining m left after found next place firsts firsts_after 
       last = to.0;
       at = again to.0 to.2;
       rest = so_far.rest ∙ (followed-on units so_far.before left after so_far.last reference left_is
-          hop (Ok to.0) to.1 ∙ joined so_far.before so_far.last (chain_within after units to.0));
+          hop (Ok to.0) to.1 ∙ prepend-append so_far.before so_far.last
+          (chain_within after units to.0));
       stored = more (so_far.before ++ so_far.last ∷ []) to.0 so_far.stored (again to.0 to.2);
     }
 
@@ -178,7 +179,7 @@ followed-end units remaining m left found firsts so_far is =
     let last = next-is units found so_far.last None so_far.at is in (
       so_far.before ++ so_far.last ∷ [],
       so_far.rest
-          ∙ ap (λ (r : Result (List Member) Cause). behind so_far.before r)
+          ∙ ap (λ (r : Result (List Member) Cause). prepend so_far.before r)
           (ended units left so_far.last last),
       so_far.stored,
     )
@@ -189,8 +190,8 @@ pub followed-deep : (units : List CompilationUnit) (remaining : ℕ) (m : Member
     → chain_within remaining units m ≡ Err causes.OriginDepth
 followed-deep units remaining m left found firsts reference so_far none is =
     let hop = next-is units found so_far.last (Some reference) so_far.at is in
-    so_far.rest ∙ (ap (λ (k : ℕ). behind so_far.before (chain_within k units so_far.last)) none
-    ∙ ap (λ (r : Result (List Member) Cause). behind so_far.before r)
+    so_far.rest ∙ (ap (λ (k : ℕ). prepend so_far.before (chain_within k units so_far.last)) none
+    ∙ ap (λ (r : Result (List Member) Cause). prepend so_far.before r)
     (stopped units so_far.last reference hop))
 
 pub followed-lost : (units : List CompilationUnit) (remaining : ℕ) (m : Member) (left after : ℕ)

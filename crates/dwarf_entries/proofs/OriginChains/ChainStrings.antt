@@ -22,9 +22,9 @@ use Rattle.dwarf_entries.specs.Private.Members.{IsFirst, FindsFirst, str_offsets
 
 -- ---- the strings
 
-abbrev pub text_kept : Sections → List Bases → Option UnitAttribute
+abbrev pub text_stored : Sections → List Bases → Option UnitAttribute
     → Result (Option TextOffset) Cause
-text_kept s bases stored = optional (λ found. text_of s (str_offsets_of bases found.unit)
+text_stored s bases stored = optional (λ found. text_of s (str_offsets_of bases found.unit)
     found.value)
     stored
 
@@ -35,7 +35,7 @@ text_first s first = optional (λ found. text_of s found.0.bases.str_offsets fou
 text-is : (s : Sections) (bases : List Bases) (units : List CompilationUnit)
     → bases ≡ map (λ (u : CompilationUnit). u.bases) units
     → (stored : Option UnitAttribute) (first : Option (CompilationUnit × AttributeValue))
-    → IsFirst units stored first → text_kept s bases stored ≡ text_first s first
+    → IsFirst units stored first → text_stored s bases stored ≡ text_first s first
 text-is s bases units are None None h = refl
 text-is s bases units are None (Some f) h = absurd h
 text-is s bases units are (Some k) None h = absurd h
@@ -59,8 +59,9 @@ both_names name linkage_name = name >>= λ n. linkage_name
 pub names-found : (s : Sections) (bases : List Bases) (units : List CompilationUnit) (remaining : ℕ)
     (m : Member) (firsts : FirstNames) → bases ≡ map (λ (u : CompilationUnit). u.bases) units
     → FindsFirst units (Ok firsts) (chain_within remaining units m)
-    → (name linkage_name : Result (Option TextOffset) Cause) → name ≡ text_kept s bases firsts.name
-    → linkage_name ≡ text_kept s bases firsts.linkage_name → both_names name linkage_name
+    → (name linkage_name : Result (Option TextOffset) Cause) → name
+    ≡ text_stored s bases firsts.name
+    → linkage_name ≡ text_stored s bases firsts.linkage_name → both_names name linkage_name
     ≡ names_within remaining s units m
 names-found s bases units remaining m firsts are found name linkage_name name_is linkage_is =
     let path = found.0 in

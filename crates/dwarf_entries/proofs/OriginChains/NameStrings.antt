@@ -19,7 +19,7 @@ use Rattle.dwarf_bytes.specs.Items.{reading}
 use Rattle.dwarf_bytes.specs.Numbers.{IsText, IsEncodedAt, text_front, cstr_at, text_at}
 use Rattle.dwarf_bytes.proofs.Numbers.Advance.{after-bind, chosen, reading-ok}
 use Rattle.dwarf_bytes.proofs.Numbers.Moves.{same-ok}
-use Rattle.dwarf_bytes.proofs.Strings.StringLaws.{text-stands}
+use Rattle.dwarf_bytes.proofs.Strings.StringLaws.{text-encoded}
 use Rattle.dwarf_units.specs.declared.attributes.AttributeValue.{AttributeValue}
 use Rattle.dwarf_entries.specs.declared.bases.Table.{Table}
 use Rattle.dwarf_entries.specs.declared.origin_chains.EntryNames.{EntryNames}
@@ -35,10 +35,10 @@ use Rattle.dwarf_entries.proofs.Results.TreeParts.{AreParsed, is-read}
 
 -- ---- a string that is found in a section
 
-found-stands : (bytes : List ℕ) (at : ℕ) (found : List ℕ) → text_at bytes at ≡ Ok found
+found-encoded : (bytes : List ℕ) (at : ℕ) (found : List ℕ) → text_at bytes at ≡ Ok found
     → cstr_at bytes at ≡ Ok (found, at + length found + 1)
 unfolding text_at cstr_at
-found-stands bytes at found h = by_front (text_front (drop at bytes)) h
+found-encoded bytes at found h = by_front (text_front (drop at bytes)) h
   where
     by_front : (front : Option (List ℕ))
         → option_map_or (λ bytes. Ok bytes) front (Err Unterminated) ≡ Ok found
@@ -48,9 +48,9 @@ found-stands bytes at found h = by_front (text_front (drop at bytes)) h
     by_front None h = cc
     by_front (Some front) h = ap (λ (t : List ℕ). Ok (t, at + length t + 1)) (same-ok front found h)
 
-stands : (bytes : List ℕ) (at : ℕ) (found : List ℕ)
+text-at : (bytes : List ℕ) (at : ℕ) (found : List ℕ)
     → IsEncodedAt IsText bytes at found (at + length found + 1) → IsTextAt bytes at
-stands bytes at found s =
+text-at bytes at found s =
     let parts : drop at bytes ≡ found ++ 0 ∷ s.rest =
     s.parts ∙ ap (λ (t : List ℕ). t ++ s.rest) s.encoded.0 ∙ append_assoc found (0 ∷ [])
     s.rest in
@@ -71,60 +71,60 @@ stands bytes at found s =
     last [] rest = refl
     last (b ∷ front) rest = last front rest
 
-text_in-stands : (s : Sections) (name : Section) (bytes : List ℕ) (at : ℕ) (found : TextOffset)
+text_in-is_text : (s : Sections) (name : Section) (bytes : List ℕ) (at : ℕ) (found : TextOffset)
     → section_bytes s name ≡ bytes → text_in name bytes at ≡ Ok found → IsTextOf s found
-text_in-stands s name bytes at found bytes_are h =
+text_in-is_text s name bytes at found bytes_are h =
     let begins : TextOffset = record { section = name; offset = at } in
     after-bind (reading (text_at bytes at)) (λ _. Ok begins) found h (IsTextOf s found)
     (λ content content_is last.
-    let here = stands bytes at content (text-stands bytes at content (at + length content + 1)
-    (found-stands bytes at content (reading-ok (text_at bytes at) content content_is))) in
+    let here = text-at bytes at content (text-encoded bytes at content (at + length content + 1)
+    (found-encoded bytes at content (reading-ok (text_at bytes at) content content_is))) in
     let described : IsTextOf s begins = subst (λ (bs : List ℕ). IsTextAt bs at) (sym bytes_are) here
     in
     subst (IsTextOf s) (same-ok begins found last) described)
 
 -- ---- the names of a scope
 
-text_of-stands : (s : Sections) (str_offsets : Option Table) (value : AttributeValue)
+text_of-is_text : (s : Sections) (str_offsets : Option Table) (value : AttributeValue)
     (found : TextOffset) → text_of s str_offsets value ≡ Ok found → IsTextOf s found
-text_of-stands s str_offsets value found h =
+text_of-is_text s str_offsets value found h =
     let P : Type 0 = IsTextOf s found in
     chosen (value.form == DW_FORM_STRING) _ _ (Ok found) h P
-    (λ _ is. text_in-stands s sections.DebugInfo s.debug_info value.number found refl is)
+    (λ _ is. text_in-is_text s sections.DebugInfo s.debug_info value.number found refl is)
     (λ _ h1.
     chosen (value.form == DW_FORM_STRP) _ _ (Ok found) h1 P
-    (λ _ is. text_in-stands s sections.DebugStr s.debug_str value.number found refl is) (λ _ h2.
+    (λ _ is. text_in-is_text s sections.DebugStr s.debug_str value.number found refl is) (λ _ h2.
     chosen (value.form == DW_FORM_LINE_STRP) _ _ (Ok found) h2 P
-    (λ _ is. text_in-stands s sections.DebugLineStr s.debug_line_str value.number found refl is)
+    (λ _ is. text_in-is_text s sections.DebugLineStr s.debug_line_str value.number found refl is)
     (λ _ h3.
     after-bind (item_at StrOffsets s.debug_str_offsets str_offsets value.number)
     (λ offset. text_in sections.DebugStr s.debug_str offset) found h3 P (λ offset _ last.
-    text_in-stands s sections.DebugStr s.debug_str offset found refl last))))
+    text_in-is_text s sections.DebugStr s.debug_str offset found refl last))))
 
-first-stands : (s : Sections) (first : Option (CompilationUnit × AttributeValue))
+first-is_text : (s : Sections) (first : Option (CompilationUnit × AttributeValue))
     (found : Option TextOffset) → optional (λ at. text_of s at.0.bases.str_offsets at.1) first
     ≡ Ok found → IfSome found (IsTextOf s)
-first-stands s None found h = subst (λ (o : Option TextOffset). IfSome o (IsTextOf s))
+first-is_text s None found h = subst (λ (o : Option TextOffset). IfSome o (IsTextOf s))
     (same-ok None found h) tt
-first-stands s (Some at) found h =
+first-is_text s (Some at) found h =
     after-bind (text_of s at.0.bases.str_offsets at.1) (λ y. Ok (Some y)) found h
     (IfSome found (IsTextOf s)) (λ y y_is last.
     subst (λ (o : Option TextOffset). IfSome o (IsTextOf s)) (same-ok (Some y) found last)
-    (text_of-stands s at.0.bases.str_offsets at.1 y y_is))
+    (text_of-is_text s at.0.bases.str_offsets at.1 y y_is))
 
-abbrev BothStand : Sections → EntryNames → Type 0
-BothStand s found = IfSome found.name (IsTextOf s) × IfSome found.linkage_name (IsTextOf s)
+abbrev AreTexts : Sections → EntryNames → Type 0
+AreTexts s found = IfSome found.name (IsTextOf s) × IfSome found.linkage_name (IsTextOf s)
 
-names-stand : (s : Sections) (units : List CompilationUnit) (m : Member) (found : EntryNames)
-    → names_of s units m ≡ Ok found → BothStand s found
-names-stand s units m found h =
-    after-bind (path_of units m) _ found h (BothStand s found) (λ path _ h1.
-    after-bind (name_on DW_AT_NAME s path) _ found h1 (BothStand s found) (λ name name_is h2.
-    after-bind (name_on DW_AT_LINKAGE_NAME s path) _ found h2 (BothStand s found)
+names-are_texts : (s : Sections) (units : List CompilationUnit) (m : Member) (found : EntryNames)
+    → names_of s units m ≡ Ok found → AreTexts s found
+names-are_texts s units m found h =
+    after-bind (path_of units m) _ found h (AreTexts s found) (λ path _ h1.
+    after-bind (name_on DW_AT_NAME s path) _ found h1 (AreTexts s found) (λ name name_is h2.
+    after-bind (name_on DW_AT_LINKAGE_NAME s path) _ found h2 (AreTexts s found)
     (λ linkage_name linkage_is last.
-    subst (BothStand s) (same-ok (record { name = name; linkage_name = linkage_name }) found last) (
-      first-stands s (first_on DW_AT_NAME path) name name_is,
-      first-stands s (first_on DW_AT_LINKAGE_NAME path) linkage_name linkage_is,
+    subst (AreTexts s) (same-ok (record { name = name; linkage_name = linkage_name }) found last) (
+      first-is_text s (first_on DW_AT_NAME path) name name_is,
+      first-is_text s (first_on DW_AT_LINKAGE_NAME path) linkage_name linkage_is,
     ))))
 
 abbrev HasTexts : Sections → Scope → Type 0
@@ -137,7 +137,7 @@ have-strings s units before [] [] h = All-nil (HasTexts s)
 have-strings s units before [] (j ∷ js) h = absurd h
 have-strings s units before (p ∷ ps) [] h = absurd h
 have-strings s units before (p ∷ ps) (j ∷ js) h =
-    let strings = names-stand s units p.member h.0.found h.0.found_are in
+    let strings = names-are_texts s units p.member h.0.found h.0.found_are in
     All-cons (HasTexts s) j.scope (map (λ j. j.scope) js)
     (subst (λ (x : ParsedScope). HasTexts s x.scope) h.0.is strings)
     (have-strings s units (before ++ j ∷ []) ps js h.1)

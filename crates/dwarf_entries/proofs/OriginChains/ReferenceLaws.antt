@@ -79,15 +79,15 @@ find-map {X} {Y} p f (x ∷ xs) = by_test (p (f x)) (find-map p f xs)
 
 -- ---- the unit that contains an offset
 
-abbrev pub stands_at : ℕ → Member → Bool
-stands_at offset m = m.die.offset == offset
+abbrev pub is_at_offset : ℕ → Member → Bool
+is_at_offset offset m = m.die.offset == offset
 
 abbrev pub member_of : CompilationUnit → Die → Member
 member_of u die = record { unit = u; die = die }
 
 pub none-outside : (u : CompilationUnit) (from end : ℕ) (dies : List Die) (offset : ℕ)
     → RiseWithin from end dies → (offset < from) ⊎ (end ≤ offset)
-    → find (stands_at offset) (map (member_of u) dies) ≡ None
+    → find (is_at_offset offset) (map (member_of u) dies) ≡ None
 none-outside u from end [] offset h out = refl
 none-outside u from end (die ∷ dies) offset h out =
     let first = h.0 in
@@ -101,7 +101,7 @@ none-outside u from end (die ∷ dies) offset h out =
     rw differs (none-outside u (suc die.offset) end dies offset h.1 further)
 
 pub none-before : (from : ℕ) (units : List CompilationUnit) (offset : ℕ) → AreInOrder from units
-    → offset < from → find (stands_at offset) (members_of units) ≡ None
+    → offset < from → find (is_at_offset offset) (members_of units) ≡ None
 none-before from [] offset h lt = refl
 none-before from (u ∷ units) offset h lt =
     let first = h.0 in
@@ -109,25 +109,25 @@ none-before from (u ∷ units) offset h lt =
     let here = none-outside u u.header.start u.header.end u.dies offset h.1
     (inl (omega (arith, lt, first))) in
     let there = none-before u.header.end units offset h.2 (omega (arith, lt, first, inside)) in
-    find-append (stands_at offset) (map (member_of u) u.dies) (members_of units)
+    find-append (is_at_offset offset) (map (member_of u) u.dies) (members_of units)
     ∙ (rw (here, there) refl)
 
 -- An entry of any unit is looked up in the first unit that ends after its offset.
 pub in-unit : (from : ℕ) (units : List CompilationUnit) (offset n : ℕ) → AreInOrder from units
     → IsPartitionPoint (λ x. x ≤ offset) (λ x. offset < x)
     (map (λ (u : CompilationUnit). u.header.end) units) n
-    → find (stands_at offset) (members_of units)
-    ≡ find (stands_at offset) (members_of (option_to_list (slice_get units n)))
+    → find (is_at_offset offset) (members_of units)
+    ≡ find (is_at_offset offset) (members_of (option_to_list (slice_get units n)))
 in-unit from [] offset n h parts = refl
 in-unit from (u ∷ units) offset zero h parts =
     let past : offset < u.header.end = parts.1 0 0 (omega arith) (omega arith) in
     let there = none-before u.header.end units offset h.2 past in
-    find-append (stands_at offset) (map (member_of u) u.dies) (members_of units)
-    ∙ (rw there (sym (find-append (stands_at offset) (map (member_of u) u.dies) [])))
+    find-append (is_at_offset offset) (map (member_of u) u.dies) (members_of units)
+    ∙ (rw there (sym (find-append (is_at_offset offset) (map (member_of u) u.dies) [])))
 in-unit from (u ∷ units) offset (suc n) h parts =
     let over : u.header.end ≤ offset = parts.0 0 0 (omega arith) (omega arith) in
     let here = none-outside u u.header.start u.header.end u.dies offset h.1 (inr over) in
-    find-append (stands_at offset) (map (member_of u) u.dies) (members_of units)
+    find-append (is_at_offset offset) (map (member_of u) u.dies) (members_of units)
     ∙ (rw here (in-unit u.header.end units offset n h.2 (
       λ k d low high. parts.0 (suc k) d (omega arith) (omega (arith, high)),
       λ k d low high. parts.1 (suc k) d (omega (arith, low)) (omega (arith, high)),

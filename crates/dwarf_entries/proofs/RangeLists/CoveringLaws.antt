@@ -145,11 +145,11 @@ entry_at-holds sections bases base StartEnd lists at found h =
 entry_at-holds sections bases base StartLength lists at found h =
     covers-holds live_range (start_and_length address_at lists at) found from-holds h
 
-pub listed-holds : (budget : ℕ) (sections : Sections) (bases : Bases) (count : ℕ) (base : Option ℕ)
+pub list-covers : (budget : ℕ) (sections : Sections) (bases : Bases) (count : ℕ) (base : Option ℕ)
     (lists : List ℕ) (at : ℕ) (entry : RangeListEntry) (after : ℕ)
     → list_entry_of budget sections bases count base lists at ≡ Ok (Item entry after)
     → EntryHolds entry × (count < budget)
-listed-holds budget sections bases count base lists at entry after h =
+list-covers budget sections bases count base lists at entry after h =
     let P : Type 0 = EntryHolds entry × (count < budget) in
     after-bind (reading (u8_at lists at)) _ (Item entry after) h P (λ number _ h1.
     after-bind (kind_of number.0) _ (Item entry after) h1 P (λ kind _ h2.

@@ -30,7 +30,7 @@ use Rattle.dwarf_entries.proofs.RangeLists.RangeLaws.{list_entry_at-advances}
 
 -- The loop invariant: the count and the base of the loop match the entries read so far, and the
 -- ranges of these entries are appended to the earlier ones.
-pub record ListedSoFar (budget : ℕ) (sections : Sections) (bases : Bases) (lists : List ℕ)
+pub record ListSoFar (budget : ℕ) (sections : Sections) (bases : Bases) (lists : List ℕ)
     (first place count : ℕ) (base : Option ℕ) (known ranges : List Range) : Type 0 where
   pub before : List RangeListEntry
   pub counted : count ≡ length before
@@ -38,10 +38,10 @@ pub record ListedSoFar (budget : ℕ) (sections : Sections) (bases : Bases) (lis
   pub ranges_are : ranges ≡ known ++ flat_map ranges_in before
   pub read : SoFar (length lists) (list_entry_at budget sections bases lists) first before place
 
-pub listed-none : (budget : ℕ) (sections : Sections) (bases : Bases) (lists : List ℕ) (first : ℕ)
-    (known : List Range) → ListedSoFar budget sections bases lists first first 0 bases.low_pc known
+pub list-none : (budget : ℕ) (sections : Sections) (bases : Bases) (lists : List ℕ) (first : ℕ)
+    (known : List Range) → ListSoFar budget sections bases lists first first 0 bases.low_pc known
     known
-listed-none budget sections bases lists first known =
+list-none budget sections bases lists first known =
     record {
       before = [];
       counted = refl;
@@ -63,13 +63,13 @@ base_after-push low_pc (Base new ∷ before) x = base_after-push (Some new) befo
 base_after-push low_pc (Covers range ∷ before) x = base_after-push low_pc before x
 
 -- The entry that the iteration reads, given the list before it.
-behind-is : (budget : ℕ) (sections : Sections) (bases : Bases) (lists : List ℕ)
+after-is : (budget : ℕ) (sections : Sections) (bases : Bases) (lists : List ℕ)
     (first place count : ℕ) (base : Option ℕ) (known ranges : List Range)
-    (so_far : ListedSoFar budget sections bases lists first place count base known ranges) (at : ℕ)
+    (so_far : ListSoFar budget sections bases lists first place count base known ranges) (at : ℕ)
     → list_entry_of budget sections bases count base lists at ≡ list_entry_at budget sections
     bases lists
     so_far.before at
-behind-is budget sections bases lists first place count base known ranges so_far at =
+after-is budget sections bases lists first place count base known ranges so_far at =
     ap (λ (k : ℕ). list_entry_of budget sections bases k base lists at) so_far.counted
     ∙ ap (λ (b : Option ℕ). list_entry_of budget sections bases (length so_far.before) b lists at)
     so_far.base_is
@@ -81,7 +81,7 @@ pub record ListTurn (budget : ℕ) (sections : Sections) (bases : Bases) (lists 
   pub bytes_stay : new.bytes ≡ lists
   pub moves : old.place < new.place
   pub within : new.place ≤ length lists
-  pub listed : ListedSoFar budget sections bases lists first new.place (count + 1)
+  pub listed : ListSoFar budget sections bases lists first new.place (count + 1)
       (next_base x base)
       known (ranges ++ ranges_in x)
 
@@ -89,7 +89,7 @@ pub list-item : (budget : ℕ) (sections : Sections) (bases : Bases) (lists : Li
     (first count : ℕ)
     (base : Option ℕ) (known ranges : List Range) (old new : Position)
     (found : Option RangeListEntry) (x : RangeListEntry) → old.bytes ≡ lists
-    → ListedSoFar budget sections bases lists first old.place count base known ranges
+    → ListSoFar budget sections bases lists first old.place count base known ranges
     → ReadsNext (Ok found) (list_entry_of budget sections bases count base) old new → found ≡ Some x
     → ListTurn budget sections bases lists first count base known ranges old new x
 list-item budget sections bases lists first count base known ranges old new None x same so_far read
@@ -105,7 +105,7 @@ list-item budget sections bases lists first count base known ranges old new (Som
     ≡ Ok (Item z new.place)) eq read.0) in
     let here : list_entry_at budget sections bases lists so_far.before old.place
     ≡ Ok (Item x new.place) =
-    sym (behind-is budget sections bases lists first old.place count base known ranges so_far
+    sym (after-is budget sections bases lists first old.place count base known ranges so_far
     old.place) ∙ behind in
     let moved = list_entry_at-advances budget sections bases lists so_far.before old.place x
     new.place
@@ -136,7 +136,7 @@ pub list-end : (budget : ℕ) (sections : Sections) (bases : Bases) (first count
     (base : Option ℕ)
     (known ranges : List Range) (old new : Position) (found : Option RangeListEntry)
     → old.bytes ≡ sections.debug_rnglists
-    → ListedSoFar budget sections bases sections.debug_rnglists first old.place count base known
+    → ListSoFar budget sections bases sections.debug_rnglists first old.place count base known
     ranges → ReadsNext (Ok found) (list_entry_of budget sections bases count base) old new
     → found ≡ None → AddsRanges (Ok count) known ranges (list_at budget sections bases first)
 unfolding list_at
@@ -150,7 +150,7 @@ list-end budget sections bases first count base known ranges old new None same s
     ≡ Ok (End new.place)) same read.0 in
     let here : list_entry_at budget sections bases lists so_far.before old.place
     ≡ Ok (End new.place) =
-    sym (behind-is budget sections bases lists first old.place count base known ranges so_far
+    sym (after-is budget sections bases lists first old.place count base known ranges so_far
     old.place) ∙ behind in
     let all = so-far-end (length lists) (list_entry_at budget sections bases lists)
     (list_entry_at-advances budget sections bases lists) first so_far.before old.place new.place
@@ -165,7 +165,7 @@ list-end budget sections bases first count base known ranges old new None same s
 pub list-fault : (budget : ℕ) (sections : Sections) (bases : Bases) (first count : ℕ)
     (base : Option ℕ) (known ranges : List Range) (old : Position) (cause : Cause)
     → old.bytes ≡ sections.debug_rnglists
-    → ListedSoFar budget sections bases sections.debug_rnglists first old.place count base known
+    → ListSoFar budget sections bases sections.debug_rnglists first old.place count base known
     ranges → list_entry_of budget sections bases count base old.bytes old.place ≡ Err cause
     → list_at budget sections bases first ≡ Err cause
 unfolding list_at
@@ -175,7 +175,7 @@ list-fault budget sections bases first count base known ranges old cause same so
     subst (λ (b : List ℕ). list_entry_of budget sections bases count base b old.place ≡ Err cause)
     same read in
     let here : list_entry_at budget sections bases lists so_far.before old.place ≡ Err cause =
-    sym (behind-is budget sections bases lists first old.place count base known ranges so_far
+    sym (after-is budget sections bases lists first old.place count base known ranges so_far
     old.place) ∙ behind in
     rw (so-far-fault (length lists) (list_entry_at budget sections bases lists)
     (list_entry_at-advances budget sections bases lists) first so_far.before old.place cause

@@ -17,7 +17,7 @@ use Rattle.dwarf_entries.specs.TreeLaws.{IsEntry, units_read}
 use Rattle.dwarf_entries.proofs.Results.BelowLaws.{scopes-between}
 use Rattle.dwarf_entries.proofs.Results.OffsetLaws.{scopes-rise}
 use Rattle.dwarf_entries.proofs.RootPasses.RootParts.{few-below}
-use Rattle.dwarf_entries.proofs.Results.EntryScopes.{same-some, Tells, counted}
+use Rattle.dwarf_entries.proofs.Results.EntryScopes.{same-some, HasDataOfEntry, counted}
 use Rattle.dwarf_entries.proofs.Results.EntriesOfScopes.{entry-described}
 
 -- Two scopes with the same offset are the same scope.
@@ -53,16 +53,17 @@ same-scope scopes a b rise a_in b_in same =
         ∙ (ap (λ (k : ℕ). get_or scopes k b) place ∙ b_in.2))
 
 -- An entry with its number and its end.
-record Placed (units : List CompilationUnit) (i p : ℕ) (scope : Scope)
+record HasPlace (units : List CompilationUnit) (i p : ℕ) (scope : Scope)
     (at : IsEntry units i p scope) : Type 0 where
   pub number_is : scope.number ≡ counted (take i units) + count_by is_scope (take p at.of.dies)
   pub end_is : scope.«end» ≡ scope.number + 1 + count_by is_scope
       (below at.die (drop (p + 1) at.of.dies))
 
-placed : (s : Sections) (tree : Tree) (units : List CompilationUnit) (i p : ℕ) (scope : Scope)
+place-of-entry : (s : Sections) (tree : Tree) (units : List CompilationUnit) (i p : ℕ)
+    (scope : Scope)
     → tree_of s ≡ Ok tree → units_read s ≡ Ok units → Contains tree.scopes scope
-    → (at : IsEntry units i p scope) → Placed units i p scope at
-placed s tree units i p scope h units_are inside at =
+    → (at : IsEntry units i p scope) → HasPlace units i p scope at
+place-of-entry s tree units i p scope h units_are inside at =
     let described = entry-described s tree units h units_are i p at.of at.die scope.kind at.of_is
     at.die_is
     at.kind_is in
@@ -70,8 +71,8 @@ placed s tree units i p scope h units_are inside at =
     (scopes-rise s tree h).0 described.1
     inside (described.2.offset_is ∙ sym at.offset_is) in
     let number : ℕ = counted (take i units) + count_by is_scope (take p at.of.dies) in
-    let tells : Tells number scope.kind at.die (drop (suc p) at.of.dies) scope =
-    subst (λ (x : Scope). Tells number scope.kind at.die (drop (suc p) at.of.dies) x) same
+    let tells : HasDataOfEntry number scope.kind at.die (drop (suc p) at.of.dies) scope =
+    subst (λ (x : Scope). HasDataOfEntry number scope.kind at.die (drop (suc p) at.of.dies) x) same
     described.2 in
     let one : suc p ≡ p + 1 = omega arith in
     let end_is : scope.«end» ≡ number + 1 + count_by is_scope
@@ -82,7 +83,7 @@ placed s tree units i p scope h units_are inside at =
 
 -- A scope ends before the scopes of any later unit.
 before-later : (units : List CompilationUnit) (i p j : ℕ) (scope : Scope)
-    (at : IsEntry units i p scope) → Placed units i p scope at → i < j
+    (at : IsEntry units i p scope) → HasPlace units i p scope at → i < j
     → (scope.number < counted (take j units)) × (scope.«end» ≤ counted (take j units))
 before-later units i p j scope at here lt =
     let dies : List Die = at.of.dies in
@@ -121,13 +122,13 @@ pub below-ends : (s : Sections) (tree : Tree) (units : List CompilationUnit) (ou
     ((outer.number < inner.number) × (inner.number < outer.«end»))
 below-ends s tree units outer inner i j p q h units_are outer_in inner_in outer_at inner_at =
     by_order (cases_lt i j) (cases_lt j i)
-    (placed s tree units i p outer h units_are outer_in outer_at)
-    (placed s tree units j q inner h units_are inner_in inner_at)
+    (place-of-entry s tree units i p outer h units_are outer_in outer_at)
+    (place-of-entry s tree units j q inner h units_are inner_in inner_at)
   where
     Between : Type 0
     Between = (outer.number < inner.number) × (inner.number < outer.«end»)
 
-    same-unit : i ≡ j → Placed units i p outer outer_at → Placed units j q inner inner_at
+    same-unit : i ≡ j → HasPlace units i p outer outer_at → HasPlace units j q inner inner_at
         → ((i ≡ j) × IsBelow outer_at.of.dies q p) ↔ Between
     same-unit same first second =
         let of_is : inner_at.of ≡ outer_at.of =
@@ -173,8 +174,8 @@ below-ends s tree units outer inner i j p q h units_are outer_in inner_in outer_
           ),
         )
 
-    by_order : (i < j) ⊎ (j ≤ i) → (j < i) ⊎ (i ≤ j) → Placed units i p outer outer_at
-        → Placed units j q inner inner_at → ((i ≡ j) × IsBelow outer_at.of.dies q p) ↔ Between
+    by_order : (i < j) ⊎ (j ≤ i) → (j < i) ⊎ (i ≤ j) → HasPlace units i p outer outer_at
+        → HasPlace units j q inner inner_at → ((i ≡ j) × IsBelow outer_at.of.dies q p) ↔ Between
     by_order (inl lt) other first second =
         let ends = before-later units i p j outer outer_at first lt in (
           λ below. absurd (let e = below.0 in omega (arith, e, lt)),

@@ -102,9 +102,9 @@ abbrev number : List Die → ℕ → ℕ
 number dies place = count_by is_scope (take place dies)
 
 -- An index of an entry is within the list.
-placed : (dies : List Die) (i : ℕ) (die : Die) → slice_get dies i ≡ Some die
+place-of-entry : (dies : List Die) (i : ℕ) (die : Die) → slice_get dies i ≡ Some die
     → (i < length dies) × (get_or dies i die ≡ die)
-placed dies i die is = by_place (slice_get_cases dies i).1
+place-of-entry dies i die is = by_place (slice_get_cases dies i).1
   where
     by_place : ((x : Die) × (i < length dies) × (slice_get dies i ≡ Some x) × (get_or dies i x ≡ x))
         ⊎ ((length dies ≤ i) × (slice_get dies i ≡ None))
@@ -118,7 +118,7 @@ ends-are : (dies : List Die) (i : ℕ) (outer : Die) → slice_get dies i ≡ So
     → is_scope outer ≡ true → number dies i + 1 + count_by is_scope
     (below outer (drop (i + 1) dies)) ≡ number dies (past_below dies i outer)
 ends-are dies i outer is scope =
-    let here = placed dies i outer is in
+    let here = place-of-entry dies i outer is in
     let more = count_by_more_yes is_scope dies i outer here.0 (ap is_scope here.1 ∙ scope) in
     let sum = counted-add is_scope dies (i + 1)
     (prefix_len (λ d. nat_lt outer.depth d.depth) (drop (i + 1) dies)) in
@@ -130,8 +130,8 @@ pub scopes-between : (dies : List Die) (i j : ℕ) (outer inner : Die) → slice
     × (count_by is_scope (take j dies) < count_by is_scope (take i dies) + 1 + count_by is_scope
     (below outer (drop (i + 1) dies))))
 scopes-between dies i j outer inner outer_is inner_is outer_scope inner_scope =
-    let at_i = placed dies i outer outer_is in
-    let at_j = placed dies j inner inner_is in
+    let at_i = place-of-entry dies i outer outer_is in
+    let at_j = place-of-entry dies j inner inner_is in
     let first = counted-before is_scope dies i outer at_i.0 (ap is_scope at_i.1 ∙ outer_scope) j in
     let last = counted-before is_scope dies j inner at_j.0 (ap is_scope at_j.1 ∙ inner_scope)
     (past_below dies i outer) in

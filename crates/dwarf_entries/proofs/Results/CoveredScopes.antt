@@ -27,7 +27,7 @@ use Rattle.dwarf_entries.specs.TreeLaws.{IsValidRange}
 use Rattle.dwarf_entries.proofs.Results.ScopeOrder.{all_sites}
 use Rattle.dwarf_entries.proofs.Results.TreeParts.{AreParsed, is-read}
 use Rattle.dwarf_entries.proofs.RangeLists.CoveringLaws.{AllHold, MayHold, none-holds, from-holds}
-use Rattle.dwarf_entries.proofs.RangeLists.CoveringLaws.{listed-holds}
+use Rattle.dwarf_entries.proofs.RangeLists.CoveringLaws.{list-covers}
 
 -- ---- the ranges of an entry, within a budget of items
 
@@ -45,7 +45,7 @@ lists-hold : (budget : ℕ) (sections : Sections) (bases : Bases) (lists : List 
 lists-hold budget sections bases lists before at [] after h le =
     (none-holds, omega arith, omega (arith, le))
 lists-hold budget sections bases lists before at (entry ∷ entries) after h le =
-    let here = listed-holds budget sections bases (length before) (base_after bases.low_pc before)
+    let here = list-covers budget sections bases (length before) (base_after bases.low_pc before)
     lists at entry h.0 h.1 in
     let size = length-append before (entry ∷ []) in
     let rest = lists-hold budget sections bases lists (before ++ entry ∷ []) h.0 entries after h.2

@@ -16,36 +16,36 @@ use Rattle.dwarf_entries.specs.TreeLaws.{IsEntry, units_read}
 use Rattle.dwarf_entries.proofs.Results.ScopeOrder.{all_sites}
 use Rattle.dwarf_entries.proofs.Results.TreeParts.{AreParsed, IsRead, is-read}
 use Rattle.dwarf_entries.proofs.RootPasses.RootParts.{scopes_in, split}
-use Rattle.dwarf_entries.proofs.Results.EntryScopes.{Told, counted, described-of}
+use Rattle.dwarf_entries.proofs.Results.EntryScopes.{HasScopeOf, counted, described-of}
 
 -- ---- the entry of a scope
 
-abbrev StandsIn : List Die → Scope → Type 0
-StandsIn dies scope = (place : ℕ) × (die : Die) × (slice_get dies place ≡ Some die)
+abbrev HasEntryIn : List Die → Scope → Type 0
+HasEntryIn dies scope = (place : ℕ) × (die : Die) × (slice_get dies place ≡ Some die)
     × (scope.offset ≡ die.offset) × (kind_of die.tag ≡ Some scope.kind)
 
-stand-in : (s : Sections) (all : List CompilationUnit) (unit : CompilationUnit) (dies : List Die)
+entry-in : (s : Sections) (all : List CompilationUnit) (unit : CompilationUnit) (dies : List Die)
     (before js : List ParsedScope) → AreParsed s all before (sites_in unit dies) js
-    → All (StandsIn dies) (scopes_in js)
-stand-in s all unit [] before [] made = All-nil (StandsIn [])
-stand-in s all unit [] before (j ∷ js) made = absurd made
-stand-in s all unit (d ∷ dies) before js made =
+    → All (HasEntryIn dies) (scopes_in js)
+entry-in s all unit [] before [] made = All-nil (HasEntryIn [])
+entry-in s all unit [] before (j ∷ js) made = absurd made
+entry-in s all unit (d ∷ dies) before js made =
     by_kind (kind_of d.tag) refl js made
-    (λ before js made. All-weaker (StandsIn dies) (StandsIn (d ∷ dies))
+    (λ before js made. All-weaker (HasEntryIn dies) (HasEntryIn (d ∷ dies))
     (λ scope at. (suc at.0, at.1, at.2, at.3, at.4)) (scopes_in js)
-    (stand-in s all unit dies before js made))
+    (entry-in s all unit dies before js made))
   where
     by_kind : (found : Option ScopeKind) → kind_of d.tag ≡ found → (js : List ParsedScope)
         → AreParsed s all before (site_of unit d dies found (sites_in unit dies)) js
         → ((before js : List ParsedScope) → AreParsed s all before (sites_in unit dies) js
-        → All (StandsIn (d ∷ dies)) (scopes_in js)) → All (StandsIn (d ∷ dies)) (scopes_in js)
+        → All (HasEntryIn (d ∷ dies)) (scopes_in js)) → All (HasEntryIn (d ∷ dies)) (scopes_in js)
     by_kind None at js made rest = rest before js made
     by_kind (Some found) at [] made rest = absurd made
     by_kind (Some found) at (j ∷ js) made rest =
         let offset_is : j.scope.offset ≡ d.offset =
         sym (ap (λ (x : ParsedScope). x.scope.offset) made.0.is) in
         let kind_is : found ≡ j.scope.kind = ap (λ (x : ParsedScope). x.scope.kind) made.0.is in
-        All-cons (StandsIn (d ∷ dies)) j.scope (scopes_in js)
+        All-cons (HasEntryIn (d ∷ dies)) j.scope (scopes_in js)
         (zero, d, refl, offset_is, at ∙ ap (λ (k : ScopeKind). Some k) kind_is)
         (rest (before ++ j ∷ []) js made.1)
 
@@ -58,14 +58,14 @@ are-entries s all [] before [] made = All-nil (Enters [])
 are-entries s all [] before (j ∷ js) made = absurd made
 are-entries s all (unit ∷ units) before js made =
     let parts = split s all before (sites_in unit unit.dies) (all_sites units) js made in
-    let here = stand-in s all unit unit.dies before parts.first parts.first_are in
+    let here = entry-in s all unit unit.dies before parts.first parts.first_are in
     let later = are-entries s all units (before ++ parts.first) parts.rest parts.rest_are in
     let joined : scopes_in parts.first ++ scopes_in parts.rest ≡ scopes_in js =
     sym (map-append (λ (j : ParsedScope). j.scope) parts.first parts.rest)
     ∙ ap scopes_in parts.whole in
     subst (λ (ss : List Scope). All (Enters (unit ∷ units)) ss) joined
     (All-append (Enters (unit ∷ units)) (scopes_in parts.first) (scopes_in parts.rest)
-    (All-weaker (StandsIn unit.dies) (Enters (unit ∷ units))
+    (All-weaker (HasEntryIn unit.dies) (Enters (unit ∷ units))
     (λ scope at. (
       zero,
       at.0,
@@ -119,7 +119,7 @@ pub entry-described : (s : Sections) (tree : Tree) (units : List CompilationUnit
     ≡ Ok tree
     → units_read s ≡ Ok units → (i place : ℕ) (unit : CompilationUnit) (die : Die)
     (kind : ScopeKind) → slice_get units i ≡ Some unit → slice_get unit.dies place ≡ Some die
-    → kind_of die.tag ≡ Some kind → Told tree.scopes kind die (drop (suc place) unit.dies)
+    → kind_of die.tag ≡ Some kind → HasScopeOf tree.scopes kind die (drop (suc place) unit.dies)
     (counted (take i units) + count_by is_scope (take place unit.dies))
 entry-described s tree units h units_are i place unit die kind is die_is scope =
     let read = is-read s tree h in
@@ -130,9 +130,9 @@ entry-described s tree units h units_are i place unit die kind is die_is scope =
     let described = described-of s read.units units [] read.parsed made i place unit die kind
     is die_is
     scope in
-    subst (λ (ss : List Scope). Told ss kind die (drop (suc place) unit.dies)
+    subst (λ (ss : List Scope). HasScopeOf ss kind die (drop (suc place) unit.dies)
     (counted (take i units) + count_by is_scope (take place unit.dies))) read.scopes_are
-    (subst (Told (scopes_in read.parsed) kind die (drop (suc place) unit.dies)) (omega arith)
+    (subst (HasScopeOf (scopes_in read.parsed) kind die (drop (suc place) unit.dies)) (omega arith)
     described)
 
 pub entries-described : (s : Sections) (tree : Tree) (units : List CompilationUnit) (unit place : ℕ)

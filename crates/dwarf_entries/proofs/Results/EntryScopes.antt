@@ -22,23 +22,23 @@ same-some x y h = cc
 -- ---- the data of an entry
 
 -- A scope has the data of an entry, given its number and the entries after it.
-pub record Tells (number : ℕ) (kind : ScopeKind) (die : Die) (rest : List Die)
+pub record HasDataOfEntry (number : ℕ) (kind : ScopeKind) (die : Die) (rest : List Die)
     (scope : Scope) : Type 0 where
   pub kind_is : scope.kind ≡ kind
   pub offset_is : scope.offset ≡ die.offset
   pub number_is : scope.number ≡ number
   pub end_is : scope.«end» ≡ number + 1 + count_by is_scope (below die rest)
 
-abbrev pub Told : List Scope → ScopeKind → Die → List Die → ℕ → Type 0
-Told scopes kind die rest number = (scope : Scope) × Contains scopes scope
-    × Tells number kind die rest scope
+abbrev pub HasScopeOf : List Scope → ScopeKind → Die → List Die → ℕ → Type 0
+HasScopeOf scopes kind die rest number = (scope : Scope) × Contains scopes scope
+    × HasDataOfEntry number kind die rest scope
 
 described-in : (s : Sections) (all : List CompilationUnit) (unit : CompilationUnit)
     (dies : List Die)
     (before js : List ParsedScope) → AreParsed s all before (sites_in unit dies) js
     → (place : ℕ) (die : Die) (kind : ScopeKind)
     → slice_get dies place ≡ Some die → kind_of die.tag ≡ Some kind
-    → Told (scopes_in js) kind die (drop (suc place) dies)
+    → HasScopeOf (scopes_in js) kind die (drop (suc place) dies)
     (length before + count_by is_scope (take place dies))
 described-in s all unit [] before js made place die kind is scope = cc
 described-in s all unit (d ∷ dies) before js made place die kind is scope =
@@ -51,9 +51,9 @@ described-in s all unit (d ∷ dies) before js made place die kind is scope =
         → ((before js : List ParsedScope) → AreParsed s all before (sites_in unit dies) js
         → (place : ℕ)
         → slice_get dies place ≡ Some die
-        → Told (scopes_in js) kind die (drop (suc place) dies)
+        → HasScopeOf (scopes_in js) kind die (drop (suc place) dies)
         (length before + count_by is_scope (take place dies)))
-        → Told (scopes_in js) kind die (drop (suc place) (d ∷ dies))
+        → HasScopeOf (scopes_in js) kind die (drop (suc place) (d ∷ dies))
         (length before + count_by is_scope (take place (d ∷ dies)))
     by_kind None at js made zero is rest =
         let same : d ≡ die = same-some d die is in
@@ -61,7 +61,7 @@ described-in s all unit (d ∷ dies) before js made place die kind is scope =
         sym at ∙ ap (λ (x : Die). kind_of x.tag) same ∙ scope in absurd cc
     by_kind None at js made (suc place) is rest =
         let count = count-none d (take place dies) at in
-        subst (Told (scopes_in js) kind die (drop (suc place) dies)) (omega (arith, count))
+        subst (HasScopeOf (scopes_in js) kind die (drop (suc place) dies)) (omega (arith, count))
         (rest before js made place is)
     by_kind (Some found) at [] made place is rest = absurd made
     by_kind (Some found) at (j ∷ js) made zero is rest =
@@ -73,7 +73,7 @@ described-in s all unit (d ∷ dies) before js made place die kind is scope =
         ap (λ (x : ParsedScope). x.scope.number) made.0.is in
         let end_is : length before + 1 + count_by is_scope (below d dies) ≡ j.scope.«end» =
         ap (λ (x : ParsedScope). x.scope.«end») made.0.is in
-        let tells : Tells number found d dies j.scope = record {
+        let tells : HasDataOfEntry number found d dies j.scope = record {
           kind_is = sym (ap (λ (x : ParsedScope). x.scope.kind) made.0.is);
           offset_is = sym (ap (λ (x : ParsedScope). x.scope.offset) made.0.is);
           number_is = omega (arith, number_is);
@@ -81,14 +81,15 @@ described-in s all unit (d ∷ dies) before js made place die kind is scope =
         } in (
           j.scope,
           (zero, omega arith, refl),
-          subst (λ (x : Die). Tells number kind x dies j.scope)
-              same (subst (λ (k : ScopeKind). Tells number k d dies j.scope) kind_same tells),
+          subst (λ (x : Die). HasDataOfEntry number kind x dies j.scope)
+              same (subst (λ (k : ScopeKind). HasDataOfEntry number k d dies j.scope) kind_same
+              tells),
         )
     by_kind (Some found) at (j ∷ js) made (suc place) is rest =
         let count = count-one d (take place dies) found at in
         let size = length-append before (j ∷ []) in
         let later = rest (before ++ j ∷ []) js made.1 place is in
-        subst (Told (scopes_in (j ∷ js)) kind die (drop (suc place) dies))
+        subst (HasScopeOf (scopes_in (j ∷ js)) kind die (drop (suc place) dies))
         (omega (arith, count, size))
         (later.0, Contains-append_right (j.scope ∷ []) (scopes_in js) later.0 later.1, later.2)
 
@@ -100,7 +101,7 @@ pub described-of : (s : Sections) (all units : List CompilationUnit) (before js 
     → AreParsed s all before (all_sites units) js
     → (i place : ℕ) (unit : CompilationUnit) (die : Die) (kind : ScopeKind)
     → slice_get units i ≡ Some unit → slice_get unit.dies place ≡ Some die
-    → kind_of die.tag ≡ Some kind → Told (scopes_in js) kind die (drop (suc place) unit.dies)
+    → kind_of die.tag ≡ Some kind → HasScopeOf (scopes_in js) kind die (drop (suc place) unit.dies)
     (length before + counted (take i units) + count_by is_scope (take place unit.dies))
 described-of s all [] before js made i place unit die kind is die_is scope = cc
 described-of s all (first ∷ units) before js made zero place unit die kind is die_is scope =
@@ -112,15 +113,15 @@ described-of s all (first ∷ units) before js made zero place unit die kind is 
     let joined : scopes_in parts.first ++ scopes_in parts.rest ≡ scopes_in js =
     sym (map-append (λ (j : ParsedScope). j.scope) parts.first parts.rest)
     ∙ ap scopes_in parts.whole in
-    let found : Told (scopes_in js) kind die (drop (suc place) first.dies)
+    let found : HasScopeOf (scopes_in js) kind die (drop (suc place) first.dies)
     (length before + 0 + count_by is_scope (take place first.dies)) =
-    subst (Told (scopes_in js) kind die (drop (suc place) first.dies)) (omega arith) (
+    subst (HasScopeOf (scopes_in js) kind die (drop (suc place) first.dies)) (omega arith) (
       there.0,
       subst (λ (ss : List Scope). Contains ss there.0) joined
           (Contains-append_left (scopes_in parts.first) (scopes_in parts.rest) there.0 there.1),
       there.2,
     ) in
-    subst (λ (u : CompilationUnit). Told (scopes_in js) kind die (drop (suc place) u.dies)
+    subst (λ (u : CompilationUnit). HasScopeOf (scopes_in js) kind die (drop (suc place) u.dies)
     (length before + 0 + count_by is_scope (take place u.dies))) same found
 described-of s all (first ∷ units) before js made (suc i) place unit die kind is die_is scope =
     let parts = split s all before (sites_in first first.dies) (all_sites units) js made in
@@ -136,7 +137,7 @@ described-of s all (first ∷ units) before js made (suc i) place unit die kind 
     let sites = sites-count first first.dies in
     let sum = sum_by-cons (λ (unit : CompilationUnit). count_by is_scope unit.dies) first
     (take i units) in
-    subst (Told (scopes_in js) kind die (drop (suc place) unit.dies))
+    subst (HasScopeOf (scopes_in js) kind die (drop (suc place) unit.dies))
     (omega (arith, size, made_are, sites, sum)) (
       there.0,
       subst (λ (ss : List Scope). Contains ss there.0) joined

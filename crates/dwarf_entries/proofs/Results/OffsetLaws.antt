@@ -40,10 +40,10 @@ rise-fits from end [] h = h
 rise-fits from end (x ∷ xs) h = let first = h.0 in let rest = rise-fits (suc x) end xs h.1 in
     omega (arith, first, rest)
 
-rise-joined : (from mid end : ℕ) (xs ys : List ℕ) → Rise from mid xs → Rise mid end ys
+rise-append : (from mid end : ℕ) (xs ys : List ℕ) → Rise from mid xs → Rise mid end ys
     → Rise from end (xs ++ ys)
-rise-joined from mid end [] ys a b = rise-from from mid end ys a b
-rise-joined from mid end (x ∷ xs) ys a b = (a.0, rise-joined (suc x) mid end xs ys a.1 b)
+rise-append from mid end [] ys a b = rise-from from mid end ys a b
+rise-append from mid end (x ∷ xs) ys a b = (a.0, rise-append (suc x) mid end xs ys a.1 b)
 
 rise-strictly : (from end : ℕ) (xs : List ℕ) → Rise from end xs → IsStrictlyIncreasing xs
 rise-strictly from end [] h k lt = absurd (omega (arith, lt))
@@ -72,19 +72,19 @@ within-from : (low from end : ℕ) (dies : List Die) → low ≤ from → RiseWi
 within-from low from end [] le h = omega (arith, le, h)
 within-from low from end (die ∷ dies) le h = let first = h.0 in (omega (arith, le, first), h.1)
 
-listed-rise : (s : Sections) (size from : ℕ) (headers : List UnitHeader)
+list-rises : (s : Sections) (size from : ℕ) (headers : List UnitHeader)
     (tables : List (List Declaration)) (before dies : List (List Die))
     (front units : List CompilationUnit) → from ≤ size → HeadersInOrder from size headers
     → each_from (read_entries s) before (zip headers tables) ≡ Ok dies
     → each_from (read_unit s) front (zip headers dies) ≡ Ok units → UnitsRise from size units
-listed-rise s size from headers tables before dies front [] le order read made = le
-listed-rise s size from [] tables before dies front (unit ∷ units) le order read made =
+list-rises s size from headers tables before dies front [] le order read made = le
+list-rises s size from [] tables before dies front (unit ∷ units) le order read made =
     absurd (each-past (read_unit s) front unit units made)
-listed-rise s size from (header ∷ headers) tables before [] front (unit ∷ units) le order read
+list-rises s size from (header ∷ headers) tables before [] front (unit ∷ units) le order read
     made = absurd (each-past (read_unit s) front unit units made)
-listed-rise s size from (header ∷ headers) [] before (first ∷ dies) front (unit ∷ units) le order
+list-rises s size from (header ∷ headers) [] before (first ∷ dies) front (unit ∷ units) le order
     read made = absurd (each-past (read_entries s) before first dies read)
-listed-rise s size from (header ∷ headers) (table ∷ tables) before (first ∷ dies) front
+list-rises s size from (header ∷ headers) (table ∷ tables) before (first ∷ dies) front
     (unit ∷ units) le order read made =
     let entries = each-cons (read_entries s) before (header, table) (zip headers tables) first dies
     read in
@@ -94,13 +94,13 @@ listed-rise s size from (header ∷ headers) (table ∷ tables) before (first �
     (entries-rise s.debug_info header table first entries.0 order.1 order.2) in (
       header.end,
       subst (λ (ds : List Die). RiseWithin from header.end ds) (sym parts.1) rise,
-      listed-rise s size header.end headers tables (before ++ first ∷ []) dies (front ++ unit ∷ [])
+      list-rises s size header.end headers tables (before ++ first ∷ []) dies (front ++ unit ∷ [])
           units order.3 order.4 entries.1 here.1,
     )
 
 pub units-rise : (s : Sections) (tree : Tree) (read : IsRead s tree)
     → UnitsRise 0 (length s.debug_info) read.units
-units-rise s tree read = listed-rise s (length s.debug_info) 0 read.headers read.tables [] read.dies
+units-rise s tree read = list-rises s (length s.debug_info) 0 read.headers read.tables [] read.dies
     [] read.units (omega arith) (headers-in-order s.debug_info read.headers read.headers_are)
     read.dies_are read.units_are
 
@@ -112,11 +112,11 @@ site_offsets ps = map (λ (p : ScopeSite). p.member.die.offset) ps
 abbrev scope_offsets : List Scope → List ℕ
 scope_offsets ss = map (λ (scope : Scope). scope.offset) ss
 
-site-offsets-joined : (ps qs : List ScopeSite) → site_offsets (ps ++ qs) ≡ site_offsets ps
+site-offsets-append : (ps qs : List ScopeSite) → site_offsets (ps ++ qs) ≡ site_offsets ps
     ++ site_offsets qs
-site-offsets-joined [] qs = refl
-site-offsets-joined (p ∷ ps) qs = ap (λ (ks : List ℕ). p.member.die.offset ∷ ks)
-    (site-offsets-joined ps qs)
+site-offsets-append [] qs = refl
+site-offsets-append (p ∷ ps) qs = ap (λ (ks : List ℕ). p.member.die.offset ∷ ks)
+    (site-offsets-append ps qs)
 
 sites-rise : (unit : CompilationUnit) (from end : ℕ) (dies : List Die) → RiseWithin from end dies
     → Rise from end (site_offsets (sites_in unit dies))
@@ -137,8 +137,8 @@ all-sites-rise : (from size : ℕ) (units : List CompilationUnit) → UnitsRise 
 all-sites-rise from size [] h = h
 all-sites-rise from size (unit ∷ units) h =
     subst (λ (ks : List ℕ). Rise from size ks)
-    (sym (site-offsets-joined (sites_in unit unit.dies) (all_sites units)))
-    (rise-joined from h.0 size (site_offsets (sites_in unit unit.dies))
+    (sym (site-offsets-append (sites_in unit unit.dies) (all_sites units)))
+    (rise-append from h.0 size (site_offsets (sites_in unit unit.dies))
     (site_offsets (all_sites units)) (sites-rise unit from h.0 unit.dies h.1)
     (all-sites-rise h.0 size units h.2))
 

@@ -42,7 +42,7 @@ pub record EntriesRead (s : Sections) (headers : List UnitHeader) (before : Tabl
     (units : List UnitEntries) : Type 0 where
   pub dies : List (List Die)
   pub dies_are : all_entries s.debug_info headers before.tables ≡ Ok dies
-  pub kept_are : map stored_of units ≡ stored_units headers dies
+  pub stored_are : map stored_of units ≡ stored_units headers dies
 
 pub record UnitsRead (s : Sections) (headers : List UnitHeader) (read : TablesRead s headers)
     (units : List UnitEntries) (bases : List Bases) : Type 0 where
@@ -81,7 +81,7 @@ pub entries-read : (s : Sections) (headers : List UnitHeader) (units : List Unit
 entries-read s headers units before read =
     let parts = bound (λ dies. stored_units headers dies)
     (all_entries s.debug_info headers before.tables) (map stored_of units) read in
-    record { dies = parts.0; dies_are = parts.1; kept_are = parts.2 }
+    record { dies = parts.0; dies_are = parts.1; stored_are = parts.2 }
 
 pub units_read : (s : Sections) (headers : List UnitHeader) (tables : TablesRead s headers)
     (units : List UnitEntries) (bases : List Bases) → (before : EntriesRead s headers tables units)
@@ -96,7 +96,7 @@ units_read s headers tables units bases before read =
       us = parts.0;
       us_are = parts.1;
       dies_of_us = ordered.2;
-      are = record { same = before.kept_are ∙ ordered.1; order = ordered.0; bases_are = parts.2 };
+      are = record { same = before.stored_are ∙ ordered.1; order = ordered.0; bases_are = parts.2 };
       read_in = read-in s parts.0 ordered.3;
     }
 

@@ -61,16 +61,17 @@ inner-more zero ks ls h = tt
 inner-more (suc n) [] ls h = absurd h
 inner-more (suc n) (k ∷ ks) ls h = (h.0, inner-more n ks ls h.1)
 
-fits-joined : (ks ls : List ℕ) → Fits ks → Fits ls → Fits (ks ++ ls)
-fits-joined [] ls a b = b
-fits-joined (k ∷ ks) ls a b = (inner-more k ks ls a.0, fits-joined ks ls a.1 b)
+fits-append : (ks ls : List ℕ) → Fits ks → Fits ls → Fits (ks ++ ls)
+fits-append [] ls a b = b
+fits-append (k ∷ ks) ls a b = (inner-more k ks ls a.0, fits-append ks ls a.1 b)
 
-abbrev pub insides : List ScopeSite → List ℕ
-insides ps = map (λ (p : ScopeSite). p.inside) ps
+abbrev pub descendants : List ScopeSite → List ℕ
+descendants ps = map (λ (p : ScopeSite). p.inside) ps
 
-insides-joined : (ps qs : List ScopeSite) → insides (ps ++ qs) ≡ insides ps ++ insides qs
-insides-joined [] qs = refl
-insides-joined (p ∷ ps) qs = ap (λ (ks : List ℕ). p.inside ∷ ks) (insides-joined ps qs)
+descendants-append : (ps qs : List ScopeSite) → descendants (ps ++ qs) ≡ descendants ps
+    ++ descendants qs
+descendants-append [] qs = refl
+descendants-append (p ∷ ps) qs = ap (λ (ks : List ℕ). p.inside ∷ ks) (descendants-append ps qs)
 
 -- The number of scopes among the entries up to the first that is not deeper.
 abbrev pub deeper : ℕ → List Die → ℕ
@@ -108,47 +109,50 @@ deeper-less low high (d ∷ dies) le = cases (nat_lt low d.depth) (nat_lt high d
         both lt is = let n : d.depth ≤ low = grind (arith, nat_tests) in absurd (omega arith)
 
 sites-inner : (unit : CompilationUnit) (depth : ℕ) (dies : List Die)
-    → Inner (deeper depth dies) (insides (sites_in unit dies))
+    → Inner (deeper depth dies) (descendants (sites_in unit dies))
 sites-inner unit depth [] = tt
 sites-inner unit depth (d ∷ dies) = cases (nat_lt depth d.depth) refl (kind_of d.tag) refl
     (sites-inner unit depth dies)
   where
     cases : (a : Bool) → nat_lt depth d.depth ≡ a → (kind : Option ScopeKind) → kind_of d.tag ≡ kind
-        → Inner (deeper depth dies) (insides (sites_in unit dies))
-        → Inner (deeper depth (d ∷ dies)) (insides (site_of unit d dies kind (sites_in unit dies)))
+        → Inner (deeper depth dies) (descendants (sites_in unit dies))
+        → Inner (deeper depth (d ∷ dies))
+        (descendants (site_of unit d dies kind (sites_in unit dies)))
     cases false is kind k rest = let N : ℕ → Type 0 =
-        λ n. Inner n (insides (site_of unit d dies kind (sites_in unit dies))) in
+        λ n. Inner n (descendants (site_of unit d dies kind (sites_in unit dies))) in
         subst N (sym (deeper-out depth d dies is)) tt
     cases true is None k rest =
         let scope : is_scope d ≡ false = ap is_some k in
         let one : deeper depth (d ∷ dies) ≡ deeper depth dies =
         deeper-in depth d dies is ∙ rw scope (omega arith) in
-        let N : ℕ → Type 0 = λ n. Inner n (insides (sites_in unit dies)) in subst N (sym one) rest
+        let N : ℕ → Type 0 =
+        λ n. Inner n (descendants (sites_in unit dies)) in subst N (sym one) rest
     cases true is (Some kind) k rest =
         let scope : is_scope d ≡ true = ap is_some k in
         let one : deeper depth (d ∷ dies) ≡ suc (deeper depth dies) =
         deeper-in depth d dies is ∙ rw scope (omega arith) in
         let lt : depth < d.depth = grind (arith, nat_tests) in
         let less = deeper-less depth d.depth dies (omega arith) in
-        let N : ℕ → Type 0 = λ n. Inner n (deeper d.depth dies ∷ insides (sites_in unit dies)) in
+        let N : ℕ → Type 0 =
+        λ n. Inner n (deeper d.depth dies ∷ descendants (sites_in unit dies)) in
         subst N (sym one) (less, rest)
 
-sites-fit : (unit : CompilationUnit) (dies : List Die) → Fits (insides (sites_in unit dies))
+sites-fit : (unit : CompilationUnit) (dies : List Die) → Fits (descendants (sites_in unit dies))
 sites-fit unit [] = tt
 sites-fit unit (d ∷ dies) = cases (kind_of d.tag) (sites-fit unit dies)
   where
-    cases : (kind : Option ScopeKind) → Fits (insides (sites_in unit dies))
-        → Fits (insides (site_of unit d dies kind (sites_in unit dies)))
+    cases : (kind : Option ScopeKind) → Fits (descendants (sites_in unit dies))
+        → Fits (descendants (site_of unit d dies kind (sites_in unit dies)))
     cases None rest = rest
     cases (Some kind) rest = (sites-inner unit d.depth dies, rest)
 
 abbrev pub all_sites : List CompilationUnit → List ScopeSite
 all_sites units = flat_map (λ unit. sites_in unit unit.dies) units
 
-pub all-fit : (units : List CompilationUnit) → Fits (insides (all_sites units))
+pub all-fit : (units : List CompilationUnit) → Fits (descendants (all_sites units))
 all-fit [] = tt
 all-fit (unit ∷ units) =
     let F : List ℕ → Type 0 = Fits in
-    subst F (sym (insides-joined (sites_in unit unit.dies) (all_sites units)))
-    (fits-joined (insides (sites_in unit unit.dies)) (insides (all_sites units))
+    subst F (sym (descendants-append (sites_in unit unit.dies) (all_sites units)))
+    (fits-append (descendants (sites_in unit unit.dies)) (descendants (all_sites units))
     (sites-fit unit unit.dies) (all-fit units))

@@ -24,7 +24,8 @@ use Rattle.dwarf_entries.specs.Scopes.{items_limit, stmt_list_of, roots_from}
 use Rattle.dwarf_walk.specs.ScopeEntries.{number_of}
 use Rattle.dwarf_entries.specs.Order.{AreNumbered, EndsWithin, AreNested, AreInOrder}
 use Rattle.dwarf_entries.proofs.Results.ScopeOrder.{bind-ok, section-ok, described-ok, ok-same}
-use Rattle.dwarf_entries.proofs.Results.ScopeOrder.{Inner, Fits, inner-length, insides, all_sites}
+use Rattle.dwarf_entries.proofs.Results.ScopeOrder.{Inner, Fits, inner-length, descendants}
+use Rattle.dwarf_entries.proofs.Results.ScopeOrder.{all_sites}
 use Rattle.dwarf_entries.proofs.Results.ScopeOrder.{all-fit}
 
 -- ---- the scopes of the sites
@@ -37,8 +38,8 @@ AreAt m (k ∷ ks) [] = ⊥
 AreAt m (k ∷ ks) (s ∷ ss) = (s.number ≡ m) × (s.«end» ≡ m + 1 + k) × AreAt (suc m) ks ss
 
 -- The scope of a site.
-abbrev pub judged_by : List ParsedScope → ScopeSite → EntryNames → Covering → ParsedScope
-judged_by before p names covering = record {
+abbrev pub checked_by : List ParsedScope → ScopeSite → EntryNames → Covering → ParsedScope
+checked_by before p names covering = record {
   items = covering.items;
   scope = record {
     kind = p.kind;
@@ -66,13 +67,13 @@ scope-made : (sections : Sections) (units : List CompilationUnit) (before : List
 scope-made sections units before p j h =
     let a = bind-ok (names_of sections units p.member)
     (λ names. covering_at sections before p
-    >>= λ covering. Ok (judged_by before p names covering)) j
+    >>= λ covering. Ok (checked_by before p names covering)) j
     (described-ok p.member.die.offset (scope_at sections units before p) j h) in
     let b = bind-ok (covering_at sections before p)
-    (λ covering. Ok (judged_by before p a.0 covering)) j a.2 in
-    let first : Result ParsedScope Cause = Ok (judged_by before p a.0 b.0) in
-    let made : judged_by before p a.0 b.0 ≡ j =
-    ok-same first (judged_by before p a.0 b.0) j refl b.2 in (
+    (λ covering. Ok (checked_by before p a.0 covering)) j a.2 in
+    let first : Result ParsedScope Cause = Ok (checked_by before p a.0 b.0) in
+    let made : checked_by before p a.0 b.0 ≡ j =
+    ok-same first (checked_by before p a.0 b.0) j refl b.2 in (
       sym (ap (λ (x : ParsedScope). x.scope.number) made),
       sym (ap (λ (x : ParsedScope).
           x.scope.«end») made),
@@ -85,7 +86,7 @@ make sections units before p = with_offset p.member.die.offset (scope_at section
 scopes-made : (sections : Sections) (units : List CompilationUnit) (before : List ParsedScope)
     (ps : List ScopeSite) (js : List ParsedScope)
     → each_from (make sections units) before ps ≡ Ok js
-    → AreAt (length before) (insides ps) (map (λ j. j.scope) js)
+    → AreAt (length before) (descendants ps) (map (λ j. j.scope) js)
 unfolding each_from
 scopes-made sections units before [] js h =
     let L : List ParsedScope → Type 0 = λ js. AreAt (length before) [] (map (λ j. j.scope) js) in
@@ -101,8 +102,8 @@ scopes-made sections units before (p ∷ ps) js h =
     let len : length (before ++ a.0 ∷ []) ≡ suc (length before) =
     length_push before a.0 ∙ (let e : length before + 1 ≡ suc (length before) = omega arith in
     e) in
-    let N : ℕ → Type 0 = λ n. AreAt n (insides ps) (map (λ j. j.scope) b.0) in
-    let L : List ParsedScope → Type 0 = λ js. AreAt (length before) (insides (p ∷ ps))
+    let N : ℕ → Type 0 = λ n. AreAt n (descendants ps) (map (λ j. j.scope) b.0) in
+    let L : List ParsedScope → Type 0 = λ js. AreAt (length before) (descendants (p ∷ ps))
     (map (λ j. j.scope) js) in
     let whole : Result (List ParsedScope) At = Ok (a.0 ∷ b.0) in
     subst L (ok-same whole (a.0 ∷ b.0) js refl b.2) (first.0, first.1, subst N len rest)
@@ -156,8 +157,8 @@ nested m (k ∷ ks) (s ∷ ss) f h =
 
 -- ---- pass by pass
 
-abbrev pub from_judged : List CompilationUnit → List ParsedScope → Result Tree LoadFault
-from_judged units parsed = Ok (record {
+abbrev pub from_checked : List CompilationUnit → List ParsedScope → Result Tree LoadFault
+from_checked units parsed = Ok (record {
   roots = roots_from 0 units;
   scopes =
       map (λ j. j.scope) parsed;
@@ -165,7 +166,7 @@ from_judged units parsed = Ok (record {
 
 abbrev pub from_units : Sections → List CompilationUnit → Result Tree LoadFault
 from_units s units = in_section names.DebugInfo (each_from (make s units) [] (all_sites units))
-    >>= from_judged units
+    >>= from_checked units
 
 abbrev pub from_dies : Sections → List UnitHeader → List (List Die) → Result Tree LoadFault
 from_dies s headers dies = in_section names.DebugInfo
@@ -192,7 +193,7 @@ scopes-in-order s tree h =
     let d = bind-ok (in_section names.DebugInfo (each (λ _ p. unit_of s p.0 p.1) (zip a.0 c.0)))
     (from_units s) tree c.2 in
     let e = bind-ok (in_section names.DebugInfo (each_from (make s d.0) [] (all_sites d.0)))
-    (from_judged d.0) tree d.2 in
+    (from_checked d.0) tree d.2 in
     let at = scopes-made s d.0 [] (all_sites d.0) e.0
     (section-ok names.DebugInfo (each_from (make s d.0) [] (all_sites d.0)) e.0 e.1) in
     let found : Tree = record { roots = roots_from 0 d.0; scopes = map (λ j. j.scope) e.0 } in
@@ -203,7 +204,7 @@ scopes-in-order s tree h =
     (record { roots = roots_from 0 d.0; scopes = map (λ j. j.scope) e.0 }) tree refl e.2) in
     let O : List Scope → Type 0 = λ ss. AreInOrder ss in
     subst O whole (record {
-      numbered = numbered 0 (length (map (λ j. j.scope) e.0)) (insides (all_sites d.0))
+      numbered = numbered 0 (length (map (λ j. j.scope) e.0)) (descendants (all_sites d.0))
           (map (λ j. j.scope) e.0) (all-fit d.0) at (omega arith);
-      nested = nested 0 (insides (all_sites d.0)) (map (λ j. j.scope) e.0) (all-fit d.0) at;
+      nested = nested 0 (descendants (all_sites d.0)) (map (λ j. j.scope) e.0) (all-fit d.0) at;
     })

@@ -18,7 +18,7 @@ use Rattle.dwarf_entries.specs.Names.{names_of}
 use Rattle.dwarf_entries.specs.Ranges.{Covering}
 use Rattle.dwarf_entries.specs.Scopes.{Tree, ScopeSite, ParsedScope, scope_at, tree_of, roots_from}
 use Rattle.dwarf_entries.proofs.Results.ScopeOrder.{section-ok, described-ok, all_sites}
-use Rattle.dwarf_entries.proofs.Results.ScopePlaces.{judged_by, covering_at, make, from_judged}
+use Rattle.dwarf_entries.proofs.Results.ScopePlaces.{checked_by, covering_at, make, from_checked}
 use Rattle.dwarf_entries.proofs.Results.ScopePlaces.{from_units, from_dies, from_tables}
 use Rattle.dwarf_entries.proofs.Results.ScopePlaces.{from_headers}
 
@@ -60,32 +60,33 @@ each-past make before y ys h = cc
 
 -- ---- the parts of a scope, after the scopes before it
 
-pub record IsJudged (sections : Sections) (units : List CompilationUnit) (before : List ParsedScope)
+pub record IsChecked (sections : Sections) (units : List CompilationUnit)
+    (before : List ParsedScope)
     (p : ScopeSite) (j : ParsedScope) : Type 0 where
   pub found : EntryNames
   pub found_are : names_of sections units p.member ≡ Ok found
   pub covering : Covering
   pub covering_is : covering_at sections before p ≡ Ok covering
-  pub is : judged_by before p found covering ≡ j
+  pub is : checked_by before p found covering ≡ j
 
 is-parsed : (sections : Sections) (units : List CompilationUnit) (before : List ParsedScope)
     (p : ScopeSite) (j : ParsedScope) → make sections units before p ≡ Ok j
-    → IsJudged sections units before p j
+    → IsChecked sections units before p j
 is-parsed sections units before p j h =
-    let P : Type 0 = IsJudged sections units before p j in
+    let P : Type 0 = IsChecked sections units before p j in
     after-bind (names_of sections units p.member)
     (λ found. covering_at sections before p
-    >>= λ covering. Ok (judged_by before p found covering)) j
+    >>= λ covering. Ok (checked_by before p found covering)) j
     (described-ok p.member.die.offset (scope_at sections units before p) j h) P
     (λ found found_are h1.
-    after-bind (covering_at sections before p) (λ covering. Ok (judged_by before p found covering))
+    after-bind (covering_at sections before p) (λ covering. Ok (checked_by before p found covering))
     j h1 P (λ covering covering_is last.
     record {
       found = found;
       found_are = found_are;
       covering = covering;
       covering_is = covering_is;
-      is = same-ok (judged_by before p found covering) j last;
+      is = same-ok (checked_by before p found covering) j last;
     }))
 
 abbrev pub AreParsed : Sections → List CompilationUnit → List ParsedScope → List ScopeSite
@@ -94,7 +95,7 @@ abbrev pub AreParsed : Sections → List CompilationUnit → List ParsedScope �
 AreParsed sections units before [] [] = Unit {0}
 AreParsed sections units before [] (j ∷ js) = ⊥
 AreParsed sections units before (p ∷ ps) [] = ⊥
-AreParsed sections units before (p ∷ ps) (j ∷ js) = IsJudged sections units before p j
+AreParsed sections units before (p ∷ ps) (j ∷ js) = IsChecked sections units before p j
     × AreParsed sections units (before ++ j ∷ []) ps js
 
 are-parsed : (sections : Sections) (units : List CompilationUnit) (before : List ParsedScope)
@@ -150,7 +151,7 @@ is-read s tree h =
     after-bind (in_section names.DebugInfo (each (read_unit s) (zip headers dies))) (from_units s)
     tree h3 P (λ units units_are h4.
     after-bind (in_section names.DebugInfo (each_from (make s units) [] (all_sites units)))
-    (from_judged units) tree h4 P (λ parsed judged_are last.
+    (from_checked units) tree h4 P (λ parsed judged_are last.
     let same = same-ok (record { roots = roots_from 0 units; scopes = map (λ j. j.scope) parsed })
     tree last in
     record {

@@ -68,10 +68,10 @@ rooted us u index root from found die rest dies_are =
     (slice_get-tombstone (roots_from 0 us) root r later all) ∙ sym (ap stmt_list_of dies_are)
 
 -- The next root is that of the next unit.
-pub roots_behind : (us : List CompilationUnit) (u : CompilationUnit) (index root after : ℕ)
+pub roots_after : (us : List CompilationUnit) (u : CompilationUnit) (index root after : ℕ)
     → RootsFrom us index root → slice_get us index ≡ Some u
     → after ≡ root + cond (is_some (root_in u.dies)) 1 0 → RootsFrom us (index + 1) after
-roots_behind us u index root after from found after_is = by_dies u.dies refl after_is
+roots_after us u index root after from found after_is = by_dies u.dies refl after_is
   where
     units : drop index us ≡ u ∷ drop (index + 1) us
     units = units-from us u index found

@@ -26,11 +26,11 @@ use Rattle.dwarf_entries.proofs.RootPasses.RootParts.{Between, numbers-between, 
 abbrev Has : Root → Scope → Type 0
 Has root scope = root.first ≤ scope.number → scope.number < root.past → IsOfUnit root scope
 
-roots-behind : (number : ℕ) (units : List CompilationUnit)
+roots-after : (number : ℕ) (units : List CompilationUnit)
     → All (λ root. number ≤ root.first) (roots_from number units)
-roots-behind number [] = All-nil (λ (root : Root). number ≤ root.first)
-roots-behind number (unit ∷ units) = let past : ℕ = number + count_by is_scope unit.dies in
-    by_root past unit.dies (omega arith) (roots-behind past units)
+roots-after number [] = All-nil (λ (root : Root). number ≤ root.first)
+roots-after number (unit ∷ units) = let past : ℕ = number + count_by is_scope unit.dies in
+    by_root past unit.dies (omega arith) (roots-after past units)
   where
     by_root : (past : ℕ) (dies : List Die) → number ≤ past
         → All (λ root. past ≤ root.first) (roots_from past units)
@@ -108,7 +108,7 @@ have s all from size (unit ∷ units) before js rise made =
     subst (λ (ss : List Scope). AllHave (roots_from (length before) (unit ∷ units)) ss) joined
     (by_root past (past + length (all_sites units)) parts.first (scopes_in parts.rest) unit.dies
     refl refl parts.first_are later (have-later past (length before) (roots_from past units)
-    (scopes_in parts.first) (scopes_in parts.rest) here (roots-behind past units) rest))
+    (scopes_in parts.first) (scopes_in parts.rest) here (roots-after past units) rest))
   where
     by_root : (past high : ℕ) (first : List ParsedScope) (later : List Scope) (dies : List Die)
         → unit.dies ≡ dies → length before + count_by is_scope unit.dies ≡ past

@@ -38,11 +38,11 @@ own-found (Some s) k h = (s, refl, sym (some-same h))
     some-same : {x y : Own} → (let f : Own → Option Own = λ z. Some z in f x ≡ f y) → x ≡ y
     some-same h = cc
 
-pub tells-of : (scopes : List Scope) (stored : List StoredScope) (place : ℕ) (k : StoredScope)
+pub data-of : (scopes : List Scope) (stored : List StoredScope) (place : ℕ) (k : StoredScope)
     → AreInOrder scopes
     → map own_of stored ≡ map own scopes → slice_get stored place ≡ Some k
     → (s : Scope) × (slice_get scopes place ≡ Some s) × HasDataOf scopes k s
-tells-of scopes stored place k order same found =
+data-of scopes stored place k order same found =
     let own_there : option_map own (slice_get scopes place) ≡ Some (own_of k) =
     sym (slice_get-map own scopes place)
     ∙ (ap (λ (os : List Own). slice_get os place) (sym same)

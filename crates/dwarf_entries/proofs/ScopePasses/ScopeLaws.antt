@@ -28,8 +28,8 @@ use Rattle.dwarf_entries.specs.Private.Members.{IsMember, AreStoredAs}
 use Rattle.dwarf_entries.specs.Private.Passes.{AreUnits, IsScopeSite, stored_unit_of, scope_facts}
 use Rattle.dwarf_entries.proofs.OriginChains.ReferenceLaws.{map-twice}
 
-abbrev pub kept_in : CompilationUnit → StoredUnit
-kept_in u = stored_unit u.header u.dies
+abbrev pub stored_in : CompilationUnit → StoredUnit
+stored_in u = stored_unit u.header u.dies
 
 -- The scope of a site, given its names and ranges.
 abbrev pub scope_of_place : List ParsedScope → ScopeSite → EntryNames → Covering → ParsedScope
@@ -97,7 +97,7 @@ names-fault s us before p numbers budget entry cause place read =
 -- The root and the bases of the unit of a site.
 pub record UnitAt (units : List UnitEntries) (bases : List Bases) (unit : ℕ)
     (u : CompilationUnit) : Type 0 where
-  pub entries_are : (d : UnitEntries) → stored_of (get_or units unit d) ≡ kept_in u
+  pub entries_are : (d : UnitEntries) → stored_of (get_or units unit d) ≡ stored_in u
   pub bases_are : (d : Bases) → get_or bases unit d ≡ u.bases
 
 pub unit_at : (units : List UnitEntries) (bases : List Bases) (us : List CompilationUnit) (unit : ℕ)
@@ -108,14 +108,14 @@ unit_at units bases us unit u stored found =
     λ d. get_or_from_slice_get us unit u d found in
     let within : unit < length us = inside ((slice_get_cases us unit).1) in
     let sizes : length units ≡ length us = sym (length-map units stored_of)
-    ∙ (ap (λ (ks : List StoredUnit). length ks) stored.same ∙ length-map us kept_in) in
+    ∙ (ap (λ (ks : List StoredUnit). length ks) stored.same ∙ length-map us stored_in) in
     let based : length bases ≡ length us = ap (λ (bs : List Bases). length bs) stored.bases_are
     ∙ length-map us (λ u. u.bases) in
     record {
       entries_are = λ d.
           sym (get_or-map stored_of units unit d (stored_of d) (omega (arith, sizes, within)))
           ∙ (ap (λ (ks : List StoredUnit). get_or ks unit (stored_of d)) stored.same
-          ∙ (get_or-map kept_in us unit u (stored_of d) within ∙ ap kept_in (here u)));
+          ∙ (get_or-map stored_in us unit u (stored_of d) within ∙ ap stored_in (here u)));
       bases_are = λ d. ap (λ (bs : List Bases). get_or bs unit d) stored.bases_are
           ∙ (get_or-map (λ u. u.bases) us unit u d within ∙ ap (λ (v : CompilationUnit). v.bases)
           (here u));

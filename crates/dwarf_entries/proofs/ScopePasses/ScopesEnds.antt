@@ -28,14 +28,14 @@ use Rattle.dwarf_entries.proofs.UnitPasses.PassLaws.{at_item_cases}
 use Rattle.dwarf_walk.specs.Private.Stored.{StoredUnit, scope_entry}
 use Rattle.dwarf_entries.proofs.ScopePasses.ScopeLaws.{unit_at}
 use Rattle.dwarf_entries.proofs.ScopePasses.SiteLaws.{SiteAt, site-at, places-are, place_in}
-use Rattle.dwarf_entries.proofs.ScopePasses.ScopesPass.{kept-there, JudgedSoFar, PlaceKnown}
+use Rattle.dwarf_entries.proofs.ScopePasses.ScopesPass.{stored-there, CheckedSoFar, PlaceChecked}
 use Rattle.dwarf_entries.proofs.ScopePasses.ScopesPass.{entry-there, front-ok, front-err}
 
-pub judged-end : (s : Sections) (us : List CompilationUnit) (u : CompilationUnit)
+pub checked-end : (s : Sections) (us : List CompilationUnit) (u : CompilationUnit)
     (before : List ParsedScope) (index : ℕ) (lists : ScopeLists) (left : ℕ)
-    → JudgedSoFar s us u before index lists left → length (sites_in u u.dies) ≤ index
+    → CheckedSoFar s us u before index lists left → length (sites_in u u.dies) ≤ index
     → AddsScopes (Ok tt) s us (sites_in u u.dies) before lists left
-judged-end s us u before index lists left so_far past =
+checked-end s us u before index lists left so_far past =
     let parsed = so_far.parsed in
     let none : drop index (sites_in u u.dies) ≡ [] = drop_all index (sites_in u u.dies) past in
     let all : made_front before (each_from (parse_scope s us) before (sites_in u u.dies))
@@ -50,16 +50,16 @@ judged-end s us u before index lists left so_far past =
           (sym parts.2) so_far.are_parsed,
     )
 
-pub judged-fault : (s : Sections) (us : List CompilationUnit) (u : CompilationUnit)
+pub checked-fault : (s : Sections) (us : List CompilationUnit) (u : CompilationUnit)
     (before : List ParsedScope) (index : ℕ) (lists final : ScopeLists) (left last : ℕ)
     (stored : ScopePlace) (cause : Cause) (fault : LoadFault)
-    → (so_far : JudgedSoFar s us u before index lists left) (p : SiteAt u index stored)
+    → (so_far : CheckedSoFar s us u before index lists left) (p : SiteAt u index stored)
     → Fails cause (scope_at s us so_far.parsed p.place)
     → fault ≡ at_item names.DebugInfo cause stored.offset
     → AddsScopes (Err fault) s us (sites_in u u.dies) before final last
-judged-fault s us u before index lists final left last stored cause fault so_far p (inl memory)
+checked-fault s us u before index lists final left last stored cause fault so_far p (inl memory)
     told_is = inl (told_is ∙ ap (λ (c : Cause). at_item names.DebugInfo c stored.offset) memory)
-judged-fault s us u before index lists final left last stored cause fault so_far p (inr bad)
+checked-fault s us u before index lists final left last stored cause fault so_far p (inr bad)
     told_is =
     by-cause (at_item_cases cause stored.offset)
   where
@@ -91,7 +91,7 @@ judged-fault s us u before index lists final left last stored cause fault so_far
 pub again-fault : (s : Sections) (us : List CompilationUnit) (u : CompilationUnit)
     (before : List ParsedScope) (index : ℕ) (final : ScopeLists) (last : ℕ) (stored : ScopePlace)
     (header : UnitHeader) (cause : Cause) (fault : LoadFault)
-    → (known : PlaceKnown s u index stored header)
+    → (known : PlaceChecked s u index stored header)
     → Fails cause (scope_entry_at header.format known.read.table (bytes_in s header) stored.offset)
     → fault ≡ at_item names.DebugInfo cause stored.offset
     → AddsScopes (Err fault) s us (sites_in u u.dies) before final last
@@ -104,19 +104,19 @@ again-fault s us u before index final last stored header cause fault known bad t
 
 -- ---- the preconditions of an iteration
 
-pub place-known : (s : Sections) (units : List UnitEntries) (bases : List Bases)
+pub place-checked : (s : Sections) (units : List UnitEntries) (bases : List Bases)
     (us : List CompilationUnit) (u : CompilationUnit) (unit index : ℕ) (d : UnitEntries)
     (list : List ScopePlace) (x : ScopePlace) → AreUnits units bases us → AreReadIn s us
     → slice_get us unit ≡ Some u
     → list ≡ (get_or units unit d).scopes.items → index < length list
-    → PlaceKnown s u index (get_or list index x) (get_or units unit d).header
-place-known s units bases us u unit index d list x are read found list_is within =
+    → PlaceChecked s u index (get_or list index x) (get_or units unit d).header
+place-checked s units bases us u unit index d list x are read found list_is within =
     let header : (get_or units unit d).header ≡ u.header =
     ap (λ (k : StoredUnit). k.header) ((unit_at units bases us unit u are found).entries_are d) in
     let one = read unit u found in
     record {
       site = site-at u list index x (get_or list index x)
-          (list_is ∙ kept-there units bases us unit u d are found) within refl;
+          (list_is ∙ stored-there units bases us unit u d are found) within refl;
       same = header;
       read = one;
       table_is = ap (λ (h : UnitHeader). declarations_of declarations_limit s.debug_abbrev
@@ -132,6 +132,6 @@ pub all-there : (units : List UnitEntries) (bases : List Bases) (us : List Compi
 all-there units bases us u unit index d list are found list_is past =
     let sizes : length list ≡ length (sites_in u u.dies) =
     ap (λ (ps : List ScopePlace). length ps)
-    (list_is ∙ (kept-there units bases us unit u d are found ∙ places-are u u.dies))
+    (list_is ∙ (stored-there units bases us unit u d are found ∙ places-are u u.dies))
     ∙ length-map (sites_in u u.dies) place_in in
     omega (arith, sizes, past)

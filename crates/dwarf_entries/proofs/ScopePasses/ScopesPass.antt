@@ -36,14 +36,14 @@ use Rattle.dwarf_entries.specs.Scopes.{stmt_list_of, roots_from}
 use Rattle.dwarf_entries.specs.Private.Passes.{AreUnits, IsRootOf, IsScopeSite, parse_scope}
 use Rattle.dwarf_entries.specs.Private.Passes.{AreParsed}
 use Rattle.dwarf_walk.specs.Private.Stored.{StoredUnit, scope_entry, scope_places, stored_of}
-use Rattle.dwarf_entries.proofs.ScopePasses.ScopeLaws.{kept_in, unit_at}
+use Rattle.dwarf_entries.proofs.ScopePasses.ScopeLaws.{stored_in, unit_at}
 use Rattle.dwarf_entries.proofs.ScopePasses.SiteLaws.{SiteAt}
 
 -- A unit of the program is one of the specified units.
-pub known-unit : (units : List UnitEntries) (bases : List Bases) (us : List CompilationUnit)
+pub unit-read : (units : List UnitEntries) (bases : List Bases) (us : List CompilationUnit)
     (unit : ℕ) → AreUnits units bases us → unit < length units
     → (u : CompilationUnit) × (slice_get us unit ≡ Some u)
-known-unit units bases us unit are within = by_case ((slice_get_cases us unit).1)
+unit-read units bases us unit are within = by_case ((slice_get_cases us unit).1)
   where
     by_case : ((x : CompilationUnit) × (unit < length us) × (slice_get us unit ≡ Some x)
         × (get_or us unit x ≡ x)) ⊎ ((length us ≤ unit) × (slice_get us unit ≡ None))
@@ -51,17 +51,17 @@ known-unit units bases us unit are within = by_case ((slice_get_cases us unit).1
     by_case (inl (x, inside, found, is)) = (x, found)
     by_case (inr (past, none)) =
         let sizes : length units ≡ length us = sym (length-map units stored_of)
-        ∙ (ap (λ (ks : List StoredUnit). length ks) are.same ∙ length-map us kept_in) in
+        ∙ (ap (λ (ks : List StoredUnit). length ks) are.same ∙ length-map us stored_in) in
         absurd (omega (arith, sizes, within, past))
 
-pub kept-there : (units : List UnitEntries) (bases : List Bases) (us : List CompilationUnit)
+pub stored-there : (units : List UnitEntries) (bases : List Bases) (us : List CompilationUnit)
     (unit : ℕ) (u : CompilationUnit) (d : UnitEntries) → AreUnits units bases us
     → slice_get us unit ≡ Some u → (get_or units unit d).scopes.items ≡ scope_places u.dies
-kept-there units bases us unit u d are found =
+stored-there units bases us unit u d are found =
     ap (λ (k : StoredUnit). k.scopes) ((unit_at units bases us unit u are found).entries_are d)
 
 -- The scopes of a unit before the index, after the scopes of the units before it.
-pub record JudgedSoFar (s : Sections) (us : List CompilationUnit) (u : CompilationUnit)
+pub record CheckedSoFar (s : Sections) (us : List CompilationUnit) (u : CompilationUnit)
     (before : List ParsedScope) (index : ℕ) (lists : ScopeLists) (left : ℕ) : Type 0 where
   pub parsed : List ParsedScope
   pub are_parsed : AreParsed (roots_from 0 us) parsed lists left
@@ -69,10 +69,11 @@ pub record JudgedSoFar (s : Sections) (us : List CompilationUnit) (u : Compilati
       (drop index (sites_in u u.dies)))
       ≡ made_front before (each_from (parse_scope s us) before (sites_in u u.dies))
 
-pub judged-none : (s : Sections) (us : List CompilationUnit) (u : CompilationUnit)
+pub checked-none : (s : Sections) (us : List CompilationUnit) (u : CompilationUnit)
     (before : List ParsedScope) (lists : ScopeLists) (left : ℕ)
-    → AreParsed (roots_from 0 us) before lists left → JudgedSoFar s us u before 0 lists left
-judged-none s us u before lists left are = record { parsed = before; are_parsed = are; read = refl }
+    → AreParsed (roots_from 0 us) before lists left → CheckedSoFar s us u before 0 lists left
+checked-none s us u before lists left are =
+    record { parsed = before; are_parsed = are; read = refl }
 
 -- A unit with a scope has entries.
 has_entries : (u : CompilationUnit) (dies : List Die) (index : ℕ) (p : ScopeSite)
@@ -83,15 +84,15 @@ has_entries u [] (suc index) p ps h = cc
 has_entries u (die ∷ rest) index p ps h = (die, rest, refl)
 
 -- The list has as many scopes as were resolved.
-judged-count : (roots : List Root) (parsed : List ParsedScope) (lists : ScopeLists) (left : ℕ)
+checked-count : (roots : List Root) (parsed : List ParsedScope) (lists : ScopeLists) (left : ℕ)
     → AreParsed roots parsed lists left → length lists.scopes.items ≡ length parsed
-judged-count roots parsed lists left are =
+checked-count roots parsed lists left are =
     sym (scopes-length roots lists.wide.items lists.ranges.items 0 lists.scopes.items)
     ∙ (ap (λ (ss : List Scope). length ss) are.described ∙ length-map parsed (λ j. j.scope))
 
 -- The facts about the scope at an index: its site, the header of its unit, and the declarations of
 -- its table.
-pub record PlaceKnown (s : Sections) (u : CompilationUnit) (index : ℕ) (stored : ScopePlace)
+pub record PlaceChecked (s : Sections) (u : CompilationUnit) (index : ℕ) (stored : ScopePlace)
     (header : UnitHeader) : Type 0 where
   pub site : SiteAt u index stored
   pub same : header ≡ u.header
@@ -101,7 +102,7 @@ pub record PlaceKnown (s : Sections) (u : CompilationUnit) (index : ℕ) (stored
 
 -- The scope can be re-read from the stored data of its unit.
 pub entry-there : (s : Sections) (u : CompilationUnit) (index : ℕ) (stored : ScopePlace)
-    (header : UnitHeader) (known : PlaceKnown s u index stored header)
+    (header : UnitHeader) (known : PlaceChecked s u index stored header)
     → scope_entry_at header.format known.read.table (bytes_in s header) stored.offset
     ≡ Ok (scope_entry known.site.place.member.die known.site.place.kind)
 entry-there s u index stored header known =
@@ -116,16 +117,16 @@ entry-there s u index stored header known =
 pub is-place : (s : Sections) (us : List CompilationUnit) (u : CompilationUnit)
     (before : List ParsedScope) (numbers : ScopeNumbers) (index : ℕ) (lists : ScopeLists) (left : ℕ)
     (stored : ScopePlace) (header : UnitHeader) (entry : ScopeEntry)
-    → (so_far : JudgedSoFar s us u before index lists left)
+    → (so_far : CheckedSoFar s us u before index lists left)
     → slice_get us numbers.unit ≡ Some u → IsRootOf us numbers.root u
-    → (known : PlaceKnown s u index stored header) → numbers.number ≡ length lists.scopes.items
+    → (known : PlaceChecked s u index stored header) → numbers.number ≡ length lists.scopes.items
     → numbers.inside ≡ stored.inside
     → scope_entry_at header.format known.read.table (bytes_in s header) stored.offset ≡ Ok entry
     → IsScopeSite us numbers entry left so_far.parsed known.site.place
 is-place s us u before numbers index lists left stored header entry so_far found rooted known
     number_is descendants_are again =
     let p = known.site in
-    let sizes = judged-count (roots_from 0 us) so_far.parsed lists left so_far.are_parsed in
+    let sizes = checked-count (roots_from 0 us) so_far.parsed lists left so_far.are_parsed in
     let dies = has_entries u u.dies index p.place (drop (index + 1) (sites_in u u.dies)) p.rest in
     record {
       unit_is = found ∙ ap (λ (v : CompilationUnit). Some v) (sym p.stands.unit_is);
@@ -138,16 +139,16 @@ is-place s us u before numbers index lists left stored header entry so_far found
       budget_is = omega (arith, so_far.are_parsed.counted);
     }
 
-pub judged-next : (s : Sections) (us : List CompilationUnit) (u : CompilationUnit)
+pub checked-next : (s : Sections) (us : List CompilationUnit) (u : CompilationUnit)
     (before : List ParsedScope) (index : ℕ) (lists mid new : ScopeLists) (left after : ℕ)
     (stored : ScopePlace) (items : ℕ) (facts : ScopeFacts)
-    → (so_far : JudgedSoFar s us u before index lists left) (p : SiteAt u index stored)
+    → (so_far : CheckedSoFar s us u before index lists left) (p : SiteAt u index stored)
     → AddsFacts (roots_from 0 us) (Ok (facts, items)) lists.ranges.items mid.ranges.items
     (scope_at s us so_far.parsed p.place)
     → mid.scopes.items ≡ lists.scopes.items → mid.wide.items ≡ lists.wide.items
     → IsPushed facts mid new → after + items ≡ left
-    → JudgedSoFar s us u before (index + 1) new after
-judged-next s us u before index lists mid new left after stored items facts so_far p
+    → CheckedSoFar s us u before (index + 1) new after
+checked-next s us u before index lists mid new left after stored items facts so_far p
     (found, read, grown) scopes_stay wide_stays is counted =
     let parsed = so_far.parsed in
     let places = sites_in u u.dies in

@@ -62,9 +62,9 @@ pub record IsPlaceIn (u : CompilationUnit) (dies : List Die) (p : ScopeSite) : T
   pub there : slice_get dies index ≡ Some p.member.die
 
 -- The same, with more entries before.
-place-behind : (u : CompilationUnit) (die : Die) (dies : List Die) (p : ScopeSite)
+place-after : (u : CompilationUnit) (die : Die) (dies : List Die) (p : ScopeSite)
     → IsPlaceIn u dies p → IsPlaceIn u (die ∷ dies) p
-place-behind u die dies p is = record {
+place-after u die dies p is = record {
   unit_is = is.unit_is;
   kind_is = is.kind_is;
   index =
@@ -76,7 +76,7 @@ sites-each : (u : CompilationUnit) (dies : List Die) (i : ℕ) (d : ScopeSite)
     → i < length (sites_in u dies) → IsPlaceIn u dies (get_or (sites_in u dies) i d)
 sites-each u [] i d within = absurd (omega (arith, within))
 sites-each u (die ∷ rest) i d within = by_kind (kind_of die.tag) refl i within
-    (λ (j : ℕ) (inside : j < length (sites_in u rest)). place-behind u die rest
+    (λ (j : ℕ) (inside : j < length (sites_in u rest)). place-after u die rest
     (get_or (sites_in u rest) j d) (sites-each u rest j d inside))
   where
     by_kind : (kind : Option ScopeKind) → kind_of die.tag ≡ kind → (i : ℕ)

@@ -16,7 +16,7 @@ use Rattle.dwarf_entries.specs.declared.scope.Range.{Range}
 use Rattle.dwarf_entries.specs.declared.scope.Scope.{Scope as StoredScope}
 use Rattle.dwarf_entries.specs.declared.scope_lists.ScopeLists.{ScopeLists}
 use Rattle.dwarf_entries.specs.Private.Shared.{AreConsecutive}
-use Rattle.dwarf_entries.proofs.RootPasses.RootNumbers.{RootsFrom, units-from, rooted, roots_behind}
+use Rattle.dwarf_entries.proofs.RootPasses.RootNumbers.{RootsFrom, units-from, rooted, roots_after}
 use Rattle.dwarf_walk.specs.Sections.{Sections}
 use Rattle.dwarf_entries.specs.Bases.{CompilationUnit}
 use Rattle.dwarf_entries.specs.Scopes.{ParsedScope, ScopeSite, Scope, items_limit, sites_in}
@@ -25,8 +25,8 @@ use Rattle.dwarf_entries.specs.Private.Passes.{AreUnits, IsRootOf, parse_scope, 
 use Rattle.dwarf_entries.specs.Private.Passes.{AddsScopes, all_sites, all_scopes}
 use Rattle.dwarf_bytes.proofs.Items.EachPlaces.{each-append}
 use Rattle.dwarf_walk.specs.Private.Stored.{StoredUnit, root_in, stored_of}
-use Rattle.dwarf_entries.proofs.ScopePasses.ScopeLaws.{kept_in, unit_at}
-use Rattle.dwarf_entries.proofs.ScopePasses.ScopesPass.{known-unit}
+use Rattle.dwarf_entries.proofs.ScopePasses.ScopeLaws.{stored_in, unit_at}
+use Rattle.dwarf_entries.proofs.ScopePasses.ScopesPass.{unit-read}
 
 -- ---- the loop over the units
 
@@ -99,7 +99,7 @@ pub scopes-next : (s : Sections) (units : List UnitEntries) (bases : List Bases)
     → AddsScopes (Ok tt) s us (sites_in u u.dies) before lists after)
     → ScopesSoFar s us (index + 1) next lists after
 scopes-next s units bases us index root next d old lists left after are within so_far next_is adds =
-    let u = known-unit units bases us index are within in
+    let u = unit-read units bases us index are within in
     let parsed = so_far.parsed in
     let added = adds u.0 parsed u.1 (rooted us u.0 index root so_far.roots u.1) so_far.are_parsed in
     let root_is : (get_or units index d).root ≡ root_in u.0.dies =
@@ -107,7 +107,7 @@ scopes-next s units bases us index root next d old lists left after are within s
     record {
       parsed = parsed ++ added.0;
       are_parsed = added.2;
-      roots = roots_behind us u.0 index root next so_far.roots u.1
+      roots = roots_after us u.0 index root next so_far.roots u.1
           (next_is ∙ ap (λ (r : Option RootEntry). root + cond (is_some r) 1 0) root_is);
       read = sym (stretch s us parsed added.0 (sites_in u.0 u.0.dies)
           (all_sites (drop (index + 1) us)) added.1)
@@ -125,7 +125,7 @@ pub scopes-fault : (s : Sections) (units : List UnitEntries) (bases : List Bases
     → AddsScopes (Err fault) s us (sites_in u u.dies) before lists after)
     → (fault ≡ memory_fault) ⊎ (in_section names.DebugInfo (all_scopes s us) ≡ Err fault)
 scopes-fault s units bases us index root old lists left after fault are within so_far adds =
-    let u = known-unit units bases us index are within in
+    let u = unit-read units bases us index are within in
     by_fault u.0 u.1 (adds u.0 so_far.parsed u.1 (rooted us u.0 index root so_far.roots u.1)
     so_far.are_parsed)
   where
@@ -169,7 +169,7 @@ pub scopes_end : (s : Sections) (units : List UnitEntries) (bases : List Bases)
 scopes_end s units bases us index root lists left are past so_far =
     let parsed = so_far.parsed in
     let sizes : length units ≡ length us = sym (length-map units stored_of)
-    ∙ (ap (λ (ks : List StoredUnit). length ks) are.same ∙ length-map us kept_in) in
+    ∙ (ap (λ (ks : List StoredUnit). length ks) are.same ∙ length-map us stored_in) in
     let none : drop index us ≡ [] = drop_all index us (omega (arith, sizes, past)) in
     let all : each (parse_scope s us) (all_sites us) ≡ Ok parsed =
     sym so_far.read ∙ (ap (λ (vs : List CompilationUnit). made_front parsed

@@ -66,11 +66,11 @@ record StoredScope (units : List UnitEntries) (headers : List UnitHeader) (dies 
   pub header_is : unit.header ≡ header
   pub root_is : unit.root ≡ root_in unit_dies
 
-kept-at : (units : List UnitEntries) (headers : List UnitHeader) (dies : List (List Die))
+stored-at : (units : List UnitEntries) (headers : List UnitHeader) (dies : List (List Die))
     (index : ℕ) (unit : UnitEntries) → map stored_of units ≡ stored_units headers dies
     → index < length units → unit ≡ get_or units index unit → StoredScope units headers dies
     index unit
-kept-at units headers dies index unit same within is =
+stored-at units headers dies index unit same within is =
     let e : UnitHeader × List Die = (unit.header, []) in
     let p : UnitHeader × List Die = get_or (zip headers dies) index e in
     let f : UnitHeader × List Die → StoredUnit = λ p. stored_unit p.0 p.1 in
@@ -107,7 +107,7 @@ pub bases-next : (s : Sections) (units : List UnitEntries) (headers : List UnitH
     → in_section names.DebugInfo (bases_in s unit.header.format unit.root) ≡ Ok bases
     → BasesSoFar s headers dies (index + 1) (all ++ bases ∷ [])
 bases-next s units headers dies index unit all bases same within is so_far read =
-    let stored = kept-at units headers dies index unit same within is in
+    let stored = stored-at units headers dies index unit same within is in
     let whole : CompilationUnit = with_bases stored.header stored.unit_dies bases in
     let described = in_section-ok names.DebugInfo (bases_in s unit.header.format unit.root)
     bases read in
@@ -159,7 +159,7 @@ bases-fault s units headers dies index unit all fault same within here_is so_far
         → in_section names.DebugInfo (all_bases s headers dies) ≡ Err fault
     by_read (Ok x) is h = cc
     by_read (Err e) is h =
-        let stored = kept-at units headers dies index unit same within here_is in
+        let stored = stored-at units headers dies index unit same within here_is in
         let here : unit_of s stored.header stored.unit_dies ≡ Err e =
         read-at s units headers dies index unit stored
         ∙ ap (λ (r : Result Bases At). r

@@ -18,7 +18,7 @@ use Rattle.dwarf_units.specs.Entries.{LocatedNode, Die, is_root, depth_after, no
 use Rattle.dwarf_units.specs.Entries.{node_at, die_of, entries_of}
 use Rattle.dwarf_units.proofs.UnitLaws.{header_in-places, unit_at-moves}
 use Rattle.dwarf_units.proofs.NodeLaws.{node_at-facts}
-use Rattle.dwarf_units.proofs.EntryOrder.{listed-in}
+use Rattle.dwarf_units.proofs.EntryOrder.{list-in}
 use Rattle.dwarf_entries.specs.TreeLaws.{AreContiguous, FillsUnit}
 use Rattle.dwarf_entries.proofs.UnitPasses.OrderLaws.{HeadersInOrder, headers-in-order}
 
@@ -36,14 +36,15 @@ unit-start info at header h =
     after-test (nat_lt (length info) (len.1 + len.0.1)) causes.Short _ header h1 P (λ _ h2.
     (header_in-places at len.0.0 (take (len.1 + len.0.1) info) len.1 header h2).0))
 
-listed : (info : List ℕ) (before : List UnitHeader) (at : ℕ) (headers : List UnitHeader) (after : ℕ)
+list-contiguous : (info : List ℕ) (before : List UnitHeader) (at : ℕ) (headers : List UnitHeader)
+    (after : ℕ)
     → Lists (header_at info) before at headers after → at ≤ length info
     → AreContiguous info at headers
-listed info before at [] after h le =
+list-contiguous info before at [] after h le =
     chosen (nat_le (length info) at) _ _ (Ok (End after)) h (at ≡ length info)
     (λ past _. let ge = ge-from at (length info) past in omega (arith, le, ge)) (λ _ h1.
     after-bind (unit_at info at) _ (End after) h1 (at ≡ length info) (λ _ _ last. cc))
-listed info before at (header ∷ headers) after h le =
+list-contiguous info before at (header ∷ headers) after h le =
     let P : Type 0 = AreContiguous info at (header ∷ headers) in
     chosen (nat_le (length info) at) _ _ (Ok (Item header h.0)) h.1 P (λ _ is. cc) (λ _ h1.
     after-bind (unit_at info at) _ (Item header h.0) h1 P (λ found found_is last.
@@ -52,7 +53,7 @@ listed info before at (header ∷ headers) after h le =
     subst (λ (u : UnitHeader). unit_at info at ≡ Ok u) same.0 found_is in
     let moves = unit_at-moves info at header read in
     let place : h.0 ≡ header.end = sym same.1 ∙ ap (λ (u : UnitHeader). u.end) same.0 in
-    let rest = listed info (before ++ header ∷ []) h.0 headers after h.2
+    let rest = list-contiguous info (before ++ header ∷ []) h.0 headers after h.2
     (omega (arith, place, moves.1)) in (
       read,
       unit-start info at header read,
@@ -61,14 +62,14 @@ listed info before at (header ∷ headers) after h le =
           place rest,
     )))
 
-pub units-listed : (info : List ℕ) (headers : List UnitHeader) → headers_of info ≡ Ok headers
+pub units-contiguous : (info : List ℕ) (headers : List UnitHeader) → headers_of info ≡ Ok headers
     → AreContiguous info 0 headers
 unfolding headers_of
-units-listed info headers h =
+units-contiguous info headers h =
     after-bind (items_from (length info) (header_at info) [] 0) (λ all. Ok all.0) headers h
     (AreContiguous info 0 headers) (λ all all_is last.
     subst (AreContiguous info 0) (same-ok all.0 headers last)
-    (listed info [] 0 all.0 all.1 (Lists-within _ (header_at info) [] 0 all.0 all.1 all_is)
+    (list-contiguous info [] 0 all.0 all.1 (Lists-within _ (header_at info) [] 0 all.0 all.1 all_is)
     (omega arith)))
 
 -- ---- the nodes of a unit
@@ -97,17 +98,17 @@ all-within from size [] h = All-nil (Within size)
 all-within from size (header ∷ headers) h =
     All-cons (Within size) header headers (h.2, h.3) (all-within header.end size headers h.4)
 
-pub entries-listed : (info : List ℕ) (headers : List UnitHeader) (header : UnitHeader)
+pub entries-contiguous : (info : List ℕ) (headers : List UnitHeader) (header : UnitHeader)
     (table : List Declaration) (dies : List Die) → units_of info ≡ Ok headers
     → Contains headers header → entries_of info header table ≡ Ok dies
     → (all : List LocatedNode) × FillsUnit info header table all × (filter_map die_of all ≡ dies)
-entries-listed info headers header table dies read inside h =
+entries-contiguous info headers header table dies read inside h =
     let places = All-contains (Within (length info)) headers header
     (all-within 0 (length info) headers (headers-in-order info headers read)) inside in
     let unit : List ℕ = take header.end info in
     let size : length unit ≡ header.end = let taken = length-take header.end info in
     omega (arith, taken, places.1) in
-    listed-in info header table dies ((all : List LocatedNode) × FillsUnit info header table all
+    list-in info header table dies ((all : List LocatedNode) × FillsUnit info header table all
     × (filter_map die_of all ≡ dies)) h (λ all after stand same.
     let end_is : after ≡ header.end = filled header.format table unit [] header.first all after
     stand (omega (arith, size, places.0)) ∙ size in (

@@ -20,7 +20,7 @@ use Rattle.dwarf_entries.specs.Private.EntryOffsets.{AreInOrder, IsBitmapOf}
 use Rattle.dwarf_walk.specs.Private.EntryBitmap.{has_entry}
 use Rattle.dwarf_walk.specs.declared.entry_bitmap.EntryBitmap.{EntryBitmap}
 use Rattle.dwarf_entries.specs.Private.Members.{AreStoredAs, IsWithin, LeadsTo, Finds, member_in}
-use Rattle.dwarf_entries.proofs.OriginChains.ReferenceLaws.{within-le, find-map, stands_at}
+use Rattle.dwarf_entries.proofs.OriginChains.ReferenceLaws.{within-le, find-map, is_at_offset}
 use Rattle.dwarf_entries.proofs.OriginChains.ReferenceLaws.{member_of, none-outside, none-before}
 use Rattle.dwarf_entries.proofs.OriginChains.ReferenceLaws.{unit-at}
 
@@ -42,23 +42,24 @@ start-from from (v ∷ units) h (suc n) u is =
 in-own : (from : ℕ) (units : List CompilationUnit) (offset : ℕ) → AreInOrder from units
     → (n : ℕ) (u : CompilationUnit) → slice_get units n ≡ Some u → u.header.start ≤ offset
     → offset < u.header.end
-    → find (stands_at offset) (members_of units) ≡ find (stands_at offset) (members_of (u ∷ []))
+    → find (is_at_offset offset) (members_of units)
+    ≡ find (is_at_offset offset) (members_of (u ∷ []))
 in-own from [] offset h n u is low high = cc
 in-own from (v ∷ units) offset h zero u is low high =
     let same : v ≡ u = same_Some v u is in
     let past : offset < v.header.end = subst (λ (w : CompilationUnit). offset < w.header.end)
     (sym same) high in
     let there = none-before v.header.end units offset h.2 past in
-    let own : find (stands_at offset) (members_of (v ∷ units))
-    ≡ find (stands_at offset) (members_of (v ∷ [])) =
-    find-append (stands_at offset) (map (member_of v) v.dies) (members_of units)
-    ∙ (rw there (sym (find-append (stands_at offset) (map (member_of v) v.dies) []))) in
-    own ∙ ap (λ (w : CompilationUnit). find (stands_at offset) (members_of (w ∷ []))) same
+    let own : find (is_at_offset offset) (members_of (v ∷ units))
+    ≡ find (is_at_offset offset) (members_of (v ∷ [])) =
+    find-append (is_at_offset offset) (map (member_of v) v.dies) (members_of units)
+    ∙ (rw there (sym (find-append (is_at_offset offset) (map (member_of v) v.dies) []))) in
+    own ∙ ap (λ (w : CompilationUnit). find (is_at_offset offset) (members_of (w ∷ []))) same
 in-own from (v ∷ units) offset h (suc n) u is low high =
     let later = start-from v.header.end units h.2 n u is in
     let over : v.header.end ≤ offset = omega (arith, later, low) in
     let here = none-outside v v.header.start v.header.end v.dies offset h.1 (inr over) in
-    find-append (stands_at offset) (map (member_of v) v.dies) (members_of units)
+    find-append (is_at_offset offset) (map (member_of v) v.dies) (members_of units)
     ∙ (rw here (in-own v.header.end units offset h.2 n u is low high))
 
 any-find : {X : Type 0} (p : X → Bool) (xs : List X) → list_any p xs ≡ is_some (find p xs)
@@ -88,8 +89,8 @@ member-is : (units : List CompilationUnit) (n offset : ℕ) (u : CompilationUnit
     → member_in units n offset ≡ ok_or (option_map (member_of u)
     (find (λ d. d.offset == offset) u.dies)) causes.Reference
 member-is units n offset u is =
-    let all = ap (λ (ms : List Member). find (stands_at offset) ms)
-    (append-nil (map (member_of u) u.dies)) ∙ find-map (stands_at offset) (member_of u)
+    let all = ap (λ (ms : List Member). find (is_at_offset offset) ms)
+    (append-nil (map (member_of u) u.dies)) ∙ find-map (is_at_offset offset) (member_of u)
     u.dies in
     ap (λ (o : Option CompilationUnit). member_at (members_of (option_to_list o)) offset) is
     ∙ ap (λ (o : Option Member). ok_or o causes.Reference) all
@@ -107,7 +108,7 @@ outside stored units are n offset k lt is out =
     subst (λ (h : UnitHeader). (offset < h.start) ⊎ (h.end ≤ offset)) at.header out in
     let none = none-outside u u.header.start u.header.end u.dies offset at.within outside in
     ap (λ (o : Option CompilationUnit). member_at (members_of (option_to_list o)) offset) at.is
-    ∙ (ap (λ (ms : List Member). ok_or (find (stands_at offset) ms) causes.Reference)
+    ∙ (ap (λ (ms : List Member). ok_or (find (is_at_offset offset) ms) causes.Reference)
     (append-nil (map (member_of u) u.dies))
     ∙ ap (λ (o : Option Member). ok_or o causes.Reference) none)
 
@@ -149,10 +150,10 @@ finds-inside units order bitmap all place within marked marked_is =
     found_is =
         let own = in-own 0 units place.offset order place.unit u within.of_is within.low
         within.high in
-        let one = ap (λ (ms : List Member). find (stands_at place.offset) ms)
-        (append-nil (map (member_of u) u.dies)) ∙ find-map (stands_at place.offset)
+        let one = ap (λ (ms : List Member). find (is_at_offset place.offset) ms)
+        (append-nil (map (member_of u) u.dies)) ∙ find-map (is_at_offset place.offset)
         (member_of u) u.dies in
-        marked_is ∙ (all place.offset ∙ (any-find (stands_at place.offset) (members_of units)
+        marked_is ∙ (all place.offset ∙ (any-find (is_at_offset place.offset) (members_of units)
         ∙ ap (λ (o : Option Member). is_some o) (own ∙ one)))
 
     by_die : (die : Option Die) → find of_die u.dies ≡ die → (marked : Bool)

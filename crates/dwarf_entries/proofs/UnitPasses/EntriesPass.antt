@@ -35,7 +35,7 @@ pub record EntriesSoFar (info : List ℕ) (headers : List UnitHeader)
   pub made : List (List Die)
   pub len : length made ≡ index
   pub marked_so : AddsOffsets bitmap marked (all_offsets made)
-  pub kept_are : stored ≡ stored_units headers made
+  pub stored_are : stored ≡ stored_units headers made
   pub read : made_front made (each_from (entries_for info) made (drop index (zip headers tables)))
       ≡ all_entries info headers tables
 
@@ -43,9 +43,9 @@ no-front : {Y : Type 0} (r : Result (List Y) At) → made_front [] r ≡ r
 no-front (Ok x) = refl
 no-front (Err e) = refl
 
-kept_none : (headers : List UnitHeader) → [] ≡ stored_units headers []
-kept_none [] = refl
-kept_none (header ∷ headers) = refl
+stored_none : (headers : List UnitHeader) → [] ≡ stored_units headers []
+stored_none [] = refl
+stored_none (header ∷ headers) = refl
 
 pub entries-none : (info : List ℕ) (headers : List UnitHeader) (tables : List (List Declaration))
     (bitmap : EntryBitmap) → EntriesSoFar info headers tables bitmap bitmap 0 []
@@ -54,21 +54,22 @@ entries-none info headers tables bitmap =
       made = [];
       len = refl;
       marked_so = adds-none bitmap;
-      kept_are = kept_none headers;
+      stored_are = stored_none headers;
       read = no-front (all_entries info headers tables);
     }
 
 -- The data of one more unit is appended.
-kept_more : (headers : List UnitHeader) (made : List (List Die)) (d : UnitHeader) (dies : List Die)
+stored_more : (headers : List UnitHeader) (made : List (List Die)) (d : UnitHeader)
+    (dies : List Die)
     → length made < length headers
     → stored_units headers (made ++ dies ∷ []) ≡ stored_units headers made
     ++ stored_unit (get_or headers (length made) d) dies ∷ []
-kept_more [] made d dies within = absurd (omega (arith, within))
-kept_more (header ∷ []) [] d dies within = refl
-kept_more (header ∷ next ∷ headers) [] d dies within = refl
-kept_more (header ∷ headers) (first ∷ made) d dies within =
+stored_more [] made d dies within = absurd (omega (arith, within))
+stored_more (header ∷ []) [] d dies within = refl
+stored_more (header ∷ next ∷ headers) [] d dies within = refl
+stored_more (header ∷ headers) (first ∷ made) d dies within =
     ap (λ (us : List StoredUnit). stored_unit header first ∷ us)
-    (kept_more headers made d dies (omega (arith, within)))
+    (stored_more headers made d dies (omega (arith, within)))
 
 -- The offsets of the entries of one more unit are appended.
 offsets-more : (made : List (List Die)) (dies : List Die) → all_offsets made ++ offsets_of dies
@@ -129,14 +130,14 @@ entries-next info section headers tables bitmap marked after index stored d tabl
         ++ stored_unit header dies ∷ [] =
         subst (λ (k : ℕ). stored_units headers (made ++ dies ∷ []) ≡ stored_units headers made
         ++ stored_unit (get_or headers k d) dies ∷ []) so_far.len
-        (kept_more headers made d dies (omega (arith, so_far.len, within))) in
+        (stored_more headers made d dies (omega (arith, so_far.len, within))) in
         record {
           made = made ++ dies ∷ [];
           len = omega (arith, so_far.len, length-append made (dies ∷ []));
           marked_so = subst (λ (places : List ℕ). AddsOffsets bitmap after places)
               (offsets-more made dies) (adds-more bitmap marked after (all_offsets made)
               (offsets_of dies) so_far.marked_so (adds dies is));
-          kept_are = ap (λ (us : List StoredUnit). us ++ unit ∷ []) so_far.kept_are
+          stored_are = ap (λ (us : List StoredUnit). us ++ unit ∷ []) so_far.stored_are
               ∙ (ap (λ (u : StoredUnit). stored_units headers made ++ u ∷ []) (sym (same_unit h))
               ∙ sym more);
           read = sym (each-next (entries_for info) made (header, get_or tables index [])
@@ -168,4 +169,4 @@ pub entries-end : (info : List ℕ) (headers : List UnitHeader) (tables : List (
     → in_section names.DebugInfo (all_stored info headers tables) ≡ Ok stored
 entries-end info headers tables bitmap marked index stored so_far past =
     rw (entries-made info headers tables bitmap marked index stored so_far past)
-    (ap (λ (us : List StoredUnit). Ok us) (sym so_far.kept_are))
+    (ap (λ (us : List StoredUnit). Ok us) (sym so_far.stored_are))

@@ -131,11 +131,11 @@ header_at-places info before at x after h =
     subst (λ (u : UnitHeader). Places at (length info) u × (u.end ≡ after)) same.0
     (unit_at-places info at header is, same.1)))
 
-listed-in-order : (info : List ℕ) (before : List UnitHeader) (at : ℕ) (headers : List UnitHeader)
+list-in-order : (info : List ℕ) (before : List UnitHeader) (at : ℕ) (headers : List UnitHeader)
     (after : ℕ) → Lists (header_at info) before at headers after
     → HeadersInOrder at (length info) headers
-listed-in-order info before at [] after h = tt
-listed-in-order info before at (header ∷ headers) after h =
+list-in-order info before at [] after h = tt
+list-in-order info before at (header ∷ headers) after h =
     let here = header_at-places info before at header h.0 h.1 in
     let start_is : header.start ≡ at = here.0.0 in
     let first : at ≤ header.first = here.0.1 in (
@@ -144,7 +144,7 @@ listed-in-order info before at (header ∷ headers) after h =
       here.0.2,
       here.0.3,
       subst (λ (k : ℕ). HeadersInOrder k (length info) headers) (sym here.1)
-          (listed-in-order info (before ++ header ∷ []) h.0 headers after h.2),
+          (list-in-order info (before ++ header ∷ []) h.0 headers after h.2),
     )
 
 -- The lower bound may be decreased.
@@ -178,7 +178,7 @@ headers-in-order info headers h =
     after-bind (items_from (length info) (header_at info) [] 0 >>= λ all. Ok all.0) _ headers h P
     (λ all all_is h1.
     after-bind (items_from (length info) (header_at info) [] 0) _ all all_is P (λ read read_is last.
-    let listed = listed-in-order info [] 0 read.0 read.1
+    let listed = list-in-order info [] 0 read.0 read.1
     (Lists-within _ (header_at info) [] 0 read.0 read.1 read_is) in
     subst (λ (hs : List UnitHeader). HeadersInOrder 0 (length info) hs)
     (same-ok (filter is_read all) headers h1)

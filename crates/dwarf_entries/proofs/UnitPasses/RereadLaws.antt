@@ -27,21 +27,21 @@ use Rattle.dwarf_walk.specs.Private.Stored.{named_entry, scope_entry, scope_entr
 use Rattle.dwarf_walk.specs.Private.Rereading.{scope_entry_at}
 use Rattle.dwarf_entries.specs.Private.EntryOffsets.{IsReadIn}
 use Rattle.dwarf_walk.specs.Private.Named.{entry_with, used_at, named_entry_at}
-use Rattle.dwarf_walk.proofs.StoredNodes.{value-kept, die_of_kept, names_at-kept}
+use Rattle.dwarf_walk.proofs.StoredNodes.{value-stored, stored_die, names_at-stored}
 use Rattle.dwarf_walk.proofs.RereadLaws.{without_place, inside-is}
 
 -- ---- the used attributes
 
-scope-kept : (die : Die) (kind : ScopeKind) → scope_entry (die_of_kept die) kind
+scope-stored : (die : Die) (kind : ScopeKind) → scope_entry (stored_die die) kind
     ≡ scope_entry die kind
-scope-kept die kind =
+scope-stored die kind =
     rw (
-      names_at-kept die,
-      value-kept die.attributes DW_AT_LOW_PC refl,
-      value-kept die.attributes DW_AT_HIGH_PC refl,
-      value-kept die.attributes DW_AT_RANGES refl,
-      value-kept die.attributes DW_AT_CALL_FILE refl,
-      value-kept die.attributes DW_AT_CALL_LINE
+      names_at-stored die,
+      value-stored die.attributes DW_AT_LOW_PC refl,
+      value-stored die.attributes DW_AT_HIGH_PC refl,
+      value-stored die.attributes DW_AT_RANGES refl,
+      value-stored die.attributes DW_AT_CALL_FILE refl,
+      value-stored die.attributes DW_AT_CALL_LINE
           refl,
     ) refl
 
@@ -79,7 +79,7 @@ scope-there s u k die kind read there is =
     ap (λ (r : Result (ℕ × List Attribute) Cause). r
     >>= λ entry. ok_or (scope_entry_of (entry_with die.offset entry)) causes.Reference)
     (used-there s u k die read there)
-    ∙ (rw is (ap (λ (e : ScopeEntry). Ok e) (scope-kept die kind)))
+    ∙ (rw is (ap (λ (e : ScopeEntry). Ok e) (scope-stored die kind)))
 
 -- The names and the reference of an entry of a unit can be re-read.
 pub names_at-there : (s : Sections) (u : CompilationUnit) (k : ℕ) (die : Die)
@@ -91,7 +91,7 @@ names_at-there s u k die read there =
     ap (λ (r : Result (ℕ × List Attribute) Cause). r
     >>= λ entry. Ok (named_entry (entry_with die.offset entry)))
     (used-there s u k die read there)
-    ∙ ap (λ (e : NamedEntry). Ok e) (names_at-kept die)
+    ∙ ap (λ (e : NamedEntry). Ok e) (names_at-stored die)
 
 -- The same, given the stored header of its unit.
 pub names_at-at : (s : Sections) (u : CompilationUnit) (k : ℕ) (die : Die) (header : UnitHeader)

@@ -46,31 +46,31 @@ unit_of-parts s header (root ∷ dies) unit h =
     ))
 
 -- Each header has its table.
-abbrev TablesStand : List ℕ → List UnitHeader → List (List Declaration) → Type 0
-TablesStand section [] tables = Unit {0}
-TablesStand section (header ∷ headers) [] = Unit {0}
-TablesStand section (header ∷ headers) (table ∷ tables) =
+abbrev TablesParsed : List ℕ → List UnitHeader → List (List Declaration) → Type 0
+TablesParsed section [] tables = Unit {0}
+TablesParsed section (header ∷ headers) [] = Unit {0}
+TablesParsed section (header ∷ headers) (table ∷ tables) =
     (declarations_of declarations_limit section header.abbreviations ≡ Ok table)
-    × TablesStand section headers tables
+    × TablesParsed section headers tables
 
-tables-stand : (section : List ℕ) (before : List (List Declaration)) (headers : List UnitHeader)
+tables-parsed : (section : List ℕ) (before : List (List Declaration)) (headers : List UnitHeader)
     (tables : List (List Declaration)) → each_from (table_for section) before headers ≡ Ok tables
-    → TablesStand section headers tables
+    → TablesParsed section headers tables
 unfolding each_from
-tables-stand section before [] tables h = tt
-tables-stand section before (header ∷ headers) tables h =
-    let P : Type 0 = TablesStand section (header ∷ headers) tables in
+tables-parsed section before [] tables h = tt
+tables-parsed section before (header ∷ headers) tables h =
+    let P : Type 0 = TablesParsed section (header ∷ headers) tables in
     after-bind (table_for section before header) _ tables h P (λ table table_is h1.
     after-bind (each_from (table_for section) (before ++ table ∷ []) headers) _ tables h1 P
     (λ rest rest-is last.
     let budget : ℕ = declarations_limit - sum_by length before in
     let few : length table ≤ budget = table-few budget section header.abbreviations table
     table_is in
-    subst (λ (ts : List (List Declaration)). TablesStand section (header ∷ headers) ts)
+    subst (λ (ts : List (List Declaration)). TablesParsed section (header ∷ headers) ts)
     (same-ok (table ∷ rest) tables last) (
       table-again budget declarations_limit section header.abbreviations table table_is
           (omega (arith, few)),
-      tables-stand section (before ++ table ∷ []) headers rest rest-is,
+      tables-parsed section (before ++ table ∷ []) headers rest rest-is,
     )))
 
 -- The entries of each unit can be re-read.
@@ -109,7 +109,7 @@ no-units s from before units h = subst (λ (us : List CompilationUnit). AreInOrd
 in-order : (s : Sections) (size from : ℕ) (headers : List UnitHeader)
     (tables : List (List Declaration)) (before : List (List Die)) (dies : List (List Die))
     (front : List CompilationUnit) (units : List CompilationUnit)
-    → HeadersInOrder from size headers → TablesStand s.debug_abbrev headers tables
+    → HeadersInOrder from size headers → TablesParsed s.debug_abbrev headers tables
     → each_from (entries_for s.debug_info) before (zip headers tables) ≡ Ok dies
     → each_from (unit_for s) front (zip headers dies) ≡ Ok units → Ordered s from headers dies units
 unfolding each_from
@@ -185,4 +185,4 @@ unfolding tables_of
 units-in-order s headers tables dies units read tables_are entries made =
     in-order s (length s.debug_info) 0 headers tables [] dies [] units
     (headers-in-order s.debug_info headers read)
-    (tables-stand s.debug_abbrev [] headers tables tables_are) entries made
+    (tables-parsed s.debug_abbrev [] headers tables tables_are) entries made

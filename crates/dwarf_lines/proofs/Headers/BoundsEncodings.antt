@@ -12,15 +12,15 @@ use Rattle.dwarf_bytes.specs.Items.{reading}
 use Rattle.dwarf_bytes.specs.Numbers.{IsFixed, IsInitialLength, little_endian, u8_at, u16_at}
 use Rattle.dwarf_bytes.specs.Numbers.{offset_at, offset_len, initial_length_at}
 use Rattle.dwarf_bytes.proofs.Numbers.Advance.{after-bind, after-test, reading-ok}
-use Rattle.dwarf_bytes.proofs.Numbers.LengthLaws.{initial-stands, initial-again}
+use Rattle.dwarf_bytes.proofs.Numbers.LengthLaws.{initial-encoded, initial-again}
 use Rattle.dwarf_lines.specs.declared.program_bounds.ProgramBounds.{ProgramBounds}
 use Rattle.dwarf_lines.specs.Headers.{within, bounds_at}
 use Rattle.dwarf_lines.proofs.Headers.BoundsLaws.{ok-is, within-is}
-use Rattle.dwarf_lines.proofs.Lists.Spans.{Stretch, stretch, stretch-of, stands-of, join, first_of}
-use Rattle.dwarf_lines.proofs.Lists.Spans.{rest-of, two-bytes, fixed-stands, fixed-again}
-use Rattle.dwarf_lines.proofs.Lists.Spans.{byte-stands, byte-again}
-use Rattle.dwarf_lines.proofs.Headers.PathEncodings.{offset-stands, offset-again}
-use Rattle.dwarf_lines.proofs.Headers.ParameterEncodings.{asked-for, inside}
+use Rattle.dwarf_lines.proofs.Lists.Spans.{Stretch, stretch, stretch-of, encoded-of, join, first_of}
+use Rattle.dwarf_lines.proofs.Lists.Spans.{rest-of, two-bytes, fixed-encoded, fixed-again}
+use Rattle.dwarf_lines.proofs.Lists.Spans.{byte-encoded, byte-again}
+use Rattle.dwarf_lines.proofs.Headers.PathEncodings.{offset-encoded, offset-again}
+use Rattle.dwarf_lines.proofs.Headers.ParameterEncodings.{asked-for, front-within}
 
 -- ---- bytes truncated at an end
 
@@ -42,7 +42,7 @@ pub uncut : (n : ℕ) (bytes : List ℕ) (at : ℕ) (front : List ℕ) (next : �
     → Stretch bytes at front next
 uncut n bytes at front next some there =
     let starts : at ≤ length (take n bytes) =
-    omega (arith, there.next_is, inside (take n bytes) at front next some there) in
+    omega (arith, there.next_is, front-within (take n bytes) at front next some there) in
     let parts : drop at bytes ≡ front ++ (drop next (take n bytes) ++ drop n bytes) =
     ap (drop at) (sym (take-append-drop n bytes))
     ∙ (drop-append-le at (take n bytes) (drop n bytes) starts
@@ -89,10 +89,10 @@ is-version block size value =
     let high : two.1 ≡ 0 = omega (arith, sum) in
     two.2 ∙ (ap (λ (n : ℕ). n ∷ two.1 ∷ []) low ∙ ap (λ (n : ℕ). 5 ∷ n ∷ []) high)
 
-pub bounds-stand : (line : List ℕ) (place : ℕ) (b : ProgramBounds) → bounds_at line place ≡ Ok b
+pub bounds-encoded : (line : List ℕ) (place : ℕ) (b : ProgramBounds) → bounds_at line place ≡ Ok b
     → AreEncoded line place b
 unfolding bounds_at
-bounds-stand line place b h =
+bounds-encoded line place b h =
     let P : Type 0 = AreEncoded line place b in
     after-bind (reading (initial_length_at line place)) _ b h P (λ unit unit_is h1.
     after-bind (within line (unit.1 + unit.0.1)) _ b h1 P (λ past past_is h2.
@@ -105,21 +105,21 @@ bounds-stand line place b h =
     after-bind (reading (offset_at unit.0.0 (take past line) segment.1)) _ b h8 P (λ len len_is h9.
     after-bind (within (take past line) (len.1 + len.0)) _ b h9 P (λ first first_is h10.
     let all = take past line in
-    let u = initial-stands line place unit
+    let u = initial-encoded line place unit
     (reading-ok (initial_length_at line place) unit unit_is) in
     let ended = within-is line (unit.1 + unit.0.1) past past_is in
     let began = within-is all (len.1 + len.0) first first_is in
-    let block = fixed-stands 2 all unit.1 version
+    let block = fixed-encoded 2 all unit.1 version
     (reading-ok (u16_at all unit.1) version version_is) in
     let v = subst (λ (front : List ℕ). Stretch all unit.1 front version.1)
     (is-version block.0 block.2 (sym block.3 ∙ asked-for version.0 5 five)) block.1 in
     let a = subst (λ (n : ℕ). Stretch all version.1 (n ∷ []) address.1)
-    (asked-for address.0 8 eight) (byte-stands all version.1 address
+    (asked-for address.0 8 eight) (byte-encoded all version.1 address
     (reading-ok (u8_at all version.1) address address-is)) in
     let g = subst (λ (n : ℕ). Stretch all address.1 (n ∷ []) segment.1)
-    (asked-for segment.0 0 zero_is) (byte-stands all address.1 segment
+    (asked-for segment.0 0 zero_is) (byte-encoded all address.1 segment
     (reading-ok (u8_at all address.1) segment segment_is)) in
-    let l = offset-stands unit.0.0 all segment.1 len.0 len.1
+    let l = offset-encoded unit.0.0 all segment.1 len.0 len.1
     (reading-ok (offset_at unit.0.0 all segment.1) len len_is) in
     let gl = join all address.1 (0 ∷ []) segment.1 l.front len.1 g
     (stretch-of (IsFixed (offset_len unit.0.0)) all segment.1 len.0 len.1 l) in
@@ -152,9 +152,9 @@ bounds-stand line place b h =
 within-again : (bytes : List ℕ) (place found : ℕ) → found ≡ place → found ≤ length bytes
     → within bytes place ≡ Ok found
 within-again bytes place found is le =
-    let inside : nat_le place (length bytes) ≡ true =
+    let front-within : nat_le place (length bytes) ≡ true =
     fits place (length bytes) (omega (arith, is, le)) in
-    rw inside (ap (λ (n : ℕ). Ok n) (sym is))
+    rw front-within (ap (λ (n : ℕ). Ok n) (sym is))
   where
     fits : (m n : ℕ) → m ≤ n → nat_le m n ≡ true
     fits m n h = grind (arith, nat_tests)
@@ -167,7 +167,7 @@ bounds-again line place b t =
     let head = cut b.past line t.mid (5 ∷ 0 ∷ 8 ∷ 0 ∷ t.header_length) b.fields
     (omega (arith, t.first_is, t.first)) t.head_there in
     let unit = initial-again b.format line place t.unit t.mid
-    (stands-of (IsInitialLength b.format) line place t.unit t.mid t.unit_length t.length_there
+    (encoded-of (IsInitialLength b.format) line place t.unit t.mid t.unit_length t.length_there
     t.unit_is) in
     let past = within-again line (t.mid + t.unit) b.past t.past_is t.past in
     let behind_version = rest-of all t.mid (5 ∷ 0 ∷ []) (8 ∷ 0 ∷ t.header_length) b.fields head in
@@ -183,7 +183,7 @@ bounds-again line place b t =
     let segment = byte-again all (t.mid + 2 + 1) 0 (t.mid + 2 + 1 + 1)
     (first_of all (t.mid + 2 + 1) (0 ∷ []) t.header_length b.fields behind_address) in
     let len = offset-again b.format all (t.mid + 2 + 1 + 1) t.counted b.fields
-    (stands-of (IsFixed (offset_len b.format)) all (t.mid + 2 + 1 + 1) t.counted b.fields
+    (encoded-of (IsFixed (offset_len b.format)) all (t.mid + 2 + 1 + 1) t.counted b.fields
     t.header_length behind_segment t.counted_is) in
     let first = within-again all (b.fields + t.counted) b.first t.first_is
     (omega (arith, t.first, t.past, length-take b.past line)) in

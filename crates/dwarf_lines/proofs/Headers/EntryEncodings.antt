@@ -20,10 +20,10 @@ use Rattle.dwarf_lines.specs.Entries.{field_at, fields_at, no_entry, has_directo
 use Rattle.dwarf_lines.specs.HeaderEncodings.{EncodesEach, EncodesPart, path, directory, other}
 use Rattle.dwarf_lines.specs.HeaderEncodings.{EncodesEntry}
 use Rattle.dwarf_lines.proofs.Headers.BoundsLaws.{ok-is}
-use Rattle.dwarf_lines.proofs.Lists.Spans.{Stretch, stretch-of, stands-of, none-at, join, first_of}
+use Rattle.dwarf_lines.proofs.Lists.Spans.{Stretch, stretch-of, encoded-of, none-at, join, first_of}
 use Rattle.dwarf_lines.proofs.Lists.Spans.{rest-of}
 use Rattle.dwarf_lines.proofs.Headers.ParameterEncodings.{passed}
-use Rattle.dwarf_lines.proofs.Headers.FieldEncodings.{part_stands, part_again}
+use Rattle.dwarf_lines.proofs.Headers.FieldEncodings.{part_encoded, part_again}
 
 -- ---- the number of fields of a content type
 
@@ -71,9 +71,9 @@ abbrev IsGood : EntryTable → List Field → Type 0
 IsGood table fields = (count_by is_path fields ≡ 1) × (count_by (is_index table) fields ≤ 1)
     × (list_all (has_valid_form table) fields ≡ true)
 
-good-format : (table : EntryTable) (fields : List Field) → is_format table fields ≡ true
+format-valid : (table : EntryTable) (fields : List Field) → is_format table fields ≡ true
     → IsGood table fields
-good-format table fields h = format-tests (count_by is_path fields)
+format-valid table fields h = format-tests (count_by is_path fields)
     (count_by (is_index table) fields) (list_all (has_valid_form table) fields) h
 
 module _ (s : LineSections) (format : Format) (table : EntryTable) (bytes : List ℕ) where
@@ -99,28 +99,28 @@ module _ (s : LineSections) (format : Format) (table : EntryTable) (bytes : List
   Unsaid fields before entry = (count_by is_path fields ≡ 0 → entry.path ≡ before.path)
       × (count_by (is_index table) fields ≡ 0 → entry.directory ≡ before.directory)
 
-  fields_stand : (fields : List Field) (before : Entry) (at : ℕ) (entry : Entry) (next : ℕ)
+  fields_encoded : (fields : List Field) (before : Entry) (at : ℕ) (entry : Entry) (next : ℕ)
       → count_by is_path fields ≤ 1
       → count_by (is_index table) fields ≤ 1 → list_all (has_valid_form table) fields ≡ true
       → fields_at s format table fields before bytes at ≡ Ok (entry, next)
       → Parts entry at fields next × Unsaid fields before entry
   unfolding fields_at
-  fields_stand [] before at entry next one_path one_index valid h =
+  fields_encoded [] before at entry next one_path one_index valid h =
       subst (λ (p : Entry × ℕ). Parts p.0 at [] p.1 × Unsaid [] before p.0)
       (ok-is {E = Cause} (before, at) (entry, next) h) (
-        stands-of (EncodesEach (EncodesPart s format table before) at) bytes at [] at []
+        encoded-of (EncodesEach (EncodesPart s format table before) at) bytes at [] at []
             (none-at bytes at) refl,
         ((λ none. refl), (λ none. refl)),
       )
-  fields_stand (field ∷ fields) before at entry next one_path one_index valid h =
+  fields_encoded (field ∷ fields) before at entry next one_path one_index valid h =
       after-bind (field_at s format table field before bytes at) _ (entry, next) h
       (Parts entry at (field ∷ fields) next × Unsaid (field ∷ fields) before entry)
       (λ after after_is h1.
       let forms = and_parts (has_valid_form table field) (list_all (has_valid_form table) fields)
       valid in
-      let here = part_stands s format bytes at table field before after.0 after.1 forms.0
+      let here = part_encoded s format bytes at table field before after.0 after.1 forms.0
       after_is in
-      let others = fields_stand fields after.0 after.1 entry next
+      let others = fields_encoded fields after.0 after.1 entry next
       (fewer_behind is_path field fields one_path)
       (fewer_behind (is_index table) field fields one_index) forms.1 h1 in
       let first = same_part after.0 entry at here.0.front field
@@ -133,7 +133,8 @@ module _ (s : LineSections) (format : Format) (table : EntryTable) (bytes : List
       next others.0) in
       let last = subst (λ (n : ℕ). EncodesEach (EncodesPart s format table entry) n others.0.front
       fields) here.0.next_is others.0.encoded in (
-        stands-of (EncodesEach (EncodesPart s format table entry) at) bytes at (field ∷ fields) next
+        encoded-of (EncodesEach (EncodesPart s format table entry) at) bytes at (field ∷ fields)
+            next
             (here.0.front ++ others.0.front) both (here.0.front, others.0.front, refl, first, last),
         (
           (λ none. others.1.0 (none_after is_path field fields none)
@@ -170,23 +171,24 @@ module _ (s : LineSections) (format : Format) (table : EntryTable) (bytes : List
 
   -- ---- entries
 
-  pub entry_stands : (fields : List Field) → is_format table fields ≡ true
+  pub entry_encoded : (fields : List Field) → is_format table fields ≡ true
       → (at : ℕ) (entry : Entry) (next : ℕ)
       → entry_at s format table fields bytes at ≡ Ok (entry, next)
       → IsEncodedAt (EncodesEntry s format table fields at) bytes at entry next
   unfolding entry_at
-  entry_stands fields valid at entry next h =
+  entry_encoded fields valid at entry next h =
       after-bind (fields_at s format table fields no_entry bytes at) _ (entry, next) h
       (IsEncodedAt (EncodesEntry s format table fields at) bytes at entry next) (λ read read_is h1.
       after-test (not (has_directory table read.0)) causes.DirIndex _ (entry, next) h1
       (IsEncodedAt (EncodesEntry s format table fields at) bytes at entry next) (λ known h2.
-      let parts = good-format table fields valid in
-      let a = fields_stand fields no_entry at read.0 read.1 (omega (arith, parts.0)) parts.1 parts.2
+      let parts = format-valid table fields valid in
+      let a = fields_encoded fields no_entry at read.0 read.1 (omega (arith, parts.0)) parts.1
+      parts.2
       read_is in
       subst (λ (p : Entry × ℕ). IsEncodedAt (EncodesEntry s format table fields at) bytes
       at p.0 p.1)
       (ok-is {E = Cause} read (entry, next) h2)
-      (stands-of (EncodesEntry s format table fields at) bytes at read.0 read.1 a.0.front
+      (encoded-of (EncodesEntry s format table fields at) bytes at read.0 read.1 a.0.front
       (stretch-of (EncodesEach (EncodesPart s format table read.0) at) bytes at fields read.1 a.0)
       (record {
         parts = a.0.encoded;
@@ -201,7 +203,7 @@ module _ (s : LineSections) (format : Format) (table : EntryTable) (bytes : List
       → entry_at s format table fields bytes at ≡ Ok (entry, next)
   unfolding entry_at
   entry_again fields valid at entry next h =
-      let parts = good-format table fields valid in
+      let parts = format-valid table fields valid in
       let read = fields_again entry fields no_entry at h.front next
       (stretch-of (EncodesEntry s format table fields at) bytes at entry next h) h.encoded.parts
       (λ none. absurd (omega (arith, parts.0, none))) (λ none. sym (h.encoded.default_directory

@@ -12,7 +12,7 @@ use Rattle.dwarf_bytes.specs.Items.{reading}
 use Rattle.dwarf_bytes.specs.Numbers.{IsEncodedAt}
 use Rattle.dwarf_bytes.specs.Contents.{Content, EncodesContent, content_at}
 use Rattle.dwarf_bytes.proofs.Numbers.Advance.{after-bind, chosen, reading-ok}
-use Rattle.dwarf_bytes.proofs.Contents.ContentLaws.{content-stands}
+use Rattle.dwarf_bytes.proofs.Contents.ContentLaws.{content-encoded}
 use Rattle.dwarf_bytes.proofs.Contents.ContentEncodings.{content-again}
 use Rattle.dwarf_lines.specs.declared.formats.Field.{Field}
 use Rattle.dwarf_lines.specs.declared.formats.EntryTable.{EntryTable}
@@ -26,8 +26,8 @@ use Rattle.dwarf_lines.specs.HeaderEncodings.{EncodesPath, EncodesIndex, Encodes
 use Rattle.dwarf_lines.specs.HeaderEncodings.{directory, other}
 use Rattle.dwarf_lines.proofs.Headers.BoundsLaws.{ok-is}
 use Rattle.dwarf_lines.proofs.Instructions.OperandEncodings.{eqb-eq}
-use Rattle.dwarf_lines.proofs.Headers.PathEncodings.{spelled-as, path_stands, path_again}
-use Rattle.dwarf_lines.proofs.Headers.PathEncodings.{index_stands, index_again}
+use Rattle.dwarf_lines.proofs.Headers.PathEncodings.{encoded-as, path_encoded, path_again}
+use Rattle.dwarf_lines.proofs.Headers.PathEncodings.{index_encoded, index_again}
 
 module _ (s : LineSections) (format : Format) (bytes : List ℕ) (at : ℕ) where
   -- ---- fields
@@ -38,11 +38,11 @@ module _ (s : LineSections) (format : Format) (bytes : List ℕ) (at : ℕ) wher
     KeptBy field before after = (is_path field ≡ false → after.path ≡ before.path)
         × (is_index table field ≡ false → after.directory ≡ before.directory)
 
-    value-stands : (field : Field) (entry : Entry) (next : ℕ) → is_path field ≡ false
+    value-encoded : (field : Field) (entry : Entry) (next : ℕ) → is_path field ≡ false
         → is_index table field ≡ false
         → after_value format field.form bytes at ≡ Ok next
         → IsEncodedAt (EncodesPart s format table entry at) bytes at field next
-    value-stands field entry next not_path not_index h = by (layout_of field.form) refl h
+    value-encoded field entry next not_path not_index h = by (layout_of field.form) refl h
       where
         by : (layout : Option ValueLayout) → layout_of field.form ≡ layout
             → option_map_or (λ layout. reading (content_at layout format bytes at)
@@ -53,11 +53,11 @@ module _ (s : LineSections) (format : Format) (bytes : List ℕ) (at : ℕ) wher
             after-bind (reading (content_at layout format bytes at)) _ next h
             (IsEncodedAt (EncodesPart s format table entry at) bytes at field next)
             (λ content content_is h1.
-            let a = content-stands layout format bytes at content.0 content.1
+            let a = content-encoded layout format bytes at content.0 content.1
             (reading-ok (content_at layout format bytes at) content content_is) in
             subst (λ (n : ℕ). IsEncodedAt (EncodesPart s format table entry at) bytes at field n)
             (ok-is {E = Cause} content.1 next h1)
-            (spelled-as (EncodesContent layout format) (EncodesPart s format table entry at) bytes
+            (encoded-as (EncodesContent layout format) (EncodesPart s format table entry at) bytes
             at
             content.0 field content.1
             (λ front there. other layout content.0 not_path not_index is there) a))
@@ -86,25 +86,25 @@ module _ (s : LineSections) (format : Format) (bytes : List ℕ) (at : ℕ) wher
     second_form false true x y z h not_a is = h
     second_form false false x y z h not_a is = absurd cc
 
-    pub part_stands : (field : Field) (before after : Entry) (next : ℕ)
+    pub part_encoded : (field : Field) (before after : Entry) (next : ℕ)
         → has_valid_form table field ≡ true
         → field_at s format table field before bytes at ≡ Ok (after, next)
         → IsEncodedAt (EncodesPart s format table after at) bytes at field next
         × KeptBy field before after
     unfolding field_at
-    part_stands field before after next valid h =
+    part_encoded field before after next valid h =
         let P : Type 0 = IsEncodedAt (EncodesPart s format table after at) bytes at field next
         × KeptBy field before after in
         chosen (is_path field) _ _ (Ok (after, next)) h P
         (λ is h1. after-bind (path_at s format field.form bytes at) _ (after, next) h1 P
         (λ text text_is h2.
         let it : Entry = record before { path = text.0 } in
-        let a = path_stands s format bytes at field.form text.0 text.1
+        let a = path_encoded s format bytes at field.form text.0 text.1
         (first_form (is_path field) (is_index table field) (is_text_form field.form)
         (is_index_form field.form) (is_some (layout_of field.form)) valid is) text_is in
         subst (λ (p : Entry × ℕ). IsEncodedAt (EncodesPart s format table p.0 at) bytes at field p.1
         × KeptBy field before p.0) (ok-is {E = Cause} (it, text.1) (after, next) h2) (
-          spelled-as (EncodesPath s format at field.form) (EncodesPart s format table it at) bytes
+          encoded-as (EncodesPath s format at field.form) (EncodesPart s format table it at) bytes
               at
               text.0 field text.1 (λ front there. path is there) a,
           ((λ test. absurd cc), (λ test. refl)),
@@ -113,13 +113,13 @@ module _ (s : LineSections) (format : Format) (bytes : List ℕ) (at : ℕ) wher
         (λ is h2. after-bind (index_at field.form bytes at) _ (after, next) h2 P
         (λ index index_is h3.
         let it : Entry = record before { directory = index.0 } in
-        let a = index_stands s format bytes at field.form index.0 index.1
+        let a = index_encoded s format bytes at field.form index.0 index.1
         (second_form (is_path field) (is_index table field) (is_text_form field.form)
         (is_index_form field.form) (is_some (layout_of field.form)) valid not_path is)
         index_is in
         subst (λ (p : Entry × ℕ). IsEncodedAt (EncodesPart s format table p.0 at) bytes at field p.1
         × KeptBy field before p.0) (ok-is {E = Cause} (it, index.1) (after, next) h3) (
-          spelled-as (EncodesIndex field.form) (EncodesPart s format table it at) bytes at index.0
+          encoded-as (EncodesIndex field.form) (EncodesPart s format table it at) bytes at index.0
               field index.1 (λ front there. directory is there) a,
           ((λ test. refl), (λ test. absurd cc)),
         )))
@@ -127,7 +127,7 @@ module _ (s : LineSections) (format : Format) (bytes : List ℕ) (at : ℕ) wher
         (λ last last_is h3.
         subst (λ (p : Entry × ℕ). IsEncodedAt (EncodesPart s format table p.0 at) bytes at field p.1
         × KeptBy field before p.0) (ok-is {E = Cause} (before, last) (after, next) h3) (
-          value-stands field before last not_path not_index last_is,
+          value-encoded field before last not_path not_index last_is,
           ((λ test. refl), (λ test. refl)),
         ))))
 

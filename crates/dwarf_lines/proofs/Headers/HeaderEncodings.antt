@@ -11,9 +11,9 @@ use Rattle.dwarf_lines.specs.Instructions.{Encoding}
 use Rattle.dwarf_lines.specs.Entries.{table_at}
 use Rattle.dwarf_lines.specs.Headers.{LineHeader, encoding_at}
 use Rattle.dwarf_lines.specs.HeaderEncodings.{EncodesTable, EncodesParameters, EncodesFields}
-use Rattle.dwarf_lines.proofs.Lists.Spans.{Stretch, stretch-of, stands-of, join, first_of, rest-of}
+use Rattle.dwarf_lines.proofs.Lists.Spans.{Stretch, stretch-of, encoded-of, join, first_of, rest-of}
 use Rattle.dwarf_lines.proofs.Headers.TableEncodings.{table-again}
-use Rattle.dwarf_lines.proofs.Headers.ParameterEncodings.{inside, encoding_again}
+use Rattle.dwarf_lines.proofs.Headers.ParameterEncodings.{front-within, encoding_again}
 use Rattle.dwarf_lines.proofs.Headers.BoundsEncodings.{cut, uncut, between}
 
 -- each part has at least one byte
@@ -27,7 +27,7 @@ some-table s format table place bytes entries is = omega (arith, ap length is.wh
 
 module _ (s : LineSections) (format : Format) (start : ℕ) (header : LineHeader) where
   -- the encoding parameters, the tables and the unread bytes fill the header
-  pub fields_stand : (e d f : ℕ) → header.first ≤ length s.line
+  pub fields_encoded : (e d f : ℕ) → header.first ≤ length s.line
       → IsEncodedAt EncodesParameters (take header.first s.line) start header.encoding e
       → IsEncodedAt (EncodesTable s format Directories e) (take header.first s.line) e
       header.directories d
@@ -35,7 +35,7 @@ module _ (s : LineSections) (format : Format) (start : ℕ) (header : LineHeader
       (take header.first s.line) d header.files f
       → (fields : List ℕ) × Stretch s.line start fields header.first
       × EncodesFields s format start fields header
-  fields_stand e d f le encoding directories files =
+  fields_encoded e d f le encoding directories files =
       let line = s.line in
       let all = take header.first line in
       let last = stretch-of (EncodesTable s format (Files (length header.directories)) d) all d
@@ -51,7 +51,8 @@ module _ (s : LineSections) (format : Format) (start : ℕ) (header : LineHeader
       header.directories d directories) in
       let c = uncut header.first line d files.front f some last in
       let unread = between line f header.first
-      (omega (arith, inside all d files.front f some last, length-take header.first line)) le in
+      (omega (arith, front-within all d files.front f some last, length-take header.first line)) le
+      in
       let cu = join line d files.front f unread.0 header.first c unread.1 in
       let bcu = join line e directories.front d (files.front ++ unread.0) header.first b cu in
       let abcu = join line start encoding.front e (directories.front ++ (files.front ++ unread.0))
@@ -100,7 +101,7 @@ module _ (s : LineSections) (format : Format) (start : ℕ) (fields : List ℕ) 
   encoding_is =
       let all = take header.first s.line in
       encoding_again all start header.encoding (start + length t.encoding)
-      (stands-of EncodesParameters all start header.encoding (start + length t.encoding) t.encoding
+      (encoded-of EncodesParameters all start header.encoding (start + length t.encoding) t.encoding
       (first_of all start t.encoding (t.directories ++ (t.files ++ t.unread)) header.first
       whole_there) t.encoding_is)
 
@@ -114,7 +115,7 @@ module _ (s : LineSections) (format : Format) (start : ℕ) (fields : List ℕ) 
       let all = take header.first s.line in
       let at = start + length t.encoding in
       table-again s format Directories all at header.directories (at + length t.directories)
-      (stands-of (EncodesTable s format Directories at) all at header.directories
+      (encoded-of (EncodesTable s format Directories at) all at header.directories
       (at + length t.directories) t.directories
       (first_of all at t.directories (t.files ++ t.unread) header.first behind_encoding)
       t.directories_are)
@@ -127,5 +128,5 @@ module _ (s : LineSections) (format : Format) (start : ℕ) (fields : List ℕ) 
       let table = Files (length header.directories) in
       let at = start + length t.encoding + length t.directories in
       table-again s format table all at header.files (at + length t.files)
-      (stands-of (EncodesTable s format table at) all at header.files (at + length t.files) t.files
+      (encoded-of (EncodesTable s format table at) all at header.files (at + length t.files) t.files
       (first_of all at t.files t.unread header.first behind_directories) t.files_are)

@@ -11,22 +11,22 @@ use Rattle.dwarf_lines.specs.Entries.{table_at}
 use Rattle.dwarf_lines.specs.Headers.{LineHeader, bounds_at, encoding_at, header_at}
 use Rattle.dwarf_lines.specs.HeaderEncodings.{EncodesFields, EncodesHeader}
 use Rattle.dwarf_lines.proofs.Headers.BoundsLaws.{ok-is}
-use Rattle.dwarf_lines.proofs.Lists.Spans.{Stretch, stretch-of, stands-of, join, first_of, rest-of}
-use Rattle.dwarf_lines.proofs.Headers.TableEncodings.{table_stands}
-use Rattle.dwarf_lines.proofs.Headers.ParameterEncodings.{inside, encoding_stands}
-use Rattle.dwarf_lines.proofs.Headers.BoundsEncodings.{between, AreEncoded, bounds-stand}
+use Rattle.dwarf_lines.proofs.Lists.Spans.{Stretch, stretch-of, encoded-of, join, first_of, rest-of}
+use Rattle.dwarf_lines.proofs.Headers.TableEncodings.{table_encoded}
+use Rattle.dwarf_lines.proofs.Headers.ParameterEncodings.{front-within, encoding-encoded}
+use Rattle.dwarf_lines.proofs.Headers.BoundsEncodings.{between, AreEncoded, bounds-encoded}
 use Rattle.dwarf_lines.proofs.Headers.BoundsEncodings.{bounds-again}
-use Rattle.dwarf_lines.proofs.Headers.HeaderEncodings.{fields_stand, encoding_is, directories_are}
+use Rattle.dwarf_lines.proofs.Headers.HeaderEncodings.{fields_encoded, encoding_is, directories_are}
 use Rattle.dwarf_lines.proofs.Headers.HeaderEncodings.{files_are}
 
 module _ (s : LineSections) (place : ℕ) where
   -- a program, composed of its bounds and its fields
-  program-stands : (b : ProgramBounds) (header : LineHeader) → header.first ≡ b.first
+  program-encoded : (b : ProgramBounds) (header : LineHeader) → header.first ≡ b.first
       → header.past ≡ b.past → AreEncoded s.line place b
       → (fields : List ℕ) → Stretch s.line b.fields fields b.first
       → EncodesFields s b.format b.fields fields header
       → IsEncodedAt (EncodesHeader s place) s.line place header header.past
-  program-stands b header first_is past_is t fields there fields_are =
+  program-encoded b header first_is past_is t fields there fields_are =
       let line = s.line in
       let head : List ℕ = 5 ∷ 0 ∷ 8 ∷ 0 ∷ t.header_length in
       let instructions = between line b.first b.past t.first t.past in
@@ -40,7 +40,7 @@ module _ (s : LineSections) (place : ℕ) where
       let counted_is : t.counted ≡ length fields = omega (arith, t.first_is, there.next_is) in
       let start : b.fields ≡ place + length t.unit_length + 4 + length t.header_length =
       omega (arith, t.length_there.next_is, t.head_there.next_is) in
-      stands-of (EncodesHeader s place) line place header header.past
+      encoded-of (EncodesHeader s place) line place header header.past
       (t.unit_length ++ (head ++ (fields ++ instructions.0)))
       (subst (λ (n : ℕ). Stretch line place
       (t.unit_length ++ (head ++ (fields ++ instructions.0))) n) (sym past_is) all)
@@ -61,10 +61,10 @@ module _ (s : LineSections) (place : ℕ) where
         past_is = past_is ∙ all.next_is;
       })
 
-  pub header_stands : (header : LineHeader) → header_at s place ≡ Ok header
+  pub header_encoded : (header : LineHeader) → header_at s place ≡ Ok header
       → IsEncodedAt (EncodesHeader s place) s.line place header header.past
   unfolding header_at
-  header_stands header h =
+  header_encoded header h =
       let P : Type 0 = IsEncodedAt (EncodesHeader s place) s.line place header header.past in
       after-bind (bounds_at s.line place) _ header h P (λ bounds bounds_is h1.
       after-bind (encoding_at (take bounds.first s.line) bounds.fields) _ header h1 P
@@ -74,7 +74,7 @@ module _ (s : LineSections) (place : ℕ) where
       after-bind (table_at s bounds.format (Files (length directories.0)) (take bounds.first s.line)
       directories.1) _ header h3 P (λ files files_is h4.
       let all = take bounds.first s.line in
-      let t = bounds-stand s.line place bounds bounds_is in
+      let t = bounds-encoded s.line place bounds bounds_is in
       let it : LineHeader = record {
         encoding = encoding.0;
         directories = directories.0;
@@ -83,16 +83,17 @@ module _ (s : LineSections) (place : ℕ) where
         first = bounds.first;
         past = bounds.past;
       } in
-      let fields = fields_stand s bounds.format bounds.fields it encoding.1 directories.1 files.1
+      let fields = fields_encoded s bounds.format bounds.fields it encoding.1 directories.1 files.1
       (omega (arith, t.first, t.past))
-      (encoding_stands all bounds.fields encoding.0 encoding.1 encoding_is)
-      (table_stands s bounds.format Directories all encoding.1 directories.0 directories.1
+      (encoding-encoded all bounds.fields encoding.0 encoding.1 encoding_is)
+      (table_encoded s bounds.format Directories all encoding.1 directories.0 directories.1
       directories_is)
-      (table_stands s bounds.format (Files (length directories.0)) all directories.1 files.0 files.1
+      (table_encoded s bounds.format (Files (length directories.0)) all directories.1 files.0
+      files.1
       files_is) in
       subst (λ (h : LineHeader). IsEncodedAt (EncodesHeader s place) s.line place h h.past)
       (ok-is {E = Cause} it header h4)
-      (program-stands bounds it refl refl t fields.0 fields.1 fields.2)))))
+      (program-encoded bounds it refl refl t fields.0 fields.1 fields.2)))))
 
   pub header_again : (header : LineHeader)
       → IsEncodedAt (EncodesHeader s place) s.line place header header.past
@@ -137,7 +138,7 @@ module _ (s : LineSections) (place : ℕ) where
           body.next_is,
           length-append t.fields t.instructions,
         );
-        past = inside line mid (head ++ (t.fields ++ t.instructions)) past (omega arith) unit;
+        past = front-within line mid (head ++ (t.fields ++ t.instructions)) past (omega arith) unit;
       }) in
       rw (
         bounds_is,

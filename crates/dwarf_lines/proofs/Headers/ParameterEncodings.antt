@@ -14,8 +14,8 @@ use Rattle.dwarf_lines.specs.Headers.{are_standard, lengths_at, signed_byte, enc
 use Rattle.dwarf_lines.specs.HeaderEncodings.{EncodesParameters}
 use Rattle.dwarf_lines.proofs.Headers.BoundsLaws.{ok-is}
 use Rattle.dwarf_lines.proofs.Instructions.OperandEncodings.{eqb-eq, differs, is-not}
-use Rattle.dwarf_lines.proofs.Lists.Spans.{Stretch, stretch-of, stands-of, join, first_of, rest-of}
-use Rattle.dwarf_lines.proofs.Lists.Spans.{block-stands, byte-stands, byte-again}
+use Rattle.dwarf_lines.proofs.Lists.Spans.{Stretch, stretch-of, encoded-of, join, first_of, rest-of}
+use Rattle.dwarf_lines.proofs.Lists.Spans.{block-encoded, byte-encoded, byte-again}
 
 -- a test that did not refuse
 pub passed : (b : Bool) → not b ≡ false → b ≡ true
@@ -27,9 +27,9 @@ pub asked-for : (a b : ℕ) → not (a == b) ≡ false → a ≡ b
 asked-for a b h = eqb-eq a b (passed (a == b) h)
 
 -- a nonempty range ends within the bytes
-pub inside : (bytes : List ℕ) (at : ℕ) (front : List ℕ) (next : ℕ) → 0 < length front
+pub front-within : (bytes : List ℕ) (at : ℕ) (front : List ℕ) (next : ℕ) → 0 < length front
     → Stretch bytes at front next → next ≤ length bytes
-inside bytes at front next some there = omega (
+front-within bytes at front next some there = omega (
   arith,
   some,
   there.next_is,
@@ -39,14 +39,15 @@ inside bytes at front next some there = omega (
 )
 
 module _ (bytes : List ℕ) where
-  lengths_stand : (count at : ℕ) (read : List ℕ × ℕ) → lengths_at count bytes at ≡ Ok read
+  lengths_encoded : (count at : ℕ) (read : List ℕ × ℕ) → lengths_at count bytes at ≡ Ok read
       → Stretch bytes at read.0 read.1 × (length read.0 ≡ count) × (are_standard read.0 ≡ true)
   unfolding lengths_at
-  lengths_stand count at read h =
+  lengths_encoded count at read h =
       after-test (not (are_standard (take count (drop at bytes)))) causes.OpcodeLengths _ read h
       (Stretch bytes at read.0 read.1 × (length read.0 ≡ count) × (are_standard read.0 ≡ true))
       (λ test h1.
-      let block = block-stands count bytes at read (reading-ok (block_at count bytes at) read h1) in
+      let block = block-encoded count bytes at read (reading-ok (block_at count bytes at) read h1)
+      in
       let front : take count (drop at bytes) ≡ read.0 =
       ap (λ (n : ℕ). take n (drop at bytes)) (sym block.1)
       ∙ (ap (take (length read.0)) block.0.parts ∙ take-append_seam read.0 (drop read.1 bytes))
@@ -71,10 +72,10 @@ module _ (bytes : List ℕ) where
       ∙ ap (λ (n : ℕ). Ok (lengths, n)) (sym there.next_is)) in
       rw (front, standard, block) refl
 
-  pub encoding_stands : (at : ℕ) (e : Encoding) (next : ℕ) → encoding_at bytes at ≡ Ok (e, next)
+  pub encoding-encoded : (at : ℕ) (e : Encoding) (next : ℕ) → encoding_at bytes at ≡ Ok (e, next)
       → IsEncodedAt EncodesParameters bytes at e next
   unfolding encoding_at
-  encoding_stands at e next h =
+  encoding-encoded at e next h =
       let P : Type 0 = IsEncodedAt EncodesParameters bytes at e next in
       after-bind (reading (u8_at bytes at)) _ (e, next) h P (λ minimum minimum_is h1.
       after-bind (reading (u8_at bytes minimum.1)) _ (e, next) h1 P (λ operations operations_is h2.
@@ -87,16 +88,17 @@ module _ (bytes : List ℕ) where
       after-test (opcode_base.0 == 0) causes.LineParams _ (e, next) h8 P (λ any h9.
       after-bind (lengths_at (opcode_base.0 - 1) bytes opcode_base.1) _ (e, next) h9 P
       (λ lengths lengths_are h10.
-      let b0 = byte-stands bytes at minimum (reading-ok (u8_at bytes at) minimum minimum_is) in
-      let b1 = byte-stands bytes minimum.1 operations
+      let b0 = byte-encoded bytes at minimum (reading-ok (u8_at bytes at) minimum minimum_is) in
+      let b1 = byte-encoded bytes minimum.1 operations
       (reading-ok (u8_at bytes minimum.1) operations operations_is) in
-      let b2 = byte-stands bytes operations.1 is_stmt
+      let b2 = byte-encoded bytes operations.1 is_stmt
       (reading-ok (u8_at bytes operations.1) is_stmt is_stmt_is) in
-      let b3 = byte-stands bytes is_stmt.1 base (reading-ok (u8_at bytes is_stmt.1) base base_is) in
-      let b4 = byte-stands bytes base.1 range (reading-ok (u8_at bytes base.1) range range_is) in
-      let b5 = byte-stands bytes range.1 opcode_base
+      let b3 = byte-encoded bytes is_stmt.1 base (reading-ok (u8_at bytes is_stmt.1) base base_is)
+      in
+      let b4 = byte-encoded bytes base.1 range (reading-ok (u8_at bytes base.1) range range_is) in
+      let b5 = byte-encoded bytes range.1 opcode_base
       (reading-ok (u8_at bytes range.1) opcode_base opcode_base_is) in
-      let b6 = lengths_stand (opcode_base.0 - 1) opcode_base.1 lengths lengths_are in
+      let b6 = lengths_encoded (opcode_base.0 - 1) opcode_base.1 lengths lengths_are in
       let s5 = join bytes range.1 (opcode_base.0 ∷ []) opcode_base.1 lengths.0 lengths.1 b5 b6.0 in
       let s4 = join bytes base.1 (range.0 ∷ []) range.1 (opcode_base.0 ∷ lengths.0) lengths.1 b4
       s5 in
@@ -129,7 +131,7 @@ module _ (bytes : List ℕ) where
       } in
       subst (λ (p : Encoding × ℕ). IsEncodedAt EncodesParameters bytes at p.0 p.1)
       (ok-is {E = Cause} (it, lengths.1) (e, next) h10)
-      (stands-of EncodesParameters bytes at it lengths.1
+      (encoded-of EncodesParameters bytes at it lengths.1
       (minimum.0 ∷ operations.0 ∷ is_stmt.0 ∷ base.0 ∷ range.0 ∷ opcode_base.0 ∷ lengths.0) s0
       encoded)))))))))))
 
@@ -165,7 +167,7 @@ module _ (bytes : List ℕ) where
       let b5 = byte_first (at + 1 + 1 + 1 + 1 + 1) e.opcode_base e.opcode_lengths next b4.1 in
       let start : ℕ = at + 1 + 1 + 1 + 1 + 1 + 1 in
       let within : start ≤ length bytes =
-      inside bytes (at + 1 + 1 + 1 + 1 + 1) (e.opcode_base ∷ []) start (omega arith)
+      front-within bytes (at + 1 + 1 + 1 + 1 + 1) (e.opcode_base ∷ []) start (omega arith)
       (first_of bytes (at + 1 + 1 + 1 + 1 + 1) (e.opcode_base ∷ []) e.opcode_lengths next b4.1)
       in
       let lengths = lengths_again (e.opcode_base - 1) start e.opcode_lengths next within b5.1

@@ -19,9 +19,9 @@ use Rattle.dwarf_bytes.specs.Numbers.{IsFixed, IsText, IsUleb, IsEncodedAt, text
 use Rattle.dwarf_bytes.specs.Numbers.{text_at, fixed_at, u8_at, u16_at, uleb_at, offset_at}
 use Rattle.dwarf_bytes.specs.Numbers.{offset_len}
 use Rattle.dwarf_bytes.proofs.Numbers.Advance.{after-bind, chosen, reading-ok}
-use Rattle.dwarf_bytes.proofs.Numbers.LebEncodings.{uleb-stands, uleb-again}
-use Rattle.dwarf_bytes.proofs.Numbers.AtOffsets.{fixed-stands, fixed-again}
-use Rattle.dwarf_bytes.proofs.Strings.StringLaws.{text-stands, text-again}
+use Rattle.dwarf_bytes.proofs.Numbers.LebEncodings.{uleb-encoded, uleb-again}
+use Rattle.dwarf_bytes.proofs.Numbers.AtOffsets.{fixed-encoded, fixed-again}
+use Rattle.dwarf_bytes.proofs.Strings.StringLaws.{text-encoded, text-again}
 use Rattle.dwarf_lines.specs.declared.entries.PathText.{PathText}
 use Rattle.dwarf_lines.specs.Sections.{LineSections}
 use Rattle.dwarf_lines.specs.Formats.{is_text_form, is_index_form}
@@ -32,11 +32,11 @@ use Rattle.dwarf_lines.proofs.Headers.BoundsLaws.{ok-is}
 use Rattle.dwarf_lines.proofs.Instructions.OperandEncodings.{eqb-eq}
 
 -- converts between two encoding relations for the bytes at an offset
-pub spelled-as : {X Y : Type 0} (S : List ℕ → X → Type 0) (T : List ℕ → Y → Type 0) (bytes : List ℕ)
+pub encoded-as : {X Y : Type 0} (S : List ℕ → X → Type 0) (T : List ℕ → Y → Type 0) (bytes : List ℕ)
     (at : ℕ) (x : X) (y : Y) (next : ℕ)
     → ((front : List ℕ) → S front x → T front y) → IsEncodedAt S bytes at x next
     → IsEncodedAt T bytes at y next
-spelled-as S T bytes at x y next as_other s =
+encoded-as S T bytes at x y next as_other s =
     record {
       front = s.front;
       rest = s.rest;
@@ -66,11 +66,11 @@ number-again n bytes at value next some s =
       length-append s.front s.rest,
     )) s
 
-pub offset-stands : (format : Format) (bytes : List ℕ) (at value next : ℕ)
+pub offset-encoded : (format : Format) (bytes : List ℕ) (at value next : ℕ)
     → offset_at format bytes at ≡ Ok (value, next)
     → IsEncodedAt (IsFixed (offset_len format)) bytes at value next
-offset-stands Dwarf32 bytes at value next h = fixed-stands 4 bytes at value next h
-offset-stands Dwarf64 bytes at value next h = fixed-stands 8 bytes at value next h
+offset-encoded Dwarf32 bytes at value next h = fixed-encoded 4 bytes at value next h
+offset-encoded Dwarf64 bytes at value next h = fixed-encoded 8 bytes at value next h
 
 pub offset-again : (format : Format) (bytes : List ℕ) (at value next : ℕ)
     → IsEncodedAt (IsFixed (offset_len format)) bytes at value next
@@ -84,7 +84,7 @@ text_found : (texts : List ℕ) (offset : ℕ) (text : List ℕ) → text_at tex
 unfolding text_at cstr_at
 text_found texts offset text h = (
   offset + length text + 1,
-  text-stands texts offset text
+  text-encoded texts offset text
       (offset + length text + 1) (by (text_front (drop offset texts)) h),
 )
   where
@@ -112,35 +112,36 @@ text-there texts offset text past s = by (text_front (drop offset texts))
 module _ (s : LineSections) (format : Format) (bytes : List ℕ) (at : ℕ) where
   -- ---- paths
 
-  by_offset_stands : (section : Section) (texts : List ℕ) (form : ℕ) (text : PathText) (next : ℕ)
+  by_offset_encoded : (section : Section) (texts : List ℕ) (form : ℕ) (text : PathText) (next : ℕ)
       → ((front : List ℕ) (offset past : ℕ) (found : List ℕ)
       → IsFixed (offset_len format) front offset → IsEncodedAt IsText texts offset found past
       → EncodesPath s format at form front (text_from section offset found))
       → text_by_offset format section texts bytes at ≡ Ok (text, next)
       → IsEncodedAt (EncodesPath s format at form) bytes at text next
-  by_offset_stands section texts form text next make h =
+  by_offset_encoded section texts form text next make h =
       let P : Type 0 = IsEncodedAt (EncodesPath s format at form) bytes at text next in
       after-bind (reading (offset_at format bytes at)) _ (text, next) h P (λ offset offset_is h1.
       after-bind (reading (text_at texts offset.0)) _ (text, next) h1 P (λ found found_is h2.
-      let a = offset-stands format bytes at offset.0 offset.1
+      let a = offset-encoded format bytes at offset.0 offset.1
       (reading-ok (offset_at format bytes at) offset offset_is) in
       let there = text_found texts offset.0 found
       (reading-ok (text_at texts offset.0) found found_is) in
       subst (λ (p : PathText × ℕ). IsEncodedAt (EncodesPath s format at form) bytes at p.0 p.1)
       (ok-is {E = Cause} (text_from section offset.0 found, offset.1) (text, next) h2)
-      (spelled-as (IsFixed (offset_len format)) (EncodesPath s format at form) bytes at offset.0
+      (encoded-as (IsFixed (offset_len format)) (EncodesPath s format at form) bytes at offset.0
       (text_from section offset.0 found) offset.1
       (λ front is. make front offset.0 there.0 found is there.1) a)))
 
-  pub path_stands : (form : ℕ) (text : PathText) (next : ℕ) → is_text_form form ≡ true
+  pub path_encoded : (form : ℕ) (text : PathText) (next : ℕ) → is_text_form form ≡ true
       → path_at s format form bytes at ≡ Ok (text, next)
       → IsEncodedAt (EncodesPath s format at form) bytes at text next
-  path_stands form text next valid h =
+  path_encoded form text next valid h =
       let P : Type 0 = IsEncodedAt (EncodesPath s format at form) bytes at text next in
       chosen (form == DW_FORM_STRING) _ _ (Ok (text, next)) h P
       (λ is h1. after-bind (reading (cstr_at bytes at)) _ (text, next) h1 P (λ found found_is h2.
-      let a = text-stands bytes at found.0 found.1 (reading-ok (cstr_at bytes at) found found_is) in
-      let whole = spelled-as IsText (EncodesPath s format at DW_FORM_STRING) bytes at found.0
+      let a = text-encoded bytes at found.0 found.1 (reading-ok (cstr_at bytes at) found found_is)
+      in
+      let whole = encoded-as IsText (EncodesPath s format at DW_FORM_STRING) bytes at found.0
       (text_from sections.DebugLine at found.0) found.1 (λ front there. string found.0 there)
       a in
       rw (eqb-eq form DW_FORM_STRING is)
@@ -150,12 +151,12 @@ module _ (s : LineSections) (format : Format) (bytes : List ℕ) (at : ℕ) wher
       h2) whole)))
       (λ not8 h1. chosen (form == DW_FORM_STRP) _ _ (Ok (text, next)) h1 P
       (λ is h2. rw (eqb-eq form DW_FORM_STRP is)
-      (by_offset_stands sections.DebugStr s.str DW_FORM_STRP text next
+      (by_offset_encoded sections.DebugStr s.str DW_FORM_STRP text next
       (λ front offset past found is there. strp offset past found is there) h2))
       (λ not14 h2. rw (eqb-eq form DW_FORM_LINE_STRP
       (third (form == DW_FORM_STRING) (form == DW_FORM_STRP) (form == DW_FORM_LINE_STRP) valid
       not8 not14))
-      (by_offset_stands sections.DebugLineStr s.line_str DW_FORM_LINE_STRP text next
+      (by_offset_encoded sections.DebugLineStr s.line_str DW_FORM_LINE_STRP text next
       (λ front offset past found is there. line_strp offset past found is there) h2)))
 
   pub path_again : (form : ℕ) (front : List ℕ) (text : PathText) (next : ℕ) → (rest : List ℕ)
@@ -181,26 +182,26 @@ module _ (s : LineSections) (format : Format) (bytes : List ℕ) (at : ℕ) wher
 
   -- ---- directory indexes
 
-  pub index_stands : (form index next : ℕ) → is_index_form form ≡ true
+  pub index_encoded : (form index next : ℕ) → is_index_form form ≡ true
       → index_at form bytes at ≡ Ok (index, next)
       → IsEncodedAt (EncodesIndex form) bytes at index next
-  index_stands form index next valid h =
+  index_encoded form index next valid h =
       let P : Type 0 = IsEncodedAt (EncodesIndex form) bytes at index next in
       chosen (form == DW_FORM_DATA1) _ _ (Ok (index, next)) h P
       (λ is h1. rw (eqb-eq form DW_FORM_DATA1 is)
-      (spelled-as (IsFixed 1) (EncodesIndex DW_FORM_DATA1) bytes at index index next
-      (λ front there. data1 there) (fixed-stands 1 bytes at index next
+      (encoded-as (IsFixed 1) (EncodesIndex DW_FORM_DATA1) bytes at index index next
+      (λ front there. data1 there) (fixed-encoded 1 bytes at index next
       (reading-ok (u8_at bytes at) (index, next) h1))))
       (λ not11 h1. chosen (form == DW_FORM_DATA2) _ _ (Ok (index, next)) h1 P
       (λ is h2. rw (eqb-eq form DW_FORM_DATA2 is)
-      (spelled-as (IsFixed 2) (EncodesIndex DW_FORM_DATA2) bytes at index index next
-      (λ front there. data2 there) (fixed-stands 2 bytes at index next
+      (encoded-as (IsFixed 2) (EncodesIndex DW_FORM_DATA2) bytes at index index next
+      (λ front there. data2 there) (fixed-encoded 2 bytes at index next
       (reading-ok (u16_at bytes at) (index, next) h2))))
       (λ not5 h2. rw (eqb-eq form DW_FORM_UDATA
       (third (form == DW_FORM_DATA1) (form == DW_FORM_DATA2) (form == DW_FORM_UDATA) valid not11
       not5))
-      (spelled-as IsUleb (EncodesIndex DW_FORM_UDATA) bytes at index index next
-      (λ front there. udata there) (uleb-stands bytes at index next
+      (encoded-as IsUleb (EncodesIndex DW_FORM_UDATA) bytes at index index next
+      (λ front there. udata there) (uleb-encoded bytes at index next
       (reading-ok (uleb_at bytes at) (index, next) h2)))))
 
   pub index_again : (form : ℕ) (front : List ℕ) (index next : ℕ) → (rest : List ℕ)

@@ -14,7 +14,7 @@ use Rattle.dwarf_lines.specs.Instructions.{standard_at, instruction_at}
 use Rattle.dwarf_lines.specs.Encodings.{IsPassedOver, Encodes, copy, advance_pc, advance_line}
 use Rattle.dwarf_lines.specs.Encodings.{set_file, const_add_pc, fixed_advance_pc, passed_over}
 use Rattle.dwarf_lines.specs.Encodings.{special, end_sequence, set_address, other_extended}
-use Rattle.dwarf_lines.proofs.Lists.Spans.{Stretch, stretch-of, stands-of, first_of, rest-of}
+use Rattle.dwarf_lines.proofs.Lists.Spans.{Stretch, stretch-of, encoded-of, first_of, rest-of}
 use Rattle.dwarf_lines.proofs.Lists.Spans.{block-again, fixed-again, byte-again}
 use Rattle.dwarf_lines.proofs.Instructions.OperandEncodings.{is-not, ulebs-again}
 
@@ -56,7 +56,7 @@ module _ (e : Encoding) (bytes : List ℕ) (at : ℕ) where
       let place : ℕ = at + length {A = ℕ} (0 ∷ []) in
       let mid : ℕ = place + length length_bytes in
       let operand = uleb-again bytes place len mid
-      (stands-of IsUleb bytes place len mid length_bytes
+      (encoded-of IsUleb bytes place len mid length_bytes
       (first_of bytes place length_bytes body next behind) len_is) in
       let block = block-again bytes mid body next some
       (rest-of bytes place length_bytes body next behind) in
@@ -119,19 +119,19 @@ module _ (e : Encoding) (bytes : List ℕ) (at : ℕ) where
       let p = opcode_of 2 operand next there in
       let place : ℕ = at + length {A = ℕ} (2 ∷ []) in
       let value = uleb-again bytes place n next
-      (stands-of IsUleb bytes place n next operand p.1 is) in
+      (encoded-of IsUleb bytes place n next operand p.1 is) in
       standard_is 2 place p.0 known (λ h. omega (arith, h)) ∙ rw value refl
   again next front i some there (advance_line {operand = operand} z known is) =
       let p = opcode_of 3 operand next there in
       let place : ℕ = at + length {A = ℕ} (3 ∷ []) in
       let value = sleb-again bytes place z next
-      (stands-of IsSleb bytes place z next operand p.1 is) in
+      (encoded-of IsSleb bytes place z next operand p.1 is) in
       standard_is 3 place p.0 known (λ h. omega (arith, h)) ∙ rw value refl
   again next front i some there (set_file {operand = operand} n known is) =
       let p = opcode_of 4 operand next there in
       let place : ℕ = at + length {A = ℕ} (4 ∷ []) in
       let value = uleb-again bytes place n next
-      (stands-of IsUleb bytes place n next operand p.1 is) in
+      (encoded-of IsUleb bytes place n next operand p.1 is) in
       standard_is 4 place p.0 known (λ h. omega (arith, h)) ∙ rw value refl
   again next front i some there (const_add_pc known) =
       standard_is 8 next (byte-again bytes at 8 next there) known (λ h. omega (arith, h)) ∙ refl

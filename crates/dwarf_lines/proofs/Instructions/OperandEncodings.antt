@@ -6,11 +6,11 @@ use Rattle.dwarf_bytes.specs.declared.fault.Cause.{Cause}
 use Rattle.dwarf_bytes.specs.Items.{reading}
 use Rattle.dwarf_bytes.specs.Numbers.{IsUleb, uleb_at}
 use Rattle.dwarf_bytes.proofs.Numbers.Advance.{after-bind, reading-ok}
-use Rattle.dwarf_bytes.proofs.Numbers.LebEncodings.{uleb-stands, uleb-again}
+use Rattle.dwarf_bytes.proofs.Numbers.LebEncodings.{uleb-encoded, uleb-again}
 use Rattle.dwarf_lines.specs.Instructions.{after_ulebs}
 use Rattle.dwarf_lines.specs.Encodings.{AreUlebs, none, more}
 use Rattle.dwarf_lines.proofs.Headers.BoundsLaws.{ok-is}
-use Rattle.dwarf_lines.proofs.Lists.Spans.{Stretch, stretch-of, stands-of, none-at, join, first_of}
+use Rattle.dwarf_lines.proofs.Lists.Spans.{Stretch, stretch-of, encoded-of, none-at, join, first_of}
 use Rattle.dwarf_lines.proofs.Lists.Spans.{rest-of}
 
 pub eqb-eq : (a b : ℕ) → (a == b) ≡ true → a ≡ b
@@ -23,22 +23,23 @@ pub is-not : (a b : ℕ) → a ≢ b → (a == b) ≡ false
 is-not a b h = grind (arith, nat_tests)
 
 -- skipped operands
-pub ulebs-stand : (count : ℕ) (bytes : List ℕ) (at next : ℕ) → after_ulebs count bytes at ≡ Ok next
+pub ulebs-encoded : (count : ℕ) (bytes : List ℕ) (at next : ℕ) → after_ulebs count bytes at
+    ≡ Ok next
     → (operands : List ℕ) × AreUlebs count operands × Stretch bytes at operands next
 unfolding after_ulebs
-ulebs-stand zero bytes at next h = (
+ulebs-encoded zero bytes at next h = (
   [],
   none,
   subst (λ (n : ℕ). Stretch bytes at [] n)
       (ok-is {E = Cause} at next h) (none-at bytes at),
 )
-ulebs-stand (suc count) bytes at next h =
+ulebs-encoded (suc count) bytes at next h =
     after-bind (reading (uleb_at bytes at)) _ next h
     ((operands : List ℕ) × AreUlebs (suc count) operands × Stretch bytes at operands next)
     (λ operand operand_is h1.
-    let one = uleb-stands bytes at operand.0 operand.1
+    let one = uleb-encoded bytes at operand.0 operand.1
     (reading-ok (uleb_at bytes at) operand operand_is) in
-    let others = ulebs-stand count bytes operand.1 next h1 in (
+    let others = ulebs-encoded count bytes operand.1 next h1 in (
       one.front ++ others.0,
       more one.front operand.0 one.encoded others.1,
       join bytes at one.front operand.1 others.0 next
@@ -55,7 +56,7 @@ ulebs-again zero (_ ∷ _) bytes at next impossible h = elim impossible [ ]
 ulebs-again (suc count) all bytes at next (more {operands = operands} operand value is others) h =
     let mid = at + length operand in
     let here = uleb-again bytes at value mid
-    (stands-of IsUleb bytes at value mid operand (first_of bytes at operand operands next h) is)
+    (encoded-of IsUleb bytes at value mid operand (first_of bytes at operand operands next h) is)
     in
     rw here (ulebs-again count operands bytes mid next others
     (rest-of bytes at operand operands next h))

@@ -13,8 +13,8 @@ use Rattle.dwarf_lines.specs.Encodings.{Encodes, copy, advance_pc, advance_line,
 use Rattle.dwarf_lines.specs.Encodings.{const_add_pc, fixed_advance_pc, passed_over, special}
 use Rattle.dwarf_lines.specs.Encodings.{end_sequence, set_address, other_extended, AreEncoded}
 use Rattle.dwarf_lines.specs.Encodings.{no_instruction, and_then}
-use Rattle.dwarf_lines.proofs.Lists.Spans.{stretch, stretch-of, stands-of, rest-is}
-use Rattle.dwarf_lines.proofs.Instructions.EncodingLaws.{instruction_stands}
+use Rattle.dwarf_lines.proofs.Lists.Spans.{stretch, stretch-of, encoded-of, rest-is}
+use Rattle.dwarf_lines.proofs.Instructions.EncodingLaws.{instruction_encoded}
 use Rattle.dwarf_lines.proofs.Instructions.InstructionReads.{instruction_again}
 
 -- a reading without a fault
@@ -22,19 +22,19 @@ abbrev pub valid : List Instruction → Reading
 valid is = record { instructions = is; fault = None }
 
 -- each instruction has at least its opcode
-spelled-some : (e : Encoding) (front : List ℕ) (i : Instruction) → Encodes e front i
+encoded-some : (e : Encoding) (front : List ℕ) (i : Instruction) → Encodes e front i
     → 0 < length front
-spelled-some e front i (copy known) = omega arith
-spelled-some e front i (advance_pc n known is) = omega arith
-spelled-some e front i (advance_line z known is) = omega arith
-spelled-some e front i (set_file n known is) = omega arith
-spelled-some e front i (const_add_pc known) = omega arith
-spelled-some e front i (fixed_advance_pc low high known) = omega arith
-spelled-some e front i (passed_over opcode known over are) = omega arith
-spelled-some e front i (special adjusted) = omega arith
-spelled-some e front i (end_sequence len is) = omega arith
-spelled-some e front i (set_address len address is eight) = omega arith
-spelled-some e front i (other_extended len opcode operands not1 not2 is) = omega arith
+encoded-some e front i (copy known) = omega arith
+encoded-some e front i (advance_pc n known is) = omega arith
+encoded-some e front i (advance_line z known is) = omega arith
+encoded-some e front i (set_file n known is) = omega arith
+encoded-some e front i (const_add_pc known) = omega arith
+encoded-some e front i (fixed_advance_pc low high known) = omega arith
+encoded-some e front i (passed_over opcode known over are) = omega arith
+encoded-some e front i (special adjusted) = omega arith
+encoded-some e front i (end_sequence len is) = omega arith
+encoded-some e front i (set_address len address is eight) = omega arith
+encoded-some e front i (other_extended len opcode operands not1 not2 is) = omega arith
 
 faulty : (cause : Cause) → (let f : Cause → Option Cause = λ c. Some c in f cause ≡ None) → ⊥
 faulty cause h = cc
@@ -74,9 +74,9 @@ module _ (e : Encoding) (bytes : List ℕ) where
           let clean : rest ≡ valid rest.instructions =
           ap (λ (f : Option Cause). record { instructions = rest.instructions; fault = f })
           fault in
-          let stands = instruction_stands e bytes at i next found in
+          let stands = instruction_encoded e bytes at i next found in
           let there = stretch-of (Encodes e) bytes at i next stands in
-          let some = spelled-some e stands.front i stands.encoded in
+          let some = encoded-some e stands.front i stands.encoded in
           let last = there.next_is in
           let others = further next rest.instructions (omega (arith, last, some)) clean in
           subst (λ (list : List Instruction). AreEncoded e (drop at bytes) list) same
@@ -94,21 +94,21 @@ module _ (e : Encoding) (bytes : List ℕ) where
       let none : length (drop at bytes) ≡ 0 = ap length there in
       rw (le-ltb at (length bytes) (omega (arith, rest, none))) refl
   spelled_read zero at all is known (and_then {rest = rest} front i encoded others) there enough =
-      let some = spelled-some e front i encoded in
+      let some = encoded-some e front i encoded in
       let left = length-drop at bytes in
       let sum = length-append front rest in
       let whole : length (drop at bytes) ≡ length (front ++ rest) = ap length there in
       absurd (omega (arith, some, left, sum, whole))
   spelled_read (suc steps) at all is known (and_then {rest = rest} front i encoded others) there
       enough =
-      let some = spelled-some e front i encoded in
+      let some = encoded-some e front i encoded in
       let left = length-drop at bytes in
       let sum = length-append front rest in
       let whole : length (drop at bytes) ≡ length (front ++ rest) = ap length there in
       let inside : at < length bytes = omega (arith, some, left, sum, whole) in
       let next : ℕ = at + length front in
       let here = instruction_again e bytes at i next known
-      (stands-of (Encodes e) bytes at i next front (stretch bytes at front rest next there refl)
+      (encoded-of (Encodes e) bytes at i next front (stretch bytes at front rest next there refl)
       encoded) in
       rw (
         lt-ltb at (length bytes) inside,

@@ -40,10 +40,10 @@ pub stretch-of : {X : Type 0} (S : List ℕ → X → Type 0) (bytes : List ℕ)
     → Stretch bytes at h.front next
 stretch-of S bytes at x next h = stretch bytes at h.front h.rest next h.parts h.next_is
 
-pub stands-of : {X : Type 0} (S : List ℕ → X → Type 0) (bytes : List ℕ) (at : ℕ) (x : X) (next : ℕ)
+pub encoded-of : {X : Type 0} (S : List ℕ → X → Type 0) (bytes : List ℕ) (at : ℕ) (x : X) (next : ℕ)
     (front : List ℕ)
     → Stretch bytes at front next → S front x → IsEncodedAt S bytes at x next
-stands-of S bytes at x next front h encoded =
+encoded-of S bytes at x next front h encoded =
     record {
       front = front;
       rest = drop next bytes;
@@ -79,10 +79,10 @@ rest-of bytes at a b next h = record {
   next_is = let len = length-append a b in let last = h.next_is in omega (arith, len);
 }
 
-pub block-stands : (n : ℕ) (bytes : List ℕ) (at : ℕ) (v : List ℕ × ℕ) → block_at n bytes at ≡ Ok v
+pub block-encoded : (n : ℕ) (bytes : List ℕ) (at : ℕ) (v : List ℕ × ℕ) → block_at n bytes at ≡ Ok v
     → Stretch bytes at v.0 v.1 × (length v.0 ≡ n)
 unfolding block_at
-block-stands n bytes at v h =
+block-encoded n bytes at v h =
     chosen (nat_lt (length bytes) (at + n)) (Err Short) (Ok (take n (drop at bytes), at + n)) (Ok v)
     h (Stretch bytes at v.0 v.1 × (length v.0 ≡ n)) (λ _ e. cc) (λ enough e.
     let same : (take n (drop at bytes), at + n) ≡ v =
@@ -121,17 +121,17 @@ two-bytes (b ∷ c ∷ []) h = (b, c, refl)
 two-bytes (b ∷ c ∷ d ∷ bs) h = absurd (omega (arith, h))
 
 -- a field of n bytes is read from a range of n bytes
-pub fixed-stands : (n : ℕ) (bytes : List ℕ) (at : ℕ) (v : ℕ × ℕ) → fixed_at n bytes at ≡ Ok v
+pub fixed-encoded : (n : ℕ) (bytes : List ℕ) (at : ℕ) (v : ℕ × ℕ) → fixed_at n bytes at ≡ Ok v
     → (block : List ℕ) × Stretch bytes at block v.1 × (length block ≡ n)
     × (v.0 ≡ little_endian block)
 unfolding fixed_at
-fixed-stands n bytes at v h =
+fixed-encoded n bytes at v h =
     after-bind (block_at n bytes at) _ v h
     ((block : List ℕ) × Stretch bytes at block v.1 × (length block ≡ n)
     × (v.0 ≡ little_endian block)) (λ block block_is h1.
     let same : (little_endian block.0, block.1) ≡ v =
     ok-is {E = ReadFault} (little_endian block.0, block.1) v h1 in
-    let found = block-stands n bytes at block block_is in (
+    let found = block-encoded n bytes at block block_is in (
       block.0,
       subst (λ (next : ℕ). Stretch bytes at block.0 next) (ap (λ (p : ℕ × ℕ). p.1) same)
           found.0,
@@ -145,10 +145,10 @@ pub fixed-again : (bytes : List ℕ) (at : ℕ) (block : List ℕ) (next : ℕ) 
 unfolding fixed_at
 fixed-again bytes at block next some h = rw (block-again bytes at block next some h) refl
 
-pub byte-stands : (bytes : List ℕ) (at : ℕ) (v : ℕ × ℕ) → u8_at bytes at ≡ Ok v
+pub byte-encoded : (bytes : List ℕ) (at : ℕ) (v : ℕ × ℕ) → u8_at bytes at ≡ Ok v
     → Stretch bytes at (v.0 ∷ []) v.1
-byte-stands bytes at v h =
-    let found = fixed-stands 1 bytes at v h in
+byte-encoded bytes at v h =
+    let found = fixed-encoded 1 bytes at v h in
     let same : found.0 ≡ v.0 ∷ [] = one_byte found.0 found.2
     ∙ ap (λ (n : ℕ). n ∷ []) (sym found.3) in
     subst (λ (front : List ℕ). Stretch bytes at front v.1) same found.1

@@ -20,8 +20,9 @@ use Rattle.dwarf_lines.specs.Matrix.{starts_at_tombstone, row_before, line_row, 
 use Rattle.dwarf_lines.specs.Matrix.{rows_from}
 use Rattle.dwarf_lines.specs.Machine.{Machine, at_start, step, appended_live, appended, rows_by}
 use Rattle.dwarf_lines.proofs.Machine.Steps.{address-goes-on, line-goes-on, file-goes-on, row-stays}
-use Rattle.dwarf_lines.proofs.Machine.Steps.{row-here, open-stays, open-here, dead-stays, dead-here}
-use Rattle.dwarf_lines.proofs.Machine.Steps.{dead-set}
+use Rattle.dwarf_lines.proofs.Machine.Steps.{row-here, open-stays, open-here, tombstone-stays}
+use Rattle.dwarf_lines.proofs.Machine.Steps.{tombstone-here}
+use Rattle.dwarf_lines.proofs.Machine.Steps.{tombstone-set}
 use Rattle.dwarf_lines.proofs.Machine.StepKinds.{file-is, address-is}
 
 -- the registers after these instructions
@@ -79,7 +80,7 @@ step-registers e before Copy =
     (omega (arith, address)) (sym (file-goes-on Copy before refl refl))
     (sym (line-goes-on e Copy before refl ∙ stays (line_after e before)))
     (let last = row-here e Copy before refl refl in omega (arith, address, last))
-    (sym (open-here Copy before refl refl)) (sym (dead-here Copy before refl refl))
+    (sym (open-here Copy before refl refl)) (sym (tombstone-here Copy before refl refl))
 step-registers e before (AdvancePc n) =
     same-registers _ (address_after e (AdvancePc n ∷ before)) (file_after before)
     (file_after (AdvancePc n ∷ before)) (line_after e before)
@@ -91,7 +92,7 @@ step-registers e before (AdvancePc n) =
     (sym (line-goes-on e (AdvancePc n) before refl ∙ stays (line_after e before)))
     (sym (row-stays e (AdvancePc n) before refl refl))
     (sym (open-stays (AdvancePc n) before refl refl))
-    (sym (dead-stays (AdvancePc n) before refl refl))
+    (sym (tombstone-stays (AdvancePc n) before refl refl))
 step-registers e before (AdvanceLine z) =
     same-registers (address_after e before) (address_after e (AdvanceLine z ∷ before))
     (file_after before) (file_after (AdvanceLine z ∷ before)) _
@@ -103,7 +104,7 @@ step-registers e before (AdvanceLine z) =
     (sym (line-goes-on e (AdvanceLine z) before refl))
     (sym (row-stays e (AdvanceLine z) before refl refl))
     (sym (open-stays (AdvanceLine z) before refl refl))
-    (sym (dead-stays (AdvanceLine z) before refl refl))
+    (sym (tombstone-stays (AdvanceLine z) before refl refl))
 step-registers e before (SetFile file) =
     same-registers (address_after e before) (address_after e (SetFile file ∷ before)) file
     (file_after (SetFile file ∷ before)) (line_after e before)
@@ -115,7 +116,7 @@ step-registers e before (SetFile file) =
     (line-goes-on e (SetFile file) before refl ∙ stays (line_after e before)))
     (sym (row-stays e (SetFile file) before refl refl))
     (sym (open-stays (SetFile file) before refl refl))
-    (sym (dead-stays (SetFile file) before refl refl))
+    (sym (tombstone-stays (SetFile file) before refl refl))
 step-registers e before ConstAddPc =
     same-registers _ (address_after e (ConstAddPc ∷ before)) (file_after before)
     (file_after (ConstAddPc ∷ before)) (line_after e before)
@@ -126,7 +127,8 @@ step-registers e before ConstAddPc =
     (sym (file-goes-on ConstAddPc before refl refl))
     (sym (line-goes-on e ConstAddPc before refl ∙ stays (line_after e before)))
     (sym (row-stays e ConstAddPc before refl refl))
-    (sym (open-stays ConstAddPc before refl refl)) (sym (dead-stays ConstAddPc before refl refl))
+    (sym (open-stays ConstAddPc before refl refl))
+    (sym (tombstone-stays ConstAddPc before refl refl))
 step-registers e before (FixedAdvancePc n) =
     same-registers _ (address_after e (FixedAdvancePc n ∷ before)) (file_after before)
     (file_after (FixedAdvancePc n ∷ before)) (line_after e before)
@@ -139,7 +141,7 @@ step-registers e before (FixedAdvancePc n) =
     (sym (line-goes-on e (FixedAdvancePc n) before refl ∙ stays (line_after e before)))
     (sym (row-stays e (FixedAdvancePc n) before refl refl))
     (sym (open-stays (FixedAdvancePc n) before refl refl))
-    (sym (dead-stays (FixedAdvancePc n) before refl refl))
+    (sym (tombstone-stays (FixedAdvancePc n) before refl refl))
 step-registers e before (SetAddress address) =
     same-registers address (address_after e (SetAddress address ∷ before)) (file_after before)
     (file_after (SetAddress address ∷ before)) (line_after e before)
@@ -149,7 +151,7 @@ step-registers e before (SetAddress address) =
     (sym (address-is e address before)) (sym (file-goes-on (SetAddress address) before refl refl))
     (sym (line-goes-on e (SetAddress address) before refl ∙ stays (line_after e before)))
     (sym (row-stays e (SetAddress address) before refl refl))
-    (sym (open-stays (SetAddress address) before refl refl)) (sym (dead-set address before))
+    (sym (open-stays (SetAddress address) before refl refl)) (sym (tombstone-set address before))
 step-registers e before EndSequence = sym (after-end e before)
 step-registers e before (Special adjusted) =
     let address = address-goes-on e (Special adjusted) before refl refl in
@@ -161,7 +163,7 @@ step-registers e before (Special adjusted) =
     (sym (line-goes-on e (Special adjusted) before refl))
     (sym (row-here e (Special adjusted) before refl refl ∙ address))
     (sym (open-here (Special adjusted) before refl refl))
-    (sym (dead-here (Special adjusted) before refl refl))
+    (sym (tombstone-here (Special adjusted) before refl refl))
 step-registers e before Skipped =
     same-registers (address_after e before) (address_after e (Skipped ∷ before)) (file_after before)
     (file_after (Skipped ∷ before)) (line_after e before) (line_after e (Skipped ∷ before))
@@ -172,7 +174,7 @@ step-registers e before Skipped =
     (sym (file-goes-on Skipped before refl refl))
     (sym (line-goes-on e Skipped before refl ∙ stays (line_after e before)))
     (sym (row-stays e Skipped before refl refl))
-    (sym (open-stays Skipped before refl refl)) (sym (dead-stays Skipped before refl refl))
+    (sym (open-stays Skipped before refl refl)) (sym (tombstone-stays Skipped before refl refl))
 
 -- the row of the registers
 row-from : Origin → ℕ → Machine → Result (List Row) Cause
@@ -194,13 +196,13 @@ appended-live e o before (Special adjusted) =
     ap (row-from o (row_before e before)) (step-registers e before (Special adjusted))
 appended-live e o before Skipped = refl
 
-unless-dead : Bool → Result (List Row) Cause → Result (List Row) Cause
-unless-dead at_tombstone row = if at_tombstone then Ok [] else row
+unless-tombstone : Bool → Result (List Row) Cause → Result (List Row) Cause
+unless-tombstone at_tombstone row = if at_tombstone then Ok [] else row
 
 appended-made : (e : Encoding) (o : Origin) (before : List Instruction) (i : Instruction)
     → appended e o (registers e before) i ≡ made e o before i
-unfolding made unless-dead
-appended-made e o before i = ap (unless-dead (starts_at_tombstone before))
+unfolding made unless-tombstone
+appended-made e o before i = ap (unless-tombstone (starts_at_tombstone before))
     (appended-live e o before i)
 
 rows-from-registers : (e : Encoding) (o : Origin) (before rest : List Instruction)

@@ -22,8 +22,9 @@ use Rattle.dwarf_lines.specs.Private.Registers.{IsSum, has_discarded_row, AreReg
 use Rattle.dwarf_lines.specs.Private.Registers.{last_row, Makes}
 use Rattle.dwarf_bytes.specs.Bind.{◌>>=◌}
 use Rattle.dwarf_lines.proofs.Machine.Steps.{address-goes-on, line-goes-on, file-goes-on}
-use Rattle.dwarf_lines.proofs.Machine.Steps.{dead-stays, dead-set, live-keeps}
-use Rattle.dwarf_lines.proofs.Machine.StepRows.{moved, row-kept, row-dropped, made-dead, made-alive}
+use Rattle.dwarf_lines.proofs.Machine.Steps.{tombstone-stays, tombstone-set, live-keeps}
+use Rattle.dwarf_lines.proofs.Machine.StepRows.{moved, row-unchanged, row-dropped, made-tombstone}
+use Rattle.dwarf_lines.proofs.Machine.StepRows.{made-alive}
 use Rattle.dwarf_lines.proofs.Machine.StepRows.{made-row, made-nothing}
 
 -- a step over an instruction that makes no row
@@ -61,12 +62,12 @@ module _ (e : Encoding) (o : Origin) (i : Instruction) (before : List Instructio
       let live : starts_at_tombstone before ≡ false = sym at_tombstone ∙ k.0 in (
         made-row e o i before makes live ∙ outcome_is live
             ∙ ap (λ (r : Result Row Cause). r >>= λ row. Ok (row ∷ [])) k.1,
-        row-kept e o i before mid new row ends makes address line file at_tombstone k.1 k.2,
+        row-unchanged e o i before mid new row ends makes address line file at_tombstone k.1 k.2,
       )
   row_step (Ok None) new keeps =
       let k = keeps (address_after e (i ∷ before)) address in
       let is : starts_at_tombstone before ≡ true = sym at_tombstone ∙ k.0 in (
-        made-dead e o before i is,
+        made-tombstone e o before i is,
         row-dropped e i before mid new ends makes address line file at_tombstone
             is k.1,
       )
@@ -127,7 +128,7 @@ advance-step e o i before old new ends makes sets file still r address rest =
     (ap (λ (r : Registers). r.file) rest ∙ r.file ∙ sym (file-goes-on i before ends file))
     (ap (λ (r : Registers). r.previous) rest) (ap (λ (r : Registers). r.has_row) rest)
     (ap (λ (r : Registers). r.at_tombstone) rest ∙ r.at_tombstone
-    ∙ sym (dead-stays i before ends sets))
+    ∙ sym (tombstone-stays i before ends sets))
 
 -- a step over an instruction that changes only the line
 pub line-step : (e : Encoding) (o : Origin) (change : ℤ) (before : List Instruction)
@@ -141,7 +142,7 @@ line-step e o change before old new r rest =
     rw rest (quiet-step e o (AdvanceLine change) before old
     (record old { line = old.line +ℤ change }) refl refl r (rw same r.address) refl
     (r.file ∙ sym (file-goes-on (AdvanceLine change) before refl refl)) refl refl
-    (r.at_tombstone ∙ sym (dead-stays (AdvanceLine change) before refl refl)))
+    (r.at_tombstone ∙ sym (tombstone-stays (AdvanceLine change) before refl refl)))
 
 pub file-is : (file : ℕ) (before : List Instruction) → file_after (SetFile file ∷ before) ≡ file
 unfolding file_after
@@ -161,7 +162,7 @@ file-step e o file before old r =
     omega (arith, address-goes-on e (SetFile file) before refl refl) in
     quiet-step e o (SetFile file) before old (record old { file = file }) refl refl r
     (rw same r.address) (omega (arith, ints)) (sym (file-is file before)) refl refl
-    (r.at_tombstone ∙ sym (dead-stays (SetFile file) before refl refl))
+    (r.at_tombstone ∙ sym (tombstone-stays (SetFile file) before refl refl))
 
 -- the registers after an address is set
 abbrev pub with_address : ℕ → Registers → Registers
@@ -178,7 +179,7 @@ pub address-step : (e : Encoding) (o : Origin) (address : ℕ) (before : List In
 address-step e o address before old r =
     let at_tombstone : (if old.has_row then old.at_tombstone else is_tombstone address)
     ≡ starts_at_tombstone (SetAddress address ∷ before) =
-    rw (r.has_row, r.at_tombstone) (sym (dead-set address before)) in
+    rw (r.has_row, r.at_tombstone) (sym (tombstone-set address before)) in
     quiet-step e o (SetAddress address) before old (with_address address old) refl refl r
     (sym (address-is e address before)) (omega (arith, ints))
     (r.file ∙ sym (file-goes-on (SetAddress address) before refl refl)) refl refl at_tombstone
@@ -205,7 +206,7 @@ end-step e o before old r result h = by (starts_at_tombstone before) refl
 
     by : (b : Bool) → starts_at_tombstone before ≡ b → made e o before EndSequence
         ≡ (result >>= λ row. Ok (option_to_list row))
-    by true is = made-dead e o before EndSequence is
+    by true is = made-tombstone e o before EndSequence is
         ∙ ap (λ (r : Result (Option Row) Cause). r >>= λ row. Ok (option_to_list row))
         (sym (found true is))
     by false is =

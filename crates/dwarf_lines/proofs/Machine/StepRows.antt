@@ -23,7 +23,7 @@ use Rattle.dwarf_lines.specs.Matrix.{checked_file, made_live, made}
 use Rattle.dwarf_lines.specs.Private.Registers.{IsSum, AreRegisters}
 use Rattle.dwarf_bytes.specs.Bind.{◌>>=◌}
 use Rattle.dwarf_lines.proofs.Machine.Steps.{line-goes-on, row-stays, open-stays, row-here}
-use Rattle.dwarf_lines.proofs.Machine.Steps.{open-here, dead-here, dropped-stays, dropped-here}
+use Rattle.dwarf_lines.proofs.Machine.Steps.{open-here, tombstone-here, dropped-stays, dropped-here}
 
 -- ---- steps
 
@@ -55,8 +55,8 @@ abbrev address_of : Result Row Cause → ℕ
 address_of (Ok row) = row.address
 address_of (Err _) = 0
 
-judged-is : (previous sum address : ℕ) → checked_address previous sum ≡ Ok address → address ≡ sum
-judged-is previous sum address h = grind (arith, common_steps)
+checked-is : (previous sum address : ℕ) → checked_address previous sum ≡ Ok address → address ≡ sum
+checked-is previous sum address h = grind (arith, common_steps)
 
 -- the address of a row is the given sum
 pub row-address : (o : Origin) (previous sum : ℕ) (line : ℤ) (file : ℕ) (row : Row)
@@ -91,10 +91,10 @@ row-address o previous sum line file row h =
       «end» =
           false;
     })) row b.2 in
-    sym (ap (λ (r : Result Row Cause). address_of r) d.2) ∙ judged-is previous sum a.0 a.1
+    sym (ap (λ (r : Result Row Cause). address_of r) d.2) ∙ checked-is previous sum a.0 a.1
 
 -- the registers after an instruction that makes a row
-pub row-kept : (e : Encoding) (o : Origin) (i : Instruction) (before : List Instruction)
+pub row-unchanged : (e : Encoding) (o : Origin) (i : Instruction) (before : List Instruction)
     (mid new : Registers) (row : Row)
     → ends_sequence i ≡ false → makes_line i ≡ true
     → IsSum mid.address (address_after e (i ∷ before)) → mid.line ≡ line_after e (i ∷ before)
@@ -103,15 +103,17 @@ pub row-kept : (e : Encoding) (o : Origin) (i : Instruction) (before : List Inst
     → line_row o mid.previous (address_after e (i ∷ before)) mid.line mid.file ≡ Ok row
     → new ≡ record mid { previous = row.address; has_row = true }
     → AreRegisters e (i ∷ before) new
-row-kept e o i before mid new row h m address line file at_tombstone made kept = rw kept (record {
-  address = address;
-  line = line;
-  file = file;
-  previous = λ _. row-address o mid.previous (address_after e (i ∷ before)) mid.line mid.file row
-      made ∙ sym (row-here e i before h m);
-  has_row = sym (open-here i before h m);
-  at_tombstone = at_tombstone ∙ sym (dead-here i before h m);
-})
+row-unchanged e o i before mid new row h m address line file at_tombstone made kept =
+    rw kept (record {
+      address = address;
+      line = line;
+      file = file;
+      previous = λ _. row-address o mid.previous (address_after e (i ∷ before)) mid.line mid.file
+          row
+          made ∙ sym (row-here e i before h m);
+      has_row = sym (open-here i before h m);
+      at_tombstone = at_tombstone ∙ sym (tombstone-here i before h m);
+    })
 
 -- .. and if the row is discarded
 pub row-dropped : (e : Encoding) (i : Instruction) (before : List Instruction) (mid new : Registers)
@@ -128,7 +130,7 @@ row-dropped e i before mid new h m address line file at_tombstone is kept = rw k
   file = file;
   previous = λ none. absurd (false≢true (sym none ∙ dropped-here i before h m is));
   has_row = sym (open-here i before h m);
-  at_tombstone = at_tombstone ∙ sym (dead-here i before h m);
+  at_tombstone = at_tombstone ∙ sym (tombstone-here i before h m);
 })
 
 -- after the end of a sequence, the registers are those at the start of one
@@ -173,11 +175,11 @@ live-nothing e o EndSequence before h m = cc
 live-nothing e o (Special n) before h m = cc
 live-nothing e o Skipped before h m = refl
 
-pub made-dead : (e : Encoding) (o : Origin) (before : List Instruction) (i : Instruction)
+pub made-tombstone : (e : Encoding) (o : Origin) (before : List Instruction) (i : Instruction)
     → starts_at_tombstone before ≡ true
     → made e o before i ≡ Ok []
 unfolding made
-made-dead e o before i d = rw d refl
+made-tombstone e o before i d = rw d refl
 
 pub made-alive : (e : Encoding) (o : Origin) (before : List Instruction) (i : Instruction)
     → starts_at_tombstone before ≡ false

@@ -110,48 +110,48 @@ start-stays : (i : Instruction) (before : List Instruction) → address_set i �
 start-stays i before s true = refl
 start-stays i before s false = rw s refl
 
-pub dead-stays : (i : Instruction) (before : List Instruction) → ends_sequence i ≡ false
+pub tombstone-stays : (i : Instruction) (before : List Instruction) → ends_sequence i ≡ false
     → sets_address i ≡ false
     → starts_at_tombstone (i ∷ before) ≡ starts_at_tombstone before
 unfolding starts_at_tombstone
-dead-stays i before h s =
+tombstone-stays i before h s =
     let start : latest address_set (before_rows (i ∷ before))
     ≡ latest address_set (before_rows before) =
     rw h (start-stays i before (no-address i s) (makes_line i || is_open before)) in
     ap (λ (o : Option ℕ). option_map_or is_tombstone o false) start
 
 -- an instruction that makes a row does not change whether the sequence is dead
-pub dead-here : (i : Instruction) (before : List Instruction) → ends_sequence i ≡ false
+pub tombstone-here : (i : Instruction) (before : List Instruction) → ends_sequence i ≡ false
     → makes_line i ≡ true
     → starts_at_tombstone (i ∷ before) ≡ starts_at_tombstone before
 unfolding starts_at_tombstone
-dead-here i before h m =
+tombstone-here i before h m =
     let start : latest address_set (before_rows (i ∷ before))
     ≡ latest address_set (before_rows before) = rw (h, m) refl in
     ap (λ (o : Option ℕ). option_map_or is_tombstone o false) start
 
-pub dead-settled : (i : Instruction) (before : List Instruction) → ends_sequence i ≡ false
+pub tombstone-settled : (i : Instruction) (before : List Instruction) → ends_sequence i ≡ false
     → makes_line i ≡ false → is_open before ≡ true
     → starts_at_tombstone (i ∷ before) ≡ starts_at_tombstone before
 unfolding starts_at_tombstone
-dead-settled i before h m o =
+tombstone-settled i before h m o =
     let start : latest address_set (before_rows (i ∷ before))
     ≡ latest address_set (before_rows before) = rw (h, m, o) refl in
     ap (λ (o : Option ℕ). option_map_or is_tombstone o false) start
 
-dead-by : (address : ℕ) (before : List Instruction) → (b : Bool)
+tombstone-by : (address : ℕ) (before : List Instruction) → (b : Bool)
     → option_map_or is_tombstone (latest address_set
     (if b then before_rows before else SetAddress address ∷ before_rows before)) false
     ≡ (if b then option_map_or is_tombstone (latest address_set (before_rows before)) false else
     is_tombstone address)
-dead-by address before true = refl
-dead-by address before false = refl
+tombstone-by address before true = refl
+tombstone-by address before false = refl
 
-pub dead-set : (address : ℕ) (before : List Instruction)
+pub tombstone-set : (address : ℕ) (before : List Instruction)
     → starts_at_tombstone (SetAddress address ∷ before)
     ≡ (if is_open before then starts_at_tombstone before else is_tombstone address)
 unfolding starts_at_tombstone
-dead-set address before = dead-by address before (is_open before)
+tombstone-set address before = tombstone-by address before (is_open before)
 
 pub dropped-stays : (i : Instruction) (before : List Instruction) → ends_sequence i ≡ false
     → makes_line i ≡ false
@@ -159,13 +159,13 @@ pub dropped-stays : (i : Instruction) (before : List Instruction) → ends_seque
 dropped-stays i before h m = by (is_open before) refl
   where
     by : (b : Bool) → is_open before ≡ b → has_discarded_row (i ∷ before) ≡ has_discarded_row before
-    by true o = rw (open-stays i before h m, dead-settled i before h m o) refl
+    by true o = rw (open-stays i before h m, tombstone-settled i before h m o) refl
     by false o = rw (open-stays i before h m, o) refl
 
 pub dropped-here : (i : Instruction) (before : List Instruction) → ends_sequence i ≡ false
     → makes_line i ≡ true → starts_at_tombstone before ≡ true
     → has_discarded_row (i ∷ before) ≡ true
-dropped-here i before h m d = rw (open-here i before h m, dead-here i before h m, d) refl
+dropped-here i before h m d = rw (open-here i before h m, tombstone-here i before h m, d) refl
 
 and_false : (a b : Bool) → b ≡ false → (a && b) ≡ false
 and_false true b h = h

@@ -164,13 +164,13 @@ next-past s before place x after h =
     let last : program.past ≡ after = ap after_of same in
     subst (λ (p : Program). p.past ≡ after) item last))
 
-listed-few : (s : LineSections) (before : List Program) (place : ℕ) (programs : List Program)
+list-few : (s : LineSections) (before : List Program) (place : ℕ) (programs : List Program)
     (after : ℕ) → Lists (next_program s) before place programs after → place ≤ length s.line
     → length (rows_of programs) + place ≤ length s.line
-listed-few s before place [] after h within = omega (arith, within)
-listed-few s before place (program ∷ programs) after h within =
+list-few s before place [] after h within = omega (arith, within)
+list-few s before place (program ∷ programs) after h within =
     let moves = programs-advance s before place program h.0 h.1 in
-    let rest = listed-few s (before ++ program ∷ []) h.0 programs after h.2 moves.1 in
+    let rest = list-few s (before ++ program ∷ []) h.0 programs after h.2 moves.1 in
     let here = program-few s (length before) place program
     (found_at s before place program h.0 h.1) in
     let past = next-past s before place program h.0 h.1 in
@@ -180,6 +180,6 @@ pub rows-take-bytes : (s : LineSections) (lines : Lines) → lines_in s ≡ Ok l
     → length lines.rows ≤ length s.line
 rows-take-bytes s lines h =
     let read = lines_in-ok s lines h in
-    let few = listed-few s [] 0 read.0 read.1
+    let few = list-few s [] 0 read.0 read.1
     (Lists-within _ (next_program s) [] 0 read.0 read.1 read.2) (omega arith) in
     rw read.3 (omega (arith, few))

@@ -35,14 +35,14 @@ chain-rises program has_row low previous (row ∷ rows) rest le chain rise =
           rise,
     )
 
-listed-rise : (s : LineSections) (before : List Program) (place : ℕ) (programs : List Program)
+list-rises : (s : LineSections) (before : List Program) (place : ℕ) (programs : List Program)
     (after : ℕ)
     → Lists (next_program s) before place programs after
     → RiseFrom (length before) (rows_of programs)
-listed-rise s before place [] after h = tt
-listed-rise s before place (program ∷ programs) after h =
+list-rises s before place [] after h = tt
+list-rises s before place (program ∷ programs) after h =
     let more = length-append before (program ∷ []) in
-    let rest = listed-rise s (before ++ program ∷ []) h.0 programs after h.2 in
+    let rest = list-rises s (before ++ program ∷ []) h.0 programs after h.2 in
     chain-rises (record { 0 = length before }) false (length before) 0 program.rows
     (rows_of programs) (omega arith)
     (program-chain s (length before) place program (found_at s before place program h.0 h.1))
@@ -68,5 +68,5 @@ pub rows-are-in-order : (s : LineSections) (lines : Lines) → lines_in s ≡ Ok
 rows-are-in-order s lines h =
     let read = lines_in-ok s lines h in
     rw read.3 (λ i j d le lt. (ordered 0 (rows_of read.0)
-    (listed-rise s [] 0 read.0 read.1
+    (list-rises s [] 0 read.0 read.1
     (Lists-within _ (next_program s) [] 0 read.0 read.1 read.2)) i j d le lt).1)

@@ -32,12 +32,12 @@ use Rattle.dwarf_lines.specs.Paths.{path_parts, nonempty_parts, texts_of}
 use Rattle.dwarf_lines.specs.Programs.{Program, program_at_place, next_program, rows_of}
 use Rattle.dwarf_lines.specs.Lines.{FileTables, tables_of, Lines, lines_in, HavePaths}
 use Rattle.dwarf_lines.proofs.Headers.BoundsLaws.{ok-is}
-use Rattle.dwarf_lines.proofs.Machine.StepRows.{made-row, made-nothing, made-dead, made-alive}
+use Rattle.dwarf_lines.proofs.Machine.StepRows.{made-row, made-nothing, made-tombstone, made-alive}
 use Rattle.dwarf_lines.proofs.Machine.MachineLaws.{rows-by-machine}
 use Rattle.dwarf_lines.proofs.Rows.Sequences.{IsChain, Kind, quiet, makes, ends, kind_of}
 use Rattle.dwarf_lines.proofs.Rows.Sequences.{end_row-is}
 use Rattle.dwarf_lines.proofs.Rows.SequenceChains.{program-chain, found_at, lines_in-ok, some-is}
-use Rattle.dwarf_lines.proofs.SectionPrograms.WholePrograms.{program-stands}
+use Rattle.dwarf_lines.proofs.SectionPrograms.WholePrograms.{program-encoded}
 
 -- ---- properties of all elements
 
@@ -100,7 +100,7 @@ made-files e o before i rows is (quiet e_is m_is) =
 made-files e o before i rows is (makes e_is m_is) = by (starts_at_tombstone before) refl
   where
     by : (b : Bool) → starts_at_tombstone before ≡ b → Each (HasFile o.files) rows
-    by true d = no-rows o.files rows (sym (made-dead e o before i d) ∙ is)
+    by true d = no-rows o.files rows (sym (made-tombstone e o before i d) ∙ is)
     by false d =
         after-bind (line_row o (row_before e before) (address_after e (i ∷ before))
         (line_after e (i ∷ before)) (file_after (i ∷ before))) _ rows
@@ -117,7 +117,7 @@ made-files e o before i rows is (ends i_is) = by (starts_at_tombstone before) re
     made_is = subst (λ (j : Instruction). made e o before j ≡ Ok rows) i_is is
 
     by : (b : Bool) → starts_at_tombstone before ≡ b → Each (HasFile o.files) rows
-    by true d = no-rows o.files rows (sym (made-dead e o before EndSequence d) ∙ made_is)
+    by true d = no-rows o.files rows (sym (made-tombstone e o before EndSequence d) ∙ made_is)
     by false d =
         after-bind (end_row o (row_before e before) (address_after e before)) _ rows
         (sym (made-alive e o before EndSequence d) ∙ made_is) (Each (HasFile o.files) rows)
@@ -141,24 +141,24 @@ rows-files e o before (i ∷ rest) rows is =
 
 -- ---- the directory of a file exists
 
-abbrev Known : EntryTable → Entry → Type 0
-Known table entry = has_directory table entry ≡ true
+abbrev HasDirectory : EntryTable → Entry → Type 0
+HasDirectory table entry = has_directory table entry ≡ true
 
-entries-known : (s : LineSections) (format : Format) (table : EntryTable) (fields : List Field)
+entries-of-table : (s : LineSections) (format : Format) (table : EntryTable) (fields : List Field)
     (place : ℕ) (bytes : List ℕ) (entries : List Entry)
     → EncodesEach (EncodesEntry s format table fields) place bytes entries
-    → Each (Known table) entries
-entries-known s format table fields place bytes [] h = tt
-entries-known s format table fields place bytes (entry ∷ entries) h =
-    (h.3.known, entries-known s format table fields (place + length h.0) h.1 entries h.4)
+    → Each (HasDirectory table) entries
+entries-of-table s format table fields place bytes [] h = tt
+entries-of-table s format table fields place bytes (entry ∷ entries) h =
+    (h.3.known, entries-of-table s format table fields (place + length h.0) h.1 entries h.4)
 
 path-there : (directories files : List Entry) (number : ℕ) → number < length files
-    → Each (Known (Files (length directories))) files
+    → Each (HasDirectory (Files (length directories))) files
     → (parts : List Text) × (path_parts directories files number ≡ Some parts)
 path-there directories files number lt known =
     let file = got files number lt in
     let within = ltb-true file.0.directory (length directories)
-    (each-at (Known (Files (length directories))) files known number file.0 file.1) in
+    (each-at (HasDirectory (Files (length directories))) files known number file.0 file.1) in
     let directory = got directories file.0.directory within in
     let current = got directories 0 (omega (arith, within)) in (
       nonempty_parts (texts_of current.0.path file.0.directory directory.0.path file.0.path),
@@ -175,11 +175,11 @@ program-paths : (s : LineSections) (number place : ℕ) (program : Program)
     → program_at_place s number place ≡ Ok program
     → Each (HasPath program) program.rows
 program-paths s number place program h =
-    let p = program-stands s number place program h in
+    let p = program-encoded s number place program h in
     let header = p.header in
     let o : Origin = record { program = record { 0 = number }; files = length header.files } in
     let f = p.header_is.encoded.fields_are.files_are in
-    let known = entries-known s _ (Files (length header.directories)) f.fields _ f.items
+    let known = entries-of-table s _ (Files (length header.directories)) f.fields _ f.items
     header.files f.entries_are in
     let files = rows-files header.encoding o [] p.instructions program.rows
     (rows-by-machine header.encoding o p.instructions ∙ p.rows_are) in
@@ -219,12 +219,12 @@ tables-at : (before : List Program) (program : Program) (programs : List Program
 tables-at [] program programs = refl
 tables-at (first ∷ before) program programs = tables-at before program programs
 
-listed-paths : (s : LineSections) (before : List Program) (place : ℕ) (programs : List Program)
+list-paths : (s : LineSections) (before : List Program) (place : ℕ) (programs : List Program)
     (after : ℕ)
     → Lists (next_program s) before place programs after
     → Each (HasPathIn (map tables_of (before ++ programs))) (rows_of programs)
-listed-paths s before place [] after h = tt
-listed-paths s before place (program ∷ programs) after h =
+list-paths s before place [] after h = tt
+list-paths s before place (program ∷ programs) after h =
     let tables = map tables_of (before ++ program ∷ programs) in
     let found = found_at s before place program h.0 h.1 in
     let number : ProgramNo = record { 0 = length before } in
@@ -236,7 +236,7 @@ listed-paths s before place (program ∷ programs) after h =
     program.rows
     (λ row of has. λ open_row. let path = has open_row in
     (path.0, rw (of, tables-at before program programs) path.1)) chain paths in
-    let rest = listed-paths s (before ++ program ∷ []) h.0 programs after h.2 in
+    let rest = list-paths s (before ++ program ∷ []) h.0 programs after h.2 in
     let same : (before ++ program ∷ []) ++ programs ≡ before ++ program ∷ programs =
     append_assoc before (program ∷ []) programs in
     each-append (HasPathIn tables) program.rows (rows_of programs) here
@@ -247,5 +247,5 @@ pub rows-have-paths : (s : LineSections) (lines : Lines) → lines_in s ≡ Ok l
 rows-have-paths s lines h =
     let read = lines_in-ok s lines h in
     rw read.3 (λ i row is open_row. each-at (HasPathIn (map tables_of read.0)) (rows_of read.0)
-    (listed-paths s [] 0 read.0 read.1
+    (list-paths s [] 0 read.0 read.1
     (Lists-within _ (next_program s) [] 0 read.0 read.1 read.2)) i row is open_row)

@@ -25,11 +25,12 @@ use Rattle.dwarf_lines.specs.Programs.{Program, program_at_place, next_program, 
 use Rattle.dwarf_lines.specs.Programs.{rows_of}
 use Rattle.dwarf_lines.specs.Lines.{Lines, lines_of, lines_in, HaveNext}
 use Rattle.dwarf_lines.proofs.Headers.BoundsLaws.{ok-is}
-use Rattle.dwarf_lines.proofs.Machine.Steps.{row-stays, dead-here}
+use Rattle.dwarf_lines.proofs.Machine.Steps.{row-stays, tombstone-here}
 use Rattle.dwarf_lines.proofs.Machine.StepRows.{made-nothing}
 use Rattle.dwarf_lines.proofs.SectionPrograms.ProgramTurns.{item_or}
 use Rattle.dwarf_lines.proofs.Rows.Sequences.{IsChain, Kind, quiet, makes, ends, kind_of, keeps_row}
-use Rattle.dwarf_lines.proofs.Rows.Sequences.{after-end, at-first, shut-kept, dead-kept, kept-stays}
+use Rattle.dwarf_lines.proofs.Rows.Sequences.{after-end, at-first, shut-unchanged, tombstone-kept}
+use Rattle.dwarf_lines.proofs.Rows.Sequences.{stored-stays}
 use Rattle.dwarf_lines.proofs.Rows.Sequences.{any-address, none-more, line-more, end-more}
 
 -- the row of one instruction precedes the rows of the others
@@ -43,7 +44,7 @@ one_more e o before i row rest is (quiet e_is m_is) chain =
     (sym (made-nothing e o i before e_is m_is) ∙ is) in
     let here : IsChain o.program (keeps_row before) (row_before e before) rest =
     subst (λ (b : Bool). IsChain o.program b (row_before e before) rest)
-    (kept-stays i before e_is m_is)
+    (stored-stays i before e_is m_is)
     (subst (λ (n : ℕ). IsChain o.program (keeps_row (i ∷ before)) n rest)
     (row-stays e i before e_is m_is) chain) in
     subst (λ (r : List Row). IsChain o.program (keeps_row before) (row_before e before) (r ++ rest))
@@ -53,7 +54,7 @@ one_more e o before i row rest is (makes e_is m_is) chain = by (starts_at_tombst
     by : (b : Bool) → starts_at_tombstone before ≡ b
         → IsChain o.program (keeps_row before) (row_before e before) (row ++ rest)
     by true d = none-more e o before i row rest is d
-        (dead-kept (i ∷ before) (dead-here i before e_is m_is ∙ d)) chain
+        (tombstone-kept (i ∷ before) (tombstone-here i before e_is m_is ∙ d)) chain
     by false d = line-more e o before i row rest is d e_is m_is chain
 one_more e o before i row rest is (ends i_is) chain = by (starts_at_tombstone before) refl
   where
@@ -78,7 +79,7 @@ rows-chain : (e : Encoding) (o : Origin) (before rest : List Instruction) (rows 
 unfolding rows_from
 rows-chain e o before [] rows is shut = subst
     (λ (r : List Row). IsChain o.program (keeps_row before) (row_before e before) r)
-    (ok-is {E = Cause} [] rows is) (shut-kept before shut)
+    (ok-is {E = Cause} [] rows is) (shut-unchanged before shut)
 rows-chain e o before (i ∷ rest) rows is shut =
     after-bind (made e o before i) _ rows is
     (IsChain o.program (keeps_row before) (row_before e before) rows) (λ row row_is h1.
@@ -184,14 +185,14 @@ found_at s before place x after h =
     (ok-is {E = Cause} (Item program program.past) (Item x after) e1) in
     subst (λ (p : Program). program_at_place s (length before) place ≡ Ok p) same program_is))
 
-listed-continue : (s : LineSections) (before : List Program) (place : ℕ) (programs : List Program)
+list-continues : (s : LineSections) (before : List Program) (place : ℕ) (programs : List Program)
     (after : ℕ)
     → Lists (next_program s) before place programs after → AllContinue (rows_of programs)
-listed-continue s before place [] after h = tt
-listed-continue s before place (program ∷ programs) after h =
+list-continues s before place [] after h = tt
+list-continues s before place (program ∷ programs) after h =
     chain-continues (record { 0 = length before }) false 0 program.rows (rows_of programs)
     (program-chain s (length before) place program (found_at s before place program h.0 h.1))
-    (listed-continue s (before ++ program ∷ []) h.0 programs after h.2)
+    (list-continues s (before ++ program ∷ []) h.0 programs after h.2)
 
 -- the programs from which the line tables are made
 pub lines_in-ok : (s : LineSections) (lines : Lines) → lines_in s ≡ Ok lines
@@ -228,5 +229,5 @@ pub rows-have-next : (s : LineSections) (lines : Lines) → lines_in s ≡ Ok li
 rows-have-next s lines h =
     let read = lines_in-ok s lines h in
     rw read.3 (have-next (rows_of read.0)
-    (listed-continue s [] 0 read.0 read.1
+    (list-continues s [] 0 read.0 read.1
     (Lists-within _ (next_program s) [] 0 read.0 read.1 read.2)))

@@ -22,9 +22,9 @@ use Rattle.dwarf_lines.specs.Matrix.{makes_line, is_open, starts_at_tombstone, r
 use Rattle.dwarf_lines.specs.Matrix.{checked_address, checked_line, checked_file, line_row, end_row}
 use Rattle.dwarf_lines.specs.Matrix.{made}
 use Rattle.dwarf_lines.proofs.Headers.BoundsLaws.{ok-is}
-use Rattle.dwarf_lines.proofs.Machine.Steps.{open-stays, row-here, open-here, dead-here}
-use Rattle.dwarf_lines.proofs.Machine.Steps.{dead-settled}
-use Rattle.dwarf_lines.proofs.Machine.StepRows.{made-row, made-dead, made-alive}
+use Rattle.dwarf_lines.proofs.Machine.Steps.{open-stays, row-here, open-here, tombstone-here}
+use Rattle.dwarf_lines.proofs.Machine.Steps.{tombstone-settled}
+use Rattle.dwarf_lines.proofs.Machine.StepRows.{made-row, made-tombstone, made-alive}
 
 -- The rows of a program from some point of a sequence on, up to the end of the last sequence. If
 -- has_row, a row at the address previous precedes them in the sequence.
@@ -114,26 +114,28 @@ shut-by : (b : Bool) → (if b then false else false) ≡ false
 shut-by true = refl
 shut-by false = refl
 
-pub shut-kept : (before : List Instruction) → is_open before ≡ false → keeps_row before ≡ false
-shut-kept before shut = rw shut (shut-by (starts_at_tombstone before))
+pub shut-unchanged : (before : List Instruction) → is_open before ≡ false → keeps_row before ≡ false
+shut-unchanged before shut = rw shut (shut-by (starts_at_tombstone before))
 
-pub dead-kept : (before : List Instruction) → starts_at_tombstone before ≡ true → keeps_row before
+pub tombstone-kept : (before : List Instruction) → starts_at_tombstone before ≡ true
+    → keeps_row before
     ≡ false
-dead-kept before d = rw d refl
+tombstone-kept before d = rw d refl
 
-pub kept-stays : (i : Instruction) (before : List Instruction) → ends_sequence i ≡ false
+pub stored-stays : (i : Instruction) (before : List Instruction) → ends_sequence i ≡ false
     → makes_line i ≡ false
     → keeps_row (i ∷ before) ≡ keeps_row before
-kept-stays i before h m = by (is_open before) refl
+stored-stays i before h m = by (is_open before) refl
   where
     by : (b : Bool) → is_open before ≡ b → keeps_row (i ∷ before) ≡ keeps_row before
-    by true o = rw (open-stays i before h m, dead-settled i before h m o) refl
-    by false o = shut-kept (i ∷ before) (open-stays i before h m ∙ o) ∙ sym (shut-kept before o)
+    by true o = rw (open-stays i before h m, tombstone-settled i before h m o) refl
+    by false o = shut-unchanged (i ∷ before) (open-stays i before h m ∙ o)
+        ∙ sym (shut-unchanged before o)
 
-kept-here : (i : Instruction) (before : List Instruction) → ends_sequence i ≡ false
+stored-here : (i : Instruction) (before : List Instruction) → ends_sequence i ≡ false
     → makes_line i ≡ true → starts_at_tombstone before ≡ false
     → keeps_row (i ∷ before) ≡ true
-kept-here i before h m d = rw (dead-here i before h m, d, open-here i before h m) refl
+stored-here i before h m d = rw (tombstone-here i before h m, d, open-here i before h m) refl
 
 pub any-address : (program : ProgramNo) (has_row : Bool) (a b : ℕ) (rows : List Row)
     → has_row ≡ false
@@ -150,11 +152,12 @@ pub none-more : (e : Encoding) (o : Origin) (before : List Instruction) (i : Ins
     → IsChain o.program (keeps_row (i ∷ before)) (row_before e (i ∷ before)) rest
     → IsChain o.program (keeps_row before) (row_before e before) (row ++ rest)
 none-more e o before i row rest is d shut chain =
-    let none : [] ≡ row = ok-is {E = Cause} [] row (sym (made-dead e o before i d) ∙ is) in
+    let none : [] ≡ row = ok-is {E = Cause} [] row (sym (made-tombstone e o before i d) ∙ is) in
     let other : IsChain o.program false (row_before e (i ∷ before)) rest =
     subst (λ (b : Bool). IsChain o.program b (row_before e (i ∷ before)) rest) shut chain in
     let here : IsChain o.program (keeps_row before) (row_before e before) rest =
-    subst (λ (b : Bool). IsChain o.program b (row_before e before) rest) (sym (dead-kept before d))
+    subst (λ (b : Bool). IsChain o.program b (row_before e before) rest)
+    (sym (tombstone-kept before d))
     (any-address o.program false (row_before e (i ∷ before)) (row_before e before) rest refl
     other) in
     subst (λ (r : List Row). IsChain o.program (keeps_row before) (row_before e before) (r ++ rest))
@@ -174,7 +177,7 @@ line-more e o before i row rest is d e_is m_is chain =
     let at = line_row-is o (row_before e before) (address_after e (i ∷ before))
     (line_after e (i ∷ before)) (file_after (i ∷ before)) found found_is in
     let same : found ∷ [] ≡ row = ok-is {E = Cause} (found ∷ []) row h in
-    let opened : keeps_row (i ∷ before) ≡ not found.«end» = kept-here i before e_is m_is d
+    let opened : keeps_row (i ∷ before) ≡ not found.«end» = stored-here i before e_is m_is d
     ∙ ap not (sym at.end_is) in
     let last : row_before e (i ∷ before) ≡ found.address = row-here e i before e_is m_is
     ∙ sym at.address-is in

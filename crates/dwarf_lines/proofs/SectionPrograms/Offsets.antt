@@ -58,14 +58,14 @@ next-offset s before place x after h =
     (program_at_place-offset s (length before) place program program_is)))
 
 -- the offsets of programs listed from an offset on
-pub listed-rise : (s : LineSections) (before : List Program) (place : ℕ) (programs : List Program)
+pub list-rises : (s : LineSections) (before : List Program) (place : ℕ) (programs : List Program)
     (after : ℕ)
     → Lists (next_program s) before place programs after
     → IsStrictlyIncreasing (map offset_of programs)
     × (0 < length programs → get_or (map offset_of programs) 0 0 ≡ place)
-listed-rise s before place [] after h = (λ k lt. absurd (omega arith), λ lt. absurd (omega arith))
-listed-rise s before place (program ∷ programs) after h =
-    let rest = listed-rise s (before ++ program ∷ []) h.0 programs after h.2 in
+list-rises s before place [] after h = (λ k lt. absurd (omega arith), λ lt. absurd (omega arith))
+list-rises s before place (program ∷ programs) after h =
+    let rest = list-rises s (before ++ program ∷ []) h.0 programs after h.2 in
     let here = next-offset s before place program h.0 h.1 in
     let moves = programs-advance s before place program h.0 h.1 in (
       rising-cons program.offset (map offset_of programs)
@@ -82,7 +82,7 @@ listed-rise s before place (program ∷ programs) after h =
 pub programs-rise : (s : LineSections) (programs : List Program) (after : ℕ)
     → programs_of s ≡ Ok (programs, after)
     → IsStrictlyIncreasing (map offset_of programs)
-programs-rise s programs after h = (listed-rise s [] 0 programs after
+programs-rise s programs after h = (list-rises s [] 0 programs after
     (Lists-within _ (next_program s) [] 0 programs after h)).0
 
 pub offsets-of : (programs : List Program)
@@ -99,11 +99,11 @@ offsets-in (program ∷ programs) = ap (λ (offsets : List ℕ). program.offset 
     (offsets-in programs)
 
 -- the offsets of the stored tables
-pub kept-rise : (s : LineSections) (before : List Program) (place : ℕ)
+pub tables-rise : (s : LineSections) (before : List Program) (place : ℕ)
     (programs : List ProgramFiles) (after : ℕ)
     → programs_of s ≡ Ok (before, after) → map tables_in programs ≡ map tables_of before
     → IsStrictlyIncreasing (map (λ (p : ProgramFiles). p.offset) programs)
-kept-rise s before place programs after read kept =
+tables-rise s before place programs after read kept =
     let same : map offset_of before ≡ map (λ (p : ProgramFiles). p.offset) programs =
     sym (offsets-of before) ∙ ap (λ (tables : List FileTables). map (λ (t : FileTables). t.offset)
     tables) (sym kept) ∙ offsets-in programs in

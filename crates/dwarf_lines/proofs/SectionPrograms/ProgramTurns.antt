@@ -206,15 +206,15 @@ pub refuses : (s : LineSections) (before : List Program) (place : ℕ) (rows : L
 unfolding lines_in
 refuses s before place rows tables reads cause lt (inl memory) = inl (rw memory refl)
 refuses s before place rows tables reads cause lt (inr found) =
-    by_told (at_item-cases sections.DebugLine cause place)
+    by_fault (at_item-cases sections.DebugLine cause place)
   where
     fault-is : lines_in s ≡ Err (record { section = sections.DebugLine; cause = cause; at = place })
     fault-is = rw (refused s before place rows tables reads cause lt found) refl
 
-    by_told : (at_item sections.DebugLine cause place ≡ memory_fault)
+    by_fault : (at_item sections.DebugLine cause place ≡ memory_fault)
         ⊎ (at_item sections.DebugLine cause place
         ≡ record { section = sections.DebugLine; cause = cause; at = place })
         → (at_item sections.DebugLine cause place ≡ memory_fault)
         ⊎ (lines_in s ≡ Err (at_item sections.DebugLine cause place))
-    by_told (inl memory) = inl memory
-    by_told (inr same) = inr (rw same fault-is)
+    by_fault (inl memory) = inl memory
+    by_fault (inr same) = inr (rw same fault-is)

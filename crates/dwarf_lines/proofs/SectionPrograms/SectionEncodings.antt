@@ -11,10 +11,10 @@ use Rattle.dwarf_lines.specs.Paths.{part_bytes}
 use Rattle.dwarf_lines.specs.Programs.{Program, programs_of, next_program}
 use Rattle.dwarf_lines.proofs.SectionPrograms.ProgramTurns.{programs-advance}
 
-pub section-listed : (s : LineSections) (programs : List Program) (after : ℕ)
+pub section-encoded : (s : LineSections) (programs : List Program) (after : ℕ)
     → programs_of s ≡ Ok (programs, after)
     → Lists (next_program s) [] 0 programs after
-section-listed s programs after h = Lists-within _ (next_program s) [] 0 programs after h
+section-encoded s programs after h = Lists-within _ (next_program s) [] 0 programs after h
 
 pub section-read : (s : LineSections) (programs : List Program) (after : ℕ)
     → Lists (next_program s) [] 0 programs after

@@ -16,7 +16,7 @@ use Rattle.dwarf_lines.specs.Matrix.{latest_first}
 use Rattle.dwarf_lines.specs.Programs.{Program, program_at_place}
 use Rattle.dwarf_lines.specs.ProgramEncoding.{IsProgram}
 use Rattle.dwarf_lines.proofs.Headers.BoundsLaws.{ok-is, header_at-past}
-use Rattle.dwarf_lines.proofs.Headers.HeadersEncoded.{header_stands, header_again}
+use Rattle.dwarf_lines.proofs.Headers.HeadersEncoded.{header_encoded, header_again}
 use Rattle.dwarf_lines.proofs.Instructions.ReadingLaws.{reading_is_encoded, spelled_is_read}
 use Rattle.dwarf_lines.proofs.Machine.MachineLaws.{rows-by-machine}
 
@@ -39,18 +39,18 @@ first-inside s place header bytes h =
     let known = f.encoding_is.lengths in
     (omega (arith, all, unit, four, rest, first, past), omega (arith, known))
 
-ending-good : (fault : Option Cause) (has_row : Bool) (n : ℕ) → ending fault has_row ≡ Ok n
+ending-valid : (fault : Option Cause) (has_row : Bool) (n : ℕ) → ending fault has_row ≡ Ok n
     → (fault ≡ None) × (has_row ≡ false)
-ending-good (Some cause) has_row n h = cc
-ending-good None true n h = cc
-ending-good None false n h = (refl, refl)
+ending-valid (Some cause) has_row n h = cc
+ending-valid None true n h = cc
+ending-valid None false n h = (refl, refl)
 
-pub matrix-good : (e : Encoding) (o : Origin) (read : Reading) (is : List Instruction)
+pub matrix-valid : (e : Encoding) (o : Origin) (read : Reading) (is : List Instruction)
     (rows : List Row)
     → read ≡ record { instructions = is; fault = None } → rows_from e o [] is ≡ Ok rows
     → is_open (latest_first [] is) ≡ false
     → matrix_after e o [] read ≡ Ok rows
-matrix-good e o read is rows read_is rows_is closed = rw (read_is, rows_is, closed) refl
+matrix-valid e o read is rows read_is rows_is closed = rw (read_is, rows_is, closed) refl
 
 matrix-is : (e : Encoding) (o : Origin) (read : Reading) (rows : List Row)
     → matrix_after e o [] read ≡ Ok rows
@@ -65,17 +65,17 @@ matrix-is e o read rows h =
     after-bind (ending read.fault (is_open (latest_first [] read.instructions))) _ rows h1 P
     (λ n ended h2.
     let same : made ≡ rows = ok-is {E = Cause} made rows h2 in
-    let valid = ending-good read.fault (is_open (latest_first [] read.instructions)) n ended in (
+    let valid = ending-valid read.fault (is_open (latest_first [] read.instructions)) n ended in (
       ap (λ (f : Option Cause). record { instructions = read.instructions; fault = f }) valid.0,
       made_is ∙ ap (λ (r : List Row). (let ok : Result (List Row) Cause = Ok r in ok)) same,
       valid.1,
     )))
 
-pub program-stands : (s : LineSections) (number place : ℕ) (program : Program)
+pub program-encoded : (s : LineSections) (number place : ℕ) (program : Program)
     → program_at_place s number place ≡ Ok program
     → IsProgram s number place program
 unfolding program_at_place
-program-stands s number place program h =
+program-encoded s number place program h =
     let P : Type 0 = IsProgram s number place program in
     after-bind (header_at s place) _ program h P (λ header header_is h1.
     let o : Origin = record { program = record { 0 = number }; files = length header.files } in
@@ -98,7 +98,7 @@ program-stands s number place program h =
     }) program h2 in
     let read : Reading = reading_of header.encoding (take header.past s.line) header.first in
     let found = matrix-is header.encoding o read rows rows_is in
-    let stands = header_stands s place header header_is in
+    let stands = header_encoded s place header header_is in
     let inside = first-inside s place header stands.front stands.encoded in
     let places = header_at-past s place header header_is in
     let size = length-take header.past s.line in
@@ -137,7 +137,7 @@ program-again s number place program p =
     inside.1 (omega (arith, inside.0, places.1, size)) p.instructions_are in
     let matrix : matrix_at header.encoding o (take header.past s.line) header.first
     ≡ Ok program.rows
-    = matrix-good header.encoding o _ p.instructions program.rows read
+    = matrix-valid header.encoding o _ p.instructions program.rows read
     (rows-by-machine header.encoding o p.instructions ∙ p.rows_are) p.ended in
     rw (header_is, matrix) (ap (λ (q : Program). (let ok : Result Program Cause = Ok q in ok))
     (sym p.program_is))

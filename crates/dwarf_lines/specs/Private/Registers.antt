@@ -12,7 +12,7 @@ use Rattle.dwarf_lines.specs.Instructions.{Encoding}
 use Rattle.dwarf_lines.specs.Matrix.{address_after, line_after, file_after, is_open}
 use Rattle.dwarf_lines.specs.Matrix.{starts_at_tombstone, row_before, line_row, made, with_front}
 
--- a sum that is represented only below 2 ^ 64
+-- a sum, or None if it is 2 ^ 64 or more
 abbrev pub IsSum : Option ℕ → ℕ → Type 0
 IsSum None sum = 2 ^ 64 ≤ sum
 IsSum (Some n) sum = n ≡ sum
@@ -31,8 +31,8 @@ pub record AreRegisters (e : Encoding) (before : List Instruction) (r : Register
   pub has_row : r.has_row ≡ is_open before
   pub at_tombstone : r.at_tombstone ≡ starts_at_tombstone before
 
--- The row of the registers is built at the address sum, and becomes the last row. In a dead
--- sequence it is discarded.
+-- The row of the registers is built at the address sum, and becomes the last row. In a sequence of
+-- dead code it is discarded.
 abbrev pub BuildsRow : Origin → Registers → ℕ → Result (Option Row) Cause → Registers → Type 0
 BuildsRow origin old sum (Ok (Some row)) new = (old.at_tombstone ≡ false)
     × (line_row origin old.previous sum old.line old.file ≡ Ok row)
@@ -42,7 +42,7 @@ BuildsRow origin old sum (Ok None) new = (old.at_tombstone ≡ true)
 BuildsRow origin old sum (Err cause) new = (old.at_tombstone ≡ false)
     × (line_row origin old.previous sum old.line old.file ≡ Err cause)
 
--- the row that ends a sequence; a dead sequence has none
+-- the row that ends a sequence; a sequence of dead code has none
 abbrev pub last_row : Bool → Result Row Cause → Result (Option Row) Cause
 last_row true row = Ok None
 last_row false (Ok row) = Ok (Some row)

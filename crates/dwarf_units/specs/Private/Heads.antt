@@ -37,8 +37,8 @@ abbrev pub used_entry_at : Table → List ℕ → ℕ → Result ((ℕ × Used) 
 used_entry_at table unit at = entry_at table.format table.declarations unit at
     >>= λ entry. Ok ((entry.0.0, used_among (stored_attributes true entry.0.1)), entry.1)
 
--- The first part of what is read is the result, and the second part is in the output argument. The
--- cursor is after it. The call may also fail because memory ran out.
+-- The call returns the first part of the value at the cursor, stores the second part in the output
+-- argument, and moves the cursor after the value. It may also fail because memory ran out.
 abbrev pub ReturnsAndFills : {X Y : Type 0} → Result X Cause → Y
     → (List ℕ → ℕ → Result ((X × Y) × ℕ) Cause) → Position → Position → Type 0
 ReturnsAndFills (Ok x) left read old new =

@@ -20,8 +20,8 @@ pub record IsLink (keep : Bool) (format : Format) (memoized : List MemoizedAttri
 
 -- The link that stores used attributes, or the one that stores none.
 abbrev pub link_by : Bool → Links → LinkedStep
-link_by true links = links.kept
-link_by false links = links.passed
+link_by true links = links.stored
+link_by false links = links.skipped
 
 -- The links of the memoized attributes, or of the first n of them, for units of a format.
 pub record AreLinked (format : Format) (memoized : List MemoizedAttribute) (links : List Links)

@@ -176,8 +176,8 @@ steps_at format [] bytes at = Ok ([], at)
 steps_at format (step ∷ steps) bytes at = step_at format step bytes at
     >>= λ first. prepend_attributes first.0 (steps_at format steps bytes first.1)
 
--- The output argument contains what is read, and the cursor is after it. The call may also fail
--- because memory ran out.
+-- The call stores the value at the cursor in the output argument and moves the cursor after it. It
+-- may also fail because memory ran out.
 abbrev pub Fills : {Y : Type 0} → Result (Unit {0}) Cause → Y
     → (List ℕ → ℕ → Result (Y × ℕ) Cause) → Position → Position → Type 0
 Fills (Ok u) left read old new =
@@ -186,18 +186,18 @@ Fills (Err cause) left read old new = Fails cause (read old.bytes old.place)
 
 -- The steps that store the used attributes, and the steps that store none.
 pub record Planned : Type 0 where
-  pub kept : List AttributeStep
-  pub passed : List AttributeStep
+  pub stored : List AttributeStep
+  pub skipped : List AttributeStep
 
 abbrev pub plan_of : Format → List AttributeSpecification → Planned
 plan_of format declared = record {
-  kept = steps_of true format declared;
-  passed = steps_of false format declared;
+  stored = steps_of true format declared;
+  skipped = steps_of false format declared;
 }
 
 -- The number of steps of a plan.
 abbrev pub plan_len : Planned → ℕ
-plan_len plan = length plan.kept + length plan.passed
+plan_len plan = length plan.stored + length plan.skipped
 
 -- The table of declarations at an offset, for units of a format.
 pub record Table : Type 0 where

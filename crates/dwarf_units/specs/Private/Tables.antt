@@ -23,7 +23,7 @@ use Rattle.dwarf_units.specs.Private.SharedTables.{IsReadable, SharedTable, full
 pub record CachedTables : Type 0 where
   pub section : List ℕ
   pub tables : List Table
-  pub kept : ℕ
+  pub permanent : ℕ
 
 -- The table of a unit as it is parsed, if at most `budget` declarations may be read.
 abbrev pub table_read : ℕ → List ℕ → UnitHeader → Result (List Declaration) LoadFault
@@ -34,7 +34,7 @@ table_read budget section unit =
 abbrev pub Refuses : {X Y : Type 0} → Result X LoadFault → Result Y LoadFault → Type 0
 Refuses result outcome = IfErr result (λ fault. (fault ≡ memory_fault) ⊎ (outcome ≡ Err fault))
 
--- A table is what is parsed at its offset.
+-- A table has the declarations that are parsed at its offset.
 abbrev pub IsParsedFrom : List ℕ → Table → Type 0
 IsParsedFrom section table =
     declarations_of declarations_limit section table.offset ≡ Ok table.declarations
@@ -61,40 +61,41 @@ size_limit section = 3 * length section + 65536
 
 -- The permanently cached tables are within the limit, and at most one table is temporary.
 abbrev pub IsWithinLimit : CachedTables → Type 0
-IsWithinLimit k = (sum_by table_size (take k.kept k.tables) ≤ size_limit k.section)
-    × (length k.tables ≤ k.kept + 1)
+IsWithinLimit k = (sum_by table_size (take k.permanent k.tables) ≤ size_limit k.section)
+    × (length k.tables ≤ k.permanent + 1)
 
 -- The table of a unit is cached permanently, or it would exceed the limit in addition to those
 -- that are.
 abbrev pub IsCachedOrTooLarge : CachedTables → UnitHeader → Type 0
 IsCachedOrTooLarge k unit = (table : Table) × IsAt unit.format unit.abbreviations table
     × IsParsedFrom k.section table
-    × (((number : ℕ) × (slice_get (take k.kept k.tables) number ≡ Some table))
-    ⊎ (size_limit k.section < sum_by table_size (take k.kept k.tables) + table_size table))
+    × (((number : ℕ) × (slice_get (take k.permanent k.tables) number ≡ Some table))
+    ⊎ (size_limit k.section < sum_by table_size (take k.permanent k.tables) + table_size table))
 
 -- The cache after one more table is added. The table is permanent if all of them are within the
 -- limit.
 abbrev pub with_table : CachedTables → Table → CachedTables
 with_table k table =
-    let tables = take k.kept k.tables ++ table ∷ [] in
+    let tables = take k.permanent k.tables ++ table ∷ [] in
     record {
       section = k.section;
       tables = tables;
-      kept = if nat_le (sum_by table_size tables) (size_limit k.section)
-          then length tables else k.kept;
+      permanent = if nat_le (sum_by table_size tables) (size_limit k.section)
+          then length tables else k.permanent;
     }
 
 -- Each table is parsed from the section, and its format and offset map to its index. `budget` is
 -- the remaining budget. The temporary table, if there is one, exceeds it.
-pub record AreCached (section : List ℕ) (tables : List Table) (kept budget : ℕ) (numbers : Numbers)
+pub record AreCached (section : List ℕ) (tables : List Table) (permanent budget : ℕ)
+    (numbers : Numbers)
     : Type 0 where
   pub stand : All (IsParsedFrom section) tables
   pub found : (i : ℕ) (table : Table) → slice_get tables i ≡ Some table
       → number_at numbers table.format table.offset ≡ Some i
-  pub counted : budget + sum_by table_size (take kept tables) ≡ size_limit section
-  pub within : kept ≤ length tables
-  pub one : length tables ≤ kept + 1
-  pub past : (table : Table) → slice_get tables kept ≡ Some table → budget < table_size table
+  pub counted : budget + sum_by table_size (take permanent tables) ≡ size_limit section
+  pub within : permanent ≤ length tables
+  pub one : length tables ≤ permanent + 1
+  pub past : (table : Table) → slice_get tables permanent ≡ Some table → budget < table_size table
 
 -- ---- tables whose declarations share attributes
 
@@ -103,12 +104,13 @@ abbrev pub seen : LinkedPlaces → TableStore → CachedTables
 seen lists store = record {
   section = lists.places.section;
   tables = full_tables lists.places.memoized store.tables.items;
-  kept = store.kept;
+  permanent = store.permanent;
 }
 
 pub record AreStored (lists : LinkedPlaces) (store : TableStore) : Type 0 where
-  pub kept : AreCached lists.places.section (full_tables lists.places.memoized store.tables.items)
-      store.kept store.budget store.numbers
+  pub permanent : AreCached lists.places.section
+      (full_tables lists.places.memoized store.tables.items)
+      store.permanent store.budget store.numbers
   pub readable : All (IsReadable lists) store.tables.items
 
 -- A table may be cached: it is parsed from the section, and no cached table has its format and

@@ -88,4 +88,4 @@ abbrev pub used_attributes_at : Bool → Format → List AttributeSpecification 
     → Result (Used × ℕ) Cause
 used_attributes_at keep format declared bytes at = stored_attributes_at keep format declared bytes
     at
-    >>= λ kept. Ok (used_among kept.0, kept.1)
+    >>= λ stored. Ok (used_among stored.0, stored.1)

@@ -23,8 +23,8 @@ use Rattle.dwarf_walk.specs.Private.Stored.{scope_entry_of}
 use Rattle.dwarf_walk.specs.Private.Long.{cached_at, long_entry, AreCachedOf}
 use Rattle.dwarf_walk.specs.Private.Named.{entry_with, used_at, named_entry_at}
 
--- The first part of what is read is the result, and the second part is in the output argument. The
--- call may also fail because memory ran out.
+-- The call returns the first part of the outcome and stores the second part in the output argument.
+-- It may also fail because memory ran out.
 abbrev pub ReturnsAndStores : {X Y : Type 0} → Result X Cause → Y → Result (X × Y) Cause → Type 0
 ReturnsAndStores (Ok x) left outcome = outcome ≡ Ok (x, left)
 ReturnsAndStores (Err cause) left outcome = Fails cause outcome
@@ -42,7 +42,8 @@ HasTableOf header reader =
 
 -- The table of a unit is cached permanently, and the reader has its index.
 abbrev pub HasPermanentTable : UnitHeader → EntryReader → Type 0
-HasPermanentTable header reader = HasTableOf header reader × (reader.number < reader.tables.kept)
+HasPermanentTable header reader = HasTableOf header reader
+    × (reader.number < reader.tables.permanent)
 
 -- The entry at an offset of a unit is short enough to be re-read for each reference to it.
 abbrev pub IsShort : Format → List Declaration → List ℕ → ℕ → Type 0

@@ -28,12 +28,12 @@ IsAnswerOf h e = (h.serial ≡ e.0.serial) × (e.1 ≡ place_in h.loaded.bytes e
 
 -- The number of modules is within the limit. A serial number is below the count of loads and
 -- identifies the bytes of one module. A value cached under it is an answer of that module.
-pub record AreSound (held : List NumberedModule) (loads : ℕ) (entries : List CacheEntry) :
+pub record AreSound (sorted : List NumberedModule) (loads : ℕ) (entries : List CacheEntry) :
     Type 0 where
-  pub few : length held ≤ most_modules
-  pub below : (h : NumberedModule) → Contains held h → h.serial < loads
-  pub one : (h g : NumberedModule) → Contains held h → Contains held g →
+  pub few : length sorted ≤ most_modules
+  pub below : (h : NumberedModule) → Contains sorted h → h.serial < loads
+  pub one : (h g : NumberedModule) → Contains sorted h → Contains sorted g →
       h.serial ≡ g.serial → h.loaded.bytes ≡ g.loaded.bytes
   pub past : (e : CacheEntry) → Contains entries e → e.0.serial < loads
-  pub right : (e : CacheEntry) (h : NumberedModule) → Contains entries e → Contains held h →
+  pub right : (e : CacheEntry) (h : NumberedModule) → Contains entries e → Contains sorted h →
       h.serial ≡ e.0.serial → e.1 ≡ place_in h.loaded.bytes e.0.link

@@ -1,5 +1,5 @@
 use Rattle.std.proofs.Common.{◌∙◌, refl, sym, arith}
-use Rattle.addr_table.proofs.Decoding.CrossCheckLaws.{scopes-none, scopes-more, scopes-bad}
+use Rattle.addr_table.proofs.Decoding.CrossCheckLaws.{scopes-none, scopes-more, scopes-invalid}
 use Rattle.addr_table.proofs.Decoding.CrossCheckLaws.{scopes-over}
 use Rattle.addr_table.proofs.Decoding.CrossCheckLaws.{OfUnit}
 use Rattle.addr_table.proofs.Decoding.CrossCheckLaws.{returned-offset}
@@ -28,7 +28,7 @@ returns-then-is_bad_scope c =
     let a = (goal.at.returns-then-is_bad_scope c).After-is_bad_scope in
     rw (c.at_item.ensures) (
       refl,
-      scopes-bad _ _ _ _ _ _ no_scope (of_unit a) c.loop-number.invariant
+      scopes-invalid _ _ _ _ _ _ no_scope (of_unit a) c.loop-number.invariant
           (sym (c.is_bad_scope.ensures _ (c.scope_at-scope.ensures no_scope))
           ∙ c.if-is_bad_scope.true)
           (c.offset-at.ensures ∙ returned-offset _ _ _ (c.scope_at-scope.ensures no_scope)),

@@ -1,7 +1,7 @@
 use Rattle.std.proofs.lemmas.Result.{err_from_is_err_and}
 use Rattle.addr_table.specs.CrossChecks.{check_unit}
 use Rattle.addr_table.proofs.Decoding.EachTurns.{each_none}
-use Rattle.addr_table.proofs.Decoding.CrossCheckLaws.{units-more, units-bad, units-over}
+use Rattle.addr_table.proofs.Decoding.CrossCheckLaws.{units-more, units-invalid, units-over}
 use Rattle.addr_table.proofs.cross_checks.cross_check.Goals as goal
 
 pub loop-root-init : goal.loop-root-init
@@ -12,7 +12,7 @@ pub returns-in_err-check_unit : goal.returns-in_err-check_unit
 returns-in_err-check_unit c =
     let p = err_from_is_err_and c.from_residual.result c.from_residual.ensures.1 in
     rw (p.1, p.2)
-    (units-bad c.args.lines.now c.args.scopes.now _ _ _ _ c.roots-root-items.ensures
+    (units-invalid c.args.lines.now c.args.scopes.now _ _ _ _ c.roots-root-items.ensures
     c.loop-root.invariant c.loop-root-test.true
     c.in_err-check_unit.ensures)
 

@@ -2,7 +2,7 @@ use Rattle.std.proofs.Common.{◌≡◌, ◌∙◌, Bool, false, ◌&&◌, sym, 
 use Rattle.dwarf_walk.specs.declared.scope_kind.ScopeKind.{ScopeKind}
 use Rattle.dwarf_walk.specs.declared.scope_kind.ScopeKind.TheVariants.{Subprogram, Inlined}
 use Rattle.addr_table.specs.Chains.{is_kind}
-use Rattle.addr_table.proofs.Decoding.CrossCheckLaws.{returned-bad}
+use Rattle.addr_table.proofs.Decoding.CrossCheckLaws.{returned-invalid}
 use Rattle.addr_table.proofs.cross_checks.is_bad_scope.Goals as goal
 
 of_subprogram : (kind : ScopeKind) (b : Bool) → kind ≡ Subprogram
@@ -14,11 +14,11 @@ of_inlined : (kind : ScopeKind) (b c : Bool) → kind ≡ Inlined → c ≡ b
 of_inlined kind b c is same = same ∙ ap (λ k. is_kind Inlined k && b) (sym is)
 
 pub returns-in-Subprogram : goal.returns-in-Subprogram
-returns-in-Subprogram c = λ s tells. returned-bad _ _ _ s _ tells
+returns-in-Subprogram c = λ s tells. returned-invalid _ _ _ s _ tells
     (of_subprogram _ _ (sym c.kind.ensures ∙ c.in-Subprogram.is))
 
 pub returns-in-Inlined : goal.returns-in-Inlined
 returns-in-Inlined c =
-    λ s tells. returned-bad _ _ _ s _ tells
+    λ s tells. returned-invalid _ _ _ s _ tells
     (of_inlined _ _ _ (sym c.kind.ensures ∙ c.in-Inlined.is)
     (rw (← c.call_file.ensures, ← c.stmt_list.ensures) c.is_bad_call.ensures))

@@ -1,6 +1,6 @@
 use Rattle.std.proofs.Common.{◌∙◌, suc, refl, sym, ap}
-use Rattle.addr_table.specs.Private.Walks.{nears_of, outermost, inlined}
-use Rattle.addr_table.proofs.Chains.ChainEnds.{near-some, near-below}
+use Rattle.addr_table.specs.Private.Walks.{parent_codes, outermost, inlined}
+use Rattle.addr_table.proofs.Chains.ChainEnds.{code-some, code-below}
 use Rattle.addr_table.proofs.FrameWalks.WalkLaws.{pass}
 use Rattle.addr_table.proofs.parent_walk.next_in_chain.Goals as goal
 use Rattle.addr_table.proofs.parent_walk.next_in_chain.Goals.{then-number-top-via-then-number-top}
@@ -15,9 +15,9 @@ returns-then-number-top-clause-returned c = elim c.then-number-top.branch [
 
 pub loop-scope-preserved : goal.loop-scope-preserved
 loop-scope-preserved c =
-    let p = pass c.args.link c.args.scopes.now.scopes (nears_of c.args.parents.now) _
-    c.in-Some.number c.args.top c.requires.have (near-some _ _ c.in-Some.is)
-    (near-below _ _ _ c.in-Some.is c.loop-scope.invariant.within) c.loop-scope.invariant.ends
+    let p = pass c.args.link c.args.scopes.now.scopes (parent_codes c.args.parents.now) _
+    c.in-Some.number c.args.top c.requires.have (code-some _ _ c.in-Some.is)
+    (code-below _ _ _ c.in-Some.is c.loop-scope.invariant.within) c.loop-scope.invariant.ends
     c.if-number-top.false (λ d. sym (c.if-is_scope_at.ensures d)) in
     rw c.parent-scope.ensures
     (record { within = p.within; chain = p.chain ∙ c.loop-scope.invariant.chain; ends = p.ends })

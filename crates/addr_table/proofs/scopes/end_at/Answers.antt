@@ -1,5 +1,5 @@
 use Rattle.std.proofs.Common.{◌∙◌}
-use Rattle.addr_table.proofs.Decoding.TellLaws.{end-item}
+use Rattle.addr_table.proofs.Decoding.ScopeDataLaws.{end-item}
 use Rattle.addr_table.proofs.scopes.end_at.Goals as goal
 
 pub returns : goal.returns

@@ -1,4 +1,4 @@
-use Rattle.addr_table.proofs.Decoding.TellLaws.{returned-item}
+use Rattle.addr_table.proofs.Decoding.ScopeDataLaws.{returned-item}
 use Rattle.addr_table.proofs.scopes.scope_at.Goals as goal
 
 pub returns : goal.returns

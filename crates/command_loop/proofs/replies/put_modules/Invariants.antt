@@ -5,9 +5,9 @@ use Rattle.answer_text.specs.Pending.{Put}
 use Rattle.command_loop.specs.Text.{module_text}
 use Rattle.command_loop.proofs.replies.put_modules.Given as goal
 
-abbrev pub invariant-loop-listed : goal.invariant-loop-listed
-invariant-loop-listed g l =
-    ((done : List Listed) × (l.initial.listed-iterator ≡ done ++ l.listed-iterator)
+abbrev pub invariant-loop-item : goal.invariant-loop-item
+invariant-loop-item g l =
+    ((done : List Listed) × (l.initial.item-iterator ≡ done ++ l.item-iterator)
     × Put (g.W.Sink.written l.initial.writer) (g.W.Sink.written l.writer) l.initial.pending
     l.pending (flat_map module_text done))
     × (g.W.Sink.failures l.writer ≡ g.W.Sink.failures l.initial.writer)

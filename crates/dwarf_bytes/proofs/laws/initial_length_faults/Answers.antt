@@ -1,10 +1,10 @@
-use Rattle.dwarf_bytes.proofs.Numbers.ReadFaults.{length-fault, length-cut, length-reserved}
+use Rattle.dwarf_bytes.proofs.Numbers.ReadFaults.{length-fault, length-truncated, length-reserved}
 use Rattle.dwarf_bytes.proofs.Numbers.ReadFaults.{only-short, only-length, short-or-length}
 use Rattle.dwarf_bytes.proofs.laws.initial_length_faults.Goals as goal
 
 pub returns-clause-short : goal.returns-clause-short
 returns-clause-short c bytes at =
-    (λ e. only-short (length-fault bytes at _ e), length-cut bytes at)
+    (λ e. only-short (length-fault bytes at _ e), length-truncated bytes at)
 
 pub returns-clause-reserved : goal.returns-clause-reserved
 returns-clause-reserved c bytes at =

@@ -1,5 +1,5 @@
-use Rattle.dwarf_bytes.proofs.Numbers.LebEncodings.{sleb-stands, sleb-again}
+use Rattle.dwarf_bytes.proofs.Numbers.LebEncodings.{sleb-encoded, sleb-again}
 use Rattle.dwarf_bytes.proofs.laws.sleb_is_encoded.Goals as goal
 
 pub returns : goal.returns
-returns c bytes at value next = (sleb-stands bytes at value next, sleb-again bytes at value next)
+returns c bytes at value next = (sleb-encoded bytes at value next, sleb-again bytes at value next)

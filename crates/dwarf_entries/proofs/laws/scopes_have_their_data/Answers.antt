@@ -1,5 +1,5 @@
-use Rattle.dwarf_entries.proofs.ScopePasses.DataLaws.{tells-of}
+use Rattle.dwarf_entries.proofs.ScopePasses.DataLaws.{data-of}
 use Rattle.dwarf_entries.proofs.laws.scopes_have_their_data.Goals as goal
 
 pub returns : goal.returns
-returns c = tells-of
+returns c = data-of

@@ -1,7 +1,7 @@
 use Rattle.std.proofs.Common.{Err, Ok, inr, refl, sym}
 use Rattle.std.proofs.lemmas.Result.{err_from_is_err_and}
 use Rattle.dwarf_walk.specs.Sections.{sections_of}
-use Rattle.dwarf_entries.proofs.OriginChains.ChainStrings.{text_kept, names-found, path-fails}
+use Rattle.dwarf_entries.proofs.OriginChains.ChainStrings.{text_stored, names-found, path-fails}
 use Rattle.dwarf_entries.proofs.origin_chains.chain_names.Goals as goal
 
 pub returns-in_err-firsts-clause-names : goal.returns-in_err-firsts-clause-names
@@ -20,7 +20,7 @@ returns-in_err-name-clause-names c us are marked same read reader m at =
     rw (p.1, p.2)
     (inr (sym (names-found s c.args.of.bases.now us c.args.remaining m firsts same
     (c.in_ok-firsts.ensures.names s us are marked read reader m at)
-    (Err c.in_err-name.field-0.0) (text_kept s c.args.of.bases.now firsts.linkage_name)
+    (Err c.in_err-name.field-0.0) (text_stored s c.args.of.bases.now firsts.linkage_name)
     c.in_err-name.ensures refl)))
 
 pub returns-in_err-linkage_name-clause-names : goal.returns-in_err-linkage_name-clause-names

@@ -6,7 +6,7 @@ use Rattle.dwarf_entries.specs.declared.scope.Range.{Range}
 use Rattle.dwarf_entries.specs.declared.range_entries.RangeListEntry.{RangeListEntry}
 use Rattle.dwarf_entries.specs.declared.range_entries.RangeListEntry.TheVariants.{Base, Covers}
 use Rattle.dwarf_walk.specs.Sections.{sections_of}
-use Rattle.dwarf_entries.proofs.RangeLists.RangeTurns.{ListedSoFar, list-item, list-end, list-fault}
+use Rattle.dwarf_entries.proofs.RangeLists.RangeTurns.{ListSoFar, list-item, list-end, list-fault}
 use Rattle.dwarf_entries.proofs.RangeLists.RangeTurns.{list-unsought}
 use Rattle.dwarf_bytes.proofs.Items.Turns.{None-from-no-Some}
 use Rattle.dwarf_entries.proofs.ranges.add_list.Goals as goal
@@ -53,7 +53,7 @@ loop-entry-preserved-in-Base c =
     record {
       bytes = turn.bytes_stay;
       listed =
-          subst (λ (r : List Range). ListedSoFar c.args.budget (sections_of c.args.sections.now)
+          subst (λ (r : List Range). ListSoFar c.args.budget (sections_of c.args.sections.now)
           c.args.bases.now c.args.sections.now.debug_rnglists.now c.args.place
           c.next_entry.new.cursor.place (c.loop-entry.items + 1) (Some c.in-Base.new)
           c.args.all.now.items r)
@@ -105,7 +105,7 @@ loop-entry-preserved c =
     record {
       bytes = turn.bytes_stay;
       listed =
-          subst (λ (r : List Range). ListedSoFar c.args.budget (sections_of c.args.sections.now)
+          subst (λ (r : List Range). ListSoFar c.args.budget (sections_of c.args.sections.now)
           c.args.bases.now c.args.sections.now.debug_rnglists.now c.args.place
           c.next_entry.new.cursor.place (c.loop-entry.items + 1) c.loop-entry.base
           c.args.all.now.items r)

@@ -1,12 +1,12 @@
 use Rattle.std.proofs.Common.{◌≡◌, ◌-◌, length}
 use Rattle.dwarf_walk.specs.Sections.{sections_of}
-use Rattle.dwarf_entries.proofs.RangeLists.RangeTurns.{ListedSoFar}
+use Rattle.dwarf_entries.proofs.RangeLists.RangeTurns.{ListSoFar}
 use Rattle.dwarf_entries.proofs.ranges.add_list.Given as goal
 
 abbrev pub invariant-loop-entry : goal.invariant-loop-entry
 invariant-loop-entry l = record {
   bytes : l.cursor.bytes ≡ l.sections.debug_rnglists.now;
-  listed : ListedSoFar l.budget (sections_of l.sections) l.bases l.sections.debug_rnglists.now
+  listed : ListSoFar l.budget (sections_of l.sections) l.bases l.sections.debug_rnglists.now
       l.place
       l.cursor.place l.items l.base l.fn.all.items l.all.items;
 }

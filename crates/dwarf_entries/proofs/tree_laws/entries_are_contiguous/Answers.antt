@@ -1,5 +1,5 @@
-use Rattle.dwarf_entries.proofs.UnitPasses.ContiguousUnits.{entries-listed}
+use Rattle.dwarf_entries.proofs.UnitPasses.ContiguousUnits.{entries-contiguous}
 use Rattle.dwarf_entries.proofs.tree_laws.entries_are_contiguous.Goals as goal
 
 pub returns : goal.returns
-returns c = entries-listed
+returns c = entries-contiguous

@@ -1,5 +1,5 @@
-use Rattle.dwarf_entries.proofs.UnitPasses.ContiguousUnits.{units-listed}
+use Rattle.dwarf_entries.proofs.UnitPasses.ContiguousUnits.{units-contiguous}
 use Rattle.dwarf_entries.proofs.tree_laws.units_are_contiguous.Goals as goal
 
 pub returns : goal.returns
-returns c = units-listed
+returns c = units-contiguous

@@ -3,7 +3,7 @@ use Rattle.std.proofs.lemmas.Result.{err_from_is_err_and}
 use Rattle.dwarf_forms.specs.Tables.{attribute_at}
 use Rattle.dwarf_forms.specs.Private.Index.{ContainsNames}
 use Rattle.dwarf_forms.specs.declared.attribute.AttributeSpecification.{AttributeSpecification}
-use Rattle.dwarf_forms.proofs.Names.{held-few, held_more}
+use Rattle.dwarf_forms.proofs.Names.{names-few, names_more}
 use Rattle.dwarf_forms.proofs.Moves.{attribute_at-advances, attributes-ok, attributes-err}
 use Rattle.dwarf_bytes.proofs.Items.Turns.{so-far-item, so-far-end, so-far-fault, next-item}
 use Rattle.dwarf_bytes.proofs.Items.Turns.{next_end, next-fault, None-from-no-Some}
@@ -48,10 +48,10 @@ loop-later-preserved c =
           subst (λ (xs : List AttributeSpecification). ContainsNames c.if-len-ge-FEW.later
           (drop 32 xs)) (sym c.in_ok-push.ensures.items)
           (elim c.if-len-ge-FEW.branch [
-            | then-len-ge-FEW+in_ok-insert w ↦ rw w.later-is (held_more c.loop-later.all.items
+            | then-len-ge-FEW+in_ok-insert w ↦ rw w.later-is (names_more c.loop-later.all.items
                 c.in-Some.next c.loop-later.later w.insert.new.self 32 (omega arith)
                 w.in_ok-insert.ensures.updates.0 c.loop-later.invariant.names)
-            | else-len-ge-FEW w ↦ rw w.later-is (held-few c.loop-later.all.items c.in-Some.next
+            | else-len-ge-FEW w ↦ rw w.later-is (names-few c.loop-later.all.items c.in-Some.next
                 c.loop-later.later 32 (omega arith) c.loop-later.invariant.names)
           ]);
       read = rw c.in_ok-push.ensures.items (so-far-item (length bytes) (attribute_at bytes)

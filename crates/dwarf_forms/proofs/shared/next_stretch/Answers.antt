@@ -6,8 +6,8 @@ use Rattle.dwarf_forms.specs.Private.Shared.{places_from}
 use Rattle.std.proofs.lemmas.List.Elements.{All-push}
 use Rattle.dwarf_forms.specs.Private.Index.{ContainsNames}
 use Rattle.dwarf_forms.specs.declared.attribute.AttributeSpecification.{AttributeSpecification}
-use Rattle.dwarf_forms.proofs.Names.{held-few, held_more}
-use Rattle.dwarf_forms.proofs.JoinedLists.{so-far-joined, so-far-refused}
+use Rattle.dwarf_forms.proofs.Names.{names-few, names_more}
+use Rattle.dwarf_forms.proofs.SuffixLists.{so-far-append, so-far-refused}
 use Rattle.dwarf_forms.proofs.Moves.{attribute_at-advances, attributes-ok, attributes-err}
 use Rattle.dwarf_bytes.proofs.Items.Turns.{so-far-item, so-far-end, so-far-fault, next-item}
 use Rattle.dwarf_bytes.proofs.Items.Turns.{next_end, next-fault, None-from-no-Some}
@@ -32,10 +32,10 @@ pub returns-in-Some : goal.returns-in-Some
 returns-in-Some c =
     let bytes = c.args.cursor.now.bytes in
     let inv = c.loop-number.invariant in
-    let joined = rw (c.deref.ensures.value, inv.bytes) at c.in_ok-join.ensures.0 in
-    let read = so-far-joined bytes c.args.cursor.now.place c.loop-number.attributes.items
+    let both-parts = rw (c.deref.ensures.value, inv.bytes) at c.in_ok-join.ensures.0 in
+    let read = so-far-append bytes c.args.cursor.now.place c.loop-number.attributes.items
     c.loop-number.cursor.place (attributes_from c.args.lists.now.memoized c.in-Some.number)
-    c.join.new.cursor.place inv.read joined in (
+    c.join.new.cursor.place inv.read both-parts in (
       stretch-is c.args.lists.now bytes c.args.cursor.now.place c.join.new.cursor.place _ c.requires
           read inv.places (memoized-number c.args.lists.now.memoized c.in-Some.number _
           c.in-Some.ensures.some) (omega (arith, c.in-Some.ensures.behind, c.len.ensures))
@@ -107,10 +107,10 @@ loop-number-preserved c =
           (drop 32 xs)) (sym items)
           (elim c.if-len-ge-FEW.branch [
             | then-len-ge-FEW+in_ok-insert w ↦ rw w.later-is
-                (held_more own item c.loop-number.later w.insert.new.self 32 (omega arith)
+                (names_more own item c.loop-number.later w.insert.new.self 32 (omega arith)
                 w.in_ok-insert.ensures.updates.0 inv.names)
             | else-len-ge-FEW w ↦ rw w.later-is
-                (held-few own item c.loop-number.later 32 (omega arith) inv.names)
+                (names-few own item c.loop-number.later 32 (omega arith) inv.names)
           ]);
       at = rw items (after-more bytes first own item c.loop-number.cursor.place
           c.next_attribute.new.cursor.place inv.at found.0);

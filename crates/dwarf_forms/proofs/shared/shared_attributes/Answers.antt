@@ -5,7 +5,7 @@ use Rattle.dwarf_forms.specs.declared.attribute.AttributeSpecification.{Attribut
 use Rattle.dwarf_forms.specs.Tables.{attributes_at}
 use Rattle.dwarf_forms.specs.Private.Memoized.{rest_attributes}
 use Rattle.dwarf_forms.specs.Private.Shared.{AreReadAt}
-use Rattle.dwarf_forms.proofs.SharedLaws.{shared-whole, stretch-lengths, stretch-stand}
+use Rattle.dwarf_forms.proofs.SharedLaws.{shared-whole, stretch-lengths, stretch-read}
 use Rattle.dwarf_forms.proofs.shared.shared_attributes.Goals as goal
 
 pub put_all-requires-clause-lengths : goal.put_all-requires-clause-lengths
@@ -23,7 +23,7 @@ put_all-requires-clause-stand c =
     let rest = rest_attributes c.args.lists.now.memoized read.rest in
     let behind : c.split_at.result.1.now ≡ drop 64 read.attributes.items =
     c.split_at.ensures.back ∙ ap (drop 64) c.deref.ensures.value in
-    let stand = stretch-stand c.args.lists.now c.args.cursor.now.place
+    let stand = stretch-read c.args.lists.now c.args.cursor.now.place
     c.next_stretch.new.cursor.place read c.in_ok-attributes.ensures.0 in
     subst (λ (after : ℕ). AreReadAt section c.deref-2.result.now c.split_at.result.1.now rest after)
     (sym c.place.ensures.place)

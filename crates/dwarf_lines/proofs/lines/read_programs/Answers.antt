@@ -8,7 +8,7 @@ use Rattle.dwarf_lines.specs.Private.Readers.{sections_of}
 use Rattle.dwarf_lines.specs.Private.Stored.{tables_in}
 use Rattle.dwarf_lines.proofs.SectionPrograms.ProgramTurns.{goes_on, refuses, gives, is-done}
 use Rattle.dwarf_lines.proofs.SectionPrograms.ProgramTurns.{program_at_place-past}
-use Rattle.dwarf_lines.proofs.SectionPrograms.Offsets.{kept-rise}
+use Rattle.dwarf_lines.proofs.SectionPrograms.Offsets.{tables-rise}
 use Rattle.dwarf_lines.proofs.lines.read_programs.Goals as goal
 
 pub loop-place-smaller : goal.loop-place-smaller
@@ -60,6 +60,6 @@ invariant_of-result c =
     let s : LineSections = sections_of c.args.sections in
     let le : length c.args.sections.line.now ≤ c.loop-place.place = omega arith in
     let reads = c.loop-place.invariant.1 in
-    kept-rise s c.loop-place.invariant.0 0 c.loop-place.programs.items c.loop-place.place
+    tables-rise s c.loop-place.invariant.0 0 c.loop-place.programs.items c.loop-place.place
     (is-done s c.loop-place.invariant.0 c.loop-place.place c.loop-place.rows.items
     (map tables_in c.loop-place.programs.items) reads le) reads.tables_are

@@ -7,8 +7,8 @@ use Rattle.dwarf_units.proofs.unit_headers.units.Goals as goal
 
 pub returns : goal.returns
 returns c =
-    let kept : c.retain.new.self.items ≡ filter is_read c.in_ok-all.all.items =
+    let stored : c.retain.new.self.items ≡ filter is_read c.in_ok-all.all.items =
     filter_from_retain _ is_read (λ p x b q k. search rules) _ c.in_ok-all.all.items
     c.retain.new.self.items c.retain.ensures.filtered in
     units-read c.args.info.now c.in_ok-all.all.items c.retain.new.self.items c.in_ok-all.ensures
-    kept
+    stored

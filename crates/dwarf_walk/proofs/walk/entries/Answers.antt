@@ -1,7 +1,7 @@
 use Rattle.std.proofs.Common.{arith, inr}
 use Rattle.std.proofs.lemmas.Result.{err_from_is_err_and}
 use Rattle.dwarf_walk.specs.Private.Readers.{state_of}
-use Rattle.dwarf_walk.proofs.WalkEnds.{entries-end, entries-open, entries-fault, entries-marks}
+use Rattle.dwarf_walk.proofs.WalkEnds.{entries-end, entries-open, entries-fault, entries-bitmap}
 use Rattle.dwarf_walk.proofs.walk.entries.Goals as goal
 
 pub returns-in_err-walk-clause-decodes : goal.returns-in_err-walk-clause-decodes
@@ -22,5 +22,5 @@ returns-clause-decodes c = entries-end c.args.info.now c.args.header c.args.tabl
     (omega (arith, c.if-walk-gt0.false)) c.in_ok-end_scopes.ensures.0
 
 pub returns-clause-bitmap : goal.returns-clause-bitmap
-returns-clause-bitmap c = entries-marks c.args.info.now c.args.header c.args.table.now.declarations
+returns-clause-bitmap c = entries-bitmap c.args.info.now c.args.header c.args.table.now.declarations
     c.args.bitmap.now c.walk_unit.new.bitmap c.in_ok-walk.ensures.bitmap

@@ -5,7 +5,7 @@ use Rattle.dwarf_bytes.specs.Refusals.{Fails}
 use Rattle.dwarf_units.specs.Entries.{Node, node_at_depth}
 use Rattle.dwarf_walk.specs.Private.EntryBitmap.{AddsOffsets}
 use Rattle.dwarf_walk.specs.Private.Readers.{places_of, state_of, state_at}
-use Rattle.dwarf_walk.proofs.WalkTurns.{walk-item, walk-end, walk-marks, walk-fault}
+use Rattle.dwarf_walk.proofs.WalkTurns.{walk-item, walk-end, walk-bitmap, walk-fault}
 use Rattle.dwarf_walk.proofs.walk.walk_unit.Goals as goal
 
 pub returns-in-Err-clause-decodes : goal.returns-in-Err-clause-decodes
@@ -49,7 +49,7 @@ loop-place-preserved c =
     (is_some c.loop-place.walk.root) c.unit_bytes-unit.result.now c.loop-place.place ≡ Ok node
     → AddsOffsets c.loop-place.bitmap c.read_node.new.bitmap (places_of c.loop-place.place node.0))
     c.requires c.in-Ok.ensures.bitmap) in
-    turn.walked_so
+    turn.walk_so
 
 pub returns-clause-decodes : goal.returns-clause-decodes
 returns-clause-decodes c =
@@ -60,7 +60,7 @@ returns-clause-decodes c =
 
 pub returns-clause-bitmap : goal.returns-clause-bitmap
 returns-clause-bitmap c =
-    walk-marks c.args.info.now c.args.header c.args.table.now.declarations c.args.bitmap.now
+    walk-bitmap c.args.info.now c.args.header c.args.table.now.declarations c.args.bitmap.now
     c.loop-place.bitmap c.loop-place.place (state_of c.loop-place.walk)
     (let len = ap length c.unit_bytes-unit.ensures in omega (arith, len, c.loop-place-test.false))
     c.loop-place.invariant

@@ -1,10 +1,10 @@
 use Rattle.std.proofs.Common.{◌-◌, length}
 use Rattle.dwarf_walk.specs.Private.Readers.{state_of}
-use Rattle.dwarf_walk.proofs.WalkTurns.{WalkedSoFar}
+use Rattle.dwarf_walk.proofs.WalkTurns.{WalkSoFar}
 use Rattle.dwarf_walk.proofs.walk.walk_unit.Given as goal
 
 abbrev pub invariant-loop-place : goal.invariant-loop-place
-invariant-loop-place l = WalkedSoFar l.info l.fn.header l.table.declarations l.fn.bitmap l.bitmap
+invariant-loop-place l = WalkSoFar l.info l.fn.header l.table.declarations l.fn.bitmap l.bitmap
     l.place (state_of l.walk)
 
 abbrev pub decreases-loop-place : goal.decreases-loop-place

@@ -10,11 +10,11 @@ use Rattle.module_map.proofs.cache.remember.Goals as goal
 -- after a put that succeeded, or that ran out of memory
 module _ {V T E : Type 0} (c : LruCache CacheKey V) (key : CacheKey) (v : V) (new : LruCache CacheKey V)
   where
-    kept : (r : Result T E) → OnOk r (new ≡ lru_cache (put_entries is_key c key v) c.cap)
+    changed : (r : Result T E) → OnOk r (new ≡ lru_cache (put_entries is_key c key v) c.cap)
         → OnErr r (new ≡ c)
         → (new.entries ≡ c.entries) ⊎ (new.entries ≡ put_entries is_key c key v)
-    kept (Ok x) ok err = inr (ap (λ l. l.entries) ok)
-    kept (Err x) ok err = inl (ap (λ l. l.entries) err)
+    changed (Ok x) ok err = inr (ap (λ l. l.entries) ok)
+    changed (Err x) ok err = inl (ap (λ l. l.entries) err)
 
     cached : (r : Result T E) → OnOk r (new ≡ lru_cache (put_entries is_key c key v) c.cap)
         → OnErr r (new ≡ c)
@@ -31,14 +31,14 @@ module _ {V T E : Type 0} (c : LruCache CacheKey V) (key : CacheKey) (v : V) (ne
         let same : length new.entries ≡ length c.entries = ap (λ l. length l.entries) err in
         (omega arith, omega arith, omega arith)
 
-    same_room : (r : Result T E) → OnOk r (new ≡ lru_cache (put_entries is_key c key v) c.cap)
+    same_cap : (r : Result T E) → OnOk r (new ≡ lru_cache (put_entries is_key c key v) c.cap)
         → OnErr r (new ≡ c) → new.cap ≡ c.cap
-    same_room (Ok x) ok err = ap (λ l. l.cap) ok
-    same_room (Err x) ok err = ap (λ l. l.cap) err
+    same_cap (Ok x) ok err = ap (λ l. l.cap) ok
+    same_cap (Err x) ok err = ap (λ l. l.cap) err
 
-pub returns-clause-kept : goal.returns-clause-kept
-returns-clause-kept c =
-    kept c.args.answers.now c.args.key c.args.place c.put.new.self c.put.result
+pub returns-clause-change : goal.returns-clause-change
+returns-clause-change c =
+    changed c.args.answers.now c.args.key c.args.place c.put.new.self c.put.result
     c.put.ensures.entries c.put.ensures.err
 
 pub returns-clause-cached : goal.returns-clause-cached
@@ -57,6 +57,6 @@ returns-clause-within c =
     let g = grown c.args.answers.now c.args.key c.args.place c.put.new.self c.put.result
     c.put.ensures.entries c.put.ensures.err
     c.len-count.ensures.valid.2 c.len-count.ensures.valid.1 in
-    let same = same_room c.args.answers.now c.args.key c.args.place c.put.new.self c.put.result
+    let same = same_cap c.args.answers.now c.args.key c.args.place c.put.new.self c.put.result
     c.put.ensures.entries c.put.ensures.err in
     omega arith

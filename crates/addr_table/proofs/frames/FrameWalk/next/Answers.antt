@@ -1,16 +1,17 @@
 use Rattle.std.proofs.Common.{refl}
-use Rattle.addr_table.specs.Private.Walks.{near_of, nears_of}
-use Rattle.addr_table.proofs.FrameWalks.WalkLaws.{Told, tell}
+use Rattle.addr_table.specs.Private.Walks.{parent_code, parent_codes}
+use Rattle.addr_table.proofs.FrameWalks.WalkLaws.{IsNextFrame, frame-taken}
 use Rattle.addr_table.proofs.FrameWalks.FrameTurns.{returned-frame}
 use Rattle.addr_table.proofs.frames.FrameWalk.next.Goals as goal
 use Rattle.addr_table.proofs.frames.FrameWalk.next.Goals.{After-outer-self-inside}
 
 returned : (c : After-outer-self-inside)
-    → Told c.self.inside.link c.self.inside.tables.scopes.now.scopes
-    (nears_of c.self.inside.parents.now) (near_of c.self.inside.scope) c.in-Some.number
+    → IsNextFrame c.self.inside.link c.self.inside.tables.scopes.now.scopes
+    (parent_codes c.self.inside.parents.now) (parent_code c.self.inside.scope) c.in-Some.number
     c.self.inside.top
 returned c =
-    tell _ _ _ _ _ _ _ c.self.invariant.have refl c.in-Some.ensures.within c.in-Some.ensures.chain
+    frame-taken _ _ _ _ _ _ _ c.self.invariant.have refl
+    c.in-Some.ensures.within c.in-Some.ensures.chain
     c.in-Some.ensures.ends c.in-Some.ensures.returned
 
 pub invariant_of-self-2 : goal.invariant_of-self-2

@@ -33,7 +33,7 @@ returns-in_err-bases c read =
     rw (p.1, p.2)
     (bases-pass-fault s c.args.headers.now read c.in_ok-stored.stored.items c.in_err-bases.field-0.0
     entries ((rw c.as_slice.ensures.value at c.in_err-bases.ensures) c.args.headers.now
-    entries.dies entries.kept_are))
+    entries.dies entries.stored_are))
 
 pub scopes-requires-clause-bases : goal.scopes-requires-clause-bases
 scopes-requires-clause-bases c =
@@ -51,7 +51,7 @@ scopes-requires-clause-bases c =
     let units = units_read s c.args.headers.now read c.in_ok-stored.stored.items
     c.in_ok-bases.bases.items entries
     ((rw c.as_slice.ensures.value at c.in_ok-bases.ensures) c.args.headers.now entries.dies
-    entries.kept_are) in
+    entries.stored_are) in
     rw (c.as_slice-2.ensures.value, c.as_slice-3.ensures.value)
     (as-many c.in_ok-stored.stored.items c.in_ok-bases.bases.items units.us units.are)
 
@@ -72,7 +72,7 @@ returns-in_err-lists c read =
     let units = units_read s c.args.headers.now read c.in_ok-stored.stored.items
     c.in_ok-bases.bases.items entries
     ((rw c.as_slice.ensures.value at c.in_ok-bases.ensures) c.args.headers.now entries.dies
-    entries.kept_are) in
+    entries.stored_are) in
     let marked = all-marked s c.args.headers.now read c.in_ok-stored.stored.items
     c.in_ok-bases.bases.items units c.new-bitmap.result c.all_entries.new.bitmap
     c.new-bitmap.ensures c.in_ok-stored.ensures.bitmap in
@@ -98,7 +98,7 @@ roots-requires c =
     let units = units_read s c.args.headers.now read c.in_ok-stored.stored.items
     c.in_ok-bases.bases.items entries
     ((rw c.as_slice.ensures.value at c.in_ok-bases.ensures) c.args.headers.now entries.dies
-    entries.kept_are) in
+    entries.stored_are) in
     let marked = all-marked s c.args.headers.now read c.in_ok-stored.stored.items
     c.in_ok-bases.bases.items units c.new-bitmap.result c.all_entries.new.bitmap
     c.new-bitmap.ensures c.in_ok-stored.ensures.bitmap in
@@ -129,7 +129,7 @@ returns-in_err-roots c read =
     let units = units_read s c.args.headers.now read c.in_ok-stored.stored.items
     c.in_ok-bases.bases.items entries
     ((rw c.as_slice.ensures.value at c.in_ok-bases.ensures) c.args.headers.now entries.dies
-    entries.kept_are) in
+    entries.stored_are) in
     rw (p.1, p.2) (inl ((rw c.as_slice-4.ensures.value at c.in_err-roots.ensures) units.us
     units.are.same))
 
@@ -148,7 +148,7 @@ returns c read =
     let units = units_read s c.args.headers.now read c.in_ok-stored.stored.items
     c.in_ok-bases.bases.items entries
     ((rw c.as_slice.ensures.value at c.in_ok-bases.ensures) c.args.headers.now entries.dies
-    entries.kept_are) in
+    entries.stored_are) in
     let marked = all-marked s c.args.headers.now read c.in_ok-stored.stored.items
     c.in_ok-bases.bases.items units c.new-bitmap.result c.all_entries.new.bitmap
     c.new-bitmap.ensures c.in_ok-stored.ensures.bitmap in

@@ -1,10 +1,10 @@
 use Rattle.std.proofs.Common.{refl}
-use Rattle.dwarf_bytes.proofs.Strings.SectionNames.{behind-all, before-all}
+use Rattle.dwarf_bytes.proofs.Strings.SectionNames.{string-after-end, before-all}
 use Rattle.dwarf_entries.proofs.string_sections.StringSection.text_at.Goals as goal
 
 pub returns-then-offset-self : goal.returns-then-offset-self
 returns-then-offset-self c =
-    let none = behind-all _ _ _ c.self.invariant c.if-offset-self.true in
+    let none = string-after-end _ _ _ c.self.invariant c.if-offset-self.true in
     rw (← c.self.view_is, none) refl
 
 pub returns : goal.returns

@@ -3,9 +3,9 @@ use Rattle.dwarf_bytes.specs.declared.fault.Section.TheVariants as names
 use Rattle.dwarf_bytes.specs.Refusals.{at_item}
 use Rattle.dwarf_walk.specs.declared.unit_entries.ScopePlace.{ScopePlace}
 use Rattle.dwarf_walk.specs.Sections.{sections_of}
-use Rattle.dwarf_entries.proofs.ScopePasses.ScopesPass.{is-place, judged-next}
-use Rattle.dwarf_entries.proofs.ScopePasses.ScopesEnds.{place-known, all-there, judged-end}
-use Rattle.dwarf_entries.proofs.ScopePasses.ScopesEnds.{judged-fault, again-fault}
+use Rattle.dwarf_entries.proofs.ScopePasses.ScopesPass.{is-place, checked-next}
+use Rattle.dwarf_entries.proofs.ScopePasses.ScopesEnds.{place-checked, all-there, checked-end}
+use Rattle.dwarf_entries.proofs.ScopePasses.ScopesEnds.{checked-fault, again-fault}
 use Rattle.dwarf_entries.proofs.unit_scopes.Units.unit_scopes.Goals as goal
 
 -- A default value for lookups.
@@ -16,7 +16,7 @@ pub returns-in-Err-clause-scopes : goal.returns-in-Err-clause-scopes
 returns-in-Err-clause-scopes c us u before are marked read reader knew found root parsed =
     let s = sections_of c.args.self.sections.now in
     let of_sections = c.loop-place.invariant.reader s reader in
-    let cache = place-known s c.args.self.units.now c.args.self.bases.now us u c.args.unit
+    let cache = place-checked s c.args.self.units.now c.args.self.bases.now us u c.args.unit
     c.loop-place.place-index c.index-self-unit.result c.as_slice-place-items.result.now d are
     read found c.as_slice-place-items.ensures.value c.loop-place-test.true in
     again-fault s us u before c.loop-place.place-index c.loop-place.lists c.loop-place.left _ _
@@ -28,7 +28,7 @@ pub returns-in-Err-scope-clause-scopes : goal.returns-in-Err-scope-clause-scopes
 returns-in-Err-scope-clause-scopes c us u before are marked read reader knew found root parsed =
     let s = sections_of c.args.self.sections.now in
     let of_sections = c.loop-place.invariant.reader s reader in
-    let cache = place-known s c.args.self.units.now c.args.self.bases.now us u c.args.unit
+    let cache = place-checked s c.args.self.units.now c.args.self.bases.now us u c.args.unit
     c.loop-place.place-index c.index-self-unit.result c.as_slice-place-items.result.now d are
     read found c.as_slice-place-items.ensures.value c.loop-place-test.true in
     let so_far = c.loop-place.invariant.so_far us u before are marked read reader knew found root
@@ -37,7 +37,7 @@ returns-in-Err-scope-clause-scopes c us u before are marked read reader knew fou
     c.loop-place.left _ _ c.in-Ok.entry so_far found root cache
     (c.len.ensures ∙ c.loop-place.lists.scopes.ok.0) refl
     (c.in-Ok.ensures.scope s cache.read.table of_sections cache.table_is) in
-    judged-fault s us u before c.loop-place.place-index c.loop-place.lists c.loop-place.lists
+    checked-fault s us u before c.loop-place.place-index c.loop-place.lists c.loop-place.lists
     c.loop-place.left c.loop-place.left _ c.in-Err-scope.cause c.at_item-in-Err-scope.result so_far
     cache.site
     (c.in-Err-scope.ensures.parsed us so_far.parsed cache.site.place are marked place read
@@ -58,7 +58,7 @@ loop-place-preserved c = record {
   so_far = λ us u before are marked read reader knew found root parsed.
       let s = sections_of c.args.self.sections.now in
       let of_sections = c.loop-place.invariant.reader s reader in
-      let cache = place-known s c.args.self.units.now c.args.self.bases.now us u c.args.unit
+      let cache = place-checked s c.args.self.units.now c.args.self.bases.now us u c.args.unit
       c.loop-place.place-index c.index-self-unit.result c.as_slice-place-items.result.now d are
       read found c.as_slice-place-items.ensures.value c.loop-place-test.true in
       let so_far = c.loop-place.invariant.so_far us u before are marked read reader knew found root
@@ -67,7 +67,7 @@ loop-place-preserved c = record {
       c.loop-place.left _ _ c.in-Ok.entry so_far found root cache
       (c.len.ensures ∙ c.loop-place.lists.scopes.ok.0) refl
       (c.in-Ok.ensures.scope s cache.read.table of_sections cache.table_is) in
-      judged-next s us u before c.loop-place.place-index c.loop-place.lists
+      checked-next s us u before c.loop-place.place-index c.loop-place.lists
       (record c.loop-place.lists { ranges = c.scope-in-loop-place.new.ranges }) _
       c.loop-place.left _ _ c.in-Ok-scope.items c.in-Ok-scope.facts so_far cache.site
       (c.in-Ok-scope.ensures.parsed us so_far.parsed cache.site.place are marked place read
@@ -78,7 +78,7 @@ loop-place-preserved c = record {
 
 pub returns-clause-scopes : goal.returns-clause-scopes
 returns-clause-scopes c us u before are marked read reader knew found root parsed =
-    judged-end (sections_of c.args.self.sections.now) us u before c.loop-place.place-index
+    checked-end (sections_of c.args.self.sections.now) us u before c.loop-place.place-index
     c.loop-place.lists c.loop-place.left
     (c.loop-place.invariant.so_far us u before are marked read reader knew found root parsed)
     (all-there c.args.self.units.now c.args.self.bases.now us u c.args.unit c.loop-place.place-index

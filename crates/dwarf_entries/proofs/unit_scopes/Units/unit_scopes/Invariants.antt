@@ -7,7 +7,7 @@ use Rattle.dwarf_entries.specs.Private.EntryOffsets.{IsBitmapOf, AreReadIn}
 use Rattle.dwarf_walk.specs.Private.Rereading.{IsReaderOf}
 use Rattle.dwarf_entries.specs.Private.NameCache.{IsCacheOf}
 use Rattle.dwarf_entries.specs.Private.Passes.{AreUnits, IsRootOf, AreParsed}
-use Rattle.dwarf_entries.proofs.ScopePasses.ScopesPass.{JudgedSoFar}
+use Rattle.dwarf_entries.proofs.ScopePasses.ScopesPass.{CheckedSoFar}
 use Rattle.dwarf_entries.proofs.unit_scopes.Units.unit_scopes.Given as goal
 
 abbrev pub invariant-loop-place : goal.invariant-loop-place
@@ -25,5 +25,5 @@ invariant-loop-place l = record {
       → IsReaderOf (sections_of l.self.sections.now) l.fn.reader
       → IsCacheOf (sections_of l.self.sections.now) us l.fn.cache → slice_get us l.unit ≡ Some u
       → IsRootOf us l.root u → AreParsed (roots_from 0 us) before l.fn.lists l.fn.left
-      → JudgedSoFar (sections_of l.self.sections.now) us u before l.place-index l.lists l.left;
+      → CheckedSoFar (sections_of l.self.sections.now) us u before l.place-index l.lists l.left;
 }

@@ -1,12 +1,12 @@
 use Rattle.std.proofs.Common.{ap}
 use Rattle.dwarf_forms.specs.Private.Memoized.{MemoizedAttributes}
-use Rattle.dwarf_forms.proofs.MemoLaws.{good-at, step-at, tail-is}
+use Rattle.dwarf_forms.proofs.MemoLaws.{valid-at, step-at, rest-is}
 use Rattle.dwarf_forms.proofs.memoized_lists.MemoizedLists.next.Goals as goal
 
 pub returns-clause-list : goal.returns-clause-list
 returns-clause-list c =
     let view = ap (λ (l : MemoizedAttributes). l.memoized) c.self.view_is in
-    tail-is _ _ _ (step-at c.self.inside.section.now c.self.inside.memoized.items
+    rest-is _ _ _ (step-at c.self.inside.section.now c.self.inside.memoized.items
     c.args.self.now.memoized
     c.self.inside.places c.self.inside.names c.args.number c.index.result.now c.self.invariant
     view c.requires c.index.ensures)
@@ -14,6 +14,6 @@ returns-clause-list c =
 pub returns-clause-before : goal.returns-clause-before
 returns-clause-before c =
     let view = ap (λ (l : MemoizedAttributes). l.memoized) c.self.view_is in
-    (good-at c.self.inside.section.now c.self.inside.memoized.items c.args.self.now.memoized
+    (valid-at c.self.inside.section.now c.self.inside.memoized.items c.args.self.now.memoized
     c.self.inside.places c.self.inside.names c.args.number c.index.result.now c.self.invariant
     view c.requires c.index.ensures).before

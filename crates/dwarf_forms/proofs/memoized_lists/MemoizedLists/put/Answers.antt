@@ -4,7 +4,7 @@ use Rattle.dwarf_forms.specs.Tables.{attributes_at}
 use Rattle.dwarf_forms.specs.declared.memoized_lists.MemoizedAttribute.{MemoizedAttribute}
 use Rattle.dwarf_forms.specs.Private.Memoized.{HasNames, IsMemoized, IsNotMemoized}
 use Rattle.dwarf_forms.specs.Private.Memoized.{MemoizedAttributes, names_from, rest_attributes}
-use Rattle.dwarf_forms.proofs.MemoLaws.{behind-names, names-more}
+use Rattle.dwarf_forms.proofs.MemoLaws.{names-after, names-more}
 use Rattle.dwarf_forms.proofs.MemoGrowth.{memoized-found, memoized-put, memoized-sets}
 use Rattle.dwarf_forms.proofs.MemoGrowth.{memoized-unput}
 use Rattle.dwarf_forms.proofs.memoized_lists.MemoizedLists.put.Goals as goal
@@ -18,7 +18,7 @@ with-requires c =
     let set : c.names_from-behind.result ≡ names_from memoized c.args.next =
     c.names_from-behind.ensures ∙ ap
     (λ (ks : List MemoizedAttribute). names_from ks c.args.next) c.deref.ensures.value in
-    rw set (behind-names c.self.inside.section.now memoized c.self.inside.places c.self.inside.names
+    rw set (names-after c.self.inside.section.now memoized c.self.inside.places c.self.inside.names
     c.args.next c.self.invariant next).within
 
 pub invariant_of-self : goal.invariant_of-self
@@ -66,7 +66,7 @@ invariant_of-self-2 c =
     (λ (ks : List MemoizedAttribute). names_from ks c.args.next) c.deref.ensures.value in
     let rest : HasNames c.self.inside.names c.names_from-behind.result
     (rest_attributes memoized c.args.next) =
-    rw set (behind-names section memoized c.self.inside.places c.self.inside.names c.args.next
+    rw set (names-after section memoized c.self.inside.places c.self.inside.names c.args.next
     c.self.invariant next) in
     let names = names-more c.self.inside.names c.with.new.self c.names_from-behind.result
     c.in_ok-names.names c.args.attribute (rest_attributes memoized c.args.next) rest

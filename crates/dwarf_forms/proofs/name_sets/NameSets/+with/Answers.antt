@@ -3,7 +3,7 @@ use Rattle.std.proofs.Common.{arith}
 use Rattle.dwarf_forms.specs.declared.name_sets.Branch.{Branch}
 use Rattle.dwarf_forms.specs.Private.NameSets.{side}
 use Rattle.dwarf_forms.proofs.Elements.{if-ok}
-use Rattle.dwarf_forms.proofs.SetLaws.{HasMore, few-behind, few-bits, more-bits, more-ends, put-few}
+use Rattle.dwarf_forms.proofs.SetLaws.{HasMore, few-after, few-bits, more-bits, more-ends, put-few}
 use Rattle.dwarf_forms.proofs.name_sets.NameSets.+with.Goals as goal
 
 pub returns-then-name-eq0-clause-names : goal.returns-then-name-eq0-clause-names
@@ -43,7 +43,7 @@ returns-clause-names t c =
 pub returns-in_err-behind-clause-few : goal.returns-in_err-behind-clause-few
 returns-in_err-behind-clause-few t c =
     let some : 0 < c.args.name = omega (arith, c.if-name-eq0.false) in
-    few-behind c.args.self.now c.with.new.self c.args.name some c.with.ensures.few
+    few-after c.args.self.now c.with.new.self c.args.name some c.with.ensures.few
 
 pub returns-clause-few : goal.returns-clause-few
 returns-clause-few t c =

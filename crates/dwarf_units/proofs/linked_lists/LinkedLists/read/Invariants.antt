@@ -4,14 +4,14 @@ use Rattle.dwarf_forms.specs.Private.Memoized.{rest_attributes}
 use Rattle.dwarf_units.specs.Private.Links.{IsLinked}
 use Rattle.dwarf_units.specs.Private.Plans.{steps_at, steps_of}
 use Rattle.dwarf_units.specs.Private.Used.{used_after}
-use Rattle.dwarf_units.proofs.PlanTurns.{KeptSoFar}
+use Rattle.dwarf_units.proofs.PlanTurns.{StoredSoFar}
 use Rattle.dwarf_units.proofs.linked_lists.LinkedLists.read.Given as goal
 
 abbrev pub invariant-loop-next : goal.invariant-loop-next
 invariant-loop-next l = record {
   linked : IsLinked l.self l.format l.next;
   bytes : l.cursor.bytes ≡ l.fn.cursor.bytes;
-  kept : KeptSoFar l.format (steps_of l.keep l.format (rest_attributes l.self.places.memoized
+  stored : StoredSoFar l.format (steps_of l.keep l.format (rest_attributes l.self.places.memoized
       l.next))
       l.fn.cursor.bytes l.found l.cursor.place
       (used_after l.fn.found (steps_at l.format

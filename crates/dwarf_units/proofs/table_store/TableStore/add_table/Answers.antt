@@ -1,28 +1,29 @@
 use Rattle.std.proofs.Common.{refl, ◌∙◌, sym}
 use Rattle.std.proofs.lemmas.List.{length-map}
 use Rattle.dwarf_units.specs.Private.SharedTables.{full_table, full_tables}
-use Rattle.dwarf_units.proofs.StoredLaws.{sets-as, kept-short, kept_more}
-use Rattle.dwarf_units.proofs.MoreTables.{kept-all, with-all, with_more}
+use Rattle.dwarf_units.proofs.StoredLaws.{sets-as, cached-truncated, cached-temporary}
+use Rattle.dwarf_units.proofs.MoreTables.{cached-permanent, seen-permanent, seen-temporary}
 use Rattle.dwarf_units.proofs.SharedTableLaws.{own_size-is}
-use Rattle.dwarf_units.proofs.StoreLaws.{readable-before, readable-behind, resolved-at}
-use Rattle.dwarf_units.proofs.StoreLaws.{resolved-before, resolved-behind}
+use Rattle.dwarf_units.proofs.StoreLaws.{readable-taken, readable-more, resolved-at}
+use Rattle.dwarf_units.proofs.StoreLaws.{resolved-taken, resolved-more}
 use Rattle.dwarf_units.proofs.table_store.TableStore.add_table.Goals as goal
 
 pub returns-in_err-number-clause-stored : goal.returns-in_err-number-clause-stored
 returns-in_err-number-clause-stored c = λ lists stored new.
     let store = c.args.self.now in
     let sets = sets-as store.numbers c.insert.new.self c.format.result c.args.table.format
-    c.offset.result c.args.table.offset store.kept c.format.ensures c.offset.ensures
+    c.offset.result c.args.table.offset store.permanent c.format.ensures c.offset.ensures
     c.in_ok-insert.ensures.ok in
     let after = c.truncate_and_push.new.tables.items in
     record {
-      kept =
-          kept-short lists.places.section (full_tables lists.places.memoized store.tables.items)
-          (full_tables lists.places.memoized after) store.kept store.budget store.numbers
+      permanent =
+          cached-truncated lists.places.section
+          (full_tables lists.places.memoized store.tables.items)
+          (full_tables lists.places.memoized after) store.permanent store.budget store.numbers
           c.insert.new.self c.args.table.format c.args.table.offset new.fresh sets
-          (resolved-before lists.places.memoized store.tables.items after store.kept
-          c.in_err-number.ensures.err) stored.kept;
-      readable = readable-before lists store.tables.items after store.kept stored.readable
+          (resolved-taken lists.places.memoized store.tables.items after store.permanent
+          c.in_err-number.ensures.err) stored.permanent;
+      readable = readable-taken lists store.tables.items after store.permanent stored.readable
           c.in_err-number.ensures.err;
     }
 
@@ -30,23 +31,24 @@ pub returns-then-size-self-clause-stored : goal.returns-then-size-self-clause-st
 returns-then-size-self-clause-stored c = λ lists stored new.
     let store = c.args.self.now in
     let sets = sets-as store.numbers c.insert.new.self c.format.result c.args.table.format
-    c.offset.result c.args.table.offset store.kept c.format.ensures c.offset.ensures
+    c.offset.result c.args.table.offset store.permanent c.format.ensures c.offset.ensures
     c.in_ok-insert.ensures.ok in
     let after = c.truncate_and_push.new.tables.items in
     record {
-      kept =
-          kept-all lists.places.section (full_tables lists.places.memoized store.tables.items)
-          (full_tables lists.places.memoized after) store.kept store.budget c.len-self.result
+      permanent =
+          cached-permanent lists.places.section
+          (full_tables lists.places.memoized store.tables.items)
+          (full_tables lists.places.memoized after) store.permanent store.budget c.len-self.result
           c.size-size.result store.numbers c.insert.new.self
           (full_table lists.places.memoized c.args.table) new.fresh sets new.stands
-          (resolved-behind lists.places.memoized store.tables.items after store.kept c.args.table
+          (resolved-more lists.places.memoized store.tables.items after store.permanent c.args.table
           c.in_ok-number.ensures.ok.0)
           (c.size-size.ensures ∙ own_size-is lists.places.memoized c.args.table
           new.readable.resolved)
           c.if-size-self.true
           (c.len-self.ensures ∙ (c.truncate_and_push.new.tables.ok.0
-          ∙ sym (length-map after (full_table lists.places.memoized)))) stored.kept;
-      readable = readable-behind lists store.tables.items after store.kept c.args.table
+          ∙ sym (length-map after (full_table lists.places.memoized)))) stored.permanent;
+      readable = readable-more lists store.tables.items after store.permanent c.args.table
           stored.readable new.readable c.in_ok-number.ensures.ok.0;
     }
 
@@ -54,21 +56,22 @@ pub returns-else-size-self-clause-stored : goal.returns-else-size-self-clause-st
 returns-else-size-self-clause-stored c = λ lists stored new.
     let store = c.args.self.now in
     let sets = sets-as store.numbers c.insert.new.self c.format.result c.args.table.format
-    c.offset.result c.args.table.offset store.kept c.format.ensures c.offset.ensures
+    c.offset.result c.args.table.offset store.permanent c.format.ensures c.offset.ensures
     c.in_ok-insert.ensures.ok in
     let after = c.truncate_and_push.new.tables.items in
     record {
-      kept =
-          kept_more lists.places.section (full_tables lists.places.memoized store.tables.items)
-          (full_tables lists.places.memoized after) store.kept store.budget c.size-size.result
+      permanent =
+          cached-temporary lists.places.section
+          (full_tables lists.places.memoized store.tables.items)
+          (full_tables lists.places.memoized after) store.permanent store.budget c.size-size.result
           store.numbers c.insert.new.self (full_table lists.places.memoized c.args.table) new.fresh
           sets new.stands
-          (resolved-behind lists.places.memoized store.tables.items after store.kept c.args.table
+          (resolved-more lists.places.memoized store.tables.items after store.permanent c.args.table
           c.in_ok-number.ensures.ok.0)
           (c.size-size.ensures ∙ own_size-is lists.places.memoized c.args.table
           new.readable.resolved)
-          c.if-size-self.false stored.kept;
-      readable = readable-behind lists store.tables.items after store.kept c.args.table
+          c.if-size-self.false stored.permanent;
+      readable = readable-more lists store.tables.items after store.permanent c.args.table
           stored.readable new.readable c.in_ok-number.ensures.ok.0;
     }
 
@@ -76,17 +79,18 @@ pub returns-then-size-self-clause-ok : goal.returns-then-size-self-clause-ok
 returns-then-size-self-clause-ok c = λ lists stored new.
     let store = c.args.self.now in
     let after = c.truncate_and_push.new.tables.items in (
-      with-all _ lists.places.section (full_tables lists.places.memoized store.tables.items)
-          (full_tables lists.places.memoized after) store.kept store.budget c.len-self.result
+      seen-permanent _ lists.places.section (full_tables lists.places.memoized store.tables.items)
+          (full_tables lists.places.memoized after) store.permanent store.budget c.len-self.result
           c.size-size.result store.numbers (full_table lists.places.memoized c.args.table) refl
-          (resolved-behind lists.places.memoized store.tables.items after store.kept c.args.table
+          (resolved-more lists.places.memoized store.tables.items after store.permanent c.args.table
           c.in_ok-number.ensures.ok.0)
           (c.size-size.ensures ∙ own_size-is lists.places.memoized c.args.table
           new.readable.resolved)
           c.if-size-self.true
           (c.len-self.ensures ∙ (c.truncate_and_push.new.tables.ok.0
-          ∙ sym (length-map after (full_table lists.places.memoized)))) stored.kept,
-      resolved-at lists.places.memoized store.tables.items after store.kept c.in_ok-number.number
+          ∙ sym (length-map after (full_table lists.places.memoized)))) stored.permanent,
+      resolved-at lists.places.memoized store.tables.items after store.permanent
+          c.in_ok-number.number
           c.args.table c.in_ok-number.ensures.ok.0 c.in_ok-number.ensures.ok.1,
     )
 
@@ -94,14 +98,15 @@ pub returns-else-size-self-clause-ok : goal.returns-else-size-self-clause-ok
 returns-else-size-self-clause-ok c = λ lists stored new.
     let store = c.args.self.now in
     let after = c.truncate_and_push.new.tables.items in (
-      with_more _ lists.places.section (full_tables lists.places.memoized store.tables.items)
-          (full_tables lists.places.memoized after) store.kept store.budget c.size-size.result
+      seen-temporary _ lists.places.section (full_tables lists.places.memoized store.tables.items)
+          (full_tables lists.places.memoized after) store.permanent store.budget c.size-size.result
           store.numbers (full_table lists.places.memoized c.args.table) refl
-          (resolved-behind lists.places.memoized store.tables.items after store.kept c.args.table
+          (resolved-more lists.places.memoized store.tables.items after store.permanent c.args.table
           c.in_ok-number.ensures.ok.0)
           (c.size-size.ensures ∙ own_size-is lists.places.memoized c.args.table
           new.readable.resolved)
-          c.if-size-self.false stored.kept,
-      resolved-at lists.places.memoized store.tables.items after store.kept c.in_ok-number.number
+          c.if-size-self.false stored.permanent,
+      resolved-at lists.places.memoized store.tables.items after store.permanent
+          c.in_ok-number.number
           c.args.table c.in_ok-number.ensures.ok.0 c.in_ok-number.ensures.ok.1,
     )

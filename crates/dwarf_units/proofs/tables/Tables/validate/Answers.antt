@@ -1,6 +1,6 @@
 use Rattle.std.proofs.Common.{◌∙◌}
 use Rattle.std.proofs.lemmas.Result.{err_from_is_err_and}
-use Rattle.dwarf_units.proofs.TableLaws.{judged-next, judged-end, judged-fault}
+use Rattle.dwarf_units.proofs.TableLaws.{checked-next, checked-end, checked-fault}
 use Rattle.dwarf_units.proofs.PermanentLaws.{stays-next, stays-end}
 use Rattle.dwarf_units.proofs.tables.Tables.validate.Goals as goal
 
@@ -9,16 +9,16 @@ returns-in_err-validate_unit-clause-err c =
     let p = err_from_is_err_and c.from_residual-in_err-validate_unit.result
     c.from_residual-in_err-validate_unit.ensures.1 in
     rw (p.1, p.2)
-    (judged-fault c.args.section.now c.args.units.now c.loop-unit.unit-index c.loop-unit.left _
-    c.in_err-validate_unit.field-0.0 c.loop-unit.invariant.judged c.loop-unit-test.true
+    (checked-fault c.args.section.now c.args.units.now c.loop-unit.unit-index c.loop-unit.left _
+    c.in_err-validate_unit.field-0.0 c.loop-unit.invariant.checked c.loop-unit-test.true
     (rw c.loop-unit.invariant.section at c.in_err-validate_unit.ensures.err))
 
 pub loop-unit-preserved : goal.loop-unit-preserved
 loop-unit-preserved c =
     let resolved = rw c.loop-unit.invariant.section at c.in_ok-validate_unit.ensures.ok in
     record {
-      judged = judged-next c.args.section.now c.args.units.now c.loop-unit.unit-index
-          c.loop-unit.left c.validate_unit.new.left _ resolved.0 c.loop-unit.invariant.judged
+      checked = checked-next c.args.section.now c.args.units.now c.loop-unit.unit-index
+          c.loop-unit.left c.validate_unit.new.left _ resolved.0 c.loop-unit.invariant.checked
           c.loop-unit-test.true resolved.1 resolved.2;
       section = c.in_ok-validate_unit.ensures.section ∙ c.loop-unit.invariant.section;
       limit = c.in_ok-validate_unit.ensures.limit;
@@ -30,8 +30,8 @@ loop-unit-preserved c =
     }
 
 pub returns-clause-ok : goal.returns-clause-ok
-returns-clause-ok c = judged-end c.args.section.now c.args.units.now c.loop-unit.unit-index
-    c.loop-unit.left c.loop-unit.invariant.judged c.loop-unit-test.false
+returns-clause-ok c = checked-end c.args.section.now c.args.units.now c.loop-unit.unit-index
+    c.loop-unit.left c.loop-unit.invariant.checked c.loop-unit-test.false
 
 pub returns-clause-stays : goal.returns-clause-stays
 returns-clause-stays c = stays-end c.loop-unit.tables c.args.units.now c.loop-unit.unit-index

@@ -3,7 +3,7 @@ use Rattle.std.specs.Prelude.{None, Some, nat_lt, slice_get, option_copied}
 use Rattle.std.proofs.lemmas.Bool.{le-ltb, lt-ltb}
 use Rattle.dwarf_forms.proofs.Codes.{got}
 use Rattle.dwarf_units.proofs.FixedSizeCodes.{at-hand, found-at, same-code}
-use Rattle.dwarf_units.proofs.FixedSizeEntries.{fixed_size-stands}
+use Rattle.dwarf_units.proofs.FixedSizeEntries.{fixed_size-node}
 use Rattle.dwarf_units.proofs.unit_table.UnitTable.fixed_size_entry.Goals as goal
 
 pub returns-in_err-head-clause-found : goal.returns-in_err-head-clause-found
@@ -64,7 +64,7 @@ returns-clause-stands c =
     c.get.ensures.lookup.1) ∙ ap (λ r. option_copied r) c.in_ok-code.was in
     let fixed_size = at-hand c.self.inside.table.now code head (sym c.in_ok-head.ensures) in
     rw c.from.ensures
-    (fixed_size-stands c.self.inside.lists.now.places.memoized c.self.inside.table.now
+    (fixed_size-node c.self.inside.lists.now.places.memoized c.self.inside.table.now
     c.args.self.now
     c.args.depth code c.args.bytes.now c.args.place head c.self.view_is fixed_size.1.1 fixed_size.0
     fixed_size.1.0 byte

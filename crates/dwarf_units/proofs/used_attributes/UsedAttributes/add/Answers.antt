@@ -1,7 +1,7 @@
 use Rattle.std.proofs.Common.{arith}
 use Rattle.dwarf_units.specs.Private.Names.{named_attribute}
 use Rattle.dwarf_units.proofs.NameLaws.{named}
-use Rattle.dwarf_units.proofs.SlotLaws.{put-is, kept-is}
+use Rattle.dwarf_units.proofs.SlotLaws.{put-is, stored-is}
 use Rattle.dwarf_units.proofs.used_attributes.UsedAttributes.add.Goals as goal
 
 pub returns-then-not-self-slot : goal.returns-then-not-self-slot
@@ -12,6 +12,6 @@ returns-then-not-self-slot c =
 
 pub returns-else-not-self-slot : goal.returns-else-not-self-slot
 returns-else-not-self-slot c =
-    kept-is _ c.self.inside.has c.self.inside.values (named_attribute c.args.name c.args.value)
+    stored-is _ c.self.inside.has c.self.inside.values (named_attribute c.args.name c.args.value)
     c.args.name c.slot-slot.result c.self.view_is c.slot-slot.ensures.slot (named c.args.name)
     c.if-not-self-slot.false

@@ -14,14 +14,14 @@ returns-clause-cached c = let was : c.in-Some.answers.entries ≡ c.args.self.no
     λ e h. subst (λ l. Contains l e ⊎ (e ≡ (c.args.key, c.args.place))) was
     (c.remember.ensures.cached e h)
 
-pub returns-clause-kept : goal.returns-clause-kept
-returns-clause-kept c = let was : c.in-Some.answers.entries ≡ c.args.self.now.entries =
+pub returns-clause-change : goal.returns-clause-change
+returns-clause-change c = let was : c.in-Some.answers.entries ≡ c.args.self.now.entries =
     rw (← c.self.view_is, c.in-Some.is) refl in
-    let room : c.in-Some.answers.cap ≡ c.args.self.now.capacity =
+    let is_cap : c.in-Some.answers.cap ≡ c.args.self.now.capacity =
     rw (← c.self.view_is) (c.self.invariant c.in-Some.answers c.in-Some.is).0 in
     let new : List CacheEntry = c.remember.new.answers.entries in
-    let Kept : List CacheEntry → ℕ → Type 0 =
+    let Changed : List CacheEntry → ℕ → Type 0 =
     λ es cap. (new ≡ es) ⊎ (new ≡ with_answer c.args.key c.args.place
     (record { entries = es; capacity = cap })) in
-    subst (λ es. Kept es c.args.self.now.capacity) was
-    (subst (λ cap. Kept c.in-Some.answers.entries cap) room c.remember.ensures.kept)
+    subst (λ es. Changed es c.args.self.now.capacity) was
+    (subst (λ cap. Changed c.in-Some.answers.entries cap) is_cap c.remember.ensures.change)

@@ -11,8 +11,8 @@ use Rattle.addr_table.specs.declared.steps.Steps.{Steps}
 use Rattle.module_map.specs.Counts.{ModuleMap}
 use Rattle.module_map.specs.Private.Serials.{AreSound, NumberedModule}
 use Rattle.module_map.proofs.Serials.{sound-insert}
-use Rattle.module_map.proofs.CachedModules.{same-but-modules, room_left, free-name, over_any}
-use Rattle.module_map.proofs.CachedModules.{free_all, kept-there}
+use Rattle.module_map.proofs.CachedModules.{same-but-modules, limit-left, free-name, over_any}
+use Rattle.module_map.proofs.CachedModules.{free_all, stored-there}
 use Rattle.module_map.proofs.Changing.{world_of}
 use Rattle.module_map.proofs.modules.Modules.add.Goals as goal
 
@@ -58,7 +58,7 @@ invariant_of-self-2 c = let e = c.in-Ok-insert.ensures in
     subst (λ hs. AreSound hs (c.self.inside.loads + 1) c.self.inside.cache.entries) (sym e)
     (sound-insert c.self.inside.sorted c.self.inside.loads _ c.in-Ok.at c.in-Ok-new.loaded
     (ap (λ h. h.serial) c.in-Ok-new.ensures)
-    (room_left c.self.inside.sorted c.self.inside.loads
+    (limit-left c.self.inside.sorted c.self.inside.loads
     (subst (λ v. is_full v.world ≡ false) (sym c.self.view_is) c.requires.loads))
     c.self.invariant)
 
@@ -92,7 +92,7 @@ returns c =
           })
           c.self.view_is
           (same-but-modules _ _ (c.self.inside.loads + 1) _ _ _ _
-          (kept-there c.self.inside.sorted c.self.inside.loads
+          (stored-there c.self.inside.sorted c.self.inside.loads
           (record { name = c.args.name.now; base = c.args.base; bytes = c.args.object }) _ _ _
           free c.len.ensures low high
           c.insert.new.self c.in-Ok.at c.self.inside.loads c.in-Ok-new.loaded c.in-Ok-new.ensures

@@ -2,7 +2,7 @@ use Rattle.std.proofs.Common.{◌∙◌, sym, ap, subst, refl, []}
 use Rattle.module_map.specs.Private.Serials.{NumberedModule}
 use Rattle.module_map.specs.Answers.{asked}
 use Rattle.module_map.specs.Counts.{TakesCompares}
-use Rattle.module_map.proofs.Serials.{sound-kept}
+use Rattle.module_map.proofs.Serials.{sound-unchanged}
 use Rattle.module_map.proofs.Asking.{in-list, begins-by, asked-none, asked-some, takes-none}
 use Rattle.module_map.proofs.Asking.{takes-some}
 use Rattle.addr_table.proofs.Searching.StepLaws.{counted-decoded}
@@ -28,13 +28,13 @@ returns-in_default-clause-decoded c = let n = c.in_default.ensures in
     ap (λ s. s.decoded) n.counted.3 ∙ counted-decoded n.counted.0 _
     ∙ ap (λ v. v.decoded) c.self.view_is
 
-pub look_up-place-requires-clause-held : goal.look_up-place-requires-clause-held
-look_up-place-requires-clause-held c = begins-by c.self.inside.sorted c.args.address c.in-Some.at
+pub look_up-place-requires-clause-starts : goal.look_up-place-requires-clause-starts
+look_up-place-requires-clause-starts c = begins-by c.self.inside.sorted c.args.address c.in-Some.at
     (sym c.in-Some.ensures.place)
 
 pub invariant_of-self-2 : goal.invariant_of-self-2
 invariant_of-self-2 c = let p = c.in-Some.ensures in
-    sound-kept c.self.inside.sorted c.self.inside.loads c.self.inside.cache.entries
+    sound-unchanged c.self.inside.sorted c.self.inside.loads c.self.inside.cache.entries
     c.look_up-place.new.cache.entries c.in-Some.at any_module
     (in-list _ c.self.inside.sorted c.in-Some.at (sym p.place)) c.self.invariant
     (c.look_up-place.ensures.cached any_module)

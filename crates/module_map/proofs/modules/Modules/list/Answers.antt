@@ -2,17 +2,17 @@ use Rattle.std.proofs.Common.{◌≡◌, ◌∙◌, List, [], ◌∷◌, map, re
 use Rattle.module_map.specs.World.{AreRising}
 use Rattle.module_map.proofs.RisingModules.{hold-once}
 use Rattle.module_map.specs.Private.Serials.{NumberedModule, loaded_of}
-use Rattle.module_map.specs.Listing.{Listed, listed}
+use Rattle.module_map.specs.Listing.{Listed, list_item}
 use Rattle.module_map.proofs.modules.Modules.list.Goals as goal
 
-through : (hs : List NumberedModule) → map (λ (h : NumberedModule). listed h.loaded) hs
-    ≡ map listed (map loaded_of hs)
+through : (hs : List NumberedModule) → map (λ (h : NumberedModule). list_item h.loaded) hs
+    ≡ map list_item (map loaded_of hs)
 through [] = refl
-through (h ∷ hs) = ap (λ (l : List Listed). listed h.loaded ∷ l) (through hs)
+through (h ∷ hs) = ap (λ (l : List Listed). list_item h.loaded ∷ l) (through hs)
 
 pub returns-clause-modules : goal.returns-clause-modules
 returns-clause-modules c = c.list.ensures.modules ∙ through c.self.inside.sorted
-    ∙ ap (λ v. map listed v.world.modules) c.self.view_is
+    ∙ ap (λ v. map list_item v.world.modules) c.self.view_is
 
 long : (hs : List NumberedModule) → length (map loaded_of hs) ≡ length hs
 long [] = refl

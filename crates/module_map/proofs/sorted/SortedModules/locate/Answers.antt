@@ -2,12 +2,12 @@ use Rattle.std.proofs.Common.{◌≡◌, ◌⊎◌, inl, inr, ◌≤◌, ◌+◌
 use Rattle.std.proofs.lemmas.Bool.{leb-true, leb-false}
 use Rattle.addr_table.proofs.Searching.StepLaws.{counted-one}
 use Rattle.module_map.specs.Private.Rising.{AreRising}
-use Rattle.module_map.proofs.Searches.{held_here, held_nowhere}
+use Rattle.module_map.proofs.Searches.{located, located_nowhere}
 use Rattle.module_map.proofs.sorted.SortedModules.locate.Goals as goal
 
 pub returns-then-started-eq0-clause-place : goal.returns-then-started-eq0-clause-place
 returns-then-started-eq0-clause-place c =
-    sym (held_nowhere c.args.self.now c.args.address _
+    sym (located_nowhere c.args.self.now c.args.address _
     (subst AreRising c.self.view_is c.self.invariant) c.count_started-started.ensures.started
     (λ at d last. absurd (omega (arith, c.if-started-eq0.true))))
 
@@ -19,7 +19,7 @@ pub returns-then-reached-clause-place : goal.returns-then-reached-clause-place
 returns-then-reached-clause-place c =
     let past = leb-true c.end.result c.args.address
     (sym c.reached.ensures.answer ∙ c.if-reached.true) in
-    sym (held_nowhere c.args.self.now c.args.address _
+    sym (located_nowhere c.args.self.now c.args.address _
     (subst AreRising c.self.view_is c.self.invariant) c.count_started-started.ensures.started
     (λ at d last. let same : at ≡ c.count_started-started.result - 1 = omega arith in
     rw (same, ← c.end.ensures d) past))
@@ -36,7 +36,7 @@ pub returns-clause-place : goal.returns-clause-place
 returns-clause-place c =
     let to = leb-false c.end.result c.args.address
     (sym c.reached.ensures.answer ∙ c.if-reached.false) in
-    sym (held_here c.args.self.now c.args.address _
+    sym (located c.args.self.now c.args.address _
     (subst AreRising c.self.view_is c.self.invariant) c.count_started-started.ensures.started _
     (omega (arith, c.if-started-eq0.false)) (λ d. rw (← c.end.ensures d) to))
 

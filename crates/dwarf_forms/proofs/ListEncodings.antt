@@ -12,7 +12,7 @@ use Rattle.dwarf_bytes.specs.declared.fault.Cause.{Cause}
 use Rattle.dwarf_bytes.specs.Numbers.{IsEncodedAt}
 use Rattle.dwarf_bytes.specs.Items.{Next, Item, End, Lists}
 use Rattle.dwarf_forms.specs.Declarations.{EncodesEach}
-use Rattle.dwarf_forms.proofs.Stretches.{Stretch, stretch-of, stands-from, joined, first-part}
+use Rattle.dwarf_forms.proofs.Stretches.{Stretch, stretch-of, encoded-from, both-parts, first-part}
 use Rattle.dwarf_forms.proofs.Stretches.{second-part, respelled}
 
 -- the encoded elements, followed by the encoded end
@@ -25,21 +25,21 @@ pub record EncodesAll {X : Type 0} (encodes : List ℕ → X → Type 0) (ends :
   pub ends_it : ends end
 
 -- each element is valid after the ones before it
-abbrev pub GoodEach : {X : Type 0} → (List X → X → Type 0) → List X → List X → Type 0
-GoodEach good before [] = Unit {0}
-GoodEach good before (x ∷ xs) = good before x × GoodEach good (before ++ x ∷ []) xs
+abbrev pub ValidEach : {X : Type 0} → (List X → X → Type 0) → List X → List X → Type 0
+ValidEach good before [] = Unit {0}
+ValidEach good before (x ∷ xs) = good before x × ValidEach good (before ++ x ∷ []) xs
 
-abbrev pub EndStands : (List ℕ → Type 0) → List ℕ → ℕ → ℕ → Type 0
-EndStands ends bytes at next = IsEncodedAt (λ b (u : Unit {0}). ends b) bytes at tt next
+abbrev pub EndEncoded : (List ℕ → Type 0) → List ℕ → ℕ → ℕ → Type 0
+EndEncoded ends bytes at next = IsEncodedAt (λ b (u : Unit {0}). ends b) bytes at tt next
 
 -- if a step returns an item, the item is valid and an encoding of it is at the offset
-pub record IsSpelled {X : Type 0} (encodes : List ℕ → X → Type 0) (ends : List ℕ → Type 0)
+pub record EncodesReads {X : Type 0} (encodes : List ℕ → X → Type 0) (ends : List ℕ → Type 0)
     (good : List X → X → Type 0) (bytes : List ℕ) (step : List X → ℕ → Result (Next X) Cause) : Type
     0 where
   pub item : (before : List X) (at : ℕ) (x : X) (next : ℕ) → step before at ≡ Ok (Item x next)
       → IsEncodedAt encodes bytes at x next × good before x
   pub end : (before : List X) (at next : ℕ) → step before at ≡ Ok (End next)
-      → EndStands ends bytes at next
+      → EndEncoded ends bytes at next
 
 -- if an encoding of a valid item is at the offset, the step returns the item
 pub record IsRead {X : Type 0} (encodes : List ℕ → X → Type 0) (ends : List ℕ → Type 0)
@@ -47,17 +47,17 @@ pub record IsRead {X : Type 0} (encodes : List ℕ → X → Type 0) (ends : Lis
     0 where
   pub item : (before : List X) (at : ℕ) (x : X) (next : ℕ) → IsEncodedAt encodes bytes at x next
       → good before x → step before at ≡ Ok (Item x next)
-  pub end : (before : List X) (at next : ℕ) → EndStands ends bytes at next
+  pub end : (before : List X) (at next : ℕ) → EndEncoded ends bytes at next
       → step before at ≡ Ok (End next)
 
-pub spelled-list : {X : Type 0} (encodes : List ℕ → X → Type 0) (ends : List ℕ → Type 0)
+pub encoded-list : {X : Type 0} (encodes : List ℕ → X → Type 0) (ends : List ℕ → Type 0)
     (good : List X → X → Type 0) (bytes : List ℕ) (step : List X → ℕ → Result (Next X) Cause)
-    → IsSpelled encodes ends good bytes step
+    → EncodesReads encodes ends good bytes step
     → (before : List X) (at : ℕ) (xs : List X) (next : ℕ) → Lists step before at xs next
-    → IsEncodedAt (EncodesAll encodes ends) bytes at xs next × GoodEach good before xs
-spelled-list encodes ends good bytes step encoded before at [] next h =
+    → IsEncodedAt (EncodesAll encodes ends) bytes at xs next × ValidEach good before xs
+encoded-list encodes ends good bytes step encoded before at [] next h =
     let end = encoded.end before at next h in (
-      stands-from (EncodesAll encodes ends) bytes at [] next end.front end.rest
+      encoded-from (EncodesAll encodes ends) bytes at [] next end.front end.rest
           (stretch-of (λ b (u : Unit {0}). ends b) bytes at tt next end)
           (record {
             items = [];
@@ -69,14 +69,14 @@ spelled-list encodes ends good bytes step encoded before at [] next h =
           }),
       tt,
     )
-spelled-list encodes ends good bytes step encoded before at (x ∷ xs) next h =
+encoded-list encodes ends good bytes step encoded before at (x ∷ xs) next h =
     let here = encoded.item before at x h.0 h.1 in
-    let others = spelled-list encodes ends good bytes step encoded (before ++ x ∷ []) h.0 xs next
+    let others = encoded-list encodes ends good bytes step encoded (before ++ x ∷ []) h.0 xs next
     h.2 in
-    let all = joined bytes at here.0.front others.0.front h.0 next here.0.rest others.0.rest
+    let all = both-parts bytes at here.0.front others.0.front h.0 next here.0.rest others.0.rest
     (stretch-of encodes bytes at x h.0 here.0)
     (stretch-of (EncodesAll encodes ends) bytes h.0 xs next others.0) in (
-      stands-from (EncodesAll encodes ends) bytes at (x ∷ xs) next (here.0.front ++ others.0.front)
+      encoded-from (EncodesAll encodes ends) bytes at (x ∷ xs) next (here.0.front ++ others.0.front)
           others.0.rest all
           (record {
             items = here.0.front ++ others.0.encoded.items;
@@ -100,11 +100,11 @@ pub read-list : {X : Type 0} (encodes : List ℕ → X → Type 0) (ends : List 
     → IsRead encodes ends good bytes step
     → (before : List X) (at : ℕ) (xs : List X) (next : ℕ) (items end rest : List ℕ)
     → Stretch bytes at (items ++ end) next rest → EncodesEach encodes items xs → ends end
-    → GoodEach good before xs → Lists step before at xs next
+    → ValidEach good before xs → Lists step before at xs next
 read-list encodes ends good bytes step read before at [] next items end rest s none ends_it
     good_each =
     let same : items ++ end ≡ end = ap (λ (b : List ℕ). b ++ end) none in
-    read.end before at next (stands-from (λ b (u : Unit {0}). ends b) bytes at tt next end rest
+    read.end before at next (encoded-from (λ b (u : Unit {0}). ends b) bytes at tt next end rest
     (respelled bytes at (items ++ end) end next rest same s) ends_it)
 read-list encodes ends good bytes step read before at (x ∷ xs) next items end rest s some ends_it
     good_each =
@@ -115,7 +115,7 @@ read-list encodes ends good bytes step read before at (x ∷ xs) next items end 
     let regrouped = respelled bytes at (items ++ end) (front ++ (others ++ end)) next rest whole
     s in
     let mid = at + length front in
-    let here = stands-from encodes bytes at x mid front ((others ++ end) ++ rest)
+    let here = encoded-from encodes bytes at x mid front ((others ++ end) ++ rest)
     (first-part bytes at front (others ++ end) next rest regrouped) some.3 in (
       mid,
       read.item before at x mid here good_each.0,
@@ -127,19 +127,19 @@ read-list encodes ends good bytes step read before at (x ∷ xs) next items end 
 
 -- ---- validity after the elements before, as a property of the whole list
 
-pub GoodEach-map : {X : Type 0} (g h : List X → X → Type 0)
+pub ValidEach-map : {X : Type 0} (g h : List X → X → Type 0)
     → ((before : List X) (x : X) → g before x → h before x) → (before xs : List X)
-    → GoodEach g before xs → GoodEach h before xs
-GoodEach-map g h f before [] good = tt
-GoodEach-map g h f before (x ∷ xs) good =
-    (f before x good.0, GoodEach-map g h f (before ++ x ∷ []) xs good.1)
+    → ValidEach g before xs → ValidEach h before xs
+ValidEach-map g h f before [] good = tt
+ValidEach-map g h f before (x ∷ xs) good =
+    (f before x good.0, ValidEach-map g h f (before ++ x ∷ []) xs good.1)
 
-pub GoodEach-both : {X : Type 0} (g h : List X → X → Type 0) (before xs : List X)
-    → GoodEach g before xs → GoodEach h before xs → GoodEach (λ b x. g b x × h b x) before xs
-GoodEach-both g h before [] p q = tt
-GoodEach-both g h before (x ∷ xs) p q = (
+pub ValidEach-both : {X : Type 0} (g h : List X → X → Type 0) (before xs : List X)
+    → ValidEach g before xs → ValidEach h before xs → ValidEach (λ b x. g b x × h b x) before xs
+ValidEach-both g h before [] p q = tt
+ValidEach-both g h before (x ∷ xs) p q = (
   (p.0, q.0),
-  GoodEach-both g h (before ++ x ∷ []) xs p.1
+  ValidEach-both g h (before ++ x ∷ []) xs p.1
       q.1,
 )
 
@@ -154,7 +154,7 @@ apart {X = X} key before x none k d h same =
     (eq-eqb (key (get_or before k d)) (key x) same))
 
 pub all-new : {X : Type 0} (P : X → Type 0) (key : X → ℕ) (before xs : List X) → All P before
-    → AllPairs (λ x y. key x ≢ key y) before → GoodEach (IsNew P key) before xs
+    → AllPairs (λ x y. key x ≢ key y) before → ValidEach (IsNew P key) before xs
     → All P (before ++ xs) × AllPairs (λ x y. key x ≢ key y) (before ++ xs)
 all-new {X = X} P key before [] all pairs good =
     let same : before ≡ before ++ [] = sym (append-nil before) in (
@@ -183,7 +183,7 @@ get_or-front (y ∷ before) xs (suc k) d h = get_or-front before xs k d (omega a
 
 pub new-each : {X : Type 0} (P : X → Type 0) (key : X → ℕ) (before xs : List X)
     → All P (before ++ xs) → AllPairs (λ x y. key x ≢ key y) (before ++ xs)
-    → GoodEach (IsNew P key) before xs
+    → ValidEach (IsNew P key) before xs
 new-each P key before [] all pairs = tt
 new-each {X = X} P key before (x ∷ xs) all pairs =
     let size : length (before ++ x ∷ xs) ≡ length before + suc (length xs) =
@@ -206,20 +206,20 @@ new-each {X = X} P key before (x ∷ xs) all pairs =
     not_same a b h = grind arith
 
 -- fewer than `budget` elements precede the element
-abbrev pub HasRoom : {X : Type 0} → ℕ → List X → X → Type 0
-HasRoom budget before x = length before < budget
+abbrev pub FitsBudget : {X : Type 0} → ℕ → List X → X → Type 0
+FitsBudget budget before x = length before < budget
 
-pub all-room : {X : Type 0} (budget : ℕ) (before xs : List X) → length before ≤ budget
-    → GoodEach (HasRoom budget) before xs → length before + length xs ≤ budget
-all-room budget before [] le good = omega arith
-all-room budget before (x ∷ xs) le good =
+pub all-fit : {X : Type 0} (budget : ℕ) (before xs : List X) → length before ≤ budget
+    → ValidEach (FitsBudget budget) before xs → length before + length xs ≤ budget
+all-fit budget before [] le good = omega arith
+all-fit budget before (x ∷ xs) le good =
     let size = length-append before (x ∷ []) in
-    let next = all-room budget (before ++ x ∷ []) xs (omega (arith, size, good.0)) good.1 in
+    let next = all-fit budget (before ++ x ∷ []) xs (omega (arith, size, good.0)) good.1 in
     omega (arith, size, next)
 
-pub room-each : {X : Type 0} (budget : ℕ) (before xs : List X) → length before + length xs ≤ budget
-    → GoodEach (HasRoom budget) before xs
-room-each budget before [] le = tt
-room-each budget before (x ∷ xs) le =
+pub each-fits : {X : Type 0} (budget : ℕ) (before xs : List X) → length before + length xs ≤ budget
+    → ValidEach (FitsBudget budget) before xs
+each-fits budget before [] le = tt
+each-fits budget before (x ∷ xs) le =
     let size = length-append before (x ∷ []) in
-    (omega arith, room-each budget (before ++ x ∷ []) xs (omega (arith, size)))
+    (omega arith, each-fits budget (before ++ x ∷ []) xs (omega (arith, size)))

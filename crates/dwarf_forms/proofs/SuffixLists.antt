@@ -15,8 +15,8 @@ use Rattle.dwarf_forms.specs.declared.attribute.AttributeSpecification.{Attribut
 use Rattle.dwarf_forms.specs.Tables.{attribute_at, attributes_at, shares_name}
 use Rattle.dwarf_forms.proofs.Moves.{attribute_at-advances, attributes_at-lists, attributes-ok}
 use Rattle.dwarf_forms.proofs.Moves.{attributes-err}
-use Rattle.dwarf_forms.proofs.JoinedLaws.{named, attribute-again, attribute-new, end-again}
-use Rattle.dwarf_forms.proofs.JoinedLaws.{attribute-twice, either, shares-cons, shares-none}
+use Rattle.dwarf_forms.proofs.SuffixLaws.{named, attribute-again, attribute-new, end-again}
+use Rattle.dwarf_forms.proofs.SuffixLaws.{attribute-twice, either, shares-cons, shares-none}
 
 -- ---- lists
 
@@ -60,11 +60,11 @@ lists-fewer section own before at (x ∷ xs) next listed =
     )
 
 -- the rest of a list after its first attribute is a list
-pub attributes-behind : (section : List ℕ) (at : ℕ) (x : AttributeSpecification)
+pub attributes-after : (section : List ℕ) (at : ℕ) (x : AttributeSpecification)
     (xs : List AttributeSpecification) (next : ℕ) → attributes_at section at ≡ Ok (x ∷ xs, next)
     → (mid : ℕ) × (attribute_at section [] at ≡ Ok (Item x mid))
     × (attributes_at section mid ≡ Ok (xs, next))
-attributes-behind section at x xs next read =
+attributes-after section at x xs next read =
     let listed = attributes_at-lists section at (x ∷ xs, next) read in
     let rest : Lists (attribute_at section) [] listed.0 xs next =
     lists-fewer section (x ∷ []) [] listed.0 xs next listed.2 in (
@@ -124,11 +124,11 @@ lists-twice section own before at (x ∷ xs) next listed shared =
         listed.0) (rest more))
 
 -- the result of reading a list after other attributes
-pub attributes-joined : (section : List ℕ) (own : List AttributeSpecification) (at : ℕ)
+pub attributes-append : (section : List ℕ) (own : List AttributeSpecification) (at : ℕ)
     (rest : List AttributeSpecification) (next : ℕ) → attributes_at section at ≡ Ok (rest, next)
     → without_offset (items_from (length section) (attribute_at section) own at)
     ≡ (if shares_name own rest then Err causes.AttrTwice else Ok (rest, next))
-attributes-joined section own at rest next read =
+attributes-append section own at rest next read =
     subst (λ (ys : List AttributeSpecification). without_offset
     (items_from (length section) (attribute_at section) ys at)
     ≡ (if shares_name own rest then Err causes.AttrTwice else Ok (rest, next))) (append-nil own)
@@ -146,12 +146,12 @@ attributes-joined section own at rest next read =
         (lists-again section own [] at rest next listed apart)) refl
 
 -- .. by the result of the name test
-pub joined-ok : (section : List ℕ) (own : List AttributeSpecification) (at : ℕ)
+pub append-ok : (section : List ℕ) (own : List AttributeSpecification) (at : ℕ)
     (rest : List AttributeSpecification) (next : ℕ) → attributes_at section at ≡ Ok (rest, next)
     → Ok tt ≡ refuse_if (shares_name own rest) causes.AttrTwice
     → without_offset (items_from (length section) (attribute_at section) own at) ≡ Ok (rest, next)
-joined-ok section own at rest next read passed =
-    by_test (shares_name own rest) (attributes-joined section own at rest next read) passed
+append-ok section own at rest next read passed =
+    by_test (shares_name own rest) (attributes-append section own at rest next read) passed
   where
     by_test : (b : Bool) → without_offset (items_from (length section) (attribute_at section) own
         at)
@@ -162,13 +162,13 @@ joined-ok section own at rest next read passed =
     by_test true is h = cc
     by_test false is h = is
 
-pub joined-err : (section : List ℕ) (own : List AttributeSpecification) (at : ℕ)
+pub append-err : (section : List ℕ) (own : List AttributeSpecification) (at : ℕ)
     (rest : List AttributeSpecification) (next : ℕ) (cause : Cause)
     → attributes_at section at ≡ Ok (rest, next)
     → Err cause ≡ refuse_if (shares_name own rest) causes.AttrTwice
     → without_offset (items_from (length section) (attribute_at section) own at) ≡ Err cause
-joined-err section own at rest next cause read refused =
-    by_test (shares_name own rest) (attributes-joined section own at rest next read) refused
+append-err section own at rest next cause read refused =
+    by_test (shares_name own rest) (attributes-append section own at rest next read) refused
   where
     by_test : (b : Bool) → without_offset (items_from (length section) (attribute_at section) own
         at)
@@ -185,13 +185,13 @@ joined-err section own at rest next cause read refused =
 
 -- ---- the list from its first offset on, if its rest after the attributes read so far is memoized
 
-pub so-far-joined : (section : List ℕ) (first : ℕ) (own : List AttributeSpecification) (at : ℕ)
+pub so-far-append : (section : List ℕ) (first : ℕ) (own : List AttributeSpecification) (at : ℕ)
     (rest : List AttributeSpecification) (next : ℕ)
     → SoFar (length section) (attribute_at section) first own at
     → without_offset (items_from (length section) (attribute_at section) own at) ≡ Ok (rest, next)
     → attributes_at section first ≡ Ok (own ++ rest, next)
-so-far-joined section first own at rest next so_far joined =
-    by_read (items_from (length section) (attribute_at section) own at) so_far joined
+so-far-append section first own at rest next so_far both-parts =
+    by_read (items_from (length section) (attribute_at section) own at) so_far both-parts
   where
     by_read : (r : Result (List AttributeSpecification × ℕ) At)
         → with_front own r ≡ items_from (length section) (attribute_at section) [] first

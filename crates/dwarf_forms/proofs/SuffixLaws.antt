@@ -10,7 +10,7 @@ use Rattle.dwarf_bytes.proofs.Numbers.Advance.{after-bind, after-test, chosen}
 use Rattle.dwarf_bytes.proofs.Numbers.Moves.{same-item}
 use Rattle.dwarf_forms.specs.declared.attribute.AttributeSpecification.{AttributeSpecification}
 use Rattle.dwarf_forms.specs.Tables.{constant_at, attribute_at, shares_name}
-use Rattle.dwarf_forms.proofs.AttributeEncodings.{attribute-spelled}
+use Rattle.dwarf_forms.proofs.AttributeEncodings.{attribute-encoded}
 use Rattle.dwarf_forms.proofs.AttributeReads.{attribute-read}
 
 abbrev pub named : ℕ → AttributeSpecification → Bool
@@ -21,7 +21,7 @@ pub attribute-again : (section : List ℕ) (before other : List AttributeSpecifi
     (x : AttributeSpecification) (next : ℕ) → attribute_at section before at ≡ Ok (Item x next)
     → list_any (named x.name) other ≡ false → attribute_at section other at ≡ Ok (Item x next)
 attribute-again section before other at x next read new =
-    let stands = (attribute-spelled section).item before at x next read in
+    let stands = (attribute-encoded section).item before at x next read in
     (attribute-read section).item other at x next stands.0 (stands.1.0, new)
 
 -- .. and no attribute before it has its name
@@ -29,12 +29,12 @@ pub attribute-new : (section : List ℕ) (before : List AttributeSpecification) 
     (x : AttributeSpecification) (next : ℕ) → attribute_at section before at ≡ Ok (Item x next)
     → list_any (named x.name) before ≡ false
 attribute-new section before at x next read =
-    ((attribute-spelled section).item before at x next read).1.1
+    ((attribute-encoded section).item before at x next read).1.1
 
 pub end-again : (section : List ℕ) (before other : List AttributeSpecification) (at next : ℕ)
     → attribute_at section before at ≡ Ok (End next) → attribute_at section other at ≡ Ok (End next)
 end-again section before other at next read =
-    (attribute-read section).end other at next ((attribute-spelled section).end before at next read)
+    (attribute-read section).end other at next ((attribute-encoded section).end before at next read)
 
 -- an attribute is refused after others if one of them has its name
 pub attribute-twice : (section : List ℕ) (before other : List AttributeSpecification) (at : ℕ)

@@ -6,7 +6,7 @@ use Rattle.std.proofs.lemmas.List.{length-map, get_or-map}
 use Rattle.dwarf_entries.specs.declared.scope.Scope.{Scope as Kept}
 use Rattle.dwarf_entries.specs.Scopes.{Scope, Own, own, own_of}
 use Rattle.dwarf_entries.specs.Order.{AreInOrder, HasDataOf}
-use Rattle.dwarf_entries.proofs.ScopePasses.DataLaws.{tells-of}
+use Rattle.dwarf_entries.proofs.ScopePasses.DataLaws.{data-of}
 
 pub own-count : (kept : List Kept) (scopes : List Scope) → map own_of kept ≡ map own scopes
     → length kept ≡ length scopes
@@ -26,7 +26,7 @@ pub returned-item : (scopes : List Scope) (kept : List Kept) (i : ℕ) (r : Kept
     → i < length scopes → (d : Scope) → HasDataOf scopes (get_or kept i r) (get_or scopes i d)
 returned-item scopes kept i r order same lt d =
     let len : length kept ≡ length scopes = own-count kept scopes same in
-    let t = tells-of scopes kept i (get_or kept i r) order same
+    let t = data-of scopes kept i (get_or kept i r) order same
     (get-there kept i r (omega arith)) in
     subst (λ (s : Scope). HasDataOf scopes (get_or kept i r) s)
     (the-same (sym t.1 ∙ get-there scopes i d lt)) t.2
