@@ -5,7 +5,7 @@ ghost use Rattle.std.specs.Prelude.{◌≡◌, ◌≤◌, Some, take, length};
 use io_streams::{DeviceFault, Feed, Sink};
 
 /// The maximum capacity of a `Paper` in bytes.
-const ROOM: usize = 16384;
+const CAPACITY: usize = 16384;
 
 /// A reader of a slice that returns at most `most` bytes at a time and fails after `until` bytes.
 #[derive(Drop)]
@@ -49,15 +49,15 @@ impl<'a> Feed for Script<'a> {
     }
 }
 
-/// A writer that stores up to `room` bytes, and fails to flush when `flushes` is 0.
+/// A writer that stores up to `capacity` bytes, and fails to flush when `flushes` is 0.
 #[derive(Drop)]
 pub struct Paper {
     held: [u8; 16384],
     len: usize,
     failures: u64,
-    pub room: usize,
+    pub capacity: usize,
     pub flushes: u64,
-    /// Whether a write beyond `room` accepts no byte instead of failing.
+    /// Whether a write beyond `capacity` accepts no byte instead of failing.
     pub is_stuck: bool,
     ghost within: { len ≤ 16384 },
 }
@@ -68,7 +68,7 @@ impl Paper {
             held: [0; 16384],
             len: 0,
             failures: 0,
-            room: usize::MAX,
+            capacity: usize::MAX,
             flushes: u64::MAX,
             is_stuck: false,
         }
@@ -85,7 +85,7 @@ impl Sink for Paper {
     ghost failures = { λ p. p.failures };
 
     fn write(&mut self, bytes: &[u8]) -> Result<usize, DeviceFault> {
-        let count = bytes.len().min(ROOM - self.len).min(self.room);
+        let count = bytes.len().min(CAPACITY - self.len).min(self.capacity);
         if count == 0 && !bytes.is_empty() {
             self.failures = self.failures.saturating_add(1);
             return if self.is_stuck {
@@ -96,7 +96,7 @@ impl Sink for Paper {
         }
         self.held[self.len..self.len + count].copy_from_slice(&bytes[..count]);
         self.len += count;
-        self.room -= count;
+        self.capacity -= count;
         Ok(count)
     }
 

@@ -100,14 +100,14 @@ fn a_write_fails(rt: HostRuntime) {
     let mut whole = Paper::new();
     let result = outcome(alloc, &options, &mut Script::new(SCRIPT, 4096), &mut whole);
     assert_eq!(rt; result, Ok(()));
-    for room in 0..whole.text().len() {
+    for capacity in 0..whole.text().len() {
         for is_stuck in [false, true] {
             let mut writer = Paper::new();
-            writer.room = room;
+            writer.capacity = capacity;
             writer.is_stuck = is_stuck;
             let result = outcome(alloc, &options, &mut Script::new(SCRIPT, 7), &mut writer);
             assert_eq!(rt; result, Err(RunFault::Writing));
-            assert_eq!(rt; writer.text().len(), room);
+            assert_eq!(rt; writer.text().len(), capacity);
             assert!(rt; whole.text().starts_with(writer.text()));
         }
     }

@@ -98,7 +98,7 @@ fn a_bad_address(rt: HostRuntime) -> Result<(), Fail> {
 #[test]
 fn help_that_cannot_be_written(rt: HostRuntime) -> Result<(), Fail> {
     let mut writer = Paper::new();
-    writer.room = 0;
+    writer.capacity = 0;
     let mut errors = Paper::new();
     let status = unread(rt.alloc(), &["--help"], &mut writer, &mut errors)?;
     assert_eq!(rt; status, 1);
